@@ -1,0 +1,70 @@
+use plant_ration::Matrix;
+use plant_types::{Moment, Person, Quota, Role, Seconds, Tag, Tenure, UnitCode, Words};
+
+/// What a person asks for.
+#[derive(Drop)]
+pub enum Request {
+    /// Opens a unit with its priority matrix and its quota of shelves, and grants Steward to one person.
+    OpenUnit {
+        unit: UnitCode,
+        steward: Person,
+        matrix: Matrix,
+        quota: Quota,
+    },
+    /// Grants a role to a person, for good or until an end.
+    Grant {
+        unit: UnitCode,
+        person: Person,
+        tenure: Tenure,
+    },
+    /// Takes a role from a person.
+    Withdraw {
+        unit: UnitCode,
+        person: Person,
+        role: Role,
+    },
+    /// Registers an alarm with its MaxTimeShelved.
+    Register {
+        unit: UnitCode,
+        tag: Tag,
+        latching: bool,
+        max: Seconds,
+    },
+    /// Shelves an alarm for a time.
+    TimedShelve {
+        unit: UnitCode,
+        tag: Tag,
+        seconds: Seconds,
+        words: Words,
+    },
+    /// Shelves an alarm until it returns to normal, but no longer than the limit in force.
+    OneShotShelve {
+        unit: UnitCode,
+        tag: Tag,
+        words: Words,
+    },
+    /// Ends a shelf.
+    Unshelve {
+        unit: UnitCode,
+        tag: Tag,
+    },
+    /// Asks for an alarm's state and shelf.
+    Status {
+        unit: UnitCode,
+        tag: Tag,
+    },
+    /// Asks for the alarms that are shelved.
+    Shelves {
+        unit: UnitCode,
+    },
+    /// Asks for the units in which the caller holds a role.
+    MyUnits,
+}
+
+/// A request with the person who makes it and the moment that the person names.
+#[derive(Drop)]
+pub struct Call {
+    pub person: Person,
+    pub moment: Moment,
+    pub request: Request,
+}

@@ -1,0 +1,14 @@
+//! The calls on a unit, the answers to them, and the rows that they leave: the types that the layers above share,
+//! and in `specs/` the definitions of what a unit and the whole office answer.
+#![tactic(auto)]
+
+mod call;
+mod reply;
+mod rows;
+
+pub use call::{Call, Request};
+pub use reply::{Answer, Full, Refused, Reply, ShelfLine, StatusRow, UnitLine};
+pub use rows::{
+    AlarmRow, BandRow, CellRow, Change, GrantRow, Key, Row, ShelfRow, UnitPart, UnitRow, UnitRows,
+    Verdict,
+};

@@ -1,0 +1,87 @@
+use plant_alarm::{AlarmState, ShelfState};
+use plant_types::{Fault, Moment, Person, Quota, Role, Seconds, Table, Tag, UnitCode, Words};
+
+/// What a unit has no room for.
+#[derive(Clone, Copy, Debug, PartialEq, Eq)]
+pub enum Full {
+    Alarms,
+    Grants,
+}
+
+/// Why a call is refused, with the value that shows it. Results of shelving have their names of OPC 10000-9.
+#[derive(Clone, Copy, Debug, PartialEq, Eq)]
+pub enum Refused {
+    NotAdministrator,
+    UnitTaken,
+    NotGranted,
+    /// The role that the call needs.
+    RoleLacking(Role),
+    /// The unit's last moment, or the greatest of the caller's units.
+    MomentBehind(Moment),
+    UnitFull(Full),
+    AlarmTaken,
+    AlarmUnknown,
+    /// The limit in force.
+    ShelvingTimeOutOfRange(Seconds),
+    ConditionAlreadyShelved,
+    ConditionNotShelved,
+    AlreadyHeld,
+    NotHeld,
+    LastSteward,
+    /// The unit's quota.
+    ShelfQuota(Quota),
+    EndNotAhead,
+}
+
+/// The state of an alarm, and its shelf at the call's moment.
+#[derive(Drop)]
+pub struct StatusRow {
+    pub tag: Tag,
+    /// MaxTimeShelved, and how many changes of it were approved.
+    pub limit: Seconds,
+    pub limit_revision: u32,
+    pub state: AlarmState,
+    pub shelf: ShelfState,
+    pub suppressed: bool,
+    pub out_of_service: bool,
+    pub suppressed_or_shelved: bool,
+}
+
+/// A shelf that holds, with the seconds that are left.
+#[derive(Drop)]
+pub struct ShelfLine {
+    pub tag: Tag,
+    pub one_shot: bool,
+    pub start: Moment,
+    pub left: u64,
+    pub person: Person,
+    pub words: Words,
+}
+
+/// A unit with the roles that the caller holds in it.
+#[derive(Drop)]
+pub struct UnitLine {
+    pub unit: UnitCode,
+    pub roles: Table<Role>,
+}
+
+/// The answer to an accepted call.
+#[derive(Drop)]
+pub enum Reply {
+    Done,
+    Status(StatusRow),
+    Units(Table<UnitLine>),
+    Shelves {
+        unit: UnitCode,
+        at: Moment,
+        lines: Table<ShelfLine>,
+    },
+}
+
+/// What is answered to a call. A fault stands in place of any other answer, and then nothing has changed.
+#[derive(Drop)]
+pub enum Answer {
+    Reply(Reply),
+    Refused(Refused),
+    Fault(Fault),
+}

@@ -1,0 +1,115 @@
+use crate::{Refused, Reply};
+use plant_alarm::AlarmState;
+use plant_ration::Cell;
+use plant_types::{Moment, Person, Quota, Role, Seconds, Table, Tag, Words};
+
+/// The unit's own row: its last moment, the number and the revision of the matrix in force, and its quota of shelves.
+#[derive(Clone, Copy, Debug, PartialEq, Eq)]
+pub struct UnitRow {
+    pub last_s: Moment,
+    pub matrix_no: u32,
+    pub matrix_rev: u32,
+    pub quota: Quota,
+}
+
+/// A pair of a person and a role that stands, with its end where it has one.
+#[derive(Drop)]
+pub struct GrantRow {
+    pub person: Person,
+    pub role_no: Role,
+    pub end_s: Option<Moment>,
+}
+
+/// An alarm: its registration, the limit in force, its state, and the removal from service that stands.
+#[derive(Drop)]
+pub struct AlarmRow {
+    pub tag: Tag,
+    pub latching: bool,
+    pub max_s: Seconds,
+    pub max_rev: u32,
+    pub state_no: AlarmState,
+    pub suppressed: bool,
+    pub active_s: Option<Moment>,
+    pub return_s: Option<Moment>,
+    pub out_s: Option<Moment>,
+    pub out_by: Option<Person>,
+    pub out_words: Option<Words>,
+}
+
+/// The shelf that the last shelving of an alarm left, also where its time has passed.
+#[derive(Drop)]
+pub struct ShelfRow {
+    pub tag: Tag,
+    pub one_shot: bool,
+    pub start_s: Moment,
+    pub until_s: u64,
+    pub person: Person,
+    pub words: Words,
+}
+
+/// A finite limit of a matrix's time bands, from 1.
+#[derive(Clone, Copy, Debug, PartialEq, Eq)]
+pub struct BandRow {
+    pub matrix_no: u32,
+    pub band_no: u8,
+    pub limit_s: u64,
+}
+
+/// A cell of a matrix, severity and band each from 1.
+#[derive(Clone, Copy, Debug, PartialEq, Eq)]
+pub struct CellRow {
+    pub matrix_no: u32,
+    pub severity: u8,
+    pub band_no: u8,
+    pub cell_no: Cell,
+}
+
+/// The rows of one unit, each table in the order of its keys.
+#[derive(Drop)]
+pub struct UnitRows {
+    pub units: Table<UnitRow>,
+    pub grants: Table<GrantRow>,
+    pub alarms: Table<AlarmRow>,
+    pub shelves: Table<ShelfRow>,
+    pub bands: Table<BandRow>,
+    pub cells: Table<CellRow>,
+}
+
+/// The rows that one call looks at, and the number of the unit's alarms where the call needs it.
+#[derive(Drop)]
+pub struct UnitPart {
+    pub rows: UnitRows,
+    pub count: u32,
+}
+
+/// A row of one of the tables.
+#[derive(Drop)]
+pub enum Row {
+    Unit(UnitRow),
+    Grant(GrantRow),
+    Alarm(AlarmRow),
+    Shelf(ShelfRow),
+    Band(BandRow),
+    Cell(CellRow),
+}
+
+/// The key of a row that may go.
+#[derive(Drop)]
+pub enum Key {
+    Grant(Person, Role),
+    Shelf(Tag),
+}
+
+/// A row that is put in the place of the row of its key, or the key of a row that goes.
+#[derive(Drop)]
+pub enum Change {
+    Put(Row),
+    Remove(Key),
+}
+
+/// What a unit answers: a refusal, or the reply with the changes that the call makes (none for a read).
+#[derive(Drop)]
+pub enum Verdict {
+    Refused(Refused),
+    Accepted(Reply, Table<Change>),
+}

@@ -1,0 +1,166 @@
+-- Rows in the order of their keys: what is at a key after a change, and that what is at each key settles the rows.
+use Rattle.std.proofs.Common.{◌⊎◌, inl, inr, ◌≡◌, List, [], ◌∷◌, Some, None, refl, sym, ap, subst, ◌∙◌, Bool, true, false, cond, T}
+use Rattle.std.specs.Prelude.{◌||◌, ◌&&◌, not, Option, filter, filter_map, map, is_some}
+use Rattle.std.specs.List.{list_any, cons_option}
+use Rattle.std.specs.declared.cmp.Ordering.{Ordering}
+use Rattle.std.specs.declared.cmp.Ordering.TheVariants.{Less, Equal, Greater}
+use Rattle.std.specs.Ordering.{eq_by_cmp, is_eq, is_lt}
+use Rattle.std.specs.Cmp.{IsTotalOrder, alike_right, eq_by_cmp_equiv}
+use Rattle.std.specs.FinMap.Entries.{by_order, is_sorted, below_all, put, where_key, find as found, is_sorted-put, is_sorted-where_key, find-put, find-where_key, same_entries}
+use Rattle.plant_types.specs.Tables.{row_at, put_row, remove_row, in_order, IsInOrder}
+
+pub tied : (r : Ordering) (b : Bool) → is_eq r ≡ b → b ≡ true → r ≡ Equal
+tied Less b e t = cc
+tied Equal b e t = refl
+tied Greater b e t = cc
+
+module _ {K X : Type 0} (R : K → K → Ordering) (key : X → K) where
+  abbrev keyed : List X → List (K × X)
+  keyed rows = map (λ r. (key r, r)) rows
+
+  row_at-found : (k : K) (rows : List X) → row_at R key k rows ≡ found R k (keyed rows)
+  row_at-found k [] = refl
+  row_at-found k (r ∷ rows) = ap (cond (eq_by_cmp R k (key r)) (Some r)) (row_at-found k rows)
+
+  unkeyed : (rows : List X) → map (λ e. e.1) (keyed rows) ≡ rows
+  unkeyed [] = refl
+  unkeyed (r ∷ rows) = ap (λ rs. r ∷ rs) (unkeyed rows)
+
+  keyed-where : (p : K → Bool) (rows : List X) → keyed (filter (λ r. p (key r)) rows) ≡ where_key R p (keyed rows)
+  keyed-where p [] = refl
+  keyed-where p (r ∷ rows) =
+      elim (p (key r)) as (λ b. keyed (cond b (r ∷ filter (λ r. p (key r)) rows) (filter (λ r. p (key r)) rows)) ≡ cond b ((key r, r) ∷ where_key R p (keyed rows)) (where_key R p (keyed rows))) [
+        | true ↦ ap (λ es. (key r, r) ∷ es) (keyed-where p rows)
+        | false ↦ keyed-where p rows
+      ]
+
+  module _ (o : IsTotalOrder R) (same : (x y : K) → R x y ≡ Equal → x ≡ y) where
+    keyed-put : (r : X) (rows : List X) → keyed (put_row R key r rows) ≡ put R (key r) r (keyed rows)
+    keyed-put r [] = refl
+    keyed-put r (e ∷ es) =
+        elim (R (key r) (key e)) as (λ v. R (key r) (key e) ≡ v → keyed (by_order v (r ∷ e ∷ es) (r ∷ es) (e ∷ put_row R key r es)) ≡ by_order v ((key r, r) ∷ (key e, e) ∷ keyed es) ((key e, r) ∷ keyed es) ((key e, e) ∷ put R (key r) r (keyed es))) [
+          | Less ↦ λ p. refl
+          | Equal ↦ λ p. ap (λ (k : K). let pair : K × X = (k, r) in pair ∷ keyed es) (same _ _ p)
+          | Greater ↦ λ p. ap (λ es. (key e, e) ∷ es) (keyed-put r es)
+        ] refl
+
+    pub row_at-put_row : (q : K) (r : X) (rows : List X) → row_at R key q (put_row R key r rows) ≡ cond (eq_by_cmp R q (key r)) (Some r) (row_at R key q rows)
+    row_at-put_row q r rows =
+        row_at-found q _ ∙ ap (found R q) (keyed-put r rows) ∙ find-put R o q (key r) r (keyed rows) ∙ ap (cond (eq_by_cmp R q (key r)) (Some r)) (sym (row_at-found q rows))
+
+    pub IsInOrder-put_row : (r : X) (rows : List X) → IsInOrder R key rows → IsInOrder R key (put_row R key r rows)
+    IsInOrder-put_row r rows h = subst (λ es. T (is_sorted R es)) (sym (keyed-put r rows)) (is_sorted-put R o (key r) r (keyed rows) h)
+
+    turned : {A : Type 0} (b : Bool) (x y : A) → cond (not b) x y ≡ cond b y x
+    turned true x y = refl
+    turned false x y = refl
+
+    pub row_at-remove_row : (q k : K) (rows : List X) → row_at R key q (remove_row R key k rows) ≡ cond (eq_by_cmp R q k) None (row_at R key q rows)
+    row_at-remove_row q k rows =
+        row_at-found q _ ∙ ap (found R q) (keyed-where (λ x. not (eq_by_cmp R k x)) rows)
+        ∙ find-where_key R (λ x. not (eq_by_cmp R k x)) q (λ x t. ap (λ r. not (is_eq r)) (sym (alike_right o q x k t))) (keyed rows)
+        ∙ turned (eq_by_cmp R k q) _ _ ∙ ap (λ b. cond b None (found R q (keyed rows))) ((eq_by_cmp_equiv o).symm k q)
+        ∙ ap (cond (eq_by_cmp R q k) None) (sym (row_at-found q rows))
+
+    pub IsInOrder-remove_row : (k : K) (rows : List X) → IsInOrder R key rows → IsInOrder R key (remove_row R key k rows)
+    IsInOrder-remove_row k rows h = subst (λ es. T (is_sorted R es)) (sym (keyed-where (λ x. not (eq_by_cmp R k x)) rows)) (is_sorted-where_key R (λ x. not (eq_by_cmp R k x)) (keyed rows) h)
+
+    -- rows in order with the same at each key are the same
+    pub same_rows : (xs ys : List X) → IsInOrder R key xs → IsInOrder R key ys → ((q : K) → row_at R key q xs ≡ row_at R key q ys) → xs ≡ ys
+    same_rows xs ys g h is =
+        sym (unkeyed xs) ∙ ap (map (λ e. e.1)) (same_entries R o same (keyed xs) (keyed ys) g h (λ q. sym (row_at-found q xs) ∙ is q ∙ row_at-found q ys)) ∙ unkeyed ys
+
+    -- rows told from keys, where a key's row has that key
+    module _ (row : K → Option X) (at_key : (k : K) (r : X) → row k ≡ Some r → key r ≡ k) where
+      pub row_at-told : (q : K) (ks : List K) → row_at R key q (filter_map row ks) ≡ cond (is_some (row_at R (λ k. k) q ks)) (row q) None
+      row_at-told q [] = refl
+      row_at-told q (k ∷ ks) =
+          let rest = row_at-told q ks in
+          elim (row k) as (λ o. row k ≡ o → row_at R key q (cons_option o (filter_map row ks)) ≡ cond (is_some (cond (eq_by_cmp R q k) (Some k) (row_at R (λ k. k) q ks))) (row q) None) [
+            | None ↦ λ none. rest ∙ elim (eq_by_cmp R q k) as (λ b. eq_by_cmp R q k ≡ b → cond (is_some (row_at R (λ k. k) q ks)) (row q) None ≡ cond (is_some (cond b (Some k) (row_at R (λ k. k) q ks))) (row q) None) [
+              | true ↦ λ t. let is : row q ≡ None = ap row (same q k (tied _ _ t refl)) ∙ none in
+                  elim (is_some (row_at R (λ k. k) q ks)) as (λ b. cond b (row q) None ≡ row q) [ true ↦ refl | false ↦ sym is ]
+              | false ↦ λ t. refl
+            ] refl
+            | Some r ↦ λ some. ap (λ x. cond (eq_by_cmp R q x) (Some r) (row_at R key q (filter_map row ks))) (at_key k r some)
+                ∙ elim (eq_by_cmp R q k) as (λ b. eq_by_cmp R q k ≡ b → cond b (Some r) (row_at R key q (filter_map row ks)) ≡ cond (is_some (cond b (Some k) (row_at R (λ k. k) q ks))) (row q) None) [
+                  | true ↦ λ t. sym (ap row (same q k (tied _ _ t refl)) ∙ some)
+                  | false ↦ λ t. rest
+                ] refl
+          ] refl
+
+      both : (a b : Bool) → T a → T b → T (a && b)
+      both true b p q = q
+      both false b p q = p
+
+      first : (a b : Bool) → T (a && b) → T a
+      first true b p = tt
+      first false b p = p
+
+      second : (a b : Bool) → T (a && b) → T b
+      second true b p = p
+      second false b p = absurd p
+
+      below_told : (x : K) (ks : List K) → T (below_all R x (map (λ k. (k, k)) ks)) → T (below_all R x (keyed (filter_map row ks)))
+      below_told x [] h = tt
+      below_told x (k ∷ ks) h =
+          let rest = below_told x ks (second _ _ h) in
+          elim (row k) as (λ o. row k ≡ o → T (below_all R x (keyed (cons_option o (filter_map row ks))))) [
+            | None ↦ λ none. rest
+            | Some r ↦ λ some. both _ _ (subst (λ y. T (is_lt (R x y))) (sym (at_key k r some)) (first _ _ h)) rest
+          ] refl
+
+      pub IsInOrder-told : (ks : List K) → IsInOrder R (λ k. k) ks → IsInOrder R key (filter_map row ks)
+      IsInOrder-told [] h = tt
+      IsInOrder-told (k ∷ ks) h =
+          let rest = IsInOrder-told ks (second _ _ h) in
+          elim (row k) as (λ o. row k ≡ o → T (is_sorted R (keyed (cons_option o (filter_map row ks))))) [
+            | None ↦ λ none. rest
+            | Some r ↦ λ some. both _ _ (subst (λ y. T (below_all R y (keyed (filter_map row ks)))) (sym (at_key k r some)) (below_told k ks (first _ _ h))) rest
+          ] refl
+
+module _ {K : Type 0} (R : K → K → Ordering) (o : IsTotalOrder R) (same : (x y : K) → R x y ≡ Equal → x ≡ y) where
+  IsInOrder-in_order : (ks : List K) → IsInOrder R (λ k. k) (in_order R ks)
+  IsInOrder-in_order [] = tt
+  IsInOrder-in_order (k ∷ ks) = IsInOrder-put_row R (λ k. k) o same k (in_order R ks) (IsInOrder-in_order ks)
+
+  is_some-cond : (b : Bool) (k : K) (x : Option K) → is_some (cond b (Some k) x) ≡ (b || is_some x)
+  is_some-cond true k x = refl
+  is_some-cond false k x = refl
+
+  pub row_at-in_order : (q : K) (ks : List K) → is_some (row_at R (λ k. k) q (in_order R ks)) ≡ list_any (eq_by_cmp R q) ks
+  row_at-in_order q [] = refl
+  row_at-in_order q (k ∷ ks) =
+      ap is_some (row_at-put_row R (λ k. k) o same q k (in_order R ks)) ∙ is_some-cond (eq_by_cmp R q k) k _ ∙ ap (λ b. eq_by_cmp R q k || b) (row_at-in_order q ks)
+
+-- the rows of these keys are told by a function: its rows have their keys, and it has none at other keys
+pub record Tells {K X : Type 0} (R : K → K → Ordering) (key : X → K) (row : K → Option X) (ks : List K) : Type 0 where
+  pub order : IsTotalOrder R
+  pub same : (x y : K) → R x y ≡ Equal → x ≡ y
+  pub at_key : (k : K) (r : X) → row k ≡ Some r → key r ≡ k
+  pub among : (q : K) → (row q ≡ None) ⊎ (list_any (eq_by_cmp R q) ks ≡ true)
+
+pub settled : {X : Type 0} (a : Bool) (x : Option X) → (x ≡ None) ⊎ (a ≡ true) → cond a x None ≡ x
+settled true x h = refl
+settled false x (inl none) = sym none
+settled false x (inr t) = cc
+
+module _ {K X : Type 0} {R : K → K → Ordering} {key : X → K} where
+  pub IsInOrder-rows : (row : K → Option X) (ks : List K) → Tells R key row ks → IsInOrder R key (filter_map row (in_order R ks))
+  IsInOrder-rows row ks t = IsInOrder-told R key t.order t.same row t.at_key (in_order R ks) (IsInOrder-in_order R t.order t.same ks)
+
+  -- the row at a key is what the function tells
+  pub row_at-rows : (row : K → Option X) (ks : List K) → Tells R key row ks → (q : K) → row_at R key q (filter_map row (in_order R ks)) ≡ row q
+  row_at-rows row ks t q =
+      row_at-told R key t.order t.same row t.at_key q (in_order R ks)
+      ∙ ap (λ b. cond b (row q) None) (row_at-in_order R t.order t.same q ks) ∙ settled _ _ (t.among q)
+
+  pub put-rows : (old new : K → Option X) (ks ks' : List K) (r : X) → Tells R key old ks → Tells R key new ks' → ((q : K) → new q ≡ cond (eq_by_cmp R q (key r)) (Some r) (old q)) → put_row R key r (filter_map old (in_order R ks)) ≡ filter_map new (in_order R ks')
+  put-rows old new ks ks' r t u is =
+      same_rows R key t.order t.same _ _ (IsInOrder-put_row R key t.order t.same r _ (IsInOrder-rows old ks t)) (IsInOrder-rows new ks' u)
+      (λ q. row_at-put_row R key t.order t.same q r _ ∙ ap (cond (eq_by_cmp R q (key r)) (Some r)) (row_at-rows old ks t q) ∙ sym (is q) ∙ sym (row_at-rows new ks' u q))
+
+  pub remove-rows : (old new : K → Option X) (ks ks' : List K) (k : K) → Tells R key old ks → Tells R key new ks' → ((q : K) → new q ≡ cond (eq_by_cmp R q k) None (old q)) → remove_row R key k (filter_map old (in_order R ks)) ≡ filter_map new (in_order R ks')
+  remove-rows old new ks ks' k t u is =
+      same_rows R key t.order t.same _ _ (IsInOrder-remove_row R key t.order t.same k _ (IsInOrder-rows old ks t)) (IsInOrder-rows new ks' u)
+      (λ q. row_at-remove_row R key t.order t.same q k _ ∙ ap (cond (eq_by_cmp R q k) None) (row_at-rows old ks t q) ∙ sym (is q) ∙ sym (row_at-rows new ks' u q))

@@ -1,0 +1,18 @@
+//! Names, moments, lengths of time and roles.
+#![tactic(auto)]
+
+mod fault;
+mod moment;
+mod numbers;
+mod role;
+mod table;
+mod text;
+
+pub use fault::Fault;
+pub use moment::Moment;
+pub use numbers::{Quota, Seconds};
+pub use role::{Role, Tenure};
+pub use table::Table;
+pub use text::{
+    Alphabet, Person, PersonBytes, Tag, TagBytes, Text, UnitCode, UnitCodeBytes, Words, WordsBytes,
+};

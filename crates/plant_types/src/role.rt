@@ -1,0 +1,87 @@
+ghost use Rattle.std.specs.Prelude.{◌≡◌, if◌then◌else◌, Some, None};
+ghost use Rattle.plant_types.specs.Tenure.{is_tenure};
+ghost use Rattle.plant_types.specs.Roles.{role_no, same_role};
+
+use crate::Moment;
+use std::marker::Model;
+
+/// What a person may do in a unit.
+#[derive(Clone, Copy, Debug, PartialEq, Eq, PartialOrd, Ord)]
+pub enum Role {
+    Viewer = 1,
+    Operator = 2,
+    Maintainer = 3,
+    Engineer = 4,
+    Approver = 5,
+    Steward = 6,
+}
+
+impl Role {
+    /// Its number, 1 to 6.
+    pub fn number(self) -> u8
+        ensures { result ≡ role_no self }
+    {
+        match self {
+            Role::Viewer => 1,
+            Role::Operator => 2,
+            Role::Maintainer => 3,
+            Role::Engineer => 4,
+            Role::Approver => 5,
+            Role::Steward => 6,
+        }
+    }
+
+    /// Whether it is the other role.
+    pub fn is(self, other: Role) -> bool
+        ensures { result ≡ same_role self other }
+    {
+        self.number() == other.number()
+    }
+}
+
+/// A role, and until when it is given. A steward's has no end.
+#[derive(Clone, Copy, Debug, PartialEq, Eq)]
+pub struct Tenure {
+    role: Role,
+    until: Option<Moment>,
+}
+
+impl Model for Tenure {
+    ghost use Rattle.std.specs.Prelude.{ℕ, Option, IsTrue};
+    ghost use Rattle.plant_types.specs.declared.role.Role.{Role};
+    ghost use Rattle.plant_types.specs.Tenure.{is_tenure};
+
+    ghost Value = { Role × Option ℕ };
+
+    ghost view = { λ t. (t.role, t.until) };
+
+    ghost invariant = { λ t. IsTrue (is_tenure t.role t.until) };
+
+    ghost inverse = { λ v. record { role = v.0; until = v.1 } };
+}
+
+impl Tenure {
+    /// The tenure, unless it is a steward's with an end.
+    pub fn new(role: Role, until: Option<Moment>) -> Option<Tenure>
+        ensures { result ≡ (if is_tenure role until then Some (role, until) else None) }
+    {
+        if role == Role::Steward && until.is_some() {
+            return None;
+        }
+        Some(Tenure { role, until })
+    }
+
+    /// The role.
+    pub fn role(&self) -> Role
+        ensures { result ≡ self.now.0 }
+    {
+        self.role
+    }
+
+    /// Its end, if it has one.
+    pub fn until(&self) -> Option<Moment>
+        ensures { result ≡ self.now.1 }
+    {
+        self.until
+    }
+}

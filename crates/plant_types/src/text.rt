@@ -1,0 +1,221 @@
+ghost use Rattle.std.specs.Prelude.{Some, refl};
+ghost use Rattle.std.specs.Cmp.Lexicographic.{slice_cmp, nat_list_cmp_total};
+ghost use Rattle.plant_types.specs.Names.{same_name};
+ghost use Rattle.std.specs.Ordering.{nat_cmp};
+ghost use Rattle.std.specs.Cmp;
+ghost use Rattle.std.specs.Prelude.{◌≡◌, ℕ, Bool, IfOk, IfErr, IsTrue};
+ghost use Rattle.std.specs.List.{list_all};
+ghost use Rattle.plant_types.specs.Text as text;
+ghost use Rattle.plant_types.specs.Text.{is_text, text_of};
+ghost use Rattle.plant_types.specs.declared.fault.Fault.TheVariants.{Memory};
+
+use crate::Fault;
+use std::alloc::Global;
+use std::cmp::Ordering;
+use std::marker::{Model, PhantomData};
+
+/// A set of bytes, and how many of them a text may have.
+pub trait Alphabet {
+    ghost admits: { ℕ → Bool };
+
+    ghost longest: { ℕ };
+
+    /// Whether the byte is of the set.
+    fn admits_byte(byte: u8) -> bool
+        ensures { result ≡ admits byte };
+
+    /// The length of the longest text.
+    fn longest_len() -> usize
+        ensures { result ≡ longest };
+}
+
+/// A text of one set of bytes, neither empty nor too long.
+#[derive(Drop)]
+pub struct Text<C: Alphabet> {
+    bytes: Vec<u8>,
+    alphabet: PhantomData<C>,
+}
+
+impl<C: Alphabet> Model for Text<C> {
+    ghost use Rattle.std.specs.Prelude.{List, ℕ, IsTrue};
+    ghost use Rattle.plant_types.specs.Text.{is_text};
+
+    ghost Value = { List ℕ };
+
+    ghost view = { λ t. t.bytes.items };
+
+    ghost invariant = { λ t. IsTrue (is_text C.admits C.longest t.bytes.items) };
+}
+
+impl<C: Alphabet> Text<C> {
+    /// The text with these bytes, if it is one.
+    pub fn read(alloc: Global, bytes: &[u8]) -> Result<Option<Text<C>>, Fault>
+        ensures value { IfOk result (λ text. text ≡ text_of C.admits C.longest bytes.now) }
+        ensures err { IfErr result (λ e. e ≡ Memory) }
+    {
+        if !is_text::<C>(bytes) {
+            return Ok(None);
+        }
+        Ok(Some(Text {
+            bytes: bytes.to_vec(alloc)?,
+            alphabet: PhantomData,
+        }))
+    }
+
+    /// Its bytes.
+    pub fn as_bytes(&self) -> &[u8]
+        ensures value { result.now ≡ self.now }
+        ensures is_text { IsTrue (is_text C.admits C.longest result.now) }
+    {
+        &self.bytes
+    }
+
+    /// The same text again.
+    pub fn copy(&self, alloc: Global) -> Result<Text<C>, Fault>
+        ensures value { IfOk result (λ text. text ≡ self.now) }
+        ensures err { IfErr result (λ e. e ≡ Memory) }
+    {
+        Ok(Text {
+            bytes: self.bytes.to_vec(alloc)?,
+            alphabet: PhantomData,
+        })
+    }
+}
+
+impl<C: Alphabet> PartialEq for Text<C> {
+    ghost eq = { same_name };
+
+    ghost laws = { Cmp.partial_equiv_from_equiv (Cmp.eq_by_cmp_equiv nat_list_cmp_total) };
+
+    fn eq(&self, other: &Self) -> bool {
+        self.as_bytes() == other.as_bytes()
+    }
+}
+
+impl<C: Alphabet> Eq for Text<C> {
+    ghost laws = { Cmp.eq_by_cmp_equiv nat_list_cmp_total };
+}
+
+impl<C: Alphabet> PartialOrd for Text<C> {
+    ghost partial_cmp = { λ x y. Some (slice_cmp nat_cmp x y) };
+
+    ghost laws = { Cmp.partial_order_from_total nat_list_cmp_total };
+
+    fn partial_cmp(&self, other: &Self) -> Option<Ordering> {
+        Some(self.cmp(other))
+    }
+}
+
+impl<C: Alphabet> Ord for Text<C> {
+    ghost cmp = { slice_cmp nat_cmp };
+
+    ghost total = { nat_list_cmp_total };
+
+    ghost matches_partial_cmp = { λ x y. refl };
+
+    ghost matches_eq = { λ x y. refl };
+
+    fn cmp(&self, other: &Self) -> Ordering {
+        self.as_bytes().cmp(other.as_bytes())
+    }
+}
+
+fn all_admitted<C: Alphabet>(bytes: &[u8]) -> bool
+    ensures { result ≡ list_all C.admits bytes.now }
+{
+    bytes.iter().all(|byte| C::admits_byte(*byte))
+}
+
+fn is_text<C: Alphabet>(bytes: &[u8]) -> bool
+    ensures { result ≡ text.is_text C.admits C.longest bytes.now }
+{
+    !bytes.is_empty() && bytes.len() <= C::longest_len() && all_admitted::<C>(bytes)
+}
+
+/// The bytes of a unit's code.
+pub struct UnitCodeBytes;
+
+impl Alphabet for UnitCodeBytes {
+    ghost use Rattle.plant_types.specs.Text.{in_unit_code};
+
+    ghost admits = { in_unit_code };
+
+    ghost longest = { 8 };
+
+    fn admits_byte(byte: u8) -> bool {
+        byte.is_ascii_uppercase() || byte.is_ascii_digit()
+    }
+
+    fn longest_len() -> usize {
+        8
+    }
+}
+
+/// The bytes of a tag.
+pub struct TagBytes;
+
+impl Alphabet for TagBytes {
+    ghost use Rattle.plant_types.specs.Text.{in_tag};
+
+    ghost admits = { in_tag };
+
+    ghost longest = { 24 };
+
+    fn admits_byte(byte: u8) -> bool {
+        matches!(byte, b'A'..=b'Z' | b'0'..=b'9' | b'.' | b'-' | b'_')
+    }
+
+    fn longest_len() -> usize {
+        24
+    }
+}
+
+/// The bytes of a person's name.
+pub struct PersonBytes;
+
+impl Alphabet for PersonBytes {
+    ghost use Rattle.plant_types.specs.Text.{in_person};
+
+    ghost admits = { in_person };
+
+    ghost longest = { 32 };
+
+    fn admits_byte(byte: u8) -> bool {
+        matches!(byte, b'a'..=b'z' | b'0'..=b'9' | b'.' | b'-')
+    }
+
+    fn longest_len() -> usize {
+        32
+    }
+}
+
+/// The bytes of a remark.
+pub struct WordsBytes;
+
+impl Alphabet for WordsBytes {
+    ghost use Rattle.plant_types.specs.Text.{in_words};
+
+    ghost admits = { in_words };
+
+    ghost longest = { 120 };
+
+    fn admits_byte(byte: u8) -> bool {
+        matches!(byte, 0x20..=0x7E)
+    }
+
+    fn longest_len() -> usize {
+        120
+    }
+}
+
+/// The code of a unit.
+pub type UnitCode = Text<UnitCodeBytes>;
+
+/// The tag of an alarm.
+pub type Tag = Text<TagBytes>;
+
+/// The name of a person.
+pub type Person = Text<PersonBytes>;
+
+/// A remark.
+pub type Words = Text<WordsBytes>;
