@@ -5,4 +5,5 @@ mod columns;
 mod moments;
 mod shelves;
 
+pub use plant_floods::{Run, floods};
 pub use shelves::shelf_text;

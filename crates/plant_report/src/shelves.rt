@@ -67,3 +67,43 @@ fn kind_of(one_shot: bool) -> &'static [u8]
 {
     if one_shot { b"one-shot" } else { b"timed" }
 }
+
+#[cfg(test)]
+mod tests {
+    use super::*;
+    use plant_types::{Person, Tag, Words};
+    use std::test::Fail;
+
+    fn line(alloc: Global, one_shot: bool, at: u64, left: u64) -> Result<ShelfLine, Fail> {
+        Ok(ShelfLine {
+            tag: Tag::read(alloc, b"PT-101")?.ok_or("tag")?,
+            one_shot,
+            start: Moment::of_seconds(at).ok_or("moment")?,
+            left,
+            person: Person::read(alloc, b"ann")?.ok_or("person")?,
+            words: Words::read(alloc, b"pump test")?.ok_or("words")?,
+        })
+    }
+
+    #[test]
+    fn prints_a_shelf(rt: HostRuntime) -> Result<(), Fail> {
+        let unit = UnitCode::read(rt.alloc(), b"U1")?.ok_or("unit")?;
+        let at = Moment::of_seconds(825678000).ok_or("moment")?;
+        let mut lines = Vec::new(rt.alloc());
+        assert_eq!(rt;
+            shelf_text(rt.alloc(), &unit, at, lines.as_slice())?.as_slice(),
+            b"SHELVES U1 AT 2026-03-01T11:00:00Z COUNT 0\n".as_slice()
+        );
+        lines.push(line(rt.alloc(), false, 825674400, 1)?)?;
+        lines.push(line(rt.alloc(), true, 0, 604800)?)?;
+        let text = shelf_text(rt.alloc(), &unit, at, lines.as_slice())?;
+        assert_eq!(rt;
+            text.as_slice(),
+            b"SHELVES U1 AT 2026-03-01T11:00:00Z COUNT 2\n\
+            PT-101                   timed    2026-03-01T10:00:00Z      1 ann                              pump test\n\
+            PT-101                   one-shot 2000-01-01T00:00:00Z 604800 ann                              pump test\n"
+                .as_slice()
+        );
+        Ok(())
+    }
+}
