@@ -1,9 +1,10 @@
 ghost use Rattle.std.specs.Prelude.{◌≡◌, [], ◌∷◌, ◌++◌, OnOk, IfErr, decimal, replicate};
 ghost use Rattle.plant_types.specs.declared.fault.Fault.TheVariants.{Memory};
 ghost use Rattle.plant_report.specs.Columns.{left, right};
+ghost use Rattle.plant_report.specs.Moments.{moment_text};
 
 use itoa::Buffer;
-use plant_types::Fault;
+use plant_types::{Fault, Moment};
 
 /// Adds a column and the space after it.
 pub fn push_column(text: &mut Vec<u8>, column: &[u8]) -> Result<(), Fault>
@@ -34,6 +35,14 @@ pub fn push_number(text: &mut Vec<u8>, width: usize, number: u64) -> Result<(), 
     push_spaces(text, width.saturating_sub(digits.len()))?;
     text.extend_from_slice(digits)?;
     Ok(text.push(b' ')?)
+}
+
+/// Adds a moment and the space after it.
+pub fn push_moment(text: &mut Vec<u8>, moment: Moment) -> Result<(), Fault>
+    ensures value { OnOk result (text.new.items ≡ text.old.items ++ (moment_text moment ++ 32 ∷ [])) }
+    ensures err { IfErr result (λ e. e ≡ Memory) }
+{
+    push_column(text, &moment.write())
 }
 
 /// Adds the last column, and ends the line.

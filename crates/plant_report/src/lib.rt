@@ -2,7 +2,6 @@
 #![tactic(auto)]
 
 mod columns;
-mod moments;
 mod shelves;
 
 pub use plant_floods::{Run, floods};

@@ -4,8 +4,7 @@ ghost use Rattle.plant_report.specs.Columns.{line as line_of};
 ghost use Rattle.plant_report.specs.Texts as texts;
 ghost use Rattle.plant_report.specs.Texts.{heading, shelf_columns};
 
-use crate::columns::{push_column, push_last, push_left, push_number};
-use crate::moments;
+use crate::columns::{push_column, push_last, push_left, push_moment, push_number};
 use itoa::Buffer;
 use plant_model::ShelfLine;
 use plant_types::{Fault, Moment, UnitCode};
@@ -45,7 +44,7 @@ fn push_heading(
     push_column(text, what)?;
     push_column(text, whose)?;
     push_column(text, b"AT")?;
-    push_column(text, &moments::write(at))?;
+    push_moment(text, at)?;
     push_column(text, b"COUNT")?;
     push_last(text, buffer.format(count).as_bytes())
 }
@@ -56,7 +55,7 @@ fn push_shelf(text: &mut Vec<u8>, line: &ShelfLine) -> Result<(), Fault>
 {
     push_left(text, 24, line.tag.as_bytes())?;
     push_left(text, 8, kind_of(line.one_shot))?;
-    push_column(text, &moments::write(line.start))?;
+    push_moment(text, line.start)?;
     push_number(text, 6, line.left)?;
     push_left(text, 32, line.person.as_bytes())?;
     push_last(text, line.words.as_bytes())

@@ -12,7 +12,7 @@ returns-clause-value c =
     let l = c.args.line.now in
     on_ok_weaker _
     (λ last.
-    six_columns c.args.text.now.items c.push_left.new.text.items c.push_left-2.new.text.items c.push_column.new.text.items c.push_number.new.text.items c.push_left-3.new.text.items c.push_last.new.text.items
+    six_columns c.args.text.now.items c.push_left.new.text.items c.push_left-2.new.text.items c.push_moment.new.text.items c.push_number.new.text.items c.push_left-3.new.text.items c.push_last.new.text.items
     (left 24 l.tag) (left 8 (kind_of l.one_shot)) (moment_text l.start) (right 6 (decimal l.left)) (left 32 l.person) l.words
     (search rules) (search rules) (search rules) (search rules) (search rules) (search rules))
     c.push_last.ensures.value
