@@ -1,0 +1,10 @@
+//! Import files: their rows or first fault, and what they add to the events that are kept.
+#![tactic(auto)]
+
+mod bad_file;
+mod fields;
+mod reading;
+mod records;
+
+pub use bad_file::{BadFile, Cause};
+pub use reading::{FileRead, read_file};
