@@ -1,6 +1,6 @@
 -- Where moments do not fall, some return comes after a moment where the last return does.
-use Rattle.std.proofs.Common.{◌≡◌, ℕ, zero, suc, ◌≤◌, ◌<◌, refl, sym, ap, ◌∙◌, List, [], ◌∷◌, ◌++◌, length, take, get_or, Some, None, Option, Bool, true, false, cond, ◌&&◌, ◌||◌, arith, subst}
-use Rattle.std.specs.Prelude.{option_map, unwrap_or, nat_lt, nat_le}
+use Rattle.std.proofs.Common.{◌≡◌, ℕ, suc, ◌≤◌, ◌<◌, refl, sym, ap, ◌∙◌, List, [], ◌∷◌, ◌++◌, length, get_or, Option, Bool, true, false, cond, ◌&&◌, ◌||◌, arith, subst}
+use Rattle.std.specs.Prelude.{nat_lt, nat_le}
 use Rattle.std.specs.List.{list_any, list_all}
 use Rattle.std.proofs.Math.ListN.{get_or-append}
 use Rattle.std.proofs.Math.Seq.{take-append_seam, get_or-append_seam}
@@ -62,8 +62,8 @@ front_in_time es e h = subst IsInTime (take-append_seam es (e ∷ [])) (IsNonDec
 front_within : (es : List Event) (e : Event) → IsInTime (es ++ e ∷ []) → list_all (is_within e.moment) es ≡ true
 front_within es e h =
     within e.moment es (λ k d lt.
-      let last : (get_or (es ++ e ∷ []) k d).moment ≤ (get_or (es ++ e ∷ []) (length es) d).moment = h k (length es) d (omega arith) (omega (arith, length-append es (e ∷ []))) in
-      subst (λ (x : Event). x.moment ≤ e.moment) (get_or-append es (e ∷ []) d k lt) (subst (λ (y : Event). (get_or (es ++ e ∷ []) k d).moment ≤ y.moment) (get_or-append_seam es e [] d) last))
+    let last : (get_or (es ++ e ∷ []) k d).moment ≤ (get_or (es ++ e ∷ []) (length es) d).moment = h k (length es) d (omega arith) (omega (arith, length-append es (e ∷ []))) in
+    subst (λ (x : Event). x.moment ≤ e.moment) (get_or-append es (e ∷ []) d k lt) (subst (λ (y : Event). (get_or (es ++ e ∷ []) k d).moment ≤ y.moment) (get_or-append_seam es e [] d) last))
 
 abbrev Agrees : List Event → Type 0
 Agrees es = IsInTime es → (s : ℕ) → returns_after s es ≡ is_after s (last_return es)

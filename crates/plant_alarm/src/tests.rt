@@ -38,9 +38,15 @@ fn tells_states(rt: HostRuntime) -> Result<(), Fail> {
         assert_eq!(rt; summary(alloc, true, &kinds[..count])?.state, state);
     }
     assert_eq!(rt; summary(alloc, true, &[Act, Rtn, Ack])?.state, LatchedAck);
-    assert_eq!(rt; summary(alloc, true, &[Act, Reset, Rtn])?.state, LatchedUnack);
+    assert_eq!(rt;
+        summary(alloc, true, &[Act, Reset, Rtn])?.state,
+        LatchedUnack
+    );
     assert_eq!(rt; summary(alloc, false, &[Act, Ack])?.state, Acknowledged);
-    assert_eq!(rt; summary(alloc, false, &[Act, Ack, Act])?.state, Unacknowledged);
+    assert_eq!(rt;
+        summary(alloc, false, &[Act, Ack, Act])?.state,
+        Unacknowledged
+    );
     assert!(rt; summary(alloc, false, &[Sup])?.suppressed);
     assert!(rt; !summary(alloc, false, &[Sup, Unsup])?.suppressed);
     let twice = summary(alloc, false, &[Act, Ack, Act, Rtn, Rtn])?;
@@ -70,8 +76,17 @@ fn ends_one_shots_by_later_returns(rt: HostRuntime) -> Result<(), Fail> {
     let now = Moment::of_seconds(36_002).ok_or("a moment")?;
     let max = Seconds::new(3_600).ok_or("a length")?;
     let shelf = one_shot(&Shelf::Clear, None, start, max);
-    assert_eq!(rt; shelf, Ok(Shelf::OneShot { start, until: 39_600 }));
-    let shelf = Shelf::OneShot { start, until: 39_600 };
+    assert_eq!(rt;
+        shelf,
+        Ok(Shelf::OneShot {
+            start,
+            until: 39_600
+        })
+    );
+    let shelf = Shelf::OneShot {
+        start,
+        until: 39_600,
+    };
     for (returned, state) in [
         (35_999, ShelfState::OneShotShelved(3_598)),
         (36_000, ShelfState::OneShotShelved(3_598)),
@@ -90,16 +105,28 @@ fn shelves_for_an_hour(rt: HostRuntime) -> Result<(), Fail> {
     let over = Moment::of_seconds(39_600).ok_or("a moment")?;
     let hour = Seconds::new(3_600).ok_or("a length")?;
     let more = Seconds::new(3_601).ok_or("a length")?;
-    let shelf = Shelf::Timed { start, until: 39_600 };
+    let shelf = Shelf::Timed {
+        start,
+        until: 39_600,
+    };
     let already = Err(ShelfRefused::ConditionAlreadyShelved);
     assert_eq!(rt; timed(&Shelf::Clear, None, start, hour, hour), Ok(shelf));
     assert_eq!(rt; shelf_at(&shelf, None, last), ShelfState::TimedShelved(1));
     assert_eq!(rt; shelf_at(&shelf, None, over), ShelfState::Unshelved);
-    assert_eq!(rt; timed(&shelf, None, half, more, hour), Err(ShelfRefused::ShelvingTimeOutOfRange(hour)));
+    assert_eq!(rt;
+        timed(&shelf, None, half, more, hour),
+        Err(ShelfRefused::ShelvingTimeOutOfRange(hour))
+    );
     assert_eq!(rt; timed(&shelf, None, half, hour, hour), already);
-    let again = Shelf::Timed { start: over, until: 43_200 };
+    let again = Shelf::Timed {
+        start: over,
+        until: 43_200,
+    };
     assert_eq!(rt; timed(&shelf, None, over, hour, hour), Ok(again));
-    let until_return = Shelf::OneShot { start: half, until: 41_400 };
+    let until_return = Shelf::OneShot {
+        start: half,
+        until: 41_400,
+    };
     assert_eq!(rt; one_shot(&shelf, None, half, hour), Ok(until_return));
     assert_eq!(rt; one_shot(&until_return, None, half, hour), already);
     assert_eq!(rt; unshelve(&until_return, None, half), Ok(Shelf::Clear));
