@@ -1,5 +1,6 @@
 pub mod Digits
-pub mod Examples
 pub mod RecordsReached
 pub mod Places
 pub mod Rows
+pub mod Merges
+pub mod Examples

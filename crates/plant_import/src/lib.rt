@@ -3,8 +3,10 @@
 
 mod bad_file;
 mod fields;
+mod merging;
 mod reading;
 mod records;
 
 pub use bad_file::{BadFile, Cause};
+pub use merging::{Merged, merge};
 pub use reading::{FileRead, read_file};
