@@ -6,6 +6,7 @@ mod fields;
 mod merging;
 mod reading;
 mod records;
+mod standing;
 
 pub use bad_file::{BadFile, Cause};
 pub use merging::{Merged, merge};

@@ -1,10 +1,13 @@
-ghost use Rattle.std.specs.Prelude.{◌≡◌, ◌++◌, IfOk, IfErr};
-ghost use Rattle.std.specs.List.{list_any};
+ghost use Rattle.std.specs.Prelude.{◌≡◌, ◌+◌, ◌++◌, ◌∷◌, [], IfOk, IfErr, OnOk, length};
+ghost use Rattle.std.specs.List.{list_any, insert};
 ghost use Rattle.plant_types.specs.Names.{same_name};
 ghost use Rattle.plant_types.specs.declared.fault.Fault.TheVariants.{Memory};
 ghost use Rattle.plant_import.specs.Merging as merging;
-ghost use Rattle.plant_import.specs.Merging.{IsRising, merge_fault};
+ghost use Rattle.plant_import.specs.Merging.{IsRising};
+ghost use Rattle.plant_import.specs.Standing as standing;
+ghost use Rattle.plant_import.specs.Standing.{IsJudged};
 
+use crate::standing::{Standing, stands};
 use crate::{BadFile, Cause};
 use plant_alarm::Event;
 use plant_types::{Fault, Moment, Table, Tag};
@@ -19,82 +22,9 @@ pub struct Merged {
     pub repeated: u64,
 }
 
-fn is_same(event: &Event, other: &Event) -> bool
-    ensures { result ≡ merging.same_event event.now other.now }
-{
-    event == other
-}
-
-fn clashes(event: &Event, other: &Event) -> bool
-    ensures { result ≡ merging.clashes event.now other.now }
-{
-    event.seq == other.seq && !is_same(event, other)
-}
-
-fn is_out_of_order(event: &Event, other: &Event) -> bool
-    ensures { result ≡ merging.out_of_order event.now other.now }
-{
-    (event.seq < other.seq && other.moment < event.moment)
-        || (other.seq < event.seq && event.moment < other.moment)
-}
-
-fn is_known(tag: &Tag, tags: &[Tag]) -> bool
-    ensures { result ≡ list_any (same_name tag.now) tags.now }
-{
-    tags.iter().any(|known| tag == known)
-}
-
-fn any_same(event: &Event, others: &[Event]) -> bool
-    ensures { result ≡ list_any (merging.same_event event.now) others.now }
-{
-    others.iter().any(|other| is_same(event, other))
-}
-
-fn any_clash(event: &Event, others: &[Event]) -> bool
-    ensures { result ≡ list_any (merging.clashes event.now) others.now }
-{
-    others.iter().any(|other| clashes(event, other))
-}
-
-fn any_out_of_order(event: &Event, others: &[Event]) -> bool
-    ensures { result ≡ list_any (merging.out_of_order event.now) others.now }
-{
-    others.iter().any(|other| is_out_of_order(event, other))
-}
-
-/// The first cause that a row has, after the kept events and the earlier rows.
-#[tactic(auto, unfolding(crate::specs::Merging::merge_fault))]
-fn fault_of(
-    kept: &[Event],
-    earlier: &[Event],
-    event: &Event,
-    tags: &[Tag],
-    now: Moment,
-) -> Option<Cause>
-    ensures { result ≡ merge_fault tags.now now (kept.now ++ earlier.now) event.now }
-{
-    if !is_known(&event.tag, tags) {
-        return Some(Cause::TagUnknown);
-    }
-    if now < event.moment {
-        return Some(Cause::MomentAhead);
-    }
-    if any_clash(event, kept) || any_clash(event, earlier) {
-        return Some(Cause::SequenceClash);
-    }
-    if any_out_of_order(event, kept) || any_out_of_order(event, earlier) {
-        return Some(Cause::MomentOutOfOrder);
-    }
-    None
-}
-
-fn is_new(kept: &[Event], earlier: &[Event], event: &Event) -> bool
-    ensures { result ≡ merging.is_new (kept.now ++ earlier.now) event.now }
-{
-    !any_same(event, kept) && !any_same(event, earlier)
-}
-
 /// What a file adds to the kept events, or its first faulty row with the first cause of that row.
+///
+/// The kept events are in rising number, and their moments don't fall.
 pub fn merge(
     alloc: Global,
     kept: &[Event],
@@ -103,24 +33,81 @@ pub fn merge(
     now: Moment,
 ) -> Result<Result<Merged, BadFile>, Fault>
     ensures value { IsRising kept.now → IfOk result (λ merged. merged ≡ merging.merge kept.now file.now tags.now now) }
+    ensures counted { IfOk result (λ merged. IfOk merged (λ m. m.repeated + length m.fresh ≡ length file.now)) }
     ensures err { IfErr result (λ e. e ≡ Memory) }
 {
     let mut fresh = Table::new(alloc);
+    let mut rising = Table::new(alloc);
     let mut repeated = 0;
     for (i, event) in file.iter().enumerate() {
-        if let Some(cause) = fault_of(kept, &file[..i], event, tags, now) {
-            return Ok(Err(BadFile {
-                line: i as u64 + 2,
-                cause,
-            }));
-        }
-        if is_new(kept, &file[..i], event) {
-            fresh.push(event.copy(alloc)?)?;
-        } else {
-            repeated += 1;
+        let place = match judged(kept, rising.as_slice(), event, tags, now) {
+            Ok(place) => place,
+            Err(cause) => {
+                return Ok(Err(BadFile {
+                    line: i as u64 + 2,
+                    cause,
+                }));
+            }
+        };
+        match place {
+            Some(place) => add(alloc, &mut fresh, &mut rising, place, event)?,
+            None => repeated += 1,
         }
     }
     Ok(Ok(Merged { fresh, repeated }))
+}
+
+/// Adds a new row to those in the file's order and, at its place, to those in rising number.
+fn add(
+    alloc: Global,
+    fresh: &mut Table<Event>,
+    rising: &mut Table<Event>,
+    place: usize,
+    event: &Event,
+) -> Result<(), Fault>
+    ensures fresh { OnOk result (fresh.new ≡ fresh.old ++ event.now ∷ []) }
+    ensures rising { OnOk result (rising.new ≡ insert rising.old place event.now) }
+    ensures err { IfErr result (λ e. e ≡ Memory) }
+{
+    fresh.push(event.copy(alloc)?)?;
+    rising.insert_at(place, event.copy(alloc)?)
+}
+
+/// The place of a row among the earlier rows that were new, if it is new too, or its first fault.
+fn judged(
+    kept: &[Event],
+    fresh: &[Event],
+    event: &Event,
+    tags: &[Tag],
+    now: Moment,
+) -> Result<Option<usize>, Cause>
+    ensures { IsRising kept.now → IsRising fresh.now → IsJudged tags.now now kept.now fresh.now event.now result }
+{
+    if !is_known(&event.tag, tags) {
+        return Err(Cause::TagUnknown);
+    }
+    if now < event.moment {
+        return Err(Cause::MomentAhead);
+    }
+    joined(stands(kept, event), stands(fresh, event))
+}
+
+/// What a row's standing to the kept events and to the earlier new rows comes to.
+fn joined(kept: Standing, fresh: Standing) -> Result<Option<usize>, Cause>
+    ensures { result ≡ standing.joined kept fresh }
+{
+    match (kept, fresh) {
+        (Standing::Clash, _) | (_, Standing::Clash) => Err(Cause::SequenceClash),
+        (Standing::OutOfOrder, _) | (_, Standing::OutOfOrder) => Err(Cause::MomentOutOfOrder),
+        (Standing::New(_), Standing::New(place)) => Ok(Some(place)),
+        (Standing::Known, _) | (_, Standing::Known) => Ok(None),
+    }
+}
+
+fn is_known(tag: &Tag, tags: &[Tag]) -> bool
+    ensures { result ≡ list_any (same_name tag.now) tags.now }
+{
+    tags.iter().any(|known| tag == known)
 }
 
 #[cfg(test)]
@@ -220,5 +207,48 @@ mod tests {
             })
         );
         Ok(())
+    }
+
+    /// Ten thousand rows in falling number between a hundred thousand kept events, with two
+    /// thousand tags. A cost of the product would take minutes.
+    #[test]
+    fn merges_many_rows(rt: HostRuntime) -> Result<(), Fail> {
+        let mut kept = Vec::new(rt.alloc());
+        for i in 1..=100_000 {
+            kept.push(event_at(rt.alloc(), 2 * i)?)?;
+        }
+        let mut file = Vec::new(rt.alloc());
+        for i in 0..10_000 {
+            file.push(event_at(rt.alloc(), 200_001u64.saturating_sub(20 * i))?)?;
+        }
+        let mut tags = Vec::new(rt.alloc());
+        for _ in 0..1999 {
+            tags.push(Tag::read(rt.alloc(), b"PT-102")?.ok_or("tag")?)?;
+        }
+        tags.push(Tag::read(rt.alloc(), b"PT-101")?.ok_or("tag")?)?;
+        let now = Moment::of_seconds(1_000_000).ok_or("moment")?;
+        let Ok(merged) = merge(
+            rt.alloc(),
+            kept.as_slice(),
+            file.as_slice(),
+            tags.as_slice(),
+            now,
+        )?
+        else {
+            assert!(rt; false);
+            return Ok(());
+        };
+        assert_eq!(rt; merged.fresh.len(), 10_000);
+        assert_eq!(rt; merged.repeated, 0);
+        Ok(())
+    }
+
+    fn event_at(alloc: Global, number: u64) -> Result<Event, Fail> {
+        Ok(Event {
+            seq: Number::new(number).ok_or("number")?,
+            moment: Moment::of_seconds(number).ok_or("moment")?,
+            tag: Tag::read(alloc, b"PT-101")?.ok_or("tag")?,
+            kind: EventKind::Act,
+        })
     }
 }
