@@ -42,7 +42,7 @@ map-itself (Some x) = refl
 stands_in : (h : List Call) (k : Pair) → list_any (λ g. same_pair k (pair_of g)) (grant_rows h) ≡ stands h k
 stands_in h k = any_found k (grant_rows h) ∙ ap is_some (row_at-rows (grant_row h) (pairs_of h) (grants_told h) k) ∙ is_some-map (grant_as k) (standing h k)
 
-held_in : (h : List Call) (t : ℕ) (k : Pair) → unwrap_or (option_map (λ (g : GrantRow). is_before t g.end_s) (row_at pair_cmp pair_of k (grant_rows h))) false ≡ held h t k
+pub held_in : (h : List Call) (t : ℕ) (k : Pair) → unwrap_or (option_map (λ (g : GrantRow). is_before t g.end_s) (row_at pair_cmp pair_of k (grant_rows h))) false ≡ held h t k
 held_in h t k =
     ap (λ o. unwrap_or (option_map (λ (g : GrantRow). is_before t g.end_s) o) false) (row_at-rows (grant_row h) (pairs_of h) (grants_told h) k)
     ∙ ap (λ o. unwrap_or o false) (map-map (λ (g : GrantRow). is_before t g.end_s) (grant_as k) (standing h k))
