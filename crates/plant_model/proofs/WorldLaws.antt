@@ -185,8 +185,8 @@ unseen_calls w p t c unseen other = by_unit (unit_named c.request) unseen where
       ]
 
 -- Answers
-abbrev pub Answer : Type 0
-Answer = Result Reply Refused
+abbrev pub Said : Type 0
+Said = Result Reply Refused
 
 first_refused : (b : Bool) (x : Refused) (rest : List (Bool × Refused)) (reply : Reply) → b ≡ false → refused_or (first_refusal ((not b, x) ∷ rest)) reply ≡ Err x
 first_refused true x rest reply e = cc
@@ -196,7 +196,7 @@ pub not_granted : (h : List Call) (c : Call) → holds_any h c.moment c.person �
 unfolding holds_some
 not_granted h c none = first_refused (holds_any h c.moment c.person) NotGranted (refusals_of_holder (facts h) c) (reply (facts h) c.moment c.request) none
 
-pub refused_changes : (v : Answer) (c : Call) (x : Refused) → v ≡ Err x → changes_history v c ≡ true → ⊥
+pub refused_changes : (v : Said) (c : Call) (x : Refused) → v ≡ Err x → changes_history v c ≡ true → ⊥
 refused_changes (Ok r) c x e t = cc
 refused_changes (Err y) c x e t = cc
 
