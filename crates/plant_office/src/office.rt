@@ -1,4 +1,4 @@
-ghost use Rattle.std.specs.Prelude.{◌≡◌, ◌<◌, ◌^◌, ◌-◌, ◌+◌, ◌≤◌, ℕ, Some, None, true, false, IsTrue, IfOk, IfErr, OnOk, OnErr, List, map, max, fold, length};
+ghost use Rattle.std.specs.Prelude.{◌≡◌, ◌<◌, ◌^◌, ◌-◌, ◌+◌, ◌≤◌, ℕ, Some, None, true, false, IsTrue, IfOk, IfErr, OnOk, OnErr, List, [], ◌∷◌, ◌++◌, map, max, fold, length, vec_len, vec_capacity};
 ghost use Rattle.plant_types.specs.declared.fault.Fault.TheVariants.{Memory};
 ghost use Rattle.plant_model.specs.Legality.{has_matrix};
 ghost use Rattle.plant_model.specs.Verdicts.{is_opening};
@@ -8,6 +8,7 @@ ghost use Rattle.plant_books.specs.Contents.{Content, no_units};
 ghost use Rattle.plant_books.specs.Counting.{Counts};
 ghost use Rattle.plant_books.specs.declared.books.MineUnit.{MineUnit};
 ghost use Rattle.plant_office.specs.Answers.{CountsAnswer, IfSaid, OnFault, answer_as};
+ghost use Rattle.plant_office.specs.Runs.{IsRun, stores_in};
 ghost use Rattle.plant_office.specs.Served.{Holds, IsIsolated, IsServed};
 ghost use Rattle.plant_office.specs.Lines.{line_of_mine};
 
@@ -163,6 +164,32 @@ impl<B: Books> Office<B> {
     {
         answer_of(self.serve_call(call))
     }
+
+    /// Answers the calls in their order, each as `serve` does. Room for all answers is made first: a fault of its own
+    /// is Memory, and then no call was made.
+    pub fn run(&mut self, calls: &[Call]) -> Result<Vec<Answer>, Fault>
+        ensures ran { (m : Content) → B.holds self.old.books m → (w : World) → IsLegalWorld w → Holds m w → B.can_tell self.new.books → IfOk result (λ answers. IsRun w calls.now answers.items (B.holds self.new.books)) }
+        ensures told { B.can_tell self.new.books → B.can_tell self.old.books }
+        ensures count { B.stores self.old.books + length calls.now < 2 ^ 64 → IfOk result (λ answers. B.stores self.new.books ≡ B.stores self.old.books + stores_in answers.items) }
+        ensures fault { OnErr result (self.new ≡ self.old) }
+        ensures memory { IfErr result (λ e. e ≡ Memory) }
+    {
+        let mut answers = Vec::with_capacity(self.alloc, calls.len())?;
+        for call in calls {
+            let answer = self.serve(call);
+            push_answer(&mut answers, answer);
+        }
+        Ok(answers)
+    }
+}
+
+/// The answers so far with one more, for which room was made.
+fn push_answer(answers: &mut Vec<Answer>, answer: Answer)
+    requires { vec_len answers.old < vec_capacity answers.old }
+    ensures items { answers.new.items ≡ answers.old.items ++ answer ∷ [] }
+    ensures room { vec_capacity answers.old ≤ vec_capacity answers.new }
+{
+    answers.push(answer).unwrap();
 }
 
 /// What was said, or the fault, as an answer.
