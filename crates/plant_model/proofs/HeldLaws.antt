@@ -11,7 +11,6 @@ use Rattle.plant_model.specs.declared.call.Call.{Call}
 use Rattle.plant_model.specs.declared.rows.GrantRow.{GrantRow}
 use Rattle.plant_types.specs.declared.role.Role.{Role}
 use Rattle.plant_types.specs.declared.role.Role.TheVariants.{Approver, Engineer, Maintainer, Operator, Steward, Viewer}
-use Rattle.plant_alarm.proofs.Examples.{ended}
 use Rattle.plant_model.proofs.FactLaws.{held_in}
 use Rattle.plant_model.proofs.HistoryLaws.{grants_told, pairs_of, when_Some}
 use Rattle.plant_model.specs.Grants.{held, holds_any, is_before, roles_held}

@@ -10,7 +10,6 @@ use Rattle.plant_model.specs.declared.call.Request.TheVariants.{Grant, OneShotSh
 use Rattle.plant_model.specs.declared.rows.AlarmRow.{AlarmRow}
 use Rattle.plant_model.specs.declared.rows.ShelfRow.{ShelfRow}
 use Rattle.plant_types.specs.declared.role.Role.TheVariants.{Steward}
-use Rattle.plant_model.proofs.PutLaws.{said}
 use Rattle.plant_model.specs.Alarms.{latching, limit, said_of_latching}
 use Rattle.plant_model.specs.Grants.{said_of_pair, standing}
 use Rattle.plant_model.specs.Histories.{all_named, latest}

@@ -10,3 +10,9 @@ pub mod PartLaws
 pub mod WorldLaws
 pub mod PurgeLaws
 pub mod LegalLaws
+pub mod Base
+mod WorkedShelves
+mod WorkedGrants
+mod WorkedWorld
+mod WorkedQuota
+mod WorkedRows

@@ -15,7 +15,7 @@ use Rattle.plant_model.proofs.PlaceOrders.{band_total, cell_total, same_bands, s
 use Rattle.plant_model.proofs.PutLaws.{else_none, said, said-told}
 use Rattle.plant_model.specs.Histories.{all_named, same_number}
 use Rattle.plant_model.specs.Matrices.{BandKey, CellKey, at_place, band_at, band_cmp, band_places, cell_cmp, cell_of, cell_places, cells_of_row, matrix_numbered, numbered_matrix, places_in, when_number}
-use Rattle.plant_model.specs.Parts.{none, nothing}
+use Rattle.plant_model.specs.Parts.{none}
 use Rattle.plant_model.specs.RowFacts.{band_key, cell_key}
 use Rattle.plant_model.specs.Rows.{band_row, cell_row}
 use Rattle.plant_ration.specs.Grid.{Grid}

@@ -13,7 +13,6 @@ use Rattle.plant_model.specs.declared.rows.Change.TheVariants.{Put}
 use Rattle.plant_model.specs.declared.rows.Row.TheVariants.{Band as BandPut, Cell as CellPut}
 use Rattle.plant_model.specs.declared.rows.UnitRows.{UnitRows}
 use Rattle.plant_model.specs.Matrices.{band_cmp, cell_cmp}
-use Rattle.plant_model.specs.Parts.{none}
 use Rattle.plant_model.specs.RowChanges.{changed_by, put}
 use Rattle.plant_model.specs.RowFacts.{band_key, cell_key}
 use Rattle.plant_types.proofs.TableLaws.{IsInOrder-put_row, IsInOrder-rows, Tells, row_at-in_order, row_at-put_row, row_at-rows, same_rows, settled, tied}
