@@ -94,6 +94,7 @@ band_within limits response = by_case (cases_lt (position_or_len (nat_lt respons
   where
     at : ℕ
     at = position_or_len (nat_lt response) limits
+
     by_case : (at < length limits) ⊎ (length limits ≤ at) → band limits response < length limits + 1
     by_case (inl lt) = rw (lt-ltb at (length limits) lt) (omega arith)
     by_case (inr le) = rw (le-ltb at (length limits) le) (omega arith)
