@@ -1,15 +1,15 @@
 -- What the tests of a matrix say of its rows, limits and cells.
-use Rattle.std.proofs.Common.{◌≡◌, ℕ, zero, suc, ◌+◌, ◌-◌, ◌<◌, ◌≤◌, refl, sym, ap, ◌∙◌, List, [], ◌∷◌, length, Bool, true, false, cond, ◌&&◌, arith, Some, None, Option, subst, ◌⊎◌, inl, inr}
+use Rattle.std.proofs.Common.{◌≡◌, ℕ, zero, suc, ◌+◌, ◌-◌, ◌<◌, ◌≤◌, refl, sym, ap, ◌∙◌, List, [], ◌∷◌, length, Bool, true, false, cond, ◌&&◌, arith, Some, None, Option, ◌⊎◌, inl, inr}
 use Rattle.std.proofs.Math.Numerals.{add-one}
 use Rattle.std.proofs.lemmas.Bool.{cases_lt, false≢true, leb-true, ltb-true, eqb-true, le-leb, lt-ltb, le-ltb, lt-leb, ne_eqb}
 use Rattle.std.proofs.lemmas.Option.{slice_get_past}
-use Rattle.std.specs.Prelude.{is_some, nat_le, nat_lt, ◌==◌, slice_get, slice_index, option_and_then, position, unwrap_or}
-use Rattle.std.specs.List.{list_all, zip, position_or_len}
+use Rattle.std.specs.Prelude.{is_some, nat_le, nat_lt, ◌==◌, slice_get, slice_index, option_and_then}
+use Rattle.std.specs.List.{list_all, position_or_len}
 use Rattle.std.specs.List.Sorted.{IsStrictlyIncreasing}
 use Rattle.plant_types.specs.Numbers.{is_seconds}
 use Rattle.plant_ration.specs.declared.cell.Cell.{Cell}
 use Rattle.plant_ration.specs.Grid.{Grid}
-use Rattle.plant_ration.specs.Matrix.{rank, no_lower, neighbours, is_no_lower_row, is_rising, is_ordered, has_shape, is_matrix, band, row_of, is_row, priority_of, cell_at, IsOrdered}
+use Rattle.plant_ration.specs.Matrix.{rank, no_lower, neighbours, is_no_lower_row, is_rising, is_ordered, has_shape, is_matrix, band, is_row, priority_of, cell_at, IsOrdered}
 
 left : (a b : Bool) → (a && b) ≡ true → a ≡ true
 left true b e = refl

@@ -1,5 +1,4 @@
 use Rattle.std.proofs.Common.{rules, ◌≡◌, true}
-use Rattle.std.specs.Prelude.{is_some, ◌==◌}
 use Rattle.plant_ration.specs.Matrix.{is_matrix, priority_of}
 use Rattle.plant_ration.proofs.Matrices.{only_rows}
 use Rattle.plant_ration.proofs.matrix.Matrix.priority.Goals as goal
