@@ -1,2 +1,6 @@
 pub mod TableLaws
 pub mod Orders
+pub mod Days
+pub mod Round
+pub mod Unique
+pub mod Examples

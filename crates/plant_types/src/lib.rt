@@ -1,6 +1,7 @@
 //! Names, moments, lengths of time and roles.
 #![tactic(auto)]
 
+mod civil;
 mod fault;
 mod moment;
 mod numbers;
