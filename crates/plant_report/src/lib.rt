@@ -1,0 +1,8 @@
+//! The printed texts of a unit's rows, and floods of alarms.
+#![tactic(auto)]
+
+mod columns;
+mod moments;
+mod shelves;
+
+pub use shelves::shelf_text;
