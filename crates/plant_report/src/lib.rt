@@ -5,4 +5,5 @@ mod columns;
 mod moments;
 mod shelves;
 
+pub use moments::write as write_moment;
 pub use shelves::shelf_text;
