@@ -1,5 +1,5 @@
 -- From what the steps of `next_call` say to what stands at the front.
-use Rattle.std.proofs.Common.{◌≡◌, ℕ, ◌+◌, ◌<◌, ◌≤◌, List, length, take, drop, map, Result, Ok, Err, Bool, true, false, refl, sym, ap, subst, ◌∙◌}
+use Rattle.std.proofs.Common.{◌≡◌, ℕ, ◌+◌, ◌<◌, ◌≤◌, List, length, take, map, Result, Ok, Err, refl, sym, ap, subst, ◌∙◌}
 use Rattle.std.proofs.lemmas.Bool.{lt-ltb, le-ltb}
 use Rattle.httparse.specs.Grammar.{RequestHead, print_request}
 use Rattle.httparse.specs.declared.spans.HeaderSpan.{HeaderSpan}
@@ -8,7 +8,7 @@ use Rattle.httparse.specs.Spans.{header_bytes, span_bytes, name_and_value, IsReq
 use Rattle.plant_model.specs.declared.call.Call as model
 use Rattle.plant_call.specs.Lengths.{body_length_in}
 use Rattle.plant_call.specs.Reading.{call_in}
-use Rattle.plant_call.specs.Front.{item_from, Front, Item, waits, whole, broken, of_head, body_length, item_of, answer_to, StandsAtFront}
+use Rattle.plant_call.specs.Front.{item_from, Front, waits, whole, broken, of_head, body_length, item_of, answer_to, StandsAtFront}
 use Rattle.plant_call.specs.Cut.{Shows, IsCutOf}
 use Rattle.plant_call.specs.declared.causes.Cause.{Cause}
 use Rattle.plant_call.specs.declared.cut.Cut.{Cut}

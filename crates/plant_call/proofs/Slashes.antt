@@ -1,5 +1,5 @@
 -- Going over a path up to its first slash.
-use Rattle.std.proofs.Common.{◌≡◌, ℕ, zero, suc, ◌+◌, ◌<◌, ◌≤◌, List, [], ◌∷◌, ◌++◌, length, take, drop, get_or, Bool, true, false, refl, sym, ap, ◌∙◌, drop-cons, add-one, append_assoc, append-nil}
+use Rattle.std.proofs.Common.{◌≡◌, ℕ, ◌+◌, List, ◌++◌, take, drop, refl, add-one}
 use Rattle.plant_call.specs.Path.{until_slash, after_slash, after_slashes}
 
 -- no slash stands before i

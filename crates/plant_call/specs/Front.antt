@@ -1,5 +1,5 @@
 -- What stands at the front of a stream of requests: a definition over the bytes alone.
-use Rattle.std.specs.Prelude.{◌≡◌, ◌⊎◌, ℕ, ◌+◌, ◌<◌, ◌≤◌, List, [], ◌∷◌, ◌++◌, length, take, drop, Result, Ok, Err, Bool, true, false, nat_lt, if◌then◌else◌, codes}
+use Rattle.std.specs.Prelude.{◌≡◌, ◌⊎◌, ℕ, ◌+◌, List, [], ◌∷◌, length, take, drop, Result, Ok, Err, nat_lt, if◌then◌else◌}
 use Rattle.httparse.specs.Grammar.{RequestHead, print_request}
 use Rattle.plant_head.specs.Head.{head_limit, BeginsWith, IsHopeless, IsUnfinished}
 use Rattle.plant_head.specs.Fields.{fields_of}

@@ -1,5 +1,5 @@
 -- The segments of a path.
-use Rattle.std.specs.Prelude.{ℕ, zero, suc, List, [], ◌∷◌, ◌==◌, if◌then◌else◌, Result, Ok, Err}
+use Rattle.std.specs.Prelude.{ℕ, zero, suc, List, [], ◌∷◌, ◌==◌, if◌then◌else◌, Result}
 use Rattle.std.specs.Option.{ok_or}
 use Rattle.plant_types.specs.Text.{unit_code_of, tag_of}
 use Rattle.plant_call.specs.declared.causes.Cause.{Cause}

@@ -1,5 +1,5 @@
 use super::*;
-use plant_model::Request;
+use plant_model::{Call, Request};
 use std::alloc::Global;
 use std::test::Fail;
 
@@ -57,24 +57,30 @@ fn reads_a_call(rt: HostRuntime) -> Result<(), Fail> {
         return Err(Fail::new("no call"));
     };
     assert_eq!(rt; n, SHELVE.len());
-    assert_eq!(rt; call.person.as_bytes(), b"ste".as_slice());
+    let Call {
+        person,
+        moment,
+        request,
+    } = call;
+    assert_eq!(rt; person.as_bytes(), b"ste".as_slice());
     assert_eq!(rt;
-        call.moment.write().as_slice(),
+        moment.write().as_slice(),
         b"2026-03-01T10:00:00Z".as_slice()
     );
-    let Request::TimedShelve {
-        unit,
-        tag,
-        seconds,
-        words,
-    } = call.request
-    else {
-        return Err(Fail::new("no timed shelving"));
-    };
-    assert_eq!(rt; unit.as_bytes(), b"U1".as_slice());
-    assert_eq!(rt; tag.as_bytes(), b"PT-101".as_slice());
-    assert_eq!(rt; seconds.get(), 3600);
-    assert_eq!(rt; words.as_bytes(), b"pump test".as_slice());
+    match &request {
+        Request::TimedShelve {
+            unit,
+            tag,
+            seconds,
+            words,
+        } => {
+            assert_eq!(rt; unit.as_bytes(), b"U1".as_slice());
+            assert_eq!(rt; tag.as_bytes(), b"PT-101".as_slice());
+            assert_eq!(rt; seconds.get(), 3600);
+            assert_eq!(rt; words.as_bytes(), b"pump test".as_slice());
+        }
+        _ => assert!(rt; false),
+    }
     for n in 0..SHELVE.len() {
         assert!(rt; waits(rt.alloc(), &SHELVE[..n]));
     }

@@ -1,4 +1,3 @@
-use Rattle.std.proofs.Common.{sym}
 use Rattle.plant_call.proofs.Shown.{answers_broken, answers_waits, length_read, whole_read}
 use Rattle.plant_call.proofs.cut.cut_at.Goals as goal
 
