@@ -1,5 +1,6 @@
 pub mod TableLaws
 pub mod Orders
+pub mod DateTests
 pub mod Days
 pub mod Round
 pub mod Unique

@@ -1,10 +1,10 @@
 -- What is spelled is read again.
-use Rattle.std.proofs.Common.{◌≡◌, ℕ, ◌+◌, ◌-◌, ◌*◌, ◌/◌, ◌%◌, ◌≤◌, ◌<◌, refl, sym, ap, ◌∙◌, arith, Bool, true, false, ◌&&◌, Some, None, Option, cond, List, [], ◌∷◌, pos}
-use Rattle.std.proofs.lemmas.Bool.{le-leb, lt-ltb, leb-true, false≢true}
-use Rattle.jiff_core.specs.Calendar.{days_in_month}
+use Rattle.std.proofs.Common.{◌≡◌, ℕ, ◌+◌, ◌*◌, ◌/◌, ◌%◌, ◌<◌, refl, ap, ◌∙◌, arith, Bool, true, ◌&&◌, Some, None, cond, List, [], ◌∷◌, pos}
+use Rattle.std.proofs.lemmas.Bool.{le-leb, lt-ltb}
 use Rattle.jiff_core.proofs.CalendarLemmas.{days_in_month_bounds}
 use Rattle.plant_types.specs.Text.{is_digit}
-use Rattle.plant_types.specs.Moment.{decimal_value, has_form, civil_of, is_date, is_time, days_since_2000, moment_of}
+use Rattle.plant_types.specs.Moment.{decimal_value, has_form, is_date, is_time, days_since_2000, moment_of}
+use Rattle.plant_types.proofs.DateTests.{date_is}
 use Rattle.plant_types.specs.Spelling.{digit, spelled}
 
 two : {a b : Bool} → a ≡ true → b ≡ true → (a && b) ≡ true
@@ -47,21 +47,11 @@ round y m d h mi s date time hy hm hd hh hmi hs =
     let ss = decimal_two s hs in
     pick (two (form_of y m d h mi s hy hm hd hh hmi hs) (six the_test yy mm dd hh' mmi ss ∙ two date time)) ∙ ap Some (six the_number yy mm dd hh' mmi ss)
 
-left : (a b : Bool) → (a && b) ≡ true → a ≡ true
-left true b e = refl
-left false b e = e
-
-right : (a b : Bool) → (a && b) ≡ true → b ≡ true
-right true b e = e
-right false b e = absurd (false≢true e)
-
 -- the parts of a date are small
 pub date_bounds : (y m d : ℕ) → is_date y m d ≡ true → (y < 10000) × (m < 100) × (d < 100)
 date_bounds y m d e =
-    let high : y ≤ 2099 = leb-true y 2099 (right _ _ (left _ _ (left _ _ (left _ _ (left _ _ e))))) in
-    let month : m ≤ 12 = leb-true m 12 (right _ _ (left _ _ (left _ _ e))) in
-    let day : d ≤ days_in_month (pos y) m = leb-true d (days_in_month (pos y) m) (right _ _ e) in
-    (omega (arith, high), omega (arith, month), omega (arith, day, (days_in_month_bounds (pos y) m).0))
+    let is = date_is y m d e in
+    (omega (arith, is.high), omega (arith, is.last_month), omega (arith, is.last_day, (days_in_month_bounds (pos y) m).0))
 
 pub time_true : (t : ℕ) → t < 86400 → is_time (t / 60 / 60) (t / 60 % 60) (t % 60) ≡ true
 time_true t lt = two (two (lt-ltb (t / 60 / 60) 24 (omega arith)) (lt-ltb (t / 60 % 60) 60 (omega arith))) (lt-ltb (t % 60) 60 (omega arith))

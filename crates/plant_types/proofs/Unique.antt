@@ -1,23 +1,16 @@
 -- A moment has one text: two texts that are read as one moment are the same.
-use Rattle.std.proofs.Common.{◌≡◌, ℕ, ◌+◌, ◌-◌, ◌*◌, ◌/◌, ◌%◌, ◌≤◌, ◌<◌, ◌⊎◌, inl, inr, refl, sym, ap, ◌∙◌, arith, Bool, true, false, ◌&&◌, Some, None, Option, cond, List, [], ◌∷◌, length, pos, subst}
-use Rattle.std.proofs.lemmas.Bool.{leb-true, ltb-true, eqb-true, false≢true, cases_lt}
+use Rattle.std.proofs.Common.{◌≡◌, ℕ, ◌+◌, ◌*◌, ◌/◌, ◌%◌, ◌≤◌, ◌<◌, ◌⊎◌, inl, inr, refl, sym, ap, ◌∙◌, arith, Bool, true, false, Some, None, cond, List, [], ◌∷◌, length, pos, subst}
+use Rattle.std.proofs.lemmas.Bool.{leb-true, eqb-true, cases_lt}
 use Rattle.std.proofs.lemmas.Int.{ints}
-use Rattle.jiff_core.specs.Calendar.{days_in_month, day_count, IsCivilDate}
+use Rattle.jiff_core.specs.Calendar.{day_count, IsCivilDate}
 use Rattle.jiff_core.proofs.CalendarLemmas.{day_count-lt_year, day_count-lt_month, day_count-day}
 use Rattle.std.specs.Prelude.{◌==◌}
 use Rattle.std.specs.List.{list_all, zip}
 use Rattle.plant_types.specs.Text.{is_digit}
-use Rattle.plant_types.specs.Moment.{decimal_value, form, fits_at, has_form, Civil, civil_of, is_civil, is_date, is_time, days_since_2000, seconds_since_2000, moment_of}
+use Rattle.plant_types.specs.Moment.{decimal_value, form, fits_at, has_form, Civil, civil_of, is_civil, is_date, days_since_2000, seconds_since_2000, moment_of}
 use Rattle.plant_types.specs.Spelling.{digit, spelled}
+use Rattle.plant_types.proofs.DateTests.{left, right, date_is, IsTime, time_is}
 use Rattle.plant_types.proofs.Days.{day_count-2000, since-2000}
-
-left : (a b : Bool) → (a && b) ≡ true → a ≡ true
-left true b e = refl
-left false b e = e
-
-right : (a b : Bool) → (a && b) ≡ true → b ≡ true
-right true b e = e
-right false b e = absurd (false≢true e)
 
 -- what a digit is
 low_digit : (b : ℕ) → is_digit b ≡ true → 48 ≤ b
@@ -113,13 +106,8 @@ record IsDay (y m d : ℕ) : Type 0 where
 
 day_of : (y m d : ℕ) → is_date y m d ≡ true → IsDay y m d
 day_of y m d e =
-    let low : 2000 ≤ y = leb-true 2000 y (left _ _ (left _ _ (left _ _ (left _ _ (left _ _ e))))) in
-    let high : y ≤ 2099 = leb-true y 2099 (right _ _ (left _ _ (left _ _ (left _ _ (left _ _ e))))) in
-    let month_low : 1 ≤ m = leb-true 1 m (right _ _ (left _ _ (left _ _ (left _ _ e)))) in
-    let month_high : m ≤ 12 = leb-true m 12 (right _ _ (left _ _ (left _ _ e))) in
-    let day_low : 1 ≤ d = leb-true 1 d (right _ _ (left _ _ e)) in
-    let day_high : d ≤ days_in_month (pos y) m = leb-true d (days_in_month (pos y) m) (right _ _ e) in
-    record { low = low; civil = ((omega (arith, ints), omega (arith, ints)), (month_low, month_high), (day_low, day_high)) }
+    let is = date_is y m d e in
+    record { low = is.low; civil = ((omega (arith, ints, is.low), omega (arith, ints, is.high)), (is.first_month, is.last_month), (is.first_day, is.last_day)) }
 
 -- days with one number are the same day
 no_earlier_year : (y m d z n e : ℕ) → IsDay y m d → IsDay z n e → day_count (pos y) m d ≡ day_count (pos z) n e → z ≤ y
@@ -167,14 +155,6 @@ since_same y m d z n e p q same =
     omega (arith, same, day_count-2000, from, from')
 
 -- times and days with one number of seconds are the same
-record IsTime (h m s : ℕ) : Type 0 where
-  hour : h < 24
-  minute : m < 60
-  second : s < 60
-
-time_of : (h m s : ℕ) → is_time h m s ≡ true → IsTime h m s
-time_of h m s e = record { hour = ltb-true h 24 (left _ _ (left _ _ e)); minute = ltb-true m 60 (right _ _ (left _ _ e)); second = ltb-true s 60 (right _ _ e) }
-
 record SameClock (x h m s y i n t : ℕ) : Type 0 where
   days : x ≡ y
   hour : h ≡ i
@@ -197,7 +177,7 @@ same_spelling : (a b : Civil) → is_civil a ≡ true → is_civil b ≡ true �
 same_spelling a b p q same =
     let day = day_of a.year a.month a.day (left _ _ p) in
     let day' = day_of b.year b.month b.day (left _ _ q) in
-    let clock = same_clock _ a.hour a.minute a.second _ b.hour b.minute b.second (time_of _ _ _ (right _ _ p)) (time_of _ _ _ (right _ _ q)) same in
+    let clock = same_clock _ a.hour a.minute a.second _ b.hour b.minute b.second (time_is _ _ _ (right _ _ p)) (time_is _ _ _ (right _ _ q)) same in
     let date = same_date a.year a.month a.day b.year b.month b.day day day' (since_same a.year a.month a.day b.year b.month b.day day day' clock.days) in
     spelled_alike date.year date.month date.day clock.hour clock.minute clock.second
 

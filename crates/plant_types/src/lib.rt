@@ -17,3 +17,6 @@ pub use table::Table;
 pub use text::{
     Alphabet, Person, PersonBytes, Tag, TagBytes, Text, UnitCode, UnitCodeBytes, Words, WordsBytes,
 };
+
+#[cfg(test)]
+mod tests;
