@@ -1,6 +1,7 @@
 //! Names, moments, lengths of time and roles.
 #![tactic(auto)]
 
+mod duplicate;
 mod fault;
 mod moment;
 mod numbers;
@@ -8,6 +9,7 @@ mod role;
 mod table;
 mod text;
 
+pub use duplicate::{Duplicate, duplicated};
 pub use fault::Fault;
 pub use moment::Moment;
 pub use numbers::{Quota, Seconds};
