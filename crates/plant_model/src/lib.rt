@@ -3,6 +3,7 @@
 #![tactic(auto)]
 
 mod call;
+mod copies;
 mod reply;
 mod rows;
 
