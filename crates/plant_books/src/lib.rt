@@ -2,5 +2,8 @@
 #![tactic(auto)]
 
 mod books;
+mod changes;
+mod keyed;
+mod rows;
 
 pub use books::{Books, MineUnit};
