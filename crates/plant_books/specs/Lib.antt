@@ -1,2 +1,3 @@
 pub mod Contents
 pub mod Counting
+pub mod Asking

@@ -41,41 +41,51 @@ fn put_row(alloc: Global, rows: &mut UnitRows, row: Row) -> Result<(), Fault>
     }
 }
 
-/// Takes out the row of a pair, if there is one.
-fn remove_grant(grants: &mut Table<GrantRow>, person: &Person, role: Role)
-    ensures { grants.new ≡ remove_row pair_cmp pair_of (person.now, role) grants.old }
+/// The grants without that of a pair.
+fn without_grant(grants: Table<GrantRow>, person: &Person, role: Role) -> Table<GrantRow>
+    ensures { result ≡ remove_row pair_cmp pair_of (person.now, role) grants }
 {
-    grants.retain(|grant| compare_pair(person, role, grant).is_ne());
+    let mut rows = grants.into_vec();
+    rows.retain(|grant| compare_pair(person, role, grant).is_ne());
+    Table::from_vec(rows)
 }
 
-/// Takes out the row of a tag, if there is one.
-fn remove_shelf(shelves: &mut Table<ShelfRow>, tag: &Tag)
-    ensures { shelves.new ≡ remove_row name_cmp shelf_tag tag.now shelves.old }
+/// The shelves without that of a tag.
+fn without_shelf(shelves: Table<ShelfRow>, tag: &Tag) -> Table<ShelfRow>
+    ensures { result ≡ remove_row name_cmp shelf_tag tag.now shelves }
 {
-    shelves.retain(|shelf| tag.cmp(&shelf.tag).is_ne());
+    let mut rows = shelves.into_vec();
+    rows.retain(|shelf| tag.cmp(&shelf.tag).is_ne());
+    Table::from_vec(rows)
 }
 
-/// Takes out the row of a key, if there is one.
-fn remove(rows: &mut UnitRows, key: &Key)
-    ensures { rows.new ≡ removed key.now rows.old }
+/// The rows without that of a key.
+fn without(rows: UnitRows, key: &Key) -> UnitRows
+    ensures { result ≡ removed key.now rows }
 {
     match key {
-        Key::Grant(person, role) => remove_grant(&mut rows.grants, person, *role),
-        Key::Shelf(tag) => remove_shelf(&mut rows.shelves, tag),
+        Key::Grant(person, role) => UnitRows {
+            grants: without_grant(rows.grants, person, *role),
+            ..rows
+        },
+        Key::Shelf(tag) => UnitRows {
+            shelves: without_shelf(rows.shelves, tag),
+            ..rows
+        },
     }
 }
 
-/// Makes one change.
-fn make_change(alloc: Global, rows: &mut UnitRows, change: &Change) -> Result<(), Fault>
-    ensures ok { OnOk result (rows.new ≡ changed change.now rows.old) }
+/// The rows after one change.
+fn after_change(alloc: Global, mut rows: UnitRows, change: &Change) -> Result<UnitRows, Fault>
+    ensures value { IfOk result (λ after. after ≡ changed change.now rows) }
     ensures memory { IfErr result (λ e. e ≡ Memory) }
 {
     match change {
-        Change::Put(row) => put_row(alloc, rows, row.duplicate(alloc)?),
-        Change::Remove(key) => {
-            remove(rows, key);
-            Ok(())
+        Change::Put(row) => {
+            put_row(alloc, &mut rows, row.duplicate(alloc)?)?;
+            Ok(rows)
         }
+        Change::Remove(key) => Ok(without(rows, key)),
     }
 }
 
@@ -85,12 +95,12 @@ pub fn after_changes(
     rows: UnitRows,
     changes: &Table<Change>,
 ) -> Result<UnitRows, Fault>
-    ensures ok { IfOk result (λ after. after ≡ changed_by changes.now rows) }
+    ensures value { IfOk result (λ after. after ≡ changed_by changes.now rows) }
     ensures memory { IfErr result (λ e. e ≡ Memory) }
 {
     let mut after = rows;
     for change in changes.as_slice() {
-        make_change(alloc, &mut after, change)?;
+        after = after_change(alloc, after, change)?;
     }
     Ok(after)
 }

@@ -1,6 +1,7 @@
 //! Names, moments, lengths of time and roles.
 #![tactic(auto)]
 
+mod civil;
 mod duplicate;
 mod fault;
 mod moment;
@@ -18,3 +19,6 @@ pub use table::Table;
 pub use text::{
     Alphabet, Person, PersonBytes, Tag, TagBytes, Text, UnitCode, UnitCodeBytes, Words, WordsBytes,
 };
+
+#[cfg(test)]
+mod tests;

@@ -1,6 +1,4 @@
 ghost use Rattle.std.specs.Prelude.{◌≡◌, ◌↔◌, [], ◌∷◌, ◌++◌, length, insert, remove, slice_get, slice_set, IsTrue, OnOk, OnErr, IfErr};
-ghost use Rattle.std.specs.Fn.{CalledAt};
-ghost use Rattle.std.specs.List.Retain.{IsFiltered};
 ghost use Rattle.plant_types.specs.declared.fault.Fault.TheVariants.{Memory};
 
 use crate::Fault;
@@ -109,15 +107,5 @@ impl<T: Drop> Table<T> {
         } else {
             None
         }
-    }
-}
-
-impl<T: Drop> Table<T> {
-    /// Keeps the values at which the test says so, in their order.
-    pub fn retain<F: FnMut(&T) -> bool>(&mut self, keep: F)
-        requires { F.IsAlwaysCallable keep }
-        ensures { IsFiltered (CalledAt F.FnMut) keep self.old self.new }
-    {
-        self.rows.retain(keep);
     }
 }
