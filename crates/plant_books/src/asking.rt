@@ -64,9 +64,8 @@ pub fn wanted_alarms(request: &Request) -> Wanted<'_>
         Request::Register { tag, .. }
         | Request::Unshelve { tag, .. }
         | Request::Status { tag, .. } => Wanted::One(tag),
-        Request::TimedShelve { .. }
-        | Request::OneShotShelve { .. }
-        | Request::Shelves { .. } => Wanted::Every,
+        Request::TimedShelve { .. } | Request::OneShotShelve { .. } | Request::Shelves { .. } =>
+            Wanted::Every,
         Request::OpenUnit { .. }
         | Request::Grant { .. }
         | Request::Withdraw { .. }

@@ -4,9 +4,12 @@
 mod asking;
 mod books;
 mod changes;
+mod grants;
 mod keyed;
 mod parts;
+mod plain;
 mod rows;
 
 pub use asking::{Wanted, unit_of, wanted_alarms, wanted_shelves, wants_all_grants, wants_count};
 pub use books::{Books, MineUnit};
+pub use plain::Plain;

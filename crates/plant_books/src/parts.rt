@@ -11,7 +11,11 @@ use plant_types::{Duplicate, Fault, Table};
 use std::alloc::Global;
 
 /// The grants that the call looks at: those of its caller, or of all persons.
-fn grants_asked(alloc: Global, grants: &Table<GrantRow>, call: &Call) -> Result<Table<GrantRow>, Fault>
+fn grants_asked(
+    alloc: Global,
+    grants: &Table<GrantRow>,
+    call: &Call,
+) -> Result<Table<GrantRow>, Fault>
     ensures value { IfOk result (λ rows. rows ≡ filter (λ g. same_name call.now.person g.person || (selected call.now.request).pair (pair_of g)) grants.now) }
     ensures memory { IfErr result (λ e. e ≡ Memory) }
 {
@@ -26,7 +30,11 @@ fn grants_asked(alloc: Global, grants: &Table<GrantRow>, call: &Call) -> Result<
 }
 
 /// The alarms that are wanted.
-fn alarms_asked(alloc: Global, alarms: &Table<AlarmRow>, wanted: &Wanted) -> Result<Table<AlarmRow>, Fault>
+fn alarms_asked(
+    alloc: Global,
+    alarms: &Table<AlarmRow>,
+    wanted: &Wanted,
+) -> Result<Table<AlarmRow>, Fault>
     ensures value { IfOk result (λ rows. rows ≡ filter (λ r. is_wanted wanted.now r.tag) alarms.now) }
     ensures memory { IfErr result (λ e. e ≡ Memory) }
 {
@@ -40,7 +48,11 @@ fn alarms_asked(alloc: Global, alarms: &Table<AlarmRow>, wanted: &Wanted) -> Res
 }
 
 /// The shelves that are wanted.
-fn shelves_asked(alloc: Global, shelves: &Table<ShelfRow>, wanted: &Wanted) -> Result<Table<ShelfRow>, Fault>
+fn shelves_asked(
+    alloc: Global,
+    shelves: &Table<ShelfRow>,
+    wanted: &Wanted,
+) -> Result<Table<ShelfRow>, Fault>
     ensures value { IfOk result (λ rows. rows ≡ filter (λ r. is_wanted wanted.now r.tag) shelves.now) }
     ensures memory { IfErr result (λ e. e ≡ Memory) }
 {
