@@ -109,40 +109,20 @@ told_listed f admin opened m h =
     sym (told_entries f opened) ∙ ap (filter_map (λ e. f e.0 (Some e.1))) h.units
     ∙ sym (told_found f (get m.units) (entries m.units) (subst (λ g. AreFound g (entries m.units)) lookup (are_found (entries m.units) (entries_sorted m.units))))
 
--- a loop over a list that tells something of some elements
-filter_map-append : {X Y : Type 0} (f : X → Option Y) (xs ys : List X) → filter_map f (xs ++ ys) ≡ filter_map f xs ++ filter_map f ys
-filter_map-append f [] ys = refl
-filter_map-append f (x ∷ xs) ys =
-    elim (f x) as (λ o. cons_option o (filter_map f (xs ++ ys)) ≡ cons_option o (filter_map f xs) ++ filter_map f ys) [
-      | None ↦ filter_map-append f xs ys
-      | Some y ↦ ap (λ zs. y ∷ zs) (filter_map-append f xs ys)
-    ]
-
-told_more : {X Y : Type 0} (f : X → Option Y) (xs : List X) (i : ℕ) (x : X) → i < length xs → x ≡ get_or xs i x → filter_map f (take (i + 1) xs) ≡ filter_map f (take i xs) ++ cons_option (f x) []
-told_more f xs i x h is =
-    ap (filter_map f) (take_more xs i x h ∙ ap (λ y. take i xs ++ y ∷ []) (sym is)) ∙ filter_map-append f (take i xs) (x ∷ [])
-
-pub told_one_more : {X Y : Type 0} (f : X → Option Y) (xs : List X) (i : ℕ) (x : X) (y : Y) → i < length xs → x ≡ get_or xs i x → f x ≡ Some y → filter_map f (take (i + 1) xs) ≡ filter_map f (take i xs) ++ y ∷ []
-told_one_more f xs i x y h is e = told_more f xs i x h is ∙ ap (λ o. filter_map f (take i xs) ++ cons_option o []) e
-
-pub told_no_more : {X Y : Type 0} (f : X → Option Y) (xs : List X) (i : ℕ) (x : X) → i < length xs → x ≡ get_or xs i x → f x ≡ None → filter_map f (take (i + 1) xs) ≡ filter_map f (take i xs)
-told_no_more f xs i x h is e = told_more f xs i x h is ∙ ap (λ o. filter_map f (take i xs) ++ cons_option o []) e ∙ append-nil (filter_map f (take i xs))
-
 -- the methods' answers
 pub still_some : {X Y : Type 0} (f : X → Y) (o : Option X) → is_some o ≡ is_some (option_map f o)
 still_some f None = refl
 still_some f (Some x) = refl
 
-pub part_listed : (c : Call) (u v : Name) (m : Content) (o : Option UnitRows) → Some v ≡ unit_named c.request → unit_named c.request ≡ Some u → o ≡ get m.units v → option_map (part_of c) o ≡ part_in m c u
-part_listed c u v m o named is e =
+pub part_listed : (admin u v : Name) (opened : List OpenedUnit) (m : Content) (c : Call) → IsListed admin opened m → Some v ≡ unit_named c.request → unit_named c.request ≡ Some u → option_map (part_of c) (option_map (λ o. o.rows) (row_at name_cmp (λ o. o.unit) v opened)) ≡ part_in m c u
+part_listed admin u v opened m c h is named =
     let same : v ≡ u = cc in
-    ap (option_map (part_of c)) e ∙ ap (part_in m c) same
+    ap (option_map (part_of c)) (rows_listed admin v opened m h) ∙ ap (part_in m c) same
 
-pub made_listed : (r : Result (Unit {0}) Fault) (admin u code : Name) (rows after : UnitRows) (opened left : List OpenedUnit) (m : Content) (cs : List Change) → IsListed admin opened m → code ≡ u → rows ≡ unwrap_or (option_map (λ o. o.rows) (row_at name_cmp (λ o. o.unit) u opened)) no_rows → after ≡ changed_by cs rows → OnOk r (left ≡ put_row (λ a b. name_cmp a.unit b.unit) (λ o. o) record { unit = code; rows = after } opened) → OnOk r (IsListed admin left (after_changes m u cs))
-made_listed (Ok x) admin u code rows after opened left m cs h same found changed is =
-    let made : after ≡ changed_by cs (rows_in m u) = changed ∙ ap (changed_by cs) (found ∙ ap (λ o. unwrap_or o no_rows) (rows_listed admin u opened m h)) in
+pub made_listed : (r : Result (Unit {0}) Fault) (admin u : Name) (opened left : List OpenedUnit) (m : Content) (cs : List Change) → IsListed admin opened m → OnOk r (left ≡ put_row (λ a b. name_cmp a.unit b.unit) (λ o. o) record { unit = u; rows = changed_by cs (unwrap_or (option_map (λ o. o.rows) (row_at name_cmp (λ o. o.unit) u opened)) no_rows) } opened) → OnOk r (IsListed admin left (after_changes m u cs))
+made_listed (Ok x) admin u opened left m cs h is =
+    let there = ap (λ o. changed_by cs (unwrap_or o no_rows)) (rows_listed admin u opened m h) in
     subst (λ os. IsListed admin os (after_changes m u cs)) (sym is)
-    (subst (λ k. IsListed admin (put_row (λ a b. name_cmp a.unit b.unit) (λ o. o) record { unit = k; rows = after } opened) (after_changes m u cs)) (sym same)
-    (subst (λ (rs : UnitRows). IsListed admin (put_row (λ a b. name_cmp a.unit b.unit) (λ o. o) record { unit = u; rows = rs } opened) (after_changes m u cs)) (sym made)
-    (put_listed admin u (changed_by cs (rows_in m u)) opened m h)))
-made_listed (Err e) admin u code rows after opened left m cs h same found changed is = tt
+    (subst (λ (rows : UnitRows). IsListed admin (put_row (λ a b. name_cmp a.unit b.unit) (λ o. o) record { unit = u; rows = rows } opened) (after_changes m u cs)) (sym there)
+    (put_listed admin u (changed_by cs (rows_in m u)) opened m h))
+made_listed (Err e) admin u opened left m cs h is = tt

@@ -1,11 +1,12 @@
-ghost use Rattle.std.specs.Prelude.{◌≡◌, ⊤, IfErr, IfOk, Some, filter_map, option_map, unwrap_or};
+ghost use Rattle.std.specs.Prelude.{◌≡◌, ⊤, IfErr, IfOk, OnErr, OnOk, Some, filter_map, option_map, unwrap_or};
 ghost use Rattle.plant_books.specs.Contents.{is_held_in, mine_unit, no_units};
 ghost use Rattle.plant_books.specs.Listed.{IsListed};
-ghost use Rattle.plant_model.specs.RowChanges.{no_rows};
+ghost use Rattle.plant_model.specs.Parts.{part_of as the_part};
+ghost use Rattle.plant_model.specs.RowChanges.{changed_by, no_rows};
 ghost use Rattle.plant_model.specs.RowFacts.{unit_read};
 ghost use Rattle.plant_types.specs.Names.{name_cmp};
 ghost use Rattle.plant_types.specs.Options.{when};
-ghost use Rattle.plant_types.specs.Tables.{row_at};
+ghost use Rattle.plant_types.specs.Tables.{put_row, row_at};
 ghost use Rattle.plant_types.specs.declared.fault.Fault.TheVariants.{Memory};
 
 use crate::asking::unit_of;
@@ -53,14 +54,34 @@ fn rows_of<'a>(units: &'a Table<OpenedUnit>, unit: &UnitCode) -> Option<&'a Unit
         .map(|opened| &opened.rows)
 }
 
-/// A copy of the rows of a unit; no rows if it was never opened.
-fn copied_rows(alloc: Global, units: &Table<OpenedUnit>, unit: &UnitCode) -> Result<UnitRows, Fault>
-    ensures value { IfOk result (λ rows. rows ≡ unwrap_or (option_map (λ o. o.rows) (row_at name_cmp (λ o. o.unit) unit.now units.now)) no_rows) }
+/// A copy of the rows of a unit, if it was opened.
+fn copy_of(
+    alloc: Global,
+    units: &Table<OpenedUnit>,
+    unit: &UnitCode,
+) -> Result<Option<UnitRows>, Fault>
+    ensures value { IfOk result (λ rows. rows ≡ option_map (λ o. o.rows) (row_at name_cmp (λ o. o.unit) unit.now units.now)) }
     ensures memory { IfErr result (λ e. e ≡ Memory) }
 {
     match rows_of(units, unit) {
-        None => Ok(UnitRows::none(alloc)),
-        Some(rows) => rows.duplicate(alloc),
+        None => Ok(None),
+        Some(rows) => Ok(Some(rows.duplicate(alloc)?)),
+    }
+}
+
+/// The part of a unit's rows that the call looks at, if the unit was opened.
+fn part_at(
+    alloc: Global,
+    units: &Table<OpenedUnit>,
+    unit: &UnitCode,
+    call: &Call,
+) -> Result<Option<UnitPart>, Fault>
+    ensures value { IfOk result (λ part. part ≡ option_map (the_part call.now) (option_map (λ o. o.rows) (row_at name_cmp (λ o. o.unit) unit.now units.now))) }
+    ensures memory { IfErr result (λ e. e ≡ Memory) }
+{
+    match rows_of(units, unit) {
+        None => Ok(None),
+        Some(rows) => Ok(Some(part_of(alloc, rows, call)?)),
     }
 }
 
@@ -116,6 +137,29 @@ fn units_held(
     Ok(mine)
 }
 
+/// Makes the changes to the rows of a unit, which is put among the others where it was never
+/// opened. Where memory is wanted, nothing changes.
+fn change_unit(
+    alloc: Global,
+    units: &mut Table<OpenedUnit>,
+    unit: &UnitCode,
+    changes: &Table<Change>,
+) -> Result<(), Fault>
+    ensures made { OnOk result (units.new ≡ put_row (λ a b. name_cmp a.unit b.unit) (λ o. o) (record {
+      unit = unit.now;
+      rows = changed_by changes.now (unwrap_or (option_map (λ o. o.rows) (row_at name_cmp (λ o. o.unit) unit.now units.old)) no_rows);
+    }) units.old) }
+    ensures unchanged { OnErr result (units.new ≡ units.old) }
+    ensures memory { IfErr result (λ e. e ≡ Memory) }
+{
+    let rows = copy_of(alloc, units, unit)?.unwrap_or(UnitRows::none(alloc));
+    let opened = OpenedUnit {
+        unit: unit.duplicate(alloc)?,
+        rows: after_changes(alloc, rows, changes)?,
+    };
+    put(units, opened)
+}
+
 impl Plain {
     /// Books with no unit. It takes no memory.
     pub fn new(alloc: Global, administrator: Person) -> Plain
@@ -146,20 +190,14 @@ impl Books for Plain {
     }
 
     fn rows(&mut self, unit: &UnitCode) -> Result<Option<UnitRows>, Fault> {
-        match rows_of(&self.units, unit) {
-            None => Ok(None),
-            Some(rows) => Ok(Some(rows.duplicate(self.alloc)?)),
-        }
+        copy_of(self.alloc, &self.units, unit)
     }
 
     fn part(&mut self, call: &Call) -> Result<Option<UnitPart>, Fault> {
         let Some(unit) = unit_of(&call.request) else {
             return Ok(None);
         };
-        match rows_of(&self.units, unit) {
-            None => Ok(None),
-            Some(rows) => Ok(Some(part_of(self.alloc, rows, call)?)),
-        }
+        part_at(self.alloc, &self.units, unit, call)
     }
 
     fn held(&mut self, person: &Person, now: Moment) -> Result<Table<UnitCode>, Fault> {
@@ -171,11 +209,6 @@ impl Books for Plain {
     }
 
     fn apply(&mut self, unit: &UnitCode, changes: &Table<Change>) -> Result<(), Fault> {
-        let rows = copied_rows(self.alloc, &self.units, unit)?;
-        let opened = OpenedUnit {
-            unit: unit.duplicate(self.alloc)?,
-            rows: after_changes(self.alloc, rows, changes)?,
-        };
-        put(&mut self.units, opened)
+        change_unit(self.alloc, &mut self.units, unit, changes)
     }
 }
