@@ -1,17 +1,15 @@
 -- Books in a list of units: what is found there, and what is there after a put.
-use Rattle.std.proofs.Common.{◌≡◌, ℕ, ◌+◌, ◌<◌, List, [], ◌∷◌, ◌++◌, Some, None, Bool, true, false, T, cond, refl, sym, ap, subst, ◌∙◌, map, length, take, get_or, arith, append-nil}
-use Rattle.std.proofs.lemmas.List.{take_more}
-use Rattle.std.specs.FinMap.{FinMap, contains_key, empty, entries, entries_sorted, entries-insert, get, get-entries, insert, keys, len-empty, len-entries}
+use Rattle.std.proofs.Common.{◌≡◌, List, [], ◌∷◌, Some, None, Bool, true, false, T, cond, refl, sym, ap, subst, ◌∙◌, map, length, arith}
+use Rattle.std.specs.FinMap.{entries, entries_sorted, entries-insert, get, get-entries, keys, len-empty, len-entries}
 use Rattle.std.specs.FinMap.Entries.{below_all, by_order, find as found, is_sorted, put}
 use Rattle.std.specs.List.{cons_option}
 use Rattle.std.specs.Ordering.{eq_by_cmp, is_eq, is_lt, ordering_reverse}
-use Rattle.std.specs.Cmp.{IsTotalOrder, tied_itself}
+use Rattle.std.specs.Cmp.{tied_itself}
 use Rattle.std.specs.Prelude.{◌&&◌, Err, Ok, OnOk, Option, Result, filter_map, is_some, option_map, unwrap_or}
-use Rattle.std.specs.declared.cmp.Ordering.{Ordering}
 use Rattle.std.specs.declared.cmp.Ordering.TheVariants.{Less, Equal, Greater}
-use Rattle.plant_books.specs.declared.plain.OpenedUnit.{OpenedUnit}
+use Rattle.plant_books.specs.declared.opened.OpenedUnit.{OpenedUnit}
 use Rattle.plant_books.specs.Contents.{Content, after_changes, no_units, part_in, rows_in, with_rows}
-use Rattle.plant_books.specs.Listed.{IsListed}
+use Rattle.plant_books.specs.Listed.{IsListed, rows_at, unit_cmp}
 use Rattle.plant_model.specs.declared.call.Call.{Call}
 use Rattle.plant_model.specs.declared.rows.Change.{Change}
 use Rattle.plant_model.specs.declared.rows.UnitRows.{UnitRows}
@@ -27,7 +25,7 @@ abbrev entry : OpenedUnit → Name × UnitRows
 entry o = (o.unit, o.rows)
 
 -- the rows of a code
-found_in : (u : Name) (opened : List OpenedUnit) → option_map (λ o. o.rows) (row_at name_cmp (λ o. o.unit) u opened) ≡ found name_cmp u (map entry opened)
+found_in : (u : Name) (opened : List OpenedUnit) → rows_at opened u ≡ found name_cmp u (map entry opened)
 found_in u [] = refl
 found_in u (o ∷ os) =
     elim (eq_by_cmp name_cmp u o.unit) as (λ b. option_map (λ o. o.rows) (cond b (Some o) (row_at name_cmp (λ o. o.unit) u os)) ≡ cond b (Some o.rows) (found name_cmp u (map entry os))) [
@@ -35,20 +33,20 @@ found_in u (o ∷ os) =
       | false ↦ found_in u os
     ]
 
-pub rows_listed : (admin u : Name) (opened : List OpenedUnit) (m : Content) → IsListed admin opened m → option_map (λ o. o.rows) (row_at name_cmp (λ o. o.unit) u opened) ≡ get m.units u
+pub rows_listed : (admin u : Name) (opened : List OpenedUnit) (m : Content) → IsListed admin opened m → rows_at opened u ≡ get m.units u
 rows_listed admin u opened m h = found_in u opened ∙ ap (found name_cmp u) h.units ∙ sym (get-entries m.units u)
 
 -- a unit is put as the map inserts it
-put_entry : (o : OpenedUnit) (os : List OpenedUnit) → map entry (put_row (λ a b. name_cmp a.unit b.unit) (λ o. o) o os) ≡ put name_cmp o.unit o.rows (map entry os)
+put_entry : (o : OpenedUnit) (os : List OpenedUnit) → map entry (put_row unit_cmp (λ o. o) o os) ≡ put name_cmp o.unit o.rows (map entry os)
 put_entry o [] = refl
 put_entry o (e ∷ es) =
-    elim (name_cmp o.unit e.unit) as (λ v. name_cmp o.unit e.unit ≡ v → map entry (by_order v (o ∷ e ∷ es) (o ∷ es) (e ∷ put_row (λ a b. name_cmp a.unit b.unit) (λ o. o) o es)) ≡ by_order v (entry o ∷ entry e ∷ map entry es) ((e.unit, o.rows) ∷ map entry es) (entry e ∷ put name_cmp o.unit o.rows (map entry es))) [
+    elim (name_cmp o.unit e.unit) as (λ v. name_cmp o.unit e.unit ≡ v → map entry (by_order v (o ∷ e ∷ es) (o ∷ es) (e ∷ put_row unit_cmp (λ o. o) o es)) ≡ by_order v (entry o ∷ entry e ∷ map entry es) ((e.unit, o.rows) ∷ map entry es) (entry e ∷ put name_cmp o.unit o.rows (map entry es))) [
       | Less ↦ λ p. refl
       | Equal ↦ λ p. ap (λ (k : Name). let pair : Name × UnitRows = (k, o.rows) in pair ∷ map entry es) (same_names _ _ p)
       | Greater ↦ λ p. ap (λ xs. entry e ∷ xs) (put_entry o es)
     ] refl
 
-pub put_listed : (admin u : Name) (rows : UnitRows) (opened : List OpenedUnit) (m : Content) → IsListed admin opened m → IsListed admin (put_row (λ a b. name_cmp a.unit b.unit) (λ o. o) record { unit = u; rows = rows } opened) (with_rows m u rows)
+pub put_listed : (admin u : Name) (rows : UnitRows) (opened : List OpenedUnit) (m : Content) → IsListed admin opened m → IsListed admin (put_row unit_cmp (λ o. o) record { unit = u; rows = rows } opened) (with_rows m u rows)
 put_listed admin u rows opened m h =
     record {
       admin = h.admin;
@@ -114,15 +112,15 @@ pub still_some : {X Y : Type 0} (f : X → Y) (o : Option X) → is_some o ≡ i
 still_some f None = refl
 still_some f (Some x) = refl
 
-pub part_listed : (admin u v : Name) (opened : List OpenedUnit) (m : Content) (c : Call) → IsListed admin opened m → Some v ≡ unit_named c.request → unit_named c.request ≡ Some u → option_map (part_of c) (option_map (λ o. o.rows) (row_at name_cmp (λ o. o.unit) v opened)) ≡ part_in m c u
+pub part_listed : (admin u v : Name) (opened : List OpenedUnit) (m : Content) (c : Call) → IsListed admin opened m → Some v ≡ unit_named c.request → unit_named c.request ≡ Some u → option_map (part_of c) (rows_at opened v) ≡ part_in m c u
 part_listed admin u v opened m c h is named =
     let same : v ≡ u = cc in
     ap (option_map (part_of c)) (rows_listed admin v opened m h) ∙ ap (part_in m c) same
 
-pub made_listed : (r : Result (Unit {0}) Fault) (admin u : Name) (opened left : List OpenedUnit) (m : Content) (cs : List Change) → IsListed admin opened m → OnOk r (left ≡ put_row (λ a b. name_cmp a.unit b.unit) (λ o. o) record { unit = u; rows = changed_by cs (unwrap_or (option_map (λ o. o.rows) (row_at name_cmp (λ o. o.unit) u opened)) no_rows) } opened) → OnOk r (IsListed admin left (after_changes m u cs))
+pub made_listed : (r : Result (Unit {0}) Fault) (admin u : Name) (opened left : List OpenedUnit) (m : Content) (cs : List Change) → IsListed admin opened m → OnOk r (left ≡ put_row unit_cmp (λ o. o) record { unit = u; rows = changed_by cs (unwrap_or (rows_at opened u) no_rows) } opened) → OnOk r (IsListed admin left (after_changes m u cs))
 made_listed (Ok x) admin u opened left m cs h is =
     let there = ap (λ o. changed_by cs (unwrap_or o no_rows)) (rows_listed admin u opened m h) in
     subst (λ os. IsListed admin os (after_changes m u cs)) (sym is)
-    (subst (λ (rows : UnitRows). IsListed admin (put_row (λ a b. name_cmp a.unit b.unit) (λ o. o) record { unit = u; rows = rows } opened) (after_changes m u cs)) (sym there)
+    (subst (λ (rows : UnitRows). IsListed admin (put_row unit_cmp (λ o. o) record { unit = u; rows = rows } opened) (after_changes m u cs)) (sym there)
     (put_listed admin u (changed_by cs (rows_in m u)) opened m h))
 made_listed (Err e) admin u opened left m cs h is = tt

@@ -6,6 +6,7 @@ mod books;
 mod changes;
 mod grants;
 mod keyed;
+mod opened;
 mod parts;
 mod plain;
 mod rows;

@@ -1,4 +1,3 @@
-use Rattle.std.proofs.Common.{rules}
 use Rattle.plant_books.proofs.ListedLaws.{told_listed}
 use Rattle.plant_books.specs.Contents.{is_held_in}
 use Rattle.plant_types.specs.Options.{when}

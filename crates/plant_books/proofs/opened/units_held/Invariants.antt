@@ -1,7 +1,7 @@
 use Rattle.std.proofs.Common.{◌≡◌, ◌++◌, Some, drop}
 use Rattle.std.specs.Prelude.{filter_map}
 use Rattle.plant_books.specs.Contents.{mine_unit}
-use Rattle.plant_books.proofs.plain.units_held.Given as goal
+use Rattle.plant_books.proofs.opened.units_held.Given as goal
 
 abbrev pub invariant-loop-opened : goal.invariant-loop-opened
 invariant-loop-opened l =
