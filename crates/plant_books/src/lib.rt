@@ -14,3 +14,6 @@ mod rows;
 pub use asking::{Wanted, unit_of, wanted_alarms, wanted_shelves, wants_all_grants, wants_count};
 pub use books::{Books, MineUnit};
 pub use plain::Plain;
+
+#[cfg(test)]
+mod tests;

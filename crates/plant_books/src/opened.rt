@@ -1,4 +1,4 @@
-ghost use Rattle.std.specs.Prelude.{◌≡◌, IfErr, IfOk, OnErr, OnOk, Some, filter_map, option_map, unwrap_or};
+ghost use Rattle.std.specs.Prelude.{◌≡◌, IfErr, IfOk, OnErr, OnOk, Some, filter_map, is_some, option_map, unwrap_or};
 ghost use Rattle.plant_books.specs.Contents.{is_held_in, mine_unit};
 ghost use Rattle.plant_books.specs.Listed.{rows_at, unit_cmp};
 ghost use Rattle.plant_model.specs.Parts.{part_of as the_part};
@@ -44,6 +44,13 @@ pub fn rows_of<'a>(units: &'a Table<OpenedUnit>, unit: &UnitCode) -> Option<&'a 
         .iter()
         .find(|opened| *unit == opened.unit)
         .map(|opened| &opened.rows)
+}
+
+/// Whether the unit was opened.
+pub fn is_opened(units: &Table<OpenedUnit>, unit: &UnitCode) -> bool
+    ensures { result ≡ is_some (rows_at units.now unit.now) }
+{
+    rows_of(units, unit).is_some()
 }
 
 /// A copy of the rows of a unit, if it was opened.

@@ -4,7 +4,7 @@ ghost use Rattle.plant_books.specs.Listed.{IsListed};
 
 use crate::asking::unit_of;
 use crate::books::{Books, MineUnit};
-use crate::opened::{OpenedUnit, change_unit, codes_held, copy_of, part_at, rows_of, units_held};
+use crate::opened::{OpenedUnit, change_unit, codes_held, copy_of, is_opened, part_at, units_held};
 use plant_model::{Call, Change, UnitPart, UnitRows};
 use plant_types::{Fault, Moment, Person, Table, UnitCode};
 use std::alloc::Global;
@@ -43,7 +43,7 @@ impl Books for Plain {
     }
 
     fn taken(&mut self, unit: &UnitCode) -> Result<bool, Fault> {
-        Ok(rows_of(&self.units, unit).is_some())
+        Ok(is_opened(&self.units, unit))
     }
 
     fn rows(&mut self, unit: &UnitCode) -> Result<Option<UnitRows>, Fault> {
