@@ -4,6 +4,7 @@
 
 mod call;
 mod copies;
+pub mod laws;
 mod reply;
 mod rows;
 

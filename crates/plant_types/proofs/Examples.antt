@@ -1,5 +1,5 @@
 -- Moments computed by their definition.
-use Rattle.std.proofs.Common.{◌≡◌, refl, ap, ◌∙◌, Some, None, ◌+◌, ◌*◌, ◌-◌, ℕ}
+use Rattle.std.proofs.Common.{◌≡◌, refl, Some, None}
 use Rattle.std.specs.Prelude.{codes}
 use Rattle.plant_types.specs.Moment.{moment_of}
 use Rattle.plant_types.proofs.Days.{day_count-2000, day_count-2099}

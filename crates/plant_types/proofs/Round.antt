@@ -1,10 +1,9 @@
 -- What is spelled is read again.
-use Rattle.std.proofs.Common.{◌≡◌, ℕ, ◌+◌, ◌-◌, ◌*◌, ◌/◌, ◌%◌, ◌≤◌, ◌<◌, refl, sym, ap, ◌∙◌, arith, Bool, true, false, ◌&&◌, Some, None, Option, cond, List, [], ◌∷◌, pos}
-use Rattle.std.proofs.lemmas.Bool.{le-leb, lt-ltb, leb-true, false≢true}
-use Rattle.jiff_core.specs.Calendar.{days_in_month}
+use Rattle.std.proofs.Common.{◌≡◌, ℕ, ◌+◌, ◌*◌, ◌/◌, ◌%◌, ◌<◌, refl, ap, ◌∙◌, arith, Bool, true, ◌&&◌, Some, None, cond, List, [], ◌∷◌, pos}
+use Rattle.std.proofs.lemmas.Bool.{le-leb, lt-ltb}
 use Rattle.jiff_core.proofs.CalendarLemmas.{days_in_month_bounds}
 use Rattle.plant_types.specs.Text.{is_digit}
-use Rattle.plant_types.specs.Moment.{decimal_value, has_form, civil_of, is_date, is_time, days_since_2000, moment_of}
+use Rattle.plant_types.specs.Moment.{decimal_value, has_form, is_date, is_time, days_since_2000, moment_of}
 use Rattle.plant_types.proofs.DateTests.{date_is}
 use Rattle.plant_types.specs.Spelling.{digit, spelled}
 

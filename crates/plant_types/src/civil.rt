@@ -90,11 +90,7 @@ pub fn day_after(days: u64) -> (u64, u64, u64)
     let Ok(date) = first.checked_add(days as i64) else {
         unreachable!()
     };
-    (
-        date.year as u64,
-        u64::from(date.month),
-        u64::from(date.day),
-    )
+    (date.year as u64, u64::from(date.month), u64::from(date.day))
 }
 
 fn digit(n: u64) -> u8

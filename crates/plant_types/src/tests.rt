@@ -23,7 +23,11 @@ fn reads_and_writes_moments(rt: HostRuntime) {
         let moment = Moment::read(text);
         assert_eq!(rt; moment.map(|moment| moment.seconds()), Some(seconds));
         assert_eq!(rt; Moment::of_seconds(seconds), moment);
-        assert!(rt; moment.map(|moment| moment.write() == *text).unwrap_or(false));
+        assert!(rt;
+            moment
+                .map(|moment| moment.write() == *text)
+                .unwrap_or(false)
+        );
     }
     assert_eq!(rt; Moment::of_seconds(3_155_760_000), None);
 }
@@ -98,18 +102,30 @@ fn gives_stewards_no_end(rt: HostRuntime) -> Result<(), Fail> {
 #[test]
 fn bounds_lengths_and_quotas(rt: HostRuntime) {
     for (seconds, is) in [(0, false), (1, true), (604_800, true), (604_801, false)] {
-        assert_eq!(rt; Seconds::new(seconds).map(|length| length.get()), is.then_some(seconds));
+        assert_eq!(rt;
+            Seconds::new(seconds).map(|length| length.get()),
+            is.then_some(seconds)
+        );
     }
     for (alarms, is) in [(0, false), (1, true), (2_000, true), (2_001, false)] {
-        assert_eq!(rt; Quota::new(alarms).map(|quota| quota.get()), is.then_some(alarms));
+        assert_eq!(rt;
+            Quota::new(alarms).map(|quota| quota.get()),
+            is.then_some(alarms)
+        );
     }
 }
 
 #[test]
 fn tells_faults(rt: HostRuntime) -> Result<(), Fail> {
     let alloc = rt.alloc();
-    assert_eq!(rt; format!(in alloc; "{}", Fault::Memory)?.as_str(), "out of memory");
-    assert_eq!(rt; format!(in alloc; "{}", Fault::Store)?.as_str(), "the store failed");
+    assert_eq!(rt;
+        format!(in alloc; "{}", Fault::Memory)?.as_str(),
+        "out of memory"
+    );
+    assert_eq!(rt;
+        format!(in alloc; "{}", Fault::Store)?.as_str(),
+        "the store failed"
+    );
     let tag = Tag::read(alloc, b"PT-101")?.ok_or("a tag")?;
     assert_eq!(rt; format!(in alloc; "{tag:?}")?.as_str(), "\"PT-101\"");
     Ok(())

@@ -1,4 +1,4 @@
-use Rattle.std.proofs.Common.{◌≡◌, ℕ, ◌<◌, ◌≤◌, ◌∙◌, arith, pos, to_z, of_z, w16, w64, FitsSigned, ap, ℤ, Fits, subst, sym, true}
+use Rattle.std.proofs.Common.{◌≡◌, ℕ, ◌<◌, ◌≤◌, ◌∙◌, arith, pos, to_z, of_z, w16, w64, FitsSigned, ℤ, Fits, subst, sym, true}
 use Rattle.std.specs.Prelude.{unsigned_abs}
 use Rattle.plant_types.specs.Moment.{is_date, days_since_2000}
 use lib.Dec.{T}
@@ -14,8 +14,8 @@ as_signed n lt = omega (arith, ints)
 pub unreachable-requires : goal.unreachable-requires
 unreachable-requires c =
     false≢true (c.in_default.ensures.succeeds.1 (day_is_there c.args.days _ _ _ (to_z w64 c.args.days)
-      (rw c.to_plain-first.ensures c.date.ensures.0) (rw c.to_plain-first.ensures (omega (arith, ints, c.date.ensures.1))) (rw c.to_plain-first.ensures (omega (arith, ints, c.date.ensures.2)))
-      (as_signed c.args.days c.requires) c.requires))
+    (rw c.to_plain-first.ensures c.date.ensures.0) (rw c.to_plain-first.ensures (omega (arith, ints, c.date.ensures.1))) (rw c.to_plain-first.ensures (omega (arith, ints, c.date.ensures.2)))
+    (as_signed c.args.days c.requires) c.requires))
 
 the_day : (c : goal.After-from-2) → IsDayAfter c.args.days c.in-Ok.date.year c.in-Ok.date.month c.in-Ok.date.day
 the_day c =

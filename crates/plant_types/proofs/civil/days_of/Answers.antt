@@ -1,4 +1,4 @@
-use Rattle.std.proofs.Common.{refl, ◌≡◌, ℕ, ◌≤◌, ◌<◌, ◌-◌, arith, pos, to_z, of_z, w32, FitsSigned, ap, ◌∙◌, sym}
+use Rattle.std.proofs.Common.{refl, ◌≡◌, ◌<◌, ◌-◌, arith, pos, to_z, of_z, w32, FitsSigned, ◌∙◌}
 use Rattle.std.proofs.lemmas.Int.{ints, to_z-of_z}
 use Rattle.jiff_core.specs.Calendar.{IsCivilDate, day_count}
 use Rattle.plant_types.proofs.Days.{the_days, civil_at, is_date_true}

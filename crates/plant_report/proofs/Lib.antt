@@ -1,0 +1,4 @@
+pub mod Days
+pub mod Dates
+pub mod Written
+pub mod Lines

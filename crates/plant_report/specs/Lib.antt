@@ -1,0 +1,3 @@
+pub mod Columns
+pub mod Moments
+pub mod Texts

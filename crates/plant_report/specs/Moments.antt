@@ -1,0 +1,37 @@
+-- The text of a moment, told from the calendar.
+use Rattle.std.specs.Prelude.{ℕ, zero, suc, ◌+◌, ◌/◌, ◌%◌, nat_lt, if◌then◌else◌, List, [], ◌∷◌, ◌++◌, pos, codes}
+use Rattle.jiff_core.specs.Calendar.{days_in_month}
+
+-- a day of the calendar
+pub record Date : Type 0 where
+  pub year : ℕ
+  pub month : ℕ
+  pub day : ℕ
+
+-- the day after it
+abbrev pub next_day : Date → Date
+next_day t =
+    if nat_lt t.day (days_in_month (pos t.year) t.month) then record t { day = t.day + 1 }
+    else if nat_lt t.month 12 then record { year = t.year; month = t.month + 1; day = 1 }
+    else record { year = t.year + 1; month = 1; day = 1 }
+
+-- the day that many days after 2000-01-01
+unfoldable pub date_after : ℕ → Date
+date_after zero = record { year = 2000; month = 1; day = 1 }
+date_after (suc n) = next_day (date_after n)
+
+abbrev pub two_digits : ℕ → List ℕ
+two_digits n = (48 + n / 10) ∷ (48 + n % 10) ∷ []
+
+abbrev pub four_digits : ℕ → List ℕ
+four_digits n = two_digits (n / 100) ++ two_digits (n % 100)
+
+-- YYYY-MM-DDTHH:MM:SSZ
+abbrev pub spelled : Date → ℕ → ℕ → ℕ → List ℕ
+spelled date hour minute second =
+    four_digits date.year ++ codes "-" ++ two_digits date.month ++ codes "-" ++ two_digits date.day
+    ++ codes "T" ++ two_digits hour ++ codes ":" ++ two_digits minute ++ codes ":" ++ two_digits second ++ codes "Z"
+
+-- the text of the moment so many seconds after 2000-01-01T00:00:00Z
+unfoldable pub moment_text : ℕ → List ℕ
+moment_text n = spelled (date_after (n / 86400)) (n % 86400 / 3600) (n % 3600 / 60) (n % 60)
