@@ -1,11 +1,11 @@
 -- Books in a list of units: what is found there, and what is there after a put.
-use Rattle.std.proofs.Common.{◌≡◌, List, [], ◌∷◌, Some, None, Bool, true, false, T, cond, refl, sym, ap, subst, ◌∙◌, map, length, arith}
+use Rattle.std.proofs.Common.{◌≡◌, List, [], ◌∷◌, Some, Bool, true, false, T, cond, refl, sym, ap, subst, ◌∙◌, map, length, arith}
 use Rattle.std.specs.FinMap.{entries, entries_sorted, entries-insert, get, get-entries, keys, len-empty, len-entries}
 use Rattle.std.specs.FinMap.Entries.{below_all, by_order, find as found, is_sorted, put}
 use Rattle.std.specs.List.{cons_option}
 use Rattle.std.specs.Ordering.{eq_by_cmp, is_eq, is_lt, ordering_reverse}
 use Rattle.std.specs.Cmp.{tied_itself}
-use Rattle.std.specs.Prelude.{◌&&◌, Err, Ok, OnOk, Option, Result, filter_map, is_some, option_map, unwrap_or}
+use Rattle.std.specs.Prelude.{◌&&◌, Err, Ok, OnOk, Option, Result, filter_map, option_map, unwrap_or}
 use Rattle.std.specs.declared.cmp.Ordering.TheVariants.{Less, Equal, Greater}
 use Rattle.plant_books.specs.declared.opened.OpenedUnit.{OpenedUnit}
 use Rattle.plant_books.specs.Contents.{Content, after_changes, no_units, part_in, rows_in, with_rows}
