@@ -1,5 +1,5 @@
 -- One more event changes a summary as the step says.
-use Rattle.std.proofs.Common.{◌≡◌, ℕ, zero, suc, ◌+◌, refl, sym, ap, ◌∙◌, List, [], ◌∷◌, ◌++◌, length, Some, None, Option, Bool, true, false, cond, ◌&&◌, ◌||◌, not, arith, append_assoc, ◌⊎◌, inl, inr, subst}
+use Rattle.std.proofs.Common.{◌≡◌, ℕ, refl, sym, ap, ◌∙◌, List, [], ◌∷◌, ◌++◌, Some, None, Option, Bool, true, false, cond, ◌&&◌, ◌||◌, not, subst}
 use Rattle.std.proofs.lemmas.Bool.{false≢true}
 use Rattle.std.proofs.lemmas.List.{append-nil}
 use Rattle.std.specs.Prelude.{option_map, unwrap_or}
@@ -8,9 +8,9 @@ use Rattle.plant_alarm.specs.declared.event.Event.{Event}
 use Rattle.plant_alarm.specs.declared.event.EventKind.{EventKind}
 use Rattle.plant_alarm.specs.declared.event.EventKind.TheVariants.{Act, Rtn, Ack, Reset, Sup, Unsup}
 use Rattle.plant_alarm.specs.declared.summary.AlarmState.{AlarmState}
-use Rattle.plant_alarm.specs.declared.summary.AlarmState.TheVariants.{Normal, Unacknowledged, Acknowledged, ReturnedUnack, LatchedUnack, LatchedAck}
+use Rattle.plant_alarm.specs.declared.summary.AlarmState.TheVariants.{Normal, Unacknowledged}
 use Rattle.plant_alarm.specs.declared.summary.Summary.{Summary}
-use Rattle.plant_alarm.specs.States.{is_act, is_rtn, is_ack, is_reset, is_sup, is_unsup, last_that, last_is, is_active, is_unacknowledged, is_latched, is_suppressed, state_named, state_of, passing, is_return, is_activation, returns, activations, last_moment, last_return, active_since, summary}
+use Rattle.plant_alarm.specs.States.{is_act, is_rtn, is_ack, is_reset, is_sup, is_unsup, last_that, is_active, is_unacknowledged, is_latched, is_suppressed, state_named, state_of, is_return, is_activation, returns, activations, last_moment, last_return, active_since, summary}
 use Rattle.plant_alarm.specs.Step.{next, next_at, is_active_state, acknowledged, reset, returned}
 use Rattle.plant_alarm.proofs.Push.{by_last, last_that-push, list_any-push, passing-push, last_moment-push, after_last-yes, after_last-no, after_first-some, after_first-none}
 

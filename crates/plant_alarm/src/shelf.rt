@@ -1,36 +1,53 @@
-ghost use Rattle.std.specs.Prelude.{◌≡◌};
-ghost use Rattle.plant_alarm.specs.Shelves.{shelf_state, timed_answer, one_shot_answer, unshelve_answer};
+ghost use Rattle.std.specs.Prelude.{◌≡◌, List};
+ghost use Rattle.plant_alarm.specs.declared.event.Event.{Event};
+ghost use Rattle.plant_alarm.specs.States.{IsInTime, last_return};
+ghost use Rattle.plant_alarm.specs.Shelves.{shelf_of, shelf_state, timed_answer, one_shot_answer, unshelve_answer};
 ghost use Rattle.plant_alarm.specs.Shelves as shelves;
 
 use plant_types::{Moment, Seconds};
 
-/// What the last shelving of an alarm left.
+/// What the last shelving or unshelving of an alarm left. It stays as it is when its time has
+/// passed: `shelf_at` tells whether it still holds.
 #[derive(Clone, Copy, Debug, PartialEq, Eq)]
 pub enum Shelf {
+    /// No shelf.
     Clear,
+    /// A shelf for a time: `until` is the second, from 2000-01-01T00:00:00Z on, at which it ends.
     Timed { start: Moment, until: u64 },
+    /// A shelf until the alarm returns, but at most to the second `until`.
     OneShot { start: Moment, until: u64 },
 }
 
 /// What a shelf is at a moment, with the seconds that are left.
 #[derive(Clone, Copy, Debug, PartialEq, Eq)]
 pub enum ShelfState {
+    /// It was never there, or has ended.
     Unshelved,
+    /// Shelved for a time, at least a second longer.
     TimedShelved(u64),
+    /// Shelved until the alarm returns, at most so much longer.
     OneShotShelved(u64),
 }
 
 /// Why an alarm isn't shelved or unshelved.
 #[derive(Clone, Copy, Debug, PartialEq, Eq)]
 pub enum ShelfRefused {
+    /// The time is above the limit, which is given.
     ShelvingTimeOutOfRange(Seconds),
+    /// The alarm is shelved in this way already. A running timer is not reset.
     ConditionAlreadyShelved,
+    /// The alarm isn't shelved.
     ConditionNotShelved,
 }
 
-/// What the shelf is at the moment.
+/// What the shelf is at the moment `now`, where `returned` is the alarm's last return. A shelf of
+/// moment `s` and length `d` holds while `now` is below `s + d`; a one-shot shelf ends also with a
+/// return whose moment is above `s`.
 pub fn shelf_at(shelf: &Shelf, returned: Option<Moment>, now: Moment) -> ShelfState
-    ensures { result ≡ shelf_state shelf.now returned now }
+    ensures state { result ≡ shelf_state shelf.now returned now }
+
+    // For an alarm's events and their last return it is what those events say.
+    ensures events { (es : List Event) → IsInTime es → returned ≡ last_return es → result ≡ shelf_of shelf.now es now }
 {
     match *shelf {
         Shelf::Clear => ShelfState::Unshelved,
@@ -62,7 +79,8 @@ fn is_after(start: Moment, returned: Option<Moment>) -> bool
     }
 }
 
-/// Shelves for a time.
+/// Shelves for a time. Refused, in this order: a time above the limit `max`, and an alarm that is
+/// shelved for a time now. A one-shot shelf is replaced.
 pub fn timed(
     shelf: &Shelf,
     returned: Option<Moment>,
@@ -84,7 +102,8 @@ pub fn timed(
     }
 }
 
-/// Shelves until the alarm returns, but no longer than the limit.
+/// Shelves until the alarm returns, but no longer than the limit `max`. Refused where the alarm has
+/// a one-shot shelf now. A shelf for a time is replaced.
 pub fn one_shot(
     shelf: &Shelf,
     returned: Option<Moment>,
@@ -102,7 +121,7 @@ pub fn one_shot(
     }
 }
 
-/// Ends a shelf.
+/// Ends the shelf. Refused where there is none now.
 pub fn unshelve(shelf: &Shelf, returned: Option<Moment>, now: Moment) -> Result<Shelf, ShelfRefused>
     ensures { result ≡ unshelve_answer (shelf_state shelf.now returned now) }
 {

@@ -3,6 +3,7 @@
 #![tactic(auto)]
 
 mod call;
+mod copies;
 pub mod laws;
 mod reply;
 mod rows;
