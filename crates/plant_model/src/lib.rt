@@ -3,6 +3,8 @@
 #![tactic(auto)]
 
 mod call;
+mod copies;
+pub mod laws;
 mod reply;
 mod rows;
 

@@ -1,8 +1,6 @@
 -- Faults and priorities computed by their definition.
-use Rattle.std.proofs.Common.{◌≡◌, refl, [], ◌∷◌, Some, None, Option}
-use Rattle.plant_ration.specs.declared.cell.Cell.{Cell}
-use Rattle.plant_ration.specs.declared.cell.Cell.TheVariants.{P1, P2, P3, P4, N}
-use Rattle.plant_ration.specs.declared.cell.MatrixFault.{MatrixFault}
+use Rattle.std.proofs.Common.{◌≡◌, refl, [], ◌∷◌, Some, None}
+use Rattle.plant_ration.specs.declared.cell.Cell.TheVariants.{P1, P2, P3, P4}
 use Rattle.plant_ration.specs.declared.cell.MatrixFault.TheVariants.{Shape, BandsNotRising, NotOrdered}
 use Rattle.plant_ration.specs.Grid.{Grid}
 use Rattle.plant_ration.specs.Matrix.{fault_of, priority_of}

@@ -1,5 +1,5 @@
--- Which tables are matrices, and the priority that a matrix gives.
-use Rattle.std.specs.Prelude.{ℕ, zero, suc, ◌+◌, ◌-◌, ◌≤◌, ◌≡◌, Bool, true, false, ◌&&◌, not, nat_lt, nat_le, ◌==◌, if◌then◌else◌, List, [], ◌∷◌, length, Option, Some, None, Result, Ok, Err, option_and_then, unwrap_or, slice_get, position, IsTrue}
+-- Rationalisation, after ISA-18.2 and IEC 62682: the priority comes from the severity of the consequence and the time to respond. Which tables are such matrices is this office's own rule.
+use Rattle.std.specs.Prelude.{ℕ, ◌+◌, ◌-◌, ◌≤◌, ◌≡◌, Bool, true, ◌&&◌, not, nat_lt, nat_le, ◌==◌, if◌then◌else◌, List, [], ◌∷◌, length, Option, Some, None, Result, Ok, Err, option_and_then, unwrap_or, slice_get, position}
 use Rattle.std.specs.List.{list_all, zip}
 use Rattle.plant_types.specs.Numbers.{is_seconds}
 use Rattle.plant_ration.specs.declared.cell.Cell.{Cell}
@@ -8,7 +8,7 @@ use Rattle.plant_ration.specs.declared.cell.MatrixFault.{MatrixFault}
 use Rattle.plant_ration.specs.declared.cell.MatrixFault.TheVariants.{Shape, BandsNotRising, NotOrdered}
 use Rattle.plant_ration.specs.Grid.{Grid}
 
--- the place of a cell, from 1 for the highest
+-- the place of a cell, from 1 for the highest priority to 5 where no alarm is needed
 abbrev pub rank : Cell → ℕ
 rank P1 = 1
 rank P2 = 2
@@ -32,6 +32,7 @@ has_shape limits rows =
     nat_le 1 (length rows) && nat_le (length rows) 5 && nat_le (length limits) 4
     && list_all (λ row. length row == length limits + 1) rows && list_all is_seconds limits
 
+-- each limit is above the one before
 abbrev pub is_rising : List ℕ → Bool
 is_rising limits = neighbours nat_lt limits
 
@@ -51,14 +52,16 @@ fault_of limits rows =
     else if not (is_ordered rows) then Some NotOrdered
     else None
 
+-- no fault holds
 abbrev pub is_matrix : List ℕ → List (List Cell) → Bool
 is_matrix limits rows = has_shape limits rows && is_rising limits && is_ordered rows
 
--- the matrix, or its first fault
+-- what is made: the matrix, or the fault
 abbrev pub made_or : Option MatrixFault → List ℕ → List (List Cell) → Result Grid MatrixFault
 made_or None limits rows = Ok (record { limits = limits; cells = rows })
 made_or (Some fault) limits rows = Err fault
 
+-- the matrix with these limits and rows, or the first fault
 abbrev pub matrix_of : List ℕ → List (List Cell) → Result Grid MatrixFault
 matrix_of limits rows = made_or (fault_of limits rows) limits rows
 
@@ -66,10 +69,15 @@ matrix_of limits rows = made_or (fault_of limits rows) limits rows
 abbrev pub band : List ℕ → ℕ → ℕ
 band limits response = unwrap_or (position (nat_lt response) limits) (length limits)
 
--- the row of a severity, from 1
+-- the severities that are rows, from 1
+abbrev pub is_row : Grid → ℕ → Bool
+is_row t severity = nat_le 1 severity && nat_le severity (length t.cells)
+
+-- the row of a severity
 abbrev pub row_of : Grid → ℕ → Option (List Cell)
 row_of t severity = if severity == 0 then None else slice_get t.cells (severity - 1)
 
+-- the priority: the cell of the severity's row in the band of the response time
 abbrev pub priority_of : Grid → ℕ → ℕ → Option Cell
 priority_of t severity response = option_and_then (λ row. slice_get row (band t.limits response)) (row_of t severity)
 
@@ -77,7 +85,7 @@ priority_of t severity response = option_and_then (λ row. slice_get row (band t
 abbrev pub cell_at : List (List Cell) → ℕ → ℕ → Option Cell
 cell_at rows i j = option_and_then (λ row. slice_get row j) (slice_get rows i)
 
--- the order of a matrix, cell by cell
+-- the order of a matrix, cell by cell: no cell is lower than its neighbour in the next longer band, or in the next less severe row
 pub record IsOrdered (rows : List (List Cell)) : Type 0 where
   pub bands : (i j : ℕ) (shorter longer : Cell) → cell_at rows i j ≡ Some shorter → cell_at rows i (j + 1) ≡ Some longer → rank shorter ≤ rank longer
   pub severities : (i j : ℕ) (less more : Cell) → cell_at rows i j ≡ Some less → cell_at rows (i + 1) j ≡ Some more → rank more ≤ rank less

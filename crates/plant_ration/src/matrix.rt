@@ -1,15 +1,20 @@
-ghost use Rattle.std.specs.Prelude.{◌≡◌, List, IfOk, IfErr, IfSome, IfNone, MatchResult, Some, None, map, IsTrue};
+ghost use Rattle.std.specs.Prelude.{◌≡◌, ◌↔◌, IfOk, IfErr, IsSome, Ok, Err, map, IsTrue};
+ghost use Rattle.std.specs.List.Sorted.{IsStrictlyIncreasing};
 ghost use Rattle.plant_types.specs.declared.fault.Fault.TheVariants.{Memory};
-ghost use Rattle.plant_ration.specs.declared.cell.Cell.{Cell};
-ghost use Rattle.plant_ration.specs.Matrix.{matrix_of, priority_of, is_matrix};
+ghost use Rattle.plant_ration.specs.declared.cell.MatrixFault.{MatrixFault};
+ghost use Rattle.plant_ration.specs.Matrix.{matrix_of, priority_of, is_row, is_matrix, IsOrdered};
 
 use crate::{Cell, MatrixFault, shape};
 use plant_types::{Fault, Seconds};
 use std::alloc::Global;
 use std::marker::Model;
 
-/// Which priority an alarm has, by its severity and the time to respond.
-#[derive(Drop)]
+/// Which priority an alarm has, by the severity of its consequence and the time to respond.
+///
+/// It has 1 to 5 rows of severity and 1 to 5 bands of time, which 0 to 4 limits in seconds divide;
+/// the last band has no end. From one row to the next more severe, and from one band to the next
+/// shorter, a cell stays or becomes higher. Contracts see a matrix as its limits and cells.
+#[derive(Debug, Drop)]
 pub struct Matrix {
     limits: Vec<u64>,
     cells: Vec<Vec<Cell>>,
@@ -28,7 +33,7 @@ impl Model for Matrix {
 }
 
 impl Matrix {
-    /// The matrix with these limits and cells, or its first fault.
+    /// The matrix with these limits and cells, or the first fault that they have.
     pub fn new(
         alloc: Global,
         limits: &[u64],
@@ -36,6 +41,9 @@ impl Matrix {
     ) -> Result<Result<Matrix, MatrixFault>, Fault>
         ensures value { IfOk result (λ made. made ≡ matrix_of limits.now (map (λ row. row.items) cells.now)) }
         ensures err { IfErr result (λ e. e ≡ Memory) }
+
+        // A fault is answered without memory.
+        ensures faulty { (fault : MatrixFault) → matrix_of limits.now (map (λ row. row.items) cells.now) ≡ Err fault → result ≡ Ok (Err fault) }
     {
         if !shape::has_shape(limits, cells) {
             return Ok(Err(MatrixFault::Shape));
@@ -52,9 +60,11 @@ impl Matrix {
         }))
     }
 
-    /// The cell of a severity and a time to respond, if there is such a row.
+    /// The cell in the row of the severity, from 1, and in the band of the time to respond: the first
+    /// band whose limit is above that time, else the last. `None` exactly where there is no such row.
     pub fn priority(&self, severity: u8, response: Seconds) -> Option<Cell>
         ensures value { result ≡ priority_of self.now severity response }
+        ensures row { IsSome result ↔ IsTrue (is_row self.now severity) }
     {
         if severity == 0 {
             return None;
@@ -63,7 +73,7 @@ impl Matrix {
         shape::cell_at(row, shape::band(&self.limits, response.get()))
     }
 
-    /// The limits between the bands.
+    /// The limits between the bands, in seconds, rising.
     pub fn limits(&self) -> &[u64]
         ensures { result.now ≡ self.now.limits }
     {
@@ -74,7 +84,22 @@ impl Matrix {
     pub fn cells(&self) -> &[Vec<Cell>]
         ensures value { map (λ row. row.items) result.now ≡ self.now.cells }
         ensures is_matrix { IsTrue (is_matrix self.now.limits self.now.cells) }
+
+        // In other words: the limits rise, and no cell is lower than its neighbours allow.
+        ensures rising { IsStrictlyIncreasing self.now.limits }
+        ensures ordered { IsOrdered self.now.cells }
     {
         &self.cells
+    }
+
+    /// The same matrix again.
+    pub fn copy(&self, alloc: Global) -> Result<Matrix, Fault>
+        ensures value { IfOk result (λ matrix. matrix ≡ self.now) }
+        ensures memory { IfErr result (λ e. e ≡ Memory) }
+    {
+        Ok(Matrix {
+            limits: self.limits.to_vec(alloc)?,
+            cells: shape::copy_of(alloc, &self.cells)?,
+        })
     }
 }

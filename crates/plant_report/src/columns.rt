@@ -3,6 +3,7 @@ ghost use Rattle.plant_types.specs.declared.fault.Fault.TheVariants.{Memory};
 ghost use Rattle.plant_report.specs.Columns.{left, right, line as line_of};
 ghost use Rattle.plant_report.specs.Moments.{moment_text};
 
+use crate::moments;
 use plant_types::{Fault, Moment};
 
 /// Adds a column and the space after it.
@@ -38,7 +39,7 @@ pub fn push_moment(text: &mut Vec<u8>, moment: Moment) -> Result<(), Fault>
     ensures value { OnOk result (text.new.items ≡ text.old.items ++ (moment_text moment ++ 32 ∷ [])) }
     ensures err { IfErr result (λ e. e ≡ Memory) }
 {
-    push_column(text, &moment.write())
+    push_column(text, &moments::write(moment))
 }
 
 /// Adds the last column, and ends the line.

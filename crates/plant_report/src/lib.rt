@@ -6,10 +6,12 @@ mod columns;
 mod flood_lines;
 mod heading;
 mod lines;
+mod moments;
 mod shelves;
 
 pub use alarms::{alarm_text, standing_text};
 pub use flood_lines::flood_text;
 pub use lines::{AlarmLine, FloodLine, MineLine, StandingLine};
+pub use moments::write as write_moment;
 pub use plant_floods::{Run, floods};
 pub use shelves::{mine_text, shelf_text};

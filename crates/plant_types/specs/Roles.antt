@@ -15,6 +15,7 @@ role_no Engineer = 4
 role_no Approver = 5
 role_no Steward = 6
 
+-- whether two roles are the same
 abbrev pub same_role : Role → Role → Bool
 same_role r s = eq_by_cmp nat_cmp (role_no r) (role_no s)
 
@@ -30,5 +31,6 @@ Pair = Name × Role
 abbrev pub pair_cmp : Pair → Pair → Ordering
 pair_cmp a b = ordering_then (name_cmp a.0 b.0) (nat_cmp (role_no a.1) (role_no b.1))
 
+-- whether two pairs are the same
 abbrev pub same_pair : Pair → Pair → Bool
 same_pair a b = eq_by_cmp pair_cmp a b

@@ -2,6 +2,7 @@
 #![tactic(auto)]
 
 mod civil;
+mod duplicate;
 mod fault;
 mod moment;
 mod numbers;
@@ -9,6 +10,7 @@ mod role;
 mod table;
 mod text;
 
+pub use duplicate::{Duplicate, duplicated};
 pub use fault::Fault;
 pub use moment::Moment;
 pub use numbers::{Quota, Seconds};

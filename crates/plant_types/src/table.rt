@@ -6,7 +6,7 @@ use std::alloc::Global;
 use std::marker::Model;
 
 /// A list of rows, lines or changes. Contracts see it as the list of its values.
-#[derive(Drop)]
+#[derive(Debug, Drop)]
 pub struct Table<T: Drop> {
     rows: Vec<T>,
 }

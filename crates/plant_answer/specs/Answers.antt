@@ -1,0 +1,37 @@
+-- The whole text of an answer.
+use Rattle.std.specs.Prelude.{ℕ, List}
+use Rattle.plant_model.specs.declared.reply.Answer.{Answer}
+use Rattle.plant_model.specs.declared.reply.Answer.TheVariants as answer
+use Rattle.plant_model.specs.declared.reply.Reply.{Reply}
+use Rattle.plant_model.specs.declared.reply.Reply.TheVariants as reply
+use Rattle.plant_model.specs.declared.reply.Refused.{Refused}
+use Rattle.plant_model.specs.declared.reply.Refused.TheVariants.{NotAdministrator, NotGranted, RoleLacking}
+use Rattle.plant_report.specs.Texts.{shelf_text}
+use Rattle.plant_answer.specs.declared.responses.Media.{Media}
+use Rattle.plant_answer.specs.declared.responses.Media.TheVariants.{Json, Plain}
+use Rattle.plant_answer.specs.Response.{response}
+use Rattle.plant_answer.specs.Bodies.{done_body, status_body, units_body, refusal_body, fault_body}
+
+-- who may not call at all is answered 403, any other refusal 409
+abbrev pub refusal_status : Refused → ℕ
+refusal_status NotAdministrator = 403
+refusal_status NotGranted = 403
+refusal_status (RoleLacking role) = 403
+refusal_status _ = 409
+
+-- a reply is JSON, but for the shelves, which are a text
+abbrev pub reply_media : Reply → Media
+reply_media (reply.Shelves unit at lines) = Plain
+reply_media _ = Json
+
+abbrev pub reply_body : Reply → List ℕ
+reply_body reply.Done = done_body
+reply_body (reply.Status row) = status_body row
+reply_body (reply.Units lines) = units_body lines
+reply_body (reply.Shelves unit at lines) = shelf_text unit at lines
+
+-- the bytes of an answer
+abbrev pub text_of : Answer → List ℕ
+text_of (answer.Reply r) = response 200 (reply_media r) (reply_body r)
+text_of (answer.Refused r) = response (refusal_status r) Json (refusal_body r)
+text_of (answer.Fault f) = response 503 Json (fault_body f)

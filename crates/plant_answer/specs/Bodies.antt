@@ -1,0 +1,59 @@
+-- The bodies of answers.
+use Rattle.std.specs.Prelude.{ℕ, List, [], ◌++◌, map, Option, Some, None, codes, decimal}
+use Rattle.plant_types.specs.declared.fault.Fault.{Fault}
+use Rattle.plant_model.specs.declared.reply.Refused.{Refused}
+use Rattle.plant_model.specs.declared.reply.Refused.TheVariants.{RoleLacking, MomentBehind, UnitFull, ShelvingTimeOutOfRange, ShelfQuota}
+use Rattle.plant_model.specs.declared.reply.StatusRow.{StatusRow}
+use Rattle.plant_model.specs.declared.reply.UnitLine.{UnitLine}
+use Rattle.plant_report.specs.Moments.{moment_text}
+use Rattle.plant_answer.specs.Json.{quoted, truth, listed}
+use Rattle.plant_answer.specs.Names.{role_name, state_name, shelf_name, shelf_left, full_name, fault_name, refusal_name, refusal_no}
+
+abbrev pub done_body : List ℕ
+done_body = codes "{\"done\":true}"
+
+unfoldable pub status_body : StatusRow → List ℕ
+status_body s =
+    codes "{\"limit\":" ++ decimal s.limit
+    ++ codes ",\"limit_revision\":" ++ decimal s.limit_revision
+    ++ codes ",\"out_of_service\":" ++ truth s.out_of_service
+    ++ codes ",\"shelf\":" ++ quoted (shelf_name s.shelf)
+    ++ codes ",\"shelf_left\":" ++ decimal (shelf_left s.shelf)
+    ++ codes ",\"state\":" ++ quoted (state_name s.state)
+    ++ codes ",\"suppressed\":" ++ truth s.suppressed
+    ++ codes ",\"suppressed_or_shelved\":" ++ truth s.suppressed_or_shelved
+    ++ codes ",\"tag\":" ++ quoted s.tag
+    ++ codes "}"
+
+-- a unit, with the names of the roles held in it
+unfoldable pub unit_object : UnitLine → List ℕ
+unit_object l =
+    codes "{\"roles\":" ++ listed (map (λ r. quoted (role_name r)) l.roles)
+    ++ codes ",\"unit\":" ++ quoted l.unit
+    ++ codes "}"
+
+unfoldable pub units_body : List UnitLine → List ℕ
+units_body lines = codes "{\"units\":" ++ listed (map unit_object lines) ++ codes "}"
+
+-- the value that shows why a call is refused, where the refusal carries one
+abbrev pub refusal_value : Refused → Option (List ℕ)
+refusal_value (RoleLacking role) = Some (quoted (role_name role))
+refusal_value (MomentBehind last) = Some (quoted (moment_text last))
+refusal_value (UnitFull what) = Some (quoted (full_name what))
+refusal_value (ShelvingTimeOutOfRange max) = Some (decimal max)
+refusal_value (ShelfQuota quota) = Some (decimal quota)
+refusal_value _ = None
+
+abbrev pub value_member : Option (List ℕ) → List ℕ
+value_member None = []
+value_member (Some value) = codes ",\"value\":" ++ value
+
+unfoldable pub refusal_body : Refused → List ℕ
+refusal_body r =
+    codes "{\"name\":" ++ quoted (refusal_name r)
+    ++ codes ",\"refused\":" ++ decimal (refusal_no r)
+    ++ value_member (refusal_value r)
+    ++ codes "}"
+
+abbrev pub fault_body : Fault → List ℕ
+fault_body f = codes "{\"fault\":" ++ quoted (fault_name f) ++ codes "}"

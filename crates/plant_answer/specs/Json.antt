@@ -1,0 +1,18 @@
+-- JSON as answers have it: compact, members in the byte order of their names.
+use Rattle.std.specs.Prelude.{ℕ, Bool, List, [], ◌∷◌, ◌++◌, codes, ◌==◌, ◌||◌, if◌then◌else◌}
+use Rattle.std.specs.List.{flat_map, join_with_byte}
+
+-- a byte of a string: a quote and a backslash have a backslash before them
+abbrev pub escaped : ℕ → List ℕ
+escaped b = if b == 34 || b == 92 then 92 ∷ b ∷ [] else b ∷ []
+
+-- a string
+unfoldable pub quoted : List ℕ → List ℕ
+quoted text = codes "\"" ++ flat_map escaped text ++ codes "\""
+
+abbrev pub truth : Bool → List ℕ
+truth b = if b then codes "true" else codes "false"
+
+-- a list of values, with a comma between each two
+abbrev pub listed : List (List ℕ) → List ℕ
+listed values = codes "[" ++ join_with_byte 44 values ++ codes "]"

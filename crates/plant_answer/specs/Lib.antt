@@ -1,0 +1,5 @@
+pub mod Json
+pub mod Names
+pub mod Response
+pub mod Bodies
+pub mod Answers

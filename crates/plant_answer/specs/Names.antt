@@ -1,0 +1,87 @@
+-- The names and the numbers that answers use.
+use Rattle.std.specs.Prelude.{ℕ, List, codes}
+use Rattle.plant_types.specs.declared.role.Role.{Role}
+use Rattle.plant_types.specs.declared.role.Role.TheVariants.{Viewer, Operator, Maintainer, Engineer, Approver, Steward}
+use Rattle.plant_types.specs.declared.fault.Fault.{Fault}
+use Rattle.plant_types.specs.declared.fault.Fault.TheVariants as fault
+use Rattle.plant_alarm.specs.declared.summary.AlarmState.{AlarmState}
+use Rattle.plant_alarm.specs.declared.summary.AlarmState.TheVariants.{Normal, Unacknowledged, Acknowledged, ReturnedUnack, LatchedUnack, LatchedAck}
+use Rattle.plant_alarm.specs.declared.shelf.ShelfState.{ShelfState}
+use Rattle.plant_alarm.specs.declared.shelf.ShelfState.TheVariants.{Unshelved, TimedShelved, OneShotShelved}
+use Rattle.plant_model.specs.declared.reply.Full.{Full}
+use Rattle.plant_model.specs.declared.reply.Full.TheVariants as full
+use Rattle.plant_model.specs.declared.reply.Refused.{Refused}
+use Rattle.plant_model.specs.declared.reply.Refused.TheVariants.{NotAdministrator, UnitTaken, NotGranted, RoleLacking, MomentBehind, UnitFull, AlarmTaken, AlarmUnknown, ShelvingTimeOutOfRange, ConditionAlreadyShelved, ConditionNotShelved, AlreadyHeld, NotHeld, LastSteward, ShelfQuota, EndNotAhead}
+
+abbrev pub role_name : Role → List ℕ
+role_name Viewer = codes "Viewer"
+role_name Operator = codes "Operator"
+role_name Maintainer = codes "Maintainer"
+role_name Engineer = codes "Engineer"
+role_name Approver = codes "Approver"
+role_name Steward = codes "Steward"
+
+abbrev pub state_name : AlarmState → List ℕ
+state_name Normal = codes "Normal"
+state_name Unacknowledged = codes "Unacknowledged"
+state_name Acknowledged = codes "Acknowledged"
+state_name ReturnedUnack = codes "ReturnedUnack"
+state_name LatchedUnack = codes "LatchedUnack"
+state_name LatchedAck = codes "LatchedAck"
+
+-- a shelved state, by its name of OPC 10000-9
+abbrev pub shelf_name : ShelfState → List ℕ
+shelf_name Unshelved = codes "Unshelved"
+shelf_name (TimedShelved seconds) = codes "TimedShelved"
+shelf_name (OneShotShelved seconds) = codes "OneShotShelved"
+
+-- the seconds that are left of a shelf
+abbrev pub shelf_left : ShelfState → ℕ
+shelf_left Unshelved = 0
+shelf_left (TimedShelved seconds) = seconds
+shelf_left (OneShotShelved seconds) = seconds
+
+-- what a unit has no room for
+abbrev pub full_name : Full → List ℕ
+full_name full.Alarms = codes "Alarms"
+full_name full.Grants = codes "Grants"
+
+abbrev pub fault_name : Fault → List ℕ
+fault_name fault.Memory = codes "Memory"
+fault_name fault.Store = codes "Store"
+
+abbrev pub refusal_name : Refused → List ℕ
+refusal_name NotAdministrator = codes "NotAdministrator"
+refusal_name UnitTaken = codes "UnitTaken"
+refusal_name NotGranted = codes "NotGranted"
+refusal_name (RoleLacking role) = codes "RoleLacking"
+refusal_name (MomentBehind last) = codes "MomentBehind"
+refusal_name (UnitFull what) = codes "UnitFull"
+refusal_name AlarmTaken = codes "AlarmTaken"
+refusal_name AlarmUnknown = codes "AlarmUnknown"
+refusal_name (ShelvingTimeOutOfRange max) = codes "ShelvingTimeOutOfRange"
+refusal_name ConditionAlreadyShelved = codes "ConditionAlreadyShelved"
+refusal_name ConditionNotShelved = codes "ConditionNotShelved"
+refusal_name AlreadyHeld = codes "AlreadyHeld"
+refusal_name NotHeld = codes "NotHeld"
+refusal_name LastSteward = codes "LastSteward"
+refusal_name (ShelfQuota quota) = codes "ShelfQuota"
+refusal_name EndNotAhead = codes "EndNotAhead"
+
+abbrev pub refusal_no : Refused → ℕ
+refusal_no NotAdministrator = 1
+refusal_no UnitTaken = 2
+refusal_no NotGranted = 3
+refusal_no (RoleLacking role) = 4
+refusal_no (MomentBehind last) = 5
+refusal_no (UnitFull what) = 6
+refusal_no AlarmTaken = 7
+refusal_no AlarmUnknown = 8
+refusal_no (ShelvingTimeOutOfRange max) = 9
+refusal_no ConditionAlreadyShelved = 10
+refusal_no ConditionNotShelved = 11
+refusal_no AlreadyHeld = 14
+refusal_no NotHeld = 15
+refusal_no LastSteward = 16
+refusal_no (ShelfQuota quota) = 27
+refusal_no EndNotAhead = 28

@@ -1,0 +1,103 @@
+ghost use Rattle.std.specs.Prelude.{◌≡◌, ◌++◌, map, IfOk, IfErr, OnOk};
+ghost use Rattle.std.specs.List.{join_with_byte};
+ghost use Rattle.plant_types.specs.declared.fault.Fault.TheVariants.{Memory};
+ghost use Rattle.plant_answer.specs.Json.{quoted};
+ghost use Rattle.plant_answer.specs.Names as names;
+ghost use Rattle.plant_answer.specs.Bodies as spec;
+ghost use Rattle.plant_answer.specs.Bodies.{unit_object};
+
+use crate::json::{push_number, push_quoted, push_string, push_truth};
+use crate::names::{fault_name, role_name, shelf_left, shelf_name, state_name};
+use plant_model::{StatusRow, UnitLine};
+use plant_types::{Fault, Role};
+use std::alloc::Global;
+
+/// The body of a reply to Status.
+#[tactic(auto, unfolding(crate::specs::Bodies::status_body))]
+pub fn status_body(alloc: Global, row: &StatusRow) -> Result<Vec<u8>, Fault>
+    ensures value { IfOk result (λ out. out.items ≡ spec.status_body row.now) }
+    ensures err { IfErr result (λ e. e ≡ Memory) }
+{
+    let mut out = Vec::new(alloc);
+    push_number(&mut out, b"{\"limit\":", row.limit.get())?;
+    push_number(
+        &mut out,
+        b",\"limit_revision\":",
+        u64::from(row.limit_revision),
+    )?;
+    push_truth(&mut out, b",\"out_of_service\":", row.out_of_service)?;
+    push_string(&mut out, b",\"shelf\":", shelf_name(row.shelf))?;
+    push_number(&mut out, b",\"shelf_left\":", shelf_left(row.shelf))?;
+    push_string(&mut out, b",\"state\":", state_name(row.state))?;
+    push_truth(&mut out, b",\"suppressed\":", row.suppressed)?;
+    push_truth(
+        &mut out,
+        b",\"suppressed_or_shelved\":",
+        row.suppressed_or_shelved,
+    )?;
+    push_string(&mut out, b",\"tag\":", row.tag.as_bytes())?;
+    out.push(b'}')?;
+    Ok(out)
+}
+
+/// Adds the names of the roles, with a comma between each two.
+fn push_roles(out: &mut Vec<u8>, roles: &[Role]) -> Result<(), Fault>
+    ensures value { OnOk result (out.new.items ≡ out.old.items ++ join_with_byte 44 (map (λ r. quoted (names.role_name r)) roles.now)) }
+    ensures err { IfErr result (λ e. e ≡ Memory) }
+{
+    for (i, role) in roles.iter().enumerate() {
+        if i > 0 {
+            out.push(b',')?;
+        }
+        push_quoted(out, role_name(*role))?;
+    }
+    Ok(())
+}
+
+#[tactic(auto, unfolding(crate::specs::Bodies::unit_object))]
+fn push_unit(out: &mut Vec<u8>, line: &UnitLine) -> Result<(), Fault>
+    ensures value { OnOk result (out.new.items ≡ out.old.items ++ unit_object line.now) }
+    ensures err { IfErr result (λ e. e ≡ Memory) }
+{
+    out.extend_from_slice(b"{\"roles\":[")?;
+    push_roles(out, line.roles.as_slice())?;
+    push_string(out, b"],\"unit\":", line.unit.as_bytes())?;
+    Ok(out.push(b'}')?)
+}
+
+/// Adds the units, with a comma between each two.
+fn push_units(out: &mut Vec<u8>, lines: &[UnitLine]) -> Result<(), Fault>
+    ensures value { OnOk result (out.new.items ≡ out.old.items ++ join_with_byte 44 (map unit_object lines.now)) }
+    ensures err { IfErr result (λ e. e ≡ Memory) }
+{
+    for (i, line) in lines.iter().enumerate() {
+        if i > 0 {
+            out.push(b',')?;
+        }
+        push_unit(out, line)?;
+    }
+    Ok(())
+}
+
+/// The body of a reply to MyUnits.
+#[tactic(auto, unfolding(crate::specs::Bodies::units_body))]
+pub fn units_body(alloc: Global, lines: &[UnitLine]) -> Result<Vec<u8>, Fault>
+    ensures value { IfOk result (λ out. out.items ≡ spec.units_body lines.now) }
+    ensures err { IfErr result (λ e. e ≡ Memory) }
+{
+    let mut out = Vec::from_slice(alloc, b"{\"units\":[")?;
+    push_units(&mut out, lines)?;
+    out.extend_from_slice(b"]}")?;
+    Ok(out)
+}
+
+/// The body of a fault.
+pub fn fault_body(alloc: Global, fault: &Fault) -> Result<Vec<u8>, Fault>
+    ensures value { IfOk result (λ out. out.items ≡ spec.fault_body fault.now) }
+    ensures err { IfErr result (λ e. e ≡ Memory) }
+{
+    let mut out = Vec::new(alloc);
+    push_string(&mut out, b"{\"fault\":", fault_name(fault))?;
+    out.push(b'}')?;
+    Ok(out)
+}

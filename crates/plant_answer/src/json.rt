@@ -1,0 +1,67 @@
+ghost use Rattle.std.specs.Prelude.{◌≡◌, ◌++◌, IfErr, OnOk, decimal};
+ghost use Rattle.std.specs.List.{flat_map};
+ghost use Rattle.plant_types.specs.declared.fault.Fault.TheVariants.{Memory};
+ghost use Rattle.plant_answer.specs.Json.{escaped, quoted, truth};
+
+use itoa::Buffer;
+use plant_types::Fault;
+
+fn push_escaped(out: &mut Vec<u8>, b: u8) -> Result<(), Fault>
+    ensures value { OnOk result (out.new.items ≡ out.old.items ++ escaped b) }
+    ensures err { IfErr result (λ e. e ≡ Memory) }
+{
+    if b == b'"' || b == b'\\' {
+        out.push(b'\\')?;
+    }
+    Ok(out.push(b)?)
+}
+
+fn push_all_escaped(out: &mut Vec<u8>, text: &[u8]) -> Result<(), Fault>
+    ensures value { OnOk result (out.new.items ≡ out.old.items ++ flat_map escaped text.now) }
+    ensures err { IfErr result (λ e. e ≡ Memory) }
+{
+    for b in text {
+        push_escaped(out, *b)?;
+    }
+    Ok(())
+}
+
+/// Adds a JSON string. Of the text only quotes and backslashes are escaped.
+#[tactic(auto, unfolding(crate::specs::Json::quoted))]
+pub fn push_quoted(out: &mut Vec<u8>, text: &[u8]) -> Result<(), Fault>
+    ensures value { OnOk result (out.new.items ≡ out.old.items ++ quoted text.now) }
+    ensures err { IfErr result (λ e. e ≡ Memory) }
+{
+    out.push(b'"')?;
+    push_all_escaped(out, text)?;
+    Ok(out.push(b'"')?)
+}
+
+/// Adds a number, after some bytes.
+pub(crate) fn push_number(out: &mut Vec<u8>, before: &[u8], number: u64) -> Result<(), Fault>
+    ensures value { OnOk result (out.new.items ≡ out.old.items ++ before.now ++ decimal number) }
+    ensures err { IfErr result (λ e. e ≡ Memory) }
+{
+    let mut buffer = Buffer::new();
+    out.extend_from_slice(before)?;
+    Ok(out.extend_from_slice(buffer.format(number).as_bytes())?)
+}
+
+/// Adds a string, after some bytes.
+pub(crate) fn push_string(out: &mut Vec<u8>, before: &[u8], text: &[u8]) -> Result<(), Fault>
+    ensures value { OnOk result (out.new.items ≡ out.old.items ++ before.now ++ quoted text.now) }
+    ensures err { IfErr result (λ e. e ≡ Memory) }
+{
+    out.extend_from_slice(before)?;
+    push_quoted(out, text)
+}
+
+/// Adds true or false, after some bytes.
+pub(crate) fn push_truth(out: &mut Vec<u8>, before: &[u8], holds: bool) -> Result<(), Fault>
+    ensures value { OnOk result (out.new.items ≡ out.old.items ++ before.now ++ truth holds) }
+    ensures err { IfErr result (λ e. e ≡ Memory) }
+{
+    let word: &[u8] = if holds { b"true" } else { b"false" };
+    out.extend_from_slice(before)?;
+    Ok(out.extend_from_slice(word)?)
+}

@@ -1,0 +1,76 @@
+ghost use Rattle.std.specs.Prelude.{◌≡◌};
+ghost use Rattle.plant_answer.specs.Names as spec;
+
+use plant_alarm::{AlarmState, ShelfState};
+use plant_model::Full;
+use plant_types::{Fault, Role};
+
+/// The name of a role.
+pub fn role_name(role: Role) -> &'static [u8]
+    ensures { result.now ≡ spec.role_name role }
+{
+    match role {
+        Role::Viewer => b"Viewer",
+        Role::Operator => b"Operator",
+        Role::Maintainer => b"Maintainer",
+        Role::Engineer => b"Engineer",
+        Role::Approver => b"Approver",
+        Role::Steward => b"Steward",
+    }
+}
+
+/// The name of an alarm's state.
+pub fn state_name(state: AlarmState) -> &'static [u8]
+    ensures { result.now ≡ spec.state_name state }
+{
+    match state {
+        AlarmState::Normal => b"Normal",
+        AlarmState::Unacknowledged => b"Unacknowledged",
+        AlarmState::Acknowledged => b"Acknowledged",
+        AlarmState::ReturnedUnack => b"ReturnedUnack",
+        AlarmState::LatchedUnack => b"LatchedUnack",
+        AlarmState::LatchedAck => b"LatchedAck",
+    }
+}
+
+/// The name of a shelved state.
+pub fn shelf_name(shelf: ShelfState) -> &'static [u8]
+    ensures { result.now ≡ spec.shelf_name shelf }
+{
+    match shelf {
+        ShelfState::Unshelved => b"Unshelved",
+        ShelfState::TimedShelved(_) => b"TimedShelved",
+        ShelfState::OneShotShelved(_) => b"OneShotShelved",
+    }
+}
+
+/// The seconds that are left of a shelf.
+pub fn shelf_left(shelf: ShelfState) -> u64
+    ensures { result ≡ spec.shelf_left shelf }
+{
+    match shelf {
+        ShelfState::Unshelved => 0,
+        ShelfState::TimedShelved(seconds) => seconds,
+        ShelfState::OneShotShelved(seconds) => seconds,
+    }
+}
+
+/// The name of what a unit has no room for.
+pub fn full_name(full: Full) -> &'static [u8]
+    ensures { result.now ≡ spec.full_name full }
+{
+    match full {
+        Full::Alarms => b"Alarms",
+        Full::Grants => b"Grants",
+    }
+}
+
+/// The name of a fault.
+pub fn fault_name(fault: &Fault) -> &'static [u8]
+    ensures { result.now ≡ spec.fault_name fault.now }
+{
+    match fault {
+        Fault::Memory => b"Memory",
+        Fault::Store => b"Store",
+    }
+}

@@ -1,0 +1,103 @@
+ghost use Rattle.std.specs.Prelude.{◌≡◌, ◌++◌, IfOk, IfErr, OnOk};
+ghost use Rattle.plant_types.specs.declared.fault.Fault.TheVariants.{Memory};
+ghost use Rattle.plant_answer.specs.Names as spec;
+ghost use Rattle.plant_answer.specs.Answers as answers;
+ghost use Rattle.plant_answer.specs.Bodies as bodies;
+ghost use Rattle.plant_answer.specs.Bodies.{refusal_value, value_member};
+
+use crate::json::{push_number, push_string};
+use crate::names::{full_name, role_name};
+use http::StatusCode;
+use plant_model::Refused;
+use plant_report::write_moment;
+use plant_types::Fault;
+use std::alloc::Global;
+
+/// The name of a refusal.
+fn name_of(refused: &Refused) -> &'static [u8]
+    ensures { result.now ≡ spec.refusal_name refused.now }
+{
+    match refused {
+        Refused::NotAdministrator => b"NotAdministrator",
+        Refused::UnitTaken => b"UnitTaken",
+        Refused::NotGranted => b"NotGranted",
+        Refused::RoleLacking(_) => b"RoleLacking",
+        Refused::MomentBehind(_) => b"MomentBehind",
+        Refused::UnitFull(_) => b"UnitFull",
+        Refused::AlarmTaken => b"AlarmTaken",
+        Refused::AlarmUnknown => b"AlarmUnknown",
+        Refused::ShelvingTimeOutOfRange(_) => b"ShelvingTimeOutOfRange",
+        Refused::ConditionAlreadyShelved => b"ConditionAlreadyShelved",
+        Refused::ConditionNotShelved => b"ConditionNotShelved",
+        Refused::AlreadyHeld => b"AlreadyHeld",
+        Refused::NotHeld => b"NotHeld",
+        Refused::LastSteward => b"LastSteward",
+        Refused::ShelfQuota(_) => b"ShelfQuota",
+        Refused::EndNotAhead => b"EndNotAhead",
+    }
+}
+
+/// The number of a refusal.
+fn number_of(refused: &Refused) -> u64
+    ensures { result ≡ spec.refusal_no refused.now }
+{
+    match refused {
+        Refused::NotAdministrator => 1,
+        Refused::UnitTaken => 2,
+        Refused::NotGranted => 3,
+        Refused::RoleLacking(_) => 4,
+        Refused::MomentBehind(_) => 5,
+        Refused::UnitFull(_) => 6,
+        Refused::AlarmTaken => 7,
+        Refused::AlarmUnknown => 8,
+        Refused::ShelvingTimeOutOfRange(_) => 9,
+        Refused::ConditionAlreadyShelved => 10,
+        Refused::ConditionNotShelved => 11,
+        Refused::AlreadyHeld => 14,
+        Refused::NotHeld => 15,
+        Refused::LastSteward => 16,
+        Refused::ShelfQuota(_) => 27,
+        Refused::EndNotAhead => 28,
+    }
+}
+
+/// The status of a refusal.
+pub fn status_of(refused: &Refused) -> StatusCode
+    ensures { result ≡ answers.refusal_status refused.now }
+{
+    match refused {
+        Refused::NotAdministrator | Refused::NotGranted | Refused::RoleLacking(_) => {
+            StatusCode::FORBIDDEN
+        }
+        _ => StatusCode::CONFLICT,
+    }
+}
+
+/// Adds the member `value`, where the refusal carries a value.
+fn push_value(out: &mut Vec<u8>, refused: &Refused) -> Result<(), Fault>
+    ensures value { OnOk result (out.new.items ≡ out.old.items ++ value_member (refusal_value refused.now)) }
+    ensures err { IfErr result (λ e. e ≡ Memory) }
+{
+    match refused {
+        Refused::RoleLacking(role) => push_string(out, b",\"value\":", role_name(*role)),
+        Refused::MomentBehind(last) => push_string(out, b",\"value\":", &write_moment(*last)),
+        Refused::UnitFull(what) => push_string(out, b",\"value\":", full_name(*what)),
+        Refused::ShelvingTimeOutOfRange(max) => push_number(out, b",\"value\":", max.get()),
+        Refused::ShelfQuota(quota) => push_number(out, b",\"value\":", quota.get()),
+        _ => Ok(()),
+    }
+}
+
+/// The body of a refusal.
+#[tactic(auto, unfolding(crate::specs::Bodies::refusal_body))]
+pub fn refusal_body(alloc: Global, refused: &Refused) -> Result<Vec<u8>, Fault>
+    ensures value { IfOk result (λ out. out.items ≡ bodies.refusal_body refused.now) }
+    ensures err { IfErr result (λ e. e ≡ Memory) }
+{
+    let mut out = Vec::new(alloc);
+    push_string(&mut out, b"{\"name\":", name_of(refused))?;
+    push_number(&mut out, b",\"refused\":", number_of(refused))?;
+    push_value(&mut out, refused)?;
+    out.push(b'}')?;
+    Ok(out)
+}

@@ -1,0 +1,55 @@
+ghost use Rattle.std.specs.Prelude.{◌≡◌, IfOk, IfErr};
+ghost use Rattle.plant_types.specs.declared.fault.Fault.TheVariants.{Memory};
+ghost use Rattle.plant_answer.specs.Response as spec;
+ghost use Rattle.plant_answer.specs.Answers.{text_of, reply_media, reply_body};
+
+use crate::bodies::{fault_body, status_body, units_body};
+use crate::refusals::{refusal_body, status_of};
+use crate::responses::{Media, response};
+use http::StatusCode;
+use plant_model::{Answer, Reply};
+use plant_report::shelf_text;
+use plant_types::Fault;
+use std::alloc::Global;
+
+fn media_of(reply: &Reply) -> Media
+    ensures { result ≡ reply_media reply.now }
+{
+    match reply {
+        Reply::Shelves { .. } => Media::Plain,
+        _ => Media::Json,
+    }
+}
+
+fn reply_body(alloc: Global, reply: &Reply) -> Result<Vec<u8>, Fault>
+    ensures value { IfOk result (λ out. out.items ≡ reply_body reply.now) }
+    ensures err { IfErr result (λ e. e ≡ Memory) }
+{
+    match reply {
+        Reply::Done => Ok(Vec::from_slice(alloc, b"{\"done\":true}")?),
+        Reply::Status(row) => status_body(alloc, row),
+        Reply::Units(lines) => units_body(alloc, lines.as_slice()),
+        Reply::Shelves { unit, at, lines } => shelf_text(alloc, unit, *at, lines.as_slice()),
+    }
+}
+
+/// The bytes of an answer. A reply has status 200, a refusal 403 or 409, a fault 503.
+pub fn render(alloc: Global, answer: &Answer) -> Result<Vec<u8>, Fault>
+    ensures value { IfOk result (λ text. text.items ≡ text_of answer.now) }
+    ensures err { IfErr result (λ e. e ≡ Memory) }
+{
+    match answer {
+        Answer::Reply(reply) => {
+            let body = reply_body(alloc, reply)?;
+            response(alloc, StatusCode::OK, media_of(reply), &body)
+        }
+        Answer::Refused(refused) => {
+            let body = refusal_body(alloc, refused)?;
+            response(alloc, status_of(refused), Media::Json, &body)
+        }
+        Answer::Fault(fault) => {
+            let body = fault_body(alloc, fault)?;
+            response(alloc, StatusCode::SERVICE_UNAVAILABLE, Media::Json, &body)
+        }
+    }
+}

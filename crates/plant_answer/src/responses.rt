@@ -1,0 +1,60 @@
+ghost use Rattle.std.specs.Prelude.{◌≡◌, ◌++◌, IfOk, IfErr, OnOk};
+ghost use Rattle.plant_types.specs.declared.fault.Fault.TheVariants.{Memory};
+ghost use Rattle.plant_answer.specs.Response as spec;
+ghost use Rattle.plant_answer.specs.Response.{status_line, media_type};
+
+use http::StatusCode;
+use itoa::Buffer;
+use plant_types::Fault;
+use std::alloc::Global;
+
+/// The type of a body.
+#[derive(Clone, Copy, Debug, PartialEq, Eq)]
+pub enum Media {
+    /// JSON.
+    Json,
+    /// Text without a form of its own.
+    Plain,
+}
+
+impl Media {
+    fn name(self) -> &'static str
+        ensures { result.now ≡ media_type self }
+    {
+        match self {
+            Media::Json => "application/json",
+            Media::Plain => "text/plain",
+        }
+    }
+}
+
+#[tactic(auto, unfolding(crate::specs::Response::status_line))]
+fn push_status(out: &mut Vec<u8>, alloc: Global, status: StatusCode) -> Result<(), Fault>
+    ensures value { OnOk result (out.new.items ≡ out.old.items ++ status_line status) }
+    ensures err { IfErr result (λ e. e ≡ Memory) }
+{
+    Ok(out.extend_from_slice(status.to_string(alloc)?.as_bytes())?)
+}
+
+/// The bytes of a whole answer: its status, the type and the length of its body, and the body.
+#[tactic(auto, unfolding(crate::specs::Response::response))]
+pub fn response(
+    alloc: Global,
+    status: StatusCode,
+    media: Media,
+    body: &[u8],
+) -> Result<Vec<u8>, Fault>
+    ensures value { IfOk result (λ out. out.items ≡ spec.response status media body.now) }
+    ensures err { IfErr result (λ e. e ≡ Memory) }
+{
+    let mut buffer = Buffer::new();
+    let mut out = Vec::from_slice(alloc, b"HTTP/1.1 ")?;
+    push_status(&mut out, alloc, status)?;
+    out.extend_from_slice(b"\r\nContent-Type: ")?;
+    out.extend_from_slice(media.name().as_bytes())?;
+    out.extend_from_slice(b"\r\nContent-Length: ")?;
+    out.extend_from_slice(buffer.format(body.len()).as_bytes())?;
+    out.extend_from_slice(b"\r\n\r\n")?;
+    out.extend_from_slice(body)?;
+    Ok(out)
+}

@@ -1,0 +1,272 @@
+use super::*;
+use plant_alarm::{AlarmState, ShelfState};
+use plant_model::{Answer, Full, Refused, Reply, ShelfLine, StatusRow, UnitLine};
+use plant_types::{Fault, Moment, Person, Quota, Role, Seconds, Table, Tag, UnitCode, Words};
+use std::alloc::Global;
+use std::process::Abort;
+use std::test::Fail;
+
+const JSON: &[u8] = b"Content-Type: application/json\r\nContent-Length: ";
+
+fn moment(text: &[u8]) -> Result<Moment, Fail> {
+    Ok(Moment::read(text).ok_or("no moment")?)
+}
+
+fn unit(alloc: Global) -> Result<UnitCode, Fail> {
+    Ok(UnitCode::read(alloc, b"U1")?.ok_or("no unit")?)
+}
+
+fn tag(alloc: Global) -> Result<Tag, Fail> {
+    Ok(Tag::read(alloc, b"PT-101")?.ok_or("no tag")?)
+}
+
+/// The answer's bytes are this status line, the type and the length of JSON, and the body.
+fn is_json(
+    rt: &impl Abort,
+    alloc: Global,
+    answer: &Answer,
+    status: &[u8],
+    body: &[u8],
+) -> Result<(), Fail> {
+    let mut wanted = Vec::from_slice(alloc, b"HTTP/1.1 ")?;
+    wanted.extend_from_slice(status)?;
+    wanted.extend_from_slice(b"\r\n")?;
+    wanted.extend_from_slice(JSON)?;
+    wanted.extend_from_slice(body.len().to_string(alloc)?.as_bytes())?;
+    wanted.extend_from_slice(b"\r\n\r\n")?;
+    wanted.extend_from_slice(body)?;
+    let text = render(alloc, answer)?;
+    assert_eq!(rt; text.as_slice(), wanted.as_slice());
+    Ok(())
+}
+
+fn is_refused(
+    rt: &impl Abort,
+    alloc: Global,
+    refused: Refused,
+    status: &[u8],
+    body: &[u8],
+) -> Result<(), Fail> {
+    is_json(rt, alloc, &Answer::Refused(refused), status, body)
+}
+
+#[test]
+fn renders_refusals(rt: HostRuntime) -> Result<(), Fail> {
+    let alloc = rt.alloc();
+    let text = render(alloc, &Answer::Refused(Refused::NotGranted))?;
+    assert_eq!(rt;
+        text.as_slice(),
+        b"HTTP/1.1 403 Forbidden\r\nContent-Type: application/json\r\nContent-Length: 33\r\n\r\n{\"name\":\"NotGranted\",\"refused\":3}".as_slice()
+    );
+    let last = moment(b"2026-03-01T11:00:00Z")?;
+    let max = Seconds::new(3600).ok_or("no seconds")?;
+    let quota = Quota::new(2).ok_or("no quota")?;
+    is_refused(
+        &rt,
+        alloc,
+        Refused::NotAdministrator,
+        b"403 Forbidden",
+        b"{\"name\":\"NotAdministrator\",\"refused\":1}",
+    )?;
+    is_refused(
+        &rt,
+        alloc,
+        Refused::UnitTaken,
+        b"409 Conflict",
+        b"{\"name\":\"UnitTaken\",\"refused\":2}",
+    )?;
+    is_refused(
+        &rt,
+        alloc,
+        Refused::RoleLacking(Role::Approver),
+        b"403 Forbidden",
+        b"{\"name\":\"RoleLacking\",\"refused\":4,\"value\":\"Approver\"}",
+    )?;
+    is_refused(
+        &rt,
+        alloc,
+        Refused::MomentBehind(last),
+        b"409 Conflict",
+        b"{\"name\":\"MomentBehind\",\"refused\":5,\"value\":\"2026-03-01T11:00:00Z\"}",
+    )?;
+    is_refused(
+        &rt,
+        alloc,
+        Refused::UnitFull(Full::Grants),
+        b"409 Conflict",
+        b"{\"name\":\"UnitFull\",\"refused\":6,\"value\":\"Grants\"}",
+    )?;
+    is_refused(
+        &rt,
+        alloc,
+        Refused::AlarmTaken,
+        b"409 Conflict",
+        b"{\"name\":\"AlarmTaken\",\"refused\":7}",
+    )?;
+    is_refused(
+        &rt,
+        alloc,
+        Refused::AlarmUnknown,
+        b"409 Conflict",
+        b"{\"name\":\"AlarmUnknown\",\"refused\":8}",
+    )?;
+    is_refused(
+        &rt,
+        alloc,
+        Refused::ShelvingTimeOutOfRange(max),
+        b"409 Conflict",
+        b"{\"name\":\"ShelvingTimeOutOfRange\",\"refused\":9,\"value\":3600}",
+    )?;
+    is_refused(
+        &rt,
+        alloc,
+        Refused::ConditionAlreadyShelved,
+        b"409 Conflict",
+        b"{\"name\":\"ConditionAlreadyShelved\",\"refused\":10}",
+    )?;
+    is_refused(
+        &rt,
+        alloc,
+        Refused::ConditionNotShelved,
+        b"409 Conflict",
+        b"{\"name\":\"ConditionNotShelved\",\"refused\":11}",
+    )?;
+    is_refused(
+        &rt,
+        alloc,
+        Refused::AlreadyHeld,
+        b"409 Conflict",
+        b"{\"name\":\"AlreadyHeld\",\"refused\":14}",
+    )?;
+    is_refused(
+        &rt,
+        alloc,
+        Refused::NotHeld,
+        b"409 Conflict",
+        b"{\"name\":\"NotHeld\",\"refused\":15}",
+    )?;
+    is_refused(
+        &rt,
+        alloc,
+        Refused::LastSteward,
+        b"409 Conflict",
+        b"{\"name\":\"LastSteward\",\"refused\":16}",
+    )?;
+    is_refused(
+        &rt,
+        alloc,
+        Refused::ShelfQuota(quota),
+        b"409 Conflict",
+        b"{\"name\":\"ShelfQuota\",\"refused\":27,\"value\":2}",
+    )?;
+    is_refused(
+        &rt,
+        alloc,
+        Refused::EndNotAhead,
+        b"409 Conflict",
+        b"{\"name\":\"EndNotAhead\",\"refused\":28}",
+    )
+}
+
+#[test]
+fn renders_replies_and_faults(rt: HostRuntime) -> Result<(), Fail> {
+    let alloc = rt.alloc();
+    let done = render(alloc, &Answer::Reply(Reply::Done))?;
+    assert_eq!(rt; done.len(), 84);
+    is_json(
+        &rt,
+        alloc,
+        &Answer::Reply(Reply::Done),
+        b"200 OK",
+        b"{\"done\":true}",
+    )?;
+    is_json(
+        &rt,
+        alloc,
+        &Answer::Fault(Fault::Memory),
+        b"503 Service Unavailable",
+        b"{\"fault\":\"Memory\"}",
+    )?;
+    is_json(
+        &rt,
+        alloc,
+        &Answer::Fault(Fault::Store),
+        b"503 Service Unavailable",
+        b"{\"fault\":\"Store\"}",
+    )?;
+    let row = StatusRow {
+        tag: tag(alloc)?,
+        limit: Seconds::new(3600).ok_or("no seconds")?,
+        limit_revision: 0,
+        state: AlarmState::Normal,
+        shelf: ShelfState::TimedShelved(1),
+        suppressed: false,
+        out_of_service: false,
+        suppressed_or_shelved: true,
+    };
+    is_json(
+        &rt,
+        alloc,
+        &Answer::Reply(Reply::Status(row)),
+        b"200 OK",
+        b"{\"limit\":3600,\"limit_revision\":0,\"out_of_service\":false,\"shelf\":\"TimedShelved\",\"shelf_left\":1,\"state\":\"Normal\",\"suppressed\":false,\"suppressed_or_shelved\":true,\"tag\":\"PT-101\"}",
+    )
+}
+
+#[test]
+fn renders_units(rt: HostRuntime) -> Result<(), Fail> {
+    let alloc = rt.alloc();
+    let none = Answer::Reply(Reply::Units(Table::new(alloc)));
+    is_json(&rt, alloc, &none, b"200 OK", b"{\"units\":[]}")?;
+    let mut lines = Table::new(alloc);
+    for roles in [
+        [Role::Viewer, Role::Steward],
+        [Role::Operator, Role::Engineer],
+    ] {
+        lines.push(UnitLine {
+            unit: unit(alloc)?,
+            roles: Table::from_vec(Vec::from_slice(alloc, &roles)?),
+        })?;
+    }
+    let some = Answer::Reply(Reply::Units(lines));
+    is_json(
+        &rt,
+        alloc,
+        &some,
+        b"200 OK",
+        b"{\"units\":[{\"roles\":[\"Viewer\",\"Steward\"],\"unit\":\"U1\"},{\"roles\":[\"Operator\",\"Engineer\"],\"unit\":\"U1\"}]}",
+    )
+}
+
+#[test]
+fn renders_shelves_as_text(rt: HostRuntime) -> Result<(), Fail> {
+    let alloc = rt.alloc();
+    let mut lines = Table::new(alloc);
+    lines.push(ShelfLine {
+        tag: tag(alloc)?,
+        one_shot: false,
+        start: moment(b"2026-03-01T10:00:00Z")?,
+        left: 1,
+        person: Person::read(alloc, b"ann")?.ok_or("no person")?,
+        words: Words::read(alloc, b"pump test")?.ok_or("no words")?,
+    })?;
+    let answer = Answer::Reply(Reply::Shelves {
+        unit: unit(alloc)?,
+        at: moment(b"2026-03-01T10:59:59Z")?,
+        lines,
+    });
+    let text = render(alloc, &answer)?;
+    assert_eq!(rt;
+        text.as_slice(),
+        b"HTTP/1.1 200 OK\r\nContent-Type: text/plain\r\nContent-Length: 148\r\n\r\nSHELVES U1 AT 2026-03-01T10:59:59Z COUNT 1\nPT-101                   timed    2026-03-01T10:00:00Z      1 ann                              pump test\n".as_slice()
+    );
+    Ok(())
+}
+
+#[test]
+fn escapes_quotes_and_backslashes_alone(rt: HostRuntime) -> Result<(), Fail> {
+    let mut out = Vec::new(rt.alloc());
+    push_quoted(&mut out, b"a\"b\\c/\n")?;
+    assert_eq!(rt; out.as_slice(), b"\"a\\\"b\\\\c/\n\"".as_slice());
+    Ok(())
+}

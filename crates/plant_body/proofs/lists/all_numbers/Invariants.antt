@@ -1,0 +1,6 @@
+use Rattle.plant_body.specs.Members.{number_of}
+use Rattle.plant_body.proofs.Items.{IsReadTo}
+use Rattle.plant_body.proofs.lists.all_numbers.Given as goal
+
+abbrev pub invariant-loop-item : goal.invariant-loop-item
+invariant-loop-item l = IsReadTo number_of l.items l.item-index l.numbers.items

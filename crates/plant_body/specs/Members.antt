@@ -1,0 +1,111 @@
+-- What a body's members say. `read` is serde_json's reader of a `Value`, which takes text.
+use Rattle.std.specs.Prelude.{◌≡◌, ℕ, List, Option, Some, None, option_and_then, option_map, is_some, Result, Ok, Err, Bool, codes, if◌then◌else◌}
+use Rattle.std.specs.Option.{ok_or}
+use Rattle.std.specs.Str.{is_utf8, bytes_eq}
+use Rattle.serde_json.specs.Data.{Data}
+use Rattle.serde_json.specs.Read.{read}
+use Rattle.serde_json.specs.Find.{get, as_number, as_u64, as_str, as_bool, as_null}
+use Rattle.plant_types.specs.Text.{text_of, person_of, tag_of, words_of}
+use Rattle.plant_types.specs.Moment.{moment_of}
+use Rattle.plant_types.specs.Numbers.{is_seconds, is_quota, number_if}
+use Rattle.plant_types.specs.Tenure.{is_tenure}
+use Rattle.plant_types.specs.declared.role.Role.{Role}
+use Rattle.plant_types.specs.declared.role.Role.TheVariants.{Viewer, Operator, Maintainer, Engineer, Approver, Steward}
+use Rattle.plant_body.specs.declared.members.BodyError.{BodyError}
+use Rattle.plant_body.specs.declared.members.BodyError.TheVariants.{Memory, Because}
+use Rattle.plant_body.specs.declared.members.Unfit.{Unfit}
+use Rattle.plant_body.specs.declared.members.Unfit.TheVariants.{Body}
+
+-- the value that the bytes are
+abbrev pub value_of : List ℕ → Option Data
+value_of bytes = if is_utf8 bytes then read bytes else None
+
+-- a whole number below 2 ^ 64, written in digits alone
+abbrev pub number_of : Data → Option ℕ
+number_of d = option_and_then as_u64 (as_number d)
+
+abbrev pub number_at : List ℕ → Data → Option ℕ
+number_at name d = option_and_then number_of (get name d)
+
+-- a member that is a string
+abbrev pub string_at : List ℕ → Data → Option (List ℕ)
+string_at name d = option_and_then as_str (get name d)
+
+abbrev pub truth_at : List ℕ → Data → Option Bool
+truth_at name d = option_and_then as_bool (get name d)
+
+-- a member that is a text of a set of bytes
+abbrev pub text_at : (ℕ → Bool) → ℕ → List ℕ → Data → Option (List ℕ)
+text_at admits longest name d = option_and_then (text_of admits longest) (string_at name d)
+
+abbrev pub person_at : List ℕ → Data → Option (List ℕ)
+person_at name d = option_and_then person_of (string_at name d)
+
+abbrev pub tag_at : List ℕ → Data → Option (List ℕ)
+tag_at name d = option_and_then tag_of (string_at name d)
+
+abbrev pub words_at : List ℕ → Data → Option (List ℕ)
+words_at name d = option_and_then words_of (string_at name d)
+
+-- a length of time, in seconds
+abbrev pub seconds_at : List ℕ → Data → Option ℕ
+seconds_at name d = option_and_then (λ n. number_if (is_seconds n) n) (number_at name d)
+
+-- the role of a name
+abbrev pub role_of : List ℕ → Option Role
+role_of name =
+    if bytes_eq name (codes "Viewer") then Some Viewer
+    else if bytes_eq name (codes "Operator") then Some Operator
+    else if bytes_eq name (codes "Maintainer") then Some Maintainer
+    else if bytes_eq name (codes "Engineer") then Some Engineer
+    else if bytes_eq name (codes "Approver") then Some Approver
+    else if bytes_eq name (codes "Steward") then Some Steward
+    else None
+
+abbrev pub role_at : List ℕ → Data → Option Role
+role_at name d = option_and_then role_of (string_at name d)
+
+-- a quota: 2000 where it isn't told
+abbrev pub quota_in : Option Data → Option ℕ
+quota_in None = Some 2000
+quota_in (Some d) = option_and_then (λ n. number_if (is_quota n) n) (number_of d)
+
+abbrev pub quota_at : List ℕ → Data → Option ℕ
+quota_at name d = quota_in (get name d)
+
+-- an end: none where it isn't told or is null
+abbrev pub end_in : Option Data → Option (Option ℕ)
+end_in None = Some None
+end_in (Some d) =
+    if is_some (as_null d) then Some None
+    else option_map (λ m. Some m) (option_and_then moment_of (as_str d))
+
+abbrev pub end_at : List ℕ → Data → Option (Option ℕ)
+end_at name d = end_in (get name d)
+
+-- a role with its end; a steward has none
+abbrev pub tenure_of : Role → Option ℕ → Option (Role × Option ℕ)
+tenure_of role until = if is_tenure role until then Some (role, until) else None
+
+-- what isn't there makes the body unfit
+abbrev pub told : {A : Type 0} → Option A → Result A Unfit
+told o = ok_or o Body
+
+infixl 10 ◌>>=◌
+abbrev pub ◌>>=◌ : {A B : Type 0} → Result A Unfit → (A → Result B Unfit) → Result B Unfit
+(Ok x) >>= f = f x
+(Err e) >>= f = Err e
+
+-- What a reader returned is what the definition gives, unless memory ran out.
+abbrev pub Fails : {A : Type 0} → BodyError → Result A Unfit → Type 0
+Fails Memory given = Unit {0}
+Fails (Because unfit) given = given ≡ Err unfit
+
+abbrev pub Gives : {A : Type 0} → Result A BodyError → Result A Unfit → Type 0
+Gives (Ok x) given = given ≡ Ok x
+Gives (Err e) given = Fails e given
+
+-- the same, where the returned value is seen by a view
+abbrev pub GivesBy : {A B : Type 0} → (A → B) → Result A BodyError → Result B Unfit → Type 0
+GivesBy view (Ok x) given = given ≡ Ok (view x)
+GivesBy view (Err e) given = Fails e given

@@ -1,0 +1,15 @@
+//! The bodies of requests: one JSON object each, of which the named members are read.
+#![tactic(auto)]
+
+mod bodies;
+mod lists;
+mod members;
+
+pub use bodies::{
+    Granting, Opening, Registration, TimedShelving, Withdrawal, read_granting,
+    read_one_shot_shelving, read_opening, read_registration, read_timed_shelving, read_withdrawal,
+};
+pub use members::{BodyError, Unfit};
+
+#[cfg(test)]
+mod tests;

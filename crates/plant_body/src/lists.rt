@@ -1,0 +1,105 @@
+ghost use Rattle.std.specs.Prelude.{◌≡◌, map};
+ghost use Rattle.std.specs.Option.{option_map};
+ghost use Rattle.serde_json.specs.View.{view, items_view};
+ghost use Rattle.plant_body.specs.Members.{Gives, GivesBy, told, number_of};
+ghost use Rattle.plant_body.specs.Lists as spec;
+ghost use Rattle.plant_body.specs.Lists.{all_of, cell_of, row_of, numbers_at, rows_at};
+
+use crate::members::{BodyError, Unfit, number_of};
+use plant_ration::Cell;
+use serde_json::Value;
+use std::alloc::Global;
+
+const BAD: BodyError = BodyError::Because(Unfit::Body);
+
+fn cell_named(name: &str) -> Option<Cell>
+    ensures { result ≡ spec.cell_named name.now }
+{
+    if name == "P1" {
+        Some(Cell::P1)
+    } else if name == "P2" {
+        Some(Cell::P2)
+    } else if name == "P3" {
+        Some(Cell::P3)
+    } else if name == "P4" {
+        Some(Cell::P4)
+    } else if name == "N" {
+        Some(Cell::N)
+    } else {
+        None
+    }
+}
+
+fn cell_of(value: &Value) -> Option<Cell>
+    ensures { result ≡ cell_of (view value.now) }
+{
+    value.as_str().and_then(cell_named)
+}
+
+fn all_numbers(alloc: Global, items: &[Value]) -> Result<Vec<u64>, BodyError>
+    ensures { GivesBy (λ v. v.items) result (told (all_of number_of (items_view items.now))) }
+{
+    let mut numbers = Vec::new(alloc);
+    for item in items {
+        match number_of(item) {
+            Some(number) => numbers.push(number)?,
+            None => return Err(BAD),
+        }
+    }
+    Ok(numbers)
+}
+
+fn all_cells(alloc: Global, items: &[Value]) -> Result<Vec<Cell>, BodyError>
+    ensures { GivesBy (λ v. v.items) result (told (all_of cell_of (items_view items.now))) }
+{
+    let mut cells = Vec::new(alloc);
+    for item in items {
+        match cell_of(item) {
+            Some(cell) => cells.push(cell)?,
+            None => return Err(BAD),
+        }
+    }
+    Ok(cells)
+}
+
+fn row_of(alloc: Global, value: &Value) -> Result<Vec<Cell>, BodyError>
+    ensures { GivesBy (λ v. v.items) result (told (row_of (view value.now))) }
+{
+    match value.as_array() {
+        Some(items) => all_cells(alloc, items),
+        None => Err(BAD),
+    }
+}
+
+fn all_rows(alloc: Global, items: &[Value]) -> Result<Vec<Vec<Cell>>, BodyError>
+    ensures { GivesBy (λ v. map (λ row. row.items) v.items) result (told (all_of row_of (items_view items.now))) }
+{
+    let mut rows = Vec::new(alloc);
+    for item in items {
+        match row_of(alloc, item) {
+            Ok(row) => rows.push(row)?,
+            Err(e) => return Err(e),
+        }
+    }
+    Ok(rows)
+}
+
+/// A member that is a list of numbers.
+pub(crate) fn numbers_in(alloc: Global, value: &Value, name: &str) -> Result<Vec<u64>, BodyError>
+    ensures { GivesBy (λ v. v.items) result (told (numbers_at name.now (view value.now))) }
+{
+    match value.get(name).and_then(Value::as_array) {
+        Some(items) => all_numbers(alloc, items),
+        None => Err(BAD),
+    }
+}
+
+/// A member that is a list of lists of cells.
+pub(crate) fn rows_in(alloc: Global, value: &Value, name: &str) -> Result<Vec<Vec<Cell>>, BodyError>
+    ensures { GivesBy (λ v. map (λ row. row.items) v.items) result (told (rows_at name.now (view value.now))) }
+{
+    match value.get(name).and_then(Value::as_array) {
+        Some(items) => all_rows(alloc, items),
+        None => Err(BAD),
+    }
+}

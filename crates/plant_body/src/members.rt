@@ -1,0 +1,201 @@
+ghost use Rattle.std.specs.Prelude.{◌≡◌, option_map};
+ghost use Rattle.serde_json.specs.View.{view};
+ghost use Rattle.plant_body.specs.Members.{Gives, GivesBy, told, value_of, number_of, number_at, string_at, truth_at, text_at, seconds_at, role_at, quota_at, end_at, tenure_of};
+ghost use Rattle.plant_body.specs.Members as spec;
+
+use plant_ration::MatrixFault;
+use plant_types::{Alphabet, Fault, Moment, Quota, Role, Seconds, Tenure, Text};
+use serde_json::Value;
+use std::alloc::{AllocError, AllocFailed, Global};
+
+/// Why a body isn't what the call asks for.
+#[derive(Clone, Copy, Debug, PartialEq, Eq)]
+pub enum Unfit {
+    /// It isn't a JSON object with the members of the call, each with a value of its set.
+    Body,
+    /// It is, but its table of cells is no matrix.
+    Matrix(MatrixFault),
+}
+
+/// Why a body gives no value.
+#[derive(Clone, Copy, Debug, PartialEq, Eq)]
+pub enum BodyError {
+    /// A growth was refused.
+    Memory,
+    /// The body is unfit.
+    Because(Unfit),
+}
+
+impl From<AllocError> for BodyError {
+    ghost use Rattle.std.specs.Prelude.{◌≡◌};
+    ghost use Rattle.plant_body.specs.declared.members.BodyError.TheVariants.{Memory};
+
+    ghost from_gives = { λ _ e. e ≡ Memory };
+
+    fn from(_error: AllocError) -> BodyError {
+        BodyError::Memory
+    }
+}
+
+impl<T: Drop> From<AllocFailed<T>> for BodyError {
+    ghost use Rattle.std.specs.Prelude.{◌≡◌};
+    ghost use Rattle.plant_body.specs.declared.members.BodyError.TheVariants.{Memory};
+
+    ghost from_gives = { λ _ e. e ≡ Memory };
+
+    fn from(_error: AllocFailed<T>) -> BodyError {
+        BodyError::Memory
+    }
+}
+
+impl From<Fault> for BodyError {
+    ghost use Rattle.std.specs.Prelude.{◌≡◌};
+    ghost use Rattle.plant_body.specs.declared.members.BodyError.TheVariants.{Memory};
+
+    ghost from_gives = { λ _ e. e ≡ Memory };
+
+    fn from(_fault: Fault) -> BodyError {
+        BodyError::Memory
+    }
+}
+
+const BAD: BodyError = BodyError::Because(Unfit::Body);
+
+/// The JSON value that the bytes are.
+pub(crate) fn value_in(alloc: Global, bytes: &[u8]) -> Result<Value, BodyError>
+    ensures { GivesBy view result (told (value_of bytes.now)) }
+{
+    match Value::from_slice(alloc, bytes) {
+        Ok(value) => Ok(value),
+        Err(e) => {
+            if e.is_memory() {
+                Err(BodyError::Memory)
+            } else {
+                Err(BAD)
+            }
+        }
+    }
+}
+
+pub(crate) fn number_of(value: &Value) -> Option<u64>
+    ensures { result ≡ number_of (view value.now) }
+{
+    value.as_u64()
+}
+
+fn number_in(value: &Value, name: &str) -> Option<u64>
+    ensures { result ≡ number_at name.now (view value.now) }
+{
+    value.get(name).and_then(Value::as_u64)
+}
+
+fn string_in<'v>(value: &'v Value, name: &str) -> Option<&'v str>
+    ensures { option_map (λ t. t.now) result ≡ string_at name.now (view value.now) }
+{
+    value.get(name).and_then(Value::as_str)
+}
+
+pub(crate) fn truth_in(value: &Value, name: &str) -> Result<bool, BodyError>
+    ensures { Gives result (told (truth_at name.now (view value.now))) }
+{
+    match value.get(name).and_then(Value::as_bool) {
+        Some(truth) => Ok(truth),
+        None => Err(BAD),
+    }
+}
+
+pub(crate) fn text_in<C: Alphabet>(
+    alloc: Global,
+    value: &Value,
+    name: &str,
+) -> Result<Text<C>, BodyError>
+    ensures { Gives result (told (text_at C.admits C.longest name.now (view value.now))) }
+{
+    let Some(string) = string_in(value, name) else {
+        return Err(BAD);
+    };
+    match Text::read(alloc, string.as_bytes())? {
+        Some(text) => Ok(text),
+        None => Err(BAD),
+    }
+}
+
+pub(crate) fn seconds_in(value: &Value, name: &str) -> Result<Seconds, BodyError>
+    ensures { Gives result (told (seconds_at name.now (view value.now))) }
+{
+    match number_in(value, name).and_then(Seconds::new) {
+        Some(seconds) => Ok(seconds),
+        None => Err(BAD),
+    }
+}
+
+fn role_of(name: &str) -> Option<Role>
+    ensures { result ≡ spec.role_of name.now }
+{
+    if name == "Viewer" {
+        Some(Role::Viewer)
+    } else if name == "Operator" {
+        Some(Role::Operator)
+    } else if name == "Maintainer" {
+        Some(Role::Maintainer)
+    } else if name == "Engineer" {
+        Some(Role::Engineer)
+    } else if name == "Approver" {
+        Some(Role::Approver)
+    } else if name == "Steward" {
+        Some(Role::Steward)
+    } else {
+        None
+    }
+}
+
+pub(crate) fn role_in(value: &Value, name: &str) -> Result<Role, BodyError>
+    ensures { Gives result (told (role_at name.now (view value.now))) }
+{
+    match string_in(value, name).and_then(role_of) {
+        Some(role) => Ok(role),
+        None => Err(BAD),
+    }
+}
+
+/// The quota: the greatest one where the member isn't there.
+pub(crate) fn quota_in(value: &Value, name: &str) -> Result<Quota, BodyError>
+    ensures { Gives result (told (quota_at name.now (view value.now))) }
+{
+    let told = match value.get(name) {
+        Some(quota) => number_of(quota),
+        None => Some(2000),
+    };
+    match told.and_then(Quota::new) {
+        Some(quota) => Ok(quota),
+        None => Err(BAD),
+    }
+}
+
+/// The end: none where the member isn't there or is null.
+pub(crate) fn end_in(value: &Value, name: &str) -> Result<Option<Moment>, BodyError>
+    ensures { Gives result (told (end_at name.now (view value.now))) }
+{
+    let Some(end) = value.get(name) else {
+        return Ok(None);
+    };
+    if end.is_null() {
+        return Ok(None);
+    }
+    let Some(text) = end.as_str() else {
+        return Err(BAD);
+    };
+    match Moment::read(text.as_bytes()) {
+        Some(moment) => Ok(Some(moment)),
+        None => Err(BAD),
+    }
+}
+
+pub(crate) fn tenure_of(role: Role, until: Option<Moment>) -> Result<Tenure, BodyError>
+    ensures { Gives result (told (tenure_of role until)) }
+{
+    match Tenure::new(role, until) {
+        Some(tenure) => Ok(tenure),
+        None => Err(BAD),
+    }
+}

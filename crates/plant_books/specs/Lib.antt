@@ -1,0 +1,4 @@
+pub mod Contents
+pub mod Counting
+pub mod Asking
+pub mod Listed

@@ -1,0 +1,106 @@
+ghost use Rattle.std.specs.Prelude.{◌≡◌, ◌∷◌, [], IfErr, IfOk, OnErr, OnOk};
+ghost use Rattle.plant_model.specs.RowChanges.{changed, changed_by, put as row_put, removed};
+ghost use Rattle.plant_model.specs.RowFacts.{pair_of, shelf_tag};
+ghost use Rattle.plant_types.specs.Names.{name_cmp};
+ghost use Rattle.plant_types.specs.Roles.{pair_cmp};
+ghost use Rattle.plant_types.specs.Tables.{remove_row};
+ghost use Rattle.plant_types.specs.declared.fault.Fault.TheVariants.{Memory};
+
+use crate::keyed::put;
+use crate::rows::compare_pair;
+use plant_model::{Change, GrantRow, Key, Row, ShelfRow, UnitRow, UnitRows};
+use plant_types::{Duplicate, Fault, Person, Role, Table, Tag};
+use std::alloc::Global;
+
+/// The table of the one row.
+fn one_row(alloc: Global, row: UnitRow) -> Result<Table<UnitRow>, Fault>
+    ensures value { IfOk result (λ rows. rows ≡ row ∷ []) }
+    ensures memory { IfErr result (λ e. e ≡ Memory) }
+{
+    let mut rows = Table::new(alloc);
+    rows.push(row)?;
+    Ok(rows)
+}
+
+/// Puts a row of a unit. Where memory is wanted, the rows are as before.
+fn put_row(alloc: Global, rows: &mut UnitRows, row: Row) -> Result<(), Fault>
+    ensures ok { OnOk result (rows.new ≡ row_put row rows.old) }
+    ensures err { OnErr result (rows.new ≡ rows.old) }
+    ensures memory { IfErr result (λ e. e ≡ Memory) }
+{
+    match row {
+        Row::Unit(row) => {
+            rows.units = one_row(alloc, row)?;
+            Ok(())
+        }
+        Row::Grant(row) => put(&mut rows.grants, row),
+        Row::Alarm(row) => put(&mut rows.alarms, row),
+        Row::Shelf(row) => put(&mut rows.shelves, row),
+        Row::Band(row) => put(&mut rows.bands, row),
+        Row::Cell(row) => put(&mut rows.cells, row),
+    }
+}
+
+/// The grants without that of a pair.
+fn without_grant(grants: Table<GrantRow>, person: &Person, role: Role) -> Table<GrantRow>
+    ensures { result ≡ remove_row pair_cmp pair_of (person.now, role) grants }
+{
+    let mut rows = grants.into_vec();
+    rows.retain(|grant| compare_pair(person, role, grant).is_ne());
+    Table::from_vec(rows)
+}
+
+/// The shelves without that of a tag.
+fn without_shelf(shelves: Table<ShelfRow>, tag: &Tag) -> Table<ShelfRow>
+    ensures { result ≡ remove_row name_cmp shelf_tag tag.now shelves }
+{
+    let mut rows = shelves.into_vec();
+    rows.retain(|shelf| tag.cmp(&shelf.tag).is_ne());
+    Table::from_vec(rows)
+}
+
+/// The rows without that of a key.
+fn without(rows: UnitRows, key: &Key) -> UnitRows
+    ensures { result ≡ removed key.now rows }
+{
+    match key {
+        Key::Grant(person, role) => UnitRows {
+            grants: without_grant(rows.grants, person, *role),
+            ..rows
+        },
+        Key::Shelf(tag) => UnitRows {
+            shelves: without_shelf(rows.shelves, tag),
+            ..rows
+        },
+    }
+}
+
+/// The rows after one change.
+fn after_change(alloc: Global, mut rows: UnitRows, change: &Change) -> Result<UnitRows, Fault>
+    ensures value { IfOk result (λ after. after ≡ changed change.now rows) }
+    ensures memory { IfErr result (λ e. e ≡ Memory) }
+{
+    match change {
+        Change::Put(row) => {
+            put_row(alloc, &mut rows, row.duplicate(alloc)?)?;
+            Ok(rows)
+        }
+        Change::Remove(key) => Ok(without(rows, key)),
+    }
+}
+
+/// The rows after the changes, in their order.
+pub fn after_changes(
+    alloc: Global,
+    rows: UnitRows,
+    changes: &Table<Change>,
+) -> Result<UnitRows, Fault>
+    ensures value { IfOk result (λ after. after ≡ changed_by changes.now rows) }
+    ensures memory { IfErr result (λ e. e ≡ Memory) }
+{
+    let mut after = rows;
+    for change in changes.as_slice() {
+        after = after_change(alloc, after, change)?;
+    }
+    Ok(after)
+}

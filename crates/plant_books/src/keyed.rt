@@ -1,0 +1,49 @@
+ghost use Rattle.std.specs.Prelude.{◌≡◌, IfErr, MatchResult, OnErr, OnOk, insert, slice_set};
+ghost use Rattle.plant_types.specs.Tables.{put_row};
+ghost use Rattle.plant_types.specs.declared.fault.Fault.TheVariants.{Memory};
+
+use plant_types::{Fault, Table};
+use std::cmp::Ordering;
+
+/// A row with a key.
+pub trait Keyed: Drop {
+    ghost use Rattle.std.specs.declared.cmp.Ordering.{Ordering};
+
+    ghost order: { Self → Self → Ordering };
+
+    /// How its key compares with another row's.
+    fn key_cmp(&self, other: &Self) -> Ordering
+        ensures { result ≡ order self.now other.now };
+}
+
+/// The place of the row of the same key, or else the place where the row belongs.
+fn place_of<T: Keyed>(rows: &[T], row: &T) -> Result<usize, usize>
+    ensures { MatchResult result
+        (λ place. slice_set rows.now place row.now ≡ put_row T.order (λ r. r) row.now rows.now)
+        (λ place. insert rows.now place row.now ≡ put_row T.order (λ r. r) row.now rows.now) }
+{
+    for (place, other) in rows.iter().enumerate() {
+        match row.key_cmp(other) {
+            Ordering::Less => return Err(place),
+            Ordering::Equal => return Ok(place),
+            Ordering::Greater => {}
+        }
+    }
+    Err(rows.len())
+}
+
+/// Puts a row in the place of the row of its key, or where it belongs in the order of keys.
+/// Where memory is wanted, the rows are as before.
+pub fn put<T: Keyed>(rows: &mut Table<T>, row: T) -> Result<(), Fault>
+    ensures ok { OnOk result (rows.new ≡ put_row T.order (λ r. r) row rows.old) }
+    ensures err { OnErr result (rows.new ≡ rows.old) }
+    ensures memory { IfErr result (λ e. e ≡ Memory) }
+{
+    match place_of(rows.as_slice(), &row) {
+        Ok(place) => {
+            rows.replace_at(place, row);
+            Ok(())
+        }
+        Err(place) => rows.insert_at(place, row),
+    }
+}

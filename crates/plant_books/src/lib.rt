@@ -1,0 +1,19 @@
+//! The books that keep the rows of all units: what they contain, the trait of their keepers, and a keeper in lists.
+#![tactic(auto)]
+
+mod asking;
+mod books;
+mod changes;
+mod grants;
+mod keyed;
+mod opened;
+mod parts;
+mod plain;
+mod rows;
+
+pub use asking::{Wanted, unit_of, wanted_alarms, wanted_shelves, wants_all_grants, wants_count};
+pub use books::{Books, MineUnit};
+pub use plain::Plain;
+
+#[cfg(test)]
+mod tests;

@@ -1,0 +1,71 @@
+ghost use Rattle.std.specs.Prelude.{◌≡◌, ⊤};
+ghost use Rattle.plant_books.specs.Contents.{no_units};
+ghost use Rattle.plant_books.specs.Listed.{IsListed};
+
+use crate::asking::unit_of;
+use crate::books::{Books, MineUnit};
+use crate::opened::{OpenedUnit, change_unit, codes_held, copy_of, is_opened, part_at, units_held};
+use plant_model::{Call, Change, UnitPart, UnitRows};
+use plant_types::{Fault, Moment, Person, Table, UnitCode};
+use std::alloc::Global;
+
+/// A keeper of books in lists, in the order of the units' codes.
+#[derive(Drop)]
+pub struct Plain {
+    administrator: Person,
+    units: Table<OpenedUnit>,
+    alloc: Global,
+}
+
+impl Plain {
+    /// Books with no unit. It takes no memory.
+    pub fn new(alloc: Global, administrator: Person) -> Plain
+        ensures holds { ⟦<Plain as Books>⟧.holds result (no_units administrator) }
+        ensures stores { ⟦<Plain as Books>⟧.stores result ≡ 0 }
+    {
+        Plain {
+            administrator,
+            units: Table::new(alloc),
+            alloc,
+        }
+    }
+}
+
+impl Books for Plain {
+    ghost holds = { λ t m. IsListed t.administrator t.units m };
+
+    ghost can_tell = { λ _. ⊤ };
+
+    ghost stores = { λ _. 0 };
+
+    fn administrator(&self) -> &Person {
+        &self.administrator
+    }
+
+    fn taken(&mut self, unit: &UnitCode) -> Result<bool, Fault> {
+        Ok(is_opened(&self.units, unit))
+    }
+
+    fn rows(&mut self, unit: &UnitCode) -> Result<Option<UnitRows>, Fault> {
+        copy_of(self.alloc, &self.units, unit)
+    }
+
+    fn part(&mut self, call: &Call) -> Result<Option<UnitPart>, Fault> {
+        let Some(unit) = unit_of(&call.request) else {
+            return Ok(None);
+        };
+        part_at(self.alloc, &self.units, unit, call)
+    }
+
+    fn held(&mut self, person: &Person, now: Moment) -> Result<Table<UnitCode>, Fault> {
+        codes_held(self.alloc, &self.units, person, now)
+    }
+
+    fn mine_units(&mut self, person: &Person, now: Moment) -> Result<Table<MineUnit>, Fault> {
+        units_held(self.alloc, &self.units, person, now)
+    }
+
+    fn apply(&mut self, unit: &UnitCode, changes: &Table<Change>) -> Result<(), Fault> {
+        change_unit(self.alloc, &mut self.units, unit, changes)
+    }
+}

@@ -1,0 +1,60 @@
+ghost use Rattle.std.specs.Prelude.{◌≡◌};
+ghost use Rattle.plant_model.specs.Matrices.{band_cmp, cell_cmp};
+ghost use Rattle.plant_model.specs.RowFacts.{alarm_tag, band_key, cell_key, pair_of, shelf_tag};
+ghost use Rattle.plant_types.specs.Names.{name_cmp};
+ghost use Rattle.plant_types.specs.Roles.{pair_cmp};
+
+use crate::keyed::Keyed;
+use plant_model::{AlarmRow, BandRow, CellRow, GrantRow, ShelfRow};
+use plant_types::{Person, Role};
+use std::cmp::Ordering;
+
+impl Keyed for GrantRow {
+    ghost order = { λ a b. pair_cmp (pair_of a) (pair_of b) };
+
+    fn key_cmp(&self, other: &GrantRow) -> Ordering {
+        compare_pair(&self.person, self.role_no, other)
+    }
+}
+
+impl Keyed for AlarmRow {
+    ghost order = { λ a b. name_cmp (alarm_tag a) (alarm_tag b) };
+
+    fn key_cmp(&self, other: &AlarmRow) -> Ordering {
+        self.tag.cmp(&other.tag)
+    }
+}
+
+impl Keyed for ShelfRow {
+    ghost order = { λ a b. name_cmp (shelf_tag a) (shelf_tag b) };
+
+    fn key_cmp(&self, other: &ShelfRow) -> Ordering {
+        self.tag.cmp(&other.tag)
+    }
+}
+
+impl Keyed for BandRow {
+    ghost order = { λ a b. band_cmp (band_key a) (band_key b) };
+
+    fn key_cmp(&self, other: &BandRow) -> Ordering {
+        (self.matrix_no, self.band_no).cmp(&(other.matrix_no, other.band_no))
+    }
+}
+
+impl Keyed for CellRow {
+    ghost order = { λ a b. cell_cmp (cell_key a) (cell_key b) };
+
+    fn key_cmp(&self, other: &CellRow) -> Ordering {
+        let key = (other.matrix_no, other.severity, other.band_no);
+        (self.matrix_no, self.severity, self.band_no).cmp(&key)
+    }
+}
+
+/// How a person with a role compares with the pair of a grant: by person, and then by role.
+pub fn compare_pair(person: &Person, role: Role, grant: &GrantRow) -> Ordering
+    ensures { result ≡ pair_cmp (person.now, role) (pair_of grant.now) }
+{
+    person
+        .cmp(&grant.person)
+        .then(role.number().cmp(&grant.role_no.number()))
+}

@@ -1,0 +1,6 @@
+use Rattle.std.proofs.Common.{◌≡◌, ◌+◌, take, min}
+use Rattle.std.specs.Str.Parse.{digits_value}
+use Rattle.plant_call.proofs.lengths.capped_value.Given as goal
+
+abbrev pub invariant-loop-b : goal.invariant-loop-b
+invariant-loop-b l = l.value ≡ min (digits_value 10 (take l.b-index l.text)) (1048576 + 1)

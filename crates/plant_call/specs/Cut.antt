@@ -1,0 +1,21 @@
+-- What `next_call` answers.
+use Rattle.std.specs.Prelude.{◌≡◌, ℕ, List}
+use Rattle.plant_call.specs.Front.{Front, waits, whole, broken, asked, bad, StandsAtFront}
+use Rattle.plant_call.specs.declared.cut.Cut.{Cut}
+use Rattle.plant_call.specs.declared.cut.Cut.TheVariants.{More, Call, Malformed, Broken, Fault}
+
+-- the answer shows this front, unless memory ran out
+abbrev pub Shows : Cut → Front → Type 0
+Shows More front = front ≡ waits
+Shows (Call call n) front = front ≡ whole (asked call) n
+Shows (Malformed cause n) front = front ≡ whole (bad cause) n
+Shows (Broken cause) front = front ≡ broken cause
+Shows Fault front = Unit {0}
+
+-- the answer is what stands at the front, unless memory ran out
+abbrev pub IsCutOf : List ℕ → Cut → Type 0
+IsCutOf bytes More = StandsAtFront bytes waits
+IsCutOf bytes (Call call n) = StandsAtFront bytes (whole (asked call) n)
+IsCutOf bytes (Malformed cause n) = StandsAtFront bytes (whole (bad cause) n)
+IsCutOf bytes (Broken cause) = StandsAtFront bytes (broken cause)
+IsCutOf bytes Fault = Unit {0}

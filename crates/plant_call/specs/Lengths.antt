@@ -1,0 +1,34 @@
+-- How long the body is, by the fields.
+use Rattle.std.specs.Prelude.{ℕ, List, [], ◌∷◌, length, codes, Result, Ok, Err, Bool, ◌&&◌, nat_lt, if◌then◌else◌, not}
+use Rattle.std.specs.List.{list_all}
+use Rattle.std.specs.Char.{is_ascii_digit}
+use Rattle.std.specs.Str.Parse.{digits_value}
+use Rattle.plant_head.specs.Fields.{NameValue, values_named}
+use Rattle.plant_call.specs.Causes.{◌>>=◌}
+use Rattle.plant_call.specs.declared.causes.Cause.{Cause}
+use Rattle.plant_call.specs.declared.causes.Cause.TheVariants.{LengthWrong, BodyTooLong, Chunked}
+
+abbrev pub body_limit : ℕ
+body_limit = 1048576
+
+abbrev pub is_numeral : List ℕ → Bool
+is_numeral text = nat_lt 0 (length text) && list_all is_ascii_digit text
+
+abbrev pub length_in : List ℕ → Result ℕ Cause
+length_in text =
+    if not (is_numeral text) then Err LengthWrong
+    else (if nat_lt body_limit (digits_value 10 text) then Err BodyTooLong else Ok (digits_value 10 text))
+
+-- no field says 0
+abbrev pub length_said : List (List ℕ) → Result ℕ Cause
+length_said [] = Ok 0
+length_said (text ∷ []) = length_in text
+length_said (text ∷ other ∷ texts) = Err LengthWrong
+
+abbrev pub unless_chunked : List (List ℕ) → ℕ → Result ℕ Cause
+unless_chunked [] n = Ok n
+unless_chunked (coding ∷ codings) n = Err Chunked
+
+abbrev pub body_length_in : List NameValue → Result ℕ Cause
+body_length_in fields =
+    length_said (values_named (codes "content-length") fields) >>= unless_chunked (values_named (codes "transfer-encoding") fields)

@@ -1,0 +1,33 @@
+-- The segments of a path.
+use Rattle.std.specs.Prelude.{ℕ, zero, suc, List, [], ◌∷◌, ◌==◌, if◌then◌else◌, Result}
+use Rattle.std.specs.Option.{ok_or}
+use Rattle.plant_types.specs.Text.{unit_code_of, tag_of}
+use Rattle.plant_call.specs.declared.causes.Cause.{Cause}
+use Rattle.plant_call.specs.declared.causes.Cause.TheVariants.{BadPath}
+
+-- the bytes up to the first slash
+abbrev pub until_slash : List ℕ → List ℕ
+until_slash [] = []
+until_slash (b ∷ rest) = if b == 47 then [] else b ∷ until_slash rest
+
+-- the bytes after the first slash
+abbrev pub after_slash : List ℕ → List ℕ
+after_slash [] = []
+after_slash (b ∷ rest) = if b == 47 then rest else after_slash rest
+
+-- the bytes after so many slashes
+unfoldable pub after_slashes : ℕ → List ℕ → List ℕ
+after_slashes zero path = path
+after_slashes (suc n) path = after_slash (after_slashes n path)
+
+-- the segment in its place, counted from the slash that the path begins with
+abbrev pub segment : ℕ → List ℕ → List ℕ
+segment n path = until_slash (after_slashes n path)
+
+-- /units/{unit}
+abbrev pub unit_in : List ℕ → Result (List ℕ) Cause
+unit_in path = ok_or (unit_code_of (segment 2 path)) BadPath
+
+-- /units/{unit}/alarms/{tag}
+abbrev pub tag_in : List ℕ → Result (List ℕ) Cause
+tag_in path = ok_or (tag_of (segment 4 path)) BadPath

@@ -1,0 +1,79 @@
+-- What a request asks for: a definition over its head's parts and its body.
+use Rattle.std.specs.Prelude.{ℕ, List, [], ◌∷◌, codes, Result, Ok, Err}
+use Rattle.std.specs.Option.{ok_or}
+use Rattle.plant_types.specs.Text.{person_of}
+use Rattle.plant_types.specs.Moment.{moment_of}
+use Rattle.plant_model.specs.declared.call.Request.{Request}
+use Rattle.plant_model.specs.declared.call.Request.TheVariants as request
+use Rattle.plant_model.specs.declared.call.Call.{Call}
+use Rattle.plant_route.specs.declared.routes.Route.{Route}
+use Rattle.plant_route.specs.declared.routes.Route.TheVariants as route
+use Rattle.plant_route.specs.Routes.{route_of}
+use Rattle.plant_body.specs.Bodies.{read_by, opening_in, granting_in, withdrawal_in, registration_in, timed_shelving_in, one_shot_shelving_in}
+use Rattle.plant_head.specs.Fields.{NameValue, values_named}
+use Rattle.plant_call.specs.Causes.{of_body, ◌>>=◌}
+use Rattle.plant_call.specs.Path.{unit_in, tag_in}
+use Rattle.plant_call.specs.declared.causes.Cause.{Cause}
+use Rattle.plant_call.specs.declared.causes.Cause.TheVariants.{NoRoute, BadPerson, BadMoment}
+
+-- the one value of the field, a person
+abbrev pub person_said : List (List ℕ) → Result (List ℕ) Cause
+person_said [] = Err BadPerson
+person_said (text ∷ []) = ok_or (person_of text) BadPerson
+person_said (text ∷ other ∷ texts) = Err BadPerson
+
+-- the one value of the field, a moment
+abbrev pub moment_said : List (List ℕ) → Result ℕ Cause
+moment_said [] = Err BadMoment
+moment_said (text ∷ []) = ok_or (moment_of text) BadMoment
+moment_said (text ∷ other ∷ texts) = Err BadMoment
+
+-- the request of a route, by the path and the body
+unfoldable pub request_in : Route → List ℕ → List ℕ → Result Request Cause
+request_in route.OpenUnit path body = do
+  unit ← unit_in path
+  opening ← of_body (read_by opening_in body)
+  Ok (request.OpenUnit unit opening.steward opening.matrix opening.quota)
+request_in route.Grant path body = do
+  unit ← unit_in path
+  granting ← of_body (read_by granting_in body)
+  Ok (request.Grant unit granting.person granting.tenure)
+request_in route.Withdraw path body = do
+  unit ← unit_in path
+  withdrawal ← of_body (read_by withdrawal_in body)
+  Ok (request.Withdraw unit withdrawal.person withdrawal.role)
+request_in route.Register path body = do
+  unit ← unit_in path
+  registration ← of_body (read_by registration_in body)
+  Ok (request.Register unit registration.tag registration.latching registration.max)
+request_in route.TimedShelve path body = do
+  unit ← unit_in path
+  tag ← tag_in path
+  shelving ← of_body (read_by timed_shelving_in body)
+  Ok (request.TimedShelve unit tag shelving.seconds shelving.words)
+request_in route.OneShotShelve path body = do
+  unit ← unit_in path
+  tag ← tag_in path
+  words ← of_body (read_by one_shot_shelving_in body)
+  Ok (request.OneShotShelve unit tag words)
+request_in route.Unshelve path body = do
+  unit ← unit_in path
+  tag ← tag_in path
+  Ok (request.Unshelve unit tag)
+request_in route.Status path body = do
+  unit ← unit_in path
+  tag ← tag_in path
+  Ok (request.Status unit tag)
+request_in route.Shelves path body = do
+  unit ← unit_in path
+  Ok (request.Shelves unit)
+request_in route.MyUnits path body = Ok request.MyUnits
+
+-- the call of a request, or its first cause: the route, the person, the moment, the path, the body
+unfoldable pub call_in : List ℕ → List ℕ → List NameValue → List ℕ → Result Call Cause
+call_in method target fields body = do
+  route ← ok_or (route_of method target) NoRoute
+  person ← person_said (values_named (codes "x-person") fields)
+  moment ← moment_said (values_named (codes "x-moment") fields)
+  request ← request_in route target body
+  Ok (record { person = person; moment = moment; request = request })

@@ -1,0 +1,89 @@
+ghost use Rattle.std.specs.Prelude.{◌≡◌};
+ghost use Rattle.plant_call.specs.Causes as spec;
+
+use plant_body::{BodyError, Unfit};
+use plant_ration::MatrixFault;
+use plant_types::Fault;
+use std::alloc::AllocError;
+
+/// Why a request is no call. The first five end the session, since where the next request begins isn't known.
+#[derive(Clone, Copy, Debug, PartialEq, Eq)]
+pub enum Cause {
+    /// What was received can't be the beginning of a head.
+    HeadSyntax,
+    /// No head ends within the bytes that may hold one.
+    HeadTooLong,
+    /// Content-Length comes more than once, or isn't a number in digits.
+    LengthWrong,
+    /// Content-Length is above 1,048,576.
+    BodyTooLong,
+    /// There is a Transfer-Encoding.
+    Chunked,
+    /// No such method and path.
+    NoRoute,
+    /// X-Person isn't there exactly once with a person.
+    BadPerson,
+    /// X-Moment isn't there exactly once with a moment.
+    BadMoment,
+    /// A segment of the path is outside its set.
+    BadPath,
+    /// The body isn't what the call asks for.
+    BadBody,
+    /// The table of cells hasn't the shape of a matrix.
+    MatrixShape,
+    /// The limits between its bands don't rise.
+    BandsNotRising,
+    /// A cell is lower than its neighbours allow.
+    NotOrdered,
+}
+
+/// Why there is no call.
+#[derive(Clone, Copy, Debug)]
+pub(crate) enum CallError {
+    Memory,
+    Because(Cause),
+}
+
+impl From<AllocError> for CallError {
+    ghost use Rattle.std.specs.Prelude.{◌≡◌};
+    ghost use Rattle.plant_call.specs.declared.causes.CallError.TheVariants.{Memory};
+
+    ghost from_gives = { λ _ e. e ≡ Memory };
+
+    fn from(_error: AllocError) -> CallError {
+        CallError::Memory
+    }
+}
+
+impl From<Fault> for CallError {
+    ghost use Rattle.std.specs.Prelude.{◌≡◌};
+    ghost use Rattle.plant_call.specs.declared.causes.CallError.TheVariants.{Memory};
+
+    ghost from_gives = { λ _ e. e ≡ Memory };
+
+    fn from(_fault: Fault) -> CallError {
+        CallError::Memory
+    }
+}
+
+/// The cause that an unfit body is.
+pub(crate) fn body_cause(unfit: Unfit) -> Cause
+    ensures { result ≡ spec.body_cause unfit }
+{
+    match unfit {
+        Unfit::Body => Cause::BadBody,
+        Unfit::Matrix(MatrixFault::Shape) => Cause::MatrixShape,
+        Unfit::Matrix(MatrixFault::BandsNotRising) => Cause::BandsNotRising,
+        Unfit::Matrix(MatrixFault::NotOrdered) => Cause::NotOrdered,
+    }
+}
+
+/// The error that a body's error is.
+pub(crate) fn body_error(error: BodyError) -> CallError
+    ensures { result ≡ spec.body_error error }
+{
+    match error {
+        BodyError::Memory => CallError::Memory,
+        BodyError::Because(unfit) => CallError::Because(body_cause(unfit)),
+    }
+}

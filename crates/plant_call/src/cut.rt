@@ -1,0 +1,110 @@
+ghost use Rattle.std.specs.Prelude.{◌≡◌, ◌≢◌, ◌⊎◌, ◌≤◌, ◌++◌, ℕ, List, length};
+ghost use Rattle.httparse.specs.Grammar.{RequestHead, EndsInTarget};
+ghost use Rattle.httparse.specs.Spans.{IsRequestAt, IsRequestWithin};
+ghost use Rattle.plant_head.specs.Head.{front, IsHopeless};
+ghost use Rattle.plant_call.specs.Front.{Front, waits, answer_to, StandsAtFront};
+ghost use Rattle.plant_call.specs.Cut.{Shows, IsCutOf};
+
+use crate::causes::{CallError, Cause};
+use crate::lengths::body_length;
+use crate::requests::call_in;
+use httparse::spans::{HeaderSpan, RequestSpans};
+use plant_head::{FieldRoom, Heading, front_of, read_head};
+use plant_model::Call;
+use plant_route::Routes;
+use std::alloc::Global;
+
+/// What stands at the front of a buffer.
+#[derive(Drop)]
+pub enum Cut {
+    /// Less than a request.
+    More,
+    /// A call, with the number of bytes of its request.
+    Call(Call, usize),
+    /// A request that is no call, with the number of its bytes.
+    Malformed(Cause, usize),
+    /// Something of which the end isn't known.
+    Broken(Cause),
+    /// A growth was refused.
+    Fault,
+}
+
+fn cut_at(
+    alloc: Global,
+    routes: &Routes,
+    front: &[u8],
+    headers: &[HeaderSpan],
+    spans: RequestSpans,
+    after: &[u8],
+) -> Cut
+    requires within { IsRequestWithin front.now headers.now spans }
+    requires short { length front.now ≤ 16384 }
+    ensures { (head : RequestHead) → IsRequestAt front.now headers.now spans head → Shows result (answer_to head after.now) }
+{
+    let fields = &headers[..spans.headers];
+    let count = match body_length(front, fields) {
+        Ok(count) => count,
+        Err(cause) => return Cut::Broken(cause),
+    };
+    if after.len() < count {
+        return Cut::More;
+    }
+    let length = spans.len + count;
+    match call_in(
+        alloc,
+        routes,
+        spans.method.of(front),
+        spans.path.of(front),
+        front,
+        fields,
+        &after[..count],
+    ) {
+        Ok(call) => Cut::Call(call, length),
+        Err(CallError::Because(cause)) => Cut::Malformed(cause, length),
+        Err(CallError::Memory) => Cut::Fault,
+    }
+}
+
+/// The request at the front of `bytes`, with routes and room for fields that were made before.
+pub fn next_call_with(alloc: Global, routes: &Routes, room: &mut FieldRoom, bytes: &[u8]) -> Cut
+    ensures { IsCutOf bytes.now result }
+{
+    match read_head(bytes, room) {
+        Heading::Waiting => Cut::More,
+        Heading::Malformed => Cut::Broken(Cause::HeadSyntax),
+        Heading::TooLong => Cut::Broken(Cause::HeadTooLong),
+        Heading::Whole(spans) => cut_at(
+            alloc,
+            routes,
+            front_of(bytes),
+            room.spans.as_slice(),
+            spans,
+            &bytes[spans.len..],
+        ),
+    }
+}
+
+/// The request at the front of `bytes`. A request that is no call is told by the first cause that applies; it waits
+/// until its body is whole, but for the causes by which the end of a request isn't known.
+pub fn next_call(alloc: Global, bytes: &[u8]) -> Cut
+    ensures { IsCutOf bytes.now result }
+{
+    let Ok(routes) = Routes::new(alloc) else {
+        return Cut::Fault;
+    };
+    let Ok(mut room) = FieldRoom::new(alloc) else {
+        return Cut::Fault;
+    };
+    next_call_with(alloc, &routes, &mut room, bytes)
+}
+
+/// Two readings of one front are one, save where no continuation is a head and the target is still being read.
+pub fn one_reading()
+    ensures { (bytes : List ℕ) (f g : Front) → StandsAtFront bytes f → StandsAtFront bytes g
+        → (f ≡ g) ⊎ (IsHopeless bytes × EndsInTarget (front bytes)) }
+{}
+
+/// More bytes don't change what stands at the front, unless it waits for them.
+pub fn cuts_agree()
+    ensures { (bytes more : List ℕ) (f : Front) → f ≢ waits → StandsAtFront bytes f → StandsAtFront (bytes ++ more) f }
+{}

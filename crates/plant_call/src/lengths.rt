@@ -1,0 +1,67 @@
+ghost use Rattle.std.specs.Prelude.{◌≡◌, ◌≤◌, ◌+◌, IfOk, IsTrue, min, map, length, All};
+ghost use Rattle.std.specs.List.{list_all};
+ghost use Rattle.std.specs.Char.{is_ascii_digit};
+ghost use Rattle.std.specs.Str.Parse.{digits_value};
+ghost use Rattle.httparse.specs.Spans.{header_bytes, IsHeaderWithin};
+ghost use Rattle.plant_call.specs.Lengths.{is_numeral, length_in, body_length_in};
+
+use crate::causes::Cause;
+use httparse::spans::HeaderSpan;
+use plant_head::{Lookup, field};
+
+pub(crate) const BODY_LIMIT: usize = 1048576;
+
+fn has_digits(text: &[u8]) -> bool
+    ensures { result ≡ list_all is_ascii_digit text.now }
+{
+    text.iter().all(|b| b.is_ascii_digit())
+}
+
+fn is_numeral(text: &[u8]) -> bool
+    ensures { result ≡ is_numeral text.now }
+{
+    !text.is_empty() && has_digits(text)
+}
+
+/// The number, or one more than the limit where it is above that.
+fn capped_value(text: &[u8]) -> usize
+    requires { IsTrue (list_all is_ascii_digit text.now) }
+    ensures { result ≡ min (digits_value 10 text.now) (BODY_LIMIT + 1) }
+{
+    let mut value = 0;
+    for b in text {
+        value = (value * 10 + (*b - b'0') as usize).min(BODY_LIMIT + 1);
+    }
+    value
+}
+
+fn length_in(text: &[u8]) -> Result<usize, Cause>
+    ensures { result ≡ length_in text.now }
+{
+    if !is_numeral(text) {
+        return Err(Cause::LengthWrong);
+    }
+    let value = capped_value(text);
+    if value > BODY_LIMIT {
+        Err(Cause::BodyTooLong)
+    } else {
+        Ok(value)
+    }
+}
+
+/// How many bytes of body follow a head with these fields.
+pub(crate) fn body_length(front: &[u8], headers: &[HeaderSpan]) -> Result<usize, Cause>
+    requires { All (IsHeaderWithin (length front.now)) headers.now }
+    ensures value { result ≡ body_length_in (map (header_bytes front.now) headers.now) }
+    ensures bound { IfOk result (λ n. n ≤ BODY_LIMIT) }
+{
+    let said = match field(front, headers, b"content-length") {
+        Lookup::Missing => 0,
+        Lookup::Once(text) => length_in(text)?,
+        Lookup::Repeated => return Err(Cause::LengthWrong),
+    };
+    match field(front, headers, b"transfer-encoding") {
+        Lookup::Missing => Ok(said),
+        _ => Err(Cause::Chunked),
+    }
+}

@@ -1,0 +1,14 @@
+//! The request at the front of a buffer.
+#![tactic(auto)]
+
+mod causes;
+mod cut;
+mod lengths;
+mod path;
+mod requests;
+
+pub use causes::Cause;
+pub use cut::{Cut, cuts_agree, next_call, next_call_with, one_reading};
+
+#[cfg(test)]
+mod tests;

@@ -1,0 +1,50 @@
+ghost use Rattle.std.specs.Prelude.{◌≡◌};
+ghost use Rattle.plant_call.specs.Causes.{Gives};
+ghost use Rattle.plant_call.specs.Path.{until_slash, after_slash, after_slashes, segment, unit_in, tag_in};
+
+use crate::causes::{CallError, Cause};
+use plant_types::{Tag, UnitCode};
+use std::alloc::Global;
+
+/// The bytes before the first slash, and those after it.
+fn split_at_slash(path: &[u8]) -> (&[u8], &[u8])
+    ensures before { result.0.now ≡ until_slash path.now }
+    ensures after { result.1.now ≡ after_slash path.now }
+{
+    for (i, b) in path.iter().enumerate() {
+        if *b == b'/' {
+            return (&path[..i], &path[i + 1..]);
+        }
+    }
+    (path, &path[path.len()..])
+}
+
+fn segment(path: &[u8], n: usize) -> &[u8]
+    ensures { result.now ≡ segment n path.now }
+{
+    let mut rest = path;
+    for _slash in 0..n {
+        rest = split_at_slash(rest).1;
+    }
+    split_at_slash(rest).0
+}
+
+/// The unit that the path names.
+pub(crate) fn unit_in(alloc: Global, path: &[u8]) -> Result<UnitCode, CallError>
+    ensures { Gives result (unit_in path.now) }
+{
+    match UnitCode::read(alloc, segment(path, 2))? {
+        Some(unit) => Ok(unit),
+        None => Err(CallError::Because(Cause::BadPath)),
+    }
+}
+
+/// The tag that the path names.
+pub(crate) fn tag_in(alloc: Global, path: &[u8]) -> Result<Tag, CallError>
+    ensures { Gives result (tag_in path.now) }
+{
+    match Tag::read(alloc, segment(path, 4))? {
+        Some(tag) => Ok(tag),
+        None => Err(CallError::Because(Cause::BadPath)),
+    }
+}

@@ -1,0 +1,200 @@
+ghost use Rattle.std.specs.Prelude.{◌≡◌, ◌≤◌, codes, map, length, All};
+ghost use Rattle.std.specs.Option.{ok_or};
+ghost use Rattle.httparse.specs.Spans.{header_bytes, IsHeaderWithin};
+ghost use Rattle.plant_head.specs.Fields.{values_named};
+ghost use Rattle.plant_route.specs.Routes.{route_of};
+ghost use Rattle.plant_route.specs.declared.routes.Route.TheVariants as route;
+ghost use Rattle.plant_body.specs.declared.members.Unfit.{Unfit};
+ghost use Rattle.plant_body.specs.Members as body;
+ghost use Rattle.plant_call.specs.declared.causes.Cause.TheVariants.{NoRoute};
+ghost use Rattle.plant_call.specs.Causes.{Gives, of_body};
+ghost use Rattle.plant_call.specs.Reading.{person_said, moment_said, request_in, call_in};
+ghost use Rattle.std.specs.Prelude.{Result};
+
+use crate::causes::{CallError, Cause, body_error};
+use crate::path::{tag_in, unit_in};
+use httparse::spans::HeaderSpan;
+use plant_body::{
+    BodyError, Granting, Opening, Registration, TimedShelving, Withdrawal, read_granting,
+    read_one_shot_shelving, read_opening, read_registration, read_timed_shelving, read_withdrawal,
+};
+use plant_head::{Lookup, field};
+use plant_model::{Call, Request};
+use plant_route::{Route, Routes};
+use plant_types::{Moment, Person};
+use std::alloc::Global;
+
+/// What a body gives, with the error of a call.
+fn of_body<T>(read: Result<T, BodyError>) -> Result<T, CallError>
+    ensures { (given : Result T Unfit) → body.Gives read given → Gives result (of_body given) }
+{
+    match read {
+        Ok(value) => Ok(value),
+        Err(e) => Err(body_error(e)),
+    }
+}
+
+fn person_in(alloc: Global, front: &[u8], headers: &[HeaderSpan]) -> Result<Person, CallError>
+    requires { All (IsHeaderWithin (length front.now)) headers.now }
+    ensures { Gives result (person_said (values_named (codes "x-person") (map (header_bytes front.now) headers.now))) }
+{
+    let Lookup::Once(text) = field(front, headers, b"x-person") else {
+        return Err(CallError::Because(Cause::BadPerson));
+    };
+    match Person::read(alloc, text)? {
+        Some(person) => Ok(person),
+        None => Err(CallError::Because(Cause::BadPerson)),
+    }
+}
+
+fn moment_in(front: &[u8], headers: &[HeaderSpan]) -> Result<Moment, CallError>
+    requires { All (IsHeaderWithin (length front.now)) headers.now }
+    ensures { Gives result (moment_said (values_named (codes "x-moment") (map (header_bytes front.now) headers.now))) }
+{
+    let Lookup::Once(text) = field(front, headers, b"x-moment") else {
+        return Err(CallError::Because(Cause::BadMoment));
+    };
+    match Moment::read(text) {
+        Some(moment) => Ok(moment),
+        None => Err(CallError::Because(Cause::BadMoment)),
+    }
+}
+
+#[tactic(auto, unfolding(crate::specs::Reading::request_in))]
+fn open_unit(alloc: Global, path: &[u8], body: &[u8]) -> Result<Request, CallError>
+    ensures { Gives result (request_in route.OpenUnit path.now body.now) }
+{
+    let unit = unit_in(alloc, path)?;
+    let Opening {
+        steward,
+        matrix,
+        quota,
+    } = of_body(read_opening(alloc, body))?;
+    Ok(Request::OpenUnit {
+        unit,
+        steward,
+        matrix,
+        quota,
+    })
+}
+
+#[tactic(auto, unfolding(crate::specs::Reading::request_in))]
+fn grant(alloc: Global, path: &[u8], body: &[u8]) -> Result<Request, CallError>
+    ensures { Gives result (request_in route.Grant path.now body.now) }
+{
+    let unit = unit_in(alloc, path)?;
+    let Granting { person, tenure } = of_body(read_granting(alloc, body))?;
+    Ok(Request::Grant {
+        unit,
+        person,
+        tenure,
+    })
+}
+
+#[tactic(auto, unfolding(crate::specs::Reading::request_in))]
+fn withdraw(alloc: Global, path: &[u8], body: &[u8]) -> Result<Request, CallError>
+    ensures { Gives result (request_in route.Withdraw path.now body.now) }
+{
+    let unit = unit_in(alloc, path)?;
+    let Withdrawal { person, role } = of_body(read_withdrawal(alloc, body))?;
+    Ok(Request::Withdraw { unit, person, role })
+}
+
+#[tactic(auto, unfolding(crate::specs::Reading::request_in))]
+fn register(alloc: Global, path: &[u8], body: &[u8]) -> Result<Request, CallError>
+    ensures { Gives result (request_in route.Register path.now body.now) }
+{
+    let unit = unit_in(alloc, path)?;
+    let Registration { tag, latching, max } = of_body(read_registration(alloc, body))?;
+    Ok(Request::Register {
+        unit,
+        tag,
+        latching,
+        max,
+    })
+}
+
+#[tactic(auto, unfolding(crate::specs::Reading::request_in))]
+fn timed_shelve(alloc: Global, path: &[u8], body: &[u8]) -> Result<Request, CallError>
+    ensures { Gives result (request_in route.TimedShelve path.now body.now) }
+{
+    let unit = unit_in(alloc, path)?;
+    let tag = tag_in(alloc, path)?;
+    let TimedShelving { seconds, words } = of_body(read_timed_shelving(alloc, body))?;
+    Ok(Request::TimedShelve {
+        unit,
+        tag,
+        seconds,
+        words,
+    })
+}
+
+#[tactic(auto, unfolding(crate::specs::Reading::request_in))]
+fn one_shot_shelve(alloc: Global, path: &[u8], body: &[u8]) -> Result<Request, CallError>
+    ensures { Gives result (request_in route.OneShotShelve path.now body.now) }
+{
+    let unit = unit_in(alloc, path)?;
+    let tag = tag_in(alloc, path)?;
+    let words = of_body(read_one_shot_shelving(alloc, body))?;
+    Ok(Request::OneShotShelve { unit, tag, words })
+}
+
+#[tactic(auto, unfolding(crate::specs::Reading::request_in))]
+fn request_in(alloc: Global, route: Route, path: &[u8], body: &[u8]) -> Result<Request, CallError>
+    ensures { Gives result (request_in route path.now body.now) }
+{
+    match route {
+        Route::OpenUnit => open_unit(alloc, path, body),
+        Route::Grant => grant(alloc, path, body),
+        Route::Withdraw => withdraw(alloc, path, body),
+        Route::Register => register(alloc, path, body),
+        Route::TimedShelve => timed_shelve(alloc, path, body),
+        Route::OneShotShelve => one_shot_shelve(alloc, path, body),
+        Route::Unshelve => Ok(Request::Unshelve {
+            unit: unit_in(alloc, path)?,
+            tag: tag_in(alloc, path)?,
+        }),
+        Route::Status => Ok(Request::Status {
+            unit: unit_in(alloc, path)?,
+            tag: tag_in(alloc, path)?,
+        }),
+        Route::Shelves => Ok(Request::Shelves {
+            unit: unit_in(alloc, path)?,
+        }),
+        Route::MyUnits => Ok(Request::MyUnits),
+    }
+}
+
+fn route_in(routes: &Routes, method: &[u8], target: &[u8]) -> Result<Route, CallError>
+    ensures { Gives result (ok_or (route_of method.now target.now) NoRoute) }
+{
+    match routes.of(method, target) {
+        Some(route) => Ok(route),
+        None => Err(CallError::Because(Cause::NoRoute)),
+    }
+}
+
+/// The call of a request, by its method, its target, its fields and its body.
+#[tactic(auto, unfolding(crate::specs::Reading::call_in))]
+pub(crate) fn call_in(
+    alloc: Global,
+    routes: &Routes,
+    method: &[u8],
+    target: &[u8],
+    front: &[u8],
+    headers: &[HeaderSpan],
+    body: &[u8],
+) -> Result<Call, CallError>
+    requires { All (IsHeaderWithin (length front.now)) headers.now }
+    ensures { Gives result (call_in method.now target.now (map (header_bytes front.now) headers.now) body.now) }
+{
+    let route = route_in(routes, method, target)?;
+    let person = person_in(alloc, front, headers)?;
+    let moment = moment_in(front, headers)?;
+    let request = request_in(alloc, route, target, body)?;
+    Ok(Call {
+        person,
+        moment,
+        request,
+    })
+}

@@ -1,0 +1,38 @@
+-- What stands at the front of a stream of requests, as far as the head goes: a definition over the bytes
+-- alone. `ReadsRequest` is httparse's grammar of a head.
+use Rattle.std.specs.Prelude.{ℕ, ◌<◌, ◌≤◌, List, length, take}
+use Rattle.httparse.specs.declared.spans.HeaderSpan.{HeaderSpan}
+use Rattle.httparse.specs.Grammar.{RequestHead, ReadsRequest, HasNoRequest, NeverHasRequest, MayBecomeRequest}
+use Rattle.httparse.specs.Spans.{IsRequestAt, IsRequestWithin}
+use Rattle.plant_head.specs.declared.heading.Heading.{Heading}
+use Rattle.plant_head.specs.declared.heading.Heading.TheVariants.{Waiting, Malformed, TooLong, Whole}
+
+-- only so many bytes are ever taken as a head
+abbrev pub head_limit : ℕ
+head_limit = 16384
+
+-- the bytes that may hold the head
+abbrev pub front : List ℕ → List ℕ
+front bytes = take head_limit bytes
+
+-- the bytes begin with this head
+abbrev pub BeginsWith : List ℕ → RequestHead → Type 0
+BeginsWith bytes head = (rest : List ℕ) × ReadsRequest (front bytes) head rest
+
+-- no bytes can follow that give a head
+abbrev pub IsHopeless : List ℕ → Type 0
+IsHopeless bytes = NeverHasRequest (front bytes)
+
+-- there is no head yet; and more bytes can make one, or the request's target is still being read
+pub record IsUnfinished (bytes : List ℕ) : Type 0 where
+  pub none : HasNoRequest (front bytes)
+  pub unfinished : MayBecomeRequest (front bytes)
+
+-- what `read_head` answers
+abbrev pub IsHeading : List ℕ → List HeaderSpan → Heading → Type 0
+IsHeading bytes headers Waiting = IsUnfinished bytes × (length bytes < head_limit)
+IsHeading bytes headers TooLong = IsUnfinished bytes × (head_limit ≤ length bytes)
+IsHeading bytes headers Malformed = IsHopeless bytes
+IsHeading bytes headers (Whole spans) =
+    ((head : RequestHead) × IsRequestAt (front bytes) headers spans head)
+    × IsRequestWithin (front bytes) headers spans

@@ -1,0 +1,76 @@
+ghost use Rattle.std.specs.Prelude.{◌≡◌, ◌≤◌, IfErr, length};
+ghost use Rattle.plant_head.specs.declared.heading.TheConstants.{FIELD_ROOM};
+ghost use Rattle.plant_types.specs.declared.fault.Fault.TheVariants.{Memory};
+ghost use Rattle.plant_head.specs.Head.{front, IsHeading};
+
+use httparse::Status;
+use httparse::spans::{EMPTY_HEADER_SPAN, HeaderSpan, RequestSpans, parse_request};
+use plant_types::Fault;
+use std::alloc::Global;
+
+/// Only so many bytes are ever taken as a head.
+pub const HEAD_LIMIT: usize = 16384;
+
+/// More fields than `HEAD_LIMIT` bytes can hold, since a field takes three bytes at least.
+const FIELD_ROOM: usize = 5461;
+
+/// Room for the fields of any head, made once and used for one head after another.
+#[derive(Drop)]
+pub struct FieldRoom {
+    pub spans: Vec<HeaderSpan>,
+    ghost enough: { FIELD_ROOM ≤ length spans.items },
+}
+
+impl FieldRoom {
+    /// Empty room.
+    pub fn new(alloc: Global) -> Result<FieldRoom, Fault>
+        ensures { IfErr result (λ e. e ≡ Memory) }
+    {
+        Ok(FieldRoom {
+            spans: vec![in alloc; EMPTY_HEADER_SPAN; FIELD_ROOM]?,
+        })
+    }
+}
+
+/// What stands at the front of a buffer, as far as the head goes.
+#[derive(Clone, Copy, Debug)]
+pub enum Heading {
+    /// Less than a head.
+    Waiting,
+    /// Nothing that can become a head.
+    Malformed,
+    /// No head ends within the bytes that may hold one.
+    TooLong,
+    /// A head, with the places of its parts.
+    Whole(RequestSpans),
+}
+
+/// The bytes that may hold the head.
+pub fn front_of(bytes: &[u8]) -> &[u8]
+    ensures value { result.now ≡ front bytes.now }
+    ensures short { length result.now ≤ HEAD_LIMIT }
+    ensures within { length result.now ≤ length bytes.now }
+{
+    if bytes.len() < HEAD_LIMIT {
+        bytes
+    } else {
+        &bytes[..HEAD_LIMIT]
+    }
+}
+
+/// Reads the head at the front of `bytes`. Of a whole head the fields are in `room`.
+pub fn read_head(bytes: &[u8], room: &mut FieldRoom) -> Heading
+    ensures { IsHeading bytes.now room.new.spans.items result }
+{
+    match parse_request(front_of(bytes), room.spans.as_mut_slice()) {
+        Ok(Status::Complete(spans)) => Heading::Whole(spans),
+        Ok(Status::Partial) => {
+            if bytes.len() < HEAD_LIMIT {
+                Heading::Waiting
+            } else {
+                Heading::TooLong
+            }
+        }
+        Err(_) => Heading::Malformed,
+    }
+}

@@ -1,0 +1,11 @@
+//! The head of a request at the front of a buffer, and its fields.
+#![tactic(auto)]
+
+mod fields;
+mod heading;
+
+pub use fields::{Lookup, field};
+pub use heading::{FieldRoom, HEAD_LIMIT, Heading, front_of, read_head};
+
+#[cfg(test)]
+mod tests;

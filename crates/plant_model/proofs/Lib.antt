@@ -1,0 +1,20 @@
+pub mod PlaceOrders
+pub mod PutLaws
+pub mod HistoryLaws
+pub mod FactLaws
+pub mod HeldLaws
+pub mod MatrixLaws
+pub mod ChangeLaws
+pub mod AcceptLaws
+pub mod PartLaws
+pub mod WorldLaws
+pub mod PurgeLaws
+pub mod LegalLaws
+pub mod EndLaws
+pub mod QuotaLaws
+pub mod Base
+mod WorkedShelves
+mod WorkedGrants
+mod WorkedWorld
+mod WorkedQuota
+mod WorkedRows

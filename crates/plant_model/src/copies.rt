@@ -1,0 +1,125 @@
+ghost use Rattle.std.specs.Prelude.{◌≡◌};
+ghost use Rattle.plant_model.specs.RowChanges.{no_rows};
+
+use crate::{AlarmRow, BandRow, CellRow, Change, GrantRow, Key, Row, ShelfRow, UnitRow, UnitRows};
+use plant_types::{Duplicate, Fault, Table};
+use std::alloc::Global;
+
+impl UnitRows {
+    /// No row in any table, as of a unit before its opening. It takes no memory.
+    pub fn none(alloc: Global) -> UnitRows
+        ensures { result ≡ no_rows }
+    {
+        UnitRows {
+            units: Table::new(alloc),
+            grants: Table::new(alloc),
+            alarms: Table::new(alloc),
+            shelves: Table::new(alloc),
+            bands: Table::new(alloc),
+            cells: Table::new(alloc),
+        }
+    }
+}
+
+impl Duplicate for UnitRows {
+    fn duplicate(&self, alloc: Global) -> Result<UnitRows, Fault> {
+        Ok(UnitRows {
+            units: self.units.duplicate(alloc)?,
+            grants: self.grants.duplicate(alloc)?,
+            alarms: self.alarms.duplicate(alloc)?,
+            shelves: self.shelves.duplicate(alloc)?,
+            bands: self.bands.duplicate(alloc)?,
+            cells: self.cells.duplicate(alloc)?,
+        })
+    }
+}
+
+impl Duplicate for UnitRow {
+    fn duplicate(&self, _alloc: Global) -> Result<UnitRow, Fault> {
+        Ok(*self)
+    }
+}
+
+impl Duplicate for GrantRow {
+    fn duplicate(&self, alloc: Global) -> Result<GrantRow, Fault> {
+        Ok(GrantRow {
+            person: self.person.duplicate(alloc)?,
+            role_no: self.role_no,
+            end_s: self.end_s,
+        })
+    }
+}
+
+impl Duplicate for AlarmRow {
+    fn duplicate(&self, alloc: Global) -> Result<AlarmRow, Fault> {
+        Ok(AlarmRow {
+            tag: self.tag.duplicate(alloc)?,
+            latching: self.latching,
+            max_s: self.max_s,
+            max_rev: self.max_rev,
+            state_no: self.state_no,
+            suppressed: self.suppressed,
+            active_s: self.active_s,
+            return_s: self.return_s,
+            out_s: self.out_s,
+            out_by: self.out_by.duplicate(alloc)?,
+            out_words: self.out_words.duplicate(alloc)?,
+        })
+    }
+}
+
+impl Duplicate for ShelfRow {
+    fn duplicate(&self, alloc: Global) -> Result<ShelfRow, Fault> {
+        Ok(ShelfRow {
+            tag: self.tag.duplicate(alloc)?,
+            one_shot: self.one_shot,
+            start_s: self.start_s,
+            until_s: self.until_s,
+            person: self.person.duplicate(alloc)?,
+            words: self.words.duplicate(alloc)?,
+        })
+    }
+}
+
+impl Duplicate for BandRow {
+    fn duplicate(&self, _alloc: Global) -> Result<BandRow, Fault> {
+        Ok(*self)
+    }
+}
+
+impl Duplicate for CellRow {
+    fn duplicate(&self, _alloc: Global) -> Result<CellRow, Fault> {
+        Ok(*self)
+    }
+}
+
+impl Duplicate for Row {
+    fn duplicate(&self, alloc: Global) -> Result<Row, Fault> {
+        Ok(match self {
+            Row::Unit(row) => Row::Unit(*row),
+            Row::Grant(row) => Row::Grant(row.duplicate(alloc)?),
+            Row::Alarm(row) => Row::Alarm(row.duplicate(alloc)?),
+            Row::Shelf(row) => Row::Shelf(row.duplicate(alloc)?),
+            Row::Band(row) => Row::Band(*row),
+            Row::Cell(row) => Row::Cell(*row),
+        })
+    }
+}
+
+impl Duplicate for Key {
+    fn duplicate(&self, alloc: Global) -> Result<Key, Fault> {
+        Ok(match self {
+            Key::Grant(person, role) => Key::Grant(person.duplicate(alloc)?, *role),
+            Key::Shelf(tag) => Key::Shelf(tag.duplicate(alloc)?),
+        })
+    }
+}
+
+impl Duplicate for Change {
+    fn duplicate(&self, alloc: Global) -> Result<Change, Fault> {
+        Ok(match self {
+            Change::Put(row) => Change::Put(row.duplicate(alloc)?),
+            Change::Remove(key) => Change::Remove(key.duplicate(alloc)?),
+        })
+    }
+}

@@ -1,0 +1,295 @@
+-- Books that hold the rows of a world, and what a call does to them.
+use Rattle.std.proofs.Common.{ap, arith, inl, inr, refl, subst, sym, ◌∙◌}
+use Rattle.std.proofs.lemmas.Bool.Decides.{nat_tests}
+use Rattle.std.specs.FinMap.{contains_key, get, get-insert, keys}
+use Rattle.std.specs.List.{cons_option}
+use Rattle.std.specs.Prelude.{Bool, Err, IfOk, List, None, Ok, OnErr, Option, Result, Some, [], cond, false, filter_map, fold, if◌then◌else◌, is_ok, is_some, map, max, nat_lt, not, option_map, true, unwrap_or, ℕ, ◌<◌, ◌∷◌, ◌≡◌, ◌≤◌}
+use Rattle.plant_books.specs.declared.books.MineUnit.{MineUnit}
+use Rattle.plant_model.specs.declared.call.Call.{Call}
+use Rattle.plant_model.specs.declared.call.Request.{Request}
+use Rattle.plant_model.specs.declared.call.Request.TheVariants.{OpenUnit}
+use Rattle.plant_model.specs.declared.reply.Answer.{Answer}
+use Rattle.plant_model.specs.declared.reply.Answer.TheVariants.{Fault as Faulted, Refused as WasRefused, Reply as Replied}
+use Rattle.plant_model.specs.declared.reply.Refused.{Refused}
+use Rattle.plant_model.specs.declared.reply.Refused.TheVariants.{MomentBehind, NotGranted}
+use Rattle.plant_model.specs.declared.reply.Reply.{Reply}
+use Rattle.plant_model.specs.declared.reply.Reply.TheVariants.{Units}
+use Rattle.plant_model.specs.declared.reply.UnitLine.{UnitLine}
+use Rattle.plant_model.specs.declared.rows.Change.{Change}
+use Rattle.plant_model.specs.declared.rows.UnitPart.{UnitPart}
+use Rattle.plant_model.specs.declared.rows.UnitRows.{UnitRows}
+use Rattle.plant_model.specs.declared.rows.Verdict.{Verdict}
+use Rattle.plant_model.specs.declared.rows.Verdict.TheVariants.{Accepted as IsAccepted, Refused as IsRefused}
+use Rattle.plant_types.specs.declared.fault.Fault.{Fault}
+use Rattle.plant_books.specs.Contents.{Content, IsKnownTo, after_changes, mine_unit, mine_units, part_in, rows_in, with_rows}
+use Rattle.plant_books.specs.Counting.{Counts}
+use Rattle.plant_model.proofs.HeldLaws.{any_of_rows, roles_of_rows}
+use Rattle.plant_model.proofs.LegalLaws.{next_legal, own_units_after, same_unit, there_of_held}
+use Rattle.plant_model.proofs.WorldLaws.{Said, equal_views, not_granted, refused_changes, same_keys, same_seen, view_alike}
+use Rattle.plant_model.specs.Grants.{held, holds_any, roles_held}
+use Rattle.plant_model.specs.Histories.{last_moment}
+use Rattle.plant_model.specs.Legality.{has_matrix}
+use Rattle.plant_model.specs.Parts.{part_of}
+use Rattle.plant_model.specs.Replies.{reply}
+use Rattle.plant_model.specs.RowChanges.{changed_by, no_rows}
+use Rattle.plant_model.specs.Rows.{rows_of}
+use Rattle.plant_model.specs.Verdicts.{changes_history, is_opening, is_read, verdict}
+use Rattle.plant_model.specs.Views.{view}
+use Rattle.plant_model.specs.Worlds.{IsLegalWorld, World, answer, answer_at, answer_of_units, by_admin, greatest_last, history, is_taken, next, next_at, opening, unit_lines, unit_named, unit_seen, units_held, with_call}
+use Rattle.plant_office.specs.Answers.{CountsAnswer, IfSaid, OnFault, answer_as}
+use Rattle.plant_office.specs.Lines.{line_of_mine}
+use Rattle.plant_office.specs.Runs.{IsAlike}
+use Rattle.plant_office.specs.Served.{Holds, IsIsolated, IsOwnUnit, IsServed}
+use Rattle.plant_types.proofs.DateTests.{left}
+use Rattle.plant_types.proofs.Orders.{name_total}
+use Rattle.plant_types.specs.Names.{Name, same_name}
+use Rattle.plant_types.specs.Options.{when}
+use Rattle.plant_unit.specs.Judged.{IsOpening, IsPartOf, IsVerdictOn}
+
+-- a call was answered as the world answers it, and these contents hold the rows of the world after it
+pub record Serves (w : World) (c : Call) (a : Said) (left : Content → Type 0) : Type 0 where
+  pub answered : a ≡ answer w c
+  pub after : Content
+  pub left_it : left after
+  pub holds : Holds after (next w c)
+
+part_left : (w : World) (c : Call) (u : Name) (o : Option (List Call)) → IsLegalWorld w → get w.units u ≡ o → IsPartOf (option_map (part_of c) (option_map rows_of o)) (unwrap_or o []) c
+part_left w c u None legal is = refl
+part_left w c u (Some h) legal is = (refl, legal u h is)
+
+-- the part that the books give of a unit is that of the rows that its history leaves
+held_part : (b : Content) (w : World) (c : Call) (u : Name) → IsLegalWorld w → Holds b w → IsPartOf (part_in b c u) (history w u) c
+held_part b w c u legal h = subst (λ o. IsPartOf (option_map (part_of c) o) (history w u) c) (sym (h.rows u)) (part_left w c u (get w.units u) legal refl)
+
+-- the rows of a unit that is there
+rows_there : (b : Content) (w : World) (u : Name) (h : List Call) → Holds b w → get w.units u ≡ Some h → rows_in b u ≡ rows_of h
+rows_there b w u h holds is = ap (λ o. unwrap_or o no_rows) (holds.rows u ∙ ap (option_map rows_of) is)
+
+no_rows_there : (b : Content) (w : World) (u : Name) → Holds b w → get w.units u ≡ None → rows_in b u ≡ no_rows
+no_rows_there b w u holds is = ap (λ o. unwrap_or o no_rows) (holds.rows u ∙ ap (option_map rows_of) is)
+
+-- a unit that accepts a change is there
+there_of_accepted : (w : World) (c : Call) (u : Name) → changes_history (verdict (history w u) c) c ≡ true → get w.units u ≡ Some (history w u)
+there_of_accepted w c u changing =
+    elim (holds_any (history w u) c.moment c.person) as (λ b. holds_any (history w u) c.moment c.person ≡ b → get w.units u ≡ Some (history w u)) [
+      | true ↦ λ holds. there_of_held w c.moment c.person u holds
+      | false ↦ λ none. absurd (refused_changes (verdict (history w u) c) c NotGranted (not_granted (history w u) c none) changing)
+    ] refl
+
+is_some-map : (o : Option (List Call)) → is_some (option_map rows_of o) ≡ is_some o
+is_some-map None = refl
+is_some-map (Some h) = refl
+
+held_taken : (b : Content) (w : World) (u : Name) → Holds b w → contains_key b.units u ≡ is_taken w u
+held_taken b w u h = ap is_some (h.rows u) ∙ is_some-map (get w.units u)
+
+kept : (b : Content) (w : World) (c : Call) (u : Name) (a : Said) → Holds b w → answer_at w c (Some u) ≡ a → changes_history a c ≡ false → Holds b (next_at w c (Some u))
+kept b w c u a h is plain = subst (λ x. Holds b (if x then with_call w c u else w)) (sym (ap (λ x. changes_history x c) is ∙ plain)) h
+
+put : (b : Content) (w : World) (c : Call) (u : Name) (a : Said) (rows : UnitRows) → Holds b w → answer_at w c (Some u) ≡ a → changes_history a c ≡ true → rows ≡ rows_of (c ∷ history w u) → Holds (with_rows b u rows) (next_at w c (Some u))
+put b w c u a rows h is changing left =
+    subst (λ x. Holds (with_rows b u rows) (if x then with_call w c u else w)) (sym (ap (λ x. changes_history x c) is ∙ changing))
+    (record {
+      same_admin = h.same_admin;
+      rows = λ q. get-insert name_total b.units u rows q
+          ∙ elim (same_name q u) as (λ t. cond t (Some rows) (get b.units q) ≡ option_map rows_of (cond t (Some (c ∷ history w u)) (get w.units q))) [ true ↦ ap (λ r. Some r) left | false ↦ h.rows q ]
+          ∙ sym (ap (option_map rows_of) (get-insert name_total w.units u (c ∷ history w u) q));
+    })
+
+served : (b : Content) (w : World) (c : Call) (u : Name) (a : Said) → unit_named c.request ≡ Some u → answer_at w c (Some u) ≡ a → Holds b (next_at w c (Some u)) → Serves w c a (λ m. m ≡ b)
+served b w c u a named is h =
+    record {
+      answered = sym (ap (answer_at w c) named ∙ is);
+      after = b;
+      left_it = refl;
+      holds = subst (λ o. Holds b (next_at w c o)) (sym named) h;
+    }
+
+not_opening_answer : (w : World) (c : Call) (u : Name) → is_opening c.request ≡ false → answer_at w c (Some u) ≡ verdict (history w u) c
+not_opening_answer w c u e = ap (λ x. if x then opening (by_admin w c) (is_taken w u) else verdict (history w u) c) e
+
+opening_answer : (w : World) (c : Call) (u : Name) → is_opening c.request ≡ true → answer_at w c (Some u) ≡ opening (by_admin w c) (is_taken w u)
+opening_answer w c u e = ap (λ x. if x then opening (by_admin w c) (is_taken w u) else verdict (history w u) c) e
+
+-- a call on a unit that is there or not, and is no opening
+pub refused_call : (b : Content) (w : World) (c : Call) (u : Name) (r : Refused) → Holds b w → unit_named c.request ≡ Some u → is_opening c.request ≡ false → IsVerdictOn (history w u) c (IsRefused r) → Serves w c (Err r) (λ m. m ≡ b)
+refused_call b w c u r h named plain v =
+    let is : answer_at w c (Some u) ≡ Err r = not_opening_answer w c u plain ∙ sym v.answer in
+    served b w c u (Err r) named is (kept b w c u (Err r) h is refl)
+
+pub read_call : (b : Content) (w : World) (c : Call) (u : Name) (reply : Reply) (cs : List Change) → Holds b w → unit_named c.request ≡ Some u → is_opening c.request ≡ false → is_read c.request ≡ true → IsVerdictOn (history w u) c (IsAccepted reply cs) → Serves w c (Ok reply) (λ m. m ≡ b)
+read_call b w c u reply cs h named plain read v =
+    let is : answer_at w c (Some u) ≡ Ok reply = not_opening_answer w c u plain ∙ sym v.answer in
+    served b w c u (Ok reply) named is (kept b w c u (Ok reply) h is (ap not read))
+
+pub changing_call : (b : Content) (w : World) (c : Call) (u : Name) (reply : Reply) (cs : List Change) → Holds b w → unit_named c.request ≡ Some u → is_opening c.request ≡ false → is_read c.request ≡ false → IsVerdictOn (history w u) c (IsAccepted reply cs) → Serves w c (Ok reply) (λ m. m ≡ after_changes b u cs)
+changing_call b w c u reply cs h named plain read v =
+    let is : answer_at w c (Some u) ≡ Ok reply = not_opening_answer w c u plain ∙ sym v.answer in
+    let changing : changes_history (Ok reply) c ≡ true = ap not read in
+    let accepted : changes_history (verdict (history w u) c) c ≡ true = ap (λ x. changes_history x c) (sym v.answer) ∙ changing in
+    let there = there_of_accepted w c u accepted in
+    let left = ap (changed_by cs) (rows_there b w u (history w u) h there) ∙ v.changes ∙ ap (λ x. rows_of (if x then c ∷ history w u else history w u)) accepted in
+    served _ w c u (Ok reply) named is (put b w c u (Ok reply) _ h is changing left)
+
+-- an opening
+pub refused_opening : (b : Content) (w : World) (c : Call) (u : Name) (r : Refused) → Holds b w → unit_named c.request ≡ Some u → is_opening c.request ≡ true → IsOpening (by_admin w c) (is_taken w u) c (IsRefused r) → Serves w c (Err r) (λ m. m ≡ b)
+refused_opening b w c u r h named opens v =
+    let is : answer_at w c (Some u) ≡ Err r = opening_answer w c u opens ∙ sym v.answer in
+    served b w c u (Err r) named is (kept b w c u (Err r) h is refl)
+
+taken_of : (admin taken : Bool) → is_ok (opening admin taken) ≡ true → taken ≡ false
+taken_of true true e = cc
+taken_of true false e = refl
+taken_of false taken e = cc
+
+not_there : (w : World) (u : Name) → is_taken w u ≡ false → get w.units u ≡ None
+not_there w u = elim (get w.units u) as (λ o. is_some o ≡ false → o ≡ None) [ None ↦ λ h. refl | Some h ↦ λ e. cc ]
+
+opening_changes : (q : Request) → is_opening q ≡ true → is_read q ≡ false
+opening_changes (OpenUnit u s m q) e = refl
+opening_changes _ e = cc
+
+pub accepted_opening : (b : Content) (w : World) (c : Call) (u : Name) (reply : Reply) (cs : List Change) → Holds b w → unit_named c.request ≡ Some u → is_opening c.request ≡ true → IsOpening (by_admin w c) (is_taken w u) c (IsAccepted reply cs) → Serves w c (Ok reply) (λ m. m ≡ after_changes b u cs)
+accepted_opening b w c u reply cs h named opens v =
+    let is : answer_at w c (Some u) ≡ Ok reply = opening_answer w c u opens ∙ sym v.answer in
+    let changing : changes_history (Ok reply) c ≡ true = ap not (opening_changes c.request opens) in
+    let okay : is_ok (opening (by_admin w c) (is_taken w u)) ≡ true = ap is_ok (sym v.answer) in
+    let none : get w.units u ≡ None = not_there w u (taken_of (by_admin w c) (is_taken w u) okay) in
+    let left = ap (changed_by cs) (no_rows_there b w u h none) ∙ v.changes okay ∙ ap (λ o. rows_of (c ∷ unwrap_or o [])) (sym none) in
+    served _ w c u (Ok reply) named is (put b w c u (Ok reply) _ h is changing left)
+
+-- what the office makes of the keeper's answers
+pub opening_of : (b : Content) (w : World) (c : Call) (u admin : Name) (taken : Bool) (v : Verdict) → Holds b w → admin ≡ b.admin → taken ≡ contains_key b.units u → IsOpening (same_name c.person admin) taken c v → IsOpening (by_admin w c) (is_taken w u) c v
+opening_of b w c u admin taken v h a t o =
+    subst (λ x. IsOpening x (is_taken w u) c v) (ap (same_name c.person) (a ∙ h.same_admin)) (subst (λ x. IsOpening (same_name c.person admin) x c v) (t ∙ held_taken b w u h) o)
+
+-- the verdict on the part that the books gave is that on the unit's history
+pub on_history : (b : Content) (w : World) (c : Call) (u : Name) (o p : Option UnitPart) (v x : Verdict) → IsLegalWorld w → Holds b w → o ≡ part_in b c u → p ≡ o → ((h : List Call) → IsPartOf p h c → IsVerdictOn h c v) → v ≡ x → IsVerdictOn (history w u) c x
+on_history b w c u o p v x legal h found same verdicts is =
+    subst (IsVerdictOn (history w u) c) is (verdicts (history w u) (subst (λ y. IsPartOf y (history w u) c) (sym (same ∙ found)) (held_part b w c u legal h)))
+
+-- the headline: what was answered and left is what any other world that looks the same to the caller would give
+own_units : (w v : World) (c : Call) (u : Name) → w.admin ≡ v.admin → view c.moment c.person w ≡ view c.moment c.person v → IsOwnUnit v c u → get (next w c).units u ≡ get (next v c).units u
+own_units w v c u admin e (inl before) = own_units_after w v c u (view_alike c.moment c.person w v admin e) before
+own_units w v c u admin e (inr held) =
+    same_unit c.moment c.person (next w c) (next v c) u (same_seen (next w c) (next v c) c.moment c.person (ap (λ x. x.0) (equal_views w v c admin e).1) u) held
+
+pub isolated : (w v : World) (c : Call) (a : Said) (left : Content → Type 0) → IsServed w c a left → w.admin ≡ v.admin → view c.moment c.person w ≡ view c.moment c.person v → IsIsolated v c a left
+isolated w v c a left s admin e =
+    record {
+      answered = s.answered ∙ (equal_views w v c admin e).0;
+      after = s.after;
+      left_it = s.left_it;
+      rows = λ u own. s.holds.rows u ∙ ap (option_map rows_of) (own_units w v c u admin e own);
+    }
+
+pub isolated_if : (w v : World) (c : Call) (a : Answer) (left : Content → Type 0) → IfSaid a (λ x. IsServed w c x left) → w.admin ≡ v.admin → view c.moment c.person w ≡ view c.moment c.person v → IfSaid a (λ x. IsIsolated v c x left)
+isolated_if w v c (Replied r) left s admin e = isolated w v c (Ok r) left s admin e
+isolated_if w v c (WasRefused r) left s admin e = isolated w v c (Err r) left s admin e
+isolated_if w v c (Faulted f) left s admin e = tt
+
+-- each call of a run is alike in any other world that looks the same to the caller
+pub alike_if : (w : World) (c : Call) (a : Answer) → IfSaid a (λ x. x ≡ answer w c) → IsAlike w c a
+alike_if w c (Replied r) is = record { alike = λ v admin e. (is ∙ (equal_views w v c admin e).0, λ u own. own_units w v c u admin e own) }
+alike_if w c (WasRefused r) is = record { alike = λ v admin e. (is ∙ (equal_views w v c admin e).0, λ u own. own_units w v c u admin e own) }
+alike_if w c (Faulted f) is = record { alike = λ v admin e. tt }
+
+-- the keeper holds the content that the call left
+pub leaves : (w : World) (c : Call) (a : Said) (b : Content) (left : Content → Type 0) → IsLegalWorld w → has_matrix c.request ≡ true → Serves w c a (λ m. m ≡ b) → left b → IsServed w c a left
+leaves w c a b left legal matrix s h = record { answered = s.answered; after = s.after; left_it = subst left (sym s.left_it) h; holds = s.holds; legal = next_legal w c legal matrix }
+
+-- the changes of an accepted call put the unit's own row
+pub known_call : (b : Content) (w : World) (c : Call) (u : Name) (reply : Reply) (cs : List Change) → is_read c.request ≡ false → IsVerdictOn (history w u) c (IsAccepted reply cs) → IsKnownTo b u cs
+known_call b w c u reply cs read v = inr (v.puts (ap (λ x. changes_history x c) (sym v.answer) ∙ ap not read))
+
+pub known_opening : (b : Content) (w : World) (c : Call) (u : Name) (reply : Reply) (cs : List Change) → IsOpening (by_admin w c) (is_taken w u) c (IsAccepted reply cs) → IsKnownTo b u cs
+known_opening b w c u reply cs v = inr (v.puts (ap is_ok (sym v.answer)))
+
+-- The units of a person
+option_map-when : {A B : Type 0} (f : A → B) (b : Bool) (x : A) → when b (f x) ≡ option_map f (when b x)
+option_map-when f true x = refl
+option_map-when f false x = refl
+
+filter_map-mapped : {A B C : Type 0} (f : B → C) (s : A → Option B) (xs : List A) → filter_map (λ x. option_map f (s x)) xs ≡ map f (filter_map s xs)
+filter_map-mapped f s [] = refl
+filter_map-mapped f s (x ∷ xs) =
+    elim (s x) as (λ o. cons_option (option_map f o) (filter_map (λ x. option_map f (s x)) xs) ≡ map f (cons_option o (filter_map s xs))) [ None ↦ filter_map-mapped f s xs | Some y ↦ ap (λ ys. f y ∷ ys) (filter_map-mapped f s xs) ]
+
+map-mapped : {A B C : Type 0} (g : B → C) (f : A → B) (xs : List A) → map g (map f xs) ≡ map (λ x. g (f x)) xs
+map-mapped g f [] = refl
+map-mapped g f (x ∷ xs) = ap (λ ys. g (f x) ∷ ys) (map-mapped g f xs)
+
+-- a unit of the person, as the history tells it
+abbrev mine_of : ℕ → Name → Name × List Call → MineUnit
+mine_of t p e = record { unit = e.0; roles = roles_held e.1 t p; last = last_moment e.1 }
+
+one_mine : (t : ℕ) (p u : Name) (o : Option (List Call)) → mine_unit t p u (option_map rows_of o) ≡ option_map (mine_of t p) (when (holds_any (unwrap_or o []) t p) (u, unwrap_or o []))
+one_mine t p u None = refl
+one_mine t p u (Some h) =
+    (λ i. when (any_of_rows h t p i) (record { unit = u; roles = roles_of_rows h t p i; last = last_moment h }))
+    ∙ option_map-when (mine_of t p) (holds_any h t p) (u, h)
+
+mine_told : (b : Content) (w : World) (t : ℕ) (p : Name) → Holds b w → mine_units b t p ≡ map (mine_of t p) (units_held w t p)
+mine_told b w t p h =
+    (λ i. filter_map (λ u. mine_unit t p u (h.rows u i)) (same_keys b.units w.units (λ q. held_taken b w q h) i))
+    ∙ (λ i. filter_map (λ u. one_mine t p u (get w.units u) i) (keys w.units))
+    ∙ filter_map-mapped (mine_of t p) (unit_seen w t p) (keys w.units)
+
+fold_max : (a b : ℕ) (xs : List ℕ) → fold max (max a b) xs ≡ max a (fold max b xs)
+fold_max a b [] = refl
+fold_max a b (x ∷ xs) = ap (λ n. fold max n xs) (let e : max (max a b) x ≡ max a (max b x) = omega arith in e) ∙ fold_max a (max b x) xs
+
+latest_of : (t : ℕ) (xs : List ℕ) → fold max t xs ≡ max t (fold max 0 xs)
+latest_of t xs = ap (λ n. fold max n xs) (let e : t ≡ max t 0 = omega arith in e) ∙ fold_max t 0 xs
+
+lt_true : (a b : ℕ) → a < b → nat_lt a b ≡ true
+lt_true a b h = grind (arith, nat_tests)
+
+lt_false : (a b : ℕ) → b ≤ a → nat_lt a b ≡ false
+lt_false a b h = grind (arith, nat_tests)
+
+-- the latest of the call's moment and the last moments of the units
+last_told : (t : ℕ) (p : Name) (us : List (Name × List Call)) (units : List MineUnit) (last : ℕ) → units ≡ map (mine_of t p) us → last ≡ fold max t (map (λ (u : MineUnit). u.last) units) → last ≡ max t (greatest_last us)
+last_told t p us units last is e =
+    e ∙ ap (λ xs. fold max t (map (λ (u : MineUnit). u.last) xs)) is ∙ ap (fold max t) (map-mapped (λ (u : MineUnit). u.last) (mine_of t p) us) ∙ latest_of t (map (λ e. last_moment e.1) us)
+
+answered_of_units : (b : Content) (w : World) (c : Call) (a : Said) → Holds b w → unit_named c.request ≡ None → a ≡ answer_of_units (units_held w c.moment c.person) c → Serves w c a (λ m. m ≡ b)
+answered_of_units b w c a h named is =
+    record { answered = is ∙ sym (ap (answer_at w c) named); after = b; left_it = refl; holds = subst (λ o. Holds b (next_at w c o)) (sym named) h }
+
+units_behind : (us : List (Name × List Call)) (c : Call) (last : ℕ) → last ≡ max c.moment (greatest_last us) → c.moment < last → Err (MomentBehind last) ≡ answer_of_units us c
+units_behind us c last e lt =
+    let is : last ≡ greatest_last us = omega (arith, e, lt) in
+    let less : c.moment < greatest_last us = omega (arith, e, lt) in
+    ap (λ x. Err (MomentBehind x)) is ∙ sym (ap (λ b. if b then Err (MomentBehind (greatest_last us)) else Ok (Units (unit_lines c.moment c.person us))) (lt_true c.moment (greatest_last us) less))
+
+units_told : (us : List (Name × List Call)) (c : Call) (last : ℕ) (lines : List UnitLine) → last ≡ max c.moment (greatest_last us) → lines ≡ unit_lines c.moment c.person us → last ≤ c.moment → Ok (Units lines) ≡ answer_of_units us c
+units_told us c last lines e is le =
+    let least : greatest_last us ≤ c.moment = omega (arith, e, le) in
+    ap (λ x. Ok (Units x)) is ∙ sym (ap (λ b. if b then Err (MomentBehind (greatest_last us)) else Ok (Units (unit_lines c.moment c.person us))) (lt_false c.moment (greatest_last us) least))
+
+pub behind_units : (b : Content) (w : World) (c : Call) (units : List MineUnit) (last : ℕ) → Holds b w → unit_named c.request ≡ None → units ≡ mine_units b c.moment c.person → last ≡ fold max c.moment (map (λ (u : MineUnit). u.last) units) → c.moment < last → Serves w c (Err (MomentBehind last)) (λ m. m ≡ b)
+behind_units b w c units last h named is e lt =
+    answered_of_units b w c _ h named (units_behind (units_held w c.moment c.person) c last (last_told c.moment c.person (units_held w c.moment c.person) units last (is ∙ mine_told b w c.moment c.person h) e) lt)
+
+pub told_units : (b : Content) (w : World) (c : Call) (units : List MineUnit) (last : ℕ) (lines : List UnitLine) → Holds b w → unit_named c.request ≡ None → units ≡ mine_units b c.moment c.person → last ≡ fold max c.moment (map (λ (u : MineUnit). u.last) units) → lines ≡ map line_of_mine units → last ≤ c.moment → Serves w c (Ok (Units lines)) (λ m. m ≡ b)
+told_units b w c units last lines h named is e l le =
+    let told = is ∙ mine_told b w c.moment c.person h in
+    answered_of_units b w c _ h named (units_told (units_held w c.moment c.person) c last lines (last_told c.moment c.person (units_held w c.moment c.person) units last told e)
+    (l ∙ ap (map line_of_mine) told ∙ map-mapped line_of_mine (mine_of c.moment c.person) (units_held w c.moment c.person)) le)
+
+-- what a call said, as an answer
+pub said_if : (r : Result Said Fault) (P : Said → Type 0) → IfOk r P → IfSaid (answer_as r) P
+said_if (Ok (Ok x)) P is = is
+said_if (Ok (Err x)) P is = is
+said_if (Err f) P is = tt
+
+pub fault_if : (r : Result Said Fault) (P : Type 0) → OnErr r P → OnFault (answer_as r) P
+fault_if (Ok (Ok x)) P is = tt
+fault_if (Ok (Err x)) P is = tt
+fault_if (Err f) P is = is
+
+pub counts_if : (old new : ℕ) (r : Result Said Fault) → Counts old new r → CountsAnswer old new (answer_as r)
+counts_if old new (Ok (Ok x)) is = is
+counts_if old new (Ok (Err x)) is = is
+counts_if old new (Err f) is = is

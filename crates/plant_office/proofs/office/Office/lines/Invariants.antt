@@ -1,0 +1,7 @@
+use Rattle.std.proofs.Common.{◌≡◌}
+use Rattle.std.specs.Prelude.{map}
+use Rattle.plant_office.specs.Lines.{line_of_mine}
+use Rattle.plant_office.proofs.office.Office.lines.Given as goal
+
+abbrev pub invariant-loop-mine : goal.invariant-loop-mine
+invariant-loop-mine g l = l.lines ≡ map line_of_mine l.yielded

@@ -1,0 +1,23 @@
+use Rattle.std.proofs.Common.{subst, sym}
+use Rattle.plant_model.specs.declared.reply.Answer.{Answer}
+use Rattle.plant_office.specs.Answers.{CountsAnswer, IfSaid, OnFault}
+use Rattle.plant_office.specs.Served.{IsIsolated, IsServed}
+use Rattle.plant_office.proofs.Serving.{counts_if, fault_if, isolated_if, said_if}
+use Rattle.plant_office.proofs.office.Office.serve.Goals as goal
+
+pub returns-clause-served : goal.returns-clause-served
+returns-clause-served g c = λ m k w legal h told.
+    subst (λ (a : Answer). IfSaid a (λ x. IsServed w c.args.call.now x (g.B.Books.holds c.serve_call.new.self.books))) (sym c.answer_of.ensures) (said_if c.serve_call.result _ (c.serve_call.ensures.served m k w legal h told))
+
+pub returns-clause-isolated : goal.returns-clause-isolated
+returns-clause-isolated g c = λ m k w v legal h admin e told.
+    subst (λ (a : Answer). IfSaid a (λ x. IsIsolated v c.args.call.now x (g.B.Books.holds c.serve_call.new.self.books))) (sym c.answer_of.ensures)
+    (isolated_if w v c.args.call.now _ _ (said_if c.serve_call.result _ (c.serve_call.ensures.served m k w legal h told)) admin e)
+
+pub returns-clause-fault : goal.returns-clause-fault
+returns-clause-fault g c = λ m k.
+    subst (λ (a : Answer). OnFault a (g.B.Books.holds c.serve_call.new.self.books m)) (sym c.answer_of.ensures) (fault_if c.serve_call.result _ (c.serve_call.ensures.fault m k))
+
+pub returns-clause-count : goal.returns-clause-count
+returns-clause-count g c =
+    subst (λ (a : Answer). CountsAnswer (g.B.Books.stores c.args.self.now.books) (g.B.Books.stores c.serve_call.new.self.books) a) (sym c.answer_of.ensures) (counts_if _ _ c.serve_call.result c.serve_call.ensures.count)

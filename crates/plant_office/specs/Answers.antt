@@ -1,0 +1,35 @@
+-- What an answer says.
+use Rattle.std.specs.Prelude.{Err, None, Ok, Option, Result, Some, ℕ, ◌≡◌}
+use Rattle.plant_model.specs.declared.reply.Answer.{Answer}
+use Rattle.plant_model.specs.declared.reply.Answer.TheVariants.{Fault as Faulted, Refused as WasRefused, Reply as Replied}
+use Rattle.plant_model.specs.declared.reply.Refused.{Refused}
+use Rattle.plant_model.specs.declared.reply.Reply.{Reply}
+use Rattle.plant_types.specs.declared.fault.Fault.{Fault}
+use Rattle.plant_books.specs.Counting.{CountsFault}
+
+-- the reply or the refusal; a fault is neither
+abbrev pub said_in : Answer → Option (Result Reply Refused)
+said_in (Replied r) = Some (Ok r)
+said_in (WasRefused r) = Some (Err r)
+said_in (Faulted f) = None
+
+-- what was said, or the fault, as an answer
+abbrev pub answer_as : Result (Result Reply Refused) Fault → Answer
+answer_as (Ok (Ok r)) = Replied r
+answer_as (Ok (Err r)) = WasRefused r
+answer_as (Err f) = Faulted f
+
+-- a fact of the reply or the refusal
+abbrev pub IfSaid : Answer → (Result Reply Refused → Type 0) → Type 0
+IfSaid (Replied r) P = P (Ok r)
+IfSaid (WasRefused r) P = P (Err r)
+IfSaid (Faulted f) P = Unit {0}
+
+abbrev pub OnFault : Answer → Type 0 → Type 0
+OnFault (Faulted f) P = P
+OnFault _ P = Unit {0}
+
+-- the count of the books' answers Store rises by one where the answer is Store, and else stays
+abbrev pub CountsAnswer : ℕ → ℕ → Answer → Type 0
+CountsAnswer old new (Faulted f) = CountsFault old new f
+CountsAnswer old new _ = new ≡ old

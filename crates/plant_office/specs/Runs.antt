@@ -1,0 +1,55 @@
+-- Whole runs. A call that was answered by a fault counts as never made.
+use Rattle.std.specs.FinMap.{get}
+use Rattle.std.specs.Prelude.{Bool, List, [], count_by, false, true, ℕ, ◌∷◌, ◌≡◌}
+use Rattle.plant_model.specs.declared.call.Call.{Call}
+use Rattle.plant_model.specs.declared.reply.Answer.{Answer}
+use Rattle.plant_model.specs.declared.reply.Answer.TheVariants.{Fault as Faulted}
+use Rattle.plant_types.specs.declared.fault.Fault.TheVariants.{Store}
+use Rattle.plant_books.specs.Contents.{Content}
+use Rattle.plant_model.specs.Views.{view}
+use Rattle.plant_model.specs.Worlds.{IsLegalWorld, World, answer, answers, next}
+use Rattle.plant_office.specs.Answers.{IfSaid}
+use Rattle.plant_office.specs.Served.{Holds, IsOwnUnit}
+use Rattle.plant_types.specs.Names.{Name}
+
+-- the world after a call with this answer
+abbrev pub after_answer : World → Call → Answer → World
+after_answer w c (Faulted f) = w
+after_answer w c _ = next w c
+
+abbrev pub world_after : World → List Call → List Answer → World
+world_after w (c ∷ calls) (a ∷ answers) = world_after (after_answer w c a) calls answers
+world_after w _ _ = w
+
+-- each call got the answer of the world that the calls before it left
+abbrev pub AreAnswers : World → List Call → List Answer → Type 0
+AreAnswers w [] [] = Unit {0}
+AreAnswers w (c ∷ calls) (a ∷ answers) = IfSaid a (λ x. x ≡ answer w c) × AreAnswers (after_answer w c a) calls answers
+AreAnswers w [] (a ∷ answers) = ⊥
+AreAnswers w (c ∷ calls) [] = ⊥
+
+-- each caller got the answer, and has afterwards the histories, of any other office that looked the same to that caller
+pub record IsAlike (w : World) (c : Call) (a : Answer) : Type 0 where
+  pub alike : (v : World) → w.admin ≡ v.admin → view c.moment c.person w ≡ view c.moment c.person v
+      → IfSaid a (λ x. (x ≡ answer v c) × ((u : Name) → IsOwnUnit v c u → get (next w c).units u ≡ get (next v c).units u))
+
+abbrev pub AreIsolated : World → List Call → List Answer → Type 0
+AreIsolated w (c ∷ calls) (a ∷ answers) = IsAlike w c a × AreIsolated (after_answer w c a) calls answers
+AreIsolated w _ _ = Unit {0}
+
+-- from the world the calls got these answers, and the books hold the rows of the world after them
+pub record IsRun (w : World) (calls : List Call) (answers : List Answer) (left : Content → Type 0) : Type 0 where
+  pub answered : AreAnswers w calls answers
+  pub isolated : AreIsolated w calls answers
+  pub after : Content
+  pub left_it : left after
+  pub holds : Holds after (world_after w calls answers)
+  pub legal : IsLegalWorld (world_after w calls answers)
+
+-- how many of the answers are Store
+abbrev pub is_store : Answer → Bool
+is_store (Faulted Store) = true
+is_store _ = false
+
+abbrev pub stores_in : List Answer → ℕ
+stores_in answers = count_by is_store answers

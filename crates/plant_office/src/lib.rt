@@ -1,0 +1,8 @@
+//! The office: it serves calls over any books, and answers each as the units' own machines do.
+#![tactic(auto)]
+
+mod office;
+
+pub use office::Office;
+pub use plant_books::Books;
+pub use plant_model::{Answer, laws};

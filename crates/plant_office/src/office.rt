@@ -1,0 +1,217 @@
+ghost use Rattle.std.specs.Prelude.{◌≡◌, ◌<◌, ◌^◌, ◌-◌, ◌+◌, ◌≤◌, ℕ, Some, None, true, false, IsTrue, IfOk, IfErr, OnOk, OnErr, List, [], ◌∷◌, ◌++◌, map, max, fold, length, vec_len, vec_capacity};
+ghost use Rattle.plant_types.specs.declared.fault.Fault.TheVariants.{Memory};
+ghost use Rattle.plant_model.specs.Legality.{has_matrix};
+ghost use Rattle.plant_model.specs.Verdicts.{is_opening};
+ghost use Rattle.plant_model.specs.Views.{view};
+ghost use Rattle.plant_model.specs.Worlds.{World, IsLegalWorld, unit_named};
+ghost use Rattle.plant_books.specs.Contents.{Content, no_units};
+ghost use Rattle.plant_books.specs.Counting.{Counts};
+ghost use Rattle.plant_books.specs.declared.books.MineUnit.{MineUnit};
+ghost use Rattle.plant_office.specs.Answers.{CountsAnswer, IfSaid, OnFault, answer_as};
+ghost use Rattle.plant_office.specs.Runs.{IsRun, stores_in};
+ghost use Rattle.plant_office.specs.Served.{Holds, IsIsolated, IsServed};
+ghost use Rattle.plant_office.specs.Lines.{line_of_mine};
+
+use plant_books::{Books, MineUnit};
+use plant_model::{Answer, Call, Refused, Reply, Request, UnitLine, Verdict};
+use plant_types::{Fault, Moment, Table, UnitCode};
+use plant_unit::{is_read, judge, judge_open};
+use std::alloc::Global;
+
+/// Whether a request's matrix is one needs no test: every matrix is.
+fn note_matrix(request: &Request)
+    ensures { has_matrix request.now ≡ true }
+{
+    if let Request::OpenUnit { matrix, .. } = request {
+        let _cells = matrix.cells();
+    }
+}
+
+/// The office over the books that keep its units.
+pub struct Office<B: Books> {
+    books: B,
+    alloc: Global,
+}
+
+impl<B: Books> Office<B> {
+    /// The office over these books, which stay as they are.
+    pub fn new(alloc: Global, books: B) -> Office<B>
+        ensures { result.books ≡ books }
+    {
+        Office { books, alloc }
+    }
+
+    /// The books, as the office left them.
+    pub fn into_books(self) -> B
+        ensures { result ≡ self.books }
+    {
+        let Office { books, alloc: _ } = self;
+        books
+    }
+
+    fn lines(&self, units: Table<MineUnit>) -> Result<Table<UnitLine>, Fault>
+        ensures value { IfOk result (λ lines. lines ≡ map line_of_mine units) }
+        ensures err { IfErr result (λ e. e ≡ Memory) }
+    {
+        let mut lines = Table::new(self.alloc);
+        for mine in units.into_vec() {
+            let MineUnit {
+                unit,
+                roles,
+                last: _,
+            } = mine;
+            lines.push(UnitLine { unit, roles })?;
+        }
+        Ok(lines)
+    }
+
+    fn my_units(&mut self, call: &Call) -> Result<Result<Reply, Refused>, Fault>
+        requires { unit_named call.now.request ≡ None }
+        ensures served { (m : Content) → B.holds self.old.books m → (w : World) → IsLegalWorld w → Holds m w → B.can_tell self.new.books → IfOk result (λ a. IsServed w call.now a (B.holds self.new.books)) }
+        ensures told { B.can_tell self.new.books → B.can_tell self.old.books }
+        ensures fault { (m : Content) → B.holds self.old.books m → OnErr result (B.holds self.new.books m) }
+        ensures count { Counts (B.stores self.old.books) (B.stores self.new.books) result }
+    {
+        note_matrix(&call.request);
+        let now = call.moment;
+        let units = self.books.mine_units(&call.person, now)?;
+        let last = latest(now, units.as_slice());
+        if now.seconds() < last.seconds() {
+            Ok(Err(Refused::MomentBehind(last)))
+        } else {
+            Ok(Ok(Reply::Units(self.lines(units)?)))
+        }
+    }
+
+    fn serve_unit(&mut self, unit: &UnitCode, call: &Call) -> Result<Result<Reply, Refused>, Fault>
+        requires named { unit_named call.now.request ≡ Some unit.now }
+        requires plain { is_opening call.now.request ≡ false }
+        ensures served { (m : Content) → B.holds self.old.books m → (w : World) → IsLegalWorld w → Holds m w → B.can_tell self.new.books → IfOk result (λ a. IsServed w call.now a (B.holds self.new.books)) }
+        ensures told { B.can_tell self.new.books → B.can_tell self.old.books }
+        ensures fault { (m : Content) → B.holds self.old.books m → OnErr result (B.holds self.new.books m) }
+        ensures count { Counts (B.stores self.old.books) (B.stores self.new.books) result }
+    {
+        note_matrix(&call.request);
+        let part = self.books.part(call)?;
+        match judge(self.alloc, part.as_ref(), call)? {
+            Verdict::Refused(refused) => Ok(Err(refused)),
+            Verdict::Accepted(reply, changes) => {
+                if is_read(&call.request) {
+                    return Ok(Ok(reply));
+                }
+                self.books.apply(unit, &changes)?;
+                Ok(Ok(reply))
+            }
+        }
+    }
+
+    fn serve_opening(
+        &mut self,
+        unit: &UnitCode,
+        call: &Call,
+    ) -> Result<Result<Reply, Refused>, Fault>
+        requires named { unit_named call.now.request ≡ Some unit.now }
+        requires opening { is_opening call.now.request ≡ true }
+        ensures served { (m : Content) → B.holds self.old.books m → (w : World) → IsLegalWorld w → Holds m w → B.can_tell self.new.books → IfOk result (λ a. IsServed w call.now a (B.holds self.new.books)) }
+        ensures told { B.can_tell self.new.books → B.can_tell self.old.books }
+        ensures fault { (m : Content) → B.holds self.old.books m → OnErr result (B.holds self.new.books m) }
+        ensures count { Counts (B.stores self.old.books) (B.stores self.new.books) result }
+    {
+        note_matrix(&call.request);
+        let taken = self.books.taken(unit)?;
+        match judge_open(self.alloc, self.books.administrator(), taken, call)? {
+            Verdict::Refused(refused) => Ok(Err(refused)),
+            Verdict::Accepted(reply, changes) => {
+                self.books.apply(unit, &changes)?;
+                Ok(Ok(reply))
+            }
+        }
+    }
+
+    fn serve_call(&mut self, call: &Call) -> Result<Result<Reply, Refused>, Fault>
+        ensures served { (m : Content) → B.holds self.old.books m → (w : World) → IsLegalWorld w → Holds m w → B.can_tell self.new.books → IfOk result (λ a. IsServed w call.now a (B.holds self.new.books)) }
+        ensures told { B.can_tell self.new.books → B.can_tell self.old.books }
+        ensures fault { (m : Content) → B.holds self.old.books m → OnErr result (B.holds self.new.books m) }
+        ensures count { Counts (B.stores self.old.books) (B.stores self.new.books) result }
+    {
+        match &call.request {
+            Request::OpenUnit { unit, .. } => self.serve_opening(unit, call),
+            Request::Grant { unit, .. }
+            | Request::Withdraw { unit, .. }
+            | Request::Register { unit, .. }
+            | Request::TimedShelve { unit, .. }
+            | Request::OneShotShelve { unit, .. }
+            | Request::Unshelve { unit, .. }
+            | Request::Status { unit, .. }
+            | Request::Shelves { unit } => self.serve_unit(unit, call),
+            Request::MyUnits => self.my_units(call),
+        }
+    }
+
+    /// Answers a call, as the world of the units' histories answers it.
+    ///
+    /// The headline is the clause `isolated`: an answer that is no fault is what any other office of the same
+    /// administrator would answer that looks the same to the caller at the call's moment, and the rows of the units
+    /// that the caller held before or holds after are those of that office. A fault leaves the books as they were.
+    pub fn serve(&mut self, call: &Call) -> Answer
+        ensures served { (m : Content) → B.holds self.old.books m → (w : World) → IsLegalWorld w → Holds m w → B.can_tell self.new.books → IfSaid result (λ a. IsServed w call.now a (B.holds self.new.books)) }
+        ensures isolated { (m : Content) → B.holds self.old.books m → (w v : World) → IsLegalWorld w → Holds m w → w.admin ≡ v.admin
+            → view call.now.moment call.now.person w ≡ view call.now.moment call.now.person v → B.can_tell self.new.books
+            → IfSaid result (λ a. IsIsolated v call.now a (B.holds self.new.books)) }
+        ensures told { B.can_tell self.new.books → B.can_tell self.old.books }
+        ensures fault { (m : Content) → B.holds self.old.books m → OnFault result (B.holds self.new.books m) }
+        ensures count { CountsAnswer (B.stores self.old.books) (B.stores self.new.books) result }
+    {
+        answer_of(self.serve_call(call))
+    }
+
+    /// Answers the calls in their order, each as `serve` does. Room for all answers is made first: a fault of its own
+    /// is Memory, and then no call was made.
+    pub fn run(&mut self, calls: &[Call]) -> Result<Vec<Answer>, Fault>
+        ensures ran { (m : Content) → B.holds self.old.books m → (w : World) → IsLegalWorld w → Holds m w → B.can_tell self.new.books → IfOk result (λ answers. IsRun w calls.now answers.items (B.holds self.new.books)) }
+        ensures told { B.can_tell self.new.books → B.can_tell self.old.books }
+        ensures count { B.stores self.old.books + length calls.now < 2 ^ 64 → IfOk result (λ answers. B.stores self.new.books ≡ B.stores self.old.books + stores_in answers.items) }
+        ensures fault { OnErr result (self.new ≡ self.old) }
+        ensures memory { IfErr result (λ e. e ≡ Memory) }
+    {
+        let mut answers = Vec::with_capacity(self.alloc, calls.len())?;
+        for call in calls {
+            let answer = self.serve(call);
+            push_answer(&mut answers, answer);
+        }
+        Ok(answers)
+    }
+}
+
+/// The answers so far with one more, for which room was made.
+fn push_answer(answers: &mut Vec<Answer>, answer: Answer)
+    requires { vec_len answers.old < vec_capacity answers.old }
+    ensures items { answers.new.items ≡ answers.old.items ++ answer ∷ [] }
+    ensures room { vec_capacity answers.old ≤ vec_capacity answers.new }
+{
+    answers.push(answer).unwrap();
+}
+
+/// What was said, or the fault, as an answer.
+fn answer_of(said: Result<Result<Reply, Refused>, Fault>) -> Answer
+    ensures { result ≡ answer_as said }
+{
+    match said {
+        Ok(Ok(reply)) => Answer::Reply(reply),
+        Ok(Err(refused)) => Answer::Refused(refused),
+        Err(fault) => Answer::Fault(fault),
+    }
+}
+
+/// The latest of a moment and the units' last moments.
+fn latest(now: Moment, units: &[MineUnit]) -> Moment
+    ensures { result ≡ fold max now (map (λ unit. unit.last) units.now) }
+{
+    let mut latest = now;
+    for unit in units {
+        if latest.seconds() < unit.last.seconds() {
+            latest = unit.last;
+        }
+    }
+    latest
+}

@@ -1,0 +1,79 @@
+-- Which route a method and a target name: a definition over the bytes. `insert` puts a path into the rows of a
+-- router as matchit does, and `first` is matchit's search.
+use Rattle.std.specs.Prelude.{ℕ, List, [], ◌∷◌, codes, Result, Ok, Err, Option, None, option_map, Bool, ◌&&◌, ◌||◌, not, nat_le, ◌==◌, if◌then◌else◌, slice_index}
+use Rattle.std.specs.List.{list_all}
+use Rattle.std.specs.Str.{bytes_eq}
+use Rattle.matchit.specs.Rows.{RowsOf}
+use Rattle.matchit.specs.Seek.{first}
+use Rattle.matchit.specs.Order.{placed}
+use Rattle.matchit.specs.Route.{Scan, parse_route}
+use Rattle.matchit.specs.Router.{RouteOf, route_from}
+use Rattle.matchit.specs.declared.error.InsertError.{InsertError}
+use Rattle.plant_route.specs.declared.routes.Route.{Route}
+use Rattle.plant_route.specs.declared.routes.Route.TheVariants.{OpenUnit, Grant, Withdraw, Register, TimedShelve, OneShotShelve, Unshelve, Status, Shelves, MyUnits}
+
+abbrev pub Rows : Type 0
+Rows = RowsOf (RouteOf Route)
+
+-- the rows with one more route
+abbrev pub with_route : Result Scan InsertError → Route → Rows → Rows
+with_route (Ok s) value rows = placed (s.pattern, route_from s value) rows
+with_route (Err e) value rows = rows
+
+abbrev pub insert : Rows → List ℕ → Route → Rows
+insert rows path value = with_route (parse_route path) value rows
+
+-- the rows with more routes, each with its path, put in one after another
+abbrev pub with_routes : List (List ℕ × Route) → Rows → Rows
+with_routes [] rows = rows
+with_routes (r ∷ rs) rows = with_routes rs (insert rows r.0 r.1)
+
+-- POST: a unit, its grants and its alarms
+unfoldable pub unit_posts : List (List ℕ × Route)
+unit_posts =
+    (codes "/units/{unit}", OpenUnit)
+    ∷ (codes "/units/{unit}/grants", Grant)
+    ∷ (codes "/units/{unit}/withdrawals", Withdraw)
+    ∷ (codes "/units/{unit}/alarms", Register)
+    ∷ []
+
+-- POST: an alarm's shelf
+unfoldable pub alarm_posts : List (List ℕ × Route)
+alarm_posts =
+    (codes "/units/{unit}/alarms/{tag}/timed-shelve", TimedShelve)
+    ∷ (codes "/units/{unit}/alarms/{tag}/one-shot-shelve", OneShotShelve)
+    ∷ (codes "/units/{unit}/alarms/{tag}/unshelve", Unshelve)
+    ∷ []
+
+-- GET
+unfoldable pub gets : List (List ℕ × Route)
+gets =
+    (codes "/units/{unit}/alarms/{tag}", Status)
+    ∷ (codes "/units/{unit}/shelves", Shelves)
+    ∷ (codes "/units", MyUnits)
+    ∷ []
+
+-- the routes of POST
+unfoldable pub post_rows : Rows
+post_rows = with_routes alarm_posts (with_routes unit_posts [])
+
+-- the routes of GET
+unfoldable pub get_rows : Rows
+get_rows = with_routes gets []
+
+abbrev pub route_in : Rows → List ℕ → Option Route
+route_in rows path = option_map (λ found. found.value) (first rows path)
+
+-- a byte of a target that may have a route: none above 126, no question mark and no number sign
+abbrev pub is_path_byte : ℕ → Bool
+is_path_byte b = nat_le b 126 && not (b == 63 || b == 35)
+
+abbrev pub is_path : List ℕ → Bool
+is_path target = slice_index target 0 == 47 && list_all is_path_byte target
+
+-- the route of a method and a target
+abbrev pub route_of : List ℕ → List ℕ → Option Route
+route_of method target =
+    if is_path target
+    then (if bytes_eq method (codes "POST") then route_in post_rows target else (if bytes_eq method (codes "GET") then route_in get_rows target else None))
+    else None

@@ -1,0 +1,9 @@
+//! The routes of the office's requests.
+#![tactic(auto)]
+
+mod routes;
+
+pub use routes::{Route, Routes};
+
+#[cfg(test)]
+mod tests;

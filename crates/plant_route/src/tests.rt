@@ -1,0 +1,54 @@
+use super::*;
+use std::test::Fail;
+
+const TABLE: [(&[u8], &[u8], Route); 10] = [
+    (b"POST", b"/units/U1", Route::OpenUnit),
+    (b"POST", b"/units/U1/grants", Route::Grant),
+    (b"POST", b"/units/U1/withdrawals", Route::Withdraw),
+    (b"POST", b"/units/U1/alarms", Route::Register),
+    (
+        b"POST",
+        b"/units/U1/alarms/PT-101/timed-shelve",
+        Route::TimedShelve,
+    ),
+    (
+        b"POST",
+        b"/units/U1/alarms/PT-101/one-shot-shelve",
+        Route::OneShotShelve,
+    ),
+    (
+        b"POST",
+        b"/units/U1/alarms/PT-101/unshelve",
+        Route::Unshelve,
+    ),
+    (b"GET", b"/units/U1/alarms/PT-101", Route::Status),
+    (b"GET", b"/units/U1/shelves", Route::Shelves),
+    (b"GET", b"/units", Route::MyUnits),
+];
+
+const NONE: [(&[u8], &[u8]); 12] = [
+    (b"GET", b"/units/U1/grants"),
+    (b"POST", b"/units"),
+    (b"get", b"/units"),
+    (b"PUT", b"/units/U1"),
+    (b"GET", b"/units/"),
+    (b"GET", b"/units?"),
+    (b"GET", b"/units#x"),
+    (b"GET", b"units"),
+    (b"GET", b""),
+    (b"GET", b"/units//shelves"),
+    (b"GET", b"/units/U\x7f/shelves"),
+    (b"GET", b"/nothing"),
+];
+
+#[test]
+fn finds_each_route(rt: HostRuntime) -> Result<(), Fail> {
+    let routes = Routes::new(rt.alloc())?;
+    for (method, target, route) in TABLE.iter() {
+        assert!(rt; routes.of(method, target) == Some(*route));
+    }
+    for (method, target) in NONE.iter() {
+        assert!(rt; routes.of(method, target).is_none());
+    }
+    Ok(())
+}

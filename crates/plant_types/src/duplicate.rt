@@ -1,0 +1,46 @@
+ghost use Rattle.std.specs.Prelude.{◌≡◌, IfOk, IfErr};
+ghost use Rattle.plant_types.specs.declared.fault.Fault.TheVariants.{Memory};
+
+use crate::{Alphabet, Fault, Table, Text};
+use std::alloc::Global;
+
+/// Values that can be made a second time.
+pub trait Duplicate: Drop {
+    /// The same value again.
+    fn duplicate(&self, alloc: Global) -> Result<Self, Fault>
+        ensures value { IfOk result (λ x. x ≡ self.now) }
+        ensures err { IfErr result (λ e. e ≡ Memory) };
+}
+
+impl<C: Alphabet> Duplicate for Text<C> {
+    fn duplicate(&self, alloc: Global) -> Result<Text<C>, Fault> {
+        self.copy(alloc)
+    }
+}
+
+impl<T: Duplicate> Duplicate for Option<T> {
+    fn duplicate(&self, alloc: Global) -> Result<Option<T>, Fault> {
+        match self {
+            None => Ok(None),
+            Some(value) => Ok(Some(value.duplicate(alloc)?)),
+        }
+    }
+}
+
+impl<T: Duplicate> Duplicate for Table<T> {
+    fn duplicate(&self, alloc: Global) -> Result<Table<T>, Fault> {
+        duplicated(alloc, self.as_slice())
+    }
+}
+
+/// The list of the same values again.
+pub fn duplicated<T: Duplicate>(alloc: Global, rows: &[T]) -> Result<Table<T>, Fault>
+    ensures value { IfOk result (λ t. t ≡ rows.now) }
+    ensures err { IfErr result (λ e. e ≡ Memory) }
+{
+    let mut copies = Vec::with_capacity(alloc, rows.len())?;
+    for row in rows {
+        copies.push(row.duplicate(alloc)?)?;
+    }
+    Ok(Table::from_vec(copies))
+}
