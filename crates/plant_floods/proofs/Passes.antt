@@ -1,12 +1,12 @@
 -- What one more count does to the floods.
-use Rattle.std.proofs.Common.{◌≡◌, ℕ, zero, suc, ◌+◌, ◌<◌, ◌≤◌, refl, sym, ap, ◌∙◌, List, [], ◌∷◌, ◌++◌, length, map, Bool, true, false, cond, arith, ◌&&◌, ◌||◌, not, Option, Some, None, sum, append_assoc, subst, length-append, zero-add, take, get_or}
-use Rattle.std.specs.Prelude.{nat_lt, nat_le, filter_map, fold, max, is_none, if◌then◌else◌}
+use Rattle.std.proofs.Common.{◌≡◌, ℕ, ◌+◌, ◌<◌, ◌≤◌, refl, sym, ap, ◌∙◌, List, [], ◌∷◌, ◌++◌, length, map, Bool, true, false, cond, arith, ◌&&◌, ◌||◌, not, Option, Some, None, sum, append_assoc, subst, length-append, zero-add, take, get_or}
+use Rattle.std.specs.Prelude.{nat_lt, nat_le, filter_map, fold, max}
 use Rattle.std.specs.Option.{option_to_list}
 use Rattle.std.specs.List.{list_all, slice_split, cons_option}
 use Rattle.std.proofs.lemmas.List.{append-nil, map-append, take_more, take_all, length-take-le}
 use Rattle.std.proofs.lemmas.List.Sums.{fold-append, sum_by-append}
 use Rattle.std.proofs.lemmas.List.Elements.{filter_map-append}
-use Rattle.std.proofs.lemmas.Bool.{false≢true, ltb-true, le-leb}
+use Rattle.std.proofs.lemmas.Bool.{ltb-true, le-leb}
 use Rattle.plant_floods.specs.declared.run.Run.{Run}
 use Rattle.plant_floods.specs.Floods.{ends_in_flood, Period, period, periods_after, periods, run_of, floods}
 use Rattle.plant_floods.specs.Pass.{grown, next_runs}

@@ -1,11 +1,10 @@
 -- What a file's rows add, one row more at a time.
-use Rattle.std.proofs.Common.{◌≡◌, ℕ, zero, suc, ◌+◌, ◌-◌, ◌<◌, ◌≤◌, refl, sym, ap, ◌∙◌, subst, arith, List, [], ◌∷◌, ◌++◌, length, take, drop, get_or, Bool, true, false, cond, ◌||◌, not, Option, Some, None, Ok, Err, append_assoc, length-append}
+use Rattle.std.proofs.Common.{◌≡◌, ℕ, ◌+◌, ◌-◌, ◌<◌, ◌≤◌, refl, sym, ap, ◌∙◌, subst, arith, List, [], ◌∷◌, ◌++◌, length, take, drop, get_or, Bool, true, false, cond, ◌||◌, not, Option, Some, None, Ok, Err, append_assoc, length-append}
 use Rattle.std.specs.Prelude.{option_map, Result, nat_lt}
 use Rattle.std.proofs.lemmas.List.{append-nil, take_more, take_all, length-take-le, take-append-drop}
 use Rattle.plant_types.specs.Names.{Name, same_name}
 use Rattle.plant_types.specs.Options.{or_else}
 use Rattle.plant_alarm.specs.declared.event.Event.{Event}
-use Rattle.plant_alarm.specs.States.{passing}
 use Rattle.plant_alarm.proofs.Push.{passing-push}
 use Rattle.plant_import.specs.declared.bad_file.BadFile.{BadFile}
 use Rattle.plant_import.specs.declared.bad_file.Cause.{Cause}

@@ -1,15 +1,13 @@
 -- An event next to those of smaller and those of greater numbers.
-use Rattle.std.proofs.Common.{◌≡◌, ℕ, ◌+◌, ◌-◌, ◌<◌, ◌≤◌, refl, sym, ap, ◌∙◌, subst, arith, List, [], ◌∷◌, ◌++◌, length, take, drop, get_or, ◌⊎◌, inl, inr, Bool, true, false, ◌&&◌, ◌||◌, not, Option, Some, None}
+use Rattle.std.proofs.Common.{◌≡◌, ℕ, ◌+◌, ◌<◌, ◌≤◌, refl, sym, ap, ◌∙◌, subst, arith, List, [], ◌∷◌, ◌++◌, length, take, drop, ◌⊎◌, inl, inr, Bool, true, false, ◌&&◌, ◌||◌, not, Option, Some, None}
 use Rattle.std.specs.Prelude.{nat_lt, ◌==◌, if◌then◌else◌, slice_get, insert, MatchOption}
 use Rattle.std.specs.List.{list_any}
 use Rattle.std.specs.List.Sorted.{IsPartitionPoint}
 use Rattle.std.proofs.lemmas.List.{take-append-drop, length-take-le, length-drop, get_or-take, get_or-drop}
-use Rattle.std.specs.Ordering.{eq_by_cmp}
-use Rattle.std.specs.declared.cmp.Ordering.TheVariants.{Equal}
 use Rattle.std.proofs.lemmas.Bool.{le-ltb, lt-ltb, ltb-false, ne_eqb, eqb-true, eq-eqb, false≢true, cases_lt}
 use Rattle.std.proofs.lemmas.List.Folds.{list_any-append}
 use Rattle.std.proofs.Math.Seq.{take-append_seam, drop-append_seam}
-use Rattle.plant_types.specs.Names.{Name, name_cmp, same_name}
+use Rattle.plant_types.specs.Names.{name_cmp}
 use Rattle.plant_types.proofs.Orders.{same_names}
 use Rattle.plant_types.proofs.TableLaws.{tied}
 use Rattle.plant_alarm.specs.declared.event.Event.{Event}
@@ -17,7 +15,7 @@ use Rattle.plant_alarm.specs.declared.event.EventKind.{EventKind}
 use Rattle.plant_alarm.specs.declared.event.EventKind.TheVariants.{Act, Rtn, Ack, Reset, Sup, Unsup}
 use Rattle.plant_import.specs.Merging.{IsRising, same_event, clashes, out_of_order, kind_no}
 use Rattle.plant_import.specs.Standing.{StandsSo}
-use Rattle.plant_import.proofs.Risings.{Each, each_of, each_at, each_weaker, each_both, each_append, each_back, Before, Rising, rising_of, is_rising, rising_front, rising_back, rising_between, any_none, any_same, each_not, any_there}
+use Rattle.plant_import.proofs.Risings.{Each, each_of, each_weaker, each_both, each_append, each_back, Before, Rising, rising_of, is_rising, rising_front, rising_back, rising_between, any_none, any_same, each_not, any_there}
 
 -- events that are the same
 kind_of_no : ℕ → EventKind

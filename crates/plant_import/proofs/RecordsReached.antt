@@ -1,16 +1,14 @@
 -- The records that a reader reaches, one after another, are those of the text.
-use Rattle.std.proofs.Common.{◌≡◌, ℕ, zero, suc, ◌+◌, ◌<◌, ◌≤◌, refl, sym, ap, ◌∙◌, arith, List, [], ◌∷◌, ◌++◌, length, Bool, true, false, cond, Option, Some, None, subst}
-use Rattle.std.specs.Prelude.{◌==◌, ◌||◌, ◌&&◌, option_map}
-use Rattle.std.proofs.lemmas.Bool.{false≢true}
+use Rattle.std.proofs.Common.{◌≡◌, ℕ, zero, suc, ◌+◌, ◌<◌, ◌≤◌, refl, sym, ap, ◌∙◌, arith, List, [], ◌∷◌, ◌++◌, length, Bool, true, false, cond, Some, None, subst}
+use Rattle.std.specs.Prelude.{◌==◌, ◌&&◌}
 use Rattle.csv.specs.Machine.{Read, next_record, step, is_end, ends_at_end, after_end, ends_with, in_field, start_field, start_record, is_byte, fields_after, field_after}
-use Rattle.csv.specs.Reading.{records, records_from, records_next, Reached, AreRecords, default_config}
+use Rattle.csv.specs.Reading.{records, records_from, records_next, Reached}
 use Rattle.csv.specs.declared.parser.Config.{Config}
 use Rattle.csv.specs.declared.parser.Terminator.{Terminator}
 use Rattle.csv.specs.declared.parser.Terminator.TheVariants as term
 use Rattle.csv.specs.declared.parser.State.{State}
 use Rattle.csv.specs.declared.parser.State.TheVariants as st
 use Rattle.csv.specs.declared.parser.Action.{Action}
-use Rattle.csv.specs.declared.parser.Action.TheVariants as act
 
 -- after the end of a record no record is begun
 abbrev AtRest : State × Action → Type 0

@@ -1,16 +1,15 @@
 -- Events in rising number, whose moments don't fall: as a list that is gone through, its parts, and what they are next to one more.
-use Rattle.std.proofs.Common.{◌≡◌, ℕ, zero, suc, ◌+◌, ◌-◌, ◌<◌, ◌≤◌, refl, sym, ap, ◌∙◌, subst, arith, List, [], ◌∷◌, ◌++◌, length, take, drop, get_or, Bool, true, false, ◌&&◌, ◌||◌, not, ◌⊎◌, inl, inr, Option, Some, None}
-use Rattle.std.specs.Prelude.{nat_lt, ◌==◌, slice_get}
+use Rattle.std.proofs.Common.{◌≡◌, ℕ, zero, suc, ◌+◌, ◌-◌, ◌<◌, ◌≤◌, refl, sym, ap, ◌∙◌, subst, arith, List, [], ◌∷◌, ◌++◌, length, take, drop, get_or, Bool, true, false, ◌||◌, ◌⊎◌, inl, inr, Some, None}
+use Rattle.std.specs.Prelude.{nat_lt, slice_get}
 use Rattle.std.specs.List.Sorted.{IsPartitionedBy}
 use Rattle.std.proofs.lemmas.List.Sorted.{IsPartitionedBy-ltb}
 use Rattle.std.proofs.lemmas.List.{take_more, take_all}
 use Rattle.std.proofs.lemmas.Option.{get_or_from_slice_get, slice_get-get_or}
-use Rattle.std.specs.List.{list_any, AllPairs, All}
-use Rattle.std.proofs.lemmas.Bool.{le-ltb, lt-ltb, ltb-true, ltb-false, ne_eqb, eqb-true, false≢true, cases_lt}
-use Rattle.std.proofs.lemmas.List.Folds.{list_any-append}
+use Rattle.std.specs.List.{list_any}
+use Rattle.std.proofs.lemmas.Bool.{le-ltb, ltb-false, cases_lt}
 use Rattle.std.proofs.lemmas.List.Kept.{AllPairs-cons}
 use Rattle.plant_alarm.specs.declared.event.Event.{Event}
-use Rattle.plant_import.specs.Merging.{IsRising, same_event, clashes, out_of_order}
+use Rattle.plant_import.specs.Merging.{IsRising}
 
 -- P holds of each
 abbrev pub Each : (Event → Type 0) → List Event → Type 0

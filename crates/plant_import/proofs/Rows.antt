@@ -1,6 +1,6 @@
 -- What a row is read as, cause by cause.
-use Rattle.std.proofs.Common.{◌≡◌, ◌≢◌, ℕ, zero, suc, ◌<◌, ◌≤◌, List, [], ◌∷◌, length, Bool, true, false, cond, not, Option, Some, None, Ok, Err, refl, sym, ap, ◌∙◌, arith, get_or}
-use Rattle.std.specs.Prelude.{◌==◌, ◌+◌, nat_lt, is_none, slice_get, unwrap_or, option_map, ◌++◌, map, take, drop}
+use Rattle.std.proofs.Common.{◌≡◌, ◌≢◌, ℕ, ◌<◌, ◌≤◌, List, [], ◌∷◌, length, Bool, true, false, not, Option, Some, None, Ok, Err, refl, sym, ap, ◌∙◌, arith, get_or}
+use Rattle.std.specs.Prelude.{◌==◌, ◌+◌, nat_lt, is_none, slice_get, option_map, ◌++◌, map, take, drop}
 use Rattle.std.specs.List.{list_all, enumerate_from, cons_option}
 use Rattle.std.specs.Option.{option_to_list}
 use Rattle.std.proofs.lemmas.List.{map-append, length-map, take_more, take_all, length-take-le, take-append-drop}

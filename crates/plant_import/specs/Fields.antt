@@ -1,5 +1,5 @@
 -- What the fields of a row are read as.
-use Rattle.std.specs.Prelude.{ℕ, Bool, true, false, ◌&&◌, ◌||◌, not, nat_lt, nat_le, nat_eq, ◌==◌, if◌then◌else◌, List, [], ◌∷◌, length, Option, Some, None, codes, slice_index, is_none, unwrap_or, slice_get}
+use Rattle.std.specs.Prelude.{ℕ, Bool, ◌&&◌, not, nat_lt, nat_eq, ◌==◌, if◌then◌else◌, List, [], ◌∷◌, length, Option, Some, None, codes, slice_index, is_none, unwrap_or, slice_get}
 use Rattle.std.specs.List.{list_all}
 use Rattle.std.specs.Cmp.Lexicographic.{pointwise}
 use Rattle.std.specs.Str.{is_utf8}
@@ -9,7 +9,7 @@ use Rattle.plant_alarm.specs.declared.event.Event.{Event}
 use Rattle.plant_alarm.specs.declared.event.EventKind.{EventKind}
 use Rattle.plant_alarm.specs.declared.event.EventKind.TheVariants.{Act, Rtn, Ack, Reset, Sup, Unsup}
 use Rattle.plant_import.specs.declared.bad_file.Cause.{Cause}
-use Rattle.plant_import.specs.declared.bad_file.Cause.TheVariants.{Header, FieldCount, NotUtf8, BadNumber, BadMoment, BadTag, BadEvent, TooLong}
+use Rattle.plant_import.specs.declared.bad_file.Cause.TheVariants.{FieldCount, NotUtf8, BadNumber, BadMoment, BadTag, BadEvent, TooLong}
 
 abbrev pub same_bytes : List ℕ → List ℕ → Bool
 same_bytes = pointwise nat_eq

@@ -1,6 +1,6 @@
 -- The rows of a file, or its first fault.
-use Rattle.std.specs.Prelude.{ℕ, ◌+◌, Bool, ◌&&◌, true, false, nat_le, ◌==◌, if◌then◌else◌, List, [], ◌∷◌, length, Option, Some, None, Result, Ok, Err, codes, slice_get, option_map, map, filter_map}
-use Rattle.std.specs.List.{list_all, zip, enumerate_from}
+use Rattle.std.specs.Prelude.{ℕ, ◌+◌, Bool, ◌&&◌, ◌==◌, if◌then◌else◌, List, [], ◌∷◌, length, Option, Some, None, Result, Ok, Err, codes, slice_get, option_map, map, filter_map}
+use Rattle.std.specs.List.{enumerate_from}
 use Rattle.csv.specs.Reading.{default_config, strip_bom, records}
 use Rattle.plant_alarm.specs.declared.event.Event.{Event}
 use Rattle.plant_import.specs.declared.bad_file.BadFile.{BadFile}

@@ -1,5 +1,5 @@
 -- How a row stands to events in rising number: what the code tells from the nearest of them.
-use Rattle.std.specs.Prelude.{ℕ, ◌≡◌, Bool, true, false, List, ◌++◌, length, insert, Option, Some, None, Result, Ok, Err}
+use Rattle.std.specs.Prelude.{ℕ, ◌≡◌, Bool, true, false, List, ◌++◌, insert, Option, Some, None, Result, Ok, Err}
 use Rattle.std.specs.List.{list_any}
 use Rattle.plant_types.specs.Names.{Name}
 use Rattle.plant_alarm.specs.declared.event.Event.{Event}

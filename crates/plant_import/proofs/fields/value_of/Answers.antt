@@ -1,4 +1,4 @@
-use Rattle.std.proofs.Common.{◌≡◌, ◌≤◌, ◌<◌, ℕ, length, arith, get_or}
+use Rattle.std.proofs.Common.{arith}
 use Rattle.plant_import.proofs.Digits.{room_below}
 use Rattle.plant_import.proofs.fields.value_of.Goals as goal
 

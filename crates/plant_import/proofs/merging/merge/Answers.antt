@@ -1,4 +1,4 @@
-use Rattle.std.proofs.Common.{◌≡◌, ◌∙◌, ◌++◌, ◌∷◌, [], ap, arith, rules, sym, refl, List, Some, None, Ok, Err, length, length-append}
+use Rattle.std.proofs.Common.{◌≡◌, ◌∙◌, ◌++◌, ◌∷◌, [], ap, arith, rules, sym, refl, Some, None, Ok, Err, length, length-append}
 use Rattle.std.specs.List.{insert}
 use Rattle.plant_import.proofs.Merges.{so_none, so_new_at, so_known_at, so_fault_at, so_all, judged_along}
 use Rattle.plant_import.proofs.merging.merge.Goals as goal

@@ -1,8 +1,5 @@
-use Rattle.std.proofs.Common.{◌≡◌, ◌<◌, ◌∙◌, sym, rules, arith, ap, List, ℕ, length, get_or, true, false, []}
-use Rattle.std.specs.Str.{is_utf8}
+use Rattle.std.proofs.Common.{sym, rules, arith}
 use Rattle.std.proofs.lemmas.List.{take_all}
-use Rattle.std.proofs.lemmas.List.Folds.{list_all_at}
-use Rattle.std.specs.List.{list_all}
 use Rattle.csv.specs.Records.{fields_of}
 use Rattle.plant_import.proofs.Places.{text_more, text_at}
 use Rattle.plant_import.proofs.reading.all_text.Goals as goal

@@ -1,7 +1,7 @@
-use Rattle.std.proofs.Common.{◌≡◌, ◌∙◌, sym, ap, arith, map, List, subst}
+use Rattle.std.proofs.Common.{◌≡◌, ◌∙◌, sym, ap, map, List, subst}
 use Rattle.std.specs.Prelude.{IfOk, Result}
 use Rattle.csv.specs.Reading.{default_config, records, strip_bom}
-use Rattle.csv.specs.Records.{Row, fields_of}
+use Rattle.csv.specs.Records.{fields_of}
 use Rattle.plant_alarm.specs.declared.event.Event.{Event}
 use Rattle.plant_import.specs.declared.bad_file.BadFile.{BadFile}
 use Rattle.plant_import.proofs.Rows.{file_rows, file_no_header, file_empty}

@@ -1,6 +1,6 @@
-use Rattle.std.proofs.Common.{◌≡◌, ◌∙◌, sym, rules, arith}
+use Rattle.std.proofs.Common.{sym, rules, arith}
 use Rattle.csv.specs.Records.{fields_of}
-use Rattle.plant_import.proofs.Rows.{IsTextRow, IsReadRow, bad_count, bad_text, bad_number, bad_moment, bad_tag, bad_event, too_long, is_read}
+use Rattle.plant_import.proofs.Rows.{bad_count, bad_text, bad_number, bad_moment, bad_tag, bad_event, too_long, is_read}
 use Rattle.plant_import.proofs.reading.read_row.Goals as goal
 
 pub returns-then-len-ne4-clause-value : goal.returns-then-len-ne4-clause-value

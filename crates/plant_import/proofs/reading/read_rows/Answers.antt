@@ -1,4 +1,4 @@
-use Rattle.std.proofs.Common.{◌≡◌, ◌<◌, ◌≤◌, ◌+◌, ◌∙◌, refl, sym, rules, arith, ap, Ok, Err, ◌++◌, ◌∷◌, []}
+use Rattle.std.proofs.Common.{◌≡◌, ◌+◌, ◌∙◌, refl, sym, rules, arith, ap, Ok, Err, ◌++◌, ◌∷◌, []}
 use Rattle.csv.specs.Records.{fields_of}
 use Rattle.plant_import.specs.Reading.{row_read, bad}
 use Rattle.plant_import.proofs.Rows.{rows_none, rows_next, rows_fault, rows_all, in_limit}

@@ -2,9 +2,8 @@ use Rattle.std.proofs.Common.{◌<◌, refl, sym, rules, Some, None, true, false
 use Rattle.std.specs.Prelude.{nat_lt}
 use Rattle.std.specs.List.{list_any}
 use Rattle.std.proofs.lemmas.Bool.{eqb-false}
-use Rattle.plant_alarm.specs.declared.event.Event.{Event}
 use Rattle.plant_import.proofs.Risings.{Each, rising_back}
-use Rattle.plant_import.proofs.Nearest.{AreParts, parts, higher, below_rising, above_rising, stands_known, stands_apart, stands_new}
+use Rattle.plant_import.proofs.Nearest.{parts, higher, below_rising, above_rising, stands_known, stands_apart, stands_new}
 use Rattle.plant_import.proofs.standing.stands.Goals as goal
 use Rattle.plant_import.proofs.standing.stands.Goals.{in-Some+else-eq, in_default}
 

@@ -1,5 +1,5 @@
 use Rattle.std.proofs.Common.{rules, ◌∷◌, []}
-use Rattle.std.specs.Prelude.{decimal, codes}
+use Rattle.std.specs.Prelude.{decimal}
 use Rattle.std.proofs.lemmas.Result.{on_ok_weaker}
 use Rattle.plant_report.specs.Columns.{left, right}
 use Rattle.plant_report.specs.Moments.{moment_text}
