@@ -1,6 +1,7 @@
 pub mod Digits
 pub mod RecordsReached
 pub mod Places
+pub mod ReadsRecords
 pub mod Rows
 pub mod Merges
 pub mod Risings

@@ -109,6 +109,12 @@ append_none : (rows : List (List (List ℕ))) → rows ++ [] ≡ rows
 append_none [] = refl
 append_none (r ∷ rows) = ap (λ l. r ∷ l) (append_none rows)
 
+-- the records of a text begin with those that were reached
+pub begins_with : (cfg : Config) (xs : List ℕ) (rows : List (List (List ℕ))) (s2 : State) (ys : List ℕ) → Reached cfg st.StartRecord xs rows s2 ys → (rest : List (List (List ℕ))) × (records cfg xs ≡ rows ++ rest)
+begins_with cfg xs rows s2 ys h =
+    let c = reached_continues cfg (length xs + 1) st.StartRecord xs rows s2 ys h (omega arith) in
+    (records_from cfg c.fuel s2 ys, c.are)
+
 -- where none is left these are all
 pub all_reached : (cfg : Config) (xs : List ℕ) (rows : List (List (List ℕ))) (s2 : State) (ys : List ℕ)
     → Reached cfg st.StartRecord xs rows s2 ys → next_record cfg s2 [] [] ys ≡ None → rows ≡ records cfg xs

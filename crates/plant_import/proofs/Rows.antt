@@ -87,9 +87,9 @@ no_fault (Some x) fields event e = cc
 no_fault None fields event e = (refl, cc)
 
 -- the rows so far have no fault, and these events
-pub record AreReadRows (rows : List Row) (events : List Event) : Type 0 where
-  pub none : row_faults (enumerate_from 1 (map fields_of rows)) ≡ []
-  pub events_are : events ≡ map event_in (map fields_of rows)
+pub record AreReadRows (rows : List (List (List ℕ))) (events : List Event) : Type 0 where
+  pub none : row_faults (enumerate_from 1 rows) ≡ []
+  pub events_are : events ≡ map event_in rows
 
 enumerate_from-push : {X : Type 0} (n : ℕ) (xs : List X) (x : X) → enumerate_from n (xs ++ x ∷ []) ≡ enumerate_from n xs ++ (n + length xs, x) ∷ []
 enumerate_from-push n [] x = let e : n ≡ n + 0 = omega arith in ap (λ m. (m, x) ∷ []) e
@@ -112,22 +112,21 @@ faults-push k rows r e =
 pub rows_none : AreReadRows [] []
 rows_none = record { none = refl; events_are = refl }
 
-pub rows_push : (k : ℕ) (rows : List Row) (r : Row) (events : List Event) (event : Event) → k ≡ length rows + 1 → AreReadRows rows events → row_read k (fields_of r) ≡ Ok event
+pub rows_push : (k : ℕ) (rows : List (List (List ℕ))) (r : List (List ℕ)) (events : List Event) (event : Event) → k ≡ length rows + 1 → AreReadRows rows events → row_read k r ≡ Ok event
     → AreReadRows (rows ++ r ∷ []) (events ++ event ∷ [])
 rows_push k rows r events event e h is =
-    let n = no_fault (row_fault k (fields_of r)) (fields_of r) event is in
-    let at : k ≡ length (map fields_of rows) + 1 = omega (arith, e, length-map rows fields_of) in
+    let n = no_fault (row_fault k r) r event is in
     record {
       none =
-          ap (λ l. row_faults (enumerate_from 1 l)) (map-append fields_of rows (r ∷ [])) ∙ faults-push k (map fields_of rows) (fields_of r) at
-          ∙ ap (λ o. row_faults (enumerate_from 1 (map fields_of rows)) ++ option_to_list (option_map (bad (k + 1)) o)) n.0 ∙ ap (λ l. l ++ []) h.none;
+          faults-push k rows r e
+          ∙ ap (λ o. row_faults (enumerate_from 1 rows) ++ option_to_list (option_map (bad (k + 1)) o)) n.0 ∙ ap (λ l. l ++ []) h.none;
       events_are =
-          ap (λ l. l ++ event ∷ []) h.events_are ∙ ap (λ x. map event_in (map fields_of rows) ++ x ∷ []) (sym n.1)
-          ∙ sym (map-append event_in (map fields_of rows) (fields_of r ∷ [])) ∙ ap (map event_in) (sym (map-append fields_of rows (r ∷ [])));
+          ap (λ l. l ++ event ∷ []) h.events_are ∙ ap (λ x. map event_in rows ++ x ∷ []) (sym n.1)
+          ∙ sym (map-append event_in rows (r ∷ []));
     }
 
-pub rows_whole : (rows : List Row) (events : List Event) → AreReadRows rows events → rows_read (map fields_of rows) ≡ Ok events
-rows_whole rows events h = ap (λ l. events_or (slice_get l 0) (map fields_of rows)) h.none ∙ ap Ok (sym h.events_are)
+pub rows_whole : (rows : List (List (List ℕ))) (events : List Event) → AreReadRows rows events → rows_read rows ≡ Ok events
+rows_whole rows events h = ap (λ l. events_or (slice_get l 0) rows) h.none ∙ ap Ok (sym h.events_are)
 
 first_of : (l : List BadFile) (x : BadFile) (m : List BadFile) → l ≡ [] → slice_get ((l ++ x ∷ []) ++ m) 0 ≡ Some x
 first_of l x m e = ap (λ t. slice_get ((t ++ x ∷ []) ++ m) 0) e
@@ -142,35 +141,15 @@ more_faults n xs ys =
     enumerated n [] ys = (enumerate_from n ys, refl)
     enumerated n (x ∷ xs) ys = let s = enumerated (n + 1) xs ys in (s.0, ap (λ l. (n, x) ∷ l) s.1)
 
-pub rows_stop : (k : ℕ) (rows : List Row) (r : Row) (rest : List Row) (events : List Event) (cause : Cause) → k ≡ length rows + 1 → AreReadRows rows events → row_read k (fields_of r) ≡ Err cause
-    → rows_read (map fields_of ((rows ++ r ∷ []) ++ rest)) ≡ Err (bad (k + 1) cause)
+pub rows_stop : (k : ℕ) (rows : List (List (List ℕ))) (r : List (List ℕ)) (rest : List (List (List ℕ))) (events : List Event) (cause : Cause) → k ≡ length rows + 1 → AreReadRows rows events → row_read k r ≡ Err cause
+    → rows_read ((rows ++ r ∷ []) ++ rest) ≡ Err (bad (k + 1) cause)
 rows_stop k rows r rest events cause e h is =
-    let f = fault_of (row_fault k (fields_of r)) (fields_of r) cause is in
-    let at : k ≡ length (map fields_of rows) + 1 = omega (arith, e, length-map rows fields_of) in
-    let more = more_faults 1 (map fields_of (rows ++ r ∷ [])) (map fields_of rest) in
-    let here : row_faults (enumerate_from 1 (map fields_of (rows ++ r ∷ []))) ≡ row_faults (enumerate_from 1 (map fields_of rows)) ++ bad (k + 1) cause ∷ [] =
-    ap (λ l. row_faults (enumerate_from 1 l)) (map-append fields_of rows (r ∷ [])) ∙ faults-push k (map fields_of rows) (fields_of r) at
-    ∙ ap (λ o. row_faults (enumerate_from 1 (map fields_of rows)) ++ option_to_list (option_map (bad (k + 1)) o)) f in
-    let all : row_faults (enumerate_from 1 (map fields_of ((rows ++ r ∷ []) ++ rest))) ≡ (row_faults (enumerate_from 1 (map fields_of rows)) ++ bad (k + 1) cause ∷ []) ++ more.0 =
-    ap (λ l. row_faults (enumerate_from 1 l)) (map-append fields_of (rows ++ r ∷ []) rest) ∙ more.1 ∙ ap (λ l. l ++ more.0) here in
-    ap (λ o. events_or o (map fields_of ((rows ++ r ∷ []) ++ rest))) (ap (λ l. slice_get l 0) all ∙ first_of (row_faults (enumerate_from 1 (map fields_of rows))) (bad (k + 1) cause) more.0 h.none)
-
--- the same at a place of a list
-pub rows_next : (all : List Row) (i : ℕ) (r : Row) (events : List Event) (event : Event) → i < length all → r ≡ get_or all i r → AreReadRows (take i all) events → row_read (i + 1) (fields_of r) ≡ Ok event
-    → AreReadRows (take (i + 1) all) (events ++ event ∷ [])
-rows_next all i r events event lt at h is =
-    let n : i + 1 ≡ length (take i all) + 1 = omega (arith, length-take-le i all (omega arith)) in
-    rw (take_more all i r lt, ← at) (rows_push (i + 1) (take i all) r events event n h is)
-
-pub rows_fault : (all : List Row) (i : ℕ) (r : Row) (events : List Event) (cause : Cause) → i < length all → r ≡ get_or all i r → AreReadRows (take i all) events → row_read (i + 1) (fields_of r) ≡ Err cause
-    → rows_read (map fields_of all) ≡ Err (bad (i + 1 + 1) cause)
-rows_fault all i r events cause lt at h is =
-    let n : i + 1 ≡ length (take i all) + 1 = omega (arith, length-take-le i all (omega arith)) in
-    let cut : all ≡ (take i all ++ r ∷ []) ++ drop (i + 1) all = sym (take-append-drop (i + 1) all) ∙ ap (λ l. l ++ drop (i + 1) all) (take_more all i r lt) ∙ ap (λ x. (take i all ++ x ∷ []) ++ drop (i + 1) all) (sym at) in
-    ap (λ l. rows_read (map fields_of l)) cut ∙ rows_stop (i + 1) (take i all) r (drop (i + 1) all) events cause n h is
-
-pub rows_all : (all : List Row) (i : ℕ) (events : List Event) → length all ≤ i → AreReadRows (take i all) events → rows_read (map fields_of all) ≡ Ok events
-rows_all all i events le h = rw (take_all i all le) at (rows_whole (take i all) events h)
+    let f = fault_of (row_fault k r) r cause is in
+    let more = more_faults 1 (rows ++ r ∷ []) rest in
+    let here : row_faults (enumerate_from 1 (rows ++ r ∷ [])) ≡ row_faults (enumerate_from 1 rows) ++ bad (k + 1) cause ∷ [] =
+    faults-push k rows r e ∙ ap (λ o. row_faults (enumerate_from 1 rows) ++ option_to_list (option_map (bad (k + 1)) o)) f in
+    let all : row_faults (enumerate_from 1 ((rows ++ r ∷ []) ++ rest)) ≡ (row_faults (enumerate_from 1 rows) ++ bad (k + 1) cause ∷ []) ++ more.0 = more.1 ∙ ap (λ l. l ++ more.0) here in
+    ap (λ o. events_or o ((rows ++ r ∷ []) ++ rest)) (ap (λ l. slice_get l 0) all ∙ first_of (row_faults (enumerate_from 1 rows)) (bad (k + 1) cause) more.0 h.none)
 
 -- where no cause holds the last doesn't
 last_of : (causes : List (Bool × Cause)) (b : Bool) (cause : Cause) → first_cause (causes ++ (b, cause) ∷ []) ≡ None → b ≡ false
@@ -193,15 +172,14 @@ in_limit k fields event e =
     ∷ []) (nat_lt 10000 k) TooLong (no_fault (row_fault k fields) fields event e).0)
 
 -- what a file is read as, by its records
-pub file_rows : (bytes : List ℕ) (first : Row) (rest : List Row) → map fields_of (first ∷ rest) ≡ records default_config (strip_bom bytes) → is_header (fields_of first) ≡ true → file_read bytes ≡ rows_read (map fields_of rest)
+pub file_rows : (bytes : List ℕ) (first : List (List ℕ)) (rest : List (List (List ℕ))) → records default_config (strip_bom bytes) ≡ first ∷ rest → is_header first ≡ true → file_read bytes ≡ rows_read rest
 unfolding file_read
-file_rows bytes first rest e is = rw (← e, is) refl
+file_rows bytes first rest e is = rw (e, is) refl
 
-pub file_no_header : (bytes : List ℕ) (first : Row) (rest : List Row) → map fields_of (first ∷ rest) ≡ records default_config (strip_bom bytes) → is_header (fields_of first) ≡ false → file_read bytes ≡ Err (bad 1 Header)
+pub file_no_header : (bytes : List ℕ) (first : List (List ℕ)) (rest : List (List (List ℕ))) → records default_config (strip_bom bytes) ≡ first ∷ rest → is_header first ≡ false → file_read bytes ≡ Err (bad 1 Header)
 unfolding file_read
-file_no_header bytes first rest e is = rw (← e, is) refl
+file_no_header bytes first rest e is = rw (e, is) refl
 
-pub file_empty : (bytes : List ℕ) (all : List Row) → map fields_of all ≡ records default_config (strip_bom bytes) → length all ≡ 0 → file_read bytes ≡ Err (bad 1 Header)
+pub file_empty : (bytes : List ℕ) → records default_config (strip_bom bytes) ≡ [] → file_read bytes ≡ Err (bad 1 Header)
 unfolding file_read
-file_empty bytes [] e none = rw (← e) refl
-file_empty bytes (r ∷ rs) e none = absurd (omega arith)
+file_empty bytes e = rw e refl

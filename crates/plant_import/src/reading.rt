@@ -1,15 +1,16 @@
-ghost use Rattle.std.specs.Prelude.{◌≡◌, IfOk, IfErr, map};
+ghost use Rattle.std.specs.Prelude.{◌≡◌, ◌∷◌, [], IfOk, IfErr, List, ℕ};
 ghost use Rattle.std.specs.List.{list_all};
 ghost use Rattle.std.specs.Str.{is_utf8};
 ghost use Rattle.csv.specs.Records.{fields_of};
 ghost use Rattle.plant_types.specs.declared.fault.Fault.TheVariants.{Memory};
 ghost use Rattle.plant_import.specs.Reading as reading;
-ghost use Rattle.plant_import.specs.Reading.{row_read, rows_read, file_read};
+ghost use Rattle.plant_import.specs.Reading.{row_read, file_read};
+ghost use Rattle.plant_import.specs.Records.{HasRead, AreRowsRead};
 
 use crate::fields::{kind_of, number_of};
-use crate::records::{field, records_of};
+use crate::records::{field, next_record, reader_of};
 use crate::{BadFile, Cause};
-use csv::ByteRecord;
+use csv::{ByteRecord, Reader};
 use plant_alarm::Event;
 use plant_types::{Fault, Moment, Table, Tag};
 use std::alloc::Global;
@@ -29,14 +30,15 @@ pub fn read_file(alloc: Global, bytes: &[u8]) -> Result<FileRead, Fault>
         line: 1,
         cause: Cause::Header,
     };
-    let records = records_of(alloc, bytes)?;
-    let Some((first, rows)) = records.as_slice().split_first() else {
-        return Ok(Err(no_header));
-    };
-    if !is_header(first) {
+    let mut reader = reader_of(alloc, bytes);
+    let mut first = ByteRecord::new(alloc);
+    if !next_record(&mut reader, &mut first)? {
         return Ok(Err(no_header));
     }
-    read_rows(alloc, rows)
+    if !is_header(&first) {
+        return Ok(Err(no_header));
+    }
+    read_rows(alloc, reader)
 }
 
 fn is_header(row: &ByteRecord) -> bool
@@ -49,15 +51,16 @@ fn is_header(row: &ByteRecord) -> bool
         && field(row, 3) == b"event".as_slice()
 }
 
-/// The events of the rows below the header, or their first fault.
-fn read_rows(alloc: Global, rows: &[ByteRecord]) -> Result<FileRead, Fault>
-    ensures value { IfOk result (λ read. read ≡ rows_read (map fields_of rows.now)) }
+/// The events of the rows below the header, or their first fault. It reads no further than that.
+fn read_rows(alloc: Global, mut reader: Reader<&[u8]>) -> Result<FileRead, Fault>
+    ensures value { IfOk result (λ read. (text : List ℕ) → (header : List (List ℕ)) → HasRead reader.entry text (header ∷ []) → AreRowsRead text header read) }
     ensures err { IfErr result (λ e. e ≡ Memory) }
 {
     let mut events = Table::new(alloc);
+    let mut row = ByteRecord::new(alloc);
     let mut place = 1;
-    for row in rows {
-        match read_row(alloc, place, row)? {
+    while next_record(&mut reader, &mut row)? {
+        match read_row(alloc, place, &row)? {
             Ok(event) => events.push(event)?,
             Err(cause) => {
                 return Ok(Err(BadFile {

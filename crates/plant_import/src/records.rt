@@ -1,30 +1,32 @@
-ghost use Rattle.std.specs.Prelude.{◌≡◌, IfOk, IfErr, map};
-ghost use Rattle.csv.specs.Reading.{default_config, records, strip_bom};
+ghost use Rattle.std.specs.Prelude.{◌≡◌, [], IfOk, IfErr, List, ℕ};
 ghost use Rattle.csv.specs.Records.{fields_of};
 ghost use Rattle.plant_types.specs.declared.fault.Fault.TheVariants.{Memory};
 ghost use Rattle.plant_import.specs.Fields as fields;
+ghost use Rattle.plant_import.specs.Records.{HasRead, ReadsOne};
 
-use csv::{ByteRecord, ReaderBuilder};
+use csv::{ByteRecord, Reader, ReaderBuilder};
 use plant_types::Fault;
 use std::alloc::Global;
 
-/// The records of a file, of any lengths, after a byte order mark.
-pub fn records_of(alloc: Global, bytes: &[u8]) -> Result<Vec<ByteRecord>, Fault>
-    ensures value { IfOk result (λ v. map fields_of v.items ≡ records default_config (strip_bom bytes.now)) }
-    ensures err { IfErr result (λ e. e ≡ Memory) }
+/// A reader of a file's records, of any lengths, after a byte order mark.
+pub fn reader_of(alloc: Global, bytes: &[u8]) -> Reader<&[u8]>
+    ensures { HasRead result bytes.now [] }
 {
-    let reader = ReaderBuilder::new()
+    ReaderBuilder::new()
         .has_headers(false)
         .flexible(true)
-        .from_reader(alloc, bytes);
-    let mut records = Vec::new(alloc);
-    for record in reader.into_byte_records() {
-        let Ok(record) = record else {
-            return Err(Fault::Memory);
-        };
-        records.push(record)?;
-    }
-    Ok(records)
+        .from_reader(alloc, bytes)
+}
+
+/// Reads the next record, if there is one.
+pub fn next_record(reader: &mut Reader<&[u8]>, row: &mut ByteRecord) -> Result<bool, Fault>
+    ensures value { IfOk result (λ found. (text : List ℕ) → (rows : List (List (List ℕ))) → HasRead reader.old text rows → ReadsOne reader.new text rows found (fields_of row.new)) }
+    ensures err { IfErr result (λ e. e ≡ Memory) }
+{
+    let Ok(found) = reader.read_byte_record(row) else {
+        return Err(Fault::Memory);
+    };
+    Ok(found)
 }
 
 /// A field of a record, empty past the last.

@@ -1,30 +1,35 @@
-use Rattle.std.proofs.Common.{◌≡◌, ◌+◌, ◌∙◌, refl, sym, rules, arith, ap, Ok, Err, ◌++◌, ◌∷◌, []}
+use Rattle.std.proofs.Common.{◌≡◌, ◌≤◌, ◌∙◌, ◌++◌, ◌∷◌, [], sym, rules, arith, Ok, Err}
 use Rattle.csv.specs.Records.{fields_of}
-use Rattle.plant_import.specs.Reading.{row_read, bad}
-use Rattle.plant_import.proofs.Rows.{rows_none, rows_next, rows_fault, rows_all, in_limit}
+use Rattle.plant_import.specs.Reading.{row_read}
+use Rattle.plant_import.proofs.Rows.{in_limit}
+use Rattle.plant_import.proofs.ReadsRecords.{reads_none, reads_more, reads_fault, reads_all}
 use Rattle.plant_import.proofs.reading.read_rows.Goals as goal
 
 pub loop-row-init : goal.loop-row-init
-loop-row-init c = record { place = refl; short = omega arith; rows = rw c.new-events.ensures rows_none }
+loop-row-init c = record { short = omega arith; so = λ text header h. rw c.new-events.ensures (reads_none c.args.reader text header h) }
 
 pub returns-in-Err-clause-value : goal.returns-in-Err-clause-value
-returns-in-Err-clause-value c =
-    let at : c.loop-row.place ≡ c.loop-row.row-index + 1 = c.loop-row.invariant.place in
-    let is : row_read (c.loop-row.row-index + 1) (fields_of c.row-item.result) ≡ Err c.in-Err.cause =
-    ap (λ k. row_read k (fields_of c.row-item.result)) (sym at) ∙ sym c.in_ok-event.ensures.value ∙ c.in-Err.is in
-    ap (λ p. Err (bad (p + 1) c.in-Err.cause)) at ∙ sym (rows_fault c.args.rows.now c.loop-row.row-index c.row-item.result c.loop-row.events c.in-Err.cause (omega arith) c.row-item.is c.loop-row.invariant.rows is)
+returns-in-Err-clause-value c text header h =
+    reads_fault c.loop-row.reader c.next_record.new.reader text header c.loop-row.events c.loop-row.place c.in_ok-next_record.field-0 (fields_of c.next_record.new.row) c.in-Err.cause
+    (c.loop-row.invariant.so text header h) (c.in_ok-next_record.ensures.value text) c.if-branch.true (sym c.in_ok-event.ensures.value ∙ c.in-Err.is)
+
+pub loop-row-smaller : goal.loop-row-smaller
+loop-row-smaller c =
+    let short : c.loop-row.place ≤ 10000 = in_limit c.loop-row.place (fields_of c.next_record.new.row) c.in-Ok.event (sym c.in_ok-event.ensures.value ∙ c.in-Ok.is) in
+    omega arith
 
 pub loop-row-preserved : goal.loop-row-preserved
 loop-row-preserved c =
-    let at : c.loop-row.place ≡ c.loop-row.row-index + 1 = c.loop-row.invariant.place in
-    let is : row_read (c.loop-row.row-index + 1) (fields_of c.row-item.result) ≡ Ok c.in-Ok.event =
-    ap (λ k. row_read k (fields_of c.row-item.result)) (sym at) ∙ sym c.in_ok-event.ensures.value ∙ c.in-Ok.is in
+    let is : row_read c.loop-row.place (fields_of c.next_record.new.row) ≡ Ok c.in-Ok.event = sym c.in_ok-event.ensures.value ∙ c.in-Ok.is in
     let pushed : c.push.new.self ≡ c.loop-row.events ++ c.in-Ok.event ∷ [] = search rules in
     record {
-      place = omega arith;
-      short = in_limit (c.loop-row.row-index + 1) (fields_of c.row-item.result) c.in-Ok.event is;
-      rows = rw pushed (rows_next c.args.rows.now c.loop-row.row-index c.row-item.result c.loop-row.events c.in-Ok.event (omega arith) c.row-item.is c.loop-row.invariant.rows is);
+      short = omega (arith, in_limit c.loop-row.place (fields_of c.next_record.new.row) c.in-Ok.event is);
+      so = λ text header h.
+          rw pushed (reads_more c.loop-row.reader c.next_record.new.reader text header c.loop-row.events c.loop-row.place c.in_ok-next_record.field-0 (fields_of c.next_record.new.row) c.in-Ok.event
+          (c.loop-row.invariant.so text header h) (c.in_ok-next_record.ensures.value text) c.if-branch.true is);
     }
 
 pub returns-clause-value : goal.returns-clause-value
-returns-clause-value c = sym (rows_all c.args.rows.now c.loop-row.row-index c.loop-row.events (omega arith) c.loop-row.invariant.rows)
+returns-clause-value c text header h =
+    reads_all c.loop-row.reader c.next_record.new.reader text header c.loop-row.events c.loop-row.place c.in_ok-next_record.field-0 (fields_of c.next_record.new.row)
+    (c.loop-row.invariant.so text header h) (c.in_ok-next_record.ensures.value text) c.if-branch.false
