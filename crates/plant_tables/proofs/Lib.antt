@@ -8,3 +8,4 @@ pub mod Joins
 pub mod Shared
 pub mod JoinsMany
 pub mod Asking
+pub mod Shapes
