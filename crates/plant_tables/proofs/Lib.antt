@@ -9,3 +9,4 @@ pub mod Shared
 pub mod JoinsMany
 pub mod Asking
 pub mod Shapes
+pub mod Family
