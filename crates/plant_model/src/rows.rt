@@ -79,7 +79,7 @@ pub struct UnitRows {
 #[derive(Drop)]
 pub struct UnitPart {
     pub rows: UnitRows,
-    pub count: u32,
+    pub count: u64,
 }
 
 /// A row of one of the tables.

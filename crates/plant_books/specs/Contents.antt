@@ -1,0 +1,72 @@
+-- What books contain: the administrator's name, and the rows of each opened unit.
+use Rattle.std.specs.FinMap.{FinMap, contains_key, empty, get, insert, keys}
+use Rattle.std.specs.List.{list_any}
+use Rattle.std.specs.Prelude.{Bool, List, None, Option, Some, false, filter, filter_map, if◌then◌else◌, map, option_map, true, unwrap_or, ℕ, ◌≡◌, ◌⊎◌}
+use Rattle.plant_books.specs.declared.books.MineUnit.{MineUnit}
+use Rattle.plant_model.specs.declared.call.Call.{Call}
+use Rattle.plant_model.specs.declared.rows.Change.{Change}
+use Rattle.plant_model.specs.declared.rows.GrantRow.{GrantRow}
+use Rattle.plant_model.specs.declared.rows.UnitPart.{UnitPart}
+use Rattle.plant_model.specs.declared.rows.UnitRows.{UnitRows}
+use Rattle.plant_types.specs.declared.role.Role.{Role}
+use Rattle.plant_model.specs.Grants.{is_before}
+use Rattle.plant_model.specs.Parts.{part_of}
+use Rattle.plant_model.specs.RowChanges.{changed_by, no_rows, puts_unit}
+use Rattle.plant_model.specs.RowFacts.{unit_read}
+use Rattle.plant_types.specs.Names.{Name, name_cmp, same_name}
+use Rattle.plant_types.specs.Options.{when}
+
+pub record Content : Type 0 where
+  pub admin : Name
+  pub units : FinMap name_cmp UnitRows
+
+-- the content of new books: no unit
+abbrev pub no_units : Name → Content
+no_units admin = record { admin = admin; units = empty }
+
+-- the content with these rows of a unit
+abbrev pub with_rows : Content → Name → UnitRows → Content
+with_rows m u rows = record { admin = m.admin; units = insert m.units u rows }
+
+-- the unit's rows, none where the code was never opened
+abbrev pub rows_in : Content → Name → UnitRows
+rows_in m u = unwrap_or (get m.units u) no_rows
+
+-- the content after changes of one unit's rows
+abbrev pub after_changes : Content → Name → List Change → Content
+after_changes m u cs = with_rows m u (changed_by cs (rows_in m u))
+
+-- the unit is there, or the changes put its row
+abbrev pub IsKnownTo : Content → Name → List Change → Type 0
+IsKnownTo m u cs = (contains_key m.units u ≡ true) ⊎ (puts_unit cs ≡ true)
+
+-- a grant of the person whose end is not yet there
+abbrev pub is_held_by : ℕ → Name → GrantRow → Bool
+is_held_by t p g = if same_name p g.person then is_before t g.end_s else false
+
+abbrev pub is_held_in : ℕ → Name → Option UnitRows → Bool
+is_held_in t p None = false
+is_held_in t p (Some rows) = list_any (is_held_by t p) rows.grants
+
+-- the codes of the units in which the person holds a role at the moment, rising
+abbrev pub codes_held : Content → ℕ → Name → List Name
+codes_held m t p = filter_map (λ u. when (is_held_in t p (get m.units u)) u) (keys m.units)
+
+-- the roles that the person holds in a unit at the moment, by number, and the unit's last moment
+abbrev pub roles_in : ℕ → Name → UnitRows → List Role
+roles_in t p rows = map (λ g. g.role_no) (filter (is_held_by t p) rows.grants)
+
+abbrev pub mine_as : ℕ → Name → Name → UnitRows → MineUnit
+mine_as t p u rows = record { unit = u; roles = roles_in t p rows; last = (unit_read rows).last_s }
+
+abbrev pub mine_unit : ℕ → Name → Name → Option UnitRows → Option MineUnit
+mine_unit t p u None = None
+mine_unit t p u (Some rows) = when (is_held_in t p (Some rows)) (mine_as t p u rows)
+
+-- the units in which the person holds a role at the moment, rising
+abbrev pub mine_units : Content → ℕ → Name → List MineUnit
+mine_units m t p = filter_map (λ u. mine_unit t p u (get m.units u)) (keys m.units)
+
+-- the part of a unit's rows that a call looks at, none where the code was never opened
+abbrev pub part_in : Content → Call → Name → Option UnitPart
+part_in m c u = option_map (part_of c) (get m.units u)

@@ -1,0 +1,13 @@
+-- The count of answers `Store`, which stays at its greatest number once it is there.
+use Rattle.std.specs.Prelude.{Err, Ok, Result, ℕ, ◌+◌, ◌-◌, ◌<◌, ◌^◌, ◌≡◌}
+use Rattle.plant_types.specs.declared.fault.Fault.{Fault}
+use Rattle.plant_types.specs.declared.fault.Fault.TheVariants.{Memory, Store}
+
+abbrev pub CountsFault : ℕ → ℕ → Fault → Type 0
+CountsFault old new Memory = new ≡ old
+CountsFault old new Store = old < 2 ^ 64 - 1 → new ≡ old + 1
+
+-- a call adds one where it answers Store, else nothing
+abbrev pub Counts : {X : Type 0} → ℕ → ℕ → Result X Fault → Type 0
+Counts old new (Ok x) = new ≡ old
+Counts old new (Err fault) = CountsFault old new fault

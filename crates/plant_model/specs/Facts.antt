@@ -1,0 +1,60 @@
+-- What a verdict looks at, of a unit.
+use Rattle.std.specs.Prelude.{Bool, List, Option, Some, count_by, length, not, option_and_then, option_map, unwrap_or, ℕ, ◌&&◌}
+use Rattle.plant_alarm.specs.declared.shelf.ShelfState.{ShelfState}
+use Rattle.plant_model.specs.declared.call.Call.{Call}
+use Rattle.plant_model.specs.declared.rows.AlarmRow.{AlarmRow}
+use Rattle.plant_model.specs.declared.rows.GrantRow.{GrantRow}
+use Rattle.plant_model.specs.declared.rows.ShelfRow.{ShelfRow}
+use Rattle.plant_model.specs.declared.rows.UnitRow.{UnitRow}
+use Rattle.plant_types.specs.declared.role.Role.TheVariants.{Steward}
+use Rattle.plant_alarm.specs.Shelves.{is_unshelved, shelf_state}
+use Rattle.plant_model.specs.Grants.{held, stands}
+use Rattle.plant_model.specs.Rows.{alarm_row, alarm_rows, grant_rows, shelf_rows, unit_row}
+use Rattle.plant_model.specs.Shelves.{shelf, shelf_left}
+use Rattle.plant_types.specs.Names.{Name, same_name}
+use Rattle.plant_types.specs.Roles.{Pair, same_role}
+
+pub record Facts : Type 0 where
+  pub unit : UnitRow
+  pub stands : Pair → Bool
+  pub held : ℕ → Pair → Bool
+  pub pairs : ℕ
+  pub stewards : ℕ
+  pub alarm_count : ℕ
+  pub alarm : Name → Option AlarmRow
+  pub shelf : Name → Option ShelfRow
+  pub shelves : List ShelfRow
+
+abbrev pub is_steward_row : GrantRow → Bool
+is_steward_row g = same_role g.role_no Steward
+
+-- the facts that a history tells
+abbrev pub facts : List Call → Facts
+facts h =
+    record {
+      unit = unit_row h;
+      stands = stands h;
+      held = held h;
+      pairs = length (grant_rows h);
+      stewards = count_by is_steward_row (grant_rows h);
+      alarm_count = length (alarm_rows h);
+      alarm = alarm_row h;
+      shelf = shelf h;
+      shelves = shelf_rows h;
+    }
+
+-- MaxTimeShelved in force
+abbrev pub limit_of : Facts → Name → ℕ
+limit_of f a = unwrap_or (option_map (λ r. r.max_s) (f.alarm a)) 0
+
+-- when the alarm last returned to normal
+abbrev pub returned : Facts → Name → Option ℕ
+returned f a = option_and_then (λ r. r.return_s) (f.alarm a)
+
+-- the shelved state at a moment
+abbrev pub shelf_now : Facts → Name → ℕ → ShelfState
+shelf_now f a t = shelf_state (shelf_left (f.shelf a)) (returned f a) t
+
+-- how many other alarms are shelved at the moment
+abbrev pub others_shelved : Facts → Name → ℕ → ℕ
+others_shelved f a t = count_by (λ s. not (same_name a s.tag) && not (is_unshelved (shelf_state (shelf_left (Some s)) (returned f s.tag) t))) f.shelves

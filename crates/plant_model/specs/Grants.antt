@@ -1,0 +1,43 @@
+-- Which roles a person holds in a unit, and until when.
+use Rattle.std.specs.List.{list_any}
+use Rattle.std.specs.Prelude.{Bool, List, None, Option, Some, false, filter, is_some, nat_lt, option_map, true, unwrap_or, ℕ}
+use Rattle.plant_model.specs.declared.call.Call.{Call}
+use Rattle.plant_model.specs.declared.call.Request.{Request}
+use Rattle.plant_model.specs.declared.call.Request.TheVariants.{Grant, OpenUnit, Withdraw}
+use Rattle.plant_types.specs.declared.role.Role.{Role}
+use Rattle.plant_types.specs.declared.role.Role.TheVariants.{Steward}
+use Rattle.plant_model.specs.Histories.{latest}
+use Rattle.plant_types.specs.Names.{Name}
+use Rattle.plant_types.specs.Options.{flatten, when}
+use Rattle.plant_types.specs.Roles.{Pair, all_roles, same_pair}
+
+-- what a request says of a pair: until when it stands (None: for good), or that it doesn't. An opening grants Steward
+abbrev pub said_of_pair : Pair → Request → Option (Option (Option ℕ))
+said_of_pair k (OpenUnit u steward m q) = when (same_pair k (steward, Steward)) (Some None)
+said_of_pair k (Grant u p t) = when (same_pair k (p, t.0)) (Some t.1)
+said_of_pair k (Withdraw u p r) = when (same_pair k (p, r)) None
+said_of_pair k _ = None
+
+-- until when the pair stands, where the last that was said of it is that it stands
+abbrev pub standing : List Call → Pair → Option (Option ℕ)
+standing h k = flatten (latest (λ c before. said_of_pair k c.request) h)
+
+-- the pair stands: the last Grant or Withdraw of it is a Grant
+abbrev pub stands : List Call → Pair → Bool
+stands h k = is_some (standing h k)
+
+-- the moment lies before the end, where there is one
+abbrev pub is_before : ℕ → Option ℕ → Bool
+is_before t None = true
+is_before t (Some until) = nat_lt t until
+
+-- the pair is held at a moment: it stands, and its end is not yet there
+abbrev pub held : List Call → ℕ → Pair → Bool
+held h t k = unwrap_or (option_map (is_before t) (standing h k)) false
+
+-- the roles that a person holds at a moment, by number, and whether there is one
+abbrev pub roles_held : List Call → ℕ → Name → List Role
+roles_held h t p = filter (λ r. held h t (p, r)) all_roles
+
+abbrev pub holds_any : List Call → ℕ → Name → Bool
+holds_any h t p = list_any (λ r. held h t (p, r)) all_roles

@@ -1,0 +1,23 @@
+-- A unit's history: the list of its accepted changing calls, the newest first.
+use Rattle.std.specs.Ordering.{eq_by_cmp, nat_cmp}
+use Rattle.std.specs.Prelude.{Bool, List, None, Option, [], ℕ, ◌++◌, ◌∷◌}
+use Rattle.plant_model.specs.declared.call.Call.{Call}
+use Rattle.plant_types.specs.Options.{or_else}
+
+-- what the newest entry that says something says. An entry is told what came before it
+abbrev pub latest : {A : Type 0} → (Call → List Call → Option A) → List Call → Option A
+latest says [] = None
+latest says (c ∷ before) = or_else (says c before) (latest says before)
+
+-- what all entries name, the newest first
+abbrev pub all_named : {K : Type 0} → (Call → List Call → List K) → List Call → List K
+all_named names [] = []
+all_named names (c ∷ before) = names c before ++ all_named names before
+
+-- the moment of the last entry
+abbrev pub last_moment : List Call → ℕ
+last_moment [] = 0
+last_moment (c ∷ before) = c.moment
+
+abbrev pub same_number : ℕ → ℕ → Bool
+same_number m n = eq_by_cmp nat_cmp m n

@@ -1,0 +1,46 @@
+-- Isolation, over the definitions alone.
+use Rattle.std.specs.FinMap.{keys}
+use Rattle.std.specs.Prelude.{Bool, List, Some, false, true, ℕ, ◌≡◌}
+use Rattle.plant_model.specs.declared.call.Call.{Call}
+use Rattle.plant_model.specs.Grants.{holds_any}
+use Rattle.plant_model.specs.Views.{IsAlwaysInside, answers_to, grants_to, purge, view}
+use Rattle.plant_model.specs.Worlds.{World, answer, empty_world, history, next, unit_named, units_held}
+use Rattle.plant_types.specs.Names.{Name, same_name}
+
+-- a call that names no unit that the person sees, and grants the person nothing, changes nothing that the person sees of the units
+abbrev pub UnseenCallsChangeNothing : Type 0
+UnseenCallsChangeNothing =
+    (w : World) (p : Name) (t : ℕ) (c : Call)
+    → ((u : Name) → unit_named c.request ≡ Some u → holds_any (history w u) t p ≡ false)
+    → grants_to p c.request ≡ false
+    → units_held (next w c) t p ≡ units_held w t p
+
+-- only the administrator's calls change the codes
+abbrev pub CodesAreTheAdministrators : Type 0
+CodesAreTheAdministrators =
+    (w : World) (c : Call) → same_name c.person w.admin ≡ false → keys (next w c).units ≡ keys w.units
+
+-- equal views give equal answers, and equal views afterwards
+abbrev pub EqualViewsEqualAnswers : Type 0
+EqualViewsEqualAnswers =
+    (w v : World) (c : Call)
+    → w.admin ≡ v.admin
+    → view c.moment c.person w ≡ view c.moment c.person v
+    → (answer w c ≡ answer v c) × (view c.moment c.person (next w c) ≡ view c.moment c.person (next v c))
+
+-- a call of anyone to a unit that the person sees gets equal answers, and leaves equal views of the person
+abbrev pub CallsToSeenUnits : Type 0
+CallsToSeenUnits =
+    (w v : World) (p : Name) (t : ℕ) (c : Call) (u : Name)
+    → w.admin ≡ v.admin
+    → view t p w ≡ view t p v
+    → unit_named c.request ≡ Some u
+    → holds_any (history w u) t p ≡ true
+    → (answer w c ≡ answer v c) × (view t p (next w c) ≡ view t p (next v c))
+
+-- a person's calls get the answers that they would get had no one else called on units in which the person never had a pair
+abbrev pub OthersCallsCanGo : Type 0
+OthersCallsCanGo =
+    (admin p : Name) (units : Name → Bool) (calls : List Call)
+    → IsAlwaysInside p units (empty_world admin) calls
+    → answers_to p (empty_world admin) (purge p units calls) ≡ answers_to p (empty_world admin) calls

@@ -1,0 +1,17 @@
+pub mod Histories
+pub mod Grants
+pub mod Alarms
+pub mod Shelves
+pub mod Matrices
+pub mod Rows
+pub mod Facts
+pub mod Refusals
+pub mod Replies
+pub mod Verdicts
+pub mod Legality
+pub mod RowFacts
+pub mod Parts
+pub mod RowChanges
+pub mod Worlds
+pub mod Views
+pub mod Laws

@@ -1,0 +1,64 @@
+-- The priority matrices of a unit (ISA-18.2: rationalisation), by number, and the places of their bands and cells.
+use Rattle.std.specs.List.{enumerate_from, range_with_len, slice_get}
+use Rattle.std.specs.Ordering.{nat_cmp, ordering_then}
+use Rattle.std.specs.Prelude.{List, None, Option, Some, [], flat_map, length, map, option_and_then, option_map, suc, zero, ℕ}
+use Rattle.std.specs.declared.cmp.Ordering.{Ordering}
+use Rattle.plant_model.specs.declared.call.Call.{Call}
+use Rattle.plant_model.specs.declared.call.Request.{Request}
+use Rattle.plant_model.specs.declared.call.Request.TheVariants.{OpenUnit}
+use Rattle.plant_model.specs.declared.rows.BandRow.{BandRow}
+use Rattle.plant_model.specs.declared.rows.CellRow.{CellRow}
+use Rattle.plant_ration.specs.declared.cell.Cell.{Cell}
+use Rattle.plant_model.specs.Histories.{latest, same_number}
+use Rattle.plant_ration.specs.Grid.{Grid}
+use Rattle.plant_types.specs.Options.{when}
+
+-- the matrix that an entry brings, with its number: that of the opening has number 0
+abbrev pub numbered_matrix : Request → Option (ℕ × Grid)
+numbered_matrix (OpenUnit u s m q) = Some (0, m)
+numbered_matrix _ = None
+
+abbrev pub when_number : {A : Type 0} → ℕ → Option (ℕ × A) → Option A
+when_number n None = None
+when_number n (Some e) = when (same_number n e.0) e.1
+
+-- the matrix of a number
+abbrev pub matrix_numbered : List Call → ℕ → Option Grid
+matrix_numbered h n = latest (λ c before. when_number n (numbered_matrix c.request)) h
+
+-- the place of a finite limit: its matrix and its band; the place of a cell: its matrix, severity and band; each from 1
+abbrev pub BandKey : Type 0
+BandKey = ℕ × ℕ
+
+abbrev pub CellKey : Type 0
+CellKey = ℕ × ℕ × ℕ
+
+abbrev pub band_cmp : BandKey → BandKey → Ordering
+band_cmp a b = ordering_then (nat_cmp a.0 b.0) (nat_cmp a.1 b.1)
+
+abbrev pub cell_cmp : CellKey → CellKey → Ordering
+cell_cmp a b = ordering_then (nat_cmp a.0 b.0) (ordering_then (nat_cmp a.1 b.1) (nat_cmp a.2 b.2))
+
+abbrev pub band_places : ℕ → Grid → List BandKey
+band_places n m = map (λ b. (n, b)) (range_with_len 1 (length m.limits))
+
+abbrev pub cells_of_row : ℕ → ℕ × List Cell → List CellKey
+cells_of_row n e = map (λ b. (n, e.0, b)) (range_with_len 1 (length e.1))
+
+abbrev pub cell_places : ℕ → Grid → List CellKey
+cell_places n m = flat_map (cells_of_row n) (enumerate_from 1 m.cells)
+
+abbrev pub places_in : {K : Type 0} → (ℕ → Grid → List K) → Option (ℕ × Grid) → List K
+places_in places None = []
+places_in places (Some e) = places e.0 e.1
+
+-- the element at a place from 1
+abbrev pub at_place : {A : Type 0} → List A → ℕ → Option A
+at_place xs zero = None
+at_place xs (suc n) = slice_get xs n
+
+abbrev pub band_at : BandKey → Grid → Option BandRow
+band_at k m = option_map (λ l. record { matrix_no = k.0; band_no = k.1; limit_s = l }) (at_place m.limits k.1)
+
+abbrev pub cell_of : CellKey → Grid → Option CellRow
+cell_of k m = option_map (λ c. record { matrix_no = k.0; severity = k.1; band_no = k.2; cell_no = c }) (option_and_then (λ row. at_place row k.2) (at_place m.cells k.1))

@@ -1,0 +1,66 @@
+-- The refusals of a call on a unit, each with its condition, in their order. Results of shelving are named as in OPC 10000-9.
+use Rattle.std.specs.List.{list_any}
+use Rattle.std.specs.Prelude.{Bool, List, None, Option, Some, [], if◌then◌else◌, is_none, is_some, nat_le, nat_lt, not, ℕ, ◌&&◌, ◌++◌, ◌∷◌}
+use Rattle.plant_model.specs.declared.call.Call.{Call}
+use Rattle.plant_model.specs.declared.call.Request.{Request}
+use Rattle.plant_model.specs.declared.call.Request.TheVariants.{Grant, OneShotShelve, Register, Status, TimedShelve, Unshelve, Withdraw}
+use Rattle.plant_model.specs.declared.reply.Full.TheVariants.{Alarms as TooManyAlarms, Grants as TooManyGrants}
+use Rattle.plant_model.specs.declared.reply.Refused.{Refused}
+use Rattle.plant_model.specs.declared.reply.Refused.TheVariants.{AlarmTaken, AlarmUnknown, AlreadyHeld, ConditionAlreadyShelved, ConditionNotShelved, EndNotAhead, LastSteward, MomentBehind, NotGranted, NotHeld, RoleLacking, ShelfQuota, ShelvingTimeOutOfRange, UnitFull}
+use Rattle.plant_types.specs.declared.role.Role.{Role}
+use Rattle.plant_types.specs.declared.role.Role.TheVariants.{Engineer, Operator, Steward}
+use Rattle.plant_alarm.specs.Shelves.{is_one_shot, is_timed, is_unshelved}
+use Rattle.plant_model.specs.Facts.{Facts, limit_of, others_shelved, shelf_now}
+use Rattle.plant_model.specs.Grants.{is_before}
+use Rattle.plant_types.specs.Names.{Name}
+use Rattle.plant_types.specs.Roles.{all_roles, same_role}
+
+-- the role that a request needs, where it needs one in particular
+abbrev pub role_needed : Request → Option Role
+role_needed (Grant u p t) = Some Steward
+role_needed (Withdraw u p r) = Some Steward
+role_needed (Register u a l m) = Some Engineer
+role_needed (TimedShelve u a d w) = Some Operator
+role_needed (OneShotShelve u a w) = Some Operator
+role_needed (Unshelve u a) = Some Operator
+role_needed _ = None
+
+-- no alarm has this tag
+abbrev pub unknown : Facts → Name → Bool × Refused
+unknown f a = (is_none (f.alarm a), AlarmUnknown)
+
+-- so many other alarms are shelved now that the quota is used up
+abbrev pub over_quota : Facts → Name → ℕ → Bool × Refused
+over_quota f a t = (nat_le f.unit.quota (others_shelved f a t), ShelfQuota f.unit.quota)
+
+-- the refusals of a request at this moment
+abbrev pub own_refusals : Facts → ℕ → Request → List (Bool × Refused)
+own_refusals f t (Grant u q r) = (nat_le 500 f.pairs, UnitFull TooManyGrants) ∷ (f.held t (q, r.0), AlreadyHeld) ∷ (not (is_before t r.1), EndNotAhead) ∷ []
+own_refusals f t (Withdraw u q r) = (not (f.stands (q, r)), NotHeld) ∷ (same_role r Steward && nat_le f.stewards 1, LastSteward) ∷ []
+own_refusals f t (Register u a l m) = (nat_le 2000 f.alarm_count, UnitFull TooManyAlarms) ∷ (is_some (f.alarm a), AlarmTaken) ∷ []
+own_refusals f t (TimedShelve u a d w) = unknown f a ∷ (nat_lt (limit_of f a) d, ShelvingTimeOutOfRange (limit_of f a)) ∷ (is_timed (shelf_now f a t), ConditionAlreadyShelved) ∷ over_quota f a t ∷ []
+own_refusals f t (OneShotShelve u a w) = unknown f a ∷ (is_one_shot (shelf_now f a t), ConditionAlreadyShelved) ∷ over_quota f a t ∷ []
+own_refusals f t (Unshelve u a) = unknown f a ∷ (is_unshelved (shelf_now f a t), ConditionNotShelved) ∷ []
+own_refusals f t (Status u a) = unknown f a ∷ []
+own_refusals f t _ = []
+
+abbrev pub lacks_role : Facts → ℕ → Name → Option Role → List (Bool × Refused)
+lacks_role f t p None = []
+lacks_role f t p (Some r) = (not (f.held t (p, r)), RoleLacking r) ∷ []
+
+-- the person holds some role at the moment
+unfoldable pub holds_some : Facts → ℕ → Name → Bool
+holds_some f t p = list_any (λ r. f.held t (p, r)) all_roles
+
+-- the refusals of a call by a person who holds some role in the unit
+abbrev pub refusals_of_holder : Facts → Call → List (Bool × Refused)
+refusals_of_holder f c = lacks_role f c.moment c.person (role_needed c.request) ++ (nat_lt c.moment f.unit.last_s, MomentBehind f.unit.last_s) ∷ own_refusals f c.moment c.request
+
+-- the refusals of a call on a unit
+abbrev pub refusals : Facts → Call → List (Bool × Refused)
+refusals f c = (not (holds_some f c.moment c.person), NotGranted) ∷ refusals_of_holder f c
+
+-- the first refusal whose condition holds
+abbrev pub first_refusal : List (Bool × Refused) → Option Refused
+first_refusal [] = None
+first_refusal ((holds, refused) ∷ rest) = if holds then Some refused else first_refusal rest

@@ -1,0 +1,87 @@
+-- Changes of a unit's rows.
+use Rattle.std.specs.List.{list_any}
+use Rattle.std.specs.Prelude.{Bool, List, None, [], false, filter_map, map, max, true, ℕ, ◌++◌, ◌+◌, ◌∷◌}
+use Rattle.plant_model.specs.declared.call.Call.{Call}
+use Rattle.plant_model.specs.declared.call.Request.{Request}
+use Rattle.plant_model.specs.declared.call.Request.TheVariants.{Grant, OneShotShelve, OpenUnit, Register, TimedShelve, Unshelve, Withdraw}
+use Rattle.plant_model.specs.declared.rows.Change.{Change}
+use Rattle.plant_model.specs.declared.rows.Change.TheVariants.{Put, Remove}
+use Rattle.plant_model.specs.declared.rows.Key.{Key}
+use Rattle.plant_model.specs.declared.rows.Key.TheVariants.{Grant as GrantKey, Shelf as ShelfKey}
+use Rattle.plant_model.specs.declared.rows.Row.{Row}
+use Rattle.plant_model.specs.declared.rows.Row.TheVariants.{Alarm as AlarmPut, Band as BandPut, Cell as CellPut, Grant as GrantPut, Shelf as ShelfPut, Unit as UnitPut}
+use Rattle.plant_model.specs.declared.rows.UnitRow.{UnitRow}
+use Rattle.plant_model.specs.declared.rows.UnitRows.{UnitRows}
+use Rattle.plant_types.specs.declared.role.Role.TheVariants.{Steward}
+use Rattle.plant_model.specs.Facts.{Facts, limit_of}
+use Rattle.plant_model.specs.Matrices.{band_at, band_cmp, band_places, cell_cmp, cell_of, cell_places}
+use Rattle.plant_model.specs.RowFacts.{alarm_tag, band_key, cell_key, pair_of, shelf_tag}
+use Rattle.plant_model.specs.Rows.{alarm_as, grant_as}
+use Rattle.plant_model.specs.Shelves.{shelf_row_as}
+use Rattle.plant_ration.specs.Grid.{Grid}
+use Rattle.plant_types.specs.Names.{Name, name_cmp}
+use Rattle.plant_types.specs.Roles.{pair_cmp}
+use Rattle.plant_types.specs.Tables.{put_row, remove_row}
+
+abbrev pub put : Row → UnitRows → UnitRows
+put (UnitPut r) rows = record rows { units = r ∷ [] }
+put (GrantPut r) rows = record rows { grants = put_row pair_cmp pair_of r rows.grants }
+put (AlarmPut r) rows = record rows { alarms = put_row name_cmp alarm_tag r rows.alarms }
+put (ShelfPut r) rows = record rows { shelves = put_row name_cmp shelf_tag r rows.shelves }
+put (BandPut r) rows = record rows { bands = put_row band_cmp band_key r rows.bands }
+put (CellPut r) rows = record rows { cells = put_row cell_cmp cell_key r rows.cells }
+
+abbrev pub removed : Key → UnitRows → UnitRows
+removed (GrantKey p r) rows = record rows { grants = remove_row pair_cmp pair_of (p, r) rows.grants }
+removed (ShelfKey a) rows = record rows { shelves = remove_row name_cmp shelf_tag a rows.shelves }
+
+-- the rows after one change
+abbrev pub changed : Change → UnitRows → UnitRows
+changed (Put r) rows = put r rows
+changed (Remove k) rows = removed k rows
+
+-- the rows after changes, in their order
+abbrev pub changed_by : List Change → UnitRows → UnitRows
+changed_by [] rows = rows
+changed_by (c ∷ cs) rows = changed_by cs (changed c rows)
+
+-- what a unit's rows are before its opening
+abbrev pub no_rows : UnitRows
+no_rows = record { units = []; grants = []; alarms = []; shelves = []; bands = []; cells = [] }
+
+-- some change puts the unit's own row
+abbrev pub is_unit_put : Change → Bool
+is_unit_put (Put (UnitPut r)) = true
+is_unit_put _ = false
+
+abbrev pub puts_unit : List Change → Bool
+puts_unit cs = list_any is_unit_put cs
+
+-- the rows of a matrix
+abbrev pub bands_of : ℕ → Grid → List Change
+bands_of n m = map (λ r. Put (BandPut r)) (filter_map (λ k. band_at k m) (band_places n m))
+
+abbrev pub cells_of : ℕ → Grid → List Change
+cells_of n m = map (λ r. Put (CellPut r)) (filter_map (λ k. cell_of k m) (cell_places n m))
+
+abbrev pub matrix_changes : ℕ → Grid → List Change
+matrix_changes n m = bands_of n m ++ cells_of n m
+
+-- the changes that an accepted call makes beside that of the unit's row
+abbrev pub own_changes : Facts → Name → ℕ → Request → List Change
+own_changes f p t (OpenUnit u s m q) = Put (GrantPut (grant_as (s, Steward) None)) ∷ matrix_changes 0 m
+own_changes f p t (Grant u q r) = Put (GrantPut (grant_as (q, r.0) r.1)) ∷ []
+own_changes f p t (Withdraw u q r) = Remove (GrantKey q r) ∷ []
+own_changes f p t (Register u a l max) = Put (AlarmPut (alarm_as a max l)) ∷ []
+own_changes f p t (TimedShelve u a d w) = Put (ShelfPut (shelf_row_as false t (t + d) p w a)) ∷ []
+own_changes f p t (OneShotShelve u a w) = Put (ShelfPut (shelf_row_as true t (t + limit_of f a) p w a)) ∷ []
+own_changes f p t (Unshelve u a) = Remove (ShelfKey a) ∷ []
+own_changes f p t _ = []
+
+-- the unit's row after the call
+abbrev pub unit_after : Facts → ℕ → Request → UnitRow
+unit_after f t (OpenUnit u s m q) = record { last_s = t; matrix_no = 0; matrix_rev = 0; quota = q }
+unit_after f t _ = record f.unit { last_s = t }
+
+abbrev pub changes_for : Facts → Call → List Change
+changes_for f c = Put (UnitPut (unit_after f c.moment c.request)) ∷ own_changes f c.person c.moment c.request

@@ -1,0 +1,39 @@
+-- What a unit answers to a call: the first refusal whose condition holds, else the reply.
+use Rattle.std.specs.Prelude.{Bool, Err, List, None, Ok, Option, Result, Some, false, if◌then◌else◌, is_ok, not, true, ◌&&◌, ◌∷◌}
+use Rattle.plant_model.specs.declared.call.Call.{Call}
+use Rattle.plant_model.specs.declared.call.Request.{Request}
+use Rattle.plant_model.specs.declared.call.Request.TheVariants.{MyUnits, OpenUnit, Shelves, Status}
+use Rattle.plant_model.specs.declared.reply.Refused.{Refused}
+use Rattle.plant_model.specs.declared.reply.Reply.{Reply}
+use Rattle.plant_model.specs.Facts.{Facts, facts}
+use Rattle.plant_model.specs.Refusals.{first_refusal, refusals}
+use Rattle.plant_model.specs.Replies.{reply}
+
+abbrev pub refused_or : Option Refused → Reply → Result Reply Refused
+refused_or None reply = Ok reply
+refused_or (Some refused) reply = Err refused
+
+abbrev pub verdict_of : Facts → Call → Result Reply Refused
+verdict_of f c = refused_or (first_refusal (refusals f c)) (reply f c.moment c.request)
+
+-- what a unit of this history answers to the call
+abbrev pub verdict : List Call → Call → Result Reply Refused
+verdict h c = verdict_of (facts h) c
+
+abbrev pub is_read : Request → Bool
+is_read (Status u a) = true
+is_read (Shelves u) = true
+is_read MyUnits = true
+is_read _ = false
+
+-- an accepted call that is no read is an entry of the history
+abbrev pub changes_history : Result Reply Refused → Call → Bool
+changes_history v c = is_ok v && not (is_read c.request)
+
+-- the history after a call: an accepted changing call is put at its front
+abbrev pub after : List Call → Call → List Call
+after h c = if changes_history (verdict h c) c then c ∷ h else h
+
+abbrev pub is_opening : Request → Bool
+is_opening (OpenUnit u s m q) = true
+is_opening _ = false

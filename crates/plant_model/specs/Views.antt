@@ -1,0 +1,54 @@
+-- What a person sees of an office, and the calls that stay when others' calls go.
+use Rattle.std.specs.FinMap.{keys}
+use Rattle.std.specs.List.{list_any}
+use Rattle.std.specs.Prelude.{Bool, List, None, Option, Result, Some, [], false, filter, if◌then◌else◌, ℕ, ◌||◌, ◌∷◌, ◌≡◌}
+use Rattle.plant_model.specs.declared.call.Call.{Call}
+use Rattle.plant_model.specs.declared.call.Request.{Request}
+use Rattle.plant_model.specs.declared.call.Request.TheVariants.{Grant, OpenUnit}
+use Rattle.plant_model.specs.declared.reply.Refused.{Refused}
+use Rattle.plant_model.specs.declared.reply.Reply.{Reply}
+use Rattle.plant_model.specs.Alarms.{quota}
+use Rattle.plant_model.specs.Grants.{stands}
+use Rattle.plant_model.specs.Worlds.{World, answer, history, next, unit_named, units_held}
+use Rattle.plant_types.specs.Names.{Name, same_name}
+use Rattle.plant_types.specs.Roles.{all_roles}
+
+-- the codes, for the administrator; else nothing
+abbrev pub codes_seen : World → Name → List Name
+codes_seen w p = if same_name p w.admin then keys w.units else []
+
+-- what a person sees of a world at a moment: the units in which the person holds a role, each with its history
+abbrev pub view : ℕ → Name → World → List (Name × List Call) × List Name
+view t p w = (units_held w t p, codes_seen w p)
+
+-- the request grants the person something
+abbrev pub grants_to : Name → Request → Bool
+grants_to p (OpenUnit u steward m quota) = same_name p steward
+grants_to p (Grant u q t) = same_name p q
+grants_to p _ = false
+
+-- some pair of the person stands
+abbrev pub has_pair : List Call → Name → Bool
+has_pair h p = list_any (λ r. stands h (p, r)) all_roles
+
+abbrev pub names_in : (Name → Bool) → Option Name → Bool
+names_in units None = false
+names_in units (Some u) = units u
+
+-- the calls that the person made or that name one of the units
+abbrev pub purge : Name → (Name → Bool) → List Call → List Call
+purge p units calls = filter (λ c. same_name c.person p || names_in units (unit_named c.request)) calls
+
+-- the answers to the person's calls among these
+abbrev pub answers_to : Name → World → List Call → List (Result Reply Refused)
+answers_to p w [] = []
+answers_to p w (c ∷ calls) = if same_name c.person p then answer w c ∷ answers_to p (next w c) calls else answers_to p (next w c) calls
+
+-- outside the units no pair of the person stands
+abbrev pub IsInside : Name → (Name → Bool) → World → Type 0
+IsInside p units w = (u : Name) → units u ≡ false → has_pair (history w u) p ≡ false
+
+-- and at no point of the run did one
+abbrev pub IsAlwaysInside : Name → (Name → Bool) → World → List Call → Type 0
+IsAlwaysInside p units w [] = IsInside p units w
+IsAlwaysInside p units w (c ∷ calls) = IsInside p units w × IsAlwaysInside p units (next w c) calls
