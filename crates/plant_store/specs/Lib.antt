@@ -1,3 +1,4 @@
 pub mod Texts
 pub mod Codes
 pub mod Tables
+pub mod Changes

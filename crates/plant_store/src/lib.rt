@@ -1,4 +1,4 @@
 //! The books of an office in the tables of a SQL database.
 #![tactic(auto)]
 
-pub fn nothing() {}
+mod encode;

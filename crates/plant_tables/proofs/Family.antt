@@ -50,6 +50,13 @@ module _ {I : Type 0} (X K : I → Type 0) (shape : (i : I) → Shape (X i) (K i
     apart : (i j : I) → j ≢ i → (shape j).tree ≢ (shape i).tree
     apart i j other e = other (sym (all.placed j) ∙ ap all.which e ∙ all.placed i)
 
+    pub same_table : (i j : I) → (j ≡ i) ⊎ (j ≢ i)
+    same_table i j = go (same_or_not (shape j).tree (shape i).tree)
+      where
+        go : ((shape j).tree ≡ (shape i).tree) ⊎ ((shape j).tree ≢ (shape i).tree) → (j ≡ i) ⊎ (j ≢ i)
+        go (inl same) = inl (sym (all.placed j) ∙ ap all.which same ∙ all.placed i)
+        go (inr other) = inr (λ e. other (ap (λ k. (shape k).tree) e))
+
     elsewhere : (i j : I) (old new : Trees) → KeepsOthers schema (shape i).tree old new → j ≢ i → new (shape j).tree ≡ old (shape j).tree
     elsewhere i j old new kept other = kept_at schema (shape i).tree old new kept (shape j).place (table_in (shape j)) (all.at j) (apart i j other)
 
