@@ -221,3 +221,8 @@ applies_then u xs ys a b c p q = record {
   others = λ other apart i. q.others other apart i ∙ p.others other apart i;
   office = q.office ∙ p.office;
 }
+
+-- what follows where a call succeeded
+pub on_ok : {A E P Q : Type 0} (r : Rattle.std.proofs.Common.Result A E) → (P → Q) → Rattle.std.specs.Prelude.OnOk r P → Rattle.std.specs.Prelude.OnOk r Q
+on_ok (Ok x) f h = f h
+on_ok (Rattle.std.proofs.Common.Err e) f h = tt

@@ -10,7 +10,7 @@ ghost use Rattle.plant_store.specs.Tables.{unit_shape, grant_shape, alarm_shape,
 use plant_alarm::AlarmState;
 use plant_model::{AlarmRow, BandRow, CellRow, GrantRow, ShelfRow, UnitRow};
 use plant_ration::Cell;
-use plant_types::{Alphabet, Moment, Quota, Role, Seconds, Text, UnitCode};
+use plant_types::{Alphabet, Moment, Person, Quota, Role, Seconds, Text, UnitCode};
 use sqlite::Error;
 use sqlite::types::ValueRef;
 
@@ -204,4 +204,25 @@ pub fn cell_cells<'a>(unit: &'a UnitCode, row: &CellRow) -> [ValueRef<'a>; 5]
         number(u32::from(row.band_no)),
         cell(row.cell_no),
     ]
+}
+
+/// The columns of a grant's key.
+pub fn grant_key<'a>(unit: &'a UnitCode, person: &'a Person, held: Role) -> [ValueRef<'a>; 3]
+    ensures { bound result ≡ TextValue unit.now ∷ TextValue person.now ∷ codes.role held ∷ [] }
+{
+    [text(unit), text(person), role(held)]
+}
+
+/// A unit's code and a second name.
+pub fn pair<'a, C: Alphabet>(unit: &'a UnitCode, name: &'a Text<C>) -> [ValueRef<'a>; 2]
+    ensures { bound result ≡ TextValue unit.now ∷ TextValue name.now ∷ [] }
+{
+    [text(unit), text(name)]
+}
+
+/// A name alone.
+pub fn single<C: Alphabet>(name: &Text<C>) -> [ValueRef<'_>; 1]
+    ensures { bound result ≡ TextValue name.now ∷ [] }
+{
+    [text(name)]
 }
