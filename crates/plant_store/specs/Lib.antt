@@ -2,3 +2,4 @@ pub mod Texts
 pub mod Codes
 pub mod Tables
 pub mod Changes
+pub mod Shown

@@ -1,5 +1,6 @@
 //! The books of an office in the tables of a SQL database.
 #![tactic(auto)]
 
+mod decode;
 mod encode;
 mod write;
