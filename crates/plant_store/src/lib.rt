@@ -3,4 +3,5 @@
 
 mod decode;
 mod encode;
+mod read;
 mod write;
