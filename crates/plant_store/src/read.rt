@@ -34,3 +34,186 @@ pub fn ask<S: Alter>(
     let _settled = conn.is_autocommit();
     conn.query_all(sql, cells)
 }
+
+/// The unit's own row, where there is one.
+pub fn units_of<S: Alter>(
+    alloc: Global,
+    conn: &mut Connection<S>,
+    unit: &UnitCode,
+) -> Result<Table<UnitRow>, Error>
+    requires { conn.old.in_transaction ≡ false }
+    ensures mode { conn.new.in_transaction ≡ false }
+    ensures rows { HasCleanDisk (state S.Store conn.new) → AreBooks (state S.Store conn.old).now → IfOk result (λ rows. rows ≡ rows_seen unit.now (state S.Store conn.old).now.trees UnitKept) }
+    ensures same { CanTell (state S.Store conn.new) → AreBooks (state S.Store conn.old).now → (state S.Store conn.new).now ≡ (state S.Store conn.old).now }
+    ensures told { CanTell (state S.Store conn.new) → CanTell (state S.Store conn.old) }
+{
+    let rows = ask(
+        conn,
+        "SELECT last_s, matrix_no, matrix_rev, quota FROM units WHERE unit = ?1 ORDER BY unit",
+        &single(unit),
+    )?;
+    read_all(alloc, rows.as_slice())
+}
+
+/// The unit's grants.
+pub fn grants_of<S: Alter>(
+    alloc: Global,
+    conn: &mut Connection<S>,
+    unit: &UnitCode,
+) -> Result<Table<GrantRow>, Error>
+    requires { conn.old.in_transaction ≡ false }
+    ensures mode { conn.new.in_transaction ≡ false }
+    ensures rows { HasCleanDisk (state S.Store conn.new) → AreBooks (state S.Store conn.old).now → IfOk result (λ rows. rows ≡ rows_seen unit.now (state S.Store conn.old).now.trees GrantKept) }
+    ensures same { CanTell (state S.Store conn.new) → AreBooks (state S.Store conn.old).now → (state S.Store conn.new).now ≡ (state S.Store conn.old).now }
+    ensures told { CanTell (state S.Store conn.new) → CanTell (state S.Store conn.old) }
+{
+    let rows = ask(
+        conn,
+        "SELECT person, role_no, end_s FROM grants WHERE unit = ?1 ORDER BY unit, person, role_no",
+        &single(unit),
+    )?;
+    read_all(alloc, rows.as_slice())
+}
+
+/// The unit's alarms.
+pub fn alarms_of<S: Alter>(
+    alloc: Global,
+    conn: &mut Connection<S>,
+    unit: &UnitCode,
+) -> Result<Table<AlarmRow>, Error>
+    requires { conn.old.in_transaction ≡ false }
+    ensures mode { conn.new.in_transaction ≡ false }
+    ensures rows { HasCleanDisk (state S.Store conn.new) → AreBooks (state S.Store conn.old).now → IfOk result (λ rows. rows ≡ rows_seen unit.now (state S.Store conn.old).now.trees AlarmKept) }
+    ensures same { CanTell (state S.Store conn.new) → AreBooks (state S.Store conn.old).now → (state S.Store conn.new).now ≡ (state S.Store conn.old).now }
+    ensures told { CanTell (state S.Store conn.new) → CanTell (state S.Store conn.old) }
+{
+    let rows = ask(
+        conn,
+        "SELECT tag, latching, max_s, max_rev, state_no, suppressed, active_s, return_s, out_s, out_by, out_words FROM alarms WHERE unit = ?1 ORDER BY unit, tag",
+        &single(unit),
+    )?;
+    read_all(alloc, rows.as_slice())
+}
+
+/// The unit's shelves.
+pub fn shelves_of<S: Alter>(
+    alloc: Global,
+    conn: &mut Connection<S>,
+    unit: &UnitCode,
+) -> Result<Table<ShelfRow>, Error>
+    requires { conn.old.in_transaction ≡ false }
+    ensures mode { conn.new.in_transaction ≡ false }
+    ensures rows { HasCleanDisk (state S.Store conn.new) → AreBooks (state S.Store conn.old).now → IfOk result (λ rows. rows ≡ rows_seen unit.now (state S.Store conn.old).now.trees ShelfKept) }
+    ensures same { CanTell (state S.Store conn.new) → AreBooks (state S.Store conn.old).now → (state S.Store conn.new).now ≡ (state S.Store conn.old).now }
+    ensures told { CanTell (state S.Store conn.new) → CanTell (state S.Store conn.old) }
+{
+    let rows = ask(
+        conn,
+        "SELECT tag, one_shot, start_s, until_s, person, words FROM shelves WHERE unit = ?1 ORDER BY unit, tag",
+        &single(unit),
+    )?;
+    read_all(alloc, rows.as_slice())
+}
+
+/// The limits of the unit's matrices.
+pub fn bands_of<S: Alter>(
+    alloc: Global,
+    conn: &mut Connection<S>,
+    unit: &UnitCode,
+) -> Result<Table<BandRow>, Error>
+    requires { conn.old.in_transaction ≡ false }
+    ensures mode { conn.new.in_transaction ≡ false }
+    ensures rows { HasCleanDisk (state S.Store conn.new) → AreBooks (state S.Store conn.old).now → IfOk result (λ rows. rows ≡ rows_seen unit.now (state S.Store conn.old).now.trees BandKept) }
+    ensures same { CanTell (state S.Store conn.new) → AreBooks (state S.Store conn.old).now → (state S.Store conn.new).now ≡ (state S.Store conn.old).now }
+    ensures told { CanTell (state S.Store conn.new) → CanTell (state S.Store conn.old) }
+{
+    let rows = ask(
+        conn,
+        "SELECT matrix_no, band_no, limit_s FROM bands WHERE unit = ?1 ORDER BY unit, matrix_no, band_no",
+        &single(unit),
+    )?;
+    read_all(alloc, rows.as_slice())
+}
+
+/// The cells of the unit's matrices.
+pub fn cells_of<S: Alter>(
+    alloc: Global,
+    conn: &mut Connection<S>,
+    unit: &UnitCode,
+) -> Result<Table<CellRow>, Error>
+    requires { conn.old.in_transaction ≡ false }
+    ensures mode { conn.new.in_transaction ≡ false }
+    ensures rows { HasCleanDisk (state S.Store conn.new) → AreBooks (state S.Store conn.old).now → IfOk result (λ rows. rows ≡ rows_seen unit.now (state S.Store conn.old).now.trees CellKept) }
+    ensures same { CanTell (state S.Store conn.new) → AreBooks (state S.Store conn.old).now → (state S.Store conn.new).now ≡ (state S.Store conn.old).now }
+    ensures told { CanTell (state S.Store conn.new) → CanTell (state S.Store conn.old) }
+{
+    let rows = ask(
+        conn,
+        "SELECT matrix_no, severity, band_no, cell_no FROM cells WHERE unit = ?1 ORDER BY unit, matrix_no, severity, band_no",
+        &single(unit),
+    )?;
+    read_all(alloc, rows.as_slice())
+}
+
+/// One person's grants in the unit.
+pub fn own_grants<S: Alter>(
+    alloc: Global,
+    conn: &mut Connection<S>,
+    unit: &UnitCode,
+    person: &Person,
+) -> Result<Table<GrantRow>, Error>
+    requires { conn.old.in_transaction ≡ false }
+    ensures mode { conn.new.in_transaction ≡ false }
+    ensures rows { HasCleanDisk (state S.Store conn.new) → AreBooks (state S.Store conn.old).now → IfOk result (λ rows. rows ≡ filter (λ g. same_name person.now g.person) (rows_seen unit.now (state S.Store conn.old).now.trees GrantKept)) }
+    ensures same { CanTell (state S.Store conn.new) → AreBooks (state S.Store conn.old).now → (state S.Store conn.new).now ≡ (state S.Store conn.old).now }
+    ensures told { CanTell (state S.Store conn.new) → CanTell (state S.Store conn.old) }
+{
+    let rows = ask(
+        conn,
+        "SELECT person, role_no, end_s FROM grants WHERE unit = ?1 AND person = ?2 ORDER BY unit, person, role_no",
+        &pair(unit, person),
+    )?;
+    read_all(alloc, rows.as_slice())
+}
+
+/// The unit's alarm of this tag, where there is one.
+pub fn alarm_at<S: Alter>(
+    alloc: Global,
+    conn: &mut Connection<S>,
+    unit: &UnitCode,
+    tag: &Tag,
+) -> Result<Table<AlarmRow>, Error>
+    requires { conn.old.in_transaction ≡ false }
+    ensures mode { conn.new.in_transaction ≡ false }
+    ensures rows { HasCleanDisk (state S.Store conn.new) → AreBooks (state S.Store conn.old).now → IfOk result (λ rows. rows ≡ filter (λ r. same_name tag.now r.tag) (rows_seen unit.now (state S.Store conn.old).now.trees AlarmKept)) }
+    ensures same { CanTell (state S.Store conn.new) → AreBooks (state S.Store conn.old).now → (state S.Store conn.new).now ≡ (state S.Store conn.old).now }
+    ensures told { CanTell (state S.Store conn.new) → CanTell (state S.Store conn.old) }
+{
+    let rows = ask(
+        conn,
+        "SELECT tag, latching, max_s, max_rev, state_no, suppressed, active_s, return_s, out_s, out_by, out_words FROM alarms WHERE unit = ?1 AND tag = ?2 ORDER BY unit, tag",
+        &pair(unit, tag),
+    )?;
+    read_all(alloc, rows.as_slice())
+}
+
+/// The unit's shelf of this tag, where there is one.
+pub fn shelf_at<S: Alter>(
+    alloc: Global,
+    conn: &mut Connection<S>,
+    unit: &UnitCode,
+    tag: &Tag,
+) -> Result<Table<ShelfRow>, Error>
+    requires { conn.old.in_transaction ≡ false }
+    ensures mode { conn.new.in_transaction ≡ false }
+    ensures rows { HasCleanDisk (state S.Store conn.new) → AreBooks (state S.Store conn.old).now → IfOk result (λ rows. rows ≡ filter (λ r. same_name tag.now r.tag) (rows_seen unit.now (state S.Store conn.old).now.trees ShelfKept)) }
+    ensures same { CanTell (state S.Store conn.new) → AreBooks (state S.Store conn.old).now → (state S.Store conn.new).now ≡ (state S.Store conn.old).now }
+    ensures told { CanTell (state S.Store conn.new) → CanTell (state S.Store conn.old) }
+{
+    let rows = ask(
+        conn,
+        "SELECT tag, one_shot, start_s, until_s, person, words FROM shelves WHERE unit = ?1 AND tag = ?2 ORDER BY unit, tag",
+        &pair(unit, tag),
+    )?;
+    read_all(alloc, rows.as_slice())
+}
