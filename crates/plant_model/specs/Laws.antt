@@ -3,8 +3,9 @@ use Rattle.std.specs.FinMap.{keys}
 use Rattle.std.specs.Prelude.{Bool, List, Some, false, true, ℕ, ◌≡◌}
 use Rattle.plant_model.specs.declared.call.Call.{Call}
 use Rattle.plant_model.specs.Grants.{holds_any}
+use Rattle.plant_model.specs.Legality.{has_matrix}
 use Rattle.plant_model.specs.Views.{IsAlwaysInside, answers_to, grants_to, purge, view}
-use Rattle.plant_model.specs.Worlds.{World, answer, empty_world, history, next, unit_named, units_held}
+use Rattle.plant_model.specs.Worlds.{IsLegalWorld, World, answer, empty_world, history, next, unit_named, units_held}
 use Rattle.plant_types.specs.Names.{Name, same_name}
 
 -- a call that names no unit that the person sees, and grants the person nothing, changes nothing that the person sees of the units
@@ -44,3 +45,7 @@ OthersCallsCanGo =
     (admin p : Name) (units : Name → Bool) (calls : List Call)
     → IsAlwaysInside p units (empty_world admin) calls
     → answers_to p (empty_world admin) (purge p units calls) ≡ answers_to p (empty_world admin) calls
+
+-- the next world of a world of legal histories is one
+abbrev pub NextWorldsAreLegal : Type 0
+NextWorldsAreLegal = (w : World) (c : Call) → IsLegalWorld w → has_matrix c.request ≡ true → IsLegalWorld (next w c)

@@ -3,6 +3,7 @@
 #![tactic(auto)]
 
 mod call;
+pub mod laws;
 mod reply;
 mod rows;
 

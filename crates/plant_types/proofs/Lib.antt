@@ -1,2 +1,7 @@
 pub mod TableLaws
 pub mod Orders
+pub mod DateTests
+pub mod Days
+pub mod Round
+pub mod Unique
+pub mod Examples

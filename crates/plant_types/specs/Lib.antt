@@ -4,5 +4,6 @@ pub mod Options
 pub mod Roles
 pub mod Text
 pub mod Moment
+pub mod Spelling
 pub mod Numbers
 pub mod Tenure

@@ -1,6 +1,7 @@
 //! Names, moments, lengths of time and roles.
 #![tactic(auto)]
 
+mod civil;
 mod fault;
 mod moment;
 mod numbers;
@@ -16,3 +17,6 @@ pub use table::Table;
 pub use text::{
     Alphabet, Person, PersonBytes, Tag, TagBytes, Text, UnitCode, UnitCodeBytes, Words, WordsBytes,
 };
+
+#[cfg(test)]
+mod tests;

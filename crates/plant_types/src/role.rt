@@ -5,14 +5,20 @@ ghost use Rattle.plant_types.specs.Roles.{role_no, same_role};
 use crate::Moment;
 use std::marker::Model;
 
-/// What a person may do in a unit.
+/// What a person may do in a unit. No role includes another.
 #[derive(Clone, Copy, Debug, PartialEq, Eq, PartialOrd, Ord)]
 pub enum Role {
+    /// Looks at the unit.
     Viewer = 1,
+    /// Shelves alarms and imports their events.
     Operator = 2,
+    /// Takes alarms out of service and puts them back.
     Maintainer = 3,
+    /// Registers alarms and proposes changes.
     Engineer = 4,
+    /// Approves and rejects changes of others.
     Approver = 5,
+    /// Grants and withdraws roles.
     Steward = 6,
 }
 
@@ -31,7 +37,7 @@ impl Role {
         }
     }
 
-    /// Whether it is the other role.
+    /// Whether the two are the same role.
     pub fn is(self, other: Role) -> bool
         ensures { result ≡ same_role self other }
     {
@@ -39,7 +45,8 @@ impl Role {
     }
 }
 
-/// A role, and until when it is given. A steward's has no end.
+/// A role, and until when it is given. A steward's has no end. Contracts see it as the pair of
+/// the two.
 #[derive(Clone, Copy, Debug, PartialEq, Eq)]
 pub struct Tenure {
     role: Role,

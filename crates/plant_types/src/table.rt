@@ -1,11 +1,11 @@
-ghost use Rattle.std.specs.Prelude.{◌≡◌, [], ◌∷◌, ◌++◌, OnOk, OnErr, IfErr};
+ghost use Rattle.std.specs.Prelude.{◌≡◌, ◌↔◌, [], ◌∷◌, ◌++◌, length, insert, remove, slice_get, slice_set, IsTrue, OnOk, OnErr, IfErr};
 ghost use Rattle.plant_types.specs.declared.fault.Fault.TheVariants.{Memory};
 
 use crate::Fault;
 use std::alloc::Global;
 use std::marker::Model;
 
-/// A list of rows, lines or changes, which contracts see as a list.
+/// A list of rows, lines or changes. Contracts see it as the list of its values.
 #[derive(Drop)]
 pub struct Table<T: Drop> {
     rows: Vec<T>,
@@ -50,6 +50,20 @@ impl<T: Drop> Table<T> {
         self.rows.as_slice()
     }
 
+    /// How many values it has.
+    pub fn len(&self) -> usize
+        ensures { result ≡ length self.now }
+    {
+        self.rows.len()
+    }
+
+    /// Whether it has no value.
+    pub fn is_empty(&self) -> bool
+        ensures { IsTrue result ↔ (self.now ≡ []) }
+    {
+        self.rows.is_empty()
+    }
+
     /// Puts a value at the end. Where memory is wanted, the list is as before.
     pub fn push(&mut self, row: T) -> Result<(), Fault>
         ensures ok { OnOk result (self.new ≡ self.old ++ row ∷ []) }
@@ -57,5 +71,41 @@ impl<T: Drop> Table<T> {
         ensures memory { IfErr result (λ e. e ≡ Memory) }
     {
         Ok(self.rows.push(row)?)
+    }
+
+    /// Puts a value before the one at that place, counted from 0; at the end where there is none.
+    /// Where memory is wanted, the list is as before.
+    pub fn insert_at(&mut self, place: usize, row: T) -> Result<(), Fault>
+        ensures ok { OnOk result (self.new ≡ insert self.old place row) }
+        ensures err { OnErr result (self.new ≡ self.old) }
+        ensures memory { IfErr result (λ e. e ≡ Memory) }
+    {
+        if place < self.rows.len() {
+            Ok(self.rows.insert(place, row)?)
+        } else {
+            self.push(row)
+        }
+    }
+
+    /// Puts a value in the place of the one that is there, counted from 0. Where there is none,
+    /// nothing changes.
+    pub fn replace_at(&mut self, place: usize, row: T)
+        ensures { self.new ≡ slice_set self.old place row }
+    {
+        if place < self.rows.len() {
+            self.rows[place] = row;
+        }
+    }
+
+    /// Takes out the value at that place, counted from 0. Where there is none, nothing changes.
+    pub fn remove_at(&mut self, place: usize) -> Option<T>
+        ensures taken { result ≡ slice_get self.old place }
+        ensures rest { self.new ≡ remove self.old place }
+    {
+        if place < self.rows.len() {
+            Some(self.rows.remove(place))
+        } else {
+            None
+        }
     }
 }

@@ -1,4 +1,4 @@
-ghost use Rattle.std.specs.Prelude.{Some, refl};
+ghost use Rattle.std.specs.Prelude.{Ok, Some, None, refl};
 ghost use Rattle.std.specs.Cmp.Lexicographic.{slice_cmp, nat_list_cmp_total};
 ghost use Rattle.plant_types.specs.Names.{same_name};
 ghost use Rattle.std.specs.Ordering.{nat_cmp};
@@ -12,6 +12,7 @@ ghost use Rattle.plant_types.specs.declared.fault.Fault.TheVariants.{Memory};
 use crate::Fault;
 use std::alloc::Global;
 use std::cmp::Ordering;
+use std::fmt;
 use std::marker::{Model, PhantomData};
 
 /// A set of bytes, and how many of them a text may have.
@@ -29,7 +30,8 @@ pub trait Alphabet {
         ensures { result ≡ longest };
 }
 
-/// A text of one set of bytes, neither empty nor too long.
+/// A text of one set of bytes, neither empty nor too long. Contracts see it as its bytes, and
+/// texts are compared as their bytes are.
 #[derive(Drop)]
 pub struct Text<C: Alphabet> {
     bytes: Vec<u8>,
@@ -48,9 +50,11 @@ impl<C: Alphabet> Model for Text<C> {
 }
 
 impl<C: Alphabet> Text<C> {
-    /// The text with these bytes, if it is one.
+    /// The text with these bytes. It is `Ok(None)` where there is no byte, where there are too
+    /// many, or where one is not of the set; that takes no memory.
     pub fn read(alloc: Global, bytes: &[u8]) -> Result<Option<Text<C>>, Fault>
         ensures value { IfOk result (λ text. text ≡ text_of C.admits C.longest bytes.now) }
+        ensures outside { text_of C.admits C.longest bytes.now ≡ None → result ≡ Ok None }
         ensures err { IfErr result (λ e. e ≡ Memory) }
     {
         if !is_text::<C>(bytes) {
@@ -79,6 +83,15 @@ impl<C: Alphabet> Text<C> {
             bytes: self.bytes.to_vec(alloc)?,
             alphabet: PhantomData,
         })
+    }
+}
+
+impl<C: Alphabet> fmt::Debug for Text<C> {
+    fn fmt<W: fmt::Write>(&self, f: &mut fmt::Formatter<W>) -> fmt::Result {
+        match str::from_utf8(self.as_bytes()) {
+            Ok(text) => write!(f, "{text:?}"),
+            Err(_) => write!(f, "{:?}", self.as_bytes()),
+        }
     }
 }
 
@@ -132,7 +145,7 @@ fn is_text<C: Alphabet>(bytes: &[u8]) -> bool
     !bytes.is_empty() && bytes.len() <= C::longest_len() && all_admitted::<C>(bytes)
 }
 
-/// The bytes of a unit's code.
+/// The bytes of a unit's code: `A` to `Z`, `0` to `9`.
 pub struct UnitCodeBytes;
 
 impl Alphabet for UnitCodeBytes {
@@ -151,7 +164,7 @@ impl Alphabet for UnitCodeBytes {
     }
 }
 
-/// The bytes of a tag.
+/// The bytes of a tag: `A` to `Z`, `0` to `9`, `.`, `-` and `_`.
 pub struct TagBytes;
 
 impl Alphabet for TagBytes {
@@ -170,7 +183,7 @@ impl Alphabet for TagBytes {
     }
 }
 
-/// The bytes of a person's name.
+/// The bytes of a person's name: `a` to `z`, `0` to `9`, `.` and `-`.
 pub struct PersonBytes;
 
 impl Alphabet for PersonBytes {
@@ -189,7 +202,7 @@ impl Alphabet for PersonBytes {
     }
 }
 
-/// The bytes of a remark.
+/// The bytes of words: those of ASCII that are printed, and the space.
 pub struct WordsBytes;
 
 impl Alphabet for WordsBytes {
@@ -208,14 +221,16 @@ impl Alphabet for WordsBytes {
     }
 }
 
-/// The code of a unit.
+/// The code of a plant unit: 1 to 8 of `A` to `Z`, `0` to `9`.
 pub type UnitCode = Text<UnitCodeBytes>;
 
-/// The tag of an alarm.
+/// The tag of an alarm: 1 to 24 of `A` to `Z`, `0` to `9`, `.`, `-`, `_`.
 pub type Tag = Text<TagBytes>;
 
-/// The name of a person.
+/// The name of a person, as the plant's sign-on gives it: 1 to 32 of `a` to `z`, `0` to `9`,
+/// `.`, `-`.
 pub type Person = Text<PersonBytes>;
 
-/// A remark.
+/// What a person wrote, as a remark or a line of a record: 1 to 120 bytes of printed ASCII and
+/// the space.
 pub type Words = Text<WordsBytes>;

@@ -1,5 +1,5 @@
 -- Texts are equal where the order of bytes says so.
-use Rattle.std.proofs.Common.{◌∙◌, sym}
+use Rattle.std.proofs.Common.{◌∙◌}
 use Rattle.std.specs.Cmp.Lexicographic.{texts_ties}
 use Rattle.plant_types.proofs.text.TextPartialEq.eq.Goals as goal
 

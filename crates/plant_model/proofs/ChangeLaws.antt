@@ -1,0 +1,125 @@
+-- The changes that a call makes turn the rows of the history into those of the history with the call.
+use Rattle.std.proofs.Common.{ap, refl, ◌∙◌}
+use Rattle.std.specs.Prelude.{Bool, List, None, Option, Some, [], cond, false, filter_map, max, option_map, true, unwrap_or, ℕ, ◌+◌, ◌∷◌, ◌≡◌}
+use Rattle.plant_model.specs.declared.call.Call.{Call}
+use Rattle.plant_model.specs.declared.call.Request.{Request}
+use Rattle.plant_model.specs.declared.call.Request.TheVariants.{Grant, OneShotShelve, OpenUnit, Register, TimedShelve, Unshelve, Withdraw}
+use Rattle.plant_model.specs.declared.rows.AlarmRow.{AlarmRow}
+use Rattle.plant_model.specs.declared.rows.BandRow.{BandRow}
+use Rattle.plant_model.specs.declared.rows.CellRow.{CellRow}
+use Rattle.plant_model.specs.declared.rows.Change.TheVariants.{Put}
+use Rattle.plant_model.specs.declared.rows.Row.TheVariants.{Grant as GrantPut, Shelf as ShelfPut, Unit as UnitPut}
+use Rattle.plant_model.specs.declared.rows.ShelfRow.{ShelfRow}
+use Rattle.plant_model.specs.declared.rows.UnitRows.{UnitRows}
+use Rattle.plant_types.specs.declared.role.Role.{Role}
+use Rattle.plant_types.specs.declared.role.Role.TheVariants.{Steward}
+use Rattle.plant_model.proofs.HistoryLaws.{alarm_of, alarms_told, grants_told, pairs_of, shelves_told, tags_of_alarms, tags_of_shelves}
+use Rattle.plant_model.proofs.MatrixLaws.{band_keys, bands_anew, bands_told, cell_keys, cells_anew, cells_told}
+use Rattle.plant_model.proofs.PutLaws.{put_bands, put_cells, puts, puts-rows}
+use Rattle.plant_model.specs.Alarms.{latching, limit}
+use Rattle.plant_model.specs.Facts.{facts, limit_of}
+use Rattle.plant_model.specs.Matrices.{band_at, band_cmp, band_places, cell_of, cell_places}
+use Rattle.plant_model.specs.RowChanges.{cells_of, changed_by, changes_for, no_rows, put}
+use Rattle.plant_model.specs.RowFacts.{band_key}
+use Rattle.plant_model.specs.Rows.{alarm_as, alarm_row, band_row, band_rows, cell_row, grant_as, grant_row, rows_of, unit_row}
+use Rattle.plant_model.specs.Shelves.{shelf, shelf_row_as}
+use Rattle.plant_ration.specs.Grid.{Grid}
+use Rattle.plant_types.proofs.Orders.{same_names, same_pairs}
+use Rattle.plant_types.proofs.TableLaws.{put-rows, remove-rows, tied}
+use Rattle.plant_types.specs.Names.{Name, same_name}
+use Rattle.plant_types.specs.Options.{flatten, or_else, when}
+use Rattle.plant_types.specs.Roles.{Pair, same_pair}
+
+-- pairs
+now_stands : (k x : Pair) (until : Option ℕ) (rest : Option (Option (Option ℕ))) → option_map (grant_as k) (flatten (or_else (when (same_pair k x) (Some until)) rest)) ≡ cond (same_pair k x) (Some (grant_as x until)) (option_map (grant_as k) (flatten rest))
+now_stands k x until rest =
+    elim (same_pair k x) as (λ b. same_pair k x ≡ b → option_map (grant_as k) (flatten (or_else (when b (Some until)) rest)) ≡ cond b (Some (grant_as x until)) (option_map (grant_as k) (flatten rest))) [
+      | true ↦ λ e. ap (λ y. Some (grant_as y until)) (same_pairs k x (tied _ _ e refl))
+      | false ↦ λ e. refl
+    ] refl
+
+no_more_stands : (k x : Pair) (rest : Option (Option (Option ℕ))) → option_map (grant_as k) (flatten (or_else (when (same_pair k x) None) rest)) ≡ cond (same_pair k x) None (option_map (grant_as k) (flatten rest))
+no_more_stands k x rest =
+    elim (same_pair k x) as (λ b. option_map (grant_as k) (flatten (or_else (when b None) rest)) ≡ cond b None (option_map (grant_as k) (flatten rest))) [ true ↦ refl | false ↦ refl ]
+
+-- shelves
+now_shelved : (a b : Name) (row : Name → ShelfRow) (rest : Option (Option ShelfRow)) → flatten (or_else (when (same_name a b) (Some (row a))) rest) ≡ cond (same_name a b) (Some (row b)) (flatten rest)
+now_shelved a b row rest =
+    elim (same_name a b) as (λ t. same_name a b ≡ t → flatten (or_else (when t (Some (row a))) rest) ≡ cond t (Some (row b)) (flatten rest)) [
+      | true ↦ λ e. ap (λ y. Some (row y)) (same_names a b (tied _ _ e refl))
+      | false ↦ λ e. refl
+    ] refl
+
+now_unshelved : (a b : Name) (rest : Option (Option ShelfRow)) → flatten (or_else (when (same_name a b) None) rest) ≡ cond (same_name a b) None (flatten rest)
+now_unshelved a b rest =
+    elim (same_name a b) as (λ t. flatten (or_else (when t None) rest) ≡ cond t None (flatten rest)) [ true ↦ refl | false ↦ refl ]
+
+module _ (h : List Call) (p : Name) (t : ℕ) where
+  abbrev pub with_request : Request → List Call
+  with_request q = record { person = p; moment = t; request = q } ∷ h
+
+  abbrev pub Turns : Request → Type 0
+  Turns q = changed_by (changes_for (facts h) (record { person = p; moment = t; request = q })) (rows_of h) ≡ rows_of (with_request q)
+
+  pub grant_turns : (u q : Name) (r : Role × Option ℕ) → Turns (Grant u q r)
+  grant_turns u q r = λ i. record (rows_of (with_request (Grant u q r))) {
+    grants = put-rows (grant_row h) (grant_row (with_request (Grant u q r))) (pairs_of h) (pairs_of (with_request (Grant u q r))) (grant_as (q, r.0) r.1) (grants_told h) (grants_told (with_request (Grant u q r))) (λ k. now_stands k (q, r.0) r.1 _) i;
+  }
+
+  pub withdraw_turns : (u q : Name) (r : Role) → Turns (Withdraw u q r)
+  withdraw_turns u q r = λ i. record (rows_of (with_request (Withdraw u q r))) {
+    grants = remove-rows (grant_row h) (grant_row (with_request (Withdraw u q r))) (pairs_of h) (pairs_of (with_request (Withdraw u q r))) (q, r) (grants_told h) (grants_told (with_request (Withdraw u q r))) (λ k. no_more_stands k (q, r) _) i;
+  }
+
+  pub timed_turns : (u a : Name) (d : ℕ) (w : Name) → Turns (TimedShelve u a d w)
+  timed_turns u a d w = λ i. record (rows_of (with_request (TimedShelve u a d w))) {
+    shelves = put-rows (shelf h) (shelf (with_request (TimedShelve u a d w))) (tags_of_shelves h) (tags_of_shelves (with_request (TimedShelve u a d w))) (shelf_row_as false t (t + d) p w a) (shelves_told h) (shelves_told (with_request (TimedShelve u a d w))) (λ b. now_shelved b a (shelf_row_as false t (t + d) p w) _) i;
+  }
+
+  pub unshelve_turns : (u a : Name) → Turns (Unshelve u a)
+  unshelve_turns u a = λ i. record (rows_of (with_request (Unshelve u a))) {
+    shelves = remove-rows (shelf h) (shelf (with_request (Unshelve u a))) (tags_of_shelves h) (tags_of_shelves (with_request (Unshelve u a))) a (shelves_told h) (shelves_told (with_request (Unshelve u a))) (λ b. now_unshelved b a _) i;
+  }
+
+  -- the limit in the alarm's row is the limit in force
+  limit_known : (a : Name) (l : Bool) → latching h a ≡ Some l → limit_of (facts h) a ≡ unwrap_or (limit h a) 0
+  limit_known a l known = ap (λ o. unwrap_or (option_map (λ (r : AlarmRow). r.max_s) (option_map (alarm_of h a) o)) 0) known
+
+  pub one_shot_turns : (u a : Name) (w : Name) (l : Bool) → latching h a ≡ Some l → Turns (OneShotShelve u a w)
+  one_shot_turns u a w l known = ap (λ max. changed_by (Put (UnitPut (unit_row (with_request (OneShotShelve u a w)))) ∷ Put (ShelfPut (shelf_row_as true t (t + max) p w a)) ∷ []) (rows_of h)) (limit_known a l known)
+      ∙ (λ i. record (rows_of (with_request (OneShotShelve u a w))) {
+        shelves = put-rows (shelf h) (shelf (with_request (OneShotShelve u a w))) (tags_of_shelves h) (tags_of_shelves (with_request (OneShotShelve u a w))) (shelf_row_as true t (t + unwrap_or (limit h a) 0) p w a) (shelves_told h) (shelves_told (with_request (OneShotShelve u a w))) (λ b. now_shelved b a (shelf_row_as true t (t + unwrap_or (limit h a) 0) p w) _) i;
+      })
+
+  -- Registration
+  alarm_anew : (a k : Name) (l : Bool) (max : ℕ) → option_map (alarm_as k (unwrap_or (or_else (when (same_name k a) max) (limit h k)) 0)) (or_else (when (same_name k a) l) (latching h k)) ≡ cond (same_name k a) (Some (alarm_as a max l)) (alarm_row h k)
+  alarm_anew a k l max =
+      elim (same_name k a) as (λ s. same_name k a ≡ s → option_map (alarm_as k (unwrap_or (or_else (when s max) (limit h k)) 0)) (or_else (when s l) (latching h k)) ≡ cond s (Some (alarm_as a max l)) (alarm_row h k)) [
+        | true ↦ λ e. ap (λ y. Some (alarm_as y max l)) (same_names k a (tied _ true e refl))
+        | false ↦ λ e. refl
+      ] refl
+
+  pub register_turns : (u a : Name) (l : Bool) (max : ℕ) → Turns (Register u a l max)
+  register_turns u a l max =
+      let c = with_request (Register u a l max) in
+      λ i. record (rows_of c) {
+        alarms = put-rows (alarm_row h) (alarm_row c) (tags_of_alarms h) (tags_of_alarms c) (alarm_as a max l) (alarms_told h) (alarms_told c) (λ k. alarm_anew a k l max) i;
+      }
+
+
+-- An opening: no rows become those of the one entry
+module _ (p : Name) (t : ℕ) (u s : Name) (m : Grid) (quota_given : ℕ) where
+  abbrev opened : List Call
+  opened = record { person = p; moment = t; request = OpenUnit u s m quota_given } ∷ []
+
+  pub opening_turns : changed_by (changes_for (facts []) (record { person = p; moment = t; request = OpenUnit u s m quota_given })) no_rows ≡ rows_of opened
+  opening_turns =
+      let bands : List BandRow = filter_map (λ k. band_at k m) (band_places 0 m) in
+      let cells : List CellRow = filter_map (λ k. cell_of k m) (cell_places 0 m) in
+      let first : UnitRows = put (GrantPut (grant_as (s, Steward) None)) (put (UnitPut (unit_row opened)) no_rows) in
+      put_bands bands (cells_of 0 m) first ∙ put_cells cells (record first { bands = puts band_cmp band_key bands (band_rows []) })
+      ∙ (λ i. record (rows_of opened) {
+        grants = put-rows (grant_row []) (grant_row opened) (pairs_of []) (pairs_of opened) (grant_as (s, Steward) None) (grants_told []) (grants_told opened) (λ k. now_stands k (s, Steward) None None) i;
+        bands = puts-rows (band_row []) (band_row opened) (band_keys []) (band_keys opened) bands (bands_told []) (bands_told opened) (λ q. bands_anew [] 0 refl m q) i;
+        cells = puts-rows (cell_row []) (cell_row opened) (cell_keys []) (cell_keys opened) cells (cells_told []) (cells_told opened) (λ q. cells_anew [] 0 refl m q) i;
+      })

@@ -1,0 +1,178 @@
+-- Each table of a history is told by its function: its rows are at keys that the history names, and have their keys.
+use Rattle.std.proofs.Common.{ap, inl, inr, refl, subst, sym, ◌∙◌}
+use Rattle.std.specs.List.{list_any}
+use Rattle.std.specs.Ordering.{eq_by_cmp}
+use Rattle.std.specs.Prelude.{Bool, List, None, Option, Some, [], false, option_and_then, option_map, true, unwrap_or, ℕ, ◌++◌, ◌||◌, ◌∷◌, ◌≡◌, ◌⊎◌}
+use Rattle.std.specs.declared.cmp.Ordering.{Ordering}
+use Rattle.plant_model.specs.declared.call.Call.{Call}
+use Rattle.plant_model.specs.declared.call.Request.{Request}
+use Rattle.plant_model.specs.declared.call.Request.TheVariants.{Grant, OneShotShelve, OpenUnit, Register, TimedShelve, Unshelve, Withdraw}
+use Rattle.plant_model.specs.declared.rows.AlarmRow.{AlarmRow}
+use Rattle.plant_model.specs.declared.rows.ShelfRow.{ShelfRow}
+use Rattle.plant_types.specs.declared.role.Role.TheVariants.{Steward}
+use Rattle.plant_model.specs.Alarms.{latching, limit, said_of_latching}
+use Rattle.plant_model.specs.Grants.{said_of_pair, standing}
+use Rattle.plant_model.specs.Histories.{all_named, latest}
+use Rattle.plant_model.specs.Parts.{none, nothing}
+use Rattle.plant_model.specs.RowFacts.{alarm_tag, pair_of, shelf_tag}
+use Rattle.plant_model.specs.Rows.{alarm_as, alarm_row, grant_as, grant_row, pairs_named, tags_registered, tags_shelved}
+use Rattle.plant_model.specs.Shelves.{said_of_shelf, shelf}
+use Rattle.plant_types.proofs.Orders.{name_total, pair_total, same_names, same_pairs}
+use Rattle.plant_types.proofs.TableLaws.{Tells}
+use Rattle.plant_types.specs.Names.{Name, name_cmp, same_name}
+use Rattle.plant_types.specs.Options.{flatten, or_else, when}
+use Rattle.plant_types.specs.Roles.{Pair, pair_cmp}
+
+pub when_or : {A : Type 0} (b : Bool) (x : A) → (when b x ≡ None) ⊎ (b ≡ true)
+when_or true x = inr refl
+when_or false x = inl refl
+
+pub when_Some : {A : Type 0} (b : Bool) (x y : A) → when b x ≡ Some y → x ≡ y
+when_Some true x y e = cc
+when_Some false x y e = cc
+
+pub any-append-left : {K : Type 0} (p : K → Bool) (xs ys : List K) → list_any p xs ≡ true → list_any p (xs ++ ys) ≡ true
+any-append-left p [] ys e = cc
+any-append-left p (x ∷ xs) ys e =
+    elim (p x) as (λ b. (b || list_any p xs) ≡ true → (b || list_any p (xs ++ ys)) ≡ true) [ true ↦ λ _. refl | false ↦ λ rest. any-append-left p xs ys rest ] e
+
+pub any-append-right : {K : Type 0} (p : K → Bool) (xs ys : List K) → list_any p ys ≡ true → list_any p (xs ++ ys) ≡ true
+any-append-right p [] ys e = e
+any-append-right p (x ∷ xs) ys e = elim (p x) as (λ b. (b || list_any p (xs ++ ys)) ≡ true) [ true ↦ refl | false ↦ any-append-right p xs ys e ]
+
+-- where an entry says nothing but of keys that it names, what is told by the newest is among the keys that are named
+module _ {A X K : Type 0} (R : K → K → Ordering) (says : Call → List Call → Option A) (g : A → Option X) (names : Call → List Call → List K) (k : K) where
+  abbrev IsNamed : Call → List Call → A → Type 0
+  IsNamed c before x = (g x ≡ None) ⊎ (list_any (eq_by_cmp R k) (names c before) ≡ true)
+
+  pub latest-named : ((c : Call) (before : List Call) (x : A) → says c before ≡ Some x → IsNamed c before x) → (h : List Call) → (option_and_then g (latest says h) ≡ None) ⊎ (list_any (eq_by_cmp R k) (all_named names h) ≡ true)
+  latest-named each [] = inl refl
+  latest-named each (c ∷ h) =
+      elim (says c h) as (λ o. says c h ≡ o → (option_and_then g (or_else o (latest says h)) ≡ None) ⊎ (list_any (eq_by_cmp R k) (names c h ++ all_named names h) ≡ true)) [
+        | None ↦ λ none. elim (latest-named each h) [
+          | inl rest ↦ inl rest
+          | inr there ↦ inr (any-append-right _ (names c h) _ there)
+        ]
+        | Some x ↦ λ some. elim (each c h x some) [
+          | inl nothing ↦ inl nothing
+          | inr here ↦ inr (any-append-left _ (names c h) _ here)
+        ]
+      ] refl
+
+-- what each entry says holds of what the newest says
+pub latest-holds : {A : Type 0} (says : Call → List Call → Option A) (P : A → Type 0) → ((c : Call) (before : List Call) (x : A) → says c before ≡ Some x → P x) → (h : List Call) (x : A) → latest says h ≡ Some x → P x
+latest-holds says P each [] x e = cc
+latest-holds says P each (c ∷ h) x e =
+    elim (says c h) as (λ o. says c h ≡ o → or_else o (latest says h) ≡ Some x → P x) [
+      | None ↦ λ none is. latest-holds says P each h x is
+      | Some y ↦ λ some is. each c h x (some ∙ is)
+    ] refl e
+
+mapped_none : {A X : Type 0} (f : A → X) (o : Option A) → option_and_then (λ x. Some (f x)) o ≡ None → option_map f o ≡ None
+mapped_none f None e = refl
+mapped_none f (Some x) e = cc
+
+pub mapped_key : {A X K : Type 0} (key : X → K) (f : A → X) (k : K) (o : Option A) (r : X) → ((x : A) → key (f x) ≡ k) → option_map f o ≡ Some r → key r ≡ k
+mapped_key key f k None r is e = cc
+mapped_key key f k (Some x) r is e = let same : f x ≡ r = cc in ap key (sym same) ∙ is x
+
+-- a request that names one key
+one_named : {A X K : Type 0} (R : K → K → Ordering) (g : A → Option X) (k x : K) (v y : A) → when (eq_by_cmp R k x) v ≡ Some y → (g y ≡ None) ⊎ (list_any (eq_by_cmp R k) (x ∷ []) ≡ true)
+one_named R g k x v y e =
+    elim (when_or (eq_by_cmp R k x) v) [ inl none ↦ absurd (let no : None ≡ Some y = sym none ∙ e in cc) | inr same ↦ inr (ap (λ b. b || false) same) ]
+
+-- Grants
+flat_none : {A X : Type 0} (f : A → X) (o : Option (Option A)) → option_and_then (λ x. option_map f x) o ≡ None → option_map f (flatten o) ≡ None
+flat_none f None e = refl
+flat_none f (Some x) e = e
+
+pair_is_named : (k : Pair) (q : Request) (v : Option (Option ℕ)) → said_of_pair k q ≡ Some v → (option_map (grant_as k) v ≡ None) ⊎ (list_any (eq_by_cmp pair_cmp k) (pairs_named q) ≡ true)
+pair_is_named k (OpenUnit u s m q) v e = one_named pair_cmp (option_map (grant_as k)) k (s, Steward) (Some None) v e
+pair_is_named k (Grant u p t) v e = one_named pair_cmp (option_map (grant_as k)) k (p, t.0) (Some t.1) v e
+pair_is_named k (Withdraw u p r) v e = one_named pair_cmp (option_map (grant_as k)) k (p, r) None v e
+pair_is_named k _ v e = cc
+
+abbrev pub pairs_of : List Call → List Pair
+pairs_of h = all_named (λ c before. pairs_named c.request) h
+
+pub grants_told : (h : List Call) → Tells pair_cmp pair_of (grant_row h) (pairs_of h)
+grants_told h =
+    record {
+      order = pair_total;
+      same = same_pairs;
+      at_key = λ k r e. mapped_key pair_of (grant_as k) k (standing h k) r (λ x. refl) e;
+      among = λ k. elim (latest-named pair_cmp (λ c before. said_of_pair k c.request) (option_map (grant_as k)) (λ c before. pairs_named c.request) k (λ c before x. pair_is_named k c.request x) h) [
+        | inl none ↦ inl (flat_none (grant_as k) (latest (λ c before. said_of_pair k c.request) h) none)
+        | inr there ↦ inr there
+      ];
+    }
+
+-- Alarms
+tag_is_registered : (a : Name) (g : Bool → Option AlarmRow) (q : Request) (l : Bool) → said_of_latching a q ≡ Some l → (g l ≡ None) ⊎ (list_any (eq_by_cmp name_cmp a) (tags_registered q) ≡ true)
+tag_is_registered a g (Register u b l m) v e = one_named name_cmp g a b l v e
+tag_is_registered a g _ v e = cc
+
+abbrev pub tags_of_alarms : List Call → List Name
+tags_of_alarms h = all_named (λ c before. tags_registered c.request) h
+
+abbrev pub alarm_of : List Call → Name → Bool → AlarmRow
+alarm_of h a = alarm_as a (unwrap_or (limit h a) 0)
+
+pub alarms_told : (h : List Call) → Tells name_cmp alarm_tag (alarm_row h) (tags_of_alarms h)
+alarms_told h =
+    record {
+      order = name_total;
+      same = same_names;
+      at_key = λ a r e. mapped_key alarm_tag (alarm_of h a) a (latching h a) r (λ x. refl) e;
+      among = λ a. elim (latest-named name_cmp (λ c before. said_of_latching a c.request) (λ l. Some (alarm_of h a l)) (λ c before. tags_registered c.request) a (λ c before x. tag_is_registered a (λ l. Some (alarm_of h a l)) c.request x) h) [
+        | inl none ↦ inl (mapped_none (alarm_of h a) (latching h a) none)
+        | inr there ↦ inr there
+      ];
+    }
+
+-- Shelves
+abbrev same_shelf : Option ShelfRow → Option ShelfRow
+same_shelf o = o
+
+tag_is_shelved : (a p : Name) (t : ℕ) (before : List Call) (q : Request) (v : Option ShelfRow) → said_of_shelf a p t before q ≡ Some v → (v ≡ None) ⊎ (list_any (eq_by_cmp name_cmp a) (tags_shelved q) ≡ true)
+tag_is_shelved a p t before (TimedShelve u b d w) v e = one_named name_cmp same_shelf a b _ v e
+tag_is_shelved a p t before (OneShotShelve u b w) v e = one_named name_cmp same_shelf a b _ v e
+tag_is_shelved a p t before (Unshelve u b) v e = one_named name_cmp same_shelf a b _ v e
+tag_is_shelved a p t before _ v e = cc
+
+-- a shelf that is said of an alarm has its tag
+abbrev HasTag : Name → Option ShelfRow → Type 0
+HasTag a None = Unit {0}
+HasTag a (Some s) = s.tag ≡ a
+
+when_HasTag : (b : Bool) (a : Name) (o x : Option ShelfRow) → when b o ≡ Some x → HasTag a o → HasTag a x
+when_HasTag b a o x e h = subst (HasTag a) (when_Some b o x e) h
+
+shelf_has_tag : (a p : Name) (t : ℕ) (before : List Call) (q : Request) (x : Option ShelfRow) → said_of_shelf a p t before q ≡ Some x → HasTag a x
+shelf_has_tag a p t before (TimedShelve u b d w) x e = when_HasTag (same_name a b) a _ x e refl
+shelf_has_tag a p t before (OneShotShelve u b w) x e = when_HasTag (same_name a b) a _ x e refl
+shelf_has_tag a p t before (Unshelve u b) x e = when_HasTag (same_name a b) a _ x e tt
+shelf_has_tag a p t before _ x e = cc
+
+shelf_row_tag : (a : Name) (o : Option (Option ShelfRow)) (r : ShelfRow) → ((x : Option ShelfRow) → o ≡ Some x → HasTag a x) → flatten o ≡ Some r → r.tag ≡ a
+shelf_row_tag a None r has e = cc
+shelf_row_tag a (Some x) r has e = subst (HasTag a) e (has x refl)
+
+flat_same : {X : Type 0} (o : Option (Option X)) → option_and_then (λ x. x) o ≡ None → flatten o ≡ None
+flat_same None e = refl
+flat_same (Some x) e = e
+
+abbrev pub tags_of_shelves : List Call → List Name
+tags_of_shelves h = all_named (λ c before. tags_shelved c.request) h
+
+pub shelves_told : (h : List Call) → Tells name_cmp shelf_tag (shelf h) (tags_of_shelves h)
+shelves_told h =
+    record {
+      order = name_total;
+      same = same_names;
+      at_key = λ a r e. shelf_row_tag a _ r (latest-holds (λ c before. said_of_shelf a c.person c.moment before c.request) (HasTag a) (λ c before x said. shelf_has_tag a c.person c.moment before c.request x said) h) e;
+      among = λ a. elim (latest-named name_cmp (λ c before. said_of_shelf a c.person c.moment before c.request) same_shelf (λ c before. tags_shelved c.request) a (λ c before x. tag_is_shelved a c.person c.moment before c.request x) h) [
+        | inl none ↦ inl (flat_same (latest (λ c before. said_of_shelf a c.person c.moment before c.request) h) none)
+        | inr there ↦ inr there
+      ];
+    }

@@ -1,0 +1,12 @@
+pub mod PlaceOrders
+pub mod PutLaws
+pub mod HistoryLaws
+pub mod FactLaws
+pub mod HeldLaws
+pub mod MatrixLaws
+pub mod ChangeLaws
+pub mod AcceptLaws
+pub mod PartLaws
+pub mod WorldLaws
+pub mod PurgeLaws
+pub mod LegalLaws

@@ -1,0 +1,98 @@
+-- From the facts of a part to the history whose rows it is of.
+use Rattle.std.proofs.Common.{ap, refl, subst, sym, ◌∙◌}
+use Rattle.std.specs.List.{slice_get}
+use Rattle.std.specs.Prelude.{Bool, Err, IfOk, List, None, Ok, Option, Result, Some, [], false, if◌then◌else◌, true, ℕ, ◌∷◌, ◌≡◌}
+use Rattle.plant_model.specs.declared.call.Call.{Call}
+use Rattle.plant_model.specs.declared.call.Request.{Request}
+use Rattle.plant_model.specs.declared.call.Request.TheVariants.{OpenUnit}
+use Rattle.plant_model.specs.declared.reply.Refused.TheVariants.{NotGranted}
+use Rattle.plant_model.specs.declared.reply.Reply.TheVariants.{Done}
+use Rattle.plant_model.specs.declared.rows.Change.{Change}
+use Rattle.plant_model.specs.declared.rows.UnitPart.{UnitPart}
+use Rattle.plant_model.specs.declared.rows.Verdict.{Verdict}
+use Rattle.plant_model.specs.declared.rows.Verdict.TheVariants.{Accepted as IsAccepted, Refused as IsRefused}
+use Rattle.plant_types.specs.declared.fault.Fault.{Fault}
+use Rattle.plant_model.proofs.AcceptLaws.{accepted_turns}
+use Rattle.plant_model.proofs.ChangeLaws.{opening_turns}
+use Rattle.plant_model.proofs.FactLaws.{facts-rows, not_true}
+use Rattle.plant_model.proofs.PartLaws.{part_changes, part_verdict}
+use Rattle.plant_model.proofs.WorldLaws.{not_granted, refused_changes}
+use Rattle.plant_model.specs.Facts.{facts}
+use Rattle.plant_model.specs.Parts.{none, part_of}
+use Rattle.plant_model.specs.RowChanges.{changed_by, changes_for, no_rows, puts_unit}
+use Rattle.plant_model.specs.RowFacts.{facts_in}
+use Rattle.plant_model.specs.Rows.{rows_of, unit_row}
+use Rattle.plant_model.specs.Verdicts.{changes_history, is_opening, verdict, verdict_of}
+use Rattle.plant_types.specs.Names.{Name}
+use Rattle.plant_unit.specs.Judged.{IsJudged, IsOpening, IsPartOf, IsVerdictOn}
+
+changed_if : (h : List Call) (c : Call) (b : Bool) → (b ≡ true → changed_by (changes_for (facts h) c) (rows_of h) ≡ rows_of (c ∷ h)) → changed_by (if b then changes_for (facts h) c else []) (rows_of h) ≡ rows_of (if b then c ∷ h else h)
+changed_if h c true turns = turns refl
+changed_if h c false turns = refl
+
+puts_if : (h : List Call) (c : Call) (b : Bool) → b ≡ true → puts_unit (if b then changes_for (facts h) c else []) ≡ true
+puts_if h c true e = refl
+puts_if h c false e = cc
+
+none_if : (cs : List Change) (b : Bool) → b ≡ false → (if b then cs else []) ≡ []
+none_if cs true e = cc
+none_if cs false e = refl
+
+judged : (h : List Call) (c : Call) (v : Verdict) → is_opening c.request ≡ false → IsJudged (facts h) c v → IsVerdictOn h c v
+judged h c v plain j =
+    record {
+      answer = j.answer;
+      changes = ap (λ cs. changed_by cs (rows_of h)) j.changes ∙ changed_if h c (changes_history (verdict h c) c) (accepted_turns h c.person c.moment c.request plain);
+      none = λ e. j.changes ∙ none_if (changes_for (facts h) c) (changes_history (verdict h c) c) e;
+      puts = λ e. ap puts_unit j.changes ∙ puts_if h c (changes_history (verdict h c) c) e;
+    }
+
+-- the facts of the part give what the facts of the history give
+part_judged : (h : List Call) (c : Call) (v : Verdict) → IsJudged (facts_in (part_of c (rows_of h))) c v → IsJudged (facts h) c v
+part_judged h c v j =
+    let verdicts : verdict_of (facts_in (part_of c (rows_of h))) c ≡ verdict h c = part_verdict (rows_of h) c.person c.moment c.request ∙ ap (λ f. verdict_of f c) (facts-rows h) in
+    let changes : changes_for (facts_in (part_of c (rows_of h))) c ≡ changes_for (facts h) c = part_changes (rows_of h) c.person c.moment c.request ∙ ap (λ f. changes_for f c) (facts-rows h) in
+    record {
+      answer = j.answer ∙ verdicts;
+      changes = j.changes ∙ (λ i. if changes_history (verdicts i) c then changes i else []);
+    }
+
+-- a code that was never opened
+judged_unopened : (c : Call) → IsVerdictOn [] c (IsRefused NotGranted)
+judged_unopened c =
+    let answer : verdict [] c ≡ Err NotGranted = not_granted [] c refl in
+    let unchanged : changes_history (verdict [] c) c ≡ false = not_true _ (refused_changes (verdict [] c) c NotGranted answer) in
+    record {
+      answer = sym answer;
+      changes = sym (ap (λ b. rows_of (if b then c ∷ [] else [])) unchanged);
+      none = λ _. refl;
+      puts = λ e. absurd (let no : true ≡ false = sym e ∙ unchanged in cc);
+    }
+
+pub judged_none : (h : List Call) (c : Call) (o : Option UnitPart) → o ≡ None → IsPartOf o h c → IsVerdictOn h c (IsRefused NotGranted)
+judged_none h c o none left = subst (λ k. IsVerdictOn k c (IsRefused NotGranted)) (sym (subst (λ x. IsPartOf x h c) none left)) (judged_unopened c)
+
+pub judged_some : (h : List Call) (part : UnitPart) (c : Call) (o : Option UnitPart) (r : Result Verdict Fault) → is_opening c.request ≡ false → o ≡ Some part → IsPartOf o h c → IfOk r (IsJudged (facts_in part) c) → IfOk r (IsVerdictOn h c)
+judged_some h part c o (Ok v) plain some left j =
+    let is : part ≡ part_of c (rows_of h) = (subst (λ x. IsPartOf x h c) some left).0 in
+    judged h c v plain (part_judged h c v (subst (λ x. IsJudged (facts_in x) c v) is j))
+judged_some h part c o (Err x) plain some left j = tt
+
+-- a part of a history's rows has the unit's row
+pub has_unit : (h : List Call) (part : UnitPart) (c : Call) (o : Option UnitPart) → o ≡ Some part → IsPartOf o h c → slice_get part.rows.units 0 ≡ None → ⊥
+has_unit h part c o some left none =
+    let is : part ≡ part_of c (rows_of h) = (subst (λ x. IsPartOf x h c) some left).0 in
+    let no : None ≡ Some (unit_row h) = sym none ∙ ap (λ x. slice_get x.rows.units 0) is in
+    cc
+
+-- an opening
+opened_rows : (c : Call) → is_opening c.request ≡ true → changed_by (changes_for (facts []) c) no_rows ≡ rows_of (c ∷ [])
+opened_rows c e = by_request c.person c.moment c.request e where
+  by_request : (p : Name) (t : ℕ) (q : Request) → is_opening q ≡ true → changed_by (changes_for (facts []) (record { person = p; moment = t; request = q })) no_rows ≡ rows_of (record { person = p; moment = t; request = q } ∷ [])
+  by_request p t (OpenUnit u s m k) e = opening_turns p t u s m k
+  by_request p t _ e = cc
+
+pub opened_verdict : (admin taken : Bool) (c : Call) (cs : List Change) → admin ≡ true → taken ≡ false → is_opening c.request ≡ true → cs ≡ changes_for (facts []) c → IsOpening admin taken c (IsAccepted Done cs)
+opened_verdict true false c cs a t e is = record { answer = refl; changes = λ _. ap (λ cs. changed_by cs no_rows) is ∙ opened_rows c e; none = λ no. absurd (let x : true ≡ false = no in cc); puts = λ _. ap puts_unit is }
+opened_verdict true true c cs a t e is = cc
+opened_verdict false taken c cs a t e is = cc

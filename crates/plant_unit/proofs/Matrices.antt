@@ -1,0 +1,102 @@
+-- The rows of a matrix, one after another as its limits and cells stand.
+use Rattle.std.proofs.Common.{eqb→eq, ap, append_assoc, arith, get_or, length-append, refl, subst, sym, ◌∙◌}
+use Rattle.std.proofs.lemmas.Bool.Decides.{nat_tests}
+use Rattle.std.proofs.lemmas.List.Elements.{filter_map-append}
+use Rattle.std.specs.List.{cons_option, enumerate_from, list_all, range_with_len, slice_get}
+use Rattle.std.specs.Prelude.{Bool, Err, List, Ok, OnOk, Option, Result, Some, T, [], false, filter_map, flat_map, length, map, nat_le, not, option_and_then, option_map, suc, true, zero, ℕ, ◌&&◌, ◌++◌, ◌+◌, ◌<◌, ◌==◌, ◌∷◌, ◌≡◌, ◌≤◌}
+use Rattle.plant_model.specs.declared.rows.Change.{Change}
+use Rattle.plant_model.specs.declared.rows.Change.TheVariants.{Put}
+use Rattle.plant_model.specs.declared.rows.Row.TheVariants.{Band as BandPut, Cell as CellPut}
+use Rattle.plant_ration.specs.declared.cell.Cell.{Cell}
+use Rattle.plant_model.specs.Matrices.{at_place, band_at, cell_of, cells_of_row}
+use Rattle.plant_model.specs.RowChanges.{bands_of, cells_of, matrix_changes}
+use Rattle.plant_ration.specs.Grid.{Grid}
+use Rattle.plant_ration.specs.Matrix.{is_matrix}
+use Rattle.plant_unit.specs.MatrixRows.{band_row_of, row_of_cells}
+
+-- the element after a prefix
+get-after : {A : Type 0} (pre : List A) (x : A) (post : List A) → slice_get (pre ++ x ∷ post) (length pre) ≡ Some x
+get-after [] x post = refl
+get-after (y ∷ pre) x post = get-after pre x post
+
+place-after : {A : Type 0} (pre : List A) (x : A) (post : List A) → at_place (pre ++ x ∷ post) (length pre + 1) ≡ Some x
+place-after pre x post = ap (at_place (pre ++ x ∷ post)) (let e : length pre + 1 ≡ suc (length pre) = omega arith in e) ∙ get-after pre x post
+
+filter_map-map : {A B C : Type 0} (f : B → Option C) (g : A → B) (xs : List A) → filter_map f (map g xs) ≡ filter_map (λ x. f (g x)) xs
+filter_map-map f g [] = refl
+filter_map-map f g (x ∷ xs) = ap (cons_option (f (g x))) (filter_map-map f g xs)
+
+-- rows made of the elements at the places of a list are made of its elements in their order
+listed : {A B : Type 0} (make : ℕ → A → B) (whole pre xs : List A) (s : ℕ) → s ≡ length pre + 1 → whole ≡ pre ++ xs → filter_map (λ b. option_map (make b) (at_place whole b)) (range_with_len s (length xs)) ≡ map (λ e. make e.0 e.1) (enumerate_from s xs)
+listed make whole pre [] s at is = refl
+listed make whole pre (x ∷ xs) s at is =
+    let here : at_place whole s ≡ Some x = ap (λ w. at_place w s) is ∙ ap (at_place (pre ++ x ∷ xs)) at ∙ place-after pre x xs in
+    let more : s + 1 ≡ length (pre ++ x ∷ []) + 1 = omega (arith, at, length-append pre (x ∷ [])) in
+    let rest = listed make whole (pre ++ x ∷ []) xs (s + 1) more (is ∙ sym (append_assoc pre (x ∷ []) xs)) in
+    λ i. cons_option (option_map (make s) (here i)) (rest i)
+
+pub bands_listed : (n : ℕ) (m : Grid) → bands_of n m ≡ map (λ r. Put (BandPut r)) (map (band_row_of n) (enumerate_from 1 m.limits))
+bands_listed n m =
+    ap (map (λ r. Put (BandPut r))) (filter_map-map (λ k. band_at k m) (λ b. (n, b)) (range_with_len 1 (length m.limits)) ∙ listed (λ b l. record { matrix_no = n; band_no = b; limit_s = l }) m.limits [] m.limits 1 refl refl)
+
+rows_listed : (n : ℕ) (m : Grid) (pre rows : List (List Cell)) (s : ℕ) → s ≡ length pre + 1 → m.cells ≡ pre ++ rows → filter_map (λ k. cell_of k m) (flat_map (cells_of_row n) (enumerate_from s rows)) ≡ flat_map (row_of_cells n) (enumerate_from s rows)
+rows_listed n m pre [] s at is = refl
+rows_listed n m pre (row ∷ rows) s at is =
+    let here : at_place m.cells s ≡ Some row = ap (λ w. at_place w s) is ∙ ap (at_place (pre ++ row ∷ rows)) at ∙ place-after pre row rows in
+    let more : s + 1 ≡ length (pre ++ row ∷ []) + 1 = omega (arith, at, length-append pre (row ∷ [])) in
+    let rest = rows_listed n m (pre ++ row ∷ []) rows (s + 1) more (is ∙ sym (append_assoc pre (row ∷ []) rows)) in
+    let first : filter_map (λ k. cell_of k m) (cells_of_row n (s, row)) ≡ row_of_cells n (s, row) =
+    filter_map-map (λ k. cell_of k m) (λ b. (n, s, b)) (range_with_len 1 (length row))
+    ∙ (λ i. filter_map (λ b. option_map (λ c. record { matrix_no = n; severity = s; band_no = b; cell_no = c }) (option_and_then (λ r. at_place r b) (here i))) (range_with_len 1 (length row)))
+    ∙ listed (λ b c. record { matrix_no = n; severity = s; band_no = b; cell_no = c }) row [] row 1 refl refl in
+    filter_map-append (λ k. cell_of k m) (cells_of_row n (s, row)) (flat_map (cells_of_row n) (enumerate_from (s + 1) rows)) ∙ (λ i. first i ++ rest i)
+
+pub cells_listed : (n : ℕ) (m : Grid) → cells_of n m ≡ map (λ r. Put (CellPut r)) (flat_map (row_of_cells n) (enumerate_from 1 m.cells))
+cells_listed n m = ap (map (λ r. Put (CellPut r))) (rows_listed n m [] m.cells 1 refl refl)
+
+-- what the shape of a matrix bounds
+parts : (a b : Bool) → (a && b) ≡ true → (a ≡ true) × (b ≡ true)
+parts true b e = (refl, e)
+parts false b e = cc
+
+le_of : (m n : ℕ) → nat_le m n ≡ true → m ≤ n
+le_of m n e = grind (arith, nat_tests)
+
+pub few_limits : (limits : List ℕ) (rows : List (List Cell)) → is_matrix limits rows ≡ true → length limits ≤ 4
+few_limits limits rows e =
+    let shape = (parts _ _ (parts _ _ e).0).0 in
+    le_of (length limits) 4 (parts _ _ (parts _ _ (parts _ _ shape).0).0).1
+
+pub few_rows : (limits : List ℕ) (rows : List (List Cell)) → is_matrix limits rows ≡ true → length rows ≤ 5
+few_rows limits rows e =
+    let shape = (parts _ _ (parts _ _ e).0).0 in
+    le_of (length rows) 5 (parts _ _ (parts _ _ (parts _ _ (parts _ _ shape).0).0).0).1
+
+each_wide : {V : Type 0} (items : V → List Cell) (width : ℕ) (rows : List V) (k : ℕ) (d : V) → list_all (λ row. length row == width) (map items rows) ≡ true → k < length rows → length (items (get_or rows k d)) ≡ width
+each_wide items width [] k d e lt = absurd (omega arith)
+each_wide items width (row ∷ rows) zero d e lt = eqb→eq (length (items row)) width (subst T (sym (parts _ _ e).0) tt)
+each_wide items width (row ∷ rows) (suc k) d e lt = each_wide items width rows k d (parts _ _ e).1 (let less : k < length rows = omega (arith, lt) in less)
+
+pub short_rows : {V : Type 0} (items : V → List Cell) (limits : List ℕ) (rows : List V) → is_matrix limits (map items rows) ≡ true → (k : ℕ) (d : V) → k < length rows → length (items (get_or rows k d)) ≤ 5
+short_rows items limits rows e k d lt =
+    let shape = (parts _ _ (parts _ _ e).0).0 in
+    let wide = each_wide items (length limits + 1) rows k d (parts _ _ (parts _ _ shape).0).1 lt in
+    let few = few_limits limits (map items rows) e in
+    omega (arith, wide, few)
+
+-- the changes that put a matrix
+pub matrix_listed : (n : ℕ) (m : Grid) → matrix_changes n m ≡ map (λ r. Put (BandPut r)) (map (band_row_of n) (enumerate_from 1 m.limits)) ++ map (λ r. Put (CellPut r)) (flat_map (row_of_cells n) (enumerate_from 1 m.cells))
+matrix_listed n m = λ i. bands_listed n m i ++ cells_listed n m i
+
+pub matrix_pushed : {A E : Type 0} (r : Result A E) (first mid last : List Change) (n : ℕ) (m : Grid) (limits : List ℕ) (cells : List (List Cell)) → mid ≡ first ++ map (λ r. Put (BandPut r)) (map (band_row_of n) (enumerate_from 1 limits)) → limits ≡ m.limits → cells ≡ m.cells → OnOk r (last ≡ mid ++ map (λ r. Put (CellPut r)) (flat_map (row_of_cells n) (enumerate_from 1 cells))) → OnOk r (last ≡ first ++ matrix_changes n m)
+matrix_pushed (Ok x) first mid last n m limits cells bands l c done =
+    let firsts : List Change = map (λ r. Put (BandPut r)) (map (band_row_of n) (enumerate_from 1 limits)) in
+    let lasts : List Change = map (λ r. Put (CellPut r)) (flat_map (row_of_cells n) (enumerate_from 1 cells)) in
+    done ∙ ap (λ ys. ys ++ lasts) bands ∙ append_assoc first firsts lasts
+    ∙ (λ i. first ++ (map (λ r. Put (BandPut r)) (map (band_row_of n) (enumerate_from 1 (l i))) ++ map (λ r. Put (CellPut r)) (flat_map (row_of_cells n) (enumerate_from 1 (c i)))))
+    ∙ ap (λ ys. first ++ ys) (sym (matrix_listed n m))
+matrix_pushed (Err e) first mid last n m limits cells bands l c done = tt
+
+pub not_other : (b r : Bool) → r ≡ not b → r ≡ false → b ≡ true
+not_other true r e f = refl
+not_other false r e f = cc

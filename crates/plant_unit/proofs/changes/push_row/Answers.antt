@@ -1,0 +1,10 @@
+use Rattle.plant_model.specs.declared.rows.Change.TheVariants.{Put}
+use Rattle.plant_model.specs.declared.rows.Row.TheVariants.{Cell as CellPut}
+use Rattle.plant_unit.specs.MatrixRows.{cell_row_of}
+use Rattle.plant_unit.proofs.Loops.{grown, next_mapped}
+use Rattle.plant_unit.proofs.changes.push_row.Goals as goal
+
+pub loop-i-preserved : goal.loop-i-preserved
+loop-i-preserved c =
+    grown c.args.changes.now c.loop-i.changes c.push.new.self _ _ _ c.in_ok-push.ensures.ok c.loop-i.invariant
+    (next_mapped (λ r. Put (CellPut r)) (cell_row_of c.args.number c.args.severity) c.args.row.now c.loop-i.i _ c.loop-i-test.true)

@@ -1,0 +1,11 @@
+use Rattle.std.proofs.Common.{◌≡◌, take}
+use Rattle.std.specs.Prelude.{filter_map, Some}
+use Rattle.plant_alarm.specs.Shelves.{shelf_state}
+use Rattle.plant_model.specs.Facts.{returned}
+use Rattle.plant_model.specs.Replies.{line_of}
+use Rattle.plant_model.specs.RowFacts.{facts_in}
+use Rattle.plant_model.specs.Shelves.{shelf_left}
+use Rattle.plant_unit.proofs.replies.lines.Given as goal
+
+abbrev pub invariant-loop-row : goal.invariant-loop-row
+invariant-loop-row l = l.lines ≡ filter_map (λ s. line_of s (shelf_state (shelf_left (Some s)) (returned (facts_in l.part) s.tag) l.now)) (take l.row-index l.shelves)

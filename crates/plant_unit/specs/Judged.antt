@@ -1,0 +1,49 @@
+-- What a judgement says.
+use Rattle.std.specs.Prelude.{Bool, Err, List, None, Ok, Option, Result, Some, [], false, if◌then◌else◌, is_ok, true, ◌∷◌, ◌≡◌}
+use Rattle.plant_model.specs.declared.call.Call.{Call}
+use Rattle.plant_model.specs.declared.reply.Refused.{Refused}
+use Rattle.plant_model.specs.declared.reply.Reply.{Reply}
+use Rattle.plant_model.specs.declared.rows.Change.{Change}
+use Rattle.plant_model.specs.declared.rows.UnitPart.{UnitPart}
+use Rattle.plant_model.specs.declared.rows.Verdict.{Verdict}
+use Rattle.plant_model.specs.declared.rows.Verdict.TheVariants.{Accepted as IsAccepted, Refused as IsRefused}
+use Rattle.plant_model.specs.Facts.{Facts}
+use Rattle.plant_model.specs.Legality.{IsLegal}
+use Rattle.plant_model.specs.Parts.{part_of}
+use Rattle.plant_model.specs.Replies.{reply}
+use Rattle.plant_model.specs.RowChanges.{changed_by, changes_for, no_rows, puts_unit}
+use Rattle.plant_model.specs.Rows.{rows_of}
+use Rattle.plant_model.specs.Verdicts.{after, changes_history, verdict, verdict_of}
+use Rattle.plant_model.specs.Worlds.{opening}
+
+abbrev pub answer_in : Verdict → Result Reply Refused
+answer_in (IsRefused r) = Err r
+answer_in (IsAccepted reply changes) = Ok reply
+
+abbrev pub changes_in : Verdict → List Change
+changes_in (IsRefused r) = []
+changes_in (IsAccepted reply changes) = changes
+
+-- the part is what the call looks at among the rows that the history leaves; None is a code that was never opened
+abbrev pub IsPartOf : Option UnitPart → List Call → Call → Type 0
+IsPartOf None h c = h ≡ []
+IsPartOf (Some part) h c = (part ≡ part_of c (rows_of h)) × IsLegal h
+
+-- the verdict that the facts of a unit give, with its changes: none for a refusal or a read
+pub record IsJudged (f : Facts) (c : Call) (v : Verdict) : Type 0 where
+  pub answer : answer_in v ≡ verdict_of f c
+  pub changes : changes_in v ≡ (if changes_history (verdict_of f c) c then changes_for f c else [])
+
+-- the verdict on a unit of this history; the changes turn its rows into those of the history with the call, and put the unit's row
+pub record IsVerdictOn (h : List Call) (c : Call) (v : Verdict) : Type 0 where
+  pub answer : answer_in v ≡ verdict h c
+  pub changes : changed_by (changes_in v) (rows_of h) ≡ rows_of (after h c)
+  pub none : changes_history (verdict h c) c ≡ false → changes_in v ≡ []
+  pub puts : changes_history (verdict h c) c ≡ true → puts_unit (changes_in v) ≡ true
+
+-- the answer to an opening; the changes turn no rows into those of the opening
+pub record IsOpening (by_admin taken : Bool) (c : Call) (v : Verdict) : Type 0 where
+  pub answer : answer_in v ≡ opening by_admin taken
+  pub changes : is_ok (opening by_admin taken) ≡ true → changed_by (changes_in v) no_rows ≡ rows_of (c ∷ [])
+  pub none : is_ok (opening by_admin taken) ≡ false → changes_in v ≡ []
+  pub puts : is_ok (opening by_admin taken) ≡ true → puts_unit (changes_in v) ≡ true

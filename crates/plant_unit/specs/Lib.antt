@@ -1,0 +1,2 @@
+pub mod MatrixRows
+pub mod Judged

@@ -1,0 +1,224 @@
+//! The changes that an accepted call makes.
+
+ghost use Rattle.std.specs.Prelude.{◌≡◌, ◌≤◌, ◌<◌, ℕ, List, [], ◌∷◌, ◌++◌, if◌then◌else◌, map, flat_map, length, All, IfOk, IfErr, OnOk, IsTrue, true, false, option_to_list};
+ghost use Rattle.std.specs.List.{enumerate_from};
+ghost use Rattle.plant_types.specs.declared.fault.Fault.TheVariants.{Memory};
+ghost use Rattle.plant_ration.specs.Matrix.{is_matrix};
+ghost use Rattle.plant_model.specs.Facts.{facts, limit_of};
+ghost use Rattle.plant_model.specs.Rows.{alarm_as};
+ghost use Rattle.plant_model.specs.RowChanges.{changes_for, matrix_changes, own_changes};
+ghost use Rattle.plant_model.specs.RowFacts.{facts_in, unit_read};
+ghost use Rattle.plant_model.specs.Verdicts.{is_opening, is_read};
+ghost use Rattle.plant_model.specs.declared.rows.Change.TheVariants.{Put};
+ghost use Rattle.plant_model.specs.declared.rows.Row.TheVariants.{Band as BandPut, Cell as CellPut};
+ghost use Rattle.plant_unit.specs.MatrixRows.{band_row_of, cell_row_of, row_of_cells};
+
+use crate::facts::alarm_of;
+use plant_alarm::AlarmState;
+use plant_model::{
+    AlarmRow, BandRow, Call, CellRow, Change, GrantRow, Key, Request, Row, ShelfRow, UnitPart,
+    UnitRow,
+};
+use plant_ration::{Cell, Matrix};
+use plant_types::{Fault, Role, Seconds, Table, Tag};
+use std::alloc::Global;
+
+fn limit_of(part: &UnitPart, tag: &Tag) -> u64
+    ensures value { result ≡ limit_of (facts_in part.now) tag.now }
+    ensures bound { result ≤ 604800 }
+{
+    match alarm_of(part.rows.alarms.as_slice(), tag) {
+        Some(alarm) => alarm.max_s.get(),
+        None => 0,
+    }
+}
+
+fn new_alarm(alloc: Global, tag: &Tag, latching: bool, max: Seconds) -> Result<AlarmRow, Fault>
+    ensures value { IfOk result (λ row. row ≡ alarm_as tag.now max latching) }
+    ensures err { IfErr result (λ e. e ≡ Memory) }
+{
+    Ok(AlarmRow {
+        tag: tag.copy(alloc)?,
+        latching,
+        max_s: max,
+        max_rev: 0,
+        state_no: AlarmState::Normal,
+        suppressed: false,
+        active_s: None,
+        return_s: None,
+        out_s: None,
+        out_by: None,
+        out_words: None,
+    })
+}
+
+/// The change that the request makes beside that of the unit's row, where it makes one.
+fn own_change(alloc: Global, part: &UnitPart, call: &Call) -> Result<Option<Change>, Fault>
+    requires { is_opening call.now.request ≡ false }
+    ensures value { IfOk result (λ change. option_to_list change ≡ own_changes (facts_in part.now) call.now.person call.now.moment call.now.request) }
+    ensures err { IfErr result (λ e. e ≡ Memory) }
+{
+    let now = call.moment;
+    let change = match &call.request {
+        Request::Grant { person, tenure, .. } => Change::Put(Row::Grant(GrantRow {
+            person: person.copy(alloc)?,
+            role_no: tenure.role(),
+            end_s: tenure.until(),
+        })),
+        Request::Withdraw { person, role, .. } => {
+            Change::Remove(Key::Grant(person.copy(alloc)?, *role))
+        }
+        Request::Register {
+            tag,
+            latching,
+            max,
+            ..
+        } => { Change::Put(Row::Alarm(new_alarm(alloc, tag, *latching, *max)?)) }
+        Request::TimedShelve {
+            tag,
+            seconds,
+            words,
+            ..
+        } => Change::Put(Row::Shelf(ShelfRow {
+            tag: tag.copy(alloc)?,
+            one_shot: false,
+            start_s: now,
+            until_s: now.seconds() + seconds.get(),
+            person: call.person.copy(alloc)?,
+            words: words.copy(alloc)?,
+        })),
+        Request::OneShotShelve { tag, words, .. } => Change::Put(Row::Shelf(ShelfRow {
+            tag: tag.copy(alloc)?,
+            one_shot: true,
+            start_s: now,
+            until_s: now.seconds() + limit_of(part, tag),
+            person: call.person.copy(alloc)?,
+            words: words.copy(alloc)?,
+        })),
+        Request::Unshelve { tag, .. } => Change::Remove(Key::Shelf(tag.copy(alloc)?)),
+        _ => return Ok(None),
+    };
+    Ok(Some(change))
+}
+
+/// The changes of an accepted call: none for a read.
+pub fn changes_of(
+    alloc: Global,
+    unit: &UnitRow,
+    part: &UnitPart,
+    call: &Call,
+) -> Result<Table<Change>, Fault>
+    requires row { unit_read part.now.rows ≡ unit.now }
+    requires plain { is_opening call.now.request ≡ false }
+    ensures value { IfOk result (λ cs. cs ≡ (if is_read call.now.request then [] else changes_for (facts_in part.now) call.now)) }
+    ensures err { IfErr result (λ e. e ≡ Memory) }
+{
+    let mut changes = Table::new(alloc);
+    if is_read(&call.request) {
+        return Ok(changes);
+    }
+    let mut row = *unit;
+    row.last_s = call.moment;
+    changes.push(Change::Put(Row::Unit(row)))?;
+    if let Some(change) = own_change(alloc, part, call)? {
+        changes.push(change)?;
+    }
+    Ok(changes)
+}
+
+/// Whether the request only asks.
+pub fn is_read(request: &Request) -> bool
+    ensures { result ≡ is_read request.now }
+{
+    matches!(
+        request,
+        Request::Status { .. } | Request::Shelves { .. } | Request::MyUnits
+    )
+}
+
+fn push_bands(changes: &mut Table<Change>, number: u32, limits: &[u64]) -> Result<(), Fault>
+    requires { length limits.now ≤ 4 }
+    ensures value { OnOk result (changes.new ≡ changes.old ++ map (λ r. Put (BandPut r)) (map (band_row_of number) (enumerate_from 1 limits.now))) }
+    ensures err { IfErr result (λ e. e ≡ Memory) }
+{
+    for (i, limit) in limits.iter().enumerate() {
+        changes.push(Change::Put(Row::Band(BandRow {
+            matrix_no: number,
+            band_no: i as u8 + 1,
+            limit_s: *limit,
+        })))?;
+    }
+    Ok(())
+}
+
+fn push_row(
+    changes: &mut Table<Change>,
+    number: u32,
+    severity: u8,
+    row: &[Cell],
+) -> Result<(), Fault>
+    requires { length row.now ≤ 5 }
+    ensures value { OnOk result (changes.new ≡ changes.old ++ map (λ r. Put (CellPut r)) (row_of_cells number (severity, row.now))) }
+    ensures err { IfErr result (λ e. e ≡ Memory) }
+{
+    for (i, cell) in row.iter().enumerate() {
+        changes.push(Change::Put(Row::Cell(CellRow {
+            matrix_no: number,
+            severity,
+            band_no: i as u8 + 1,
+            cell_no: *cell,
+        })))?;
+    }
+    Ok(())
+}
+
+fn push_cells(changes: &mut Table<Change>, number: u32, cells: &[Vec<Cell>]) -> Result<(), Fault>
+    requires rows { length cells.now ≤ 5 }
+    requires wide { All (λ row. length row.items ≤ 5) cells.now }
+    ensures value { OnOk result (changes.new ≡ changes.old ++ map (λ r. Put (CellPut r)) (flat_map (row_of_cells number) (enumerate_from 1 (map (λ row. row.items) cells.now)))) }
+    ensures err { IfErr result (λ e. e ≡ Memory) }
+{
+    for (i, row) in cells.iter().enumerate() {
+        push_row(changes, number, i as u8 + 1, row)?;
+    }
+    Ok(())
+}
+
+fn push_matrix(changes: &mut Table<Change>, number: u32, matrix: &Matrix) -> Result<(), Fault>
+    ensures value { OnOk result (changes.new ≡ changes.old ++ matrix_changes number matrix.now) }
+    ensures err { IfErr result (λ e. e ≡ Memory) }
+{
+    let cells = matrix.cells();
+    push_bands(changes, number, matrix.limits())?;
+    push_cells(changes, number, cells)
+}
+
+/// The changes of an opening.
+pub fn opening_changes(alloc: Global, call: &Call) -> Result<Table<Change>, Fault>
+    requires { is_opening call.now.request ≡ true }
+    ensures value { IfOk result (λ cs. cs ≡ changes_for (facts []) call.now) }
+    ensures err { IfErr result (λ e. e ≡ Memory) }
+{
+    let mut changes = Table::new(alloc);
+    if let Request::OpenUnit {
+        steward,
+        matrix,
+        quota,
+        ..
+    } = &call.request
+    {
+        changes.push(Change::Put(Row::Unit(UnitRow {
+            last_s: call.moment,
+            matrix_no: 0,
+            matrix_rev: 0,
+            quota: *quota,
+        })))?;
+        changes.push(Change::Put(Row::Grant(GrantRow {
+            person: steward.copy(alloc)?,
+            role_no: Role::Steward,
+            end_s: None,
+        })))?;
+        push_matrix(&mut changes, 0, matrix)?;
+    }
+    Ok(changes)
+}

@@ -1,0 +1,166 @@
+//! The facts that a verdict looks at, read from the rows of a part.
+
+ghost use Rattle.std.specs.Prelude.{◌≡◌, ℕ, Some, ◌&&◌, not, count_by, option_copied, option_map, option_and_then, unwrap_or, false};
+ghost use Rattle.std.specs.List.{list_any};
+ghost use Rattle.plant_types.specs.Names.{name_cmp, same_name};
+ghost use Rattle.plant_types.specs.Tables.{row_at};
+ghost use Rattle.plant_types.specs.Roles.{pair_cmp, same_pair, all_roles};
+ghost use Rattle.plant_alarm.specs.Shelves.{is_unshelved, shelf_state};
+ghost use Rattle.plant_model.specs.Grants as grants;
+ghost use Rattle.plant_model.specs.Shelves as shelves;
+ghost use Rattle.plant_model.specs.Facts.{is_steward_row, others_shelved, returned, shelf_now};
+ghost use Rattle.plant_model.specs.Refusals.{holds_some};
+ghost use Rattle.plant_model.specs.RowFacts.{alarm_tag, facts_in, pair_of, shelf_tag};
+
+use plant_alarm::{Shelf, ShelfState, shelf_at};
+use plant_model::{AlarmRow, GrantRow, ShelfRow, UnitPart};
+use plant_types::{Moment, Person, Role, Tag};
+
+fn is_pair(row: &GrantRow, person: &Person, role: Role) -> bool
+    ensures { result ≡ same_pair (person.now, role) (pair_of row.now) }
+{
+    *person == row.person && role.is(row.role_no)
+}
+
+/// Whether the pair stands.
+pub fn stands(grants: &[GrantRow], person: &Person, role: Role) -> bool
+    ensures { result ≡ list_any (λ g. same_pair (person.now, role) (pair_of g)) grants.now }
+{
+    grants.iter().any(|row| is_pair(row, person, role))
+}
+
+fn grant_of<'a>(grants: &'a [GrantRow], person: &Person, role: Role) -> Option<&'a GrantRow>
+    ensures { option_copied result ≡ row_at pair_cmp pair_of (person.now, role) grants.now }
+{
+    grants.iter().find(|row| is_pair(row, person, role))
+}
+
+/// Whether the moment lies before the end, where there is one.
+pub fn is_before(now: Moment, end: Option<Moment>) -> bool
+    ensures { result ≡ grants.is_before now end }
+{
+    match end {
+        Some(end) => now.seconds() < end.seconds(),
+        None => true,
+    }
+}
+
+/// Whether the pair is held at the moment.
+pub fn is_held(part: &UnitPart, person: &Person, role: Role, now: Moment) -> bool
+    ensures { result ≡ (facts_in part.now).held now (person.now, role) }
+{
+    match grant_of(part.rows.grants.as_slice(), person, role) {
+        Some(row) => is_before(now, row.end_s),
+        None => false,
+    }
+}
+
+const ROLES: [Role; 6] = [
+    Role::Viewer,
+    Role::Operator,
+    Role::Maintainer,
+    Role::Engineer,
+    Role::Approver,
+    Role::Steward,
+];
+
+/// Whether the person holds some role at the moment.
+#[tactic(auto, unfolding(plant_model::specs::Refusals::holds_some))]
+pub fn holds_any(part: &UnitPart, person: &Person, now: Moment) -> bool
+    ensures { result ≡ holds_some (facts_in part.now) now person.now }
+{
+    ROLES.iter().any(|role| is_held(part, person, *role, now))
+}
+
+/// How many Steward pairs stand.
+pub fn stewards(grants: &[GrantRow]) -> usize
+    ensures { result ≡ count_by is_steward_row grants.now }
+{
+    grants
+        .iter()
+        .filter(|row| row.role_no.is(Role::Steward))
+        .count()
+}
+
+/// The alarm of a tag.
+pub fn alarm_of<'a>(alarms: &'a [AlarmRow], tag: &Tag) -> Option<&'a AlarmRow>
+    ensures { option_copied result ≡ row_at name_cmp alarm_tag tag.now alarms.now }
+{
+    alarms.iter().find(|row| *tag == row.tag)
+}
+
+/// The shelf that the last shelving of a tag's alarm left.
+pub fn shelf_of<'a>(shelves: &'a [ShelfRow], tag: &Tag) -> Option<&'a ShelfRow>
+    ensures { option_copied result ≡ row_at name_cmp shelf_tag tag.now shelves.now }
+{
+    shelves.iter().find(|row| *tag == row.tag)
+}
+
+/// When the alarm last returned to normal.
+pub fn last_return(alarms: &[AlarmRow], tag: &Tag) -> Option<Moment>
+    ensures { result ≡ option_and_then (λ r. r.return_s) (row_at name_cmp alarm_tag tag.now alarms.now) }
+{
+    match alarm_of(alarms, tag) {
+        Some(alarm) => alarm.return_s,
+        None => None,
+    }
+}
+
+fn shelf_left(row: Option<&ShelfRow>) -> Shelf
+    ensures { result ≡ shelves.shelf_left (option_copied row.entry) }
+{
+    match row {
+        None => Shelf::Clear,
+        Some(row) if row.one_shot => Shelf::OneShot {
+            start: row.start_s,
+            until: row.until_s,
+        },
+        Some(row) => Shelf::Timed {
+            start: row.start_s,
+            until: row.until_s,
+        },
+    }
+}
+
+/// The shelved state that a row leaves at the moment.
+pub fn state_of(row: Option<&ShelfRow>, returned: Option<Moment>, now: Moment) -> ShelfState
+    ensures { result ≡ shelf_state (shelves.shelf_left (option_copied row.entry)) returned now }
+{
+    shelf_at(&shelf_left(row), returned, now)
+}
+
+/// The shelved state of a tag's alarm at the moment.
+pub fn state_now(part: &UnitPart, tag: &Tag, now: Moment) -> ShelfState
+    ensures { result ≡ shelf_now (facts_in part.now) tag.now now }
+{
+    let returned = last_return(part.rows.alarms.as_slice(), tag);
+    state_of(shelf_of(part.rows.shelves.as_slice(), tag), returned, now)
+}
+
+fn is_unshelved(state: ShelfState) -> bool
+    ensures { result ≡ is_unshelved state }
+{
+    matches!(state, ShelfState::Unshelved)
+}
+
+fn is_other_shelved(part: &UnitPart, tag: &Tag, row: &ShelfRow, now: Moment) -> bool
+    ensures { result ≡ (not (same_name tag.now row.now.tag) && not (is_unshelved (shelf_state (shelves.shelf_left (Some row.now)) (returned (facts_in part.now) row.now.tag) now))) }
+{
+    if *tag == row.tag {
+        return false;
+    }
+    let returned = last_return(part.rows.alarms.as_slice(), &row.tag);
+    !is_unshelved(state_of(Some(row), returned, now))
+}
+
+/// How many other alarms are shelved at the moment.
+pub fn others_shelved(part: &UnitPart, tag: &Tag, now: Moment) -> usize
+    ensures { result ≡ others_shelved (facts_in part.now) tag.now now }
+{
+    part.rows
+        .shelves
+        .as_slice()
+        .iter()
+        .filter(|row| is_other_shelved(part, tag, row, now))
+        .count()
+}

@@ -1,0 +1,68 @@
+ghost use Rattle.std.specs.Prelude.{◌≡◌, List, IfOk, IfErr, option_copied, true, false};
+ghost use Rattle.plant_types.specs.Names.{same_name};
+ghost use Rattle.plant_types.specs.declared.fault.Fault.TheVariants.{Memory};
+ghost use Rattle.plant_model.specs.RowFacts.{facts_in, unit_read};
+ghost use Rattle.plant_model.specs.Verdicts.{is_opening};
+ghost use Rattle.plant_model.specs.declared.call.Call.{Call};
+ghost use Rattle.plant_unit.specs.Judged.{IsJudged, IsOpening, IsPartOf, IsVerdictOn};
+
+use crate::changes::{changes_of, opening_changes};
+use crate::refusals::refusal;
+use crate::replies::reply_to;
+use plant_model::{Call, Refused, Reply, UnitPart, UnitRow, Verdict};
+use plant_types::{Fault, Person};
+use std::alloc::Global;
+
+fn judge_part(alloc: Global, unit: &UnitRow, part: &UnitPart, call: &Call) -> Result<Verdict, Fault>
+    requires row { unit_read part.now.rows ≡ unit.now }
+    requires plain { is_opening call.now.request ≡ false }
+    ensures value { IfOk result (IsJudged (facts_in part.now) call.now) }
+    ensures err { IfErr result (λ e. e ≡ Memory) }
+{
+    if let Some(refused) = refusal(unit, part, call) {
+        return Ok(Verdict::Refused(refused));
+    }
+    let reply = reply_to(alloc, part, call.moment, &call.request)?;
+    let changes = changes_of(alloc, unit, part, call)?;
+    Ok(Verdict::Accepted(reply, changes))
+}
+
+/// What a unit answers to a call, from the part of its rows that the call looks at; none is a code that was never
+/// opened. Asked of a call on a unit that is no opening.
+///
+/// For every legal history of whose rows the part is: the verdict of that history, and changes that turn its rows into
+/// those of the history followed by the call (none for a refusal or a read).
+pub fn judge(alloc: Global, part: Option<&UnitPart>, call: &Call) -> Result<Verdict, Fault>
+    requires { is_opening call.now.request ≡ false }
+    ensures value { (h : List Call) → IsPartOf (option_copied part.entry) h call.now → IfOk result (IsVerdictOn h call.now) }
+    ensures err { IfErr result (λ e. e ≡ Memory) }
+{
+    let Some(part) = part else {
+        return Ok(Verdict::Refused(Refused::NotGranted));
+    };
+    let Some(unit) = part.rows.units.as_slice().first() else {
+        return Ok(Verdict::Refused(Refused::NotGranted));
+    };
+    judge_part(alloc, unit, part, call)
+}
+
+/// What is answered to an opening, whether its code is taken or not.
+pub fn judge_open(
+    alloc: Global,
+    administrator: &Person,
+    taken: bool,
+    call: &Call,
+) -> Result<Verdict, Fault>
+    requires { is_opening call.now.request ≡ true }
+    ensures value { IfOk result (IsOpening (same_name call.now.person administrator.now) taken call.now) }
+    ensures err { IfErr result (λ e. e ≡ Memory) }
+{
+    if call.person != *administrator {
+        return Ok(Verdict::Refused(Refused::NotAdministrator));
+    }
+    if taken {
+        return Ok(Verdict::Refused(Refused::UnitTaken));
+    }
+    let changes = opening_changes(alloc, call)?;
+    Ok(Verdict::Accepted(Reply::Done, changes))
+}

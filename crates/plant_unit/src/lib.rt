@@ -1,0 +1,16 @@
+//! What a unit answers to a call, from the part of its rows that the call looks at, and what that changes.
+#![tactic(auto)]
+
+mod changes;
+mod facts;
+mod judgement;
+mod refusals;
+mod replies;
+
+pub use changes::is_read;
+pub use judgement::{judge, judge_open};
+pub use plant_books::{Books, MineUnit};
+pub use plant_model::{
+    AlarmRow, Answer, BandRow, Call, CellRow, Change, Full, GrantRow, Key, Refused, Reply, Request,
+    Row, ShelfLine, ShelfRow, StatusRow, UnitLine, UnitPart, UnitRow, UnitRows, Verdict, laws,
+};

@@ -1,0 +1,169 @@
+//! The first refusal of a call, by its own conditions in their order.
+
+ghost use Rattle.std.specs.Prelude.{◌≡◌, ℕ, Bool, [], ◌∷◌};
+ghost use Rattle.plant_types.specs.Names.{Name};
+ghost use Rattle.plant_model.specs.RowFacts.{facts_in, unit_read};
+ghost use Rattle.plant_model.specs.Refusals.{first_refusal, over_quota, own_refusals, refusals, role_needed};
+ghost use Rattle.plant_model.specs.declared.call.Request.TheVariants.{Grant, OneShotShelve, Register, TimedShelve, Unshelve, Withdraw};
+
+use crate::facts::{
+    alarm_of, holds_any, is_before, is_held, others_shelved, stands, state_now, stewards,
+};
+use plant_alarm::ShelfState;
+use plant_model::{Call, Full, Refused, Request, UnitPart, UnitRow};
+use plant_types::{Moment, Person, Role, Seconds, Tag, Tenure};
+
+fn needed(request: &Request) -> Option<Role>
+    ensures { result ≡ role_needed request.now }
+{
+    match request {
+        Request::Grant { .. } | Request::Withdraw { .. } => Some(Role::Steward),
+        Request::Register { .. } => Some(Role::Engineer),
+        Request::TimedShelve { .. } | Request::OneShotShelve { .. } | Request::Unshelve { .. } => {
+            Some(Role::Operator)
+        }
+        _ => None,
+    }
+}
+
+fn grant_refusal(part: &UnitPart, person: &Person, tenure: Tenure, now: Moment) -> Option<Refused>
+    ensures { (u : Name) → result ≡ first_refusal (own_refusals (facts_in part.now) now (Grant u person.now tenure)) }
+{
+    if part.rows.grants.as_slice().len() >= 500 {
+        Some(Refused::UnitFull(Full::Grants))
+    } else if is_held(part, person, tenure.role(), now) {
+        Some(Refused::AlreadyHeld)
+    } else if !is_before(now, tenure.until()) {
+        Some(Refused::EndNotAhead)
+    } else {
+        None
+    }
+}
+
+fn withdraw_refusal(part: &UnitPart, person: &Person, role: Role) -> Option<Refused>
+    ensures { (t : ℕ) (u : Name) → result ≡ first_refusal (own_refusals (facts_in part.now) t (Withdraw u person.now role)) }
+{
+    let grants = part.rows.grants.as_slice();
+    if !stands(grants, person, role) {
+        Some(Refused::NotHeld)
+    } else if role.is(Role::Steward) && stewards(grants) <= 1 {
+        Some(Refused::LastSteward)
+    } else {
+        None
+    }
+}
+
+fn register_refusal(part: &UnitPart, tag: &Tag) -> Option<Refused>
+    ensures { (t m : ℕ) (u : Name) (l : Bool) → result ≡ first_refusal (own_refusals (facts_in part.now) t (Register u tag.now l m)) }
+{
+    if part.count >= 2000 {
+        Some(Refused::UnitFull(Full::Alarms))
+    } else if alarm_of(part.rows.alarms.as_slice(), tag).is_some() {
+        Some(Refused::AlarmTaken)
+    } else {
+        None
+    }
+}
+
+fn quota_refusal(unit: &UnitRow, part: &UnitPart, tag: &Tag, now: Moment) -> Option<Refused>
+    requires { unit_read part.now.rows ≡ unit.now }
+    ensures { result ≡ first_refusal (over_quota (facts_in part.now) tag.now now ∷ []) }
+{
+    if others_shelved(part, tag, now) as u64 >= unit.quota.get() {
+        Some(Refused::ShelfQuota(unit.quota))
+    } else {
+        None
+    }
+}
+
+fn timed_refusal(
+    unit: &UnitRow,
+    part: &UnitPart,
+    tag: &Tag,
+    seconds: Seconds,
+    now: Moment,
+) -> Option<Refused>
+    requires { unit_read part.now.rows ≡ unit.now }
+    ensures { (u w : Name) → result ≡ first_refusal (own_refusals (facts_in part.now) now (TimedShelve u tag.now seconds w)) }
+{
+    let Some(alarm) = alarm_of(part.rows.alarms.as_slice(), tag) else {
+        return Some(Refused::AlarmUnknown);
+    };
+    let max = alarm.max_s;
+    if max.get() < seconds.get() {
+        return Some(Refused::ShelvingTimeOutOfRange(max));
+    }
+    match state_now(part, tag, now) {
+        ShelfState::TimedShelved(_) => Some(Refused::ConditionAlreadyShelved),
+        _ => quota_refusal(unit, part, tag, now),
+    }
+}
+
+fn one_shot_refusal(unit: &UnitRow, part: &UnitPart, tag: &Tag, now: Moment) -> Option<Refused>
+    requires { unit_read part.now.rows ≡ unit.now }
+    ensures { (u w : Name) → result ≡ first_refusal (own_refusals (facts_in part.now) now (OneShotShelve u tag.now w)) }
+{
+    if alarm_of(part.rows.alarms.as_slice(), tag).is_none() {
+        return Some(Refused::AlarmUnknown);
+    }
+    match state_now(part, tag, now) {
+        ShelfState::OneShotShelved(_) => Some(Refused::ConditionAlreadyShelved),
+        _ => quota_refusal(unit, part, tag, now),
+    }
+}
+
+fn unshelve_refusal(part: &UnitPart, tag: &Tag, now: Moment) -> Option<Refused>
+    ensures { (u : Name) → result ≡ first_refusal (own_refusals (facts_in part.now) now (Unshelve u tag.now)) }
+{
+    if alarm_of(part.rows.alarms.as_slice(), tag).is_none() {
+        return Some(Refused::AlarmUnknown);
+    }
+    match state_now(part, tag, now) {
+        ShelfState::Unshelved => Some(Refused::ConditionNotShelved),
+        _ => None,
+    }
+}
+
+fn own_refusal(unit: &UnitRow, part: &UnitPart, now: Moment, request: &Request) -> Option<Refused>
+    requires { unit_read part.now.rows ≡ unit.now }
+    ensures { result ≡ first_refusal (own_refusals (facts_in part.now) now request.now) }
+{
+    match request {
+        Request::Grant { person, tenure, .. } => grant_refusal(part, person, *tenure, now),
+        Request::Withdraw { person, role, .. } => withdraw_refusal(part, person, *role),
+        Request::Register { tag, .. } => register_refusal(part, tag),
+        Request::TimedShelve { tag, seconds, .. } => timed_refusal(unit, part, tag, *seconds, now),
+        Request::OneShotShelve { tag, .. } => one_shot_refusal(unit, part, tag, now),
+        Request::Unshelve { tag, .. } => unshelve_refusal(part, tag, now),
+        Request::Status { tag, .. } => {
+            if alarm_of(part.rows.alarms.as_slice(), tag).is_some() {
+                None
+            } else {
+                Some(Refused::AlarmUnknown)
+            }
+        }
+        _ => None,
+    }
+}
+
+/// The first refusal whose condition holds, where there is one.
+pub fn refusal(unit: &UnitRow, part: &UnitPart, call: &Call) -> Option<Refused>
+    requires { unit_read part.now.rows ≡ unit.now }
+    ensures { result ≡ first_refusal (refusals (facts_in part.now) call.now) }
+{
+    let person = &call.person;
+    let now = call.moment;
+    if !holds_any(part, person, now) {
+        return Some(Refused::NotGranted);
+    }
+    if let Some(role) = needed(&call.request) {
+        if !is_held(part, person, role, now) {
+            return Some(Refused::RoleLacking(role));
+        }
+    }
+    let last = unit.last_s;
+    if now.seconds() < last.seconds() {
+        return Some(Refused::MomentBehind(last));
+    }
+    own_refusal(unit, part, now, &call.request)
+}
