@@ -3,3 +3,4 @@ pub mod Codes
 pub mod Tables
 pub mod Changes
 pub mod Shown
+pub mod Keeping
