@@ -19,7 +19,7 @@ use Rattle.plant_types.proofs.TableLaws.{tied}
 use Rattle.plant_store.specs.Changes.{Applies, IsOfficeOf}
 use Rattle.plant_store.specs.Keeping.{KeepsIn, has_any}
 use Rattle.plant_store.specs.Tables.{AreBooks, AreSeen, Kept, rows_seen}
-use Rattle.plant_store.specs.Tables.Kept.{UnitKept}
+use Rattle.plant_store.specs.Tables.Kept.{UnitKept, GrantKept, AlarmKept, ShelfKept, BandKept, CellKept}
 
 same_codes : (a b : Name) → same_name a b ≡ true → a ≡ b
 same_codes a b h = same_names a b (tied _ _ h refl)
@@ -105,3 +105,23 @@ module _ (s : State) (m : Content) (u : Name) (k : KeepsIn s m) where
 
   pub never_opened : has_any (rows_seen u s.now.trees UnitKept) ≡ false → get m.units u ≡ None
   never_opened h = no_some (get m.units u) (was_opened ∙ h)
+
+pub any_is : {A : Type 0} (xs : List A) → Rattle.std.proofs.Common.not (Rattle.std.specs.Prelude.nat_eq (Rattle.std.proofs.Common.length xs) 0) ≡ has_any xs
+any_is [] = refl
+any_is (x ∷ xs) = ap Rattle.std.proofs.Common.not (Rattle.std.proofs.Math.Dec.eqb-suc-zero (Rattle.std.proofs.Common.length xs))
+
+-- the six lists of a unit that was opened are its rows
+pub whole_found : (s : State) (m : Content) (u : Name) → KeepsIn s m → (rows : UnitRows) → AreSeen u s.now rows → has_any rows.units ≡ true → ◌≡◌ {A = Option UnitRows} (Some rows) (get m.units u)
+whole_found s m u k rows seen any =
+    let same : rows ≡ rows_in m u = λ i. record {
+      units = (sym (seen UnitKept) ∙ k.seen u UnitKept) i;
+      grants = (sym (seen GrantKept) ∙ k.seen u GrantKept) i;
+      alarms = (sym (seen AlarmKept) ∙ k.seen u AlarmKept) i;
+      shelves = (sym (seen ShelfKept) ∙ k.seen u ShelfKept) i;
+      bands = (sym (seen BandKept) ∙ k.seen u BandKept) i;
+      cells = (sym (seen CellKept) ∙ k.seen u CellKept) i;
+    } in
+    ap Some same ∙ sym (kept_rows s m u k (ap has_any (seen UnitKept) ∙ any))
+
+pub none_found : (s : State) (m : Content) (u : Name) → KeepsIn s m → (units : List Rattle.plant_model.specs.declared.rows.UnitRow.UnitRow) → units ≡ rows_seen u s.now.trees UnitKept → has_any units ≡ false → ◌≡◌ {A = Option UnitRows} None (get m.units u)
+none_found s m u k units is any = sym (never_opened s m u k (ap has_any (sym is) ∙ any))

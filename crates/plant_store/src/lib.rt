@@ -4,4 +4,5 @@
 mod decode;
 mod encode;
 mod read;
+mod unit;
 mod write;
