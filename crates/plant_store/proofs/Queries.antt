@@ -119,3 +119,26 @@ pub find_tags : (u : Name) (old new : State) → AreBooks old.now → (rows : Li
 find_tags u old new books rows h =
     finds_rows alarm_shape (good AlarmKept) books_schema tags_of_text by_unit _ order_2 _ tags_of_is.0 tags_of_is.1 tags_of_plain (Text u ∷ []) refl (is_of u) (λ r. one_test (column r 1) u) old new books.same_schema (books.tidy AlarmKept).apart rows h
     ∙ shown_kept alarm_shape (good AlarmKept) _ (λ (r : AlarmRow). Text r.tag ∷ []) (λ id v x. refl) (is_of u) (old.now.trees 5) (books.tidy AlarmKept).each
+
+pub length_mapped : {A B : Type 0} (f : A → B) (xs : List A) → Rattle.std.proofs.Common.length (map f xs) ≡ Rattle.std.proofs.Common.length xs
+length_mapped f [] = refl
+length_mapped f (x ∷ xs) = ap Rattle.std.proofs.Common.suc (length_mapped f xs)
+
+-- ---- which rows a call looks at
+
+pub every_one : {A : Type 0} (all : Bool) → all ≡ true → (f : A → Bool) (xs : List A) → xs ≡ filter (λ x. Rattle.std.specs.Prelude.◌||◌ (f x) all) xs
+every_one true h f [] = refl
+every_one true h f (x ∷ xs) = go (f x) (every_one true h f xs)
+  where
+    go : (b : Bool) → xs ≡ filter (λ x. Rattle.std.specs.Prelude.◌||◌ (f x) true) xs → x ∷ xs ≡ Rattle.std.proofs.Common.cond (Rattle.std.specs.Prelude.◌||◌ b true) (x ∷ filter (λ x. Rattle.std.specs.Prelude.◌||◌ (f x) true) xs) (filter (λ x. Rattle.std.specs.Prelude.◌||◌ (f x) true) xs)
+    go true more = ap (λ l. x ∷ l) more
+    go false more = ap (λ l. x ∷ l) more
+every_one false h f xs = absurd (Rattle.std.proofs.Common.true≢false (sym h))
+
+pub passing_all : {A : Type 0} (xs : List A) → filter (λ x. true) xs ≡ xs
+passing_all [] = refl
+passing_all (x ∷ xs) = ap (λ l. x ∷ l) (passing_all xs)
+
+pub passing_none : {A : Type 0} (xs : List A) → filter (λ x. false) xs ≡ []
+passing_none [] = refl
+passing_none (x ∷ xs) = passing_none xs

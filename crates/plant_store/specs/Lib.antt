@@ -4,3 +4,4 @@ pub mod Tables
 pub mod Changes
 pub mod Shown
 pub mod Keeping
+pub mod Wanted

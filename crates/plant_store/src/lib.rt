@@ -3,6 +3,7 @@
 
 mod decode;
 mod encode;
+mod part;
 mod read;
 mod unit;
 mod write;

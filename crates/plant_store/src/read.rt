@@ -217,3 +217,19 @@ pub fn shelf_at<S: Alter>(
     )?;
     read_all(alloc, rows.as_slice())
 }
+
+/// How many alarms the unit has.
+pub fn count_of_alarms<S: Alter>(conn: &mut Connection<S>, unit: &UnitCode) -> Result<u64, Error>
+    requires { conn.old.in_transaction ≡ false }
+    ensures mode { conn.new.in_transaction ≡ false }
+    ensures rows { HasCleanDisk (state S.Store conn.new) → AreBooks (state S.Store conn.old).now → IfOk result (λ n. n ≡ length (rows_seen unit.now (state S.Store conn.old).now.trees AlarmKept)) }
+    ensures same { CanTell (state S.Store conn.new) → AreBooks (state S.Store conn.old).now → (state S.Store conn.new).now ≡ (state S.Store conn.old).now }
+    ensures told { CanTell (state S.Store conn.new) → CanTell (state S.Store conn.old) }
+{
+    let tags = ask(
+        conn,
+        "SELECT tag FROM alarms WHERE unit = ?1 ORDER BY unit, tag",
+        &single(unit),
+    )?;
+    Ok(tags.as_slice().len() as u64)
+}

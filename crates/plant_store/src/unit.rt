@@ -15,7 +15,7 @@ use sqlite::{Alter, Connection, Error};
 use std::alloc::Global;
 
 /// Whether there is a row: a unit was opened where it has a row of its own.
-fn has_row(units: &Table<UnitRow>) -> bool
+pub fn has_row(units: &Table<UnitRow>) -> bool
     ensures { result ≡ has_any units.now }
 {
     !units.as_slice().is_empty()
