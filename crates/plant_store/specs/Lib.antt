@@ -5,3 +5,4 @@ pub mod Changes
 pub mod Shown
 pub mod Keeping
 pub mod Wanted
+pub mod Making

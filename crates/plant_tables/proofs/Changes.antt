@@ -43,11 +43,11 @@ use Rattle.sqlite.proofs.Callers.{IsPlain, command_of, statement_of, runs_as, on
 use Rattle.plant_tables.specs.Tables.{table_of}
 
 -- a part that gave a value did not stop on the way
-went : {B E R : Type 0} {b : B} {Stops : E → Type 0} → ((stop : E) × Stops stop × (Ok b ≡ Err stop)) ⊎ R → R
+pub went : {B E R : Type 0} {b : B} {Stops : E → Type 0} → ((stop : E) × Stops stop × (Ok b ≡ Err stop)) ⊎ R → R
 went (inl stopped) = absurd (let e = stopped.2 in cc)
 went (inr on) = on
 
-same_value : {B E : Type 0} {a b : B} → ◌≡◌ {A = Result B E} (Ok a) (Ok b) → a ≡ b
+pub same_value : {B E : Type 0} {a b : B} → ◌≡◌ {A = Result B E} (Ok a) (Ok b) → a ≡ b
 same_value e = cc
 
 -- the rows of the other tables are as they were
@@ -66,7 +66,7 @@ no_works schema keys tree olds news free = each schema.tables free
     each (t ∷ ts) all = ap (λ rs. filter_map (work_for schema keys 0 tree olds news t) rs ++ flat_map (λ child. filter_map (work_for schema keys 0 tree olds news child) child.references) ts) all.0 ∙ each ts all.1
 
 -- so a step on one table writes no other
-lone_step : (schema : Schema) → HasNoReferences schema → (keys : Keys) (db next : Trees) (edit : Edit) → Edits schema keys db edit (Ok next) → Applies schema keys db edit next
+pub lone_step : (schema : Schema) → HasNoReferences schema → (keys : Keys) (db next : Trees) (edit : Edit) → Edits schema keys db edit (Ok next) → Applies schema keys db edit next
 lone_step schema free keys db next edit h = one_step schema keys db next edit (no_works schema keys edit.table.tree (taken_by db edit) edit.news free) h
 
 -- the answer names the rowids that are taken out
