@@ -3,6 +3,7 @@
 
 mod decode;
 mod encode;
+mod make;
 mod part;
 mod read;
 mod unit;

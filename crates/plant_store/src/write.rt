@@ -21,7 +21,7 @@ use sqlite::types::ValueRef;
 use sqlite::{Alter, Connection, Error, Transaction};
 
 /// Runs one statement.
-fn run<S: Alter>(
+pub fn run<S: Alter>(
     tx: &mut Transaction<'_, S>,
     sql: &str,
     cells: &[ValueRef<'_>],
