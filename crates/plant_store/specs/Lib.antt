@@ -6,3 +6,4 @@ pub mod Shown
 pub mod Keeping
 pub mod Wanted
 pub mod Making
+pub mod Mine

@@ -25,7 +25,7 @@ fn text_of<C: Alphabet>(alloc: Global, bytes: &[u8], at: usize) -> Result<Text<C
     }
 }
 
-fn text<C: Alphabet>(alloc: Global, row: &Row, at: usize) -> Result<Text<C>, Error>
+pub fn text<C: Alphabet>(alloc: Global, row: &Row, at: usize) -> Result<Text<C>, Error>
     ensures { IfOk result (λ t. column row.now at ≡ TextValue t) }
 {
     match row.get_ref(at)? {
@@ -78,13 +78,13 @@ fn moment_of(seconds: u64, at: usize) -> Result<Moment, Error>
     }
 }
 
-fn moment(row: &Row, at: usize) -> Result<Moment, Error>
+pub fn moment(row: &Row, at: usize) -> Result<Moment, Error>
     ensures { IfOk result (λ m. column row.now at ≡ codes.number m) }
 {
     moment_of(wide(row, at)?, at)
 }
 
-fn open_moment(row: &Row, at: usize) -> Result<Option<Moment>, Error>
+pub fn open_moment(row: &Row, at: usize) -> Result<Option<Moment>, Error>
     ensures { IfOk result (λ m. column row.now at ≡ codes.open_number m) }
 {
     match row.get_ref(at)? {
@@ -121,7 +121,7 @@ fn flag(row: &Row, at: usize) -> Result<bool, Error>
     }
 }
 
-fn role(row: &Row, at: usize) -> Result<Role, Error>
+pub fn role(row: &Row, at: usize) -> Result<Role, Error>
     ensures { IfOk result (λ r. column row.now at ≡ codes.role r) }
 {
     match number(row, at)? {

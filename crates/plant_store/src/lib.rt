@@ -4,6 +4,7 @@
 mod decode;
 mod encode;
 mod make;
+mod mine;
 mod part;
 mod read;
 mod unit;

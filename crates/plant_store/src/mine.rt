@@ -1,0 +1,87 @@
+//! The units in which a person holds roles.
+
+ghost use Rattle.std.specs.Prelude.{◌≡◌, [], ◌∷◌, ◌++◌, false, map, IfOk, OnOk};
+ghost use Rattle.sqlite.specs.Held.{state};
+ghost use Rattle.sqlite_value.specs.Order.{Row as SqlRow};
+ghost use Rattle.plant_books.specs.Contents as contents;
+ghost use Rattle.plant_books.specs.Contents.{Content};
+ghost use Rattle.plant_model.specs.Grants.{is_before};
+ghost use Rattle.plant_types.specs.Names.{same_name};
+ghost use Rattle.plant_store.specs.Changes.{CanTell};
+ghost use Rattle.plant_store.specs.Keeping.{KeepsIn};
+ghost use Rattle.plant_store.specs.Mine.{line_cells, lines_of, runs_of, standing_lines, started};
+ghost use Rattle.plant_store.specs.Tables.{AreBooks};
+
+use crate::decode::{Shown, moment, open_moment, read_all, role, text};
+use crate::encode::single;
+use crate::read::ask;
+use plant_books::MineUnit;
+use plant_types::{Moment, Person, Role, Table, UnitCode};
+use sqlite::{Alter, Connection, Error, ErrorCode, Row};
+use std::alloc::Global;
+
+/// A grant of the person, beside its unit's last moment.
+#[derive(Drop)]
+pub struct Line {
+    pub unit: UnitCode,
+    pub role_no: Role,
+    pub end_s: Option<Moment>,
+    pub last_s: Moment,
+}
+
+impl Shown for Line {
+    ghost width = { 4 };
+
+    ghost cells = { line_cells };
+
+    fn from_row(alloc: Global, row: &Row) -> Result<Line, Error> {
+        Ok(Line {
+            unit: text(alloc, row, 0)?,
+            role_no: role(row, 1)?,
+            end_s: open_moment(row, 2)?,
+            last_s: moment(row, 3)?,
+        })
+    }
+}
+
+/// Whether the moment is before the end.
+fn is_before_end(now: Moment, end_s: Option<Moment>) -> bool
+    ensures { result ≡ is_before now end_s }
+{
+    match end_s {
+        Some(end_s) => now < end_s,
+        None => true,
+    }
+}
+
+/// A list of one role.
+fn one_role(alloc: Global, role_no: Role) -> Result<Table<Role>, Error>
+    ensures { IfOk result (λ roles. roles ≡ role_no ∷ []) }
+{
+    let mut roles = Table::new(alloc);
+    push(&mut roles, role_no)?;
+    Ok(roles)
+}
+
+fn push<T: Drop>(table: &mut Table<T>, row: T) -> Result<(), Error>
+    ensures { OnOk result (table.new ≡ table.old ++ row ∷ []) }
+{
+    match table.push(row) {
+        Ok(()) => Ok(()),
+        Err(_) => Err(Error::SqliteFailure(ErrorCode::OutOfMemory)),
+    }
+}
+
+/// The unit of a line, with its role.
+fn start(alloc: Global, line: &Line) -> Result<MineUnit, Error>
+    ensures { IfOk result (λ u. u ≡ started line.now) }
+{
+    let Ok(unit) = line.unit.copy(alloc) else {
+        return Err(Error::SqliteFailure(ErrorCode::OutOfMemory));
+    };
+    Ok(MineUnit {
+        unit,
+        roles: one_role(alloc, line.role_no)?,
+        last: line.last_s,
+    })
+}
