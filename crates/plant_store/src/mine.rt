@@ -1,15 +1,16 @@
 //! The units in which a person holds roles.
 
-ghost use Rattle.std.specs.Prelude.{◌≡◌, [], ◌∷◌, ◌++◌, false, map, IfOk, OnOk};
+ghost use Rattle.std.specs.Prelude.{◌≡◌, [], ◌∷◌, ◌++◌, false, map, List, Some, IfOk, OnOk};
 ghost use Rattle.sqlite.specs.Held.{state};
 ghost use Rattle.sqlite_value.specs.Order.{Row as SqlRow};
 ghost use Rattle.plant_books.specs.Contents as contents;
 ghost use Rattle.plant_books.specs.Contents.{Content};
 ghost use Rattle.plant_model.specs.Grants.{is_before};
 ghost use Rattle.plant_types.specs.Names.{same_name};
+ghost use Rattle.plant_store.specs.declared.mine.Line.{Line as LineRow};
 ghost use Rattle.plant_store.specs.Changes.{CanTell};
 ghost use Rattle.plant_store.specs.Keeping.{KeepsIn};
-ghost use Rattle.plant_store.specs.Mine.{line_cells, lines_of, runs_of, standing_lines, started};
+ghost use Rattle.plant_store.specs.Mine.{line_cells, lines_of, runs_after, runs_of, standing_lines, started};
 ghost use Rattle.plant_store.specs.Tables.{AreBooks};
 
 use crate::decode::{Shown, moment, open_moment, read_all, role, text};
@@ -84,4 +85,41 @@ fn start(alloc: Global, line: &Line) -> Result<MineUnit, Error>
         roles: one_role(alloc, line.role_no)?,
         last: line.last_s,
     })
+}
+
+/// Takes a line to the unit that is still open, or to a new one.
+fn join(
+    alloc: Global,
+    units: &mut Table<MineUnit>,
+    current: Option<MineUnit>,
+    line: &Line,
+) -> Result<MineUnit, Error>
+    ensures { IfOk result (λ next. (rest : List LineRow) → units.new ++ runs_after (Some next) rest ≡ units.old ++ runs_after current (line.now ∷ rest)) }
+{
+    let Some(mut unit) = current else {
+        return start(alloc, line);
+    };
+    if unit.unit == line.unit {
+        push(&mut unit.roles, line.role_no)?;
+        return Ok(unit);
+    }
+    push(units, unit)?;
+    start(alloc, line)
+}
+
+/// The lines unit by unit, without those of grants that have ended.
+fn group(alloc: Global, lines: &[Line], now: Moment) -> Result<Table<MineUnit>, Error>
+    ensures { IfOk result (λ units. units ≡ runs_of (standing_lines now lines.now)) }
+{
+    let mut units = Table::new(alloc);
+    let mut current: Option<MineUnit> = None;
+    for line in lines {
+        if is_before_end(now, line.end_s) {
+            current = Some(join(alloc, &mut units, current, line)?);
+        }
+    }
+    if let Some(unit) = current {
+        push(&mut units, unit)?;
+    }
+    Ok(units)
 }
