@@ -142,3 +142,15 @@ passing_all (x ∷ xs) = ap (λ l. x ∷ l) (passing_all xs)
 pub passing_none : {A : Type 0} (xs : List A) → filter (λ x. false) xs ≡ []
 passing_none [] = refl
 passing_none (x ∷ xs) = passing_none xs
+
+-- rows that were shown are read back, whatever they show
+pub told_by : {X : Type 0} (cells : X → Row) (back : Row → X) → ((x : X) → back (cells x) ≡ x) → (n : ℕ) → ((x : X) → columns n (cells x) ≡ cells x) → (rows : List Row) (xs read : List X) → rows ≡ map cells xs → map (columns n) rows ≡ map cells read → read ≡ xs
+told_by {X} cells back is n whole rows xs read shown told = sym (backs read) ∙ ap (map back) (sym told ∙ ap (map (columns n)) shown ∙ wholes xs) ∙ backs xs
+  where
+    backs : (xs : List X) → map back (map cells xs) ≡ xs
+    backs [] = refl
+    backs (x ∷ xs) = ap₂ ◌∷◌ (is x) (backs xs)
+
+    wholes : (xs : List X) → map (columns n) (map cells xs) ≡ map cells xs
+    wholes [] = refl
+    wholes (x ∷ xs) = ap₂ ◌∷◌ (whole x) (wholes xs)

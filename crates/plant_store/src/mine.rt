@@ -123,3 +123,71 @@ fn group(alloc: Global, lines: &[Line], now: Moment) -> Result<Table<MineUnit>, 
     }
     Ok(units)
 }
+
+/// The person's grants in all units, each beside its unit's last moment.
+fn lines<S: Alter>(
+    alloc: Global,
+    conn: &mut Connection<S>,
+    person: &Person,
+) -> Result<Table<Line>, Error>
+    requires { conn.old.in_transaction ≡ false }
+    ensures mode { conn.new.in_transaction ≡ false }
+    ensures found { CanTell (state S.Store conn.new) → (m : Content) → KeepsIn (state S.Store conn.old) m → IfOk result (λ lines. lines ≡ lines_of person.now (state S.Store conn.old).now.trees) }
+    ensures same { CanTell (state S.Store conn.new) → AreBooks (state S.Store conn.old).now → (state S.Store conn.new).now ≡ (state S.Store conn.old).now }
+    ensures told { CanTell (state S.Store conn.new) → CanTell (state S.Store conn.old) }
+{
+    let rows = ask(
+        conn,
+        "SELECT grants.unit, grants.role_no, grants.end_s, units.last_s FROM grants INNER JOIN units ON units.unit = grants.unit WHERE grants.person = ?1 ORDER BY grants.unit, grants.person, grants.role_no",
+        &single(person),
+    )?;
+    read_all(alloc, rows.as_slice())
+}
+
+/// The units in which the person holds a role at the moment, with the roles held.
+pub fn mine_units<S: Alter>(
+    alloc: Global,
+    conn: &mut Connection<S>,
+    person: &Person,
+    now: Moment,
+) -> Result<Table<MineUnit>, Error>
+    requires { conn.old.in_transaction ≡ false }
+    ensures mode { conn.new.in_transaction ≡ false }
+    ensures found { CanTell (state S.Store conn.new) → (m : Content) → KeepsIn (state S.Store conn.old) m → IfOk result (λ units. units ≡ contents.mine_units m now person.now) }
+    ensures same { CanTell (state S.Store conn.new) → AreBooks (state S.Store conn.old).now → (state S.Store conn.new).now ≡ (state S.Store conn.old).now }
+    ensures told { CanTell (state S.Store conn.new) → CanTell (state S.Store conn.old) }
+{
+    let lines = lines(alloc, conn, person)?;
+    group(alloc, lines.as_slice(), now)
+}
+
+/// The codes of the units.
+fn codes(alloc: Global, units: &[MineUnit]) -> Result<Table<UnitCode>, Error>
+    ensures { IfOk result (λ codes. codes ≡ map (λ u. u.unit) units.now) }
+{
+    let mut codes = Table::new(alloc);
+    for mine in units {
+        let Ok(code) = mine.unit.copy(alloc) else {
+            return Err(Error::SqliteFailure(ErrorCode::OutOfMemory));
+        };
+        push(&mut codes, code)?;
+    }
+    Ok(codes)
+}
+
+/// The codes of the units in which the person holds a role at the moment.
+pub fn held<S: Alter>(
+    alloc: Global,
+    conn: &mut Connection<S>,
+    person: &Person,
+    now: Moment,
+) -> Result<Table<UnitCode>, Error>
+    requires { conn.old.in_transaction ≡ false }
+    ensures mode { conn.new.in_transaction ≡ false }
+    ensures found { CanTell (state S.Store conn.new) → (m : Content) → KeepsIn (state S.Store conn.old) m → IfOk result (λ codes. codes ≡ contents.codes_held m now person.now) }
+    ensures same { CanTell (state S.Store conn.new) → AreBooks (state S.Store conn.old).now → (state S.Store conn.new).now ≡ (state S.Store conn.old).now }
+    ensures told { CanTell (state S.Store conn.new) → CanTell (state S.Store conn.old) }
+{
+    let units = mine_units(alloc, conn, person, now)?;
+    codes(alloc, units.as_slice())
+}
