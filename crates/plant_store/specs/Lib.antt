@@ -7,3 +7,4 @@ pub mod Keeping
 pub mod Wanted
 pub mod Making
 pub mod Mine
+pub mod Counting

@@ -7,5 +7,8 @@ mod make;
 mod mine;
 mod part;
 mod read;
+mod tables;
 mod unit;
 mod write;
+
+pub use tables::Tables;

@@ -1,0 +1,161 @@
+//! The books of an office, kept in the tables of a connection.
+
+ghost use Rattle.std.specs.Prelude.{◌≡◌, ◌≢◌, ℕ, [], false, IfOk, IfErr, OnOk, OnErr};
+ghost use Rattle.sqlite.specs.Held.{state};
+ghost use Rattle.plant_books.specs.Contents.{Content};
+ghost use Rattle.plant_books.specs.Counting.{CountsFault};
+ghost use Rattle.plant_store.specs.Changes.{CanTell};
+ghost use Rattle.plant_store.specs.Counting.{Names};
+ghost use Rattle.plant_store.specs.Keeping.{Keeps};
+
+use crate::{mine, part, unit, write};
+use plant_books::{Books, MineUnit};
+use plant_model::{Call, Change, UnitPart, UnitRows};
+use plant_types::{Fault, Moment, Person, Table, UnitCode};
+use sqlite::{Alter, Connection, Error, ErrorCode};
+use std::alloc::Global;
+use std::marker::Model;
+
+fn fault_of(error: &Error) -> Fault
+    ensures { Names error.now result }
+{
+    match error {
+        Error::SqliteFailure(ErrorCode::OutOfMemory) => Fault::Memory,
+        _ => Fault::Store,
+    }
+}
+
+/// The count of answers `Store`, after this fault.
+fn counted(stores: u64, fault: &Fault) -> u64
+    ensures { CountsFault stores result fault.now }
+{
+    match fault {
+        Fault::Memory => stores,
+        Fault::Store => stores.saturating_add(1),
+    }
+}
+
+/// The same tables for all units, in the database of one connection.
+pub struct Tables<S: Alter> {
+    conn: Connection<S>,
+    admin: Person,
+    stores: u64,
+    alloc: Global,
+}
+
+impl<S: Alter> Model for Tables<S> {
+    ghost use Rattle.std.specs.Prelude.{◌≡◌, ℕ, List, false};
+    ghost use Rattle.std.specs.Coded.{coded×, coded_ℕ, coded_list};
+    ghost use Rattle.sqlite.specs.Held.{Held, held_code};
+
+    ghost Value = { (Held S × List ℕ) × ℕ };
+
+    ghost coded = { coded× (coded× (held_code S.code) (coded_list coded_ℕ)) coded_ℕ };
+
+    ghost view = { λ t. ((t.conn, t.admin), t.stores) };
+
+    ghost invariant = { λ t. t.conn.in_transaction ≡ false };
+}
+
+impl<S: Alter> Tables<S> {
+    /// Hands the connection back.
+    pub fn close(self) -> Connection<S>
+        ensures same { result ≡ self.0.0 }
+        ensures mode { result.in_transaction ≡ false }
+    {
+        let Tables {
+            conn,
+            admin: _,
+            stores: _,
+            alloc: _,
+        } = self;
+        conn
+    }
+
+    /// Sets how many steps a statement may take, or takes that limit away. A statement that would take more is a fault.
+    pub fn set_steps(&mut self, steps: Option<u64>)
+        ensures limit { self.new.0.0 ≡ record self.old.0.0 { step_limit = steps } }
+        ensures admin { self.new.0.1 ≡ self.old.0.1 }
+        ensures count { self.new.1 ≡ self.old.1 }
+    {
+        self.conn.set_step_limit(steps);
+    }
+}
+
+impl<S: Alter> Books for Tables<S> {
+    ghost can_tell = { λ t. CanTell (state S.Store t.0.0) };
+
+    ghost holds = { λ t m. (t.0.1 ≡ m.admin) × Keeps (state S.Store t.0.0) m };
+
+    ghost stores = { λ t. t.1 };
+
+    fn administrator(&self) -> &Person {
+        &self.admin
+    }
+
+    fn taken(&mut self, unit: &UnitCode) -> Result<bool, Fault> {
+        match unit::taken(self.alloc, &mut self.conn, unit) {
+            Ok(found) => Ok(found),
+            Err(error) => {
+                let fault = fault_of(&error);
+                self.stores = counted(self.stores, &fault);
+                Err(fault)
+            }
+        }
+    }
+
+    fn rows(&mut self, unit: &UnitCode) -> Result<Option<UnitRows>, Fault> {
+        match unit::rows_of(self.alloc, &mut self.conn, unit) {
+            Ok(found) => Ok(found),
+            Err(error) => {
+                let fault = fault_of(&error);
+                self.stores = counted(self.stores, &fault);
+                Err(fault)
+            }
+        }
+    }
+
+    fn part(&mut self, call: &Call) -> Result<Option<UnitPart>, Fault> {
+        match part::part_of(self.alloc, &mut self.conn, call) {
+            Ok(found) => Ok(found),
+            Err(error) => {
+                let fault = fault_of(&error);
+                self.stores = counted(self.stores, &fault);
+                Err(fault)
+            }
+        }
+    }
+
+    fn held(&mut self, person: &Person, now: Moment) -> Result<Table<UnitCode>, Fault> {
+        match mine::held(self.alloc, &mut self.conn, person, now) {
+            Ok(found) => Ok(found),
+            Err(error) => {
+                let fault = fault_of(&error);
+                self.stores = counted(self.stores, &fault);
+                Err(fault)
+            }
+        }
+    }
+
+    fn mine_units(&mut self, person: &Person, now: Moment) -> Result<Table<MineUnit>, Fault> {
+        match mine::mine_units(self.alloc, &mut self.conn, person, now) {
+            Ok(found) => Ok(found),
+            Err(error) => {
+                let fault = fault_of(&error);
+                self.stores = counted(self.stores, &fault);
+                Err(fault)
+            }
+        }
+    }
+
+    fn apply(&mut self, unit: &UnitCode, changes: &Table<Change>) -> Result<(), Fault> {
+        match write::apply(&mut self.conn, unit, changes.as_slice()) {
+            Ok(()) => Ok(()),
+            Err(error) => {
+                let fault = fault_of(&error);
+                self.stores = counted(self.stores, &fault);
+                Err(fault)
+            }
+        }
+    }
+}
