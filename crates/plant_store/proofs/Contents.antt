@@ -2,11 +2,11 @@
 use Rattle.std.proofs.Common.{◌≡◌, ◌≢◌, ◌⊎◌, inl, inr, ℕ, Bool, true, false, cond, List, [], ◌∷◌, map, filter, Option, None, Some, refl, sym, ap, ◌∙◌, subst, true≢false}
 use Rattle.std.specs.Prelude.{unwrap_or, option_map, is_some, ◌||◌}
 use Rattle.std.specs.List.{list_any}
-use Rattle.std.specs.FinMap.{FinMap, get, insert, contains_key, get-insert}
+use Rattle.std.specs.FinMap.{FinMap, get, insert, contains_key, get-empty, get-insert}
 use Rattle.std.specs.Cmp.Lexicographic.{nat_list_cmp_total}
 use Rattle.sqlite.specs.Effect.{Database}
 use Rattle.sqlite.specs.State.{State}
-use Rattle.plant_books.specs.Contents.{Content, IsKnownTo, after_changes, rows_in, with_rows}
+use Rattle.plant_books.specs.Contents.{Content, IsKnownTo, after_changes, no_units, rows_in, with_rows}
 use Rattle.plant_model.specs.declared.rows.Change.{Change}
 use Rattle.plant_model.specs.declared.rows.Change.TheVariants.{Put, Remove}
 use Rattle.plant_model.specs.declared.rows.Key.TheVariants.{Grant as GrantKey, Shelf as ShelfKey}
@@ -18,7 +18,9 @@ use Rattle.plant_types.proofs.Orders.{same_names}
 use Rattle.plant_types.proofs.TableLaws.{tied}
 use Rattle.plant_store.specs.Changes.{Applies, IsOfficeOf}
 use Rattle.plant_store.specs.Keeping.{KeepsIn, has_any}
-use Rattle.plant_store.specs.Tables.{AreBooks, AreSeen, Kept, rows_seen}
+use Rattle.plant_store.specs.Making.{AreNew}
+use Rattle.plant_store.specs.Tables.{AreBooks, AreSeen, Kept, rows_at, rows_seen, shape}
+use Rattle.plant_tables.specs.Shape.{rows_in as rows_of}
 use Rattle.plant_store.specs.Tables.Kept.{UnitKept, GrantKept, AlarmKept, ShelfKept, BandKept, CellKept}
 
 same_codes : (a b : Name) → same_name a b ≡ true → a ≡ b
@@ -125,3 +127,21 @@ whole_found s m u k rows seen any =
 
 pub none_found : (s : State) (m : Content) (u : Name) → KeepsIn s m → (units : List Rattle.plant_model.specs.declared.rows.UnitRow.UnitRow) → units ≡ rows_seen u s.now.trees UnitKept → has_any units ≡ false → ◌≡◌ {A = Option UnitRows} None (get m.units u)
 none_found s m u k units is any = sym (never_opened s m u k (ap has_any (sym is) ∙ any))
+
+-- ---- new books
+
+nothing_at : (i : Kept) → [] ≡ rows_at i no_rows
+nothing_at UnitKept = refl
+nothing_at GrantKept = refl
+nothing_at AlarmKept = refl
+nothing_at ShelfKept = refl
+nothing_at BandKept = refl
+nothing_at CellKept = refl
+
+pub keeps_new : (s : State) (admin : Name) → AreNew admin s.now → KeepsIn s (no_units admin)
+keeps_new s admin it = record {
+  books = it.books;
+  office = it.office;
+  seen = λ u i. ap (rows_of (shape i) u) (it.empty i) ∙ nothing_at i ∙ sym (ap (λ o. rows_at i (unwrap_or o no_rows)) (get-empty name_cmp u));
+  opened = λ u. ap is_some (get-empty name_cmp u) ∙ sym (ap (λ o. has_any (unwrap_or o no_rows).units) (get-empty name_cmp u));
+}

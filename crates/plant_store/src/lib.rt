@@ -11,4 +11,4 @@ mod tables;
 mod unit;
 mod write;
 
-pub use tables::Tables;
+pub use tables::{StoreFault, Tables, Unopened};

@@ -1,28 +1,42 @@
 //! The books of an office, kept in the tables of a connection.
 
-ghost use Rattle.std.specs.Prelude.{◌≡◌, ◌≢◌, ℕ, [], false, IfOk, IfErr, OnOk, OnErr};
+ghost use Rattle.std.specs.Prelude.{◌≡◌, ◌≢◌, ◌↔◌, ℕ, [], false, IsTrue, IfOk, IfErr, OnOk, OnErr};
 ghost use Rattle.sqlite.specs.Held.{state};
-ghost use Rattle.plant_books.specs.Contents.{Content};
+ghost use Rattle.plant_books.specs.Contents.{Content, no_units};
 ghost use Rattle.plant_books.specs.Counting.{CountsFault};
 ghost use Rattle.plant_store.specs.Changes.{CanTell};
 ghost use Rattle.plant_store.specs.Counting.{Names};
 ghost use Rattle.plant_store.specs.Keeping.{Keeps};
+ghost use Rattle.plant_store.specs.Tables.{no_schema};
+ghost use Rattle.plant_types.specs.declared.fault.Fault.TheVariants.{Store};
 
+use crate::make::make_all;
 use crate::{mine, part, unit, write};
 use plant_books::{Books, MineUnit};
 use plant_model::{Call, Change, UnitPart, UnitRows};
 use plant_types::{Fault, Moment, Person, Table, UnitCode};
-use sqlite::{Alter, Connection, Error, ErrorCode};
+use sqlite::{Alter, Connection, Error as SqlError, ErrorCode};
+use sqlite_schema::schema::Schema;
 use std::alloc::Global;
 use std::marker::Model;
+use thiserror::Error;
 
-fn fault_of(error: &Error) -> Fault
+fn fault_of(error: &SqlError) -> Fault
     ensures { Names error.now result }
 {
     match error {
-        Error::SqliteFailure(ErrorCode::OutOfMemory) => Fault::Memory,
+        SqlError::SqliteFailure(ErrorCode::OutOfMemory) => Fault::Memory,
         _ => Fault::Store,
     }
+}
+
+/// Whether the database has no table, no index and no view.
+fn is_blank(schema: &Schema) -> bool
+    ensures { IsTrue result ↔ (schema.now ≡ no_schema) }
+{
+    schema.tables.as_slice().is_empty()
+        && schema.indexes.as_slice().is_empty()
+        && schema.views.as_slice().is_empty()
 }
 
 /// The count of answers `Store`, after this fault.
@@ -35,7 +49,27 @@ fn counted(stores: u64, fault: &Fault) -> u64
     }
 }
 
+/// Why a connection was not taken for books.
+#[derive(Debug, Drop, Error)]
+pub enum StoreFault {
+    /// The office's table is missing, or a column of it, or its row is not this schema's and this person's.
+    #[error("not this store")]
+    NotThisStore,
+    /// Memory ran out, or the store failed.
+    #[error("{0}")]
+    Fault(Fault),
+}
+
+/// A connection that was not taken, handed back with the administrator's name.
+#[derive(Drop)]
+pub struct Unopened<S: Alter> {
+    pub conn: Connection<S>,
+    pub admin: Person,
+    pub fault: StoreFault,
+}
+
 /// The same tables for all units, in the database of one connection.
+#[derive(Drop)]
 pub struct Tables<S: Alter> {
     conn: Connection<S>,
     admin: Person,
@@ -58,6 +92,43 @@ impl<S: Alter> Model for Tables<S> {
 }
 
 impl<S: Alter> Tables<S> {
+    /// Makes all tables, with no unit, in a database that has none: in another it is a fault of the store.
+    pub fn create(
+        alloc: Global,
+        mut conn: Connection<S>,
+        admin: Person,
+    ) -> Result<Tables<S>, Unopened<S>>
+        requires { conn.in_transaction ≡ false }
+        ensures made { IfOk result (λ t. (t.0.1 ≡ admin) × Keeps (state S.Store t.0.0) (no_units admin)) }
+        ensures count { IfOk result (λ t. t.1 ≡ 0) }
+        ensures blank { IfOk result (λ t. (state S.Store conn).now.schema ≡ no_schema) }
+        ensures refused { (state S.Store conn).now.schema ≢ no_schema → IfErr result (λ e. e.fault ≡ StoreFault.Fault Store) }
+        ensures fault { IfErr result (λ e. e.fault ≢ StoreFault.NotThisStore) }
+        ensures unchanged { IfErr result (λ e. CanTell (state S.Store e.conn) → (state S.Store e.conn).now ≡ (state S.Store conn).now) }
+        ensures back { IfErr result (λ e. (e.admin ≡ admin) × (e.conn.in_transaction ≡ false)) }
+    {
+        if !is_blank(conn.schema()) {
+            return Err(Unopened {
+                conn,
+                admin,
+                fault: StoreFault::Fault(Fault::Store),
+            });
+        }
+        match make_all(&mut conn, &admin) {
+            Ok(()) => Ok(Tables {
+                conn,
+                admin,
+                stores: 0,
+                alloc,
+            }),
+            Err(error) => Err(Unopened {
+                conn,
+                admin,
+                fault: StoreFault::Fault(fault_of(&error)),
+            }),
+        }
+    }
+
     /// Hands the connection back.
     pub fn close(self) -> Connection<S>
         ensures same { result ≡ self.0.0 }
@@ -77,6 +148,7 @@ impl<S: Alter> Tables<S> {
         ensures limit { self.new.0.0 ≡ record self.old.0.0 { step_limit = steps } }
         ensures admin { self.new.0.1 ≡ self.old.0.1 }
         ensures count { self.new.1 ≡ self.old.1 }
+        ensures kept { (m : Content) → Keeps (state S.Store self.old.0.0) m → Keeps (state S.Store self.new.0.0) m }
     {
         self.conn.set_step_limit(steps);
     }
