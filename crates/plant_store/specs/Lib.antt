@@ -8,3 +8,4 @@ pub mod Wanted
 pub mod Making
 pub mod Mine
 pub mod Counting
+pub mod Opening

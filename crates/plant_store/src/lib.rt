@@ -5,6 +5,7 @@ mod decode;
 mod encode;
 mod make;
 mod mine;
+mod opening;
 mod part;
 mod read;
 mod tables;

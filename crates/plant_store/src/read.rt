@@ -3,12 +3,13 @@
 ghost use Rattle.std.specs.Prelude.{◌≡◌, [], ◌∷◌, false, filter, length, IfOk};
 ghost use Rattle.sqlite.specs.Held.{state};
 ghost use Rattle.sqlite.specs.Listing.{understood};
+ghost use Rattle.sqlite.specs.Schema.{Schema};
 ghost use Rattle.sqlite.specs.State.{HasCleanDisk, Shown as IsShown};
 ghost use Rattle.sqlite.specs.Values.{bound};
 ghost use Rattle.sqlite.proofs.Callers.{IsPlain};
 ghost use Rattle.plant_types.specs.Names.{same_name};
 ghost use Rattle.plant_store.specs.Changes.{CanTell};
-ghost use Rattle.plant_store.specs.Tables.{AreBooks, books_schema, rows_seen};
+ghost use Rattle.plant_store.specs.Tables.{AreBooks, rows_seen};
 ghost use Rattle.plant_store.specs.Tables.Kept.{UnitKept, GrantKept, AlarmKept, ShelfKept, BandKept, CellKept};
 
 use crate::decode::read_all;
@@ -28,7 +29,7 @@ pub fn ask<S: Alter>(
     requires { conn.old.in_transaction ≡ false }
     ensures mode { conn.new.in_transaction ≡ false }
     ensures rows { HasCleanDisk (state S.Store conn.new) → IfOk result (λ rows. IsShown sql.now (bound cells.now) (state S.Store conn.old) (state S.Store conn.new) rows.items) }
-    ensures same { CanTell (state S.Store conn.new) → AreBooks (state S.Store conn.old).now → IsPlain (understood books_schema sql.now) → (state S.Store conn.new).now ≡ (state S.Store conn.old).now }
+    ensures same { CanTell (state S.Store conn.new) → (schema : Schema) → (state S.Store conn.old).now.schema ≡ schema → IsPlain (understood schema sql.now) → (state S.Store conn.new).now ≡ (state S.Store conn.old).now }
     ensures told { CanTell (state S.Store conn.new) → CanTell (state S.Store conn.old) }
 {
     let _settled = conn.is_autocommit();

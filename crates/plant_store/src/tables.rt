@@ -1,16 +1,18 @@
 //! The books of an office, kept in the tables of a connection.
 
-ghost use Rattle.std.specs.Prelude.{◌≡◌, ◌≢◌, ◌↔◌, ℕ, [], false, IsTrue, IfOk, IfErr, OnOk, OnErr};
+ghost use Rattle.std.specs.Prelude.{◌≡◌, ◌≢◌, ◌↔◌, ℕ, [], false, IsTrue, IsErrAnd, IfOk, IfErr, OnOk, OnErr};
 ghost use Rattle.sqlite.specs.Held.{state};
 ghost use Rattle.plant_books.specs.Contents.{Content, no_units};
 ghost use Rattle.plant_books.specs.Counting.{CountsFault};
 ghost use Rattle.plant_store.specs.Changes.{CanTell};
 ghost use Rattle.plant_store.specs.Counting.{Names};
 ghost use Rattle.plant_store.specs.Keeping.{Keeps};
+ghost use Rattle.plant_store.specs.Opening.{IsOfficeFirst, IsThisOffice, has_office};
 ghost use Rattle.plant_store.specs.Tables.{no_schema};
 ghost use Rattle.plant_types.specs.declared.fault.Fault.TheVariants.{Store};
 
 use crate::make::make_all;
+use crate::opening::{has_office, is_office_of};
 use crate::{mine, part, unit, write};
 use plant_books::{Books, MineUnit};
 use plant_model::{Call, Change, UnitPart, UnitRows};
@@ -120,6 +122,50 @@ impl<S: Alter> Tables<S> {
                 admin,
                 stores: 0,
                 alloc,
+            }),
+            Err(error) => Err(Unopened {
+                conn,
+                admin,
+                fault: StoreFault::Fault(fault_of(&error)),
+            }),
+        }
+    }
+
+    /// Takes a database that `create` made for this administrator and that was kept since. A database without the
+    /// office's table, or whose row there is another's, is not this store.
+    pub fn open(
+        alloc: Global,
+        mut conn: Connection<S>,
+        admin: Person,
+    ) -> Result<Tables<S>, Unopened<S>>
+        requires { conn.in_transaction ≡ false }
+        ensures kept { (m : Content) → Keeps (state S.Store conn) m → IfOk result (λ t. Keeps (state S.Store t.0.0) m) }
+        ensures fresh { IfOk result (λ t. (t.0.1 ≡ admin) × (t.1 ≡ 0)) }
+        ensures office { IsOfficeFirst (state S.Store conn).now.schema → IfOk result (λ t. CanTell (state S.Store t.0.0) → IsThisOffice admin (state S.Store conn).now) }
+        ensures other { IsOfficeFirst (state S.Store conn).now.schema → IfErr result (λ e. e.fault ≡ StoreFault.NotThisStore → CanTell (state S.Store e.conn) → ¬ IsThisOffice admin (state S.Store conn).now) }
+        ensures missing { has_office (state S.Store conn).now.schema ≡ false → IsErrAnd result (λ e. e.fault ≡ StoreFault.NotThisStore) }
+        ensures own { (m : Content) → Keeps (state S.Store conn) m → m.admin ≡ admin → IfErr result (λ e. CanTell (state S.Store e.conn) → e.fault ≢ StoreFault.NotThisStore) }
+        ensures left { (m : Content) → Keeps (state S.Store conn) m → IfErr result (λ e. Keeps (state S.Store e.conn) m) }
+        ensures back { IfErr result (λ e. (e.admin ≡ admin) × (e.conn.in_transaction ≡ false)) }
+    {
+        if !has_office(conn.schema()) {
+            return Err(Unopened {
+                conn,
+                admin,
+                fault: StoreFault::NotThisStore,
+            });
+        }
+        match is_office_of(&mut conn, &admin) {
+            Ok(true) => Ok(Tables {
+                conn,
+                admin,
+                stores: 0,
+                alloc,
+            }),
+            Ok(false) => Err(Unopened {
+                conn,
+                admin,
+                fault: StoreFault::NotThisStore,
             }),
             Err(error) => Err(Unopened {
                 conn,

@@ -5,6 +5,7 @@ use Rattle.plant_store.specs.declared.mine.Line.{Line}
 use Rattle.plant_store.specs.Codes.{number_in, open_number_in, role_in}
 use Rattle.plant_store.specs.Mine.{line_cells}
 use Rattle.plant_store.proofs.Joined.{find_mine}
+use Rattle.plant_store.specs.Tables.{books_schema}
 use Rattle.plant_store.proofs.Meanings.{mine_plain}
 use Rattle.plant_store.proofs.Queries.{if_ok, told_by}
 use Rattle.plant_store.proofs.ShapeLaws.{open_number_back, role_back}
@@ -23,7 +24,7 @@ returns-clause-found g c told m k =
     if_ok c.read_all.result (λ read. told_by line_cells line_back read_back 4 (λ x. refl) c.in_ok-rows.rows.items _ read shown) (rw c.as_slice.ensures.value at c.read_all.ensures)
 
 pub returns-clause-same : goal.returns-clause-same
-returns-clause-same g c told books = c.ask.ensures.same told books mine_plain
+returns-clause-same g c told books = c.ask.ensures.same told books_schema books.same_schema mine_plain
 
 pub returns-in_err-rows-clause-same : goal.returns-in_err-rows-clause-same
-returns-in_err-rows-clause-same g c told books = c.ask.ensures.same told books mine_plain
+returns-in_err-rows-clause-same g c told books = c.ask.ensures.same told books_schema books.same_schema mine_plain

@@ -1,5 +1,6 @@
 use Rattle.std.proofs.Common.{ap, ◌∙◌, length}
 use Rattle.sqlite.specs.Held.{state}
+use Rattle.plant_store.specs.Tables.{books_schema}
 use Rattle.plant_store.proofs.Meanings.{tags_of_plain}
 use Rattle.plant_store.proofs.Queries.{find_tags, length_mapped}
 use Rattle.plant_store.proofs.read.count_of_alarms.Goals as goal
@@ -10,7 +11,7 @@ returns-clause-rows g c clean books =
     ap length (c.as_slice.ensures.value ∙ shown) ∙ length_mapped _ _
 
 pub returns-clause-same : goal.returns-clause-same
-returns-clause-same g c told books = c.ask.ensures.same told books tags_of_plain
+returns-clause-same g c told books = c.ask.ensures.same told books_schema books.same_schema tags_of_plain
 
 pub returns-in_err-tags-clause-same : goal.returns-in_err-tags-clause-same
-returns-in_err-tags-clause-same g c told books = c.ask.ensures.same told books tags_of_plain
+returns-in_err-tags-clause-same g c told books = c.ask.ensures.same told books_schema books.same_schema tags_of_plain
