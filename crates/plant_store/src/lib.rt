@@ -8,6 +8,7 @@ mod mine;
 mod opening;
 mod part;
 mod read;
+mod reopening;
 mod tables;
 mod unit;
 mod write;
