@@ -8,7 +8,7 @@ mod mine;
 mod opening;
 mod part;
 mod read;
-mod reopening;
+pub mod reopening;
 mod tables;
 mod unit;
 mod write;

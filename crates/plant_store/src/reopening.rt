@@ -35,3 +35,19 @@ fn reopen_files<D: Disk + Drop>(
         Err(_) => None,
     }
 }
+
+/// Closes books that are kept in files, and opens them again for the same administrator. What they held is found again.
+pub fn reopen<D: Disk + Drop>(
+    alloc: Global,
+    tables: Tables<FileStore<D>>,
+    admin: Person,
+    options: Options,
+) -> Option<Tables<FileStore<D>>>
+    ensures { (m : Content) → tables.0.1 ≡ m.admin → Keeps (file_state tables.0.0) m → m.admin ≡ admin → IfSome result (λ again. (again.0.1 ≡ m.admin) × Keeps (file_state again.0.0) m) }
+{
+    let conn = reopen_files(alloc, tables.close(), options)?;
+    match Tables::open(alloc, conn, admin) {
+        Ok(again) => Some(again),
+        Err(_) => None,
+    }
+}
