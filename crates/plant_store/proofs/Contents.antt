@@ -4,15 +4,14 @@ use Rattle.std.specs.Prelude.{unwrap_or, option_map, is_some, ◌||◌}
 use Rattle.std.specs.List.{list_any}
 use Rattle.std.specs.FinMap.{FinMap, get, insert, contains_key, get-empty, get-insert}
 use Rattle.std.specs.Cmp.Lexicographic.{nat_list_cmp_total}
-use Rattle.sqlite.specs.Effect.{Database}
 use Rattle.sqlite.specs.State.{State}
-use Rattle.plant_books.specs.Contents.{Content, IsKnownTo, after_changes, no_units, rows_in, with_rows}
+use Rattle.plant_books.specs.Contents.{Content, IsKnownTo, after_changes, no_units, rows_in}
 use Rattle.plant_model.specs.declared.rows.Change.{Change}
 use Rattle.plant_model.specs.declared.rows.Change.TheVariants.{Put, Remove}
 use Rattle.plant_model.specs.declared.rows.Key.TheVariants.{Grant as GrantKey, Shelf as ShelfKey}
 use Rattle.plant_model.specs.declared.rows.Row.TheVariants.{Alarm as AlarmPut, Band as BandPut, Cell as CellPut, Grant as GrantPut, Shelf as ShelfPut, Unit as UnitPut}
 use Rattle.plant_model.specs.declared.rows.UnitRows.{UnitRows}
-use Rattle.plant_model.specs.RowChanges.{changed, changed_by, is_unit_put, no_rows, puts_unit}
+use Rattle.plant_model.specs.RowChanges.{changed, changed_by, no_rows, puts_unit}
 use Rattle.plant_types.specs.Names.{Name, name_cmp, same_name}
 use Rattle.plant_types.proofs.Orders.{same_names}
 use Rattle.plant_types.proofs.TableLaws.{tied}

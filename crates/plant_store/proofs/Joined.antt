@@ -1,12 +1,11 @@
 -- What the join of grants and units answers, where each unit with a grant has a row of its own.
 use Rattle.std.proofs.Common.{◌≡◌, ℕ, Bool, true, false, ◌&&◌, cond, List, [], ◌∷◌, ◌++◌, map, filter, flat_map, refl, sym, ap, ap₂, ◌∙◌, subst, is_eq, Equal, Less, Greater, Ordering, true≢false, Option, None, Some}
 use Rattle.std.specs.List.{AllByRecursion}
-use Rattle.std.specs.FinMap.{contains_key, get}
+use Rattle.std.specs.FinMap.{get}
 use Rattle.std.specs.Prelude.{unwrap_or, is_some}
 use Rattle.sqlite.specs.Collation.TheVariants.{Binary}
 use Rattle.sqlite.specs.Query.{Output}
 use Rattle.sqlite.specs.State.{State, Shown}
-use Rattle.sqlite.specs.Tree.{rowid}
 use Rattle.sqlite.proofs.Callers.{reads_as}
 use Rattle.sqlite_keyed.specs.Lists.{sort_by, insert_sorted}
 use Rattle.sqlite_keyed.proofs.ListLemmas.{all-filter}
@@ -20,20 +19,19 @@ use Rattle.sqlite_value.specs.declared.value.Value.TheVariants.{Null, Int, Real,
 use Rattle.sqlite_value.specs.Order.{Row, column, bytes, value_cmp}
 use Rattle.sqlite_value.proofs.OrderLemmas.{value_cmp_total, then-Equal}
 use Rattle.std.proofs.lemmas.Cmp.{tied_back, tied_itself, alike_right}
-use Rattle.plant_books.specs.Contents.{Content, rows_in}
+use Rattle.plant_books.specs.Contents.{Content}
 use Rattle.plant_model.specs.RowChanges.{no_rows}
 use Rattle.plant_types.specs.Names.{Name}
-use Rattle.plant_tables.specs.Kept.{by_columns, kept, is_of}
+use Rattle.plant_tables.specs.Kept.{by_columns, is_of}
 use Rattle.plant_tables.specs.Shape.{IsRowIn}
 use Rattle.plant_tables.specs.Tidy.{AreApart}
 use Rattle.plant_tables.proofs.Keys.{equal_is, by_columns_total}
 use Rattle.plant_tables.proofs.Kept.{all-sort, no_ties-out, sort-filter}
 use Rattle.plant_tables.proofs.Joins.{joins, meets, met}
 use Rattle.plant_tables.proofs.Shapes.{named}
-use Rattle.plant_store.specs.declared.mine.Line.{Line}
 use Rattle.plant_store.specs.Keeping.{KeepsIn, has_any}
 use Rattle.plant_store.specs.Mine.{is_named, last_in, line_at, line_cells, lines_of}
-use Rattle.plant_store.specs.Tables.{AreBooks, books_schema, grant_shape, rows_seen, unit_shape}
+use Rattle.plant_store.specs.Tables.{books_schema, grant_shape, rows_seen, unit_shape}
 use Rattle.plant_store.specs.Tables.Kept.{UnitKept, GrantKept}
 use Rattle.plant_store.specs.Texts.{mine_text}
 use Rattle.plant_store.proofs.Contents.{was_opened}

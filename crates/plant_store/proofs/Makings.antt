@@ -1,9 +1,8 @@
 -- The statements that make the tables.
-use Rattle.std.proofs.Common.{◌≡◌, ◌≢◌, ℕ, pos, List, [], ◌∷◌, ◌++◌, map, Ok, Some, None, refl, sym, ap, ap₂, ◌∙◌, subst, arith, false}
+use Rattle.std.proofs.Common.{◌≡◌, ◌≢◌, ℕ, pos, List, [], ◌∷◌, ◌++◌, Ok, None, refl, sym, ap, ◌∙◌, subst, arith, false}
 use Rattle.std.specs.List.{AllByRecursion}
-use Rattle.std.specs.Prelude.{slice_get}
 use Rattle.sqlite.specs.Change.{created, indexed, next_tree, KeepsRows}
-use Rattle.sqlite.specs.Command.TheVariants.{CreateIndex, CreateTable, Insert}
+use Rattle.sqlite.specs.Command.TheVariants.{CreateTable, Insert}
 use Rattle.sqlite.specs.Compile.{index_defined_by, table_defined_by}
 use Rattle.sqlite.specs.Does.{Does, Tally, lacks_sequence}
 use Rattle.sqlite.specs.Edit.{edit_of, edited}
@@ -18,7 +17,6 @@ use Rattle.sqlite.specs.Table.{Table}
 use Rattle.sqlite.specs.Tree.{Trees}
 use Rattle.sqlite.proofs.Callers.{IsPlain, command_of, runs_as, statement_of}
 use Rattle.sqlite_keyed.proofs.ListLemmas.{all-append}
-use Rattle.sqlite_schema.specs.declared.schema.Index.{Index}
 use Rattle.sqlite_value.specs.declared.value.Value.TheVariants.{Int, Null, Text}
 use Rattle.sqlite_value.specs.Order.{Row}
 use Rattle.plant_tables.specs.Shape.{IsRowIn, table_in}
@@ -27,7 +25,7 @@ use Rattle.plant_tables.proofs.Changes.{KeepsOthers, creates, indexes, lone_step
 use Rattle.plant_tables.proofs.Family.{kept_at}
 use Rattle.plant_tables.proofs.Laws.{cast_int, cast_null}
 use Rattle.plant_store.specs.Making.{AreEmpty, AreNew}
-use Rattle.plant_store.specs.Tables.{Kept, alarms_schema, alarm_shape, band_shape, bands_schema, books_schema, by_person, cell_shape, cells_schema, grant_shape, grants_schema, no_schema, office_row, office_schema, office_table, shape, shelf_shape, shelves_schema, unit_shape, units_schema}
+use Rattle.plant_store.specs.Tables.{Kept, alarms_schema, alarm_shape, band_shape, bands_schema, books_schema, cell_shape, cells_schema, grant_shape, grants_schema, no_schema, office_row, office_schema, office_table, shape, shelf_shape, shelves_schema, unit_shape, units_schema}
 use Rattle.plant_store.specs.Tables.Kept.{UnitKept, GrantKept, AlarmKept, ShelfKept, BandKept, CellKept}
 use Rattle.plant_store.specs.Texts.{alarms_text, bands_text, by_person_text, cells_text, grants_text, office_text, put_office_text, shelves_text, units_text}
 use Rattle.plant_store.proofs.Meanings.{alarms_created, alarms_is, alarms_made, alarms_plain, bands_created, bands_is, bands_made, bands_plain, by_person_created, by_person_is, by_person_made, by_person_plain, cells_created, cells_is, cells_made, cells_plain, grants_created, grants_is, grants_made, grants_plain, office_created, office_is, office_made, office_plain, put_office_is, put_office_plain, shelves_created, shelves_is, shelves_made, shelves_plain, units_created, units_is, units_made, units_plain}

@@ -1,5 +1,5 @@
 -- What each text means under the schema, found by running the resolver's meaning.
-use Rattle.std.proofs.Common.{◌≡◌, Ok, refl, List, ℕ, [], ◌∷◌, None, false, true, codes, pos, negsuc}
+use Rattle.std.proofs.Common.{◌≡◌, Ok, refl, List, ℕ, [], ◌∷◌, false, codes, pos}
 use Rattle.std.specs.Fmt.{digits}
 use Rattle.sqlite.specs.Collation.TheVariants.{Binary}
 use Rattle.sqlite.specs.Change.{created, indexed}
@@ -17,7 +17,7 @@ use Rattle.sqlite_tied.specs.Compute.{everything}
 use Rattle.sqlite_value.specs.declared.keys.Key.{Key}
 use Rattle.sqlite_value.specs.declared.value.Value.TheVariants.{Null, Int}
 use Rattle.sqlite_value.specs.Keys.{ascending}
-use Rattle.plant_store.specs.Texts.{office_text, units_text, grants_text, alarms_text, shelves_text, bands_text, cells_text, by_person_text, put_office_text, office_row_text, put_unit_text, put_grant_text, put_alarm_text, put_shelf_text, put_band_text, put_cell_text, remove_grant_text, remove_shelf_text, units_of_text, grants_of_text, alarms_of_text, shelves_of_text, bands_of_text, cells_of_text, own_grants_text, alarm_at_text, shelf_at_text, tags_of_text, held_text, mine_text}
+use Rattle.plant_store.specs.Texts.{office_text, units_text, grants_text, alarms_text, shelves_text, bands_text, cells_text, by_person_text, put_office_text, office_row_text, put_unit_text, put_grant_text, put_alarm_text, put_shelf_text, put_band_text, put_cell_text, remove_grant_text, remove_shelf_text, units_of_text, grants_of_text, alarms_of_text, shelves_of_text, bands_of_text, cells_of_text, own_grants_text, alarm_at_text, shelf_at_text, tags_of_text, mine_text}
 use Rattle.plant_store.specs.Tables.{office_table, unit_shape, grant_shape, alarm_shape, shelf_shape, band_shape, cell_shape, by_person, no_schema, office_schema, units_schema, grants_schema, alarms_schema, shelves_schema, bands_schema, cells_schema, books_schema}
 use Rattle.plant_tables.specs.Kept.{plain_query}
 use Rattle.plant_tables.specs.Shape.{table_in}
@@ -247,9 +247,6 @@ by_two = op2 (Compare Eq Binary) (col 1 1) (col 0 0) ∷ op2 (Compare Eq Binary)
 abbrev pub by_three : List Term
 by_three = op2 (Compare Eq Binary) (col 1 1) (col 0 0) ∷ op2 (Compare Eq Binary) (col 1 2) (col 0 1) ∷ op2 (Compare Eq Binary) (col 1 3) (col 0 2) ∷ []
 
-abbrev pub of_person : List Term
-of_person = op2 (Compare Eq Binary) (col 1 2) (col 0 0) ∷ []
-
 abbrev pub order_1 : List (Term × Key)
 order_1 = (col 1 1, ascending Binary) ∷ []
 
@@ -397,14 +394,6 @@ tags_of_is = (refl, refl)
 pub tags_of_plain : IsPlain (understood books_schema tags_of_text)
 unfolding understood everything
 tags_of_plain = (refl, refl)
-
-pub held_is : (command_of (understood books_schema held_text) ≡ Select (record { lets = []; body = plain_query (inner 3 end) of_person (col 1 1 ∷ col 1 4 ∷ []) order_3 }) (codes "unit" ∷ codes "end_s" ∷ [])) × (reads_listing books_schema held_text ≡ false)
-unfolding understood everything
-held_is = (refl, refl)
-
-pub held_plain : IsPlain (understood books_schema held_text)
-unfolding understood everything
-held_plain = (refl, refl)
 
 abbrev pub mine_tests : List Term
 mine_tests = op2 (Compare Eq Binary) (col 2 1) (col 1 1) ∷ op2 (Compare Eq Binary) (col 1 2) (col 0 0) ∷ []

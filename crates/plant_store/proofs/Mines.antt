@@ -1,5 +1,5 @@
 -- The runs of a person's lines are the units in which the person holds a role.
-use Rattle.std.proofs.Common.{◌≡◌, ◌⊎◌, inl, inr, ℕ, Bool, true, false, cond, not, ◌&&◌, List, [], ◌∷◌, map, filter, filter_map, Option, None, Some, refl, sym, ap, ap₂, ◌∙◌, subst, true≢false, Ordering, Less, Equal, Greater, is_gt, is_eq, T}
+use Rattle.std.proofs.Common.{◌≡◌, ℕ, Bool, true, false, cond, ◌&&◌, List, [], ◌∷◌, map, filter, filter_map, Option, None, Some, refl, sym, ap, ap₂, ◌∙◌, subst, Ordering, Less, Equal, Greater, is_gt, is_eq, T}
 use Rattle.std.specs.Prelude.{is_some, unwrap_or, ◌||◌}
 use Rattle.std.specs.List.{AllByRecursion, list_any, cons_option}
 use Rattle.std.specs.Ordering.{eq_by_cmp, is_lt, ordering_then}
@@ -8,11 +8,9 @@ use Rattle.std.specs.Cmp.Lexicographic.{nat_list_cmp_total}
 use Rattle.std.specs.FinMap.{FinMap, get, contains_key, keys, entries, entries_sorted, contains_key-keys}
 use Rattle.std.specs.FinMap.Entries.{below_all, is_sorted}
 use Rattle.sqlite.specs.State.{State}
-use Rattle.sqlite.specs.Tree.{Trees, rowid}
 use Rattle.sqlite_keyed.specs.Lists.{sort_by}
 use Rattle.sqlite_keyed.proofs.ListLemmas.{all-filter, ascending-filter}
 use Rattle.sqlite_trees.specs.Tree.{IsAscending}
-use Rattle.sqlite_value.specs.declared.value.Value.{Value}
 use Rattle.sqlite_value.specs.declared.value.Value.TheVariants.{Text}
 use Rattle.sqlite_value.specs.Order.{Row, column, bytes, value_cmp}
 use Rattle.sqlite_value.proofs.OrderLemmas.{value_cmp-Text}
@@ -22,16 +20,13 @@ use Rattle.plant_model.specs.declared.rows.GrantRow.{GrantRow}
 use Rattle.plant_model.specs.declared.rows.UnitRows.{UnitRows}
 use Rattle.plant_model.specs.Grants.{is_before}
 use Rattle.plant_model.specs.RowChanges.{no_rows}
-use Rattle.plant_model.specs.RowFacts.{unit_read}
-use Rattle.plant_types.specs.declared.role.Role.{Role}
 use Rattle.plant_types.specs.Names.{Name, name_cmp, same_name}
 use Rattle.plant_types.specs.Options.{when}
 use Rattle.plant_types.specs.Tables.{IsInOrder, row_at}
 use Rattle.plant_types.proofs.Orders.{name_total, same_names}
 use Rattle.plant_types.proofs.TableLaws.{IsInOrder-told, row_at-told, same_rows}
-use Rattle.plant_tables.specs.Kept.{by_columns, kept, is_of}
+use Rattle.plant_tables.specs.Kept.{by_columns, is_of}
 use Rattle.plant_tables.specs.Shape.{IsRowIn}
-use Rattle.plant_tables.specs.Tidy.{IsTidy}
 use Rattle.plant_tables.proofs.Keys.{by_columns_total}
 use Rattle.plant_tables.proofs.Kept.{all-kept, all-sort, no_ties-out, sort-filter}
 use Rattle.plant_tables.proofs.Joins.{strict-sort}
@@ -41,7 +36,7 @@ use Rattle.plant_store.specs.Keeping.{KeepsIn, has_any}
 use Rattle.plant_store.specs.Mine.{is_named, last_in, line_at, lines_of, runs_of, standing_lines}
 use Rattle.plant_store.specs.Tables.{grant_shape, rows_seen}
 use Rattle.plant_store.specs.Tables.Kept.{UnitKept, GrantKept}
-use Rattle.plant_store.proofs.LineLaws.{itself, roles_at, run_at, run_with, runs_in_order, same_codes}
+use Rattle.plant_store.proofs.LineLaws.{roles_at, run_at, run_with, runs_in_order}
 use Rattle.plant_store.proofs.ShapeLaws.{good}
 
 abbrev grant_key : List ℕ
@@ -199,8 +194,8 @@ module _ (s : State) (m : Content) (k : KeepsIn s m) (t : ℕ) (p : Name) where
   mine_found =
       same_rows name_cmp (λ (u : MineUnit). u.unit) name_total same_names _ _ (runs_in_order _ rise_all) units_rise
       (λ q. run_at (λ u. last_in (rows_seen u s.now.trees UnitKept)) q _ rise_all last_all
-          ∙ ap (run_with q (last_in (rows_seen q s.now.trees UnitKept))) (roles_found q)
-          ∙ sym (found_unit q ∙ unit_with q))
+      ∙ ap (run_with q (last_in (rows_seen q s.now.trees UnitKept))) (roles_found q)
+      ∙ sym (found_unit q ∙ unit_with q))
 
 -- the codes of the units held
 pub codes_of_mine : (m : Content) (t : ℕ) (p : Name) → map (λ (u : MineUnit). u.unit) (mine_units m t p) ≡ codes_held m t p

@@ -1,12 +1,12 @@
 -- What the question for the office's row means, wherever the office's table is the first.
-use Rattle.std.proofs.Common.{◌≡◌, refl, sym, ap, ◌∙◌, subst, List, ℕ, [], ◌∷◌, map, filter, None, false, true, codes, IsPermutation, ◌↔◌}
+use Rattle.std.proofs.Common.{◌≡◌, refl, sym, ap, subst, List, [], ◌∷◌, map, filter, false, true, codes, IsPermutation, ◌↔◌}
 use Rattle.std.proofs.lemmas.List.Sorted.{IsPermutation-map, IsPermutation-sym}
 use Rattle.sqlite.specs.Query.{Output}
 use Rattle.sqlite.specs.State.{State, Shown}
 use Rattle.sqlite.proofs.Callers.{one_permutation, reads_as}
 use Rattle.sqlite_value.specs.declared.value.Value.TheVariants.{Null}
-use Rattle.sqlite_value.specs.Order.{Row, column}
-use Rattle.plant_tables.proofs.Laws.{reads, shows, passes}
+use Rattle.sqlite_value.specs.Order.{Row}
+use Rattle.plant_tables.proofs.Laws.{reads, shows}
 use Rattle.plant_types.specs.Names.{Name}
 use Rattle.sqlite.specs.Effect.{Database}
 use Rattle.plant_books.specs.Contents.{Content}
@@ -16,14 +16,13 @@ use Rattle.plant_store.proofs.Contents.{keeps_same}
 use Rattle.sqlite.specs.Command.TheVariants.{Select}
 use Rattle.sqlite.specs.Listing.{understood, reads_listing}
 use Rattle.sqlite.specs.Query.{inner, end}
-use Rattle.sqlite.specs.Schema.{Schema}
 use Rattle.sqlite.specs.Table.{Table}
 use Rattle.sqlite.specs.Term.{col}
 use Rattle.sqlite.proofs.Callers.{IsPlain, command_of}
 use Rattle.sqlite_schema.specs.declared.schema.Index.{Index}
 use Rattle.sqlite_tied.specs.Compute.{everything}
 use Rattle.plant_store.specs.Opening.{IsOfficeFirst, IsThisOffice, office_cells, office_shown, with_office}
-use Rattle.plant_store.specs.Tables.{AreBooks, office_table}
+use Rattle.plant_store.specs.Tables.{AreBooks}
 use Rattle.plant_store.specs.Texts.{office_row_text}
 use Rattle.plant_tables.specs.Kept.{plain_query}
 

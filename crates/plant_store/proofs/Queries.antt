@@ -4,7 +4,6 @@ use Rattle.std.specs.Cmp.{eq_by_cmp_equiv}
 use Rattle.std.specs.Cmp.Lexicographic.{nat_list_cmp_total}
 use Rattle.sqlite.specs.Collation.TheVariants.{Binary}
 use Rattle.sqlite.specs.State.{State, Shown}
-use Rattle.sqlite_keyed.proofs.ListLemmas.{map-map}
 use Rattle.sqlite_schema.specs.Rules.{equal}
 use Rattle.sqlite_tied.proofs.RuleLemmas.{and_true}
 use Rattle.sqlite_value.specs.declared.value.Value.{Value}
@@ -12,15 +11,13 @@ use Rattle.sqlite_value.specs.declared.value.Value.TheVariants.{Null, Text}
 use Rattle.sqlite_value.specs.Order.{Row, column, value_cmp}
 use Rattle.sqlite_value.proofs.OrderLemmas.{value_cmp-Text}
 use Rattle.plant_model.specs.declared.rows.AlarmRow.{AlarmRow}
-use Rattle.plant_model.specs.declared.rows.GrantRow.{GrantRow}
-use Rattle.plant_model.specs.declared.rows.ShelfRow.{ShelfRow}
-use Rattle.plant_types.specs.Names.{Name, name_cmp, same_name}
+use Rattle.plant_types.specs.Names.{Name, same_name}
 use Rattle.plant_tables.specs.Kept.{is_of}
 use Rattle.plant_tables.specs.Shape.{Shape}
 use Rattle.plant_tables.proofs.Keys.{equal_is}
 use Rattle.plant_tables.proofs.Shapes.{IsShape, finds_rows, shown_kept, some_kept}
 use Rattle.plant_store.specs.Shown.{columns}
-use Rattle.plant_store.specs.Tables.{AreBooks, Kept, KeyOf, RowOf, books_schema, rows_seen, shape, unit_shape, grant_shape, alarm_shape, shelf_shape, band_shape, cell_shape}
+use Rattle.plant_store.specs.Tables.{AreBooks, books_schema, rows_seen, unit_shape, grant_shape, alarm_shape, shelf_shape, band_shape, cell_shape}
 use Rattle.plant_store.specs.Tables.Kept.{UnitKept, GrantKept, AlarmKept, ShelfKept, BandKept, CellKept}
 use Rattle.plant_store.specs.Texts.{units_of_text, grants_of_text, alarms_of_text, shelves_of_text, bands_of_text, cells_of_text, own_grants_text, alarm_at_text, shelf_at_text, tags_of_text}
 use Rattle.plant_store.proofs.Meanings.{by_unit, by_two, order_1, order_2, order_3, order_4, unit_shows, grant_shows, alarm_shows, shelf_shows, band_shows, cell_shows, unit_names, grant_names, alarm_names, shelf_names, band_names, cell_names, units_of_is, grants_of_is, alarms_of_is, shelves_of_is, bands_of_is, cells_of_is, own_grants_is, alarm_at_is, shelf_at_is, tags_of_is, units_of_plain, grants_of_plain, alarms_of_plain, shelves_of_plain, bands_of_plain, cells_of_plain, own_grants_plain, alarm_at_plain, shelf_at_plain, tags_of_plain}

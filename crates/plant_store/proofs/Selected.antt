@@ -1,8 +1,6 @@
 -- The part of a unit's rows that a call looks at, from the lists that were read.
-use Rattle.std.proofs.Common.{◌≡◌, ◌⊎◌, ℕ, Bool, true, false, List, [], ◌∷◌, filter, length, Option, None, Some, refl, sym, ap, ap₂, ◌∙◌, subst}
+use Rattle.std.proofs.Common.{◌≡◌, ℕ, Bool, true, false, List, [], filter, Option, None, Some, sym, ap, ◌∙◌}
 use Rattle.std.specs.Prelude.{option_map, ◌||◌}
-use Rattle.std.specs.FinMap.{get}
-use Rattle.sqlite.specs.Effect.{Database}
 use Rattle.sqlite.specs.State.{State}
 use Rattle.sqlite_keyed.proofs.ListLemmas.{filter_same}
 use Rattle.plant_books.specs.Contents.{Content, part_in, rows_in}

@@ -14,7 +14,7 @@ use Rattle.sqlite_rules.specs.Keys.{conflicts}
 use Rattle.sqlite_schema.specs.Rules.{equal, agree}
 use Rattle.sqlite_sql.specs.Ops.{unary}
 use Rattle.sqlite_value.specs.declared.value.Value.{Value}
-use Rattle.sqlite_value.specs.declared.value.Value.TheVariants.{Int, Null, Text}
+use Rattle.sqlite_value.specs.declared.value.Value.TheVariants.{Text}
 use Rattle.sqlite_value.specs.Keys.{plain, first_key}
 use Rattle.sqlite_value.specs.Order.{Row, value_cmp}
 use Rattle.sqlite_value.proofs.OrderLemmas.{value_cmp-Int, value_cmp-Text, then-Equal}
@@ -24,7 +24,6 @@ use Rattle.plant_ration.specs.declared.cell.Cell.{Cell}
 use Rattle.plant_ration.specs.declared.cell.Cell.TheVariants.{N, P1, P2, P3, P4}
 use Rattle.plant_types.specs.declared.role.Role.{Role}
 use Rattle.plant_types.specs.declared.role.Role.TheVariants.{Approver, Engineer, Maintainer, Operator, Steward, Viewer}
-use Rattle.plant_types.specs.Names.{Name, name_cmp}
 use Rattle.plant_types.specs.Roles.{role_no}
 use Rattle.plant_types.proofs.Orders.{pair_total}
 use Rattle.plant_model.specs.Matrices.{BandKey, CellKey, band_cmp, cell_cmp}

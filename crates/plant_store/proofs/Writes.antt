@@ -1,20 +1,16 @@
 -- The statements that write, table by table.
 use Rattle.std.proofs.Common.{◌≡◌, ◌≢◌, ◌⊎◌, inl, inr, ℕ, ◌/◌, length, List, [], ◌∷◌, ◌++◌, Option, Ok, refl, sym, ap, ap₂, ◌∙◌, subst, arith, true≢false, T, nat_cmp, Bool, true, false, ◌&&◌}
-use Rattle.sqlite.specs.Command.TheVariants.{Delete, InsertOr}
+use Rattle.sqlite.specs.Command.TheVariants.{InsertOr}
 use Rattle.sqlite.specs.Effect.{Database, value_rows}
 use Rattle.sqlite.specs.Listing.{understood}
-use Rattle.sqlite.specs.Query.{inner, end}
 use Rattle.sqlite.specs.Rows.{stamped}
 use Rattle.sqlite.specs.Source.TheVariants.{Values}
 use Rattle.sqlite.specs.State.{State, Executes}
-use Rattle.sqlite.specs.Term.{Term, col}
+use Rattle.sqlite.specs.Term.{Term}
 use Rattle.sqlite.proofs.Callers.{IsPlain, command_of}
-use Rattle.sqlite_schema.specs.Rules.{agree}
 use Rattle.sqlite_schema.specs.declared.command.Conflict.TheVariants.{Replace}
 use Rattle.sqlite_value.specs.declared.value.Value.TheVariants.{Null, Text}
-use Rattle.sqlite_value.specs.Keys.{plain, first_key}
-use Rattle.sqlite_value.specs.Order.{Row}
-use Rattle.plant_alarm.specs.declared.summary.AlarmState.TheVariants.{Normal}
+use Rattle.sqlite_value.specs.Keys.{first_key}
 use Rattle.plant_model.specs.declared.rows.AlarmRow.{AlarmRow}
 use Rattle.plant_model.specs.declared.rows.BandRow.{BandRow}
 use Rattle.plant_model.specs.declared.rows.CellRow.{CellRow}
@@ -29,16 +25,12 @@ use Rattle.plant_model.specs.declared.rows.UnitRows.{UnitRows}
 use Rattle.plant_model.specs.RowChanges.{changed_by}
 use Rattle.plant_types.specs.declared.role.Role.{Role}
 use Rattle.plant_types.specs.Names.{Name}
-use Rattle.plant_types.specs.Roles.{role_no}
 use Rattle.plant_types.specs.Tables.{IsInOrder, put_row}
-use Rattle.plant_tables.specs.Kept.{plain_query}
 use Rattle.plant_tables.specs.Shape.{rows_in, row_in, table_in}
-use Rattle.plant_tables.specs.Tidy.{AreRows, IsTidy}
 use Rattle.plant_tables.proofs.Changes.{HasNoReferences}
 use Rattle.plant_tables.proofs.Family.{Edits, kept_at, put_edits, remove_edits, same_table}
-use Rattle.plant_tables.proofs.Laws.{passes}
 use Rattle.plant_tables.proofs.Shapes.{puts_row, removes_row, rises}
-use Rattle.plant_store.specs.Codes.{number, role}
+use Rattle.plant_store.specs.Codes.{role}
 use Rattle.plant_store.specs.Changes.{Applies}
 use Rattle.plant_store.specs.Tables.{AreBooks, AreSeen, Kept, KeyOf, RowOf, books_schema, office_table, own_key, rows_at, rows_seen, shape, unit_shape}
 use Rattle.plant_store.specs.Tables.Kept.{UnitKept, GrantKept, AlarmKept, ShelfKept, BandKept, CellKept}

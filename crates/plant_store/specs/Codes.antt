@@ -2,8 +2,7 @@
 -- it here: the reading code answers a fault there.
 use Rattle.sqlite.specs.Values.{or_null}
 use Rattle.sqlite_value.specs.declared.value.Value.{Value}
-use Rattle.sqlite_value.specs.declared.value.Value.TheVariants.{Int, Null, Text}
-use Rattle.sqlite_value.specs.Order.{bytes}
+use Rattle.sqlite_value.specs.declared.value.Value.TheVariants.{Int, Text}
 use Rattle.std.specs.Prelude.{Bool, List, None, Option, Some, if◌then◌else◌, pos, ℕ, ◌==◌}
 use Rattle.plant_alarm.specs.declared.summary.AlarmState.{AlarmState}
 use Rattle.plant_alarm.specs.declared.summary.AlarmState.TheVariants.{Acknowledged, LatchedAck, LatchedUnack, Normal, ReturnedUnack, Unacknowledged}

@@ -1,7 +1,6 @@
 -- The tables while they are made.
 use Rattle.sqlite.specs.Effect.{Database}
 use Rattle.sqlite.specs.Schema.{Schema}
-use Rattle.sqlite.specs.Table.{Table}
 use Rattle.std.specs.List.{AllByRecursion}
 use Rattle.std.specs.Prelude.{[], ◌≡◌}
 use Rattle.plant_store.specs.Changes.{IsOfficeOf}

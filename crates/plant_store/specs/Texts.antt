@@ -92,9 +92,6 @@ shelf_at_text = codes "SELECT tag, one_shot, start_s, until_s, person, words FRO
 abbrev pub tags_of_text : List ℕ
 tags_of_text = codes "SELECT tag FROM alarms WHERE unit = ?1 ORDER BY unit, tag"
 
--- a person's grants in all units; and each beside its unit's last moment
-abbrev pub held_text : List ℕ
-held_text = codes "SELECT unit, end_s FROM grants WHERE person = ?1 ORDER BY unit, person, role_no"
-
+-- a person's grants in all units, each beside its unit's last moment
 abbrev pub mine_text : List ℕ
 mine_text = codes "SELECT grants.unit, grants.role_no, grants.end_s, units.last_s FROM grants INNER JOIN units ON units.unit = grants.unit WHERE grants.person = ?1 ORDER BY grants.unit, grants.person, grants.role_no"

@@ -34,11 +34,7 @@ pub fn text<C: Alphabet>(alloc: Global, row: &Row, at: usize) -> Result<Text<C>,
     }
 }
 
-fn open_text<C: Alphabet>(
-    alloc: Global,
-    row: &Row,
-    at: usize,
-) -> Result<Option<Text<C>>, Error>
+fn open_text<C: Alphabet>(alloc: Global, row: &Row, at: usize) -> Result<Option<Text<C>>, Error>
     ensures { IfOk result (λ t. column row.now at ≡ codes.open_text t) }
 {
     match row.get_ref(at)? {

@@ -21,9 +21,21 @@ fn make_grants<S: Alter>(tx: &mut Transaction<'_, S>) -> Result<(), Error>
     ensures kept { HasCleanDisk (state S.Store tx.new.conn.now) → IsTrue tx.old.conn.now.in_transaction → KeepsCommit (state S.Store tx.old.conn.now) (state S.Store tx.new.conn.now) }
     ensures survives { Survives (state S.Store tx.old.conn.now) (state S.Store tx.new.conn.now) (λ _. ⊥) }
 {
-    run(tx, "CREATE TABLE office (id INTEGER NOT NULL, schema_no INTEGER NOT NULL, admin TEXT NOT NULL, PRIMARY KEY (id)) STRICT", &[])?;
-    run(tx, "CREATE TABLE units (unit TEXT NOT NULL, last_s INTEGER NOT NULL, matrix_no INTEGER NOT NULL, matrix_rev INTEGER NOT NULL, quota INTEGER NOT NULL, PRIMARY KEY (unit)) STRICT", &[])?;
-    run(tx, "CREATE TABLE grants (unit TEXT NOT NULL, person TEXT NOT NULL, role_no INTEGER NOT NULL, end_s INTEGER, PRIMARY KEY (unit, person, role_no)) STRICT", &[])?;
+    run(
+        tx,
+        "CREATE TABLE office (id INTEGER NOT NULL, schema_no INTEGER NOT NULL, admin TEXT NOT NULL, PRIMARY KEY (id)) STRICT",
+        &[],
+    )?;
+    run(
+        tx,
+        "CREATE TABLE units (unit TEXT NOT NULL, last_s INTEGER NOT NULL, matrix_no INTEGER NOT NULL, matrix_rev INTEGER NOT NULL, quota INTEGER NOT NULL, PRIMARY KEY (unit)) STRICT",
+        &[],
+    )?;
+    run(
+        tx,
+        "CREATE TABLE grants (unit TEXT NOT NULL, person TEXT NOT NULL, role_no INTEGER NOT NULL, end_s INTEGER, PRIMARY KEY (unit, person, role_no)) STRICT",
+        &[],
+    )?;
     Ok(())
 }
 
@@ -36,8 +48,16 @@ fn make_shelves<S: Alter>(tx: &mut Transaction<'_, S>) -> Result<(), Error>
     ensures kept { HasCleanDisk (state S.Store tx.new.conn.now) → IsTrue tx.old.conn.now.in_transaction → KeepsCommit (state S.Store tx.old.conn.now) (state S.Store tx.new.conn.now) }
     ensures survives { Survives (state S.Store tx.old.conn.now) (state S.Store tx.new.conn.now) (λ _. ⊥) }
 {
-    run(tx, "CREATE TABLE alarms (unit TEXT NOT NULL, tag TEXT NOT NULL, latching INTEGER NOT NULL, max_s INTEGER NOT NULL, max_rev INTEGER NOT NULL, state_no INTEGER NOT NULL, suppressed INTEGER NOT NULL, active_s INTEGER, return_s INTEGER, out_s INTEGER, out_by TEXT, out_words TEXT, PRIMARY KEY (unit, tag)) STRICT", &[])?;
-    run(tx, "CREATE TABLE shelves (unit TEXT NOT NULL, tag TEXT NOT NULL, one_shot INTEGER NOT NULL, start_s INTEGER NOT NULL, until_s INTEGER NOT NULL, person TEXT NOT NULL, words TEXT NOT NULL, PRIMARY KEY (unit, tag)) STRICT", &[])?;
+    run(
+        tx,
+        "CREATE TABLE alarms (unit TEXT NOT NULL, tag TEXT NOT NULL, latching INTEGER NOT NULL, max_s INTEGER NOT NULL, max_rev INTEGER NOT NULL, state_no INTEGER NOT NULL, suppressed INTEGER NOT NULL, active_s INTEGER, return_s INTEGER, out_s INTEGER, out_by TEXT, out_words TEXT, PRIMARY KEY (unit, tag)) STRICT",
+        &[],
+    )?;
+    run(
+        tx,
+        "CREATE TABLE shelves (unit TEXT NOT NULL, tag TEXT NOT NULL, one_shot INTEGER NOT NULL, start_s INTEGER NOT NULL, until_s INTEGER NOT NULL, person TEXT NOT NULL, words TEXT NOT NULL, PRIMARY KEY (unit, tag)) STRICT",
+        &[],
+    )?;
     Ok(())
 }
 
@@ -50,8 +70,16 @@ fn make_cells<S: Alter>(tx: &mut Transaction<'_, S>) -> Result<(), Error>
     ensures kept { HasCleanDisk (state S.Store tx.new.conn.now) → IsTrue tx.old.conn.now.in_transaction → KeepsCommit (state S.Store tx.old.conn.now) (state S.Store tx.new.conn.now) }
     ensures survives { Survives (state S.Store tx.old.conn.now) (state S.Store tx.new.conn.now) (λ _. ⊥) }
 {
-    run(tx, "CREATE TABLE bands (unit TEXT NOT NULL, matrix_no INTEGER NOT NULL, band_no INTEGER NOT NULL, limit_s INTEGER NOT NULL, PRIMARY KEY (unit, matrix_no, band_no)) STRICT", &[])?;
-    run(tx, "CREATE TABLE cells (unit TEXT NOT NULL, matrix_no INTEGER NOT NULL, severity INTEGER NOT NULL, band_no INTEGER NOT NULL, cell_no INTEGER NOT NULL, PRIMARY KEY (unit, matrix_no, severity, band_no)) STRICT", &[])?;
+    run(
+        tx,
+        "CREATE TABLE bands (unit TEXT NOT NULL, matrix_no INTEGER NOT NULL, band_no INTEGER NOT NULL, limit_s INTEGER NOT NULL, PRIMARY KEY (unit, matrix_no, band_no)) STRICT",
+        &[],
+    )?;
+    run(
+        tx,
+        "CREATE TABLE cells (unit TEXT NOT NULL, matrix_no INTEGER NOT NULL, severity INTEGER NOT NULL, band_no INTEGER NOT NULL, cell_no INTEGER NOT NULL, PRIMARY KEY (unit, matrix_no, severity, band_no)) STRICT",
+        &[],
+    )?;
     Ok(())
 }
 
@@ -64,7 +92,11 @@ fn make_office<S: Alter>(tx: &mut Transaction<'_, S>, admin: &Person) -> Result<
     ensures kept { HasCleanDisk (state S.Store tx.new.conn.now) → IsTrue tx.old.conn.now.in_transaction → KeepsCommit (state S.Store tx.old.conn.now) (state S.Store tx.new.conn.now) }
     ensures survives { Survives (state S.Store tx.old.conn.now) (state S.Store tx.new.conn.now) (λ _. ⊥) }
 {
-    run(tx, "CREATE INDEX grants_by_person ON grants (person, unit)", &[])?;
+    run(
+        tx,
+        "CREATE INDEX grants_by_person ON grants (person, unit)",
+        &[],
+    )?;
     run(
         tx,
         "INSERT INTO office (id, schema_no, admin) VALUES (1, 2, ?1)",

@@ -46,9 +46,8 @@ pub fn scope_of(request: &Request) -> Scope<'_>
         Request::Register { tag, .. }
         | Request::Unshelve { tag, .. }
         | Request::Status { tag, .. } => Scope::One(tag),
-        Request::TimedShelve { .. }
-        | Request::OneShotShelve { .. }
-        | Request::Shelves { .. } => Scope::Every,
+        Request::TimedShelve { .. } | Request::OneShotShelve { .. } | Request::Shelves { .. } =>
+            Scope::Every,
     }
 }
 

@@ -11,11 +11,10 @@ ghost use Rattle.plant_store.specs.Changes.{Applies, CanTell};
 ghost use Rattle.plant_store.specs.Tables.{AreBooks};
 
 use crate::encode::{
-    alarm_cells, band_cells, cell_cells, grant_cells, grant_key, pair, shelf_cells, unit_cells, wide,
+    alarm_cells, band_cells, cell_cells, grant_cells, grant_key, pair, shelf_cells, unit_cells,
+    wide,
 };
-use plant_model::{
-    AlarmRow, BandRow, CellRow, Change, GrantRow, Key, Row, ShelfRow, UnitRow,
-};
+use plant_model::{AlarmRow, BandRow, CellRow, Change, GrantRow, Key, Row, ShelfRow, UnitRow};
 use plant_types::{Person, Role, Tag, UnitCode};
 use sqlite::types::ValueRef;
 use sqlite::{Alter, Connection, Error, Transaction};
@@ -201,11 +200,7 @@ fn remove_shelf<S: Alter>(
 }
 
 /// Puts a row of one of the tables.
-fn put_row<S: Alter>(
-    tx: &mut Transaction<'_, S>,
-    unit: &UnitCode,
-    row: &Row,
-) -> Result<(), Error>
+fn put_row<S: Alter>(tx: &mut Transaction<'_, S>, unit: &UnitCode, row: &Row) -> Result<(), Error>
     ensures same_reference { tx.new.conn.ghost_name ≡ tx.old.conn.ghost_name }
     ensures made { HasCleanDisk (state S.Store tx.new.conn.now) → IsTrue tx.old.conn.now.in_transaction → AreBooks (state S.Store tx.old.conn.now).now
         → OnOk result (Applies unit.now (Put row.now ∷ []) (state S.Store tx.old.conn.now).now (state S.Store tx.new.conn.now).now) }

@@ -40,7 +40,7 @@ module _ {A B : Type 0} (t : A → Bool) (out : A → B) (S : A → A → Type 0
 module _ (first second : ℕ) (tests project : List Term) (order : List (Term × Key)) (key then_by : List ℕ) (params : Row) where
   -- the answer is each row of the first table in the order of its key, beside each row of the second that it meets, in the order of that one's key
   pub joins_many : ((g h u v : Row) → output_cmp (plain_query (inner first (inner second end)) tests project order) (pair_shown first second tests project order key params g u) (pair_shown first second tests project order key params h v)
-        ≡ ordering_then (by_columns key g h) (by_columns then_by u v))
+      ≡ ordering_then (by_columns key g h) (by_columns then_by u v))
       → (others : List ℕ) → ((g u v : Row) → meets first second tests project order key params g u ≡ true → meets first second tests project order key params g v ≡ true → by_columns others u v ≡ Less → by_columns then_by u v ≡ Less)
       → (trees : Trees) (rows : List Row) → AreApart key (trees first) → AreApart others (trees second) → IsAnswer (plain_query (inner first (inner second end)) tests project order) (overlay trees []) params rows
       → rows ≡ map (λ (o : Output). o.1) (flat_map (met first second tests project order key params (sort_by (by_columns others) (trees second))) (sort_by (by_columns key) (trees first)))

@@ -36,4 +36,3 @@ table_of name tree columns key = record {
 
 abbrev pub index_of : List ℕ → ℕ → ℕ → List ℕ → Bool → Index
 index_of name tree table columns is_unique = record { name = name; tree = tree; table = table; columns = columns; order = plain; is_unique = is_unique }
-

@@ -1,5 +1,4 @@
 use Rattle.std.proofs.Common.{◌∙◌, ap, map}
-use Rattle.sqlite.specs.Held.{state}
 use Rattle.plant_books.specs.declared.books.MineUnit.{MineUnit}
 use Rattle.plant_store.proofs.Mines.{codes_of_mine}
 use Rattle.plant_store.proofs.Queries.{if_ok}

@@ -1,4 +1,4 @@
-use Rattle.std.proofs.Common.{◌≡◌, List, ℕ, Some, Option, IfOk, subst, sym, ◌∙◌}
+use Rattle.std.proofs.Common.{◌≡◌, List, ℕ, Some, Option, IfOk, subst, ◌∙◌}
 use Rattle.plant_books.specs.Contents.{part_in}
 use Rattle.plant_store.proofs.part.part_of.Goals as goal
 

@@ -1,9 +1,7 @@
-use Rattle.std.proofs.Common.{◌≡◌, List, ap, sym, ◌∙◌, subst, true, false, ◌||◌, filter, rules}
+use Rattle.std.proofs.Common.{◌≡◌, ap, sym, ◌∙◌, subst, true, ◌||◌, filter, rules}
 use Rattle.sqlite.specs.Effect.{Database}
 use Rattle.sqlite.specs.Held.{state}
 use Rattle.plant_model.specs.declared.rows.GrantRow.{GrantRow}
-use Rattle.plant_model.specs.declared.rows.UnitRows.{UnitRows}
-use Rattle.plant_model.specs.Parts.{counted_for}
 use Rattle.plant_types.specs.Names.{same_name}
 use Rattle.plant_store.specs.Keeping.{has_any}
 use Rattle.plant_store.specs.Tables.{AreBooks, rows_seen}

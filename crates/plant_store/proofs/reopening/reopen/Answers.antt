@@ -1,6 +1,4 @@
-use Rattle.std.proofs.Common.{◌∙◌, subst, sym}
-use Rattle.sqlite.specs.Files.{file_state}
-use Rattle.plant_store.specs.Keeping.{Keeps}
+use Rattle.std.proofs.Common.{◌∙◌, sym}
 use Rattle.plant_store.proofs.reopening.reopen.Goals as goal
 
 pub returns-in-Ok : goal.returns-in-Ok

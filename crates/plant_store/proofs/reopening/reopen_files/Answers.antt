@@ -1,5 +1,4 @@
 use Rattle.std.proofs.Common.{IsTrue, rules}
-use Rattle.sqlite.specs.Files.{file_state}
 use Rattle.plant_store.proofs.Again.{kept_again}
 use Rattle.plant_store.proofs.reopening.reopen_files.Goals as goal
 

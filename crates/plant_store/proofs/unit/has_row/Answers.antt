@@ -1,4 +1,3 @@
-use Rattle.std.proofs.Common.{ap, not, ◌∙◌, length}
 use Rattle.plant_store.proofs.Contents.{any_is}
 use Rattle.plant_store.proofs.unit.has_row.Goals as goal
 

@@ -1,7 +1,7 @@
 use Rattle.std.proofs.Common.{◌≡◌, List, ap, sym, ◌∙◌, subst, true, rules}
 use Rattle.sqlite.specs.Effect.{Database}
 use Rattle.sqlite.specs.Held.{state}
-use Rattle.plant_store.specs.Tables.{AreBooks, AreSeen, Kept, RowOf, rows_at, rows_seen}
+use Rattle.plant_store.specs.Tables.{AreBooks, AreSeen, rows_seen}
 use Rattle.plant_store.specs.Tables.Kept.{UnitKept, GrantKept, AlarmKept, ShelfKept, BandKept, CellKept}
 use Rattle.plant_model.specs.declared.rows.UnitRows.{UnitRows}
 use Rattle.plant_store.proofs.Contents.{none_found, whole_found}

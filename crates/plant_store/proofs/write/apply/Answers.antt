@@ -1,6 +1,5 @@
 use Rattle.std.proofs.Common.{◌≡◌, IsTrue, arith, rules}
 use Rattle.sqlite.specs.State.{HasCleanDisk, KeepsCommit}
-use Rattle.sqlite.specs.Effect.{Database}
 use Rattle.sqlite.specs.Held.{state}
 use Rattle.plant_tables.proofs.Asking.{commit_fails}
 use Rattle.plant_store.proofs.write.apply.Goals as goal
