@@ -1,6 +1,7 @@
 //! The program's command: its words, one session over its streams, and its exit status.
 #![tactic(auto)]
 
+mod books;
 mod commands;
 mod line;
 

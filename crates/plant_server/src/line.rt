@@ -4,7 +4,7 @@ use plant_types::Person;
 use std::alloc::Global;
 use std::convert::AsStr;
 
-/// Why the program's words name no administrator.
+/// Why the program's words can't be followed.
 #[derive(Drop)]
 pub enum LineError {
     /// The line is wrong, or asks for help: clap's text, and whether it is an error.
@@ -28,6 +28,15 @@ fn text_of(alloc: Global, error: &Error) -> LineError {
     }
 }
 
+/// What the program's words ask for.
+#[derive(Drop)]
+pub struct Line {
+    /// The administrator, who alone may open units.
+    pub admin: Person,
+    /// The file that keeps the tables, or none where memory keeps them.
+    pub db: Option<String>,
+}
+
 fn person_of(alloc: Global, name: Option<&str>) -> Result<Person, LineError> {
     let Some(name) = name else {
         return Err(LineError::NotAPerson);
@@ -39,22 +48,44 @@ fn person_of(alloc: Global, name: Option<&str>) -> Result<Person, LineError> {
     }
 }
 
-/// The administrator whom the program's words name, the program's own name first.
-pub fn administrator<S: AsStr>(alloc: Global, words: &[S]) -> Result<Person, LineError> {
+fn path_of(alloc: Global, path: Option<&str>) -> Result<Option<String>, LineError> {
+    match path {
+        None => Ok(None),
+        Some(path) => match String::from_str(alloc, path) {
+            Ok(path) => Ok(Some(path)),
+            Err(_) => Err(LineError::Memory),
+        },
+    }
+}
+
+fn office_command<'a>(alloc: Global) -> Result<Command<'a>, LineError> {
     let admin = Arg::new(alloc, "admin")
         .long("admin")
         .value_name("NAME")
         .help("The administrator, who alone may open units")
         .required(true)
         .action(ArgAction::Set);
-    let Ok(command) = Command::new(alloc, "shelfoffice")
+    let db = Arg::new(alloc, "db")
+        .long("db")
+        .value_name("FILE")
+        .help("The file that keeps the tables: made where it is not there; without it they are kept in memory")
+        .action(ArgAction::Set);
+    Command::new(alloc, "shelfoffice")
         .about("Answers the control rooms of a plant: requests on standard input, answers on standard output")
         .arg(admin)
-    else {
-        return Err(LineError::Memory);
-    };
+        .map_err(|_| LineError::Memory)?
+        .arg(db)
+        .map_err(|_| LineError::Memory)
+}
+
+/// What the program's words ask for, the program's own name first.
+pub fn line_of<S: AsStr>(alloc: Global, words: &[S]) -> Result<Line, LineError> {
+    let command = office_command(alloc)?;
     match command.try_get_matches_from(words) {
-        Ok(matches) => person_of(alloc, matches.get_str("admin")),
+        Ok(matches) => Ok(Line {
+            admin: person_of(alloc, matches.get_str("admin"))?,
+            db: path_of(alloc, matches.get_str("db"))?,
+        }),
         Err(error) => Err(text_of(alloc, &error)),
     }
 }
