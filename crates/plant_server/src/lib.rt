@@ -1,0 +1,8 @@
+//! The program's command: its words, one session over its streams, and its exit status.
+#![tactic(auto)]
+
+mod books;
+mod commands;
+mod line;
+
+pub use commands::command;
