@@ -106,7 +106,6 @@ module _ (h : List Call) (p : Name) (t : ℕ) where
         alarms = put-rows (alarm_row h) (alarm_row c) (tags_of_alarms h) (tags_of_alarms c) (alarm_as a max l) (alarms_told h) (alarms_told c) (λ k. alarm_anew a k l max) i;
       }
 
-
 -- An opening: no rows become those of the one entry
 module _ (p : Name) (t : ℕ) (u s : Name) (m : Grid) (quota_given : ℕ) where
   abbrev opened : List Call

@@ -10,6 +10,8 @@ pub mod PartLaws
 pub mod WorldLaws
 pub mod PurgeLaws
 pub mod LegalLaws
+pub mod EndLaws
+pub mod QuotaLaws
 pub mod Base
 mod WorkedShelves
 mod WorkedGrants

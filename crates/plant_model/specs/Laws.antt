@@ -1,12 +1,18 @@
 -- Isolation, over the definitions alone.
 use Rattle.std.specs.FinMap.{keys}
-use Rattle.std.specs.Prelude.{Bool, List, Some, false, true, ℕ, ◌≡◌}
+use Rattle.std.specs.List.{list_all}
+use Rattle.std.specs.Prelude.{Bool, List, Some, false, is_none, is_some, true, ℕ, ◌<◌, ◌≡◌}
 use Rattle.plant_model.specs.declared.call.Call.{Call}
-use Rattle.plant_model.specs.Grants.{holds_any}
-use Rattle.plant_model.specs.Legality.{has_matrix}
+use Rattle.plant_model.specs.declared.call.Request.{Request}
+use Rattle.plant_model.specs.declared.call.Request.TheVariants.{Grant}
+use Rattle.plant_model.specs.Facts.{facts, others_shelved}
+use Rattle.plant_model.specs.Grants.{held, holds_any, stands}
+use Rattle.plant_model.specs.Legality.{IsLegal, has_matrix}
+use Rattle.plant_model.specs.Rows.{alarm_row}
 use Rattle.plant_model.specs.Views.{IsAlwaysInside, answers_to, grants_to, purge, view}
 use Rattle.plant_model.specs.Worlds.{IsLegalWorld, World, answer, empty_world, history, next, unit_named, units_held}
 use Rattle.plant_types.specs.Names.{Name, same_name}
+use Rattle.plant_types.specs.Roles.{Pair}
 
 -- a call that names no unit that the person sees, and grants the person nothing, changes nothing that the person sees of the units
 abbrev pub UnseenCallsChangeNothing : Type 0
@@ -49,3 +55,18 @@ OthersCallsCanGo =
 -- the next world of a world of legal histories is one
 abbrev pub NextWorldsAreLegal : Type 0
 NextWorldsAreLegal = (w : World) (c : Call) → IsLegalWorld w → has_matrix c.request ≡ true → IsLegalWorld (next w c)
+
+-- no grant of the request has an end
+abbrev pub has_no_end : Request → Bool
+has_no_end (Grant u p t) = is_none t.1
+has_no_end _ = true
+
+-- without ends, standing is holding: at every moment
+abbrev pub WithoutEndsStandingIsHolding : Type 0
+WithoutEndsStandingIsHolding =
+    (h : List Call) → list_all (λ c. has_no_end c.request) h ≡ true → (t : ℕ) (k : Pair) → held h t k ≡ stands h k
+
+-- in a legal history fewer than 2,000 other alarms are shelved, whatever the moment: a quota of 2,000 refuses nothing
+abbrev pub QuotaOf2000RefusesNothing : Type 0
+QuotaOf2000RefusesNothing =
+    (h : List Call) → IsLegal h → (a : Name) (t : ℕ) → is_some (alarm_row h a) ≡ true → others_shelved (facts h) a t < 2000

@@ -1,8 +1,8 @@
-//! Isolation of persons and units, over the definitions alone: contracts that stand on empty bodies.
+//! What holds of the definitions alone: contracts that stand on empty bodies.
 
-ghost use Rattle.plant_model.specs.Laws.{UnseenCallsChangeNothing, CodesAreTheAdministrators, EqualViewsEqualAnswers, CallsToSeenUnits, OthersCallsCanGo};
+ghost use Rattle.plant_model.specs.Laws.{UnseenCallsChangeNothing, CodesAreTheAdministrators, EqualViewsEqualAnswers, CallsToSeenUnits, OthersCallsCanGo, NextWorldsAreLegal, WithoutEndsStandingIsHolding, QuotaOf2000RefusesNothing};
 
-/// What one person sees of two worlds.
+/// Isolation: what one person sees of two worlds.
 pub fn two_worlds()
     ensures unseen { UnseenCallsChangeNothing }
     ensures codes { CodesAreTheAdministrators }
@@ -10,7 +10,22 @@ pub fn two_worlds()
     ensures shared { CallsToSeenUnits }
 {}
 
-/// A person's answers, without the calls of others elsewhere.
+/// Purge: a person's answers, without the calls of others elsewhere.
 pub fn purged()
     ensures { OthersCallsCanGo }
+{}
+
+/// The next world of a world of legal histories is one.
+pub fn histories_stay_legal()
+    ensures { NextWorldsAreLegal }
+{}
+
+/// Without ends, what stands is held at every moment.
+pub fn standing_without_ends()
+    ensures { WithoutEndsStandingIsHolding }
+{}
+
+/// A quota of 2,000 refuses no shelving in a legal history.
+pub fn largest_quota()
+    ensures { QuotaOf2000RefusesNothing }
 {}

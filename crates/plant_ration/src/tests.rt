@@ -44,47 +44,64 @@ fn gives_priorities(rt: HostRuntime) -> Result<(), Fail> {
     Ok(())
 }
 
+fn fault_of(alloc: Global, limits: &[u64], cells: &[&[Cell]]) -> Result<Option<MatrixFault>, Fail> {
+    let cells = rows(alloc, cells)?;
+    Ok(Matrix::new(alloc, limits, &cells)?.err())
+}
+
 #[test]
 fn finds_the_first_fault(rt: HostRuntime) -> Result<(), Fail> {
     use Cell::*;
     let alloc = rt.alloc();
-    let falling = rows(alloc, &[&[P1, P4], &[P2, P2]])?;
-    let fault = Matrix::new(alloc, &[300], &falling)?.err();
+    let fault = fault_of(alloc, &[300], &[&[P1, P4], &[P2, P2]])?;
     assert_eq!(rt; fault, Some(MatrixFault::NotOrdered));
-    let wide = rows(alloc, &[&[P1, P2, P2]])?;
-    let fault = Matrix::new(alloc, &[300, 300], &wide)?.err();
+    let fault = fault_of(alloc, &[300, 300], &[&[P1, P2, P2]])?;
     assert_eq!(rt; fault, Some(MatrixFault::BandsNotRising));
-    let two = rows(alloc, &[&[P1, P2]])?;
-    let fault = Matrix::new(alloc, &[], &two)?.err();
-    assert_eq!(rt; fault, Some(MatrixFault::Shape));
-    let fault = Matrix::new(alloc, &[604_801], &two)?.err();
-    assert_eq!(rt; fault, Some(MatrixFault::Shape));
-    let fault = Matrix::new(alloc, &[], &[])?.err();
-    assert_eq!(rt; fault, Some(MatrixFault::Shape));
+    for limits in [[].as_slice(), &[604_801]] {
+        let fault = fault_of(alloc, limits, &[&[P1, P2]])?;
+        assert_eq!(rt; fault, Some(MatrixFault::Shape));
+    }
     Ok(())
 }
 
-#[test]
-fn copies_proposals(rt: HostRuntime) -> Result<(), Fail> {
-    let alloc = rt.alloc();
-    let tag = Tag::read(alloc, b"PT-101")?.ok_or("a tag")?;
-    let sheet = Sheet {
+fn printed(alloc: Global, proposal: &Proposal) -> Result<String, Fail> {
+    Ok(format!(in alloc; "{proposal:?}")?)
+}
+
+// Whether a proposal's copy is printed as the proposal is.
+fn is_copied(alloc: Global, kind: ChangeKind) -> Result<bool, Fail> {
+    let proposal = Proposal { kind, base: 1 };
+    let copy = proposal.copy(alloc)?;
+    Ok(printed(alloc, &copy)?.as_str() == printed(alloc, &proposal)?.as_str())
+}
+
+fn sheet(alloc: Global) -> Result<Sheet, Fail> {
+    Ok(Sheet {
         cause: Words::read(alloc, b"seal leak")?.ok_or("words")?,
         consequence: Words::read(alloc, b"loss of pressure")?.ok_or("words")?,
         action: Words::read(alloc, b"close XV-7")?.ok_or("words")?,
         severity: 2,
         response: Seconds::new(120).ok_or("a length")?,
-    };
+    })
+}
+
+fn tag(alloc: Global) -> Result<Tag, Fail> {
+    Ok(Tag::read(alloc, b"PT-101")?.ok_or("a tag")?)
+}
+
+#[test]
+fn copies_records(rt: HostRuntime) -> Result<(), Fail> {
+    let alloc = rt.alloc();
+    let kind = ChangeKind::Rationale(tag(alloc)?, sheet(alloc)?);
+    assert!(rt; is_copied(alloc, kind)?);
+    Ok(())
+}
+
+#[test]
+fn copies_matrices_and_limits(rt: HostRuntime) -> Result<(), Fail> {
+    let alloc = rt.alloc();
+    assert!(rt; is_copied(alloc, ChangeKind::Matrix(matrix(alloc)?))?);
     let max = Seconds::new(600).ok_or("a length")?;
-    for kind in [
-        ChangeKind::Rationale(tag.copy(alloc)?, sheet),
-        ChangeKind::Matrix(matrix(alloc)?),
-        ChangeKind::Limit(tag, max),
-    ] {
-        let proposal = Proposal { kind, base: 1 };
-        let copy = proposal.copy(alloc)?;
-        let told = format!(in alloc; "{proposal:?}")?;
-        assert_eq!(rt; format!(in alloc; "{copy:?}")?.as_str(), told.as_str());
-    }
+    assert!(rt; is_copied(alloc, ChangeKind::Limit(tag(alloc)?, max))?);
     Ok(())
 }

@@ -1,0 +1,5 @@
+use Rattle.plant_model.proofs.QuotaLaws.{few_others}
+use Rattle.plant_model.proofs.laws.largest_quota.Goals as goal
+
+pub returns : goal.returns
+returns c = few_others

@@ -1,0 +1,4 @@
+pub mod Growing
+pub mod Running
+pub mod Serving
+pub mod Sessions

@@ -1,0 +1,81 @@
+use Rattle.std.proofs.Common.{◌∙◌, ap, sym, drop, refl, arith, inl}
+use Rattle.plant_wire.specs.Ran.{Ran}
+use Rattle.plant_wire.proofs.Running.{ran_none, ran_joins}
+use Rattle.plant_wire.proofs.Sessions.{stands_start, ends_cut, ends_failed, ends_fault, ends_part, ends_broken, ends_drop_fault, stands_next, some_left}
+use Rattle.plant_wire.proofs.reads.run_reads.Goals as goal
+
+pub reads-init : goal.reads-init
+reads-init g c =
+    rw c.new-buffer.ensures.items record {
+      stands = stands_start (g.I.Inlet.remaining c.args.inlet.now) (g.O.Outlet.written c.args.outlet.now)
+          (Ran (g.B.Books.holds c.args.office.now.books) (g.B.Books.can_tell c.args.office.now.books) (g.B.Books.holds c.args.office.now.books))
+          (ran_none (g.B.Books.holds c.args.office.now.books) (g.B.Books.can_tell c.args.office.now.books));
+      told = λ t. t;
+      stalls = refl;
+      failed = refl;
+      count = omega arith;
+    }
+
+pub returns-in-Failed-clause-does : goal.returns-in-Failed-clause-does
+returns-in-Failed-clause-does g c = ends_failed c.reads.invariant.stands (g.I.Inlet.remaining c.read_more.new.inlet) c.in-Failed.ensures.0
+
+pub returns-in-Failed-clause-stops : goal.returns-in-Failed-clause-stops
+returns-in-Failed-clause-stops g c = (inl c.in-Failed.ensures.2, c.reads.invariant.stalls)
+
+pub returns-in-Failed-clause-told : goal.returns-in-Failed-clause-told
+returns-in-Failed-clause-told g c = c.reads.invariant.told
+
+pub returns-in-Fault-clause-does : goal.returns-in-Fault-clause-does
+returns-in-Fault-clause-does g c = ends_fault c.reads.invariant.stands (g.I.Inlet.remaining c.read_more.new.inlet) c.in-Fault.ensures.0 c.in-Fault.ensures.1
+
+pub returns-in-Finished-clause-does : goal.returns-in-Finished-clause-does
+returns-in-Finished-clause-does g c =
+    ends_cut c.reads.invariant.stands (g.I.Inlet.remaining c.read_more.new.inlet) (g.I.Inlet.ended c.read_more.new.inlet)
+    c.in-Finished.ensures.3 c.in-Finished.ensures.4 c.in-Finished.ensures.0
+    (some_left c.reads.buffer.items c.as_slice.result.now c.is_empty.result (c.as_slice.ensures.value ∙ c.in-Finished.ensures.1) c.is_empty.ensures c.if-is_empty.false)
+
+pub returns-in-Err-WriteFailed-clause-does : goal.returns-in-Err-WriteFailed-clause-does
+returns-in-Err-WriteFailed-clause-does g c =
+    let joins = ran_joins (g.B.Books.holds c.args.office.now.books) (g.B.Books.holds c.reads.office.books) (g.B.Books.holds c.answer_all.new.office.books)
+    (g.B.Books.can_tell c.reads.office.books) (g.B.Books.can_tell c.answer_all.new.office.books) c.in-Err-WriteFailed.ensures.told in
+    ends_part c.reads.invariant.stands (g.I.Inlet.remaining c.read_more.new.inlet) c.deref.result.now c.in-More.ensures.0 c.in-More.ensures.1
+    (c.deref.ensures.value ∙ c.in-More.ensures.2) joins (g.O.Outlet.written c.answer_all.new.outlet) c.in-Err-WriteFailed.ensures.does
+
+pub returns-in-Err-Fault-clause-does : goal.returns-in-Err-Fault-clause-does
+returns-in-Err-Fault-clause-does g c =
+    let joins = ran_joins (g.B.Books.holds c.args.office.now.books) (g.B.Books.holds c.reads.office.books) (g.B.Books.holds c.answer_all.new.office.books)
+    (g.B.Books.can_tell c.reads.office.books) (g.B.Books.can_tell c.answer_all.new.office.books) c.in-Err-Fault.ensures.told in
+    ends_part c.reads.invariant.stands (g.I.Inlet.remaining c.read_more.new.inlet) c.deref.result.now c.in-More.ensures.0 c.in-More.ensures.1
+    (c.deref.ensures.value ∙ c.in-More.ensures.2) joins (g.O.Outlet.written c.answer_all.new.outlet) c.in-Err-Fault.ensures.does
+
+pub returns-in-Ok-Broken-clause-does : goal.returns-in-Ok-Broken-clause-does
+returns-in-Ok-Broken-clause-does g c =
+    let h = rw c.in-Ok-Broken.field-0-is at c.in-Ok-Broken.ensures.does in
+    let joins = ran_joins (g.B.Books.holds c.args.office.now.books) (g.B.Books.holds c.reads.office.books) (g.B.Books.holds c.answer_all.new.office.books)
+    (g.B.Books.can_tell c.reads.office.books) (g.B.Books.can_tell c.answer_all.new.office.books) c.in-Ok-Broken.ensures.told in
+    ends_broken c.reads.invariant.stands (g.I.Inlet.remaining c.read_more.new.inlet) c.deref.result.now c.in-More.ensures.0 c.in-More.ensures.1
+    (c.deref.ensures.value ∙ c.in-More.ensures.2) joins (g.I.Inlet.ended c.read_more.new.inlet) (g.O.Outlet.written c.answer_all.new.outlet) h
+
+pub returns-in-Err-clause-does : goal.returns-in-Err-clause-does
+returns-in-Err-clause-does g c =
+    let h = rw c.in-Ok-Waits.field-0-is at c.in-Ok-Waits.ensures.does in
+    let joins = ran_joins (g.B.Books.holds c.args.office.now.books) (g.B.Books.holds c.reads.office.books) (g.B.Books.holds c.answer_all.new.office.books)
+    (g.B.Books.can_tell c.reads.office.books) (g.B.Books.can_tell c.answer_all.new.office.books) c.in-Ok-Waits.ensures.told in
+    ends_drop_fault c.reads.invariant.stands (g.I.Inlet.remaining c.read_more.new.inlet) c.deref.result.now c.in-More.ensures.0 c.in-More.ensures.1
+    (c.deref.ensures.value ∙ c.in-More.ensures.2) joins (g.O.Outlet.written c.answer_all.new.outlet) _ h.2
+
+pub reads-preserved : goal.reads-preserved
+reads-preserved g c =
+    let h = rw c.in-Ok-Waits.field-0-is at c.in-Ok-Waits.ensures.does in
+    let joins = ran_joins (g.B.Books.holds c.args.office.now.books) (g.B.Books.holds c.reads.office.books) (g.B.Books.holds c.answer_all.new.office.books)
+    (g.B.Books.can_tell c.reads.office.books) (g.B.Books.can_tell c.answer_all.new.office.books) c.in-Ok-Waits.ensures.told in
+    record {
+      stands = stands_next c.reads.invariant.stands (g.I.Inlet.remaining c.read_more.new.inlet) c.deref.result.now c.in-More.ensures.0 c.in-More.ensures.1
+          (c.deref.ensures.value ∙ c.in-More.ensures.2) joins (g.O.Outlet.written c.answer_all.new.outlet)
+          c.in-Ok-Waits.n c.drop_front.new.buffer.items
+          (c.in-Ok.ensures ∙ sym (ap (drop c.in-Ok-Waits.n) c.deref.ensures.value)) h.1 h.2;
+      told = λ t. c.reads.invariant.told (c.in-Ok-Waits.ensures.told t);
+      stalls = c.in-Ok-Waits.ensures.stalls ∙ c.reads.invariant.stalls;
+      failed = c.in-More.ensures.3 ∙ c.reads.invariant.failed;
+      count = omega (arith, c.in-More.ensures.4, c.reads.invariant.count);
+    }

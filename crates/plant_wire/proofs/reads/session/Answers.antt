@@ -1,0 +1,19 @@
+use Rattle.std.proofs.Common.{[]}
+use Rattle.plant_wire.proofs.Growing.{Consumes-none}
+use Rattle.plant_wire.proofs.Running.{ran_none}
+use Rattle.plant_wire.proofs.Serving.{part_none}
+use Rattle.plant_wire.proofs.reads.session.Goals as goal
+
+pub returns-in_default-clause-does : goal.returns-in_default-clause-does
+returns-in_default-clause-does g c = (
+  [],
+  Consumes-none (g.I.Inlet.remaining c.args.inlet.now),
+  part_none [] (g.O.Outlet.written c.args.outlet.now) (ran_none (g.B.Books.holds c.args.office.now.books) (g.B.Books.can_tell c.args.office.now.books)),
+)
+
+pub returns-in_default-new-clause-does : goal.returns-in_default-new-clause-does
+returns-in_default-new-clause-does g c = (
+  [],
+  Consumes-none (g.I.Inlet.remaining c.args.inlet.now),
+  part_none [] (g.O.Outlet.written c.args.outlet.now) (ran_none (g.B.Books.holds c.args.office.now.books) (g.B.Books.can_tell c.args.office.now.books)),
+)

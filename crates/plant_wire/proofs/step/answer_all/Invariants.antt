@@ -1,0 +1,16 @@
+use Rattle.std.proofs.Common.{◌≡◌, ◌≤◌, ◌-◌, length, drop}
+use Rattle.plant_wire.specs.Ran.{Ran}
+use Rattle.plant_wire.specs.Step.{Serves}
+use Rattle.plant_wire.proofs.step.answer_all.Given as goal
+
+abbrev pub invariant-items : goal.invariant-items
+invariant-items g l = record {
+  within : l.at ≤ length l.bytes;
+  serves : Serves l.bytes (g.O.Outlet.written l.fn.outlet) (g.O.Outlet.written l.outlet)
+      (Ran (g.B.Books.holds l.fn.office.books) (g.B.Books.can_tell l.office.books) (g.B.Books.holds l.office.books)) (drop l.at l.bytes);
+  told : g.B.Books.can_tell l.office.books → g.B.Books.can_tell l.fn.office.books;
+  stalls : g.O.Outlet.failures l.outlet ≡ g.O.Outlet.failures l.fn.outlet;
+}
+
+abbrev pub decreases-items : goal.decreases-items
+decreases-items g l = length l.bytes - l.at

@@ -1,0 +1,5 @@
+pub mod Causes
+pub mod Marks
+pub mod Ran
+pub mod Step
+pub mod Session

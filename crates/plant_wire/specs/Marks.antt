@@ -1,0 +1,55 @@
+-- What is written for a list of requests.
+use Rattle.std.specs.Prelude.{ℕ, List, [], ◌∷◌, ◌++◌}
+use Rattle.plant_model.specs.declared.call.Call.{Call}
+use Rattle.plant_model.specs.declared.reply.Answer.{Answer}
+use Rattle.plant_answer.specs.Answers.{text_of}
+use Rattle.plant_call.specs.Front.{Item, asked, bad}
+use Rattle.plant_call.specs.declared.causes.Cause.{Cause}
+use Rattle.plant_wire.specs.Causes.{cause_text}
+
+-- a request with its answer: a call and what the office said, or the cause that it is
+pub data Mark : Type 0 where
+  said : Call → Answer → Mark
+  told : Cause → Mark
+
+-- the request
+abbrev pub item_of : Mark → Item
+item_of (said call answer) = asked call
+item_of (told cause) = bad cause
+
+abbrev pub mark_text : Mark → List ℕ
+mark_text (said call answer) = text_of answer
+mark_text (told cause) = cause_text cause
+
+-- the bytes that are written for them
+abbrev pub out_of : List Mark → List ℕ
+out_of [] = []
+out_of (m ∷ ms) = mark_text m ++ out_of ms
+
+-- the calls among them
+abbrev pub calls_of : List Mark → List Call
+calls_of [] = []
+calls_of (said call answer ∷ ms) = call ∷ calls_of ms
+calls_of (told cause ∷ ms) = calls_of ms
+
+-- the answers to these
+abbrev pub answers_of : List Mark → List Answer
+answers_of [] = []
+answers_of (said call answer ∷ ms) = answer ∷ answers_of ms
+answers_of (told cause ∷ ms) = answers_of ms
+
+-- what was begun when a session stopped: nothing, an answer, or that to the cause which breaks the stream
+pub data Last : Type 0 where
+  nothing : Last
+  begun : Mark → Last
+  breaking : Cause → Last
+
+abbrev pub last_text : Last → List ℕ
+last_text nothing = []
+last_text (begun m) = mark_text m
+last_text (breaking cause) = cause_text cause
+
+abbrev pub last_marks : Last → List Mark
+last_marks nothing = []
+last_marks (begun m) = m ∷ []
+last_marks (breaking cause) = []

@@ -1,0 +1,79 @@
+-- What the steps of a session do. o is what was written before and o' after; `ran` says what the office did.
+use Rattle.std.specs.Prelude.{◌≡◌, ◌<◌, ◌≤◌, ℕ, List, [], ◌∷◌, ◌++◌, length, take, drop, map, Option, Result, Ok, Err}
+use Rattle.std.specs.Io.KnownBytes.{Appends}
+use Rattle.plant_model.specs.declared.call.Call.{Call}
+use Rattle.plant_model.specs.declared.reply.Answer.{Answer}
+use Rattle.plant_answer.specs.Answers.{text_of}
+use Rattle.plant_call.specs.Front.{waits, whole, broken, StandsAtFront, Parsed}
+use Rattle.plant_call.specs.declared.causes.Cause.{Cause}
+use Rattle.plant_wire.specs.Causes.{cause_text}
+use Rattle.plant_wire.specs.Marks.{Mark, item_of, out_of, calls_of, answers_of, Last, nothing, begun, breaking, last_text, last_marks}
+use Rattle.plant_wire.specs.declared.step.Step.{Step}
+use Rattle.plant_wire.specs.declared.step.Step.TheVariants.{Waits, Took, Broken}
+use Rattle.plant_wire.specs.declared.step.Stop.{Stop}
+use Rattle.plant_wire.specs.declared.step.Stop.TheVariants.{WriteFailed, Fault}
+use Rattle.plant_wire.specs.declared.step.Rest.{Rest}
+use Rattle.plant_wire.specs.declared.step.Rest.TheVariants as left
+
+-- the count of failed writes, by how a step ended
+abbrev pub Stalls : {A : Type 0} → ℕ → ℕ → Result A Stop → Type 0
+Stalls f f' (Ok x) = f' ≡ f
+Stalls f f' (Err WriteFailed) = f' ≡ 1
+Stalls f f' (Err Fault) = f' ≡ f
+
+-- all of the text was written, or a part from its front
+abbrev pub IsPut : Option (List ℕ) → Option (List ℕ) → List ℕ → Result (Unit {0}) Stop → Type 0
+IsPut o o' text (Ok u) = Appends o o' text
+IsPut o o' text (Err e) = (part : ℕ) × Appends o o' (take part text)
+
+-- the call was made, and its answer written whole or in part
+abbrev pub IsAnswer : Option (List ℕ) → Option (List ℕ) → (List Call → List Answer → Type 0) → Call → Result (Unit {0}) Stop → Type 0
+IsAnswer o o' ran call (Ok u) = (answer : Answer) × Appends o o' (text_of answer) × ran (call ∷ []) (answer ∷ [])
+IsAnswer o o' ran call (Err e) = (answer : Answer) × (part : ℕ) × Appends o o' (take part (text_of answer)) × ran (call ∷ []) (answer ∷ [])
+
+-- the requests at the front of the bytes were answered, each once and in order, and this is left
+pub record Serves (bytes : List ℕ) (o o' : Option (List ℕ)) (ran : List Call → List Answer → Type 0) (rest : List ℕ) : Type 0 where
+  pub marks : List Mark
+  pub parses : Parsed bytes (map item_of marks) rest
+  pub writes : Appends o o' (out_of marks)
+  pub served : ran (calls_of marks) (answers_of marks)
+
+-- they were, and then the cause that breaks the stream
+pub record ServesBroken (bytes : List ℕ) (o o' : Option (List ℕ)) (ran : List Call → List Answer → Type 0) : Type 0 where
+  pub marks : List Mark
+  pub rest : List ℕ
+  pub cause : Cause
+  pub parses : Parsed bytes (map item_of marks) rest
+  pub front : StandsAtFront rest (broken cause)
+  pub writes : Appends o o' (out_of marks ++ cause_text cause)
+  pub served : ran (calls_of marks) (answers_of marks)
+
+-- what was begun stands at the front of the rest
+abbrev pub StandsLast : List ℕ → Last → Type 0
+StandsLast rest nothing = Unit {0}
+StandsLast rest (begun m) = (n : ℕ) × StandsAtFront rest (whole (item_of m) n)
+StandsLast rest (breaking cause) = StandsAtFront rest (broken cause)
+
+-- they were, and of the next answer only a part was written
+pub record ServesPart (bytes : List ℕ) (o o' : Option (List ℕ)) (ran : List Call → List Answer → Type 0) : Type 0 where
+  pub marks : List Mark
+  pub rest : List ℕ
+  pub last : Last
+  pub part : ℕ
+  pub parses : Parsed bytes (map item_of marks) rest
+  pub stands : StandsLast rest last
+  pub writes : Appends o o' (out_of marks ++ take part (last_text last))
+  pub served : ran (calls_of (marks ++ last_marks last)) (answers_of (marks ++ last_marks last))
+
+-- one request
+abbrev pub IsStep : List ℕ → Option (List ℕ) → Option (List ℕ) → (List Call → List Answer → Type 0) → Result Step Stop → Type 0
+IsStep bytes o o' ran (Ok Waits) = StandsAtFront bytes waits × Serves bytes o o' ran bytes
+IsStep bytes o o' ran (Ok (Took n)) = (0 < n) × (n ≤ length bytes) × Serves bytes o o' ran (drop n bytes)
+IsStep bytes o o' ran (Ok Broken) = ServesBroken bytes o o' ran
+IsStep bytes o o' ran (Err e) = ServesPart bytes o o' ran
+
+-- all whole requests at the front
+abbrev pub IsRest : List ℕ → Option (List ℕ) → Option (List ℕ) → (List Call → List Answer → Type 0) → Result Rest Stop → Type 0
+IsRest bytes o o' ran (Ok (left.Waits n)) = (n ≤ length bytes) × StandsAtFront (drop n bytes) waits × Serves bytes o o' ran (drop n bytes)
+IsRest bytes o o' ran (Ok left.Broken) = ServesBroken bytes o o' ran
+IsRest bytes o o' ran (Err e) = ServesPart bytes o o' ran

@@ -1,0 +1,19 @@
+//! Sessions: requests that come in as bytes, and the answers that go out as bytes.
+#![tactic(auto)]
+
+mod causes;
+mod put;
+mod reads;
+mod std_streams;
+mod step;
+mod streams;
+
+pub use causes::render_cause;
+pub use plant_answer::render;
+pub use plant_call::{Cause, Cut, cuts_agree, next_call, next_call_with, one_reading, one_stream};
+pub use reads::{End, session};
+pub use std_streams::{FromRead, ToWrite};
+pub use streams::{Failed, Inlet, Outlet};
+
+#[cfg(test)]
+mod tests;

@@ -1,0 +1,126 @@
+ghost use Rattle.std.specs.Prelude.{◌≡◌, ◌≤◌, length, drop, OnOk};
+ghost use Rattle.plant_wire.specs.Ran.{Ran};
+ghost use Rattle.plant_wire.specs.Session.{IsRead, IsSession, StopsAs};
+
+use crate::put::bytes_from;
+use crate::step::{Rest, Stop, answer_all};
+use crate::streams::{Inlet, Outlet};
+use plant_head::FieldRoom;
+use plant_office::{Books, Office};
+use plant_route::Routes;
+use std::alloc::{AllocError, Global};
+
+/// How a session ended.
+#[derive(Clone, Copy, Debug, PartialEq, Eq)]
+pub enum End {
+    /// The input ended, and all of it was answered.
+    Closed,
+    /// The input ended within a request, or can't be read as requests; what can't was answered.
+    BrokenInput,
+    /// A read failed, or as many were made as a session makes; all whole requests were answered.
+    ReadFailed,
+    /// A write failed, or took nothing.
+    WriteFailed,
+    /// A growth was refused.
+    Fault,
+}
+
+/// How a read went.
+#[derive(Clone, Copy, Debug)]
+pub(crate) enum Read {
+    More,
+    Finished,
+    Failed,
+    Fault,
+}
+
+const CHUNK: usize = 4096;
+
+fn read_more<I: Inlet>(inlet: &mut I, buffer: &mut Vec<u8>) -> Read
+    ensures { IsRead (I.remaining inlet.old) (I.remaining inlet.new) (I.ended inlet.new) (I.failures inlet.old) (I.failures inlet.new)
+        (I.reads inlet.old) (I.reads inlet.new) buffer.old.items buffer.new.items result }
+{
+    let mut chunk = [0u8; CHUNK];
+    match inlet.take(&mut chunk) {
+        Err(_) => Read::Failed,
+        Ok(0) => Read::Finished,
+        Ok(n) => match buffer.extend_from_slice(&chunk[..n]) {
+            Ok(()) => Read::More,
+            Err(_) => Read::Fault,
+        },
+    }
+}
+
+fn drop_front(alloc: Global, buffer: &mut Vec<u8>, n: usize) -> Result<(), AllocError>
+    requires { n ≤ length buffer.old.items }
+    ensures { OnOk result (buffer.new.items ≡ drop n buffer.old.items) }
+{
+    let rest = Vec::from_slice(alloc, bytes_from(buffer, n))?;
+    *buffer = rest;
+    Ok(())
+}
+
+fn run_reads<I: Inlet, O: Outlet, B: Books>(
+    alloc: Global,
+    routes: &Routes,
+    room: &mut FieldRoom,
+    inlet: &mut I,
+    outlet: &mut O,
+    office: &mut Office<B>,
+) -> End
+    ensures does { IsSession (I.remaining inlet.old) (I.remaining inlet.new) (I.ended inlet.new) (O.written outlet.old) (O.written outlet.new)
+        (Ran (B.holds office.old.books) (B.can_tell office.new.books) (B.holds office.new.books)) result }
+    ensures told { B.can_tell office.new.books → B.can_tell office.old.books }
+    ensures stops { StopsAs (I.failures inlet.old) (I.failures inlet.new) (I.reads inlet.old) (I.reads inlet.new) (O.failures outlet.old) (O.failures outlet.new) result }
+{
+    let mut buffer = Vec::new(alloc);
+    'reads: for count in 0..1_000_000u32 {
+        match read_more(inlet, &mut buffer) {
+            Read::Failed => return End::ReadFailed,
+            Read::Fault => return End::Fault,
+            Read::Finished => {
+                if buffer.as_slice().is_empty() {
+                    return End::Closed;
+                }
+                return End::BrokenInput;
+            }
+            Read::More => {}
+        }
+        match answer_all(alloc, routes, room, &buffer, outlet, office) {
+            Err(Stop::WriteFailed) => return End::WriteFailed,
+            Err(Stop::Fault) => return End::Fault,
+            Ok(Rest::Broken) => return End::BrokenInput,
+            Ok(Rest::Waits(n)) => match drop_front(alloc, &mut buffer, n) {
+                Ok(()) => {}
+                Err(_) => return End::Fault,
+            },
+        }
+    }
+    End::ReadFailed
+}
+
+/// Answers the requests that come in, after each read all that are whole, in their order, each answer whole before
+/// the next call is made, until the input ends, it can't be read as requests, a read or a write fails, or memory runs
+/// out. At most 1,000,000 reads are made.
+///
+/// What is written is what the calls in the bytes received are answered, however the reads and the writes are cut. A
+/// call that the office answers by a fault is answered 503, and the session goes on.
+pub fn session<I: Inlet, O: Outlet, B: Books>(
+    alloc: Global,
+    inlet: &mut I,
+    outlet: &mut O,
+    office: &mut Office<B>,
+) -> End
+    ensures does { IsSession (I.remaining inlet.old) (I.remaining inlet.new) (I.ended inlet.new) (O.written outlet.old) (O.written outlet.new)
+        (Ran (B.holds office.old.books) (B.can_tell office.new.books) (B.holds office.new.books)) result }
+    ensures told { B.can_tell office.new.books → B.can_tell office.old.books }
+    ensures stops { StopsAs (I.failures inlet.old) (I.failures inlet.new) (I.reads inlet.old) (I.reads inlet.new) (O.failures outlet.old) (O.failures outlet.new) result }
+{
+    let Ok(routes) = Routes::new(alloc) else {
+        return End::Fault;
+    };
+    let Ok(mut room) = FieldRoom::new(alloc) else {
+        return End::Fault;
+    };
+    run_reads(alloc, &routes, &mut room, inlet, outlet, office)
+}
