@@ -111,7 +111,7 @@ told_listed f admin opened m h =
     sym (told_entries f opened) ∙ ap (filter_map (λ e. f e.0 (Some e.1))) h.units
     ∙ sym (told_found f (get m.units) (entries m.units) (subst (λ g. AreFound g (entries m.units)) lookup (are_found (entries m.units) (entries_sorted m.units))))
 
--- the methods' answers
+-- what the keeper answers and leaves, said of the content
 pub part_listed : (admin u v : Name) (opened : List OpenedUnit) (m : Content) (c : Call) → IsListed admin opened m → Some v ≡ unit_named c.request → unit_named c.request ≡ Some u → option_map (part_of c) (rows_at opened v) ≡ part_in m c u
 part_listed admin u v opened m c h is named =
     let same : v ≡ u = cc in

@@ -373,20 +373,21 @@ fn same_rows(some: &Option<UnitRows>, other: &Option<UnitRows>) -> bool {
 /// Makes the changes. Where memory is refused, the rows are as before, and the same call is made
 /// again.
 fn apply_through_faults(
-    rt: &impl Abort,
+    rt: &(impl Abort + Eprint),
     books: &mut Plain,
     unit: &UnitCode,
     changes: &Table<Change>,
 ) -> Result<(), Fault> {
     let before = books.rows(unit)?;
     if books.apply(unit, changes).is_err() {
+        let _ = rt.eprintln("refused while rows are changed");
         assert!(rt; same_rows(&books.rows(unit)?, &before));
         books.apply(unit, changes)?;
     }
     Ok(())
 }
 
-fn change_through_faults(rt: &impl Abort, alloc: Global) -> Result<(), Fault> {
+fn change_through_faults(rt: &(impl Abort + Eprint), alloc: Global) -> Result<(), Fault> {
     let mut books = plain(rt, alloc)?;
     let unit = code(rt, alloc, b"U1")?;
     apply_through_faults(rt, &mut books, &unit, &opening(rt, alloc)?)?;
@@ -396,12 +397,13 @@ fn change_through_faults(rt: &impl Abort, alloc: Global) -> Result<(), Fault> {
     Ok(())
 }
 
-/// Run with each allocation refused in turn: a call that meets the refusal leaves the rows as they
-/// were. Where it is met outside such a call, all is done again.
+/// Run with each allocation refused in turn, until nothing is told of a refusal: a call that meets
+/// it leaves the rows as they were. Where it is met outside such a call, all is done again.
 #[test]
 fn leaves_the_rows_at_a_fault(rt: HostRuntime) -> Result<(), Fail> {
     let alloc = rt.alloc();
     if change_through_faults(&rt, alloc).is_err() {
+        let _ = rt.eprintln("refused");
         change_through_faults(&rt, alloc)?;
     }
     Ok(())
