@@ -37,11 +37,10 @@ pub fn text<C: Alphabet>(alloc: Global, row: &Row, at: usize) -> Result<Text<C>,
 fn open_text<C: Alphabet>(alloc: Global, row: &Row, at: usize) -> Result<Option<Text<C>>, Error>
     ensures { IfOk result (λ t. column row.now at ≡ codes.open_text t) }
 {
-    match row.get_ref(at)? {
-        ValueRef::Null => Ok(None),
-        ValueRef::Text(bytes) => Ok(Some(text_of(alloc, bytes, at)?)),
-        other => Err(Error::InvalidColumnType(at, Type::of(other))),
+    if let ValueRef::Null = row.get_ref(at)? {
+        return Ok(None);
     }
+    Ok(Some(text(alloc, row, at)?))
 }
 
 fn wide(row: &Row, at: usize) -> Result<u64, Error>

@@ -8,9 +8,11 @@ mod mine;
 mod opening;
 mod part;
 mod read;
-pub mod reopening;
 mod tables;
 mod unit;
 mod write;
 
 pub use tables::{StoreFault, Tables, Unopened};
+
+#[cfg(test)]
+mod tests;

@@ -88,6 +88,7 @@ fn start(alloc: Global, line: &Line) -> Result<MineUnit, Error>
 }
 
 /// Takes a line to the unit that is still open, or to a new one.
+#[tactic(auto, using(crate::proofs::LineLaws::joins_run))]
 fn join(
     alloc: Global,
     units: &mut Table<MineUnit>,

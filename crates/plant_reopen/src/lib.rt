@@ -1,11 +1,12 @@
-//! What was kept is found again.
+//! Books that are kept in files: closed and opened again, they hold what they held.
+#![tactic(auto)]
 
 ghost use Rattle.std.specs.Prelude.{◌≡◌, false, IfSome};
 ghost use Rattle.sqlite.specs.Files.{file_state};
 ghost use Rattle.plant_books.specs.Contents.{Content};
 ghost use Rattle.plant_store.specs.Keeping.{Keeps};
 
-use crate::Tables;
+use plant_store::Tables;
 use plant_types::Person;
 use sqlite::{Connection, FileStore, Options};
 use sqlite_disk::Disk;

@@ -1,5 +1,5 @@
 use Rattle.std.proofs.Common.{◌∙◌, sym}
-use Rattle.plant_store.proofs.reopening.reopen.Goals as goal
+use Rattle.plant_reopen.proofs.reopen.Goals as goal
 
 pub returns-in-Ok : goal.returns-in-Ok
 returns-in-Ok g c m admin keeps own =

@@ -1,6 +1,6 @@
 use Rattle.std.proofs.Common.{IsTrue, rules}
-use Rattle.plant_store.proofs.Again.{kept_again}
-use Rattle.plant_store.proofs.reopening.reopen_files.Goals as goal
+use Rattle.plant_reopen.proofs.Again.{kept_again}
+use Rattle.plant_reopen.proofs.reopen_files.Goals as goal
 
 pub returns-in-Ok-open_files-clause-kept : goal.returns-in-Ok-open_files-clause-kept
 returns-in-Ok-open_files-clause-kept g c m keeps told =
