@@ -57,8 +57,12 @@ no_length : {A : Type 0} (es : List A) → length es ≡ 0 → [] ≡ es
 no_length [] e = refl
 no_length (x ∷ es) e = absurd (omega arith)
 
-pub none_listed : (admin : Name) → IsListed admin [] (no_units admin)
-none_listed admin = record { admin = refl; units = no_length (entries (no_units admin).units) (sym (len-entries (no_units admin).units) ∙ len-empty name_cmp UnitRows) }
+pub none_listed : (admin : Name) (opened : List OpenedUnit) → opened ≡ [] → IsListed admin opened (no_units admin)
+none_listed admin opened none =
+    record {
+      admin = refl;
+      units = ap (map entry) none ∙ no_length (entries (no_units admin).units) (sym (len-entries (no_units admin).units) ∙ len-empty name_cmp UnitRows);
+    }
 
 -- what is told of each code with what is found there, is told of each unit of the list with its rows
 second : (a b : Bool) → T (a && b) → T b

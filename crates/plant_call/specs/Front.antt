@@ -1,7 +1,7 @@
 -- What stands at the front of a stream of requests: a definition over the bytes alone.
 use Rattle.std.specs.Prelude.{◌≡◌, ◌⊎◌, ℕ, ◌+◌, List, [], ◌∷◌, length, take, drop, Result, Ok, Err, nat_lt, if◌then◌else◌}
-use Rattle.httparse.specs.Grammar.{RequestHead, print_request}
-use Rattle.plant_head.specs.Head.{head_limit, BeginsWith, IsHopeless, IsUnfinished}
+use Rattle.httparse.specs.Grammar.{RequestHead, EndsInTarget, print_request}
+use Rattle.plant_head.specs.Head.{head_limit, front, BeginsWith, IsHopeless, IsUnfinished}
 use Rattle.plant_head.specs.Fields.{fields_of}
 use Rattle.plant_model.specs.declared.call.Call.{Call}
 use Rattle.plant_call.specs.Lengths.{body_length_in}
@@ -42,6 +42,14 @@ module _ (body_length : RequestHead → Result ℕ Cause) (item_of : RequestHead
   Parses bytes [] rest = bytes ≡ rest
   Parses bytes (x ∷ xs) rest = (n : ℕ) × IsFront bytes (whole x n) × Parses (drop n bytes) xs rest
 
+  -- where the items of a stream end: nothing is left, less than a request, or what breaks the stream
+  abbrev pub EndsAt : List ℕ → Type 0
+  EndsAt rest = (rest ≡ []) ⊎ (IsFront rest waits ⊎ ((cause : Cause) × IsFront rest (broken cause)))
+
+-- the one case that httparse leaves open: no continuation is a head, and the target is still being read
+abbrev pub IsOpen : List ℕ → Type 0
+IsOpen bytes = IsHopeless bytes × EndsInTarget (front bytes)
+
 -- What stands at the front, and the items of a stream, for this service's requests.
 abbrev pub body_length : RequestHead → Result ℕ Cause
 body_length head = body_length_in (fields_of head)
@@ -61,3 +69,11 @@ StandsAtFront bytes front = IsFront body_length item_of bytes front
 
 abbrev pub Parsed : List ℕ → List Item → List ℕ → Type 0
 Parsed bytes items rest = Parses body_length item_of bytes items rest
+
+-- the items of the whole stream, and what is left
+abbrev pub IsStream : List ℕ → List Item → List ℕ → Type 0
+IsStream bytes items rest = Parsed bytes items rest × EndsAt body_length item_of rest
+
+-- somewhere in the stream stands the case that is left open
+abbrev pub OpensSomewhere : List ℕ → Type 0
+OpensSomewhere bytes = (items : List Item) × (rest : List ℕ) × Parsed bytes items rest × IsOpen rest

@@ -1,8 +1,7 @@
 ghost use Rattle.std.specs.Prelude.{◌≡◌, ◌≢◌, ◌⊎◌, ◌≤◌, ◌++◌, ℕ, List, length};
-ghost use Rattle.httparse.specs.Grammar.{RequestHead, EndsInTarget};
+ghost use Rattle.httparse.specs.Grammar.{RequestHead};
 ghost use Rattle.httparse.specs.Spans.{IsRequestAt, IsRequestWithin};
-ghost use Rattle.plant_head.specs.Head.{front, IsHopeless};
-ghost use Rattle.plant_call.specs.Front.{Front, waits, answer_to, StandsAtFront};
+ghost use Rattle.plant_call.specs.Front.{Item, Front, waits, answer_to, StandsAtFront, IsOpen, IsStream, OpensSomewhere};
 ghost use Rattle.plant_call.specs.Cut.{Shows, IsCutOf};
 
 use crate::causes::{CallError, Cause};
@@ -100,8 +99,13 @@ pub fn next_call(alloc: Global, bytes: &[u8]) -> Cut
 
 /// Two readings of one front are one, save where no continuation is a head and the target is still being read.
 pub fn one_reading()
-    ensures { (bytes : List ℕ) (f g : Front) → StandsAtFront bytes f → StandsAtFront bytes g
-        → (f ≡ g) ⊎ (IsHopeless bytes × EndsInTarget (front bytes)) }
+    ensures { (bytes : List ℕ) (f g : Front) → StandsAtFront bytes f → StandsAtFront bytes g → (f ≡ g) ⊎ IsOpen bytes }
+{}
+
+/// Two readings of one stream are one, save where such a front stands in it.
+pub fn one_stream()
+    ensures { (bytes : List ℕ) (xs ys : List Item) (r q : List ℕ) → IsStream bytes xs r → IsStream bytes ys q
+        → ((xs ≡ ys) × (r ≡ q)) ⊎ OpensSomewhere bytes }
 {}
 
 /// More bytes don't change what stands at the front, unless it waits for them.

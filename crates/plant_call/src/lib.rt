@@ -8,7 +8,7 @@ mod path;
 mod requests;
 
 pub use causes::Cause;
-pub use cut::{Cut, cuts_agree, next_call, next_call_with, one_reading};
+pub use cut::{Cut, cuts_agree, next_call, next_call_with, one_reading, one_stream};
 
 #[cfg(test)]
 mod tests;

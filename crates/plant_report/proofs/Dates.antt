@@ -1,42 +1,12 @@
--- The dates one after another, and that the days since 2000-01-01 settle the date.
-use Rattle.std.proofs.Common.{◌≡◌, ℕ, zero, suc, ◌+◌, ◌≤◌, ◌<◌, refl, sym, ap, ◌∙◌, arith, pos, ◌⊎◌, inl, inr, cond, Bool, true, false, ◌&&◌, subst}
+-- The dates one after another are those of the calendar.
+use Rattle.std.proofs.Common.{◌≡◌, ℕ, zero, suc, ◌+◌, ◌≤◌, ◌<◌, refl, ap, arith, pos, cond, Bool, true, false}
 use Rattle.std.specs.Prelude.{nat_lt}
 use Rattle.std.proofs.lemmas.Int.{ints}
-use Rattle.std.proofs.lemmas.Bool.{cases_lt, leb-true, ltb-true, ltb-false, false≢true}
+use Rattle.std.proofs.lemmas.Bool.{ltb-true, ltb-false}
 use Rattle.jiff_core.specs.Calendar.{day_count, days_in_month, IsCivilDate}
-use Rattle.jiff_core.proofs.CalendarLemmas.{day_count-lt_year, day_count-lt_month, day_count-day, day_count-next_month, day_count-next_year, day_count-last_of_year, days_in_month_bounds}
-use Rattle.plant_types.specs.Moment.{is_date, days_since_2000}
+use Rattle.jiff_core.proofs.CalendarLemmas.{day_count-day, day_count-next_month, day_count-next_year, day_count-last_of_year, days_in_month_bounds}
+use Rattle.plant_types.proofs.Days.{day_count-2000, years}
 use Rattle.plant_report.specs.Moments.{Date, date_after}
-use Rattle.plant_report.proofs.Days.{day_count-2000, since-2000, high_of}
-
--- two dates of the calendar with the same day number are one
-pub record SameDate (y m d y' m' d' : ℕ) : Type 0 where
-  pub year : y ≡ y'
-  pub month : m ≡ m'
-  pub day : d ≡ d'
-
-same_year : (y m d y' m' d' : ℕ) → IsCivilDate (pos y) m d → IsCivilDate (pos y') m' d' → day_count (pos y) m d ≡ day_count (pos y') m' d' → (y < y') ⊎ (y' ≤ y) → (y' < y) ⊎ (y ≤ y') → y ≡ y'
-same_year y m d y' m' d' c c' e (inl lt) _ = absurd (omega (arith, e, day_count-lt_year (pos y) m d (pos y') m' d' c c'.2.0 (omega (arith, ints))))
-same_year y m d y' m' d' c c' e (inr le) (inl lt) = absurd (omega (arith, e, day_count-lt_year (pos y') m' d' (pos y) m d c' c.2.0 (omega (arith, ints))))
-same_year y m d y' m' d' c c' e (inr le) (inr le') = omega arith
-
-same_month : (y m d m' d' : ℕ) → IsCivilDate (pos y) m d → IsCivilDate (pos y) m' d' → day_count (pos y) m d ≡ day_count (pos y) m' d' → (m < m') ⊎ (m' ≤ m) → (m' < m) ⊎ (m ≤ m') → m ≡ m'
-same_month y m d m' d' c c' e (inl lt) _ = absurd (omega (arith, e, day_count-lt_month (pos y) m d m' d' c c'.2.0 lt))
-same_month y m d m' d' c c' e (inr le) (inl lt) = absurd (omega (arith, e, day_count-lt_month (pos y) m' d' m d c' c.2.0 lt))
-same_month y m d m' d' c c' e (inr le) (inr le') = omega arith
-
-same_day : (y m d d' : ℕ) → IsCivilDate (pos y) m d → IsCivilDate (pos y) m d' → day_count (pos y) m d ≡ day_count (pos y) m d' → d ≡ d'
-same_day y m d d' c c' e = omega (arith, e, day_count-day (pos y) m d d' c.2.0 c'.2.0)
-
-pub same_date : (y m d y' m' d' : ℕ) → IsCivilDate (pos y) m d → IsCivilDate (pos y') m' d' → day_count (pos y) m d ≡ day_count (pos y') m' d' → SameDate y m d y' m' d'
-same_date y m d y' m' d' c c' e =
-    let ey : y ≡ y' = same_year y m d y' m' d' c c' e (cases_lt y y') (cases_lt y' y) in
-    let c₁ : IsCivilDate (pos y) m' d' = subst (λ (v : ℕ). IsCivilDate (pos v) m' d') (sym ey) c' in
-    let e₁ : day_count (pos y) m d ≡ day_count (pos y) m' d' = e ∙ ap (λ v. day_count (pos v) m' d') (sym ey) in
-    let em : m ≡ m' = same_month y m d m' d' c c₁ e₁ (cases_lt m m') (cases_lt m' m) in
-    let c₂ : IsCivilDate (pos y) m d' = subst (λ (v : ℕ). IsCivilDate (pos y) v d') (sym em) c₁ in
-    let e₂ : day_count (pos y) m d ≡ day_count (pos y) m d' = e₁ ∙ ap (λ v. day_count (pos y) v d') (sym em) in
-    record { year = ey; month = em; day = same_day y m d d' c c₂ e₂ }
 
 -- the date n days after 2000-01-01
 pub record IsDateAfter (n : ℕ) (t : Date) : Type 0 where
@@ -79,42 +49,6 @@ date_after_is zero lt = record { low = omega arith; civil = ((omega (arith, ints
 date_after_is (suc n) lt =
     let before = date_after_is n (omega arith) in
     let t = date_after n in
-    let high = high_of t.year t.month t.day before.civil (omega (arith, before.count)) (cases_lt 2099 t.year) in
+    let of_year = years (pos t.year) t.month t.day before.civil (omega (arith, before.count)) (omega (arith, before.count)) in
+    let high : t.year ≤ 2099 = omega (arith, ints, of_year.is, of_year.high) in
     next_after n t.year t.month t.day lt before.low high before.civil before.count (nat_lt t.day (days_in_month (pos t.year) t.month)) (nat_lt t.month 12) refl refl
-
-and_left : (a b : Bool) → (a && b) ≡ true → a ≡ true
-and_left true b e = refl
-and_left false b e = e
-
-and_right : (a b : Bool) → (a && b) ≡ true → b ≡ true
-and_right true b e = e
-and_right false b e = absurd (false≢true e)
-
--- what the test says
-pub record IsDateOf (y m d : ℕ) : Type 0 where
-  pub low : 2000 ≤ y
-  pub high : y ≤ 2099
-  pub civil : IsCivilDate (pos y) m d
-
-pub date_of : (y m d : ℕ) → is_date y m d ≡ true → IsDateOf y m d
-date_of y m d e =
-    let e₁ = and_left _ _ e in
-    let e₂ = and_left _ _ e₁ in
-    let e₃ = and_left _ _ e₂ in
-    let e₄ = and_left _ _ e₃ in
-    let low : 2000 ≤ y = leb-true 2000 y (and_left _ _ e₄) in
-    let high : y ≤ 2099 = leb-true y 2099 (and_right _ _ e₄) in
-    record { low = low; high = high; civil = ((omega (arith, ints, low), omega (arith, ints, high)), (leb-true 1 m (and_right _ _ e₃), leb-true m 12 (and_right _ _ e₂)), (leb-true 1 d (and_right _ _ e₁), leb-true d (days_in_month (pos y) m) (and_right _ _ e))) }
-
--- the day number settles the date
-pub date_is : (n y m d : ℕ) → n < 36525 → is_date y m d ≡ true → days_since_2000 y m d ≡ n → record { year = y; month = m; day = d } ≡ date_after n
-date_is n y m d lt e days =
-    let mine = date_of y m d e in
-    let theirs = date_after_is n lt in
-    let t = date_after n in
-    let low = since-2000 y m d mine.low mine.civil.2.0 in
-    let same = same_date y m d t.year t.month t.day mine.civil theirs.civil (omega (arith, days, low, theirs.count, day_count-2000)) in
-    let ey = same.year in
-    let em = same.month in
-    let ed = same.day in
-    λ i. record { year = ey i; month = em i; day = ed i }

@@ -1,4 +1,4 @@
-pub mod Days
 pub mod Dates
 pub mod Written
-pub mod Lines
+pub mod ColumnLaws
+pub mod Examples

@@ -1,6 +1,7 @@
 -- The text of a moment, told from the calendar.
-use Rattle.std.specs.Prelude.{ℕ, zero, suc, ◌+◌, ◌/◌, ◌%◌, nat_lt, if◌then◌else◌, List, [], ◌∷◌, ◌++◌, pos, codes}
+use Rattle.std.specs.Prelude.{ℕ, zero, suc, ◌+◌, ◌/◌, ◌%◌, nat_lt, if◌then◌else◌, List, pos}
 use Rattle.jiff_core.specs.Calendar.{days_in_month}
+use Rattle.plant_types.specs.Spelling.{spelled}
 
 -- a day of the calendar
 pub record Date : Type 0 where
@@ -20,18 +21,8 @@ unfoldable pub date_after : ℕ → Date
 date_after zero = record { year = 2000; month = 1; day = 1 }
 date_after (suc n) = next_day (date_after n)
 
-abbrev pub two_digits : ℕ → List ℕ
-two_digits n = (48 + n / 10) ∷ (48 + n % 10) ∷ []
-
-abbrev pub four_digits : ℕ → List ℕ
-four_digits n = two_digits (n / 100) ++ two_digits (n % 100)
-
--- YYYY-MM-DDTHH:MM:SSZ
-abbrev pub spelled : Date → ℕ → ℕ → ℕ → List ℕ
-spelled date hour minute second =
-    four_digits date.year ++ codes "-" ++ two_digits date.month ++ codes "-" ++ two_digits date.day
-    ++ codes "T" ++ two_digits hour ++ codes ":" ++ two_digits minute ++ codes ":" ++ two_digits second ++ codes "Z"
-
--- the text of the moment so many seconds after 2000-01-01T00:00:00Z
+-- YYYY-MM-DDTHH:MM:SSZ, of the moment so many seconds after 2000-01-01T00:00:00Z
 unfoldable pub moment_text : ℕ → List ℕ
-moment_text n = spelled (date_after (n / 86400)) (n % 86400 / 3600) (n % 3600 / 60) (n % 60)
+moment_text n =
+    let date = date_after (n / 86400) in
+    spelled date.year date.month date.day (n % 86400 / 3600) (n % 3600 / 60) (n % 60)

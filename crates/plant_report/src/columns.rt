@@ -1,9 +1,10 @@
-ghost use Rattle.std.specs.Prelude.{◌≡◌, [], ◌∷◌, ◌++◌, OnOk, IfErr, decimal, replicate};
+ghost use Rattle.std.specs.Prelude.{◌≡◌, [], ◌∷◌, ◌++◌, OnOk, IfErr, ◌-◌, length, replicate};
 ghost use Rattle.plant_types.specs.declared.fault.Fault.TheVariants.{Memory};
-ghost use Rattle.plant_report.specs.Columns.{left, right};
+ghost use Rattle.plant_report.specs.Columns.{left, right, line as line_of};
+ghost use Rattle.plant_report.specs.Moments.{moment_text};
 
-use itoa::Buffer;
-use plant_types::Fault;
+use crate::moments;
+use plant_types::{Fault, Moment};
 
 /// Adds a column and the space after it.
 pub fn push_column(text: &mut Vec<u8>, column: &[u8]) -> Result<(), Fault>
@@ -20,29 +21,51 @@ pub fn push_left(text: &mut Vec<u8>, width: usize, column: &[u8]) -> Result<(), 
     ensures err { IfErr result (λ e. e ≡ Memory) }
 {
     text.extend_from_slice(column)?;
-    push_spaces(text, width.saturating_sub(column.len()))?;
+    push_padding(text, width, column)?;
     Ok(text.push(b' ')?)
 }
 
-/// Adds a number, filled up with spaces on the left, and the space after it.
-pub fn push_number(text: &mut Vec<u8>, width: usize, number: u64) -> Result<(), Fault>
-    ensures value { OnOk result (text.new.items ≡ text.old.items ++ (right width (decimal number) ++ 32 ∷ [])) }
+/// Adds a column, filled up with spaces on the left, and the space after it.
+pub fn push_right(text: &mut Vec<u8>, width: usize, column: &[u8]) -> Result<(), Fault>
+    ensures value { OnOk result (text.new.items ≡ text.old.items ++ (right width column.now ++ 32 ∷ [])) }
     ensures err { IfErr result (λ e. e ≡ Memory) }
 {
-    let mut buffer = Buffer::new();
-    let digits = buffer.format(number).as_bytes();
-    push_spaces(text, width.saturating_sub(digits.len()))?;
-    text.extend_from_slice(digits)?;
-    Ok(text.push(b' ')?)
+    push_padding(text, width, column)?;
+    push_column(text, column)
+}
+
+/// Adds a moment and the space after it.
+pub fn push_moment(text: &mut Vec<u8>, moment: Moment) -> Result<(), Fault>
+    ensures value { OnOk result (text.new.items ≡ text.old.items ++ (moment_text moment ++ 32 ∷ [])) }
+    ensures err { IfErr result (λ e. e ≡ Memory) }
+{
+    push_column(text, &moments::write(moment))
 }
 
 /// Adds the last column, and ends the line.
 pub fn push_last(text: &mut Vec<u8>, column: &[u8]) -> Result<(), Fault>
-    ensures value { OnOk result (text.new.items ≡ text.old.items ++ (column.now ++ 10 ∷ [])) }
+    ensures value { OnOk result (text.new.items ≡ text.old.items ++ line_of (column.now ∷ [])) }
     ensures err { IfErr result (λ e. e ≡ Memory) }
 {
     text.extend_from_slice(column)?;
     Ok(text.push(b'\n')?)
+}
+
+/// Adds the last column, filled up with spaces on the left, and ends the line.
+pub fn push_last_right(text: &mut Vec<u8>, width: usize, column: &[u8]) -> Result<(), Fault>
+    ensures value { OnOk result (text.new.items ≡ text.old.items ++ line_of (right width column.now ∷ [])) }
+    ensures err { IfErr result (λ e. e ≡ Memory) }
+{
+    push_padding(text, width, column)?;
+    push_last(text, column)
+}
+
+/// Adds the spaces that fill a column up.
+fn push_padding(text: &mut Vec<u8>, width: usize, column: &[u8]) -> Result<(), Fault>
+    ensures value { OnOk result (text.new.items ≡ text.old.items ++ replicate (width - length column.now) 32) }
+    ensures err { IfErr result (λ e. e ≡ Memory) }
+{
+    push_spaces(text, width.saturating_sub(column.len()))
 }
 
 fn push_spaces(text: &mut Vec<u8>, count: usize) -> Result<(), Fault>

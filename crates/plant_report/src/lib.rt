@@ -1,9 +1,17 @@
 //! The printed texts of a unit's rows, and floods of alarms.
 #![tactic(auto)]
 
+mod alarms;
 mod columns;
+mod flood_lines;
+mod heading;
+mod lines;
 mod moments;
 mod shelves;
 
+pub use alarms::{alarm_text, standing_text};
+pub use flood_lines::flood_text;
+pub use lines::{AlarmLine, FloodLine, MineLine, StandingLine};
 pub use moments::write as write_moment;
-pub use shelves::shelf_text;
+pub use plant_floods::{Run, floods};
+pub use shelves::{mine_text, shelf_text};

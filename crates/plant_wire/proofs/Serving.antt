@@ -1,6 +1,5 @@
 -- One run of answers after another is one run.
-use Rattle.std.proofs.Common.{◌≡◌, ◌⊎◌, ◌<◌, ◌≤◌, ℕ, ◌+◌, List, [], ◌∷◌, ◌++◌, length, take, drop, map, Option, Some, None, refl, sym, ap, subst, ◌∙◌, inl, inr, append_assoc, append-nil, arith}
-use Rattle.std.proofs.lemmas.List.{take_all}
+use Rattle.std.proofs.Common.{◌≡◌, ℕ, ◌+◌, List, [], ◌∷◌, ◌++◌, take, drop, map, Option, refl, sym, ap, subst, ◌∙◌, append_assoc, append-nil}
 use Rattle.std.specs.Prelude.{Result, Ok, Err}
 use Rattle.std.specs.Io.KnownBytes.{Appends}
 use Rattle.plant_model.specs.declared.call.Call.{Call}
@@ -9,9 +8,9 @@ use Rattle.plant_answer.specs.Answers.{text_of}
 use Rattle.plant_call.specs.Front.{Item, waits, whole, broken, StandsAtFront, Parsed}
 use Rattle.plant_call.specs.declared.causes.Cause.{Cause}
 use Rattle.plant_wire.specs.Causes.{cause_text}
-use Rattle.plant_wire.specs.Marks.{Mark, said, told, item_of, mark_text, out_of, calls_of, answers_of, Last, nothing, begun, breaking, last_text, last_marks}
+use Rattle.plant_wire.specs.Marks.{Mark, said, told, item_of, mark_text, out_of, calls_of, answers_of, nothing, begun, breaking, last_text, last_marks}
 use Rattle.plant_wire.specs.declared.step.Stop.{Stop}
-use Rattle.plant_wire.specs.Step.{IsPut, IsAnswer, Serves, ServesBroken, ServesPart, StandsLast}
+use Rattle.plant_wire.specs.Step.{IsPut, IsAnswer, Serves, ServesBroken, ServesPart}
 use Rattle.plant_wire.proofs.Growing.{Appends-none, Appends-append, drop-add}
 use Rattle.plant_wire.proofs.Running.{Joins}
 

@@ -1,10 +1,10 @@
-use Rattle.std.proofs.Common.{rules}
+use Rattle.std.proofs.Common.{rules, ◌∷◌, []}
 use Rattle.std.specs.Prelude.{decimal}
 use Rattle.std.proofs.lemmas.Result.{on_ok_weaker}
 use Rattle.plant_report.specs.Columns.{left, right}
 use Rattle.plant_report.specs.Moments.{moment_text}
 use Rattle.plant_report.specs.Texts.{kind_of}
-use Rattle.plant_report.proofs.Lines.{six_columns}
+use Rattle.plant_report.proofs.ColumnLaws.{column_then}
 use Rattle.plant_report.proofs.shelves.push_shelf.Goals as goal
 
 pub returns-clause-value : goal.returns-clause-value
@@ -12,7 +12,9 @@ returns-clause-value c =
     let l = c.args.line.now in
     on_ok_weaker _
     (λ last.
-    six_columns c.args.text.now.items c.push_left.new.text.items c.push_left-2.new.text.items c.push_column.new.text.items c.push_number.new.text.items c.push_left-3.new.text.items c.push_last.new.text.items
-    (left 24 l.tag) (left 8 (kind_of l.one_shot)) (moment_text l.start) (right 6 (decimal l.left)) (left 32 l.person) l.words
-    (search rules) (search rules) (search rules) (search rules) (search rules) (search rules))
+    column_then c.args.text.now.items c.push_left.new.text.items c.push_last.new.text.items (left 24 l.tag) (left 8 (kind_of l.one_shot)) (moment_text l.start ∷ right 6 (decimal l.left) ∷ left 32 l.person ∷ l.words ∷ []) (search rules)
+    (column_then c.push_left.new.text.items c.push_left-2.new.text.items c.push_last.new.text.items (left 8 (kind_of l.one_shot)) (moment_text l.start) (right 6 (decimal l.left) ∷ left 32 l.person ∷ l.words ∷ []) (search rules)
+    (column_then c.push_left-2.new.text.items c.push_moment.new.text.items c.push_last.new.text.items (moment_text l.start) (right 6 (decimal l.left)) (left 32 l.person ∷ l.words ∷ []) (search rules)
+    (column_then c.push_moment.new.text.items c.push_right.new.text.items c.push_last.new.text.items (right 6 (decimal l.left)) (left 32 l.person) (l.words ∷ []) (search rules)
+    (column_then c.push_right.new.text.items c.push_left-3.new.text.items c.push_last.new.text.items (left 32 l.person) (l.words) ([]) (search rules) (search rules))))))
     c.push_last.ensures.value

@@ -1,7 +1,7 @@
-use Rattle.std.proofs.Common.{◌∙◌, ap, sym, drop, refl, arith, inl, inr}
+use Rattle.std.proofs.Common.{◌∙◌, ap, sym, drop, refl, arith, inl}
 use Rattle.plant_wire.specs.Ran.{Ran}
 use Rattle.plant_wire.proofs.Running.{ran_none, ran_joins}
-use Rattle.plant_wire.proofs.Sessions.{stands_start, ends_closed, ends_cut, ends_failed, ends_fault, ends_part, ends_broken, ends_drop_fault, stands_next, some_left}
+use Rattle.plant_wire.proofs.Sessions.{stands_start, ends_cut, ends_failed, ends_fault, ends_part, ends_broken, ends_drop_fault, stands_next, some_left}
 use Rattle.plant_wire.proofs.reads.run_reads.Goals as goal
 
 pub reads-init : goal.reads-init

@@ -1,0 +1,192 @@
+-- What one more count does to the floods.
+use Rattle.std.proofs.Common.{◌≡◌, ℕ, ◌+◌, ◌<◌, ◌≤◌, refl, sym, ap, ◌∙◌, List, [], ◌∷◌, ◌++◌, length, map, Bool, true, false, cond, arith, ◌&&◌, ◌||◌, not, Option, Some, None, sum, append_assoc, subst, length-append, zero-add, take, get_or}
+use Rattle.std.specs.Prelude.{nat_lt, nat_le, filter_map, fold, max}
+use Rattle.std.specs.Option.{option_to_list}
+use Rattle.std.specs.List.{list_all, slice_split, cons_option}
+use Rattle.std.proofs.lemmas.List.{append-nil, map-append, take_more, take_all, length-take-le}
+use Rattle.std.proofs.lemmas.List.Sums.{fold-append, sum_by-append}
+use Rattle.std.proofs.lemmas.List.Elements.{filter_map-append}
+use Rattle.std.proofs.lemmas.Bool.{ltb-true, le-leb}
+use Rattle.plant_floods.specs.declared.run.Run.{Run}
+use Rattle.plant_floods.specs.Floods.{ends_in_flood, Period, period, periods_after, periods, run_of, floods}
+use Rattle.plant_floods.specs.Pass.{grown, next_runs}
+use Rattle.plant_floods.proofs.Splits.{split-yes, split-no}
+
+and_true : (b : Bool) → (b && true) ≡ b
+and_true true = refl
+and_true false = refl
+
+and_assoc : (a b c : Bool) → (a && (b && c)) ≡ ((a && b) && c)
+and_assoc true b c = refl
+and_assoc false b c = refl
+
+all-push : (p : ℕ → Bool) (xs : List ℕ) (c : ℕ) → list_all p (xs ++ c ∷ []) ≡ (list_all p xs && p c)
+all-push p [] c = and_true (p c)
+all-push p (x ∷ xs) c = ap (λ b. p x && b) (all-push p xs c) ∙ and_assoc (p x) (list_all p xs) (p c)
+
+-- the test of the last period, with one more
+joined_by : (b f e t : Bool) → ((b && f) || ((e && f) || t)) ≡ (((b || e) && f) || t)
+joined_by true true e t = refl
+joined_by true false true t = refl
+joined_by true false false t = refl
+joined_by false f e t = refl
+
+joined : (a b f e t : Bool) → ((a && (b && f)) || ((e && f) || t)) ≡ ((((a && b) || e) && f) || t)
+joined a b f e t = ap (λ x. x || ((e && f) || t)) (and_assoc a b f) ∙ joined_by (a && b) f e t
+
+alone : (t f : Bool) → (t ≡ true → f ≡ true) → ((t && (f && true)) || false) ≡ t
+alone true true h = refl
+alone true false h = h refl
+alone false f h = refl
+
+pub ends-push : (xs : List ℕ) (c : ℕ) → ends_in_flood (xs ++ c ∷ []) ≡ ((ends_in_flood xs && nat_le 5 c) || nat_lt 10 c)
+ends-push [] c = alone (nat_lt 10 c) (nat_le 5 c) (λ h. le-leb 5 c (omega (arith, ltb-true 10 c h)))
+ends-push (x ∷ xs) c =
+    ap (λ b. (nat_lt 10 x && (nat_le 5 x && b)) || ends_in_flood (xs ++ c ∷ [])) (all-push (nat_le 5) xs c)
+    ∙ ap (λ b. (nat_lt 10 x && b) || ends_in_flood (xs ++ c ∷ [])) (and_assoc (nat_le 5 x) (list_all (nat_le 5) xs) (nat_le 5 c))
+    ∙ ap (λ b. (nat_lt 10 x && ((nat_le 5 x && list_all (nat_le 5) xs) && nat_le 5 c)) || b) (ends-push xs c)
+    ∙ joined (nat_lt 10 x) (nat_le 5 x && list_all (nat_le 5) xs) (nat_le 5 c) (ends_in_flood xs) (nat_lt 10 c)
+
+periods_after-push : (before xs : List ℕ) (c : ℕ) → periods_after before (xs ++ c ∷ []) ≡ periods_after before xs ++ period (before ++ xs) c ∷ []
+periods_after-push before [] c = ap (λ l. period l c ∷ []) (sym (append-nil before))
+periods_after-push before (x ∷ xs) c =
+    ap (λ l. period before x ∷ l) (periods_after-push (before ++ x ∷ []) xs c)
+    ∙ ap (λ l. period before x ∷ (periods_after (before ++ x ∷ []) xs ++ period l c ∷ [])) (append_assoc before (x ∷ []) xs)
+
+pub periods-push : (xs : List ℕ) (c : ℕ) → periods (xs ++ c ∷ []) ≡ periods xs ++ period xs c ∷ []
+periods-push xs c = periods_after-push [] xs c
+
+abbrev out : Period → Bool
+out p = not p.in_flood
+
+abbrev is_some_list : List Period → Bool
+is_some_list [] = false
+is_some_list (p ∷ ps) = true
+
+-- the last run reaches to the last of n periods
+abbrev Reaches : ℕ → List Period → Type 0
+Reaches n [] = Unit {0}
+Reaches n (p ∷ ps) = p.number + length ps + 1 ≡ n
+
+-- these counts leave these runs, and this one open
+pub record Passed (xs : List ℕ) (runs : List Run) (current : Option Run) : Type 0 where
+  pub done : List (List Period)
+  pub cur : List Period
+  pub parts : slice_split out (periods xs) ≡ done ++ cur ∷ []
+  pub runs_are : runs ≡ filter_map run_of done
+  pub current_is : current ≡ run_of cur
+  pub flag : ends_in_flood xs ≡ is_some_list cur
+  pub reaches : Reaches (length xs) cur
+
+pub passed_none : Passed [] [] None
+passed_none = record { done = []; cur = []; parts = refl; runs_are = refl; current_is = refl; flag = refl; reaches = tt }
+
+cons_nil : (o : Option Run) → cons_option o [] ≡ option_to_list o
+cons_nil None = refl
+cons_nil (Some r) = refl
+
+two : (a b : List Run) (o q : Option Run) → a ≡ b → o ≡ q → b ++ option_to_list q ≡ a ++ option_to_list o
+two a b o q e f = cc
+
+pub passed_all : (xs : List ℕ) (runs : List Run) (current : Option Run) → Passed xs runs current → floods xs ≡ runs ++ option_to_list current
+unfolding floods
+passed_all xs runs current h =
+    ap (filter_map run_of) h.parts ∙ filter_map-append run_of h.done (h.cur ∷ []) ∙ ap (λ l. filter_map run_of h.done ++ l) (cons_nil (run_of h.cur)) ∙ two runs (filter_map run_of h.done) current (run_of h.cur) h.runs_are h.current_is
+
+abbrev the_run : ℕ → ℕ → ℕ → ℕ → Option Run
+the_run first last total peak = Some (record { first = first; last = last; total = total; peak = peak })
+
+sum_is : (xs : List ℕ) (c : ℕ) → sum xs + c ≡ sum (xs ++ c ∷ [])
+sum_is xs c = sym (sum_by-append (λ x. x) xs (c ∷ []) ∙ ap (λ n. sum xs + n) (zero-add c))
+
+fold_is : (xs : List ℕ) (c : ℕ) → max (fold max 0 xs) c ≡ fold max 0 (xs ++ c ∷ [])
+fold_is xs c = sym (fold-append max 0 xs (c ∷ []))
+
+run_is : (first : ℕ) {last total peak last' total' peak' : ℕ} → last ≡ last' → total ≡ total' → peak ≡ peak' → the_run first last total peak ≡ the_run first last' total' peak'
+run_is first p q r = cc
+
+not_is : (b d : Bool) → b ≡ d → not b ≡ not d
+not_is b d e = ap not e
+
+length-push : (xs : List ℕ) (c : ℕ) → length (xs ++ c ∷ []) ≡ length xs + 1
+length-push xs c = omega (arith, length-append xs (c ∷ []))
+
+length-end : (ps : List Period) (p : Period) → length (ps ++ p ∷ []) ≡ length ps + 1
+length-end ps p = omega (arith, length-append ps (p ∷ []))
+
+-- no run is open
+begin : (xs : List ℕ) (c : ℕ) (done : List (List Period)) → slice_split out (periods xs) ≡ done ++ [] ∷ [] → (b : Bool) → ends_in_flood (xs ++ c ∷ []) ≡ b
+    → Passed (xs ++ c ∷ []) (next_runs (filter_map run_of done) None (cond b (the_run (length xs) (length xs) c c) None)) (cond b (the_run (length xs) (length xs) c c) None)
+begin xs c done e true t =
+    record {
+      done = done;
+      cur = period xs c ∷ [];
+      parts = ap (slice_split out) (periods-push xs c) ∙ split-no out (periods xs) (period xs c) done [] (not_is _ true t) e;
+      runs_are = refl;
+      current_is = run_is (length xs) (omega arith) (omega arith) (omega arith);
+      flag = t;
+      reaches = omega (arith, length-push xs c);
+    }
+begin xs c done e false t =
+    record {
+      done = done ++ [] ∷ [];
+      cur = [];
+      parts = ap (slice_split out) (periods-push xs c) ∙ split-yes out (periods xs) (period xs c) (not_is _ false t) ∙ ap (λ l. l ++ [] ∷ []) e;
+      runs_are = sym (filter_map-append run_of done ([] ∷ []));
+      current_is = refl;
+      flag = t;
+      reaches = tt;
+    }
+
+-- one is
+go_on : (xs : List ℕ) (c : ℕ) (done : List (List Period)) (p : Period) (ps : List Period) → slice_split out (periods xs) ≡ done ++ (p ∷ ps) ∷ [] → p.number + length ps + 1 ≡ length xs
+    → (b : Bool) → ends_in_flood (xs ++ c ∷ []) ≡ b
+    → Passed (xs ++ c ∷ []) (next_runs (filter_map run_of done) (run_of (p ∷ ps)) (cond b (the_run p.number (length xs) (sum (map (λ q. q.count) (p ∷ ps)) + c) (max (fold max 0 (map (λ q. q.count) (p ∷ ps))) c)) None))
+    (cond b (the_run p.number (length xs) (sum (map (λ q. q.count) (p ∷ ps)) + c) (max (fold max 0 (map (λ q. q.count) (p ∷ ps))) c)) None)
+go_on xs c done p ps e r true t =
+    let counts = map-append (λ (q : Period). q.count) (p ∷ ps) (period xs c ∷ []) in
+    record {
+      done = done;
+      cur = p ∷ (ps ++ period xs c ∷ []);
+      parts = ap (slice_split out) (periods-push xs c) ∙ split-no out (periods xs) (period xs c) done (p ∷ ps) (not_is _ true t) e;
+      runs_are = refl;
+      current_is = run_is p.number (omega (arith, r, length-end ps (period xs c))) (sum_is (map (λ q. q.count) (p ∷ ps)) c ∙ ap sum (sym counts)) (fold_is (map (λ q. q.count) (p ∷ ps)) c ∙ ap (fold max 0) (sym counts));
+      flag = t;
+      reaches = omega (arith, r, length-push xs c, length-end ps (period xs c));
+    }
+go_on xs c done p ps e r false t =
+    record {
+      done = done ++ (p ∷ ps) ∷ [];
+      cur = [];
+      parts = ap (slice_split out) (periods-push xs c) ∙ split-yes out (periods xs) (period xs c) (not_is _ false t) ∙ ap (λ l. l ++ [] ∷ []) e;
+      runs_are = sym (filter_map-append run_of done ((p ∷ ps) ∷ []));
+      current_is = refl;
+      flag = t;
+      reaches = tt;
+    }
+
+or_below : (f t : Bool) → (t ≡ true → f ≡ true) → (f || t) ≡ f
+or_below true t h = refl
+or_below false true h = sym (h refl)
+or_below false false h = refl
+
+more_by : (xs : List ℕ) (c : ℕ) (done : List (List Period)) (cur : List Period) → slice_split out (periods xs) ≡ done ++ cur ∷ [] → ends_in_flood xs ≡ is_some_list cur → Reaches (length xs) cur
+    → Passed (xs ++ c ∷ []) (next_runs (filter_map run_of done) (run_of cur) (grown (run_of cur) (length xs) c)) (grown (run_of cur) (length xs) c)
+more_by xs c done [] e f r = begin xs c done e (nat_lt 10 c) (ends-push xs c ∙ ap (λ b. (b && nat_le 5 c) || nat_lt 10 c) f)
+more_by xs c done (p ∷ ps) e f r = go_on xs c done p ps e r (nat_le 5 c) (ends-push xs c ∙ ap (λ b. (b && nat_le 5 c) || nat_lt 10 c) f ∙ or_below (nat_le 5 c) (nat_lt 10 c) (λ h. le-leb 5 c (omega (arith, ltb-true 10 c h))))
+
+pub passed_more : (xs : List ℕ) (c : ℕ) (runs : List Run) (current : Option Run) → Passed xs runs current → Passed (xs ++ c ∷ []) (next_runs runs current (grown current (length xs) c)) (grown current (length xs) c)
+passed_more xs c runs current h =
+    subst (λ (r : List Run). Passed (xs ++ c ∷ []) (next_runs r current (grown current (length xs) c)) (grown current (length xs) c)) (sym h.runs_are)
+    (subst (λ (o : Option Run). Passed (xs ++ c ∷ []) (next_runs (filter_map run_of h.done) o (grown o (length xs) c)) (grown o (length xs) c)) (sym h.current_is)
+    (more_by xs c h.done h.cur h.parts h.flag h.reaches))
+
+pub passed_next : (counts : List ℕ) (i : ℕ) (runs : List Run) (current : Option Run) → i < length counts → Passed (take i counts) runs current
+    → Passed (take (i + 1) counts) (next_runs runs current (grown current i (get_or counts i 0))) (grown current i (get_or counts i 0))
+passed_next counts i runs current lt h =
+    let e : length (take i counts) ≡ i = length-take-le i counts (omega arith) in
+    let c = get_or counts i 0 in
+    rw (take_more counts i 0 lt) (subst (λ (n : ℕ). Passed (take i counts ++ c ∷ []) (next_runs runs current (grown current n c)) (grown current n c)) e (passed_more (take i counts) c runs current h))
+
+pub passed_whole : (counts : List ℕ) (i : ℕ) (runs : List Run) (current : Option Run) → length counts ≤ i → Passed (take i counts) runs current → runs ++ option_to_list current ≡ floods counts
+passed_whole counts i runs current le h = sym (passed_all (take i counts) runs current h) ∙ ap floods (take_all i counts le)

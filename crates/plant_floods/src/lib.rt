@@ -1,0 +1,8 @@
+//! Floods of alarms: the periods in which alarms come faster than an operator can manage.
+#![tactic(auto)]
+
+mod pass;
+mod run;
+
+pub use pass::floods;
+pub use run::Run;

@@ -1,0 +1,114 @@
+ghost use Rattle.std.specs.Prelude.{◌≡◌, ◌+◌, ◌*◌, ◌≤◌, IfOk, IfErr, IfSome, OnOk, ◌++◌};
+ghost use Rattle.std.specs.Option.{option_to_list};
+ghost use Rattle.plant_types.specs.declared.fault.Fault.TheVariants.{Memory};
+ghost use Rattle.plant_floods.specs.Floods as floods_of;
+ghost use Rattle.plant_floods.specs.Pass as pass;
+ghost use Rattle.plant_floods.specs.Pass.{next_runs};
+
+use crate::Run;
+use plant_types::Fault;
+use std::alloc::Global;
+
+/// The floods among periods of ten minutes, in order of time. The counts are the activations of each period.
+pub fn floods(alloc: Global, counts: &[u32]) -> Result<Vec<Run>, Fault>
+    ensures value { IfOk result (λ runs. runs.items ≡ floods_of.floods counts.now) }
+    ensures err { IfErr result (λ e. e ≡ Memory) }
+{
+    let mut runs = Vec::new(alloc);
+    let mut current = None;
+    for (i, count) in counts.iter().enumerate() {
+        let next = grown(current, i, *count);
+        close(&mut runs, current, &next)?;
+        current = next;
+    }
+    push_some(&mut runs, current)?;
+    Ok(runs)
+}
+
+/// Adds the run, if there is one.
+fn push_some(runs: &mut Vec<Run>, current: Option<Run>) -> Result<(), Fault>
+    ensures value { OnOk result (runs.new.items ≡ runs.old.items ++ option_to_list current) }
+    ensures err { IfErr result (λ e. e ≡ Memory) }
+{
+    if let Some(run) = current {
+        runs.push(run)?;
+    }
+    Ok(())
+}
+
+/// Closes the open run where none goes on.
+fn close(runs: &mut Vec<Run>, current: Option<Run>, next: &Option<Run>) -> Result<(), Fault>
+    ensures value { OnOk result (runs.new.items ≡ next_runs runs.old.items current next.now) }
+    ensures err { IfErr result (λ e. e ≡ Memory) }
+{
+    if next.is_none() {
+        push_some(runs, current)?;
+    }
+    Ok(())
+}
+
+/// The open run after one more period: it goes on from 5 activations on, and one begins above 10.
+fn grown(current: Option<Run>, i: usize, count: u32) -> Option<Run>
+    requires room { IfSome current (λ r. r.total ≤ 4294967295 * i) }
+    ensures value { result ≡ pass.grown current i count }
+    ensures room { IfSome result (λ r. r.total ≤ 4294967295 * (i + 1)) }
+{
+    match current {
+        None => {
+            if count > 10 {
+                Some(Run {
+                    first: i,
+                    last: i,
+                    total: u128::from(count),
+                    peak: count,
+                })
+            } else {
+                None
+            }
+        }
+        Some(run) => {
+            if count >= 5 {
+                Some(Run {
+                    first: run.first,
+                    last: i,
+                    total: run.total + u128::from(count),
+                    peak: run.peak.max(count),
+                })
+            } else {
+                None
+            }
+        }
+    }
+}
+
+#[cfg(test)]
+mod tests {
+    use super::*;
+    use std::test::Fail;
+
+    #[test]
+    fn finds_two_floods(rt: HostRuntime) -> Result<(), Fail> {
+        let runs = floods(rt.alloc(), &[11, 5, 4, 10, 12])?;
+        let first = Run {
+            first: 0,
+            last: 1,
+            total: 16,
+            peak: 11,
+        };
+        let second = Run {
+            first: 4,
+            last: 4,
+            total: 12,
+            peak: 12,
+        };
+        assert_eq!(rt; runs.as_slice(), [first, second].as_slice());
+        Ok(())
+    }
+
+    #[test]
+    fn finds_none(rt: HostRuntime) -> Result<(), Fail> {
+        assert!(rt; floods(rt.alloc(), &[])?.is_empty());
+        assert!(rt; floods(rt.alloc(), &[10, 9, 5, 10])?.is_empty());
+        Ok(())
+    }
+}

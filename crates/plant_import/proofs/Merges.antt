@@ -1,0 +1,281 @@
+-- What a file's rows add, one row more at a time.
+use Rattle.std.proofs.Common.{◌≡◌, ℕ, ◌+◌, ◌-◌, ◌<◌, ◌≤◌, refl, sym, ap, ◌∙◌, subst, arith, List, [], ◌∷◌, ◌++◌, length, take, drop, get_or, Bool, true, false, cond, ◌||◌, not, Option, Some, None, Ok, Err, append_assoc, length-append}
+use Rattle.std.specs.Prelude.{option_map, Result, nat_lt}
+use Rattle.std.proofs.lemmas.List.{append-nil, take_more, take_all, length-take-le, take-append-drop}
+use Rattle.plant_types.specs.Names.{Name, same_name}
+use Rattle.plant_types.specs.Options.{or_else}
+use Rattle.plant_alarm.specs.declared.event.Event.{Event}
+use Rattle.plant_alarm.proofs.Push.{passing-push}
+use Rattle.plant_import.specs.declared.bad_file.BadFile.{BadFile}
+use Rattle.plant_import.specs.declared.bad_file.Cause.{Cause}
+use Rattle.plant_import.specs.declared.merging.Merged.{Merged}
+use Rattle.plant_import.specs.Reading.{bad}
+use Rattle.std.specs.List.{list_any, insert}
+use Rattle.std.proofs.lemmas.List.Sorted.{list_any-IsPermutation, IsPermutation-insert}
+use Rattle.plant_import.specs.Fields.{first_cause}
+use Rattle.plant_import.proofs.Nearest.{same_any}
+use Rattle.std.proofs.lemmas.Bool.{lt-ltb, le-ltb}
+use Rattle.std.proofs.lemmas.List.Folds.{list_any-append}
+use Rattle.plant_import.specs.declared.bad_file.Cause.TheVariants.{TagUnknown, MomentAhead, SequenceClash, MomentOutOfOrder}
+use Rattle.plant_import.specs.declared.standing.Standing.{Standing}
+use Rattle.plant_import.specs.declared.standing.Standing.TheVariants.{New, Known, Clash, OutOfOrder}
+use Rattle.plant_import.specs.Standing.{StandsSo, Stands, IsJudged, joined}
+use Rattle.plant_import.specs.Merging.{IsRising, same_event, clashes, out_of_order, merge_fault, first_fault, is_new, fresh, merged_or, merge}
+
+or_else-assoc : {A : Type 0} (a b c : Option A) → or_else (or_else a b) c ≡ or_else a (or_else b c)
+or_else-assoc None b c = refl
+or_else-assoc (Some x) b c = refl
+
+or_none : {A : Type 0} (a : Option A) → or_else a None ≡ a
+or_none None = refl
+or_none (Some x) = refl
+
+first_fault-append : (tags : List Name) (now line : ℕ) (others xs ys : List Event) → first_fault tags now line others (xs ++ ys) ≡ or_else (first_fault tags now line others xs) (first_fault tags now (line + length xs) (others ++ xs) ys)
+first_fault-append tags now line others [] ys =
+    let e : line ≡ line + 0 = omega arith in
+    ap (λ n. first_fault tags now n others ys) e ∙ ap (λ l. first_fault tags now (line + 0) l ys) (sym (append-nil others))
+first_fault-append tags now line others (x ∷ xs) ys =
+    let e : line + 1 + length xs ≡ line + length (x ∷ xs) = omega arith in
+    ap (or_else (option_map (bad line) (merge_fault tags now others x)))
+    (first_fault-append tags now (line + 1) (others ++ x ∷ []) xs ys
+    ∙ ap (λ n. or_else (first_fault tags now (line + 1) (others ++ x ∷ []) xs) (first_fault tags now n ((others ++ x ∷ []) ++ xs) ys)) e
+    ∙ ap (λ l. or_else (first_fault tags now (line + 1) (others ++ x ∷ []) xs) (first_fault tags now (line + length (x ∷ xs)) l ys)) (append_assoc others (x ∷ []) xs))
+    ∙ sym (or_else-assoc (option_map (bad line) (merge_fault tags now others x)) (first_fault tags now (line + 1) (others ++ x ∷ []) xs) (first_fault tags now (line + length (x ∷ xs)) (others ++ x ∷ xs) ys))
+
+-- the rows so far have no fault, and add these
+pub record HasMerged (tags : List Name) (now : ℕ) (kept rows new : List Event) (repeated : ℕ) : Type 0 where
+  pub none : first_fault tags now 2 kept rows ≡ None
+  pub new_are : new ≡ fresh kept rows
+  pub count : repeated + length new ≡ length rows
+
+pub merged_none : (tags : List Name) (now : ℕ) (kept : List Event) → HasMerged tags now kept [] [] 0
+merged_none tags now kept = record { none = refl; new_are = refl; count = refl }
+
+no_fault_more : (tags : List Name) (now : ℕ) (kept rows : List Event) (e : Event) → first_fault tags now 2 kept rows ≡ None → merge_fault tags now (kept ++ rows) e ≡ None → first_fault tags now 2 kept (rows ++ e ∷ []) ≡ None
+no_fault_more tags now kept rows e none here =
+    first_fault-append tags now 2 kept rows (e ∷ []) ∙ ap (λ o. or_else o (first_fault tags now (2 + length rows) (kept ++ rows) (e ∷ []))) none ∙ or_none _ ∙ ap (option_map (bad (2 + length rows))) here
+
+new_more : (kept rows : List Event) (e : Event) (b : Bool) → is_new (kept ++ rows) e ≡ b → fresh kept (rows ++ e ∷ []) ≡ fresh kept rows ++ cond b (e ∷ []) []
+new_more kept rows e b is = passing-push is_new kept rows e ∙ ap (λ b. fresh kept rows ++ cond b (e ∷ []) []) is
+
+pub merged_new : (tags : List Name) (now : ℕ) (kept rows new : List Event) (repeated : ℕ) (e : Event) → HasMerged tags now kept rows new repeated → merge_fault tags now (kept ++ rows) e ≡ None → is_new (kept ++ rows) e ≡ true
+    → HasMerged tags now kept (rows ++ e ∷ []) (new ++ e ∷ []) repeated
+merged_new tags now kept rows new repeated e h none is =
+    record {
+      none = no_fault_more tags now kept rows e h.none none;
+      new_are = ap (λ l. l ++ e ∷ []) h.new_are ∙ sym (new_more kept rows e true is);
+      count = omega (arith, h.count, length-append new (e ∷ []), length-append rows (e ∷ []));
+    }
+
+pub merged_repeated : (tags : List Name) (now : ℕ) (kept rows new : List Event) (repeated : ℕ) (e : Event) → HasMerged tags now kept rows new repeated → merge_fault tags now (kept ++ rows) e ≡ None → is_new (kept ++ rows) e ≡ false
+    → HasMerged tags now kept (rows ++ e ∷ []) new (repeated + 1)
+merged_repeated tags now kept rows new repeated e h none is =
+    record {
+      none = no_fault_more tags now kept rows e h.none none;
+      new_are = h.new_are ∙ sym (new_more kept rows e false is ∙ append-nil (fresh kept rows));
+      count = omega (arith, h.count, length-append rows (e ∷ []));
+    }
+
+pub merged_fault : (tags : List Name) (now : ℕ) (kept rows rest new : List Event) (repeated : ℕ) (e : Event) (cause : Cause) → HasMerged tags now kept rows new repeated → merge_fault tags now (kept ++ rows) e ≡ Some cause
+    → merge kept (rows ++ e ∷ rest) tags now ≡ Err (bad (2 + length rows) cause)
+unfolding merge
+merged_fault tags now kept rows rest new repeated e cause h is =
+    let fault : first_fault tags now 2 kept (rows ++ e ∷ rest) ≡ Some (bad (2 + length rows) cause) =
+    first_fault-append tags now 2 kept rows (e ∷ rest) ∙ ap (λ o. or_else o (first_fault tags now (2 + length rows) (kept ++ rows) (e ∷ rest))) h.none
+    ∙ ap (λ o. or_else (option_map (bad (2 + length rows)) o) (first_fault tags now (2 + length rows + 1) ((kept ++ rows) ++ e ∷ []) rest)) is in
+    ap (λ o. merged_or o kept (rows ++ e ∷ rest)) fault
+
+abbrev adds : List Event → ℕ → Result Merged BadFile
+adds new repeated = Ok (record { fresh = new; repeated = repeated })
+
+pub merged_whole : (tags : List Name) (now : ℕ) (kept rows new : List Event) (repeated : ℕ) → HasMerged tags now kept rows new repeated → merge kept rows tags now ≡ Ok (record { fresh = new; repeated = repeated })
+unfolding merge
+merged_whole tags now kept rows new repeated h =
+    let count : length rows - length (fresh kept rows) ≡ repeated = omega (arith, h.count, ap length h.new_are) in
+    ap (λ o. merged_or o kept rows) h.none ∙ both (sym h.new_are) count
+  where
+    both : {a b : List Event} {m n : ℕ} → a ≡ b → m ≡ n → adds a m ≡ adds b n
+    both p q = cc
+
+-- the fault of a row among other events, where it stands so to them
+unknown_tag : (tags : List Name) (now : ℕ) (others : List Event) (e : Event) → list_any (same_name e.tag) tags ≡ false → merge_fault tags now others e ≡ Some TagUnknown
+unfolding merge_fault
+unknown_tag tags now others e tag = rw tag refl
+
+ahead : (tags : List Name) (now : ℕ) (others : List Event) (e : Event) → list_any (same_name e.tag) tags ≡ true → now < e.moment → merge_fault tags now others e ≡ Some MomentAhead
+unfolding merge_fault
+ahead tags now others e tag lt = rw (tag, lt-ltb now e.moment lt) refl
+
+clash : (tags : List Name) (now : ℕ) (others : List Event) (e : Event) → list_any (same_name e.tag) tags ≡ true → e.moment ≤ now → list_any (clashes e) others ≡ true → merge_fault tags now others e ≡ Some SequenceClash
+unfolding merge_fault
+clash tags now others e tag le is = rw (tag, le-ltb now e.moment le, is) refl
+
+disorder : (tags : List Name) (now : ℕ) (others : List Event) (e : Event) (same : Bool) → list_any (same_name e.tag) tags ≡ true → e.moment ≤ now → StandsSo others e same false true → merge_fault tags now others e ≡ Some MomentOutOfOrder
+unfolding merge_fault
+disorder tags now others e same tag le is = rw (tag, le-ltb now e.moment le, is.clash_is, is.order_is) refl
+
+in_order : (tags : List Name) (now : ℕ) (others : List Event) (e : Event) (same : Bool) → list_any (same_name e.tag) tags ≡ true → e.moment ≤ now → StandsSo others e same false false → merge_fault tags now others e ≡ None
+unfolding merge_fault
+in_order tags now others e same tag le is = rw (tag, le-ltb now e.moment le, is.clash_is, is.order_is) refl
+
+-- how it stands to two lists one after the other
+both : (kept fresh : List Event) (e : Event) (a b c a' b' c' : Bool) → StandsSo kept e a b c → StandsSo fresh e a' b' c' → StandsSo (kept ++ fresh) e (a || a') (b || b') (c || c')
+both kept fresh e a b c a' b' c' h k =
+    record {
+      same_is = list_any-append (same_event e) kept fresh ∙ two h.same_is k.same_is;
+      clash_is = list_any-append (clashes e) kept fresh ∙ two h.clash_is k.clash_is;
+      order_is = list_any-append (out_of_order e) kept fresh ∙ two h.order_is k.order_is;
+    }
+  where
+    two : {x y x' y' : Bool} → x ≡ x' → y ≡ y' → (x || y) ≡ (x' || y')
+    two p q = cc
+
+or_true : (b : Bool) → (b || true) ≡ true
+or_true true = refl
+or_true false = refl
+
+clash_first : (kept fresh : List Event) (e : Event) → list_any (clashes e) kept ≡ true → list_any (clashes e) (kept ++ fresh) ≡ true
+clash_first kept fresh e h = list_any-append (clashes e) kept fresh ∙ ap (λ b. b || list_any (clashes e) fresh) h
+
+clash_second : (kept fresh : List Event) (e : Event) → list_any (clashes e) fresh ≡ true → list_any (clashes e) (kept ++ fresh) ≡ true
+clash_second kept fresh e h = list_any-append (clashes e) kept fresh ∙ ap (λ b. list_any (clashes e) kept || b) h ∙ or_true (list_any (clashes e) kept)
+
+pub judged_unknown : (tags : List Name) (now : ℕ) (kept fresh : List Event) (e : Event) → list_any (same_name e.tag) tags ≡ false → IsJudged tags now kept fresh e (Err TagUnknown)
+judged_unknown tags now kept fresh e tag = unknown_tag tags now (kept ++ fresh) e tag
+
+pub judged_ahead : (tags : List Name) (now : ℕ) (kept fresh : List Event) (e : Event) → list_any (same_name e.tag) tags ≡ true → now < e.moment → IsJudged tags now kept fresh e (Err MomentAhead)
+judged_ahead tags now kept fresh e tag lt = ahead tags now (kept ++ fresh) e tag lt
+
+module _ (tags : List Name) (now : ℕ) (kept fresh : List Event) (e : Event) (tag : list_any (same_name e.tag) tags ≡ true) (le : e.moment ≤ now) where
+  abbrev others : List Event
+  others = kept ++ fresh
+
+  pub judged_so : (k f : Standing) → Stands kept e k → Stands fresh e f → IsJudged tags now kept fresh e (joined k f)
+  judged_so Clash f h g = clash tags now others e tag le (clash_first kept fresh e h)
+  judged_so (New place) Clash h g = clash tags now others e tag le (clash_second kept fresh e g)
+  judged_so Known Clash h g = clash tags now others e tag le (clash_second kept fresh e g)
+  judged_so OutOfOrder Clash h g = clash tags now others e tag le (clash_second kept fresh e g)
+  judged_so OutOfOrder (New place) h g = disorder tags now others e false tag le (both kept fresh e false false true false false false h g.0)
+  judged_so OutOfOrder Known h g = disorder tags now others e true tag le (both kept fresh e false false true true false false h g)
+  judged_so OutOfOrder OutOfOrder h g = disorder tags now others e false tag le (both kept fresh e false false true false false true h g)
+  judged_so (New place) OutOfOrder h g = disorder tags now others e false tag le (both kept fresh e false false false false false true h.0 g)
+  judged_so Known OutOfOrder h g = disorder tags now others e true tag le (both kept fresh e true false false false false true h g)
+  judged_so (New place) (New at) h g =
+      let is = both kept fresh e false false false false false false h.0 g.0 in
+      (in_order tags now others e false tag le is, ap not is.same_is, g.1)
+  judged_so (New place) Known h g =
+      let is = both kept fresh e false false false true false false h.0 g in
+      (in_order tags now others e true tag le is, ap not is.same_is)
+  judged_so Known (New at) h g =
+      let is = both kept fresh e true false false false false false h g.0 in
+      (in_order tags now others e true tag le is, ap not is.same_is)
+  judged_so Known Known h g =
+      let is = both kept fresh e true false false true false false h g in
+      (in_order tags now others e true tag le is, ap not is.same_is)
+
+-- the new rows stand for all rows so far: a test finds the same among both, beside the kept events
+abbrev pub Alike : List Event → List Event → List Event → Type 0
+Alike kept fresh rows = (p : Event → Bool) → list_any p (kept ++ fresh) ≡ list_any p (kept ++ rows)
+
+-- the rows so far have merged, and the new ones stand in rising number
+pub record MergedSo (tags : List Name) (now : ℕ) (kept rows new rising : List Event) (repeated : ℕ) : Type 0 where
+  pub merged : HasMerged tags now kept rows new repeated
+  pub rises : IsRising rising
+  pub alike : Alike kept rising rows
+
+pub so_none : (tags : List Name) (now : ℕ) (kept : List Event) → MergedSo tags now kept [] [] [] 0
+so_none tags now kept = record { merged = merged_none tags now kept; rises = λ i j d lt le. absurd (omega arith); alike = λ p. refl }
+
+fault_alike : (tags : List Name) (now : ℕ) (kept rising rows : List Event) (e : Event) → Alike kept rising rows → merge_fault tags now (kept ++ rising) e ≡ merge_fault tags now (kept ++ rows) e
+unfolding merge_fault
+fault_alike tags now kept rising rows e alike =
+    ap (λ b. first_cause ((not (list_any (same_name e.tag) tags), TagUnknown) ∷ (nat_lt now e.moment, MomentAhead) ∷ (b, SequenceClash) ∷ (list_any (out_of_order e) (kept ++ rising), MomentOutOfOrder) ∷ [])) (alike (clashes e))
+    ∙ ap (λ b. first_cause ((not (list_any (same_name e.tag) tags), TagUnknown) ∷ (nat_lt now e.moment, MomentAhead) ∷ (list_any (clashes e) (kept ++ rows), SequenceClash) ∷ (b, MomentOutOfOrder) ∷ [])) (alike (out_of_order e))
+
+one_more : (p : Event → Bool) (kept rows : List Event) (e : Event) → list_any p (kept ++ (rows ++ e ∷ [])) ≡ (list_any p (kept ++ rows) || (p e || false))
+one_more p kept rows e = ap (list_any p) (sym (append_assoc kept rows (e ∷ []))) ∙ list_any-append p (kept ++ rows) (e ∷ [])
+
+moved : (k e r : Bool) → (k || (e || r)) ≡ ((k || r) || (e || false))
+moved true e r = refl
+moved false true true = refl
+moved false true false = refl
+moved false false true = refl
+moved false false false = refl
+
+alike_new : (kept rising rows : List Event) (e : Event) (place : ℕ) → Alike kept rising rows → Alike kept (insert rising place e) (rows ++ e ∷ [])
+alike_new kept rising rows e place alike p =
+    list_any-append p kept (insert rising place e)
+    ∙ ap (λ b. list_any p kept || b) (sym (list_any-IsPermutation p (e ∷ rising) (insert rising place e) (IsPermutation-insert rising place e)))
+    ∙ moved (list_any p kept) (p e) (list_any p rising)
+    ∙ ap (λ b. b || (p e || false)) (sym (list_any-append p kept rising) ∙ alike p)
+    ∙ sym (one_more p kept rows e)
+
+alike_known : (kept rising rows : List Event) (e : Event) → list_any (same_event e) (kept ++ rising) ≡ true → Alike kept rising rows → Alike kept rising (rows ++ e ∷ [])
+alike_known kept rising rows e known alike p =
+    by (p e) refl ∙ ap (λ b. b || (p e || false)) (alike p) ∙ sym (one_more p kept rows e)
+  where
+    there : (a b : Bool) → a ≡ true → a ≡ (a || b)
+    there a b t = t ∙ sym (ap (λ x. x || b) t)
+
+    nothing : (a : Bool) → a ≡ (a || false)
+    nothing true = refl
+    nothing false = refl
+
+    by : (b : Bool) → p e ≡ b → list_any p (kept ++ rising) ≡ (list_any p (kept ++ rising) || (p e || false))
+    by true t = there (list_any p (kept ++ rising)) (p e || false) (same_any p e (kept ++ rising) known t)
+    by false f = nothing (list_any p (kept ++ rising)) ∙ ap (λ b. list_any p (kept ++ rising) || (b || false)) (sym f)
+
+was_known : (b : Bool) → not b ≡ false → b ≡ true
+was_known true e = refl
+was_known false e = cc
+
+-- one more row
+pub so_new : (tags : List Name) (now : ℕ) (kept rows new rising : List Event) (repeated place : ℕ) (e : Event) → MergedSo tags now kept rows new rising repeated → IsJudged tags now kept rising e (Ok (Some place))
+    → MergedSo tags now kept (rows ++ e ∷ []) (new ++ e ∷ []) (insert rising place e) repeated
+so_new tags now kept rows new rising repeated place e h j =
+    record {
+      merged = merged_new tags now kept rows new repeated e h.merged (sym (fault_alike tags now kept rising rows e h.alike) ∙ j.0) (sym (ap not (h.alike (same_event e))) ∙ j.1);
+      rises = j.2;
+      alike = alike_new kept rising rows e place h.alike;
+    }
+
+pub so_known : (tags : List Name) (now : ℕ) (kept rows new rising : List Event) (repeated : ℕ) (e : Event) → MergedSo tags now kept rows new rising repeated → IsJudged tags now kept rising e (Ok None)
+    → MergedSo tags now kept (rows ++ e ∷ []) new rising (repeated + 1)
+so_known tags now kept rows new rising repeated e h j =
+    record {
+      merged = merged_repeated tags now kept rows new repeated e h.merged (sym (fault_alike tags now kept rising rows e h.alike) ∙ j.0) (sym (ap not (h.alike (same_event e))) ∙ j.1);
+      rises = h.rises;
+      alike = alike_known kept rising rows e (was_known (list_any (same_event e) (kept ++ rising)) j.1) h.alike;
+    }
+
+-- the same at a place of the file
+at_place : (file : List Event) (i : ℕ) (e d : Event) → i < length file → e ≡ get_or file i d → take (i + 1) file ≡ take i file ++ e ∷ []
+at_place file i e d lt is = take_more file i d lt ∙ ap (λ x. take i file ++ x ∷ []) (sym is)
+
+pub so_new_at : (tags : List Name) (now : ℕ) (kept file new rising : List Event) (repeated place i : ℕ) (e : Event) → i < length file → e ≡ get_or file i e → MergedSo tags now kept (take i file) new rising repeated
+    → IsJudged tags now kept rising e (Ok (Some place)) → MergedSo tags now kept (take (i + 1) file) (new ++ e ∷ []) (insert rising place e) repeated
+so_new_at tags now kept file new rising repeated place i e lt is h j =
+    subst (λ (l : List Event). MergedSo tags now kept l (new ++ e ∷ []) (insert rising place e) repeated) (sym (at_place file i e e lt is)) (so_new tags now kept (take i file) new rising repeated place e h j)
+
+pub so_known_at : (tags : List Name) (now : ℕ) (kept file new rising : List Event) (repeated i : ℕ) (e : Event) → i < length file → e ≡ get_or file i e → MergedSo tags now kept (take i file) new rising repeated
+    → IsJudged tags now kept rising e (Ok None) → MergedSo tags now kept (take (i + 1) file) new rising (repeated + 1)
+so_known_at tags now kept file new rising repeated i e lt is h j =
+    subst (λ (l : List Event). MergedSo tags now kept l new rising (repeated + 1)) (sym (at_place file i e e lt is)) (so_known tags now kept (take i file) new rising repeated e h j)
+
+pub so_fault_at : (tags : List Name) (now : ℕ) (kept file new rising : List Event) (repeated i : ℕ) (e : Event) (cause : Cause) → i < length file → e ≡ get_or file i e → MergedSo tags now kept (take i file) new rising repeated
+    → IsJudged tags now kept rising e (Err cause) → merge kept file tags now ≡ Err (bad (i + 2) cause)
+so_fault_at tags now kept file new rising repeated i e cause lt is h j =
+    let fault : merge_fault tags now (kept ++ take i file) e ≡ Some cause = sym (fault_alike tags now kept rising (take i file) e h.alike) ∙ j in
+    let cut : file ≡ take i file ++ e ∷ drop (i + 1) file =
+    sym (take-append-drop (i + 1) file) ∙ ap (λ l. l ++ drop (i + 1) file) (at_place file i e e lt is) ∙ append_assoc (take i file) (e ∷ []) (drop (i + 1) file) in
+    let line : 2 + length (take i file) ≡ i + 2 = omega (arith, length-take-le i file (omega arith)) in
+    ap (λ l. merge kept l tags now) cut ∙ merged_fault tags now kept (take i file) (drop (i + 1) file) new repeated e cause h.merged fault ∙ ap (λ n. Err (bad n cause)) line
+
+pub so_all : (tags : List Name) (now : ℕ) (kept file new rising : List Event) (repeated i : ℕ) → length file ≤ i → MergedSo tags now kept (take i file) new rising repeated → merge kept file tags now ≡ Ok (record { fresh = new; repeated = repeated })
+so_all tags now kept file new rising repeated i le h = rw (take_all i file le) at (merged_whole tags now kept (take i file) new repeated h.merged)
+
+-- what was judged, of the same rows
+pub judged_along : (tags : List Name) (now : ℕ) (kept fresh fresh' : List Event) (e : Event) (r r' : Result (Option ℕ) Cause) → fresh ≡ fresh' → r ≡ r' → (IsRising kept → IsRising fresh → IsJudged tags now kept fresh e r)
+    → IsRising kept → IsRising fresh' → IsJudged tags now kept fresh' e r'
+judged_along tags now kept fresh fresh' e r r' ef er told kept_rises rises =
+    subst (λ (x : Result (Option ℕ) Cause). IsJudged tags now kept fresh' e x) er (subst (λ (l : List Event). IsRising kept → IsRising l → IsJudged tags now kept l e r) ef told kept_rises rises)

@@ -1,0 +1,32 @@
+-- A record's fields by their places.
+use Rattle.std.proofs.Common.{◌≡◌, ℕ, zero, suc, List, [], ◌∷◌, Option, refl, sym, ap, ◌∙◌, Bool, true, false, ◌&&◌, ◌+◌, ◌<◌, length, take, get_or}
+use Rattle.std.specs.Prelude.{unwrap_or, slice_get}
+use Rattle.std.specs.List.{list_all}
+use Rattle.std.specs.Str.{is_utf8}
+use Rattle.std.proofs.lemmas.List.Folds.{list_all_more, list_all_at}
+use Rattle.std.proofs.lemmas.Option.{unwrap_or-slice_get}
+use Rattle.csv.specs.Records.{field_at}
+use Rattle.plant_import.specs.Fields.{field}
+
+field_at-get : (fields : List (List ℕ)) (i : ℕ) → field_at fields i ≡ slice_get fields i
+unfolding field_at
+field_at-get [] i = refl
+field_at-get (f ∷ fs) zero = refl
+field_at-get (f ∷ fs) (suc i) = field_at-get fs i
+
+pub field_is : (fields : List (List ℕ)) (i : ℕ) (o : Option (List ℕ)) → o ≡ field_at fields i → unwrap_or o [] ≡ field fields i
+field_is fields i o e = ap (λ x. unwrap_or x []) (e ∙ field_at-get fields i)
+
+field-get_or : (fields : List (List ℕ)) (i : ℕ) → field fields i ≡ get_or fields i []
+field-get_or fields i = unwrap_or-slice_get fields i []
+
+-- the fields before a place are text, and so is the one there
+pub text_more : (fields : List (List ℕ)) (i : ℕ) (b : Bool) (f : List ℕ) → i < length fields → list_all is_utf8 (take i fields) ≡ true → f ≡ field fields i → b ≡ is_utf8 f → b ≡ true
+    → list_all is_utf8 (take (i + 1) fields) ≡ true
+text_more fields i b f lt h ef eb t =
+    let here : is_utf8 (get_or fields i []) ≡ true = ap is_utf8 (sym (ef ∙ field-get_or fields i)) ∙ sym eb ∙ t in
+    list_all_more is_utf8 fields i [] lt ∙ ap (λ x. x && is_utf8 (get_or fields i [])) h ∙ here
+
+-- the field at a place isn't text
+pub text_at : (fields : List (List ℕ)) (i : ℕ) (b : Bool) (f : List ℕ) → i < length fields → f ≡ field fields i → b ≡ is_utf8 f → b ≡ false → list_all is_utf8 fields ≡ false
+text_at fields i b f lt ef eb t = list_all_at is_utf8 fields i [] lt (ap is_utf8 (sym (ef ∙ field-get_or fields i)) ∙ sym eb ∙ t)

@@ -1,0 +1,207 @@
+-- What a row is read as, cause by cause.
+use Rattle.std.proofs.Common.{◌≡◌, ◌≢◌, ℕ, ◌<◌, ◌≤◌, List, [], ◌∷◌, length, Bool, true, false, not, Option, Some, None, Ok, Err, refl, sym, ap, ◌∙◌, arith, get_or}
+use Rattle.std.specs.Prelude.{◌==◌, ◌+◌, nat_lt, is_none, slice_get, option_map, ◌++◌, map, take, drop}
+use Rattle.std.specs.List.{list_all, enumerate_from, cons_option}
+use Rattle.std.specs.Option.{option_to_list}
+use Rattle.std.proofs.lemmas.List.{map-append, length-map, take_more, take_all, length-take-le, take-append-drop}
+use Rattle.std.proofs.lemmas.List.Elements.{filter_map-append}
+use Rattle.csv.specs.Records.{Row, fields_of}
+use Rattle.csv.specs.Reading.{default_config, records, strip_bom}
+use Rattle.std.specs.Str.{is_utf8}
+use Rattle.std.proofs.lemmas.Bool.{lt-ltb, le-ltb, ltb-false, ne_eqb}
+use Rattle.plant_types.specs.Moment.{moment_of}
+use Rattle.plant_types.specs.Text.{tag_of}
+use Rattle.plant_alarm.specs.declared.event.EventKind.{EventKind}
+use Rattle.plant_alarm.specs.declared.event.Event.{Event}
+use Rattle.plant_import.specs.declared.bad_file.BadFile.{BadFile}
+use Rattle.plant_import.specs.declared.bad_file.Cause.{Cause}
+use Rattle.plant_import.specs.declared.bad_file.Cause.TheVariants.{Header, FieldCount, NotUtf8, BadNumber, BadMoment, BadTag, BadEvent, TooLong}
+use Rattle.plant_import.specs.Fields.{field, number_of, kind_of, first_cause, row_fault, event_in}
+use Rattle.plant_import.specs.Reading.{row_read, event_or, events_or, rows_read, row_faults, bad, is_header, file_read}
+
+-- a row of four fields of text
+pub record IsTextRow (fields : List (List ℕ)) : Type 0 where
+  pub four : length fields ≡ 4
+  pub text : list_all is_utf8 fields ≡ true
+
+four_is : (n : ℕ) → n ≡ 4 → (n == 4) ≡ true
+four_is n e = ap (λ m. m == 4) e
+
+four_not : (n : ℕ) → n ≢ 4 → (n == 4) ≡ false
+four_not n h = ne_eqb n 4 h
+
+pub bad_count : (k : ℕ) (fields : List (List ℕ)) → length fields ≢ 4 → row_read k fields ≡ Err FieldCount
+unfolding row_fault
+bad_count k fields h = rw (four_not _ h) refl
+
+pub bad_text : (k : ℕ) (fields : List (List ℕ)) → length fields ≡ 4 → list_all is_utf8 fields ≡ false → row_read k fields ≡ Err NotUtf8
+unfolding row_fault
+bad_text k fields four text = rw (four_is _ four, text) refl
+
+pub bad_number : (k : ℕ) (fields : List (List ℕ)) → IsTextRow fields → number_of (field fields 0) ≡ None → row_read k fields ≡ Err BadNumber
+unfolding row_fault
+bad_number k fields row number = rw (four_is _ row.four, row.text, number) refl
+
+pub bad_moment : (k : ℕ) (fields : List (List ℕ)) (n : ℕ) → IsTextRow fields → number_of (field fields 0) ≡ Some n → moment_of (field fields 1) ≡ None → row_read k fields ≡ Err BadMoment
+unfolding row_fault
+bad_moment k fields n row number moment = rw (four_is _ row.four, row.text, number, moment) refl
+
+pub bad_tag : (k : ℕ) (fields : List (List ℕ)) (n m : ℕ) → IsTextRow fields → number_of (field fields 0) ≡ Some n → moment_of (field fields 1) ≡ Some m → tag_of (field fields 2) ≡ None → row_read k fields ≡ Err BadTag
+unfolding row_fault
+bad_tag k fields n m row number moment tag = rw (four_is _ row.four, row.text, number, moment, tag) refl
+
+pub bad_event : (k : ℕ) (fields : List (List ℕ)) (n m : ℕ) (t : List ℕ) → IsTextRow fields → number_of (field fields 0) ≡ Some n → moment_of (field fields 1) ≡ Some m → tag_of (field fields 2) ≡ Some t
+    → kind_of (field fields 3) ≡ None → row_read k fields ≡ Err BadEvent
+unfolding row_fault
+bad_event k fields n m t row number moment tag kind = rw (four_is _ row.four, row.text, number, moment, tag, kind) refl
+
+-- a row whose fields are all right
+pub record IsReadRow (fields : List (List ℕ)) (n m : ℕ) (t : List ℕ) (kind : EventKind) : Type 0 where
+  pub row : IsTextRow fields
+  pub number : number_of (field fields 0) ≡ Some n
+  pub moment : moment_of (field fields 1) ≡ Some m
+  pub tag : tag_of (field fields 2) ≡ Some t
+  pub event : kind_of (field fields 3) ≡ Some kind
+
+pub too_long : (k : ℕ) (fields : List (List ℕ)) (n m : ℕ) (t : List ℕ) (kind : EventKind) → IsReadRow fields n m t kind → 10000 < k → row_read k fields ≡ Err TooLong
+unfolding row_fault
+too_long k fields n m t kind h long = rw (four_is _ h.row.four, h.row.text, h.number, h.moment, h.tag, h.event, lt-ltb 10000 k long) refl
+
+not_long : (k : ℕ) → k ≤ 10000 → nat_lt 10000 k ≡ false
+not_long k h = le-ltb 10000 k h
+
+pub is_read : (k : ℕ) (fields : List (List ℕ)) (n m : ℕ) (t : List ℕ) (kind : EventKind) → IsReadRow fields n m t kind → k ≤ 10000 → row_read k fields ≡ Ok (record { seq = n; moment = m; tag = t; kind = kind })
+unfolding row_fault event_in
+is_read k fields n m t kind h short =
+    let none : row_fault k fields ≡ None = rw (four_is _ h.row.four, h.row.text, h.number, h.moment, h.tag, h.event, not_long k short) refl in
+    let is : event_in fields ≡ record { seq = n; moment = m; tag = t; kind = kind } = rw (h.number, h.moment, h.tag, h.event) refl in
+    ap (λ o. event_or o fields) none ∙ ap Ok is
+
+-- what a row is read as tells its fault
+fault_of : (o : Option Cause) (fields : List (List ℕ)) (cause : Cause) → event_or o fields ≡ Err cause → o ≡ Some cause
+fault_of (Some x) fields cause e = cc
+fault_of None fields cause e = cc
+
+no_fault : (o : Option Cause) (fields : List (List ℕ)) (event : Event) → event_or o fields ≡ Ok event → (o ≡ None) × (event_in fields ≡ event)
+no_fault (Some x) fields event e = cc
+no_fault None fields event e = (refl, cc)
+
+-- the rows so far have no fault, and these events
+pub record AreReadRows (rows : List Row) (events : List Event) : Type 0 where
+  pub none : row_faults (enumerate_from 1 (map fields_of rows)) ≡ []
+  pub events_are : events ≡ map event_in (map fields_of rows)
+
+enumerate_from-push : {X : Type 0} (n : ℕ) (xs : List X) (x : X) → enumerate_from n (xs ++ x ∷ []) ≡ enumerate_from n xs ++ (n + length xs, x) ∷ []
+enumerate_from-push n [] x = let e : n ≡ n + 0 = omega arith in ap (λ m. (m, x) ∷ []) e
+enumerate_from-push n (y ∷ ys) x =
+    let e : n + 1 + length ys ≡ n + length (y ∷ ys) = omega arith in
+    ap (λ l. (n, y) ∷ l) (enumerate_from-push (n + 1) ys x ∙ ap (λ m. enumerate_from (n + 1) ys ++ (m, x) ∷ []) e)
+
+faults-push : (k : ℕ) (rows : List (List (List ℕ))) (r : List (List ℕ)) → k ≡ length rows + 1
+    → row_faults (enumerate_from 1 (rows ++ r ∷ [])) ≡ row_faults (enumerate_from 1 rows) ++ option_to_list (option_map (bad (k + 1)) (row_fault k r))
+faults-push k rows r e =
+    let f : ℕ × List (List ℕ) → Option BadFile = λ q. option_map (bad (q.0 + 1)) (row_fault q.0 q.1) in
+    let at : 1 + length rows ≡ k = omega arith in
+    ap row_faults (enumerate_from-push 1 rows r) ∙ filter_map-append f (enumerate_from 1 rows) ((1 + length rows, r) ∷ [])
+    ∙ ap (λ m. row_faults (enumerate_from 1 rows) ++ cons_option (f (m, r)) []) at ∙ ap (λ l. row_faults (enumerate_from 1 rows) ++ l) (cons_nil (f (k, r)))
+  where
+    cons_nil : (o : Option BadFile) → cons_option o [] ≡ option_to_list o
+    cons_nil None = refl
+    cons_nil (Some x) = refl
+
+pub rows_none : AreReadRows [] []
+rows_none = record { none = refl; events_are = refl }
+
+pub rows_push : (k : ℕ) (rows : List Row) (r : Row) (events : List Event) (event : Event) → k ≡ length rows + 1 → AreReadRows rows events → row_read k (fields_of r) ≡ Ok event
+    → AreReadRows (rows ++ r ∷ []) (events ++ event ∷ [])
+rows_push k rows r events event e h is =
+    let n = no_fault (row_fault k (fields_of r)) (fields_of r) event is in
+    let at : k ≡ length (map fields_of rows) + 1 = omega (arith, e, length-map rows fields_of) in
+    record {
+      none =
+          ap (λ l. row_faults (enumerate_from 1 l)) (map-append fields_of rows (r ∷ [])) ∙ faults-push k (map fields_of rows) (fields_of r) at
+          ∙ ap (λ o. row_faults (enumerate_from 1 (map fields_of rows)) ++ option_to_list (option_map (bad (k + 1)) o)) n.0 ∙ ap (λ l. l ++ []) h.none;
+      events_are =
+          ap (λ l. l ++ event ∷ []) h.events_are ∙ ap (λ x. map event_in (map fields_of rows) ++ x ∷ []) (sym n.1)
+          ∙ sym (map-append event_in (map fields_of rows) (fields_of r ∷ [])) ∙ ap (map event_in) (sym (map-append fields_of rows (r ∷ [])));
+    }
+
+pub rows_whole : (rows : List Row) (events : List Event) → AreReadRows rows events → rows_read (map fields_of rows) ≡ Ok events
+rows_whole rows events h = ap (λ l. events_or (slice_get l 0) (map fields_of rows)) h.none ∙ ap Ok (sym h.events_are)
+
+first_of : (l : List BadFile) (x : BadFile) (m : List BadFile) → l ≡ [] → slice_get ((l ++ x ∷ []) ++ m) 0 ≡ Some x
+first_of l x m e = ap (λ t. slice_get ((t ++ x ∷ []) ++ m) 0) e
+
+more_faults : (n : ℕ) (xs ys : List (List (List ℕ))) → (zs : List BadFile) × (row_faults (enumerate_from n (xs ++ ys)) ≡ row_faults (enumerate_from n xs) ++ zs)
+more_faults n xs ys =
+    let f : ℕ × List (List ℕ) → Option BadFile = λ q. option_map (bad (q.0 + 1)) (row_fault q.0 q.1) in
+    let s = enumerated n xs ys in
+    (row_faults s.0, ap row_faults s.1 ∙ filter_map-append f (enumerate_from n xs) s.0)
+  where
+    enumerated : {X : Type 0} (n : ℕ) (xs ys : List X) → (zs : List (ℕ × X)) × (enumerate_from n (xs ++ ys) ≡ enumerate_from n xs ++ zs)
+    enumerated n [] ys = (enumerate_from n ys, refl)
+    enumerated n (x ∷ xs) ys = let s = enumerated (n + 1) xs ys in (s.0, ap (λ l. (n, x) ∷ l) s.1)
+
+pub rows_stop : (k : ℕ) (rows : List Row) (r : Row) (rest : List Row) (events : List Event) (cause : Cause) → k ≡ length rows + 1 → AreReadRows rows events → row_read k (fields_of r) ≡ Err cause
+    → rows_read (map fields_of ((rows ++ r ∷ []) ++ rest)) ≡ Err (bad (k + 1) cause)
+rows_stop k rows r rest events cause e h is =
+    let f = fault_of (row_fault k (fields_of r)) (fields_of r) cause is in
+    let at : k ≡ length (map fields_of rows) + 1 = omega (arith, e, length-map rows fields_of) in
+    let more = more_faults 1 (map fields_of (rows ++ r ∷ [])) (map fields_of rest) in
+    let here : row_faults (enumerate_from 1 (map fields_of (rows ++ r ∷ []))) ≡ row_faults (enumerate_from 1 (map fields_of rows)) ++ bad (k + 1) cause ∷ [] =
+    ap (λ l. row_faults (enumerate_from 1 l)) (map-append fields_of rows (r ∷ [])) ∙ faults-push k (map fields_of rows) (fields_of r) at
+    ∙ ap (λ o. row_faults (enumerate_from 1 (map fields_of rows)) ++ option_to_list (option_map (bad (k + 1)) o)) f in
+    let all : row_faults (enumerate_from 1 (map fields_of ((rows ++ r ∷ []) ++ rest))) ≡ (row_faults (enumerate_from 1 (map fields_of rows)) ++ bad (k + 1) cause ∷ []) ++ more.0 =
+    ap (λ l. row_faults (enumerate_from 1 l)) (map-append fields_of (rows ++ r ∷ []) rest) ∙ more.1 ∙ ap (λ l. l ++ more.0) here in
+    ap (λ o. events_or o (map fields_of ((rows ++ r ∷ []) ++ rest))) (ap (λ l. slice_get l 0) all ∙ first_of (row_faults (enumerate_from 1 (map fields_of rows))) (bad (k + 1) cause) more.0 h.none)
+
+-- the same at a place of a list
+pub rows_next : (all : List Row) (i : ℕ) (r : Row) (events : List Event) (event : Event) → i < length all → r ≡ get_or all i r → AreReadRows (take i all) events → row_read (i + 1) (fields_of r) ≡ Ok event
+    → AreReadRows (take (i + 1) all) (events ++ event ∷ [])
+rows_next all i r events event lt at h is =
+    let n : i + 1 ≡ length (take i all) + 1 = omega (arith, length-take-le i all (omega arith)) in
+    rw (take_more all i r lt, ← at) (rows_push (i + 1) (take i all) r events event n h is)
+
+pub rows_fault : (all : List Row) (i : ℕ) (r : Row) (events : List Event) (cause : Cause) → i < length all → r ≡ get_or all i r → AreReadRows (take i all) events → row_read (i + 1) (fields_of r) ≡ Err cause
+    → rows_read (map fields_of all) ≡ Err (bad (i + 1 + 1) cause)
+rows_fault all i r events cause lt at h is =
+    let n : i + 1 ≡ length (take i all) + 1 = omega (arith, length-take-le i all (omega arith)) in
+    let cut : all ≡ (take i all ++ r ∷ []) ++ drop (i + 1) all = sym (take-append-drop (i + 1) all) ∙ ap (λ l. l ++ drop (i + 1) all) (take_more all i r lt) ∙ ap (λ x. (take i all ++ x ∷ []) ++ drop (i + 1) all) (sym at) in
+    ap (λ l. rows_read (map fields_of l)) cut ∙ rows_stop (i + 1) (take i all) r (drop (i + 1) all) events cause n h is
+
+pub rows_all : (all : List Row) (i : ℕ) (events : List Event) → length all ≤ i → AreReadRows (take i all) events → rows_read (map fields_of all) ≡ Ok events
+rows_all all i events le h = rw (take_all i all le) at (rows_whole (take i all) events h)
+
+-- where no cause holds the last doesn't
+last_of : (causes : List (Bool × Cause)) (b : Bool) (cause : Cause) → first_cause (causes ++ (b, cause) ∷ []) ≡ None → b ≡ false
+last_of [] true cause e = cc
+last_of [] false cause e = refl
+last_of ((true, other) ∷ causes) b cause e = cc
+last_of ((false, other) ∷ causes) b cause e = last_of causes b cause e
+
+-- a row that is read is within the limit
+pub in_limit : (k : ℕ) (fields : List (List ℕ)) (event : Event) → row_read k fields ≡ Ok event → k ≤ 10000
+unfolding row_fault
+in_limit k fields event e =
+    ltb-false 10000 k (last_of (
+    (not (length fields == 4), FieldCount)
+    ∷ (not (list_all is_utf8 fields), NotUtf8)
+    ∷ (is_none (number_of (field fields 0)), BadNumber)
+    ∷ (is_none (moment_of (field fields 1)), BadMoment)
+    ∷ (is_none (tag_of (field fields 2)), BadTag)
+    ∷ (is_none (kind_of (field fields 3)), BadEvent)
+    ∷ []) (nat_lt 10000 k) TooLong (no_fault (row_fault k fields) fields event e).0)
+
+-- what a file is read as, by its records
+pub file_rows : (bytes : List ℕ) (first : Row) (rest : List Row) → map fields_of (first ∷ rest) ≡ records default_config (strip_bom bytes) → is_header (fields_of first) ≡ true → file_read bytes ≡ rows_read (map fields_of rest)
+unfolding file_read
+file_rows bytes first rest e is = rw (← e, is) refl
+
+pub file_no_header : (bytes : List ℕ) (first : Row) (rest : List Row) → map fields_of (first ∷ rest) ≡ records default_config (strip_bom bytes) → is_header (fields_of first) ≡ false → file_read bytes ≡ Err (bad 1 Header)
+unfolding file_read
+file_no_header bytes first rest e is = rw (← e, is) refl
+
+pub file_empty : (bytes : List ℕ) (all : List Row) → map fields_of all ≡ records default_config (strip_bom bytes) → length all ≡ 0 → file_read bytes ≡ Err (bad 1 Header)
+unfolding file_read
+file_empty bytes [] e none = rw (← e) refl
+file_empty bytes (r ∷ rs) e none = absurd (omega arith)

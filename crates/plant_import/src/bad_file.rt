@@ -1,0 +1,35 @@
+/// Why a row of a file is faulty. Where a row has several faults, the first of this order counts.
+#[derive(Clone, Copy, Debug, PartialEq, Eq)]
+pub enum Cause {
+    /// The first record is not `seq,moment,tag,event`, or there is none.
+    Header,
+    /// The row has not four fields.
+    FieldCount,
+    /// A field is not UTF-8.
+    NotUtf8,
+    /// The number is not 1 to 12 digits, or begins with 0.
+    BadNumber,
+    /// The moment is none.
+    BadMoment,
+    /// The tag is none.
+    BadTag,
+    /// The event is not one of the six.
+    BadEvent,
+    /// The row is the 10,001st.
+    TooLong,
+    /// The unit has no alarm of this tag.
+    TagUnknown,
+    /// The moment is after the call's.
+    MomentAhead,
+    /// Another event has the same number.
+    SequenceClash,
+    /// An event of a smaller number has a later moment, or one of a greater number an earlier.
+    MomentOutOfOrder,
+}
+
+/// A file's first faulty line, and why it is faulty. Lines count records from 1, the header's.
+#[derive(Clone, Copy, Debug, PartialEq, Eq)]
+pub struct BadFile {
+    pub line: u64,
+    pub cause: Cause,
+}

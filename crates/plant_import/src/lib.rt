@@ -1,0 +1,13 @@
+//! Import files: their rows or first fault, and what they add to the events that are kept.
+#![tactic(auto)]
+
+mod bad_file;
+mod fields;
+mod merging;
+mod reading;
+mod records;
+mod standing;
+
+pub use bad_file::{BadFile, Cause};
+pub use merging::{Merged, merge};
+pub use reading::{FileRead, read_file};

@@ -1,0 +1,8 @@
+use Rattle.std.proofs.Common.{◌≡◌, ◌++◌, take}
+use Rattle.std.specs.List.{flat_map}
+use Rattle.plant_report.specs.Columns.{line}
+use Rattle.plant_report.specs.Texts.{flood_columns}
+use Rattle.plant_report.proofs.flood_lines.flood_text.Given as goal
+
+abbrev pub invariant-loop-line : goal.invariant-loop-line
+invariant-loop-line l = l.text.items ≡ l.initial.text.items ++ flat_map (λ r. line (flood_columns r)) (take l.line-index l.lines)

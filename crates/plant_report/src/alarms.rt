@@ -1,0 +1,188 @@
+ghost use Rattle.std.specs.Prelude.{◌≡◌, ◌++◌, IfOk, IfErr, OnOk};
+ghost use Rattle.plant_types.specs.declared.fault.Fault.TheVariants.{Memory};
+ghost use Rattle.plant_report.specs.Columns.{line as line_of};
+ghost use Rattle.plant_report.specs.Texts as texts;
+ghost use Rattle.plant_report.specs.Texts.{alarm_columns, standing_columns};
+
+use crate::columns::{push_column, push_last, push_last_right, push_left, push_moment};
+use crate::heading::push_heading;
+use crate::{AlarmLine, StandingLine};
+use itoa::Buffer;
+use plant_alarm::AlarmState;
+use plant_ration::Cell;
+use plant_types::{Fault, Moment, UnitCode};
+use std::alloc::Global;
+
+/// The active alarms of a unit at a moment: a heading, and a line for each.
+#[tactic(auto, unfolding(crate::specs::Texts::standing_text))]
+pub fn standing_text(
+    alloc: Global,
+    unit: &UnitCode,
+    at: Moment,
+    lines: &[StandingLine],
+) -> Result<Vec<u8>, Fault>
+    ensures value { IfOk result (λ text. text.items ≡ texts.standing_text unit.now at lines.now) }
+    ensures err { IfErr result (λ e. e ≡ Memory) }
+{
+    let mut text = Vec::new(alloc);
+    push_heading(&mut text, b"STANDING", unit.as_bytes(), at, lines.len())?;
+    for line in lines {
+        push_standing(&mut text, line)?;
+    }
+    Ok(text)
+}
+
+fn push_standing(text: &mut Vec<u8>, line: &StandingLine) -> Result<(), Fault>
+    ensures value { OnOk result (text.new.items ≡ text.old.items ++ line_of (standing_columns line.now)) }
+    ensures err { IfErr result (λ e. e ≡ Memory) }
+{
+    push_left(text, 24, line.tag.as_bytes())?;
+    push_left(text, 14, state_name(line.state))?;
+    push_left(text, 2, priority_name(line.priority))?;
+    push_moment(text, line.since)?;
+    push_last(
+        text,
+        &flags(line.shelved, line.by_design, line.out_of_service),
+    )
+}
+
+/// The alarms of a unit at a moment: a heading, and a line for each.
+#[tactic(auto, unfolding(crate::specs::Texts::alarm_text))]
+pub fn alarm_text(
+    alloc: Global,
+    unit: &UnitCode,
+    at: Moment,
+    lines: &[AlarmLine],
+) -> Result<Vec<u8>, Fault>
+    ensures value { IfOk result (λ text. text.items ≡ texts.alarm_text unit.now at lines.now) }
+    ensures err { IfErr result (λ e. e ≡ Memory) }
+{
+    let mut text = Vec::new(alloc);
+    push_heading(&mut text, b"ALARMS", unit.as_bytes(), at, lines.len())?;
+    for line in lines {
+        push_alarm(&mut text, line)?;
+    }
+    Ok(text)
+}
+
+fn push_alarm(text: &mut Vec<u8>, line: &AlarmLine) -> Result<(), Fault>
+    ensures value { OnOk result (text.new.items ≡ text.old.items ++ line_of (alarm_columns line.now)) }
+    ensures err { IfErr result (λ e. e ≡ Memory) }
+{
+    let mut buffer = Buffer::new();
+    push_left(text, 24, line.tag.as_bytes())?;
+    push_left(text, 14, state_name(line.state))?;
+    push_left(text, 2, priority_name(line.priority))?;
+    push_column(
+        text,
+        &flags(line.shelved, line.by_design, line.out_of_service),
+    )?;
+    push_last_right(text, 6, buffer.format(line.limit.get()).as_bytes())
+}
+
+fn state_name(state: AlarmState) -> &'static [u8]
+    ensures { result.now ≡ texts.state_name state }
+{
+    match state {
+        AlarmState::Normal => b"Normal",
+        AlarmState::Unacknowledged => b"Unacknowledged",
+        AlarmState::Acknowledged => b"Acknowledged",
+        AlarmState::ReturnedUnack => b"ReturnedUnack",
+        AlarmState::LatchedUnack => b"LatchedUnack",
+        AlarmState::LatchedAck => b"LatchedAck",
+    }
+}
+
+fn priority_name(priority: Option<Cell>) -> &'static [u8]
+    ensures { result.now ≡ texts.priority_name priority }
+{
+    match priority {
+        Some(Cell::P1) => b"P1",
+        Some(Cell::P2) => b"P2",
+        Some(Cell::P3) => b"P3",
+        Some(Cell::P4) => b"P4",
+        Some(Cell::N) => b"N",
+        None => b"-",
+    }
+}
+
+fn flags(shelved: bool, by_design: bool, out_of_service: bool) -> [u8; 3]
+    ensures { result ≡ texts.flags shelved by_design out_of_service }
+{
+    [
+        flag(shelved, b'S'),
+        flag(by_design, b'D'),
+        flag(out_of_service, b'O'),
+    ]
+}
+
+fn flag(holds: bool, mark: u8) -> u8
+    ensures { result ≡ texts.flag holds mark }
+{
+    if holds { mark } else { b'-' }
+}
+
+#[cfg(test)]
+mod tests {
+    use super::*;
+    use plant_types::{Seconds, Tag};
+    use std::test::Fail;
+
+    #[test]
+    fn prints_an_active_alarm(rt: HostRuntime) -> Result<(), Fail> {
+        let unit = UnitCode::read(rt.alloc(), b"U1")?.ok_or("unit")?;
+        let lines = [StandingLine {
+            tag: Tag::read(rt.alloc(), b"PT-101")?.ok_or("tag")?,
+            state: AlarmState::Unacknowledged,
+            priority: None,
+            since: Moment::of_seconds(825_670_800).ok_or("moment")?,
+            shelved: true,
+            by_design: false,
+            out_of_service: false,
+        }];
+        let at = Moment::of_seconds(825_674_400).ok_or("moment")?;
+        let text = standing_text(rt.alloc(), &unit, at, &lines)?;
+        assert_eq!(rt;
+            text.as_slice(),
+            b"STANDING U1 AT 2026-03-01T10:00:00Z COUNT 1\n\
+            PT-101                   Unacknowledged -  2026-03-01T09:00:00Z S--\n"
+                .as_slice()
+        );
+        Ok(())
+    }
+
+    #[test]
+    fn prints_two_alarms(rt: HostRuntime) -> Result<(), Fail> {
+        let unit = UnitCode::read(rt.alloc(), b"U1")?.ok_or("unit")?;
+        let lines = [
+            AlarmLine {
+                tag: Tag::read(rt.alloc(), b"LT-2")?.ok_or("tag")?,
+                state: AlarmState::Normal,
+                priority: None,
+                shelved: false,
+                by_design: false,
+                out_of_service: false,
+                limit: Seconds::new(86400).ok_or("limit")?,
+            },
+            AlarmLine {
+                tag: Tag::read(rt.alloc(), b"PT-101")?.ok_or("tag")?,
+                state: AlarmState::Unacknowledged,
+                priority: Some(Cell::P1),
+                shelved: true,
+                by_design: true,
+                out_of_service: true,
+                limit: Seconds::new(3600).ok_or("limit")?,
+            },
+        ];
+        let at = Moment::of_seconds(825_674_400).ok_or("moment")?;
+        let text = alarm_text(rt.alloc(), &unit, at, &lines)?;
+        assert_eq!(rt;
+            text.as_slice(),
+            b"ALARMS U1 AT 2026-03-01T10:00:00Z COUNT 2\n\
+            LT-2                     Normal         -  ---  86400\n\
+            PT-101                   Unacknowledged P1 SDO   3600\n"
+                .as_slice()
+        );
+        Ok(())
+    }
+}

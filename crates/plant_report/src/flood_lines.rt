@@ -1,0 +1,100 @@
+ghost use Rattle.std.specs.Prelude.{◌≡◌, ◌++◌, IfOk, IfErr, OnOk};
+ghost use Rattle.plant_types.specs.declared.fault.Fault.TheVariants.{Memory};
+ghost use Rattle.plant_report.specs.Columns.{line as line_of};
+ghost use Rattle.plant_report.specs.Texts as texts;
+ghost use Rattle.plant_report.specs.Texts.{flood_columns, flood_heading};
+
+use crate::FloodLine;
+use crate::columns::{push_column, push_last, push_last_right, push_moment, push_right};
+use itoa::Buffer;
+use plant_types::{Fault, Moment, UnitCode};
+use std::alloc::Global;
+
+/// The floods of a unit in a range of time: a heading, and a line for each.
+#[tactic(auto, unfolding(crate::specs::Texts::flood_text))]
+pub fn flood_text(
+    alloc: Global,
+    unit: &UnitCode,
+    begin: Moment,
+    until: Moment,
+    lines: &[FloodLine],
+) -> Result<Vec<u8>, Fault>
+    ensures value { IfOk result (λ text. text.items ≡ texts.flood_text unit.now begin until lines.now) }
+    ensures err { IfErr result (λ e. e ≡ Memory) }
+{
+    let mut text = Vec::new(alloc);
+    push_flood_heading(&mut text, unit, begin, until, lines.len())?;
+    for line in lines {
+        push_flood(&mut text, line)?;
+    }
+    Ok(text)
+}
+
+fn push_flood_heading(
+    text: &mut Vec<u8>,
+    unit: &UnitCode,
+    begin: Moment,
+    until: Moment,
+    count: usize,
+) -> Result<(), Fault>
+    ensures value { OnOk result (text.new.items ≡ text.old.items ++ flood_heading unit.now begin until count) }
+    ensures err { IfErr result (λ e. e ≡ Memory) }
+{
+    let mut buffer = Buffer::new();
+    push_column(text, b"FLOODS")?;
+    push_column(text, unit.as_bytes())?;
+    push_column(text, b"FROM")?;
+    push_moment(text, begin)?;
+    push_column(text, b"TO")?;
+    push_moment(text, until)?;
+    push_column(text, b"COUNT")?;
+    push_last(text, buffer.format(count).as_bytes())
+}
+
+fn push_flood(text: &mut Vec<u8>, line: &FloodLine) -> Result<(), Fault>
+    ensures value { OnOk result (text.new.items ≡ text.old.items ++ line_of (flood_columns line.now)) }
+    ensures err { IfErr result (λ e. e ≡ Memory) }
+{
+    let mut total = Buffer::new();
+    let mut peak = Buffer::new();
+    push_moment(text, line.start)?;
+    push_moment(text, line.until)?;
+    push_right(text, 6, total.format(line.total).as_bytes())?;
+    push_last_right(text, 6, peak.format(line.peak).as_bytes())
+}
+
+#[cfg(test)]
+mod tests {
+    use super::*;
+    use std::test::Fail;
+
+    #[test]
+    fn prints_two_floods(rt: HostRuntime) -> Result<(), Fail> {
+        let unit = UnitCode::read(rt.alloc(), b"U1")?.ok_or("unit")?;
+        let begin = Moment::of_seconds(825_674_400).ok_or("begin")?;
+        let until = Moment::of_seconds(825_677_400).ok_or("until")?;
+        let lines = [
+            FloodLine {
+                start: begin,
+                until: Moment::of_seconds(825_675_600).ok_or("end")?,
+                total: 16,
+                peak: 11,
+            },
+            FloodLine {
+                start: Moment::of_seconds(825_676_800).ok_or("start")?,
+                until,
+                total: 12,
+                peak: 12,
+            },
+        ];
+        let text = flood_text(rt.alloc(), &unit, begin, until, &lines)?;
+        assert_eq!(rt;
+            text.as_slice(),
+            b"FLOODS U1 FROM 2026-03-01T10:00:00Z TO 2026-03-01T10:50:00Z COUNT 2\n\
+            2026-03-01T10:00:00Z 2026-03-01T10:20:00Z     16     11\n\
+            2026-03-01T10:40:00Z 2026-03-01T10:50:00Z     12     12\n"
+                .as_slice()
+        );
+        Ok(())
+    }
+}

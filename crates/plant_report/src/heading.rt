@@ -1,0 +1,27 @@
+ghost use Rattle.std.specs.Prelude.{◌≡◌, ◌++◌, IfErr, OnOk};
+ghost use Rattle.plant_types.specs.declared.fault.Fault.TheVariants.{Memory};
+ghost use Rattle.plant_report.specs.Texts.{heading};
+
+use crate::columns::{push_column, push_last, push_moment};
+use itoa::Buffer;
+use plant_types::{Fault, Moment};
+
+/// Adds the first line of a text: what it lists, whose, at which moment, and how many lines follow.
+pub fn push_heading(
+    text: &mut Vec<u8>,
+    what: &[u8],
+    whose: &[u8],
+    at: Moment,
+    count: usize,
+) -> Result<(), Fault>
+    ensures value { OnOk result (text.new.items ≡ text.old.items ++ heading what.now whose.now at count) }
+    ensures err { IfErr result (λ e. e ≡ Memory) }
+{
+    let mut buffer = Buffer::new();
+    push_column(text, what)?;
+    push_column(text, whose)?;
+    push_column(text, b"AT")?;
+    push_moment(text, at)?;
+    push_column(text, b"COUNT")?;
+    push_last(text, buffer.format(count).as_bytes())
+}

@@ -1,0 +1,411 @@
+-- What each text means under the schema, found by running the resolver's meaning.
+use Rattle.std.proofs.Common.{◌≡◌, Ok, refl, List, ℕ, [], ◌∷◌, false, codes, pos}
+use Rattle.std.specs.Fmt.{digits}
+use Rattle.sqlite.specs.Collation.TheVariants.{Binary}
+use Rattle.sqlite.specs.Change.{created, indexed}
+use Rattle.sqlite.specs.Command.TheVariants.{Insert, InsertOr, Delete, Select, CreateTable, CreateIndex}
+use Rattle.sqlite.specs.Compile.{table_defined_by, index_defined_by}
+use Rattle.sqlite.specs.Listing.{understood, reads_listing}
+use Rattle.sqlite.specs.Query.{inner, end}
+use Rattle.sqlite.specs.Source.TheVariants.{Values}
+use Rattle.sqlite.specs.Term.{Term, lit, col, op2}
+use Rattle.sqlite.proofs.Callers.{IsPlain, command_of, statement_of}
+use Rattle.sqlite_schema.specs.declared.command.Conflict.TheVariants.{Replace}
+use Rattle.sqlite_sql.specs.declared.ops.BinaryOp.TheVariants.{Compare}
+use Rattle.sqlite_sql.specs.declared.ops.CompareOp.TheVariants.{Eq}
+use Rattle.sqlite_tied.specs.Compute.{everything}
+use Rattle.sqlite_value.specs.declared.keys.Key.{Key}
+use Rattle.sqlite_value.specs.declared.value.Value.TheVariants.{Null, Int}
+use Rattle.sqlite_value.specs.Keys.{ascending}
+use Rattle.plant_store.specs.Texts.{office_text, units_text, grants_text, alarms_text, shelves_text, bands_text, cells_text, by_person_text, put_office_text, office_row_text, put_unit_text, put_grant_text, put_alarm_text, put_shelf_text, put_band_text, put_cell_text, remove_grant_text, remove_shelf_text, units_of_text, grants_of_text, alarms_of_text, shelves_of_text, bands_of_text, cells_of_text, own_grants_text, alarm_at_text, shelf_at_text, tags_of_text, mine_text}
+use Rattle.plant_store.specs.Tables.{office_table, unit_shape, grant_shape, alarm_shape, shelf_shape, band_shape, cell_shape, by_person, no_schema, office_schema, units_schema, grants_schema, alarms_schema, shelves_schema, bands_schema, cells_schema, books_schema}
+use Rattle.plant_tables.specs.Kept.{plain_query}
+use Rattle.plant_tables.specs.Shape.{table_in}
+
+-- ---- what makes the schema: the table that a text defines lies in tree 0 until it is made
+
+pub office_made : table_defined_by office_text ≡ Ok (office_table)
+unfolding everything
+office_made = refl
+
+pub office_created : created no_schema (office_table) ≡ office_schema
+unfolding digits
+office_created = refl
+
+pub office_is : (command_of (understood no_schema office_text) ≡ CreateTable) × (statement_of office_text (understood no_schema office_text) ≡ office_text)
+unfolding understood everything
+office_is = (refl, refl)
+
+pub office_plain : IsPlain (understood no_schema office_text)
+unfolding understood everything
+office_plain = (refl, refl)
+
+pub units_made : table_defined_by units_text ≡ Ok (table_in (record unit_shape { tree = 0 }))
+unfolding everything
+units_made = refl
+
+pub units_created : created office_schema (table_in (record unit_shape { tree = 0 })) ≡ units_schema
+unfolding digits
+units_created = refl
+
+pub units_is : (command_of (understood office_schema units_text) ≡ CreateTable) × (statement_of units_text (understood office_schema units_text) ≡ units_text)
+unfolding understood everything
+units_is = (refl, refl)
+
+pub units_plain : IsPlain (understood office_schema units_text)
+unfolding understood everything
+units_plain = (refl, refl)
+
+pub grants_made : table_defined_by grants_text ≡ Ok (table_in (record grant_shape { tree = 0 }))
+unfolding everything
+grants_made = refl
+
+pub grants_created : created units_schema (table_in (record grant_shape { tree = 0 })) ≡ grants_schema
+unfolding digits
+grants_created = refl
+
+pub grants_is : (command_of (understood units_schema grants_text) ≡ CreateTable) × (statement_of grants_text (understood units_schema grants_text) ≡ grants_text)
+unfolding understood everything
+grants_is = (refl, refl)
+
+pub grants_plain : IsPlain (understood units_schema grants_text)
+unfolding understood everything
+grants_plain = (refl, refl)
+
+pub alarms_made : table_defined_by alarms_text ≡ Ok (table_in (record alarm_shape { tree = 0 }))
+unfolding everything
+alarms_made = refl
+
+pub alarms_created : created grants_schema (table_in (record alarm_shape { tree = 0 })) ≡ alarms_schema
+unfolding digits
+alarms_created = refl
+
+pub alarms_is : (command_of (understood grants_schema alarms_text) ≡ CreateTable) × (statement_of alarms_text (understood grants_schema alarms_text) ≡ alarms_text)
+unfolding understood everything
+alarms_is = (refl, refl)
+
+pub alarms_plain : IsPlain (understood grants_schema alarms_text)
+unfolding understood everything
+alarms_plain = (refl, refl)
+
+pub shelves_made : table_defined_by shelves_text ≡ Ok (table_in (record shelf_shape { tree = 0 }))
+unfolding everything
+shelves_made = refl
+
+pub shelves_created : created alarms_schema (table_in (record shelf_shape { tree = 0 })) ≡ shelves_schema
+unfolding digits
+shelves_created = refl
+
+pub shelves_is : (command_of (understood alarms_schema shelves_text) ≡ CreateTable) × (statement_of shelves_text (understood alarms_schema shelves_text) ≡ shelves_text)
+unfolding understood everything
+shelves_is = (refl, refl)
+
+pub shelves_plain : IsPlain (understood alarms_schema shelves_text)
+unfolding understood everything
+shelves_plain = (refl, refl)
+
+pub bands_made : table_defined_by bands_text ≡ Ok (table_in (record band_shape { tree = 0 }))
+unfolding everything
+bands_made = refl
+
+pub bands_created : created shelves_schema (table_in (record band_shape { tree = 0 })) ≡ bands_schema
+unfolding digits
+bands_created = refl
+
+pub bands_is : (command_of (understood shelves_schema bands_text) ≡ CreateTable) × (statement_of bands_text (understood shelves_schema bands_text) ≡ bands_text)
+unfolding understood everything
+bands_is = (refl, refl)
+
+pub bands_plain : IsPlain (understood shelves_schema bands_text)
+unfolding understood everything
+bands_plain = (refl, refl)
+
+pub cells_made : table_defined_by cells_text ≡ Ok (table_in (record cell_shape { tree = 0 }))
+unfolding everything
+cells_made = refl
+
+pub cells_created : created bands_schema (table_in (record cell_shape { tree = 0 })) ≡ cells_schema
+unfolding digits
+cells_created = refl
+
+pub cells_is : (command_of (understood bands_schema cells_text) ≡ CreateTable) × (statement_of cells_text (understood bands_schema cells_text) ≡ cells_text)
+unfolding understood everything
+cells_is = (refl, refl)
+
+pub cells_plain : IsPlain (understood bands_schema cells_text)
+unfolding understood everything
+cells_plain = (refl, refl)
+
+pub by_person_made : index_defined_by (table_in grant_shape) by_person_text ≡ Ok (record by_person { tree = 0 })
+unfolding everything
+by_person_made = refl
+
+pub by_person_created : indexed cells_schema (table_in grant_shape) (record by_person { tree = 0 }) ≡ books_schema
+by_person_created = refl
+
+pub by_person_is : (command_of (understood cells_schema by_person_text) ≡ CreateIndex 2) × (statement_of by_person_text (understood cells_schema by_person_text) ≡ by_person_text)
+unfolding understood everything
+by_person_is = (refl, refl)
+
+pub by_person_plain : IsPlain (understood cells_schema by_person_text)
+unfolding understood everything
+by_person_plain = (refl, refl)
+
+-- ---- the office's row
+pub put_office_is : command_of (understood books_schema put_office_text) ≡ Insert 0 (Values (lit (Int (pos 1)) ∷ lit Null ∷ lit (Int (pos 2)) ∷ col 0 0 ∷ []) 4)
+unfolding understood everything
+put_office_is = refl
+
+pub put_office_plain : IsPlain (understood books_schema put_office_text)
+unfolding understood everything
+put_office_plain = (refl, refl)
+
+pub office_row_is : (command_of (understood books_schema office_row_text) ≡ Select (record { lets = []; body = plain_query (inner 0 end) [] (col 1 0 ∷ col 1 2 ∷ col 1 3 ∷ []) [] }) (codes "id" ∷ codes "schema_no" ∷ codes "admin" ∷ []))
+    × (reads_listing books_schema office_row_text ≡ false)
+unfolding understood everything
+office_row_is = (refl, refl)
+
+pub office_row_plain : IsPlain (understood books_schema office_row_text)
+unfolding understood everything
+office_row_plain = (refl, refl)
+
+-- ---- a row put
+
+abbrev pub put_unit_terms : List Term
+put_unit_terms = lit Null ∷ col 0 0 ∷ col 0 1 ∷ col 0 2 ∷ col 0 3 ∷ col 0 4 ∷ []
+
+pub put_unit_is : command_of (understood books_schema put_unit_text) ≡ InsertOr 1 Replace (Values put_unit_terms 6) []
+unfolding understood everything
+put_unit_is = refl
+
+pub put_unit_plain : IsPlain (understood books_schema put_unit_text)
+unfolding understood everything
+put_unit_plain = (refl, refl)
+
+abbrev pub put_grant_terms : List Term
+put_grant_terms = lit Null ∷ col 0 0 ∷ col 0 1 ∷ col 0 2 ∷ col 0 3 ∷ []
+
+pub put_grant_is : command_of (understood books_schema put_grant_text) ≡ InsertOr 2 Replace (Values put_grant_terms 5) []
+unfolding understood everything
+put_grant_is = refl
+
+pub put_grant_plain : IsPlain (understood books_schema put_grant_text)
+unfolding understood everything
+put_grant_plain = (refl, refl)
+
+abbrev pub put_alarm_terms : List Term
+put_alarm_terms = lit Null ∷ col 0 0 ∷ col 0 1 ∷ col 0 2 ∷ col 0 3 ∷ col 0 4 ∷ col 0 5 ∷ col 0 6 ∷ col 0 7 ∷ col 0 8 ∷ col 0 9 ∷ col 0 10 ∷ col 0 11 ∷ []
+
+pub put_alarm_is : command_of (understood books_schema put_alarm_text) ≡ InsertOr 3 Replace (Values put_alarm_terms 13) []
+unfolding understood everything
+put_alarm_is = refl
+
+pub put_alarm_plain : IsPlain (understood books_schema put_alarm_text)
+unfolding understood everything
+put_alarm_plain = (refl, refl)
+
+abbrev pub put_shelf_terms : List Term
+put_shelf_terms = lit Null ∷ col 0 0 ∷ col 0 1 ∷ col 0 2 ∷ col 0 3 ∷ col 0 4 ∷ col 0 5 ∷ col 0 6 ∷ []
+
+pub put_shelf_is : command_of (understood books_schema put_shelf_text) ≡ InsertOr 4 Replace (Values put_shelf_terms 8) []
+unfolding understood everything
+put_shelf_is = refl
+
+pub put_shelf_plain : IsPlain (understood books_schema put_shelf_text)
+unfolding understood everything
+put_shelf_plain = (refl, refl)
+
+abbrev pub put_band_terms : List Term
+put_band_terms = lit Null ∷ col 0 0 ∷ col 0 1 ∷ col 0 2 ∷ col 0 3 ∷ []
+
+pub put_band_is : command_of (understood books_schema put_band_text) ≡ InsertOr 5 Replace (Values put_band_terms 5) []
+unfolding understood everything
+put_band_is = refl
+
+pub put_band_plain : IsPlain (understood books_schema put_band_text)
+unfolding understood everything
+put_band_plain = (refl, refl)
+
+abbrev pub put_cell_terms : List Term
+put_cell_terms = lit Null ∷ col 0 0 ∷ col 0 1 ∷ col 0 2 ∷ col 0 3 ∷ col 0 4 ∷ []
+
+pub put_cell_is : command_of (understood books_schema put_cell_text) ≡ InsertOr 6 Replace (Values put_cell_terms 6) []
+unfolding understood everything
+put_cell_is = refl
+
+pub put_cell_plain : IsPlain (understood books_schema put_cell_text)
+unfolding understood everything
+put_cell_plain = (refl, refl)
+
+-- ---- tests of the first columns against the parameters, and the orders of the keys
+abbrev pub by_unit : List Term
+by_unit = op2 (Compare Eq Binary) (col 1 1) (col 0 0) ∷ []
+
+abbrev pub by_two : List Term
+by_two = op2 (Compare Eq Binary) (col 1 1) (col 0 0) ∷ op2 (Compare Eq Binary) (col 1 2) (col 0 1) ∷ []
+
+abbrev pub by_three : List Term
+by_three = op2 (Compare Eq Binary) (col 1 1) (col 0 0) ∷ op2 (Compare Eq Binary) (col 1 2) (col 0 1) ∷ op2 (Compare Eq Binary) (col 1 3) (col 0 2) ∷ []
+
+abbrev pub order_1 : List (Term × Key)
+order_1 = (col 1 1, ascending Binary) ∷ []
+
+abbrev pub order_2 : List (Term × Key)
+order_2 = (col 1 1, ascending Binary) ∷ (col 1 2, ascending Binary) ∷ []
+
+abbrev pub order_3 : List (Term × Key)
+order_3 = (col 1 1, ascending Binary) ∷ (col 1 2, ascending Binary) ∷ (col 1 3, ascending Binary) ∷ []
+
+abbrev pub order_4 : List (Term × Key)
+order_4 = (col 1 1, ascending Binary) ∷ (col 1 2, ascending Binary) ∷ (col 1 3, ascending Binary) ∷ (col 1 4, ascending Binary) ∷ []
+
+-- ---- a row taken out
+
+pub remove_grant_is : command_of (understood books_schema remove_grant_text) ≡ Delete 2 (record { lets = []; body = plain_query (inner 3 end) by_three (col 1 0 ∷ []) [] })
+unfolding understood everything
+remove_grant_is = refl
+
+pub remove_grant_plain : IsPlain (understood books_schema remove_grant_text)
+unfolding understood everything
+remove_grant_plain = (refl, refl)
+
+pub remove_shelf_is : command_of (understood books_schema remove_shelf_text) ≡ Delete 4 (record { lets = []; body = plain_query (inner 7 end) by_two (col 1 0 ∷ []) [] })
+unfolding understood everything
+remove_shelf_is = refl
+
+pub remove_shelf_plain : IsPlain (understood books_schema remove_shelf_text)
+unfolding understood everything
+remove_shelf_plain = (refl, refl)
+
+-- ---- rows read
+
+abbrev pub unit_shows : List Term
+unit_shows = col 1 2 ∷ col 1 3 ∷ col 1 4 ∷ col 1 5 ∷ []
+
+abbrev pub unit_names : List (List ℕ)
+unit_names = codes "last_s" ∷ codes "matrix_no" ∷ codes "matrix_rev" ∷ codes "quota" ∷ []
+
+abbrev pub grant_shows : List Term
+grant_shows = col 1 2 ∷ col 1 3 ∷ col 1 4 ∷ []
+
+abbrev pub grant_names : List (List ℕ)
+grant_names = codes "person" ∷ codes "role_no" ∷ codes "end_s" ∷ []
+
+abbrev pub alarm_shows : List Term
+alarm_shows = col 1 2 ∷ col 1 3 ∷ col 1 4 ∷ col 1 5 ∷ col 1 6 ∷ col 1 7 ∷ col 1 8 ∷ col 1 9 ∷ col 1 10 ∷ col 1 11 ∷ col 1 12 ∷ []
+
+abbrev pub alarm_names : List (List ℕ)
+alarm_names = codes "tag" ∷ codes "latching" ∷ codes "max_s" ∷ codes "max_rev" ∷ codes "state_no" ∷ codes "suppressed" ∷ codes "active_s" ∷ codes "return_s" ∷ codes "out_s" ∷ codes "out_by" ∷ codes "out_words" ∷ []
+
+abbrev pub shelf_shows : List Term
+shelf_shows = col 1 2 ∷ col 1 3 ∷ col 1 4 ∷ col 1 5 ∷ col 1 6 ∷ col 1 7 ∷ []
+
+abbrev pub shelf_names : List (List ℕ)
+shelf_names = codes "tag" ∷ codes "one_shot" ∷ codes "start_s" ∷ codes "until_s" ∷ codes "person" ∷ codes "words" ∷ []
+
+abbrev pub band_shows : List Term
+band_shows = col 1 2 ∷ col 1 3 ∷ col 1 4 ∷ []
+
+abbrev pub band_names : List (List ℕ)
+band_names = codes "matrix_no" ∷ codes "band_no" ∷ codes "limit_s" ∷ []
+
+abbrev pub cell_shows : List Term
+cell_shows = col 1 2 ∷ col 1 3 ∷ col 1 4 ∷ col 1 5 ∷ []
+
+abbrev pub cell_names : List (List ℕ)
+cell_names = codes "matrix_no" ∷ codes "severity" ∷ codes "band_no" ∷ codes "cell_no" ∷ []
+
+pub units_of_is : (command_of (understood books_schema units_of_text) ≡ Select (record { lets = []; body = plain_query (inner 1 end) by_unit unit_shows order_1 }) unit_names) × (reads_listing books_schema units_of_text ≡ false)
+unfolding understood everything
+units_of_is = (refl, refl)
+
+pub units_of_plain : IsPlain (understood books_schema units_of_text)
+unfolding understood everything
+units_of_plain = (refl, refl)
+
+pub grants_of_is : (command_of (understood books_schema grants_of_text) ≡ Select (record { lets = []; body = plain_query (inner 3 end) by_unit grant_shows order_3 }) grant_names) × (reads_listing books_schema grants_of_text ≡ false)
+unfolding understood everything
+grants_of_is = (refl, refl)
+
+pub grants_of_plain : IsPlain (understood books_schema grants_of_text)
+unfolding understood everything
+grants_of_plain = (refl, refl)
+
+pub alarms_of_is : (command_of (understood books_schema alarms_of_text) ≡ Select (record { lets = []; body = plain_query (inner 5 end) by_unit alarm_shows order_2 }) alarm_names) × (reads_listing books_schema alarms_of_text ≡ false)
+unfolding understood everything
+alarms_of_is = (refl, refl)
+
+pub alarms_of_plain : IsPlain (understood books_schema alarms_of_text)
+unfolding understood everything
+alarms_of_plain = (refl, refl)
+
+pub shelves_of_is : (command_of (understood books_schema shelves_of_text) ≡ Select (record { lets = []; body = plain_query (inner 7 end) by_unit shelf_shows order_2 }) shelf_names) × (reads_listing books_schema shelves_of_text ≡ false)
+unfolding understood everything
+shelves_of_is = (refl, refl)
+
+pub shelves_of_plain : IsPlain (understood books_schema shelves_of_text)
+unfolding understood everything
+shelves_of_plain = (refl, refl)
+
+pub bands_of_is : (command_of (understood books_schema bands_of_text) ≡ Select (record { lets = []; body = plain_query (inner 9 end) by_unit band_shows order_3 }) band_names) × (reads_listing books_schema bands_of_text ≡ false)
+unfolding understood everything
+bands_of_is = (refl, refl)
+
+pub bands_of_plain : IsPlain (understood books_schema bands_of_text)
+unfolding understood everything
+bands_of_plain = (refl, refl)
+
+pub cells_of_is : (command_of (understood books_schema cells_of_text) ≡ Select (record { lets = []; body = plain_query (inner 11 end) by_unit cell_shows order_4 }) cell_names) × (reads_listing books_schema cells_of_text ≡ false)
+unfolding understood everything
+cells_of_is = (refl, refl)
+
+pub cells_of_plain : IsPlain (understood books_schema cells_of_text)
+unfolding understood everything
+cells_of_plain = (refl, refl)
+
+pub own_grants_is : (command_of (understood books_schema own_grants_text) ≡ Select (record { lets = []; body = plain_query (inner 3 end) by_two grant_shows order_3 }) grant_names) × (reads_listing books_schema own_grants_text ≡ false)
+unfolding understood everything
+own_grants_is = (refl, refl)
+
+pub own_grants_plain : IsPlain (understood books_schema own_grants_text)
+unfolding understood everything
+own_grants_plain = (refl, refl)
+
+pub alarm_at_is : (command_of (understood books_schema alarm_at_text) ≡ Select (record { lets = []; body = plain_query (inner 5 end) by_two alarm_shows order_2 }) alarm_names) × (reads_listing books_schema alarm_at_text ≡ false)
+unfolding understood everything
+alarm_at_is = (refl, refl)
+
+pub alarm_at_plain : IsPlain (understood books_schema alarm_at_text)
+unfolding understood everything
+alarm_at_plain = (refl, refl)
+
+pub shelf_at_is : (command_of (understood books_schema shelf_at_text) ≡ Select (record { lets = []; body = plain_query (inner 7 end) by_two shelf_shows order_2 }) shelf_names) × (reads_listing books_schema shelf_at_text ≡ false)
+unfolding understood everything
+shelf_at_is = (refl, refl)
+
+pub shelf_at_plain : IsPlain (understood books_schema shelf_at_text)
+unfolding understood everything
+shelf_at_plain = (refl, refl)
+
+pub tags_of_is : (command_of (understood books_schema tags_of_text) ≡ Select (record { lets = []; body = plain_query (inner 5 end) by_unit (col 1 2 ∷ []) order_2 }) (codes "tag" ∷ [])) × (reads_listing books_schema tags_of_text ≡ false)
+unfolding understood everything
+tags_of_is = (refl, refl)
+
+pub tags_of_plain : IsPlain (understood books_schema tags_of_text)
+unfolding understood everything
+tags_of_plain = (refl, refl)
+
+abbrev pub mine_tests : List Term
+mine_tests = op2 (Compare Eq Binary) (col 2 1) (col 1 1) ∷ op2 (Compare Eq Binary) (col 1 2) (col 0 0) ∷ []
+
+abbrev pub mine_shows : List Term
+mine_shows = col 1 1 ∷ col 1 3 ∷ col 1 4 ∷ col 2 2 ∷ []
+
+pub mine_is : (command_of (understood books_schema mine_text) ≡ Select (record { lets = []; body = plain_query (inner 3 (inner 1 end)) mine_tests mine_shows order_3 }) (codes "unit" ∷ codes "role_no" ∷ codes "end_s" ∷ codes "last_s" ∷ []))
+    × (reads_listing books_schema mine_text ≡ false)
+unfolding understood everything
+mine_is = (refl, refl)
+
+pub mine_plain : IsPlain (understood books_schema mine_text)
+unfolding understood everything
+mine_plain = (refl, refl)

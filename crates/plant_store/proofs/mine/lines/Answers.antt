@@ -1,0 +1,30 @@
+use Rattle.std.proofs.Common.{◌≡◌, refl}
+use Rattle.sqlite.specs.Held.{state}
+use Rattle.sqlite_value.specs.Order.{Row, bytes, column}
+use Rattle.plant_store.specs.declared.mine.Line.{Line}
+use Rattle.plant_store.specs.Codes.{number_in, open_number_in, role_in}
+use Rattle.plant_store.specs.Mine.{line_cells}
+use Rattle.plant_store.proofs.Joined.{find_mine}
+use Rattle.plant_store.specs.Tables.{books_schema}
+use Rattle.plant_store.proofs.Meanings.{mine_plain}
+use Rattle.plant_store.proofs.Queries.{if_ok, told_by}
+use Rattle.plant_store.proofs.ShapeLaws.{open_number_back, role_back}
+use Rattle.plant_store.proofs.mine.lines.Goals as goal
+
+line_back : Row → Line
+line_back r = record { unit = bytes (column r 0); role_no = role_in (column r 1); end_s = open_number_in (column r 2); last_s = number_in (column r 3) }
+
+read_back : (l : Line) → line_back (line_cells l) ≡ l
+unfolding line_back
+read_back l = λ i. record { unit = l.unit; role_no = role_back l.role_no i; end_s = open_number_back l.end_s i; last_s = l.last_s }
+
+pub returns-clause-found : goal.returns-clause-found
+returns-clause-found g c told m k =
+    let shown = find_mine (state g.S.Store c.args.conn.now) m k c.args.person.now (state g.S.Store c.ask.new.conn) c.in_ok-rows.rows.items (rw c.single.ensures at (c.in_ok-rows.ensures.rows told.0)) in
+    if_ok c.read_all.result (λ read. told_by line_cells line_back read_back 4 (λ x. refl) c.in_ok-rows.rows.items _ read shown) (rw c.as_slice.ensures.value at c.read_all.ensures)
+
+pub returns-clause-same : goal.returns-clause-same
+returns-clause-same g c told books = c.ask.ensures.same told books_schema books.same_schema mine_plain
+
+pub returns-in_err-rows-clause-same : goal.returns-in_err-rows-clause-same
+returns-in_err-rows-clause-same g c told books = c.ask.ensures.same told books_schema books.same_schema mine_plain

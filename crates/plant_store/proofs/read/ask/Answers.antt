@@ -1,0 +1,32 @@
+use Rattle.std.proofs.Common.{◌≡◌, ◌⊎◌, IsTrue, Ok, Err, Result, IfOk, IfErr, List, Vec, ℕ, arith, rules}
+use Rattle.std.specs.declared.alloc.Global.{Global}
+use Rattle.sqlite.specs.declared.error.Error.{Error}
+use Rattle.sqlite.specs.Held.{state}
+use Rattle.sqlite.specs.Listing.{understood}
+use Rattle.sqlite.specs.Order.{Row}
+use Rattle.sqlite.specs.Schema.{Schema}
+use Rattle.sqlite.specs.State.{State, Shown, FailsToQuery, IsUnchanged, IsRolledBack, HasCleanDisk}
+use Rattle.sqlite.specs.Values.{bound}
+use Rattle.sqlite.proofs.Callers.{IsPlain}
+use Rattle.plant_tables.proofs.Asking.{asked, same_now, was_open}
+use Rattle.plant_store.proofs.read.ask.Goals as goal
+
+either_way : (sql : List ℕ) (params : Row) (old new : State) (r : Result (Vec Row Global) Error) → (schema : Schema) → old.now.schema ≡ schema → IsPlain (understood schema sql) → IfOk r (λ rows. Shown sql params old new rows.items)
+    → IfErr r (FailsToQuery sql params old new) → IsUnchanged old new ⊎ IsRolledBack old new
+either_way sql params old new (Ok rows) schema is plain ok err = asked sql params old new schema is plain (λ (v : Vec Row Global). v.items) (Ok rows) ok
+either_way sql params old new (Err e) schema is plain ok err = asked sql params old new schema is plain (λ (v : Vec Row Global). v.items) (Err e) err
+
+pub returns-clause-same : goal.returns-clause-same
+returns-clause-same g c told schema is plain =
+    let old = state g.S.Store c.args.conn.now in
+    let new = state g.S.Store c.query_all.new.self in
+    let quiet : IsTrue c.is_autocommit-settled.result = search rules in
+    same_now old new (c.is_autocommit-settled.ensures.settled quiet) told.1
+    (either_way c.args.sql.now (bound c.args.cells.now) old new c.query_all.result schema is plain (c.query_all.ensures.ok told.0) (c.query_all.ensures.err told.0))
+
+pub returns-clause-told : goal.returns-clause-told
+returns-clause-told g c told =
+    let old = state g.S.Store c.args.conn.now in
+    let new = state g.S.Store c.query_all.new.self in
+    let early : HasCleanDisk old = omega (arith, c.query_all.ensures.survives.clean) in
+    (early, was_open c.args.sql.now _ old new (λ (v : Vec Row Global). v.items) c.query_all.result told.1 (c.query_all.ensures.ok told.0) (c.query_all.ensures.err told.0))

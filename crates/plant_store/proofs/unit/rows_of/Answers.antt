@@ -1,0 +1,56 @@
+use Rattle.std.proofs.Common.{◌≡◌, List, ap, sym, ◌∙◌, subst, true, rules}
+use Rattle.sqlite.specs.Effect.{Database}
+use Rattle.sqlite.specs.Held.{state}
+use Rattle.plant_store.specs.Tables.{AreBooks, AreSeen, rows_seen}
+use Rattle.plant_store.specs.Tables.Kept.{UnitKept, GrantKept, AlarmKept, ShelfKept, BandKept, CellKept}
+use Rattle.plant_model.specs.declared.rows.UnitRows.{UnitRows}
+use Rattle.plant_store.proofs.Contents.{none_found, whole_found}
+use Rattle.plant_store.proofs.unit.rows_of.Goals as goal
+
+-- each list was seen in a database that is the first one
+all_seen : (u : List Rattle.std.proofs.Common.ℕ) (db : Database) (rows : UnitRows) → rows.units ≡ rows_seen u db.trees UnitKept → rows.grants ≡ rows_seen u db.trees GrantKept → rows.alarms ≡ rows_seen u db.trees AlarmKept
+    → rows.shelves ≡ rows_seen u db.trees ShelfKept → rows.bands ≡ rows_seen u db.trees BandKept → rows.cells ≡ rows_seen u db.trees CellKept → AreSeen u db rows
+all_seen u db rows a b c d e f UnitKept = sym a
+all_seen u db rows a b c d e f GrantKept = sym b
+all_seen u db rows a b c d e f AlarmKept = sym c
+all_seen u db rows a b c d e f ShelfKept = sym d
+all_seen u db rows a b c d e f BandKept = sym e
+all_seen u db rows a b c d e f CellKept = sym f
+
+pub returns-then-not-has_row-clause-found : goal.returns-then-not-has_row-clause-found
+returns-then-not-has_row-clause-found g c told m k =
+    none_found (state g.S.Store c.args.conn.now) m c.args.unit.now k c.in_ok-units.units (c.in_ok-units.ensures.rows told.0 k.books) (search rules)
+
+pub returns-clause-found : goal.returns-clause-found
+returns-clause-found g c told m k =
+    let u = c.args.unit.now in
+    let old = state g.S.Store c.args.conn.now in
+    let s1 = state g.S.Store c.units_of.new.conn in
+    let s2 = state g.S.Store c.grants_of.new.conn in
+    let s3 = state g.S.Store c.alarms_of.new.conn in
+    let s4 = state g.S.Store c.shelves_of.new.conn in
+    let s5 = state g.S.Store c.bands_of.new.conn in
+    let t5 = c.cells_of.ensures.told told in
+    let t4 = c.bands_of.ensures.told t5 in
+    let t3 = c.shelves_of.ensures.told t4 in
+    let t2 = c.alarms_of.ensures.told t3 in
+    let t1 = c.grants_of.ensures.told t2 in
+    let e1 : s1.now ≡ old.now = c.units_of.ensures.same t1 k.books in
+    let b1 : AreBooks s1.now = subst AreBooks (sym e1) k.books in
+    let e2 : s2.now ≡ old.now = c.grants_of.ensures.same t2 b1 ∙ e1 in
+    let b2 : AreBooks s2.now = subst AreBooks (sym e2) k.books in
+    let e3 : s3.now ≡ old.now = c.alarms_of.ensures.same t3 b2 ∙ e2 in
+    let b3 : AreBooks s3.now = subst AreBooks (sym e3) k.books in
+    let e4 : s4.now ≡ old.now = c.shelves_of.ensures.same t4 b3 ∙ e3 in
+    let b4 : AreBooks s4.now = subst AreBooks (sym e4) k.books in
+    let e5 : s5.now ≡ old.now = c.bands_of.ensures.same t5 b4 ∙ e4 in
+    let b5 : AreBooks s5.now = subst AreBooks (sym e5) k.books in
+    let rows : UnitRows = record { units = c.in_ok-units.units; grants = c.in_ok-grants.grants; alarms = c.in_ok-alarms.alarms; shelves = c.in_ok-shelves.shelves; bands = c.in_ok-bands.bands; cells = c.in_ok-cells.cells } in
+    whole_found old m u k rows
+    (all_seen u old.now rows (c.in_ok-units.ensures.rows t1.0 k.books)
+    (c.in_ok-grants.ensures.rows t2.0 b1 ∙ ap (λ (d : Database). rows_seen u d.trees GrantKept) e1)
+    (c.in_ok-alarms.ensures.rows t3.0 b2 ∙ ap (λ (d : Database). rows_seen u d.trees AlarmKept) e2)
+    (c.in_ok-shelves.ensures.rows t4.0 b3 ∙ ap (λ (d : Database). rows_seen u d.trees ShelfKept) e3)
+    (c.in_ok-bands.ensures.rows t5.0 b4 ∙ ap (λ (d : Database). rows_seen u d.trees BandKept) e4)
+    (c.in_ok-cells.ensures.rows told.0 b5 ∙ ap (λ (d : Database). rows_seen u d.trees CellKept) e5))
+    (search rules)

@@ -1,0 +1,101 @@
+-- Typed values as the values of columns, and back. A column that holds a value outside its set is read as some value of
+-- it here: the reading code answers a fault there.
+use Rattle.sqlite.specs.Values.{or_null}
+use Rattle.sqlite_value.specs.declared.value.Value.{Value}
+use Rattle.sqlite_value.specs.declared.value.Value.TheVariants.{Int, Text}
+use Rattle.std.specs.Prelude.{Bool, List, None, Option, Some, if◌then◌else◌, pos, ℕ, ◌==◌}
+use Rattle.plant_alarm.specs.declared.summary.AlarmState.{AlarmState}
+use Rattle.plant_alarm.specs.declared.summary.AlarmState.TheVariants.{Acknowledged, LatchedAck, LatchedUnack, Normal, ReturnedUnack, Unacknowledged}
+use Rattle.plant_ration.specs.declared.cell.Cell.{Cell}
+use Rattle.plant_ration.specs.declared.cell.Cell.TheVariants.{N, P1, P2, P3, P4}
+use Rattle.plant_types.specs.declared.role.Role.{Role}
+use Rattle.plant_types.specs.declared.role.Role.TheVariants.{Approver, Engineer, Maintainer, Operator, Steward, Viewer}
+use Rattle.plant_types.specs.Roles.{role_no}
+
+-- a number, and a number or a text that may be missing
+abbrev pub number : ℕ → Value
+number n = Int (pos n)
+
+abbrev pub number_in : Value → ℕ
+number_in (Int (pos n)) = n
+number_in _ = 0
+
+abbrev pub open_number : Option ℕ → Value
+open_number o = or_null number o
+
+abbrev pub open_number_in : Value → Option ℕ
+open_number_in (Int (pos n)) = Some n
+open_number_in _ = None
+
+abbrev pub open_text : Option (List ℕ) → Value
+open_text o = or_null Text o
+
+abbrev pub open_text_in : Value → Option (List ℕ)
+open_text_in (Text t) = Some t
+open_text_in _ = None
+
+-- 1 for true, 0 for false
+abbrev pub flag : Bool → Value
+flag b = number (if b then 1 else 0)
+
+abbrev pub flag_in : Value → Bool
+flag_in v = number_in v == 1
+
+-- the roles, 1 to 6
+abbrev pub role : Role → Value
+role r = number (role_no r)
+
+abbrev pub role_numbered : ℕ → Role
+role_numbered n =
+    if n == 1 then Viewer
+    else (if n == 2 then Operator
+    else (if n == 3 then Maintainer
+    else (if n == 4 then Engineer
+    else (if n == 5 then Approver else Steward))))
+
+abbrev pub role_in : Value → Role
+role_in v = role_numbered (number_in v)
+
+-- the states of an alarm, 1 to 6
+abbrev pub state_no : AlarmState → ℕ
+state_no Normal = 1
+state_no Unacknowledged = 2
+state_no Acknowledged = 3
+state_no ReturnedUnack = 4
+state_no LatchedUnack = 5
+state_no LatchedAck = 6
+
+abbrev pub alarm_state : AlarmState → Value
+alarm_state s = number (state_no s)
+
+abbrev pub state_numbered : ℕ → AlarmState
+state_numbered n =
+    if n == 1 then Normal
+    else (if n == 2 then Unacknowledged
+    else (if n == 3 then Acknowledged
+    else (if n == 4 then ReturnedUnack
+    else (if n == 5 then LatchedUnack else LatchedAck))))
+
+abbrev pub state_in : Value → AlarmState
+state_in v = state_numbered (number_in v)
+
+-- the cells of a matrix: 0 for N, and 1 to 4 for P1 to P4
+abbrev pub cell_no : Cell → ℕ
+cell_no N = 0
+cell_no P1 = 1
+cell_no P2 = 2
+cell_no P3 = 3
+cell_no P4 = 4
+
+abbrev pub cell : Cell → Value
+cell c = number (cell_no c)
+
+abbrev pub cell_numbered : ℕ → Cell
+cell_numbered n =
+    if n == 1 then P1
+    else (if n == 2 then P2
+    else (if n == 3 then P3
+    else (if n == 4 then P4 else N)))
+
+abbrev pub cell_in : Value → Cell
+cell_in v = cell_numbered (number_in v)

@@ -1,0 +1,11 @@
+-- Which error of the database is want of memory.
+use Rattle.sqlite.specs.declared.error.Error.{Error}
+use Rattle.sqlite.specs.declared.error.Error.TheVariants.{SqliteFailure}
+use Rattle.sqlite.specs.declared.error.ErrorCode.TheVariants.{OutOfMemory}
+use Rattle.std.specs.Prelude.{◌≡◌, ◌≢◌}
+use Rattle.plant_types.specs.declared.fault.Fault.{Fault}
+use Rattle.plant_types.specs.declared.fault.Fault.TheVariants.{Memory, Store}
+
+abbrev pub Names : Error → Fault → Type 0
+Names e Memory = e ≡ SqliteFailure OutOfMemory
+Names e Store = e ≢ SqliteFailure OutOfMemory

@@ -1,0 +1,22 @@
+-- A connection keeps a content of the books, as far as it can be told.
+use Rattle.sqlite.specs.State.{State}
+use Rattle.std.specs.FinMap.{contains_key}
+use Rattle.std.specs.Prelude.{Bool, List, [], false, true, ◌∷◌, ◌≡◌}
+use Rattle.plant_books.specs.Contents.{Content, rows_in}
+use Rattle.plant_store.specs.Changes.{CanTell, IsOfficeOf}
+use Rattle.plant_store.specs.Tables.{AreBooks, AreSeen}
+use Rattle.plant_types.specs.Names.{Name}
+
+abbrev pub has_any : {A : Type 0} → List A → Bool
+has_any [] = false
+has_any (x ∷ xs) = true
+
+-- the tables have the rows of each unit, and a unit was opened where it has a row of its own
+pub record KeepsIn (s : State) (m : Content) : Type 0 where
+  pub books : AreBooks s.now
+  pub office : IsOfficeOf m.admin s.now
+  pub seen : (u : Name) → AreSeen u s.now (rows_in m u)
+  pub opened : (u : Name) → contains_key m.units u ≡ has_any (rows_in m u).units
+
+abbrev pub Keeps : State → Content → Type 0
+Keeps s m = CanTell s → KeepsIn s m

@@ -1,0 +1,19 @@
+-- The tables while they are made.
+use Rattle.sqlite.specs.Effect.{Database}
+use Rattle.sqlite.specs.Schema.{Schema}
+use Rattle.std.specs.List.{AllByRecursion}
+use Rattle.std.specs.Prelude.{[], ◌≡◌}
+use Rattle.plant_store.specs.Changes.{IsOfficeOf}
+use Rattle.plant_store.specs.Tables.{AreBooks, Kept, shape}
+use Rattle.plant_types.specs.Names.{Name}
+
+-- the tables of this schema are there, and have no row
+pub record AreEmpty (schema : Schema) (db : Database) : Type 0 where
+  pub same_schema : db.schema ≡ schema
+  pub empty : AllByRecursion (λ t. db.trees t.tree ≡ []) schema.tables
+
+-- the books of an office in which no unit was opened
+pub record AreNew (admin : Name) (db : Database) : Type 0 where
+  pub books : AreBooks db
+  pub office : IsOfficeOf admin db
+  pub empty : (i : Kept) → db.trees (shape i).tree ≡ []

@@ -1,0 +1,268 @@
+-- The tables that all units share, each by its shape, and the schema.
+use Rattle.sqlite.specs.Effect.{Database}
+use Rattle.sqlite.specs.Kind.TheVariants.{Integer, Text as TextKind}
+use Rattle.sqlite.specs.Schema.{Schema}
+use Rattle.sqlite.specs.Table.{Table}
+use Rattle.sqlite.specs.Tree.{Trees}
+use Rattle.sqlite_schema.specs.declared.schema.Column.{Column}
+use Rattle.sqlite_schema.specs.declared.schema.Index.{Index}
+use Rattle.sqlite_value.specs.declared.value.Value.TheVariants.{Null, Text}
+use Rattle.sqlite_value.specs.Order.{Row, bytes, column}
+use Rattle.std.specs.Ordering.{nat_cmp}
+use Rattle.std.specs.Prelude.{List, Some, [], codes, false, suc, true, ℕ, ◌∷◌, ◌≡◌}
+use Rattle.plant_model.specs.declared.rows.AlarmRow.{AlarmRow}
+use Rattle.plant_model.specs.declared.rows.BandRow.{BandRow}
+use Rattle.plant_model.specs.declared.rows.CellRow.{CellRow}
+use Rattle.plant_model.specs.declared.rows.GrantRow.{GrantRow}
+use Rattle.plant_model.specs.declared.rows.ShelfRow.{ShelfRow}
+use Rattle.plant_model.specs.declared.rows.UnitRow.{UnitRow}
+use Rattle.plant_model.specs.declared.rows.UnitRows.{UnitRows}
+use Rattle.plant_model.specs.Matrices.{BandKey, CellKey, band_cmp, cell_cmp}
+use Rattle.plant_model.specs.RowFacts.{alarm_tag, band_key, cell_key, pair_of, shelf_tag}
+use Rattle.plant_store.specs.Codes.{alarm_state, cell, cell_in, flag, flag_in, number, number_in, open_number, open_number_in, open_text, open_text_in, role, role_in, state_in}
+use Rattle.plant_tables.specs.Shape.{AreTables, Shape, seen, table_in}
+use Rattle.plant_tables.specs.Tables.{column_of, index_of, open_column}
+use Rattle.plant_types.specs.Names.{Name, name_cmp}
+use Rattle.plant_types.specs.Roles.{Pair, pair_cmp}
+
+-- the tables, by the name of what a row is
+pub data Kept : Type 0 where
+  UnitKept : Kept
+  GrantKept : Kept
+  AlarmKept : Kept
+  ShelfKept : Kept
+  BandKept : Kept
+  CellKept : Kept
+
+abbrev pub RowOf : Kept → Type 0
+RowOf UnitKept = UnitRow
+RowOf GrantKept = GrantRow
+RowOf AlarmKept = AlarmRow
+RowOf ShelfKept = ShelfRow
+RowOf BandKept = BandRow
+RowOf CellKept = CellRow
+
+abbrev pub KeyOf : Kept → Type 0
+KeyOf UnitKept = ℕ
+KeyOf GrantKept = Pair
+KeyOf AlarmKept = Name
+KeyOf ShelfKept = Name
+KeyOf BandKept = BandKey
+KeyOf CellKept = CellKey
+
+abbrev pub text_column : List ℕ → Column
+text_column name = column_of name TextKind
+
+abbrev pub number_column : List ℕ → Column
+number_column name = column_of name Integer
+
+abbrev pub open_text_column : List ℕ → Column
+open_text_column name = open_column name TextKind
+
+abbrev pub open_number_column : List ℕ → Column
+open_number_column name = open_column name Integer
+
+-- a unit has one row of its own
+abbrev pub own_key : UnitRow → ℕ
+own_key r = 0
+
+abbrev pub unit_shape : Shape UnitRow ℕ
+unit_shape = record {
+  name = codes "units";
+  place = 1;
+  tree = 1;
+  columns = text_column (codes "unit") ∷ number_column (codes "last_s") ∷ number_column (codes "matrix_no") ∷ number_column (codes "matrix_rev") ∷ number_column (codes "quota") ∷ [];
+  keys = [];
+  order = nat_cmp;
+  key = own_key;
+  cells = λ r. number r.last_s ∷ number r.matrix_no ∷ number r.matrix_rev ∷ number r.quota ∷ [];
+  read = λ r. record { last_s = number_in (column r 2); matrix_no = number_in (column r 3); matrix_rev = number_in (column r 4); quota = number_in (column r 5) };
+}
+
+abbrev pub grant_shape : Shape GrantRow Pair
+grant_shape = record {
+  name = codes "grants";
+  place = 2;
+  tree = 3;
+  columns = text_column (codes "unit") ∷ text_column (codes "person") ∷ number_column (codes "role_no") ∷ open_number_column (codes "end_s") ∷ [];
+  keys = 2 ∷ 3 ∷ [];
+  order = pair_cmp;
+  key = pair_of;
+  cells = λ r. Text r.person ∷ role r.role_no ∷ open_number r.end_s ∷ [];
+  read = λ r. record { person = bytes (column r 2); role_no = role_in (column r 3); end_s = open_number_in (column r 4) };
+}
+
+abbrev pub alarm_shape : Shape AlarmRow Name
+alarm_shape = record {
+  name = codes "alarms";
+  place = 3;
+  tree = 5;
+  columns = text_column (codes "unit") ∷ text_column (codes "tag") ∷ number_column (codes "latching") ∷ number_column (codes "max_s") ∷ number_column (codes "max_rev") ∷ number_column (codes "state_no") ∷ number_column (codes "suppressed")
+      ∷ open_number_column (codes "active_s") ∷ open_number_column (codes "return_s") ∷ open_number_column (codes "out_s") ∷ open_text_column (codes "out_by") ∷ open_text_column (codes "out_words") ∷ [];
+  keys = 2 ∷ [];
+  order = name_cmp;
+  key = alarm_tag;
+  cells = λ r. Text r.tag ∷ flag r.latching ∷ number r.max_s ∷ number r.max_rev ∷ alarm_state r.state_no ∷ flag r.suppressed ∷ open_number r.active_s ∷ open_number r.return_s ∷ open_number r.out_s ∷ open_text r.out_by ∷ open_text r.out_words ∷ [];
+  read = λ r. record {
+    tag = bytes (column r 2);
+    latching = flag_in (column r 3);
+    max_s = number_in (column r 4);
+    max_rev = number_in (column r 5);
+    state_no = state_in (column r 6);
+    suppressed = flag_in (column r 7);
+    active_s = open_number_in (column r 8);
+    return_s = open_number_in (column r 9);
+    out_s = open_number_in (column r 10);
+    out_by = open_text_in (column r 11);
+    out_words = open_text_in (column r 12);
+  };
+}
+
+abbrev pub shelf_shape : Shape ShelfRow Name
+shelf_shape = record {
+  name = codes "shelves";
+  place = 4;
+  tree = 7;
+  columns = text_column (codes "unit") ∷ text_column (codes "tag") ∷ number_column (codes "one_shot") ∷ number_column (codes "start_s") ∷ number_column (codes "until_s") ∷ text_column (codes "person") ∷ text_column (codes "words") ∷ [];
+  keys = 2 ∷ [];
+  order = name_cmp;
+  key = shelf_tag;
+  cells = λ r. Text r.tag ∷ flag r.one_shot ∷ number r.start_s ∷ number r.until_s ∷ Text r.person ∷ Text r.words ∷ [];
+  read = λ r. record { tag = bytes (column r 2); one_shot = flag_in (column r 3); start_s = number_in (column r 4); until_s = number_in (column r 5); person = bytes (column r 6); words = bytes (column r 7) };
+}
+
+abbrev pub band_shape : Shape BandRow BandKey
+band_shape = record {
+  name = codes "bands";
+  place = 5;
+  tree = 9;
+  columns = text_column (codes "unit") ∷ number_column (codes "matrix_no") ∷ number_column (codes "band_no") ∷ number_column (codes "limit_s") ∷ [];
+  keys = 2 ∷ 3 ∷ [];
+  order = band_cmp;
+  key = band_key;
+  cells = λ r. number r.matrix_no ∷ number r.band_no ∷ number r.limit_s ∷ [];
+  read = λ r. record { matrix_no = number_in (column r 2); band_no = number_in (column r 3); limit_s = number_in (column r 4) };
+}
+
+abbrev pub cell_shape : Shape CellRow CellKey
+cell_shape = record {
+  name = codes "cells";
+  place = 6;
+  tree = 11;
+  columns = text_column (codes "unit") ∷ number_column (codes "matrix_no") ∷ number_column (codes "severity") ∷ number_column (codes "band_no") ∷ number_column (codes "cell_no") ∷ [];
+  keys = 2 ∷ 3 ∷ 4 ∷ [];
+  order = cell_cmp;
+  key = cell_key;
+  cells = λ r. number r.matrix_no ∷ number r.severity ∷ number r.band_no ∷ cell r.cell_no ∷ [];
+  read = λ r. record { matrix_no = number_in (column r 2); severity = number_in (column r 3); band_no = number_in (column r 4); cell_no = cell_in (column r 5) };
+}
+
+abbrev pub shape : (i : Kept) → Shape (RowOf i) (KeyOf i)
+shape UnitKept = unit_shape
+shape GrantKept = grant_shape
+shape AlarmKept = alarm_shape
+shape ShelfKept = shelf_shape
+shape BandKept = band_shape
+shape CellKept = cell_shape
+
+-- the rows of one table among a unit's rows
+abbrev pub rows_at : (i : Kept) → UnitRows → List (RowOf i)
+rows_at UnitKept rows = rows.units
+rows_at GrantKept rows = rows.grants
+rows_at AlarmKept rows = rows.alarms
+rows_at ShelfKept rows = rows.shelves
+rows_at BandKept rows = rows.bands
+rows_at CellKept rows = rows.cells
+
+-- the office's own table, whose key is the rowid
+abbrev pub office_table : Table
+office_table = record {
+  name = codes "office";
+  tree = 0;
+  columns = number_column (codes "id") ∷ number_column (codes "schema_no") ∷ text_column (codes "admin") ∷ [];
+  key = Some 0;
+  primary = 0 ∷ [];
+  uniques = [];
+  orders = [];
+  checks = [];
+  references = [];
+  computed = [];
+  stamps = record { places = []; terms = []; formats = [] };
+  is_counted = false;
+}
+
+-- this schema's number, and its row in the office's table: its first column lies in the rowid
+abbrev pub schema_no : ℕ
+schema_no = 2
+
+abbrev pub office_row : Name → Row
+office_row admin = number 1 ∷ Null ∷ number schema_no ∷ Text admin ∷ []
+
+abbrev pub key_index : {X K : Type 0} → List ℕ → Shape X K → Index
+key_index name s = index_of name (suc s.tree) s.tree (1 ∷ s.keys) true
+
+abbrev pub by_person : Index
+by_person = index_of (codes "grants_by_person") 13 grant_shape.tree (2 ∷ 1 ∷ []) false
+
+-- after each of the statements that make it
+abbrev pub no_schema : Schema
+no_schema = record { tables = []; indexes = []; views = [] }
+
+abbrev pub office_schema : Schema
+office_schema = record { tables = office_table ∷ []; indexes = []; views = [] }
+
+abbrev pub units_schema : Schema
+units_schema = record { tables = office_table ∷ table_in unit_shape ∷ []; indexes = key_index (codes "sqlite_autoindex_units_1") unit_shape ∷ []; views = [] }
+
+abbrev pub grants_schema : Schema
+grants_schema = record { tables = office_table ∷ table_in unit_shape ∷ table_in grant_shape ∷ []; indexes = key_index (codes "sqlite_autoindex_units_1") unit_shape ∷ key_index (codes "sqlite_autoindex_grants_1") grant_shape ∷ []; views = [] }
+
+abbrev pub alarms_schema : Schema
+alarms_schema = record {
+  tables = office_table ∷ table_in unit_shape ∷ table_in grant_shape ∷ table_in alarm_shape ∷ [];
+  indexes = key_index (codes "sqlite_autoindex_units_1") unit_shape ∷ key_index (codes "sqlite_autoindex_grants_1") grant_shape ∷ key_index (codes "sqlite_autoindex_alarms_1") alarm_shape ∷ [];
+  views = [];
+}
+
+abbrev pub shelves_schema : Schema
+shelves_schema = record {
+  tables = office_table ∷ table_in unit_shape ∷ table_in grant_shape ∷ table_in alarm_shape ∷ table_in shelf_shape ∷ [];
+  indexes = key_index (codes "sqlite_autoindex_units_1") unit_shape ∷ key_index (codes "sqlite_autoindex_grants_1") grant_shape ∷ key_index (codes "sqlite_autoindex_alarms_1") alarm_shape ∷ key_index (codes "sqlite_autoindex_shelves_1") shelf_shape ∷ [];
+  views = [];
+}
+
+abbrev pub bands_schema : Schema
+bands_schema = record {
+  tables = office_table ∷ table_in unit_shape ∷ table_in grant_shape ∷ table_in alarm_shape ∷ table_in shelf_shape ∷ table_in band_shape ∷ [];
+  indexes = key_index (codes "sqlite_autoindex_units_1") unit_shape ∷ key_index (codes "sqlite_autoindex_grants_1") grant_shape ∷ key_index (codes "sqlite_autoindex_alarms_1") alarm_shape ∷ key_index (codes "sqlite_autoindex_shelves_1") shelf_shape
+      ∷ key_index (codes "sqlite_autoindex_bands_1") band_shape ∷ [];
+  views = [];
+}
+
+abbrev pub cells_schema : Schema
+cells_schema = record {
+  tables = office_table ∷ table_in unit_shape ∷ table_in grant_shape ∷ table_in alarm_shape ∷ table_in shelf_shape ∷ table_in band_shape ∷ table_in cell_shape ∷ [];
+  indexes = key_index (codes "sqlite_autoindex_units_1") unit_shape ∷ key_index (codes "sqlite_autoindex_grants_1") grant_shape ∷ key_index (codes "sqlite_autoindex_alarms_1") alarm_shape ∷ key_index (codes "sqlite_autoindex_shelves_1") shelf_shape
+      ∷ key_index (codes "sqlite_autoindex_bands_1") band_shape ∷ key_index (codes "sqlite_autoindex_cells_1") cell_shape ∷ [];
+  views = [];
+}
+
+abbrev pub books_schema : Schema
+books_schema = record {
+  tables = office_table ∷ table_in unit_shape ∷ table_in grant_shape ∷ table_in alarm_shape ∷ table_in shelf_shape ∷ table_in band_shape ∷ table_in cell_shape ∷ [];
+  indexes = key_index (codes "sqlite_autoindex_units_1") unit_shape ∷ key_index (codes "sqlite_autoindex_grants_1") grant_shape ∷ key_index (codes "sqlite_autoindex_alarms_1") alarm_shape ∷ key_index (codes "sqlite_autoindex_shelves_1") shelf_shape
+      ∷ key_index (codes "sqlite_autoindex_bands_1") band_shape ∷ key_index (codes "sqlite_autoindex_cells_1") cell_shape ∷ by_person ∷ [];
+  views = [];
+}
+
+-- a database with this schema that only these statements have written
+abbrev pub AreBooks : Database → Type 0
+AreBooks db = AreTables RowOf KeyOf shape books_schema db
+
+-- what the tables have of a unit
+abbrev pub rows_seen : List ℕ → Trees → (i : Kept) → List (RowOf i)
+rows_seen unit trees = seen RowOf KeyOf shape unit trees
+
+-- they have these rows of it
+abbrev pub AreSeen : List ℕ → Database → UnitRows → Type 0
+AreSeen unit db rows = (i : Kept) → rows_seen unit db.trees i ≡ rows_at i rows

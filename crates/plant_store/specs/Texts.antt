@@ -1,0 +1,97 @@
+-- The texts of the schema and of the statements, each fixed.
+use Rattle.std.specs.Prelude.{List, codes, ℕ}
+
+-- what makes the schema
+abbrev pub office_text : List ℕ
+office_text = codes "CREATE TABLE office (id INTEGER NOT NULL, schema_no INTEGER NOT NULL, admin TEXT NOT NULL, PRIMARY KEY (id)) STRICT"
+
+abbrev pub units_text : List ℕ
+units_text = codes "CREATE TABLE units (unit TEXT NOT NULL, last_s INTEGER NOT NULL, matrix_no INTEGER NOT NULL, matrix_rev INTEGER NOT NULL, quota INTEGER NOT NULL, PRIMARY KEY (unit)) STRICT"
+
+abbrev pub grants_text : List ℕ
+grants_text = codes "CREATE TABLE grants (unit TEXT NOT NULL, person TEXT NOT NULL, role_no INTEGER NOT NULL, end_s INTEGER, PRIMARY KEY (unit, person, role_no)) STRICT"
+
+abbrev pub alarms_text : List ℕ
+alarms_text = codes "CREATE TABLE alarms (unit TEXT NOT NULL, tag TEXT NOT NULL, latching INTEGER NOT NULL, max_s INTEGER NOT NULL, max_rev INTEGER NOT NULL, state_no INTEGER NOT NULL, suppressed INTEGER NOT NULL, active_s INTEGER, return_s INTEGER, out_s INTEGER, out_by TEXT, out_words TEXT, PRIMARY KEY (unit, tag)) STRICT"
+
+abbrev pub shelves_text : List ℕ
+shelves_text = codes "CREATE TABLE shelves (unit TEXT NOT NULL, tag TEXT NOT NULL, one_shot INTEGER NOT NULL, start_s INTEGER NOT NULL, until_s INTEGER NOT NULL, person TEXT NOT NULL, words TEXT NOT NULL, PRIMARY KEY (unit, tag)) STRICT"
+
+abbrev pub bands_text : List ℕ
+bands_text = codes "CREATE TABLE bands (unit TEXT NOT NULL, matrix_no INTEGER NOT NULL, band_no INTEGER NOT NULL, limit_s INTEGER NOT NULL, PRIMARY KEY (unit, matrix_no, band_no)) STRICT"
+
+abbrev pub cells_text : List ℕ
+cells_text = codes "CREATE TABLE cells (unit TEXT NOT NULL, matrix_no INTEGER NOT NULL, severity INTEGER NOT NULL, band_no INTEGER NOT NULL, cell_no INTEGER NOT NULL, PRIMARY KEY (unit, matrix_no, severity, band_no)) STRICT"
+
+abbrev pub by_person_text : List ℕ
+by_person_text = codes "CREATE INDEX grants_by_person ON grants (person, unit)"
+
+-- the office's row
+abbrev pub put_office_text : List ℕ
+put_office_text = codes "INSERT INTO office (id, schema_no, admin) VALUES (1, 2, ?1)"
+
+abbrev pub office_row_text : List ℕ
+office_row_text = codes "SELECT id, schema_no, admin FROM office"
+
+-- a row put in the place of the row of its key
+abbrev pub put_unit_text : List ℕ
+put_unit_text = codes "INSERT OR REPLACE INTO units (unit, last_s, matrix_no, matrix_rev, quota) VALUES (?1, ?2, ?3, ?4, ?5)"
+
+abbrev pub put_grant_text : List ℕ
+put_grant_text = codes "INSERT OR REPLACE INTO grants (unit, person, role_no, end_s) VALUES (?1, ?2, ?3, ?4)"
+
+abbrev pub put_alarm_text : List ℕ
+put_alarm_text = codes "INSERT OR REPLACE INTO alarms (unit, tag, latching, max_s, max_rev, state_no, suppressed, active_s, return_s, out_s, out_by, out_words) VALUES (?1, ?2, ?3, ?4, ?5, ?6, ?7, ?8, ?9, ?10, ?11, ?12)"
+
+abbrev pub put_shelf_text : List ℕ
+put_shelf_text = codes "INSERT OR REPLACE INTO shelves (unit, tag, one_shot, start_s, until_s, person, words) VALUES (?1, ?2, ?3, ?4, ?5, ?6, ?7)"
+
+abbrev pub put_band_text : List ℕ
+put_band_text = codes "INSERT OR REPLACE INTO bands (unit, matrix_no, band_no, limit_s) VALUES (?1, ?2, ?3, ?4)"
+
+abbrev pub put_cell_text : List ℕ
+put_cell_text = codes "INSERT OR REPLACE INTO cells (unit, matrix_no, severity, band_no, cell_no) VALUES (?1, ?2, ?3, ?4, ?5)"
+
+-- the row of a key taken out
+abbrev pub remove_grant_text : List ℕ
+remove_grant_text = codes "DELETE FROM grants WHERE unit = ?1 AND person = ?2 AND role_no = ?3"
+
+abbrev pub remove_shelf_text : List ℕ
+remove_shelf_text = codes "DELETE FROM shelves WHERE unit = ?1 AND tag = ?2"
+
+-- a unit's rows, in the order of their keys
+abbrev pub units_of_text : List ℕ
+units_of_text = codes "SELECT last_s, matrix_no, matrix_rev, quota FROM units WHERE unit = ?1 ORDER BY unit"
+
+abbrev pub grants_of_text : List ℕ
+grants_of_text = codes "SELECT person, role_no, end_s FROM grants WHERE unit = ?1 ORDER BY unit, person, role_no"
+
+abbrev pub alarms_of_text : List ℕ
+alarms_of_text = codes "SELECT tag, latching, max_s, max_rev, state_no, suppressed, active_s, return_s, out_s, out_by, out_words FROM alarms WHERE unit = ?1 ORDER BY unit, tag"
+
+abbrev pub shelves_of_text : List ℕ
+shelves_of_text = codes "SELECT tag, one_shot, start_s, until_s, person, words FROM shelves WHERE unit = ?1 ORDER BY unit, tag"
+
+abbrev pub bands_of_text : List ℕ
+bands_of_text = codes "SELECT matrix_no, band_no, limit_s FROM bands WHERE unit = ?1 ORDER BY unit, matrix_no, band_no"
+
+abbrev pub cells_of_text : List ℕ
+cells_of_text = codes "SELECT matrix_no, severity, band_no, cell_no FROM cells WHERE unit = ?1 ORDER BY unit, matrix_no, severity, band_no"
+
+-- those of a person or of a tag
+abbrev pub own_grants_text : List ℕ
+own_grants_text = codes "SELECT person, role_no, end_s FROM grants WHERE unit = ?1 AND person = ?2 ORDER BY unit, person, role_no"
+
+abbrev pub alarm_at_text : List ℕ
+alarm_at_text = codes "SELECT tag, latching, max_s, max_rev, state_no, suppressed, active_s, return_s, out_s, out_by, out_words FROM alarms WHERE unit = ?1 AND tag = ?2 ORDER BY unit, tag"
+
+abbrev pub shelf_at_text : List ℕ
+shelf_at_text = codes "SELECT tag, one_shot, start_s, until_s, person, words FROM shelves WHERE unit = ?1 AND tag = ?2 ORDER BY unit, tag"
+
+-- a unit's tags
+abbrev pub tags_of_text : List ℕ
+tags_of_text = codes "SELECT tag FROM alarms WHERE unit = ?1 ORDER BY unit, tag"
+
+-- a person's grants in all units, each beside its unit's last moment
+abbrev pub mine_text : List ℕ
+mine_text = codes "SELECT grants.unit, grants.role_no, grants.end_s, units.last_s FROM grants INNER JOIN units ON units.unit = grants.unit WHERE grants.person = ?1 ORDER BY grants.unit, grants.person, grants.role_no"

@@ -1,0 +1,282 @@
+//! Typed rows from the rows that a query shows. A value outside its column's set is an error.
+
+ghost use Rattle.std.specs.Prelude.{◌≡◌, ◌∷◌, [], ℕ, map, IfOk};
+ghost use Rattle.sqlite_value.specs.Order.{column, Row as SqlRow};
+ghost use Rattle.sqlite_value.specs.declared.value.Value.TheVariants.{Text as TextValue};
+ghost use Rattle.plant_store.specs.Codes as codes;
+ghost use Rattle.plant_store.specs.Shown.{columns};
+ghost use Rattle.plant_store.specs.Tables.{unit_shape, grant_shape, alarm_shape, shelf_shape, band_shape, cell_shape};
+
+use plant_alarm::AlarmState;
+use plant_model::{AlarmRow, BandRow, CellRow, GrantRow, ShelfRow, UnitRow};
+use plant_ration::Cell;
+use plant_types::{Alphabet, Moment, Quota, Role, Seconds, Table, Text};
+use sqlite::types::{Type, ValueRef};
+use sqlite::{Error, ErrorCode, Row};
+use std::alloc::Global;
+
+fn text_of<C: Alphabet>(alloc: Global, bytes: &[u8], at: usize) -> Result<Text<C>, Error>
+    ensures { IfOk result (λ t. t ≡ bytes.now) }
+{
+    match Text::read(alloc, bytes) {
+        Ok(Some(text)) => Ok(text),
+        Ok(None) => Err(Error::InvalidColumnType(at, Type::Text)),
+        Err(_) => Err(Error::SqliteFailure(ErrorCode::OutOfMemory)),
+    }
+}
+
+pub fn text<C: Alphabet>(alloc: Global, row: &Row, at: usize) -> Result<Text<C>, Error>
+    ensures { IfOk result (λ t. column row.now at ≡ TextValue t) }
+{
+    match row.get_ref(at)? {
+        ValueRef::Text(bytes) => text_of(alloc, bytes, at),
+        other => Err(Error::InvalidColumnType(at, Type::of(other))),
+    }
+}
+
+fn open_text<C: Alphabet>(alloc: Global, row: &Row, at: usize) -> Result<Option<Text<C>>, Error>
+    ensures { IfOk result (λ t. column row.now at ≡ codes.open_text t) }
+{
+    match row.get_ref(at)? {
+        ValueRef::Null => Ok(None),
+        ValueRef::Text(bytes) => Ok(Some(text_of(alloc, bytes, at)?)),
+        other => Err(Error::InvalidColumnType(at, Type::of(other))),
+    }
+}
+
+fn wide(row: &Row, at: usize) -> Result<u64, Error>
+    ensures { IfOk result (λ n. column row.now at ≡ codes.number n) }
+{
+    row.get(at)
+}
+
+fn number(row: &Row, at: usize) -> Result<u32, Error>
+    ensures { IfOk result (λ n. column row.now at ≡ codes.number n) }
+{
+    row.get(at)
+}
+
+fn small(row: &Row, at: usize) -> Result<u8, Error>
+    ensures { IfOk result (λ n. column row.now at ≡ codes.number n) }
+{
+    match u8::try_from(number(row, at)?) {
+        Ok(small) => Ok(small),
+        Err(_) => Err(Error::IntegralValueOutOfRange(at)),
+    }
+}
+
+fn moment_of(seconds: u64, at: usize) -> Result<Moment, Error>
+    ensures { IfOk result (λ m. m ≡ seconds) }
+{
+    match Moment::of_seconds(seconds) {
+        Some(moment) => Ok(moment),
+        None => Err(Error::IntegralValueOutOfRange(at)),
+    }
+}
+
+pub fn moment(row: &Row, at: usize) -> Result<Moment, Error>
+    ensures { IfOk result (λ m. column row.now at ≡ codes.number m) }
+{
+    moment_of(wide(row, at)?, at)
+}
+
+pub fn open_moment(row: &Row, at: usize) -> Result<Option<Moment>, Error>
+    ensures { IfOk result (λ m. column row.now at ≡ codes.open_number m) }
+{
+    match row.get_ref(at)? {
+        ValueRef::Null => Ok(None),
+        _ => Ok(Some(moment(row, at)?)),
+    }
+}
+
+fn seconds(row: &Row, at: usize) -> Result<Seconds, Error>
+    ensures { IfOk result (λ n. column row.now at ≡ codes.number n) }
+{
+    match Seconds::new(wide(row, at)?) {
+        Some(seconds) => Ok(seconds),
+        None => Err(Error::IntegralValueOutOfRange(at)),
+    }
+}
+
+fn quota(row: &Row, at: usize) -> Result<Quota, Error>
+    ensures { IfOk result (λ n. column row.now at ≡ codes.number n) }
+{
+    match Quota::new(wide(row, at)?) {
+        Some(quota) => Ok(quota),
+        None => Err(Error::IntegralValueOutOfRange(at)),
+    }
+}
+
+fn flag(row: &Row, at: usize) -> Result<bool, Error>
+    ensures { IfOk result (λ b. column row.now at ≡ codes.flag b) }
+{
+    match number(row, at)? {
+        0 => Ok(false),
+        1 => Ok(true),
+        _ => Err(Error::IntegralValueOutOfRange(at)),
+    }
+}
+
+pub fn role(row: &Row, at: usize) -> Result<Role, Error>
+    ensures { IfOk result (λ r. column row.now at ≡ codes.role r) }
+{
+    match number(row, at)? {
+        1 => Ok(Role::Viewer),
+        2 => Ok(Role::Operator),
+        3 => Ok(Role::Maintainer),
+        4 => Ok(Role::Engineer),
+        5 => Ok(Role::Approver),
+        6 => Ok(Role::Steward),
+        _ => Err(Error::IntegralValueOutOfRange(at)),
+    }
+}
+
+fn state(row: &Row, at: usize) -> Result<AlarmState, Error>
+    ensures { IfOk result (λ s. column row.now at ≡ codes.alarm_state s) }
+{
+    match number(row, at)? {
+        1 => Ok(AlarmState::Normal),
+        2 => Ok(AlarmState::Unacknowledged),
+        3 => Ok(AlarmState::Acknowledged),
+        4 => Ok(AlarmState::ReturnedUnack),
+        5 => Ok(AlarmState::LatchedUnack),
+        6 => Ok(AlarmState::LatchedAck),
+        _ => Err(Error::IntegralValueOutOfRange(at)),
+    }
+}
+
+fn cell(row: &Row, at: usize) -> Result<Cell, Error>
+    ensures { IfOk result (λ c. column row.now at ≡ codes.cell c) }
+{
+    match number(row, at)? {
+        0 => Ok(Cell::N),
+        1 => Ok(Cell::P1),
+        2 => Ok(Cell::P2),
+        3 => Ok(Cell::P3),
+        4 => Ok(Cell::P4),
+        _ => Err(Error::IntegralValueOutOfRange(at)),
+    }
+}
+
+/// A row that a query shows whole.
+pub trait Shown: Sized + Drop {
+    /// How many columns it has, and what they hold.
+    ghost width: { ℕ };
+
+    ghost cells: { Self → SqlRow };
+
+    /// The row that is shown so.
+    fn from_row(alloc: Global, row: &Row) -> Result<Self, Error>
+        ensures { IfOk result (λ x. columns width row.now ≡ cells x) };
+}
+
+impl Shown for UnitRow {
+    ghost width = { 4 };
+
+    ghost cells = { unit_shape.cells };
+
+    fn from_row(_alloc: Global, row: &Row) -> Result<UnitRow, Error> {
+        Ok(UnitRow {
+            last_s: moment(row, 0)?,
+            matrix_no: number(row, 1)?,
+            matrix_rev: number(row, 2)?,
+            quota: quota(row, 3)?,
+        })
+    }
+}
+
+impl Shown for GrantRow {
+    ghost width = { 3 };
+
+    ghost cells = { grant_shape.cells };
+
+    fn from_row(alloc: Global, row: &Row) -> Result<GrantRow, Error> {
+        Ok(GrantRow {
+            person: text(alloc, row, 0)?,
+            role_no: role(row, 1)?,
+            end_s: open_moment(row, 2)?,
+        })
+    }
+}
+
+impl Shown for AlarmRow {
+    ghost width = { 11 };
+
+    ghost cells = { alarm_shape.cells };
+
+    fn from_row(alloc: Global, row: &Row) -> Result<AlarmRow, Error> {
+        Ok(AlarmRow {
+            tag: text(alloc, row, 0)?,
+            latching: flag(row, 1)?,
+            max_s: seconds(row, 2)?,
+            max_rev: number(row, 3)?,
+            state_no: state(row, 4)?,
+            suppressed: flag(row, 5)?,
+            active_s: open_moment(row, 6)?,
+            return_s: open_moment(row, 7)?,
+            out_s: open_moment(row, 8)?,
+            out_by: open_text(alloc, row, 9)?,
+            out_words: open_text(alloc, row, 10)?,
+        })
+    }
+}
+
+impl Shown for ShelfRow {
+    ghost width = { 6 };
+
+    ghost cells = { shelf_shape.cells };
+
+    fn from_row(alloc: Global, row: &Row) -> Result<ShelfRow, Error> {
+        Ok(ShelfRow {
+            tag: text(alloc, row, 0)?,
+            one_shot: flag(row, 1)?,
+            start_s: moment(row, 2)?,
+            until_s: wide(row, 3)?,
+            person: text(alloc, row, 4)?,
+            words: text(alloc, row, 5)?,
+        })
+    }
+}
+
+impl Shown for BandRow {
+    ghost width = { 3 };
+
+    ghost cells = { band_shape.cells };
+
+    fn from_row(_alloc: Global, row: &Row) -> Result<BandRow, Error> {
+        Ok(BandRow {
+            matrix_no: number(row, 0)?,
+            band_no: small(row, 1)?,
+            limit_s: wide(row, 2)?,
+        })
+    }
+}
+
+impl Shown for CellRow {
+    ghost width = { 4 };
+
+    ghost cells = { cell_shape.cells };
+
+    fn from_row(_alloc: Global, row: &Row) -> Result<CellRow, Error> {
+        Ok(CellRow {
+            matrix_no: number(row, 0)?,
+            severity: small(row, 1)?,
+            band_no: small(row, 2)?,
+            cell_no: cell(row, 3)?,
+        })
+    }
+}
+
+/// All rows that a query showed.
+pub fn read_all<T: Shown>(alloc: Global, rows: &[Row]) -> Result<Table<T>, Error>
+    ensures { IfOk result (λ t. map (columns T.width) rows.now ≡ map T.cells t) }
+{
+    let mut table = Table::new(alloc);
+    for row in rows {
+        let read = T::from_row(alloc, row)?;
+        if table.push(read).is_err() {
+            return Err(Error::SqliteFailure(ErrorCode::OutOfMemory));
+        }
+    }
+    Ok(table)
+}

@@ -1,0 +1,228 @@
+//! Typed rows as the values of columns.
+
+ghost use Rattle.std.specs.Prelude.{◌≡◌, ◌∷◌, [], IfOk};
+ghost use Rattle.sqlite.specs.Values.{bound, bound_value};
+ghost use Rattle.sqlite_value.specs.Value.{owned};
+ghost use Rattle.sqlite_value.specs.declared.value.Value.TheVariants.{Text as TextValue};
+ghost use Rattle.plant_store.specs.Codes as codes;
+ghost use Rattle.plant_store.specs.Tables.{unit_shape, grant_shape, alarm_shape, shelf_shape, band_shape, cell_shape};
+
+use plant_alarm::AlarmState;
+use plant_model::{AlarmRow, BandRow, CellRow, GrantRow, ShelfRow, UnitRow};
+use plant_ration::Cell;
+use plant_types::{Alphabet, Moment, Person, Quota, Role, Seconds, Text, UnitCode};
+use sqlite::Error;
+use sqlite::types::ValueRef;
+
+/// A text.
+fn text<C: Alphabet>(text: &Text<C>) -> ValueRef<'_>
+    ensures { bound_value (owned result) ≡ TextValue text.now }
+{
+    ValueRef::Text(text.as_bytes())
+}
+
+/// A small number.
+fn number(number: u32) -> ValueRef<'static>
+    ensures { bound_value (owned result) ≡ codes.number number }
+{
+    ValueRef::Int(i64::from(number))
+}
+
+/// A number, if a column can hold it.
+pub fn wide(number: u64) -> Result<ValueRef<'static>, Error>
+    ensures { IfOk result (λ v. bound_value (owned v) ≡ codes.number number) }
+{
+    match i64::try_from(number) {
+        Ok(number) => Ok(ValueRef::Int(number)),
+        Err(_) => Err(Error::InvalidQuery),
+    }
+}
+
+fn moment(moment: Moment) -> ValueRef<'static>
+    ensures { bound_value (owned result) ≡ codes.number moment }
+{
+    ValueRef::Int(moment.seconds() as i64)
+}
+
+fn flag(flag: bool) -> ValueRef<'static>
+    ensures { bound_value (owned result) ≡ codes.flag flag }
+{
+    number(if flag { 1 } else { 0 })
+}
+
+fn role(role: Role) -> ValueRef<'static>
+    ensures { bound_value (owned result) ≡ codes.role role }
+{
+    number(u32::from(role.number()))
+}
+
+fn state(state: AlarmState) -> ValueRef<'static>
+    ensures { bound_value (owned result) ≡ codes.alarm_state state }
+{
+    number(match state {
+        AlarmState::Normal => 1,
+        AlarmState::Unacknowledged => 2,
+        AlarmState::Acknowledged => 3,
+        AlarmState::ReturnedUnack => 4,
+        AlarmState::LatchedUnack => 5,
+        AlarmState::LatchedAck => 6,
+    })
+}
+
+fn cell(cell: Cell) -> ValueRef<'static>
+    ensures { bound_value (owned result) ≡ codes.cell cell }
+{
+    number(match cell {
+        Cell::N => 0,
+        Cell::P1 => 1,
+        Cell::P2 => 2,
+        Cell::P3 => 3,
+        Cell::P4 => 4,
+    })
+}
+
+fn seconds(seconds: Seconds) -> ValueRef<'static>
+    ensures { bound_value (owned result) ≡ codes.number seconds }
+{
+    ValueRef::Int(seconds.get() as i64)
+}
+
+fn quota(quota: Quota) -> ValueRef<'static>
+    ensures { bound_value (owned result) ≡ codes.number quota }
+{
+    ValueRef::Int(quota.get() as i64)
+}
+
+fn open_moment(moment_at: Option<Moment>) -> ValueRef<'static>
+    ensures { bound_value (owned result) ≡ codes.open_number moment_at }
+{
+    match moment_at {
+        Some(at) => moment(at),
+        None => ValueRef::Null,
+    }
+}
+
+fn open_text<C: Alphabet>(words: &Option<Text<C>>) -> ValueRef<'_>
+    ensures { bound_value (owned result) ≡ codes.open_text words.now }
+{
+    match words {
+        Some(some) => text(some),
+        None => ValueRef::Null,
+    }
+}
+
+/// The columns of a unit's own row.
+pub fn unit_cells<'a>(unit: &'a UnitCode, row: &UnitRow) -> [ValueRef<'a>; 5]
+    ensures { bound result ≡ TextValue unit.now ∷ unit_shape.cells row.now }
+{
+    [
+        text(unit),
+        moment(row.last_s),
+        number(row.matrix_no),
+        number(row.matrix_rev),
+        quota(row.quota),
+    ]
+}
+
+/// The columns of a grant.
+pub fn grant_cells<'a>(unit: &'a UnitCode, row: &'a GrantRow) -> [ValueRef<'a>; 4]
+    ensures { bound result ≡ TextValue unit.now ∷ grant_shape.cells row.now }
+{
+    [
+        text(unit),
+        text(&row.person),
+        role(row.role_no),
+        open_moment(row.end_s),
+    ]
+}
+
+/// The columns of an alarm.
+pub fn alarm_cells<'a>(unit: &'a UnitCode, row: &'a AlarmRow) -> [ValueRef<'a>; 12]
+    ensures { bound result ≡ TextValue unit.now ∷ alarm_shape.cells row.now }
+{
+    [
+        text(unit),
+        text(&row.tag),
+        flag(row.latching),
+        seconds(row.max_s),
+        number(row.max_rev),
+        state(row.state_no),
+        flag(row.suppressed),
+        open_moment(row.active_s),
+        open_moment(row.return_s),
+        open_moment(row.out_s),
+        open_text(&row.out_by),
+        open_text(&row.out_words),
+    ]
+}
+
+/// The columns of a shelf.
+pub fn shelf_cells<'a>(
+    unit: &'a UnitCode,
+    row: &'a ShelfRow,
+    until: ValueRef<'static>,
+) -> [ValueRef<'a>; 7]
+    requires { bound_value (owned until) ≡ codes.number row.now.until_s }
+    ensures { bound result ≡ TextValue unit.now ∷ shelf_shape.cells row.now }
+{
+    [
+        text(unit),
+        text(&row.tag),
+        flag(row.one_shot),
+        moment(row.start_s),
+        until,
+        text(&row.person),
+        text(&row.words),
+    ]
+}
+
+/// The columns of a matrix's limit.
+pub fn band_cells<'a>(
+    unit: &'a UnitCode,
+    row: &BandRow,
+    limit: ValueRef<'static>,
+) -> [ValueRef<'a>; 4]
+    requires { bound_value (owned limit) ≡ codes.number row.now.limit_s }
+    ensures { bound result ≡ TextValue unit.now ∷ band_shape.cells row.now }
+{
+    [
+        text(unit),
+        number(row.matrix_no),
+        number(u32::from(row.band_no)),
+        limit,
+    ]
+}
+
+/// The columns of a matrix's cell.
+pub fn cell_cells<'a>(unit: &'a UnitCode, row: &CellRow) -> [ValueRef<'a>; 5]
+    ensures { bound result ≡ TextValue unit.now ∷ cell_shape.cells row.now }
+{
+    [
+        text(unit),
+        number(row.matrix_no),
+        number(u32::from(row.severity)),
+        number(u32::from(row.band_no)),
+        cell(row.cell_no),
+    ]
+}
+
+/// The columns of a grant's key.
+pub fn grant_key<'a>(unit: &'a UnitCode, person: &'a Person, held: Role) -> [ValueRef<'a>; 3]
+    ensures { bound result ≡ TextValue unit.now ∷ TextValue person.now ∷ codes.role held ∷ [] }
+{
+    [text(unit), text(person), role(held)]
+}
+
+/// A unit's code and a second name.
+pub fn pair<'a, C: Alphabet>(unit: &'a UnitCode, name: &'a Text<C>) -> [ValueRef<'a>; 2]
+    ensures { bound result ≡ TextValue unit.now ∷ TextValue name.now ∷ [] }
+{
+    [text(unit), text(name)]
+}
+
+/// A name alone.
+pub fn single<C: Alphabet>(name: &Text<C>) -> [ValueRef<'_>; 1]
+    ensures { bound result ≡ TextValue name.now ∷ [] }
+{
+    [text(name)]
+}

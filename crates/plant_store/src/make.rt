@@ -1,0 +1,124 @@
+//! The tables of new books.
+
+ghost use Rattle.std.specs.Prelude.{◌≡◌, false, IsTrue, OnOk, OnErr};
+ghost use Rattle.sqlite.specs.Held.{state};
+ghost use Rattle.sqlite.specs.State.{HasCleanDisk, KeepsCommit, Survives};
+ghost use Rattle.plant_store.specs.Changes.{CanTell};
+ghost use Rattle.plant_store.specs.Making.{AreEmpty, AreNew};
+ghost use Rattle.plant_store.specs.Tables.{no_schema, grants_schema, shelves_schema, cells_schema, books_schema};
+
+use crate::encode::single;
+use crate::write::run;
+use plant_types::Person;
+use sqlite::{Alter, Connection, Error, Transaction};
+
+/// Makes the tables of the office, of units and of grants.
+fn make_grants<S: Alter>(tx: &mut Transaction<'_, S>) -> Result<(), Error>
+    ensures same_reference { tx.new.conn.ghost_name ≡ tx.old.conn.ghost_name }
+    ensures made { HasCleanDisk (state S.Store tx.new.conn.now) → IsTrue tx.old.conn.now.in_transaction → AreEmpty no_schema (state S.Store tx.old.conn.now).now
+        → OnOk result (AreEmpty grants_schema (state S.Store tx.new.conn.now).now) }
+    ensures inside { HasCleanDisk (state S.Store tx.new.conn.now) → IsTrue tx.old.conn.now.in_transaction → OnOk result (IsTrue tx.new.conn.now.in_transaction) }
+    ensures kept { HasCleanDisk (state S.Store tx.new.conn.now) → IsTrue tx.old.conn.now.in_transaction → KeepsCommit (state S.Store tx.old.conn.now) (state S.Store tx.new.conn.now) }
+    ensures survives { Survives (state S.Store tx.old.conn.now) (state S.Store tx.new.conn.now) (λ _. ⊥) }
+{
+    run(
+        tx,
+        "CREATE TABLE office (id INTEGER NOT NULL, schema_no INTEGER NOT NULL, admin TEXT NOT NULL, PRIMARY KEY (id)) STRICT",
+        &[],
+    )?;
+    run(
+        tx,
+        "CREATE TABLE units (unit TEXT NOT NULL, last_s INTEGER NOT NULL, matrix_no INTEGER NOT NULL, matrix_rev INTEGER NOT NULL, quota INTEGER NOT NULL, PRIMARY KEY (unit)) STRICT",
+        &[],
+    )?;
+    run(
+        tx,
+        "CREATE TABLE grants (unit TEXT NOT NULL, person TEXT NOT NULL, role_no INTEGER NOT NULL, end_s INTEGER, PRIMARY KEY (unit, person, role_no)) STRICT",
+        &[],
+    )?;
+    Ok(())
+}
+
+/// Makes the tables of alarms and of shelves.
+fn make_shelves<S: Alter>(tx: &mut Transaction<'_, S>) -> Result<(), Error>
+    ensures same_reference { tx.new.conn.ghost_name ≡ tx.old.conn.ghost_name }
+    ensures made { HasCleanDisk (state S.Store tx.new.conn.now) → IsTrue tx.old.conn.now.in_transaction → AreEmpty grants_schema (state S.Store tx.old.conn.now).now
+        → OnOk result (AreEmpty shelves_schema (state S.Store tx.new.conn.now).now) }
+    ensures inside { HasCleanDisk (state S.Store tx.new.conn.now) → IsTrue tx.old.conn.now.in_transaction → OnOk result (IsTrue tx.new.conn.now.in_transaction) }
+    ensures kept { HasCleanDisk (state S.Store tx.new.conn.now) → IsTrue tx.old.conn.now.in_transaction → KeepsCommit (state S.Store tx.old.conn.now) (state S.Store tx.new.conn.now) }
+    ensures survives { Survives (state S.Store tx.old.conn.now) (state S.Store tx.new.conn.now) (λ _. ⊥) }
+{
+    run(
+        tx,
+        "CREATE TABLE alarms (unit TEXT NOT NULL, tag TEXT NOT NULL, latching INTEGER NOT NULL, max_s INTEGER NOT NULL, max_rev INTEGER NOT NULL, state_no INTEGER NOT NULL, suppressed INTEGER NOT NULL, active_s INTEGER, return_s INTEGER, out_s INTEGER, out_by TEXT, out_words TEXT, PRIMARY KEY (unit, tag)) STRICT",
+        &[],
+    )?;
+    run(
+        tx,
+        "CREATE TABLE shelves (unit TEXT NOT NULL, tag TEXT NOT NULL, one_shot INTEGER NOT NULL, start_s INTEGER NOT NULL, until_s INTEGER NOT NULL, person TEXT NOT NULL, words TEXT NOT NULL, PRIMARY KEY (unit, tag)) STRICT",
+        &[],
+    )?;
+    Ok(())
+}
+
+/// Makes the tables of matrices.
+fn make_cells<S: Alter>(tx: &mut Transaction<'_, S>) -> Result<(), Error>
+    ensures same_reference { tx.new.conn.ghost_name ≡ tx.old.conn.ghost_name }
+    ensures made { HasCleanDisk (state S.Store tx.new.conn.now) → IsTrue tx.old.conn.now.in_transaction → AreEmpty shelves_schema (state S.Store tx.old.conn.now).now
+        → OnOk result (AreEmpty cells_schema (state S.Store tx.new.conn.now).now) }
+    ensures inside { HasCleanDisk (state S.Store tx.new.conn.now) → IsTrue tx.old.conn.now.in_transaction → OnOk result (IsTrue tx.new.conn.now.in_transaction) }
+    ensures kept { HasCleanDisk (state S.Store tx.new.conn.now) → IsTrue tx.old.conn.now.in_transaction → KeepsCommit (state S.Store tx.old.conn.now) (state S.Store tx.new.conn.now) }
+    ensures survives { Survives (state S.Store tx.old.conn.now) (state S.Store tx.new.conn.now) (λ _. ⊥) }
+{
+    run(
+        tx,
+        "CREATE TABLE bands (unit TEXT NOT NULL, matrix_no INTEGER NOT NULL, band_no INTEGER NOT NULL, limit_s INTEGER NOT NULL, PRIMARY KEY (unit, matrix_no, band_no)) STRICT",
+        &[],
+    )?;
+    run(
+        tx,
+        "CREATE TABLE cells (unit TEXT NOT NULL, matrix_no INTEGER NOT NULL, severity INTEGER NOT NULL, band_no INTEGER NOT NULL, cell_no INTEGER NOT NULL, PRIMARY KEY (unit, matrix_no, severity, band_no)) STRICT",
+        &[],
+    )?;
+    Ok(())
+}
+
+/// Makes the index of grants by persons, and the office's row.
+fn make_office<S: Alter>(tx: &mut Transaction<'_, S>, admin: &Person) -> Result<(), Error>
+    ensures same_reference { tx.new.conn.ghost_name ≡ tx.old.conn.ghost_name }
+    ensures made { HasCleanDisk (state S.Store tx.new.conn.now) → IsTrue tx.old.conn.now.in_transaction → AreEmpty cells_schema (state S.Store tx.old.conn.now).now
+        → OnOk result (AreNew admin.now (state S.Store tx.new.conn.now).now) }
+    ensures inside { HasCleanDisk (state S.Store tx.new.conn.now) → IsTrue tx.old.conn.now.in_transaction → OnOk result (IsTrue tx.new.conn.now.in_transaction) }
+    ensures kept { HasCleanDisk (state S.Store tx.new.conn.now) → IsTrue tx.old.conn.now.in_transaction → KeepsCommit (state S.Store tx.old.conn.now) (state S.Store tx.new.conn.now) }
+    ensures survives { Survives (state S.Store tx.old.conn.now) (state S.Store tx.new.conn.now) (λ _. ⊥) }
+{
+    run(
+        tx,
+        "CREATE INDEX grants_by_person ON grants (person, unit)",
+        &[],
+    )?;
+    run(
+        tx,
+        "INSERT INTO office (id, schema_no, admin) VALUES (1, 2, ?1)",
+        &single(admin),
+    )?;
+    Ok(())
+}
+
+/// Makes all tables in a database that has none: all of them, or nothing.
+pub fn make_all<S: Alter>(conn: &mut Connection<S>, admin: &Person) -> Result<(), Error>
+    requires { conn.old.in_transaction ≡ false }
+    ensures mode { conn.new.in_transaction ≡ false }
+    ensures made { CanTell (state S.Store conn.new) → (state S.Store conn.old).now.schema ≡ no_schema → OnOk result (AreNew admin.now (state S.Store conn.new).now) }
+    ensures unchanged { CanTell (state S.Store conn.new) → OnErr result ((state S.Store conn.new).now ≡ (state S.Store conn.old).now) }
+    ensures told { CanTell (state S.Store conn.new) → CanTell (state S.Store conn.old) }
+{
+    let _settled = conn.is_autocommit();
+    let mut tx = conn.transaction();
+    make_grants(&mut tx)?;
+    make_shelves(&mut tx)?;
+    make_cells(&mut tx)?;
+    make_office(&mut tx, admin)?;
+    tx.commit()?;
+    Ok(())
+}

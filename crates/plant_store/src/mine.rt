@@ -1,0 +1,193 @@
+//! The units in which a person holds roles.
+
+ghost use Rattle.std.specs.Prelude.{◌≡◌, [], ◌∷◌, ◌++◌, false, map, List, Some, IfOk, OnOk};
+ghost use Rattle.sqlite.specs.Held.{state};
+ghost use Rattle.sqlite_value.specs.Order.{Row as SqlRow};
+ghost use Rattle.plant_books.specs.Contents as contents;
+ghost use Rattle.plant_books.specs.Contents.{Content};
+ghost use Rattle.plant_model.specs.Grants.{is_before};
+ghost use Rattle.plant_types.specs.Names.{same_name};
+ghost use Rattle.plant_store.specs.declared.mine.Line.{Line as LineRow};
+ghost use Rattle.plant_store.specs.Changes.{CanTell};
+ghost use Rattle.plant_store.specs.Keeping.{KeepsIn};
+ghost use Rattle.plant_store.specs.Mine.{line_cells, lines_of, runs_after, runs_of, standing_lines, started};
+ghost use Rattle.plant_store.specs.Tables.{AreBooks};
+
+use crate::decode::{Shown, moment, open_moment, read_all, role, text};
+use crate::encode::single;
+use crate::read::ask;
+use plant_books::MineUnit;
+use plant_types::{Moment, Person, Role, Table, UnitCode};
+use sqlite::{Alter, Connection, Error, ErrorCode, Row};
+use std::alloc::Global;
+
+/// A grant of the person, beside its unit's last moment.
+#[derive(Drop)]
+pub struct Line {
+    pub unit: UnitCode,
+    pub role_no: Role,
+    pub end_s: Option<Moment>,
+    pub last_s: Moment,
+}
+
+impl Shown for Line {
+    ghost width = { 4 };
+
+    ghost cells = { line_cells };
+
+    fn from_row(alloc: Global, row: &Row) -> Result<Line, Error> {
+        Ok(Line {
+            unit: text(alloc, row, 0)?,
+            role_no: role(row, 1)?,
+            end_s: open_moment(row, 2)?,
+            last_s: moment(row, 3)?,
+        })
+    }
+}
+
+/// Whether the moment is before the end.
+fn is_before_end(now: Moment, end_s: Option<Moment>) -> bool
+    ensures { result ≡ is_before now end_s }
+{
+    match end_s {
+        Some(end_s) => now < end_s,
+        None => true,
+    }
+}
+
+/// A list of one role.
+fn one_role(alloc: Global, role_no: Role) -> Result<Table<Role>, Error>
+    ensures { IfOk result (λ roles. roles ≡ role_no ∷ []) }
+{
+    let mut roles = Table::new(alloc);
+    push(&mut roles, role_no)?;
+    Ok(roles)
+}
+
+fn push<T: Drop>(table: &mut Table<T>, row: T) -> Result<(), Error>
+    ensures { OnOk result (table.new ≡ table.old ++ row ∷ []) }
+{
+    match table.push(row) {
+        Ok(()) => Ok(()),
+        Err(_) => Err(Error::SqliteFailure(ErrorCode::OutOfMemory)),
+    }
+}
+
+/// The unit of a line, with its role.
+fn start(alloc: Global, line: &Line) -> Result<MineUnit, Error>
+    ensures { IfOk result (λ u. u ≡ started line.now) }
+{
+    let Ok(unit) = line.unit.copy(alloc) else {
+        return Err(Error::SqliteFailure(ErrorCode::OutOfMemory));
+    };
+    Ok(MineUnit {
+        unit,
+        roles: one_role(alloc, line.role_no)?,
+        last: line.last_s,
+    })
+}
+
+/// Takes a line to the unit that is still open, or to a new one.
+fn join(
+    alloc: Global,
+    units: &mut Table<MineUnit>,
+    current: Option<MineUnit>,
+    line: &Line,
+) -> Result<MineUnit, Error>
+    ensures { IfOk result (λ next. (rest : List LineRow) → units.new ++ runs_after (Some next) rest ≡ units.old ++ runs_after current (line.now ∷ rest)) }
+{
+    let Some(mut unit) = current else {
+        return start(alloc, line);
+    };
+    if unit.unit == line.unit {
+        push(&mut unit.roles, line.role_no)?;
+        return Ok(unit);
+    }
+    push(units, unit)?;
+    start(alloc, line)
+}
+
+/// The lines unit by unit, without those of grants that have ended.
+fn group(alloc: Global, lines: &[Line], now: Moment) -> Result<Table<MineUnit>, Error>
+    ensures { IfOk result (λ units. units ≡ runs_of (standing_lines now lines.now)) }
+{
+    let mut units = Table::new(alloc);
+    let mut current: Option<MineUnit> = None;
+    for line in lines {
+        if is_before_end(now, line.end_s) {
+            current = Some(join(alloc, &mut units, current, line)?);
+        }
+    }
+    if let Some(unit) = current {
+        push(&mut units, unit)?;
+    }
+    Ok(units)
+}
+
+/// The person's grants in all units, each beside its unit's last moment.
+fn lines<S: Alter>(
+    alloc: Global,
+    conn: &mut Connection<S>,
+    person: &Person,
+) -> Result<Table<Line>, Error>
+    requires { conn.old.in_transaction ≡ false }
+    ensures mode { conn.new.in_transaction ≡ false }
+    ensures found { CanTell (state S.Store conn.new) → (m : Content) → KeepsIn (state S.Store conn.old) m → IfOk result (λ lines. lines ≡ lines_of person.now (state S.Store conn.old).now.trees) }
+    ensures same { CanTell (state S.Store conn.new) → AreBooks (state S.Store conn.old).now → (state S.Store conn.new).now ≡ (state S.Store conn.old).now }
+    ensures told { CanTell (state S.Store conn.new) → CanTell (state S.Store conn.old) }
+{
+    let rows = ask(
+        conn,
+        "SELECT grants.unit, grants.role_no, grants.end_s, units.last_s FROM grants INNER JOIN units ON units.unit = grants.unit WHERE grants.person = ?1 ORDER BY grants.unit, grants.person, grants.role_no",
+        &single(person),
+    )?;
+    read_all(alloc, rows.as_slice())
+}
+
+/// The units in which the person holds a role at the moment, with the roles held.
+pub fn mine_units<S: Alter>(
+    alloc: Global,
+    conn: &mut Connection<S>,
+    person: &Person,
+    now: Moment,
+) -> Result<Table<MineUnit>, Error>
+    requires { conn.old.in_transaction ≡ false }
+    ensures mode { conn.new.in_transaction ≡ false }
+    ensures found { CanTell (state S.Store conn.new) → (m : Content) → KeepsIn (state S.Store conn.old) m → IfOk result (λ units. units ≡ contents.mine_units m now person.now) }
+    ensures same { CanTell (state S.Store conn.new) → AreBooks (state S.Store conn.old).now → (state S.Store conn.new).now ≡ (state S.Store conn.old).now }
+    ensures told { CanTell (state S.Store conn.new) → CanTell (state S.Store conn.old) }
+{
+    let lines = lines(alloc, conn, person)?;
+    group(alloc, lines.as_slice(), now)
+}
+
+/// The codes of the units.
+fn codes(alloc: Global, units: &[MineUnit]) -> Result<Table<UnitCode>, Error>
+    ensures { IfOk result (λ codes. codes ≡ map (λ u. u.unit) units.now) }
+{
+    let mut codes = Table::new(alloc);
+    for mine in units {
+        let Ok(code) = mine.unit.copy(alloc) else {
+            return Err(Error::SqliteFailure(ErrorCode::OutOfMemory));
+        };
+        push(&mut codes, code)?;
+    }
+    Ok(codes)
+}
+
+/// The codes of the units in which the person holds a role at the moment.
+pub fn held<S: Alter>(
+    alloc: Global,
+    conn: &mut Connection<S>,
+    person: &Person,
+    now: Moment,
+) -> Result<Table<UnitCode>, Error>
+    requires { conn.old.in_transaction ≡ false }
+    ensures mode { conn.new.in_transaction ≡ false }
+    ensures found { CanTell (state S.Store conn.new) → (m : Content) → KeepsIn (state S.Store conn.old) m → IfOk result (λ codes. codes ≡ contents.codes_held m now person.now) }
+    ensures same { CanTell (state S.Store conn.new) → AreBooks (state S.Store conn.old).now → (state S.Store conn.new).now ≡ (state S.Store conn.old).now }
+    ensures told { CanTell (state S.Store conn.new) → CanTell (state S.Store conn.old) }
+{
+    let units = mine_units(alloc, conn, person, now)?;
+    codes(alloc, units.as_slice())
+}

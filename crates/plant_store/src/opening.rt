@@ -1,0 +1,91 @@
+//! Whether a database is this office's books.
+
+ghost use Rattle.std.specs.Prelude.{◌≡◌, ◌↔◌, [], ◌∷◌, codes, false, map, IsTrue, IfOk};
+ghost use Rattle.std.specs.Str.{bytes_eq};
+ghost use Rattle.sqlite.specs.Held.{state};
+ghost use Rattle.sqlite_value.specs.Order.{column};
+ghost use Rattle.sqlite_value.specs.declared.value.Value.TheVariants.{Text as TextValue};
+ghost use Rattle.plant_store.specs.Changes.{CanTell};
+ghost use Rattle.plant_store.specs.Codes as codings;
+ghost use Rattle.plant_store.specs.Opening as opening;
+ghost use Rattle.plant_store.specs.Opening.{IsOfficeFirst, IsThisOffice, office_cells};
+ghost use Rattle.plant_store.specs.Shown.{columns};
+
+use crate::read::ask;
+use plant_types::Person;
+use sqlite::types::ValueRef;
+use sqlite::{Alter, Connection, Error, Row};
+use sqlite_schema::schema::{Schema, Table};
+
+fn has_column(table: &Table, name: &[u8]) -> bool
+    ensures { result ≡ opening.has_column name.now table.now }
+{
+    table
+        .columns
+        .as_slice()
+        .iter()
+        .any(|column| column.name.as_slice() == name)
+}
+
+fn is_office(table: &Table) -> bool
+    ensures { result ≡ opening.is_office table.now }
+{
+    table.name.as_slice() == b"office".as_slice()
+        && has_column(table, b"id")
+        && has_column(table, b"schema_no")
+        && has_column(table, b"admin")
+}
+
+/// Whether there is a table of the office, with its columns.
+pub fn has_office(schema: &Schema) -> bool
+    ensures { result ≡ opening.has_office schema.now }
+{
+    schema.tables.as_slice().iter().any(is_office)
+}
+
+fn is_number(row: &Row, at: usize, number: u32) -> bool
+    ensures { IsTrue result ↔ (column row.now at ≡ codings.number number) }
+{
+    match row.get_ref(at) {
+        Ok(ValueRef::Int(found)) => found == i64::from(number),
+        _ => false,
+    }
+}
+
+fn is_text(row: &Row, at: usize, text: &[u8]) -> bool
+    ensures { IsTrue result ↔ (column row.now at ≡ TextValue text.now) }
+{
+    match row.get_ref(at) {
+        Ok(ValueRef::Text(found)) => found == text,
+        _ => false,
+    }
+}
+
+/// Whether the row is this schema's and this person's.
+fn is_row_of(row: &Row, admin: &Person) -> bool
+    ensures { IsTrue result ↔ (columns 3 row.now ≡ office_cells admin.now) }
+{
+    is_number(row, 0, 1) && is_number(row, 1, 2) && is_text(row, 2, admin.as_bytes())
+}
+
+/// Whether these rows of the office's table are this schema's and this person's one row.
+fn is_office_row(rows: &[Row], admin: &Person) -> bool
+    ensures { IsTrue result ↔ (map (columns 3) rows.now ≡ office_cells admin.now ∷ []) }
+{
+    match rows {
+        [row] => is_row_of(row, admin),
+        _ => false,
+    }
+}
+
+/// Whether the office's table has this schema's and this person's one row.
+pub fn is_office_of<S: Alter>(conn: &mut Connection<S>, admin: &Person) -> Result<bool, Error>
+    requires { conn.old.in_transaction ≡ false }
+    ensures mode { conn.new.in_transaction ≡ false }
+    ensures row { CanTell (state S.Store conn.new) → IsOfficeFirst (state S.Store conn.old).now.schema → IfOk result (λ is. IsTrue is ↔ IsThisOffice admin.now (state S.Store conn.old).now) }
+    ensures same { CanTell (state S.Store conn.new) → IsOfficeFirst (state S.Store conn.old).now.schema → (state S.Store conn.new).now ≡ (state S.Store conn.old).now }
+    ensures told { CanTell (state S.Store conn.new) → CanTell (state S.Store conn.old) }
+{
+    let rows = ask(conn, "SELECT id, schema_no, admin FROM office", &[])?;
+    Ok(is_office_row(rows.as_slice(), admin))
+}

@@ -1,0 +1,53 @@
+//! What was kept is found again.
+
+ghost use Rattle.std.specs.Prelude.{◌≡◌, false, IfSome};
+ghost use Rattle.sqlite.specs.Files.{file_state};
+ghost use Rattle.plant_books.specs.Contents.{Content};
+ghost use Rattle.plant_store.specs.Keeping.{Keeps};
+
+use crate::Tables;
+use plant_types::Person;
+use sqlite::{Connection, FileStore, Options};
+use sqlite_disk::Disk;
+use std::alloc::Global;
+
+/// Closes the files of a connection and opens them again.
+fn reopen_files<D: Disk + Drop>(
+    alloc: Global,
+    conn: Connection<FileStore<D>>,
+    options: Options,
+) -> Option<Connection<FileStore<D>>>
+    requires { conn.in_transaction ≡ false }
+    ensures mode { IfSome result (λ again. again.in_transaction ≡ false) }
+    ensures kept { (m : Content) → Keeps (file_state conn) m → IfSome result (λ again. Keeps (file_state again) m) }
+{
+    let _live = conn.schema();
+    let _settled = conn.is_autocommit();
+    let files = match conn.close_files() {
+        Ok(files) => files,
+        Err((_, store)) => {
+            drop(store.close());
+            return None;
+        }
+    };
+    match Connection::open_files(alloc, files, options) {
+        Ok(again) => Some(again),
+        Err(_) => None,
+    }
+}
+
+/// Closes books that are kept in files, and opens them again for the same administrator. What they held is found again.
+pub fn reopen<D: Disk + Drop>(
+    alloc: Global,
+    tables: Tables<FileStore<D>>,
+    admin: Person,
+    options: Options,
+) -> Option<Tables<FileStore<D>>>
+    ensures { (m : Content) → tables.0.1 ≡ m.admin → Keeps (file_state tables.0.0) m → m.admin ≡ admin → IfSome result (λ again. (again.0.1 ≡ m.admin) × Keeps (file_state again.0.0) m) }
+{
+    let conn = reopen_files(alloc, tables.close(), options)?;
+    match Tables::open(alloc, conn, admin) {
+        Ok(again) => Some(again),
+        Err(_) => None,
+    }
+}

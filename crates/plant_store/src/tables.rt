@@ -1,0 +1,279 @@
+//! The books of an office, kept in the tables of a connection.
+
+ghost use Rattle.std.specs.Prelude.{◌≡◌, ◌≢◌, ◌↔◌, ℕ, [], false, IsTrue, IsErrAnd, IfOk, IfErr, OnOk, OnErr};
+ghost use Rattle.sqlite.specs.Held.{state};
+ghost use Rattle.plant_books.specs.Contents.{Content, no_units};
+ghost use Rattle.plant_books.specs.Counting.{CountsFault};
+ghost use Rattle.plant_store.specs.Changes.{CanTell};
+ghost use Rattle.plant_store.specs.Counting.{Names};
+ghost use Rattle.plant_store.specs.Keeping.{Keeps};
+ghost use Rattle.plant_store.specs.Opening.{IsOfficeFirst, IsThisOffice, has_office};
+ghost use Rattle.plant_store.specs.Tables.{no_schema};
+ghost use Rattle.plant_types.specs.declared.fault.Fault.TheVariants.{Store};
+
+use crate::make::make_all;
+use crate::opening::{has_office, is_office_of};
+use crate::{mine, part, unit, write};
+use plant_books::{Books, MineUnit};
+use plant_model::{Call, Change, UnitPart, UnitRows};
+use plant_types::{Fault, Moment, Person, Table, UnitCode};
+use sqlite::{Alter, Connection, Error as SqlError, ErrorCode};
+use sqlite_schema::schema::Schema;
+use std::alloc::Global;
+use std::marker::Model;
+use thiserror::Error;
+
+fn fault_of(error: &SqlError) -> Fault
+    ensures { Names error.now result }
+{
+    match error {
+        SqlError::SqliteFailure(ErrorCode::OutOfMemory) => Fault::Memory,
+        _ => Fault::Store,
+    }
+}
+
+/// Whether the database has no table, no index and no view.
+fn is_blank(schema: &Schema) -> bool
+    ensures { IsTrue result ↔ (schema.now ≡ no_schema) }
+{
+    schema.tables.as_slice().is_empty()
+        && schema.indexes.as_slice().is_empty()
+        && schema.views.as_slice().is_empty()
+}
+
+/// The count of answers `Store`, after this fault.
+fn counted(stores: u64, fault: &Fault) -> u64
+    ensures { CountsFault stores result fault.now }
+{
+    match fault {
+        Fault::Memory => stores,
+        Fault::Store => stores.saturating_add(1),
+    }
+}
+
+/// Why a connection was not taken for books.
+#[derive(Debug, Drop, Error)]
+pub enum StoreFault {
+    /// The office's table is missing, or a column of it, or its row is not this schema's and this person's.
+    #[error("not this store")]
+    NotThisStore,
+    /// Memory ran out, or the store failed.
+    #[error("{0}")]
+    Fault(Fault),
+}
+
+/// A connection that was not taken, handed back with the administrator's name.
+#[derive(Drop)]
+pub struct Unopened<S: Alter> {
+    pub conn: Connection<S>,
+    pub admin: Person,
+    pub fault: StoreFault,
+}
+
+/// The same tables for all units, in the database of one connection.
+#[derive(Drop)]
+pub struct Tables<S: Alter> {
+    conn: Connection<S>,
+    admin: Person,
+    stores: u64,
+    alloc: Global,
+}
+
+impl<S: Alter> Model for Tables<S> {
+    ghost use Rattle.std.specs.Prelude.{◌≡◌, ℕ, List, false};
+    ghost use Rattle.std.specs.Coded.{coded×, coded_ℕ, coded_list};
+    ghost use Rattle.sqlite.specs.Held.{Held, held_code};
+
+    ghost Value = { (Held S × List ℕ) × ℕ };
+
+    ghost coded = { coded× (coded× (held_code S.code) (coded_list coded_ℕ)) coded_ℕ };
+
+    ghost view = { λ t. ((t.conn, t.admin), t.stores) };
+
+    ghost invariant = { λ t. t.conn.in_transaction ≡ false };
+}
+
+impl<S: Alter> Tables<S> {
+    /// Makes all tables, with no unit, in a database that has none: in another it is a fault of the store.
+    pub fn create(
+        alloc: Global,
+        mut conn: Connection<S>,
+        admin: Person,
+    ) -> Result<Tables<S>, Unopened<S>>
+        requires { conn.in_transaction ≡ false }
+        ensures made { IfOk result (λ t. (t.0.1 ≡ admin) × Keeps (state S.Store t.0.0) (no_units admin)) }
+        ensures count { IfOk result (λ t. t.1 ≡ 0) }
+        ensures blank { IfOk result (λ t. (state S.Store conn).now.schema ≡ no_schema) }
+        ensures refused { (state S.Store conn).now.schema ≢ no_schema → IfErr result (λ e. e.fault ≡ StoreFault.Fault Store) }
+        ensures fault { IfErr result (λ e. e.fault ≢ StoreFault.NotThisStore) }
+        ensures unchanged { IfErr result (λ e. CanTell (state S.Store e.conn) → (state S.Store e.conn).now ≡ (state S.Store conn).now) }
+        ensures back { IfErr result (λ e. (e.admin ≡ admin) × (e.conn.in_transaction ≡ false)) }
+    {
+        if !is_blank(conn.schema()) {
+            return Err(Unopened {
+                conn,
+                admin,
+                fault: StoreFault::Fault(Fault::Store),
+            });
+        }
+        match make_all(&mut conn, &admin) {
+            Ok(()) => Ok(Tables {
+                conn,
+                admin,
+                stores: 0,
+                alloc,
+            }),
+            Err(error) => Err(Unopened {
+                conn,
+                admin,
+                fault: StoreFault::Fault(fault_of(&error)),
+            }),
+        }
+    }
+
+    /// Takes a database that `create` made for this administrator and that was kept since. A database without the
+    /// office's table, or whose row there is another's, is not this store.
+    pub fn open(
+        alloc: Global,
+        mut conn: Connection<S>,
+        admin: Person,
+    ) -> Result<Tables<S>, Unopened<S>>
+        requires { conn.in_transaction ≡ false }
+        ensures kept { (m : Content) → Keeps (state S.Store conn) m → IfOk result (λ t. Keeps (state S.Store t.0.0) m) }
+        ensures fresh { IfOk result (λ t. (t.0.1 ≡ admin) × (t.1 ≡ 0)) }
+        ensures office { IsOfficeFirst (state S.Store conn).now.schema → IfOk result (λ t. CanTell (state S.Store t.0.0) → IsThisOffice admin (state S.Store conn).now) }
+        ensures other { IsOfficeFirst (state S.Store conn).now.schema → IfErr result (λ e. e.fault ≡ StoreFault.NotThisStore → CanTell (state S.Store e.conn) → ¬ IsThisOffice admin (state S.Store conn).now) }
+        ensures missing { has_office (state S.Store conn).now.schema ≡ false → IsErrAnd result (λ e. e.fault ≡ StoreFault.NotThisStore) }
+        ensures own { (m : Content) → Keeps (state S.Store conn) m → m.admin ≡ admin → IfErr result (λ e. CanTell (state S.Store e.conn) → e.fault ≢ StoreFault.NotThisStore) }
+        ensures left { (m : Content) → Keeps (state S.Store conn) m → IfErr result (λ e. Keeps (state S.Store e.conn) m) }
+        ensures back { IfErr result (λ e. (e.admin ≡ admin) × (e.conn.in_transaction ≡ false)) }
+    {
+        if !has_office(conn.schema()) {
+            return Err(Unopened {
+                conn,
+                admin,
+                fault: StoreFault::NotThisStore,
+            });
+        }
+        match is_office_of(&mut conn, &admin) {
+            Ok(true) => Ok(Tables {
+                conn,
+                admin,
+                stores: 0,
+                alloc,
+            }),
+            Ok(false) => Err(Unopened {
+                conn,
+                admin,
+                fault: StoreFault::NotThisStore,
+            }),
+            Err(error) => Err(Unopened {
+                conn,
+                admin,
+                fault: StoreFault::Fault(fault_of(&error)),
+            }),
+        }
+    }
+
+    /// Hands the connection back.
+    pub fn close(self) -> Connection<S>
+        ensures same { result ≡ self.0.0 }
+        ensures mode { result.in_transaction ≡ false }
+    {
+        let Tables {
+            conn,
+            admin: _,
+            stores: _,
+            alloc: _,
+        } = self;
+        conn
+    }
+
+    /// Sets how many steps a statement may take, or takes that limit away. A statement that would take more is a fault.
+    pub fn set_steps(&mut self, steps: Option<u64>)
+        ensures limit { self.new.0.0 ≡ record self.old.0.0 { step_limit = steps } }
+        ensures admin { self.new.0.1 ≡ self.old.0.1 }
+        ensures count { self.new.1 ≡ self.old.1 }
+        ensures kept { (m : Content) → Keeps (state S.Store self.old.0.0) m → Keeps (state S.Store self.new.0.0) m }
+    {
+        self.conn.set_step_limit(steps);
+    }
+}
+
+impl<S: Alter> Books for Tables<S> {
+    ghost can_tell = { λ t. CanTell (state S.Store t.0.0) };
+
+    ghost holds = { λ t m. (t.0.1 ≡ m.admin) × Keeps (state S.Store t.0.0) m };
+
+    ghost stores = { λ t. t.1 };
+
+    fn administrator(&self) -> &Person {
+        &self.admin
+    }
+
+    fn taken(&mut self, unit: &UnitCode) -> Result<bool, Fault> {
+        match unit::taken(self.alloc, &mut self.conn, unit) {
+            Ok(found) => Ok(found),
+            Err(error) => {
+                let fault = fault_of(&error);
+                self.stores = counted(self.stores, &fault);
+                Err(fault)
+            }
+        }
+    }
+
+    fn rows(&mut self, unit: &UnitCode) -> Result<Option<UnitRows>, Fault> {
+        match unit::rows_of(self.alloc, &mut self.conn, unit) {
+            Ok(found) => Ok(found),
+            Err(error) => {
+                let fault = fault_of(&error);
+                self.stores = counted(self.stores, &fault);
+                Err(fault)
+            }
+        }
+    }
+
+    fn part(&mut self, call: &Call) -> Result<Option<UnitPart>, Fault> {
+        match part::part_of(self.alloc, &mut self.conn, call) {
+            Ok(found) => Ok(found),
+            Err(error) => {
+                let fault = fault_of(&error);
+                self.stores = counted(self.stores, &fault);
+                Err(fault)
+            }
+        }
+    }
+
+    fn held(&mut self, person: &Person, now: Moment) -> Result<Table<UnitCode>, Fault> {
+        match mine::held(self.alloc, &mut self.conn, person, now) {
+            Ok(found) => Ok(found),
+            Err(error) => {
+                let fault = fault_of(&error);
+                self.stores = counted(self.stores, &fault);
+                Err(fault)
+            }
+        }
+    }
+
+    fn mine_units(&mut self, person: &Person, now: Moment) -> Result<Table<MineUnit>, Fault> {
+        match mine::mine_units(self.alloc, &mut self.conn, person, now) {
+            Ok(found) => Ok(found),
+            Err(error) => {
+                let fault = fault_of(&error);
+                self.stores = counted(self.stores, &fault);
+                Err(fault)
+            }
+        }
+    }
+
+    fn apply(&mut self, unit: &UnitCode, changes: &Table<Change>) -> Result<(), Fault> {
+        match write::apply(&mut self.conn, unit, changes.as_slice()) {
+            Ok(()) => Ok(()),
+            Err(error) => {
+                let fault = fault_of(&error);
+                self.stores = counted(self.stores, &fault);
+                Err(fault)
+            }
+        }
+    }
+}

@@ -1,0 +1,69 @@
+//! The rows of one unit: all of them, or the part that a call looks at.
+
+ghost use Rattle.std.specs.FinMap.{contains_key, get};
+ghost use Rattle.std.specs.Prelude.{◌≡◌, ℕ, false, IfOk};
+ghost use Rattle.sqlite.specs.Held.{state};
+ghost use Rattle.plant_books.specs.Contents.{Content};
+ghost use Rattle.plant_store.specs.Changes.{CanTell};
+ghost use Rattle.plant_store.specs.Keeping.{KeepsIn, has_any};
+ghost use Rattle.plant_store.specs.Tables.{AreBooks};
+
+use crate::read::{alarms_of, bands_of, cells_of, grants_of, shelves_of, units_of};
+use plant_model::{UnitRow, UnitRows};
+use plant_types::{Table, UnitCode};
+use sqlite::{Alter, Connection, Error};
+use std::alloc::Global;
+
+/// Whether there is a row: a unit was opened where it has a row of its own.
+pub fn has_row(units: &Table<UnitRow>) -> bool
+    ensures { result ≡ has_any units.now }
+{
+    !units.as_slice().is_empty()
+}
+
+/// Whether the unit was opened.
+pub fn taken<S: Alter>(
+    alloc: Global,
+    conn: &mut Connection<S>,
+    unit: &UnitCode,
+) -> Result<bool, Error>
+    requires { conn.old.in_transaction ≡ false }
+    ensures mode { conn.new.in_transaction ≡ false }
+    ensures found { CanTell (state S.Store conn.new) → (m : Content) → KeepsIn (state S.Store conn.old) m → IfOk result (λ taken. taken ≡ contains_key m.units unit.now) }
+    ensures same { CanTell (state S.Store conn.new) → AreBooks (state S.Store conn.old).now → (state S.Store conn.new).now ≡ (state S.Store conn.old).now }
+    ensures told { CanTell (state S.Store conn.new) → CanTell (state S.Store conn.old) }
+{
+    let units = units_of(alloc, conn, unit)?;
+    Ok(has_row(&units))
+}
+
+/// All rows of the unit, where it was opened.
+pub fn rows_of<S: Alter>(
+    alloc: Global,
+    conn: &mut Connection<S>,
+    unit: &UnitCode,
+) -> Result<Option<UnitRows>, Error>
+    requires { conn.old.in_transaction ≡ false }
+    ensures mode { conn.new.in_transaction ≡ false }
+    ensures found { CanTell (state S.Store conn.new) → (m : Content) → KeepsIn (state S.Store conn.old) m → IfOk result (λ rows. rows ≡ get m.units unit.now) }
+    ensures same { CanTell (state S.Store conn.new) → AreBooks (state S.Store conn.old).now → (state S.Store conn.new).now ≡ (state S.Store conn.old).now }
+    ensures told { CanTell (state S.Store conn.new) → CanTell (state S.Store conn.old) }
+{
+    let units = units_of(alloc, conn, unit)?;
+    if !has_row(&units) {
+        return Ok(None);
+    }
+    let grants = grants_of(alloc, conn, unit)?;
+    let alarms = alarms_of(alloc, conn, unit)?;
+    let shelves = shelves_of(alloc, conn, unit)?;
+    let bands = bands_of(alloc, conn, unit)?;
+    let cells = cells_of(alloc, conn, unit)?;
+    Ok(Some(UnitRows {
+        units,
+        grants,
+        alarms,
+        shelves,
+        bands,
+        cells,
+    }))
+}

@@ -1,0 +1,297 @@
+//! The statements that write, each inside a transaction.
+
+ghost use Rattle.std.specs.Prelude.{◌≡◌, ℕ, [], ◌∷◌, false, IsTrue, Ok, OnOk, OnErr};
+ghost use Rattle.sqlite.specs.Held.{state};
+ghost use Rattle.sqlite.specs.State.{Executes, HasCleanDisk, KeepsCommit, Survives};
+ghost use Rattle.sqlite.specs.Values.{bound};
+ghost use Rattle.plant_model.specs.declared.rows.Change.TheVariants.{Put, Remove};
+ghost use Rattle.plant_model.specs.declared.rows.Key.TheVariants.{Grant as GrantKey, Shelf as ShelfKey};
+ghost use Rattle.plant_model.specs.declared.rows.Row.TheVariants.{Alarm as AlarmPut, Band as BandPut, Cell as CellPut, Grant as GrantPut, Shelf as ShelfPut, Unit as UnitPut};
+ghost use Rattle.plant_store.specs.Changes.{Applies, CanTell};
+ghost use Rattle.plant_store.specs.Tables.{AreBooks};
+
+use crate::encode::{
+    alarm_cells, band_cells, cell_cells, grant_cells, grant_key, pair, shelf_cells, unit_cells,
+    wide,
+};
+use plant_model::{AlarmRow, BandRow, CellRow, Change, GrantRow, Key, Row, ShelfRow, UnitRow};
+use plant_types::{Person, Role, Tag, UnitCode};
+use sqlite::types::ValueRef;
+use sqlite::{Alter, Connection, Error, Transaction};
+
+/// Runs one statement.
+pub fn run<S: Alter>(
+    tx: &mut Transaction<'_, S>,
+    sql: &str,
+    cells: &[ValueRef<'_>],
+) -> Result<(), Error>
+    ensures same_reference { tx.new.conn.ghost_name ≡ tx.old.conn.ghost_name }
+    ensures made { HasCleanDisk (state S.Store tx.new.conn.now) → IsTrue tx.old.conn.now.in_transaction
+        → OnOk result ((count : ℕ) × Executes sql.now (bound cells.now) (state S.Store tx.old.conn.now) (state S.Store tx.new.conn.now) (Ok count)) }
+    ensures inside { HasCleanDisk (state S.Store tx.new.conn.now) → IsTrue tx.old.conn.now.in_transaction → OnOk result (IsTrue tx.new.conn.now.in_transaction) }
+    ensures kept { HasCleanDisk (state S.Store tx.new.conn.now) → IsTrue tx.old.conn.now.in_transaction → KeepsCommit (state S.Store tx.old.conn.now) (state S.Store tx.new.conn.now) }
+    ensures survives { Survives (state S.Store tx.old.conn.now) (state S.Store tx.new.conn.now) (λ _. ⊥) }
+{
+    tx.execute(sql, cells)?;
+    Ok(())
+}
+
+/// Puts the unit's own row.
+fn put_unit<S: Alter>(
+    tx: &mut Transaction<'_, S>,
+    unit: &UnitCode,
+    row: &UnitRow,
+) -> Result<(), Error>
+    ensures same_reference { tx.new.conn.ghost_name ≡ tx.old.conn.ghost_name }
+    ensures made { HasCleanDisk (state S.Store tx.new.conn.now) → IsTrue tx.old.conn.now.in_transaction → AreBooks (state S.Store tx.old.conn.now).now
+        → OnOk result (Applies unit.now (Put (UnitPut row.now) ∷ []) (state S.Store tx.old.conn.now).now (state S.Store tx.new.conn.now).now) }
+    ensures inside { HasCleanDisk (state S.Store tx.new.conn.now) → IsTrue tx.old.conn.now.in_transaction → OnOk result (IsTrue tx.new.conn.now.in_transaction) }
+    ensures kept { HasCleanDisk (state S.Store tx.new.conn.now) → IsTrue tx.old.conn.now.in_transaction → KeepsCommit (state S.Store tx.old.conn.now) (state S.Store tx.new.conn.now) }
+    ensures survives { Survives (state S.Store tx.old.conn.now) (state S.Store tx.new.conn.now) (λ _. ⊥) }
+{
+    run(
+        tx,
+        "INSERT OR REPLACE INTO units (unit, last_s, matrix_no, matrix_rev, quota) VALUES (?1, ?2, ?3, ?4, ?5)",
+        &unit_cells(unit, row),
+    )
+}
+
+/// Puts a grant.
+fn put_grant<S: Alter>(
+    tx: &mut Transaction<'_, S>,
+    unit: &UnitCode,
+    row: &GrantRow,
+) -> Result<(), Error>
+    ensures same_reference { tx.new.conn.ghost_name ≡ tx.old.conn.ghost_name }
+    ensures made { HasCleanDisk (state S.Store tx.new.conn.now) → IsTrue tx.old.conn.now.in_transaction → AreBooks (state S.Store tx.old.conn.now).now
+        → OnOk result (Applies unit.now (Put (GrantPut row.now) ∷ []) (state S.Store tx.old.conn.now).now (state S.Store tx.new.conn.now).now) }
+    ensures inside { HasCleanDisk (state S.Store tx.new.conn.now) → IsTrue tx.old.conn.now.in_transaction → OnOk result (IsTrue tx.new.conn.now.in_transaction) }
+    ensures kept { HasCleanDisk (state S.Store tx.new.conn.now) → IsTrue tx.old.conn.now.in_transaction → KeepsCommit (state S.Store tx.old.conn.now) (state S.Store tx.new.conn.now) }
+    ensures survives { Survives (state S.Store tx.old.conn.now) (state S.Store tx.new.conn.now) (λ _. ⊥) }
+{
+    run(
+        tx,
+        "INSERT OR REPLACE INTO grants (unit, person, role_no, end_s) VALUES (?1, ?2, ?3, ?4)",
+        &grant_cells(unit, row),
+    )
+}
+
+/// Puts an alarm.
+fn put_alarm<S: Alter>(
+    tx: &mut Transaction<'_, S>,
+    unit: &UnitCode,
+    row: &AlarmRow,
+) -> Result<(), Error>
+    ensures same_reference { tx.new.conn.ghost_name ≡ tx.old.conn.ghost_name }
+    ensures made { HasCleanDisk (state S.Store tx.new.conn.now) → IsTrue tx.old.conn.now.in_transaction → AreBooks (state S.Store tx.old.conn.now).now
+        → OnOk result (Applies unit.now (Put (AlarmPut row.now) ∷ []) (state S.Store tx.old.conn.now).now (state S.Store tx.new.conn.now).now) }
+    ensures inside { HasCleanDisk (state S.Store tx.new.conn.now) → IsTrue tx.old.conn.now.in_transaction → OnOk result (IsTrue tx.new.conn.now.in_transaction) }
+    ensures kept { HasCleanDisk (state S.Store tx.new.conn.now) → IsTrue tx.old.conn.now.in_transaction → KeepsCommit (state S.Store tx.old.conn.now) (state S.Store tx.new.conn.now) }
+    ensures survives { Survives (state S.Store tx.old.conn.now) (state S.Store tx.new.conn.now) (λ _. ⊥) }
+{
+    run(
+        tx,
+        "INSERT OR REPLACE INTO alarms (unit, tag, latching, max_s, max_rev, state_no, suppressed, active_s, return_s, out_s, out_by, out_words) VALUES (?1, ?2, ?3, ?4, ?5, ?6, ?7, ?8, ?9, ?10, ?11, ?12)",
+        &alarm_cells(unit, row),
+    )
+}
+
+/// Puts a shelf.
+fn put_shelf<S: Alter>(
+    tx: &mut Transaction<'_, S>,
+    unit: &UnitCode,
+    row: &ShelfRow,
+) -> Result<(), Error>
+    ensures same_reference { tx.new.conn.ghost_name ≡ tx.old.conn.ghost_name }
+    ensures made { HasCleanDisk (state S.Store tx.new.conn.now) → IsTrue tx.old.conn.now.in_transaction → AreBooks (state S.Store tx.old.conn.now).now
+        → OnOk result (Applies unit.now (Put (ShelfPut row.now) ∷ []) (state S.Store tx.old.conn.now).now (state S.Store tx.new.conn.now).now) }
+    ensures inside { HasCleanDisk (state S.Store tx.new.conn.now) → IsTrue tx.old.conn.now.in_transaction → OnOk result (IsTrue tx.new.conn.now.in_transaction) }
+    ensures kept { HasCleanDisk (state S.Store tx.new.conn.now) → IsTrue tx.old.conn.now.in_transaction → KeepsCommit (state S.Store tx.old.conn.now) (state S.Store tx.new.conn.now) }
+    ensures survives { Survives (state S.Store tx.old.conn.now) (state S.Store tx.new.conn.now) (λ _. ⊥) }
+{
+    let until = wide(row.until_s)?;
+    run(
+        tx,
+        "INSERT OR REPLACE INTO shelves (unit, tag, one_shot, start_s, until_s, person, words) VALUES (?1, ?2, ?3, ?4, ?5, ?6, ?7)",
+        &shelf_cells(unit, row, until),
+    )
+}
+
+/// Puts a limit of a matrix.
+fn put_band<S: Alter>(
+    tx: &mut Transaction<'_, S>,
+    unit: &UnitCode,
+    row: &BandRow,
+) -> Result<(), Error>
+    ensures same_reference { tx.new.conn.ghost_name ≡ tx.old.conn.ghost_name }
+    ensures made { HasCleanDisk (state S.Store tx.new.conn.now) → IsTrue tx.old.conn.now.in_transaction → AreBooks (state S.Store tx.old.conn.now).now
+        → OnOk result (Applies unit.now (Put (BandPut row.now) ∷ []) (state S.Store tx.old.conn.now).now (state S.Store tx.new.conn.now).now) }
+    ensures inside { HasCleanDisk (state S.Store tx.new.conn.now) → IsTrue tx.old.conn.now.in_transaction → OnOk result (IsTrue tx.new.conn.now.in_transaction) }
+    ensures kept { HasCleanDisk (state S.Store tx.new.conn.now) → IsTrue tx.old.conn.now.in_transaction → KeepsCommit (state S.Store tx.old.conn.now) (state S.Store tx.new.conn.now) }
+    ensures survives { Survives (state S.Store tx.old.conn.now) (state S.Store tx.new.conn.now) (λ _. ⊥) }
+{
+    let limit = wide(row.limit_s)?;
+    run(
+        tx,
+        "INSERT OR REPLACE INTO bands (unit, matrix_no, band_no, limit_s) VALUES (?1, ?2, ?3, ?4)",
+        &band_cells(unit, row, limit),
+    )
+}
+
+/// Puts a cell of a matrix.
+fn put_cell<S: Alter>(
+    tx: &mut Transaction<'_, S>,
+    unit: &UnitCode,
+    row: &CellRow,
+) -> Result<(), Error>
+    ensures same_reference { tx.new.conn.ghost_name ≡ tx.old.conn.ghost_name }
+    ensures made { HasCleanDisk (state S.Store tx.new.conn.now) → IsTrue tx.old.conn.now.in_transaction → AreBooks (state S.Store tx.old.conn.now).now
+        → OnOk result (Applies unit.now (Put (CellPut row.now) ∷ []) (state S.Store tx.old.conn.now).now (state S.Store tx.new.conn.now).now) }
+    ensures inside { HasCleanDisk (state S.Store tx.new.conn.now) → IsTrue tx.old.conn.now.in_transaction → OnOk result (IsTrue tx.new.conn.now.in_transaction) }
+    ensures kept { HasCleanDisk (state S.Store tx.new.conn.now) → IsTrue tx.old.conn.now.in_transaction → KeepsCommit (state S.Store tx.old.conn.now) (state S.Store tx.new.conn.now) }
+    ensures survives { Survives (state S.Store tx.old.conn.now) (state S.Store tx.new.conn.now) (λ _. ⊥) }
+{
+    run(
+        tx,
+        "INSERT OR REPLACE INTO cells (unit, matrix_no, severity, band_no, cell_no) VALUES (?1, ?2, ?3, ?4, ?5)",
+        &cell_cells(unit, row),
+    )
+}
+
+/// Removes a grant.
+fn remove_grant<S: Alter>(
+    tx: &mut Transaction<'_, S>,
+    unit: &UnitCode,
+    person: &Person,
+    role: Role,
+) -> Result<(), Error>
+    ensures same_reference { tx.new.conn.ghost_name ≡ tx.old.conn.ghost_name }
+    ensures made { HasCleanDisk (state S.Store tx.new.conn.now) → IsTrue tx.old.conn.now.in_transaction → AreBooks (state S.Store tx.old.conn.now).now
+        → OnOk result (Applies unit.now (Remove (GrantKey person.now role) ∷ []) (state S.Store tx.old.conn.now).now (state S.Store tx.new.conn.now).now) }
+    ensures inside { HasCleanDisk (state S.Store tx.new.conn.now) → IsTrue tx.old.conn.now.in_transaction → OnOk result (IsTrue tx.new.conn.now.in_transaction) }
+    ensures kept { HasCleanDisk (state S.Store tx.new.conn.now) → IsTrue tx.old.conn.now.in_transaction → KeepsCommit (state S.Store tx.old.conn.now) (state S.Store tx.new.conn.now) }
+    ensures survives { Survives (state S.Store tx.old.conn.now) (state S.Store tx.new.conn.now) (λ _. ⊥) }
+{
+    run(
+        tx,
+        "DELETE FROM grants WHERE unit = ?1 AND person = ?2 AND role_no = ?3",
+        &grant_key(unit, person, role),
+    )
+}
+
+/// Removes a shelf.
+fn remove_shelf<S: Alter>(
+    tx: &mut Transaction<'_, S>,
+    unit: &UnitCode,
+    tag: &Tag,
+) -> Result<(), Error>
+    ensures same_reference { tx.new.conn.ghost_name ≡ tx.old.conn.ghost_name }
+    ensures made { HasCleanDisk (state S.Store tx.new.conn.now) → IsTrue tx.old.conn.now.in_transaction → AreBooks (state S.Store tx.old.conn.now).now
+        → OnOk result (Applies unit.now (Remove (ShelfKey tag.now) ∷ []) (state S.Store tx.old.conn.now).now (state S.Store tx.new.conn.now).now) }
+    ensures inside { HasCleanDisk (state S.Store tx.new.conn.now) → IsTrue tx.old.conn.now.in_transaction → OnOk result (IsTrue tx.new.conn.now.in_transaction) }
+    ensures kept { HasCleanDisk (state S.Store tx.new.conn.now) → IsTrue tx.old.conn.now.in_transaction → KeepsCommit (state S.Store tx.old.conn.now) (state S.Store tx.new.conn.now) }
+    ensures survives { Survives (state S.Store tx.old.conn.now) (state S.Store tx.new.conn.now) (λ _. ⊥) }
+{
+    run(
+        tx,
+        "DELETE FROM shelves WHERE unit = ?1 AND tag = ?2",
+        &pair(unit, tag),
+    )
+}
+
+/// Puts a row of one of the tables.
+fn put_row<S: Alter>(tx: &mut Transaction<'_, S>, unit: &UnitCode, row: &Row) -> Result<(), Error>
+    ensures same_reference { tx.new.conn.ghost_name ≡ tx.old.conn.ghost_name }
+    ensures made { HasCleanDisk (state S.Store tx.new.conn.now) → IsTrue tx.old.conn.now.in_transaction → AreBooks (state S.Store tx.old.conn.now).now
+        → OnOk result (Applies unit.now (Put row.now ∷ []) (state S.Store tx.old.conn.now).now (state S.Store tx.new.conn.now).now) }
+    ensures inside { HasCleanDisk (state S.Store tx.new.conn.now) → IsTrue tx.old.conn.now.in_transaction → OnOk result (IsTrue tx.new.conn.now.in_transaction) }
+    ensures kept { HasCleanDisk (state S.Store tx.new.conn.now) → IsTrue tx.old.conn.now.in_transaction → KeepsCommit (state S.Store tx.old.conn.now) (state S.Store tx.new.conn.now) }
+    ensures survives { Survives (state S.Store tx.old.conn.now) (state S.Store tx.new.conn.now) (λ _. ⊥) }
+{
+    match row {
+        Row::Unit(row) => put_unit(tx, unit, row),
+        Row::Grant(row) => put_grant(tx, unit, row),
+        Row::Alarm(row) => put_alarm(tx, unit, row),
+        Row::Shelf(row) => put_shelf(tx, unit, row),
+        Row::Band(row) => put_band(tx, unit, row),
+        Row::Cell(row) => put_cell(tx, unit, row),
+    }
+}
+
+/// Removes the row of a key.
+fn remove_row<S: Alter>(
+    tx: &mut Transaction<'_, S>,
+    unit: &UnitCode,
+    key: &Key,
+) -> Result<(), Error>
+    ensures same_reference { tx.new.conn.ghost_name ≡ tx.old.conn.ghost_name }
+    ensures made { HasCleanDisk (state S.Store tx.new.conn.now) → IsTrue tx.old.conn.now.in_transaction → AreBooks (state S.Store tx.old.conn.now).now
+        → OnOk result (Applies unit.now (Remove key.now ∷ []) (state S.Store tx.old.conn.now).now (state S.Store tx.new.conn.now).now) }
+    ensures inside { HasCleanDisk (state S.Store tx.new.conn.now) → IsTrue tx.old.conn.now.in_transaction → OnOk result (IsTrue tx.new.conn.now.in_transaction) }
+    ensures kept { HasCleanDisk (state S.Store tx.new.conn.now) → IsTrue tx.old.conn.now.in_transaction → KeepsCommit (state S.Store tx.old.conn.now) (state S.Store tx.new.conn.now) }
+    ensures survives { Survives (state S.Store tx.old.conn.now) (state S.Store tx.new.conn.now) (λ _. ⊥) }
+{
+    match key {
+        Key::Grant(person, role) => remove_grant(tx, unit, person, *role),
+        Key::Shelf(tag) => remove_shelf(tx, unit, tag),
+    }
+}
+
+/// Makes one change.
+fn change_one<S: Alter>(
+    tx: &mut Transaction<'_, S>,
+    unit: &UnitCode,
+    change: &Change,
+) -> Result<(), Error>
+    ensures same_reference { tx.new.conn.ghost_name ≡ tx.old.conn.ghost_name }
+    ensures made { HasCleanDisk (state S.Store tx.new.conn.now) → IsTrue tx.old.conn.now.in_transaction → AreBooks (state S.Store tx.old.conn.now).now
+        → OnOk result (Applies unit.now (change.now ∷ []) (state S.Store tx.old.conn.now).now (state S.Store tx.new.conn.now).now) }
+    ensures inside { HasCleanDisk (state S.Store tx.new.conn.now) → IsTrue tx.old.conn.now.in_transaction → OnOk result (IsTrue tx.new.conn.now.in_transaction) }
+    ensures kept { HasCleanDisk (state S.Store tx.new.conn.now) → IsTrue tx.old.conn.now.in_transaction → KeepsCommit (state S.Store tx.old.conn.now) (state S.Store tx.new.conn.now) }
+    ensures survives { Survives (state S.Store tx.old.conn.now) (state S.Store tx.new.conn.now) (λ _. ⊥) }
+{
+    match change {
+        Change::Put(row) => put_row(tx, unit, row),
+        Change::Remove(key) => remove_row(tx, unit, key),
+    }
+}
+
+/// Makes the changes in the order of the list, up to the first that fails.
+fn change_all<S: Alter>(
+    tx: &mut Transaction<'_, S>,
+    unit: &UnitCode,
+    changes: &[Change],
+) -> Result<(), Error>
+    requires { IsTrue tx.old.conn.now.in_transaction }
+    ensures same_reference { tx.new.conn.ghost_name ≡ tx.old.conn.ghost_name }
+    ensures made { HasCleanDisk (state S.Store tx.new.conn.now) → AreBooks (state S.Store tx.old.conn.now).now
+        → OnOk result (Applies unit.now changes.now (state S.Store tx.old.conn.now).now (state S.Store tx.new.conn.now).now) }
+    ensures inside { HasCleanDisk (state S.Store tx.new.conn.now) → OnOk result (IsTrue tx.new.conn.now.in_transaction) }
+    ensures kept { HasCleanDisk (state S.Store tx.new.conn.now) → KeepsCommit (state S.Store tx.old.conn.now) (state S.Store tx.new.conn.now) }
+    ensures survives { Survives (state S.Store tx.old.conn.now) (state S.Store tx.new.conn.now) (λ _. ⊥) }
+{
+    for change in changes {
+        change_one(tx, unit, change)?;
+    }
+    Ok(())
+}
+
+/// Makes all the changes of one unit, or none.
+pub fn apply<S: Alter>(
+    conn: &mut Connection<S>,
+    unit: &UnitCode,
+    changes: &[Change],
+) -> Result<(), Error>
+    requires { conn.old.in_transaction ≡ false }
+    ensures mode { conn.new.in_transaction ≡ false }
+    ensures made { CanTell (state S.Store conn.new) → AreBooks (state S.Store conn.old).now
+        → OnOk result (Applies unit.now changes.now (state S.Store conn.old).now (state S.Store conn.new).now) }
+    ensures unchanged { CanTell (state S.Store conn.new) → OnErr result ((state S.Store conn.new).now ≡ (state S.Store conn.old).now) }
+    ensures told { CanTell (state S.Store conn.new) → CanTell (state S.Store conn.old) }
+{
+    let _settled = conn.is_autocommit();
+    let mut tx = conn.transaction();
+    change_all(&mut tx, unit, changes)?;
+    tx.commit()?;
+    Ok(())
+}

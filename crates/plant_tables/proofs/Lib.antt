@@ -1,0 +1,12 @@
+pub mod Changes
+pub mod Kept
+pub mod Rows
+pub mod Keys
+pub mod Laws
+pub mod Bridge
+pub mod Joins
+pub mod Shared
+pub mod JoinsMany
+pub mod Asking
+pub mod Shapes
+pub mod Family

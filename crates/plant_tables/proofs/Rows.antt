@@ -1,0 +1,135 @@
+-- The rows of a tree, under what a statement takes out of it and puts in.
+use Rattle.std.proofs.Common.{◌≡◌, ◌⊎◌, inl, inr, ℤ, pos, ◌+ℤ◌, ◌<ℤ◌, Bool, true, false, not, ◌||◌, cond, List, [], ◌∷◌, ◌++◌, map, filter, fold, Option, Some, None, refl, sym, ap, ap₂, ◌∙◌, subst, Ordering, Less, Equal, Greater, is_lt, is_eq, true≢false, IsTrue}
+use Rattle.std.specs.List.{AllByRecursion, list_any, filter_map}
+use Rattle.std.proofs.lemmas.Bool.{false_from_ne_true}
+use Rattle.std.proofs.lemmas.Cmp.{tied_itself, tied_back, alike_right}
+use Rattle.sqlite_value.specs.declared.value.Value.TheVariants.{Int}
+use Rattle.sqlite_value.specs.Order.{Row, value_cmp}
+use Rattle.sqlite_value.proofs.OrderLemmas.{value_cmp_total, value_cmp-Int}
+use Rattle.sqlite_trees.specs.Tree.{rowid, IsAscending, IsTable, has_rowid, put_row, without_rowid}
+use Rattle.sqlite_trees.specs.View.{is_int}
+use Rattle.sqlite_keyed.proofs.KeyedLemmas.{lt_from_Less, Less-from_lt, above_all}
+use Rattle.sqlite_keyed.specs.Keyed.{IsKeyedBy}
+use Rattle.sqlite_rules.specs.Lists.{Has}
+use Rattle.sqlite_rules.specs.Edit.{id_in, next_rowid, without_all}
+use Rattle.sqlite_rules.specs.Calls.{ids_of}
+use Rattle.sqlite_rules.proofs.ListLemmas.{all_has, all_from, some_has, some_from}
+use Rattle.sqlite_rules.proofs.PlaceLemmas.{tied_same}
+use Rattle.sqlite_rules.proofs.TableLemmas.{int_is}
+use Rattle.plant_tables.specs.Tidy.{AreRows}
+
+-- the rowids of the rows that pass the test, and no other
+pub record AreFound (p : Row → Bool) (rows found : List Row) : Type 0 where
+  pub sound : (x : Row) → Has found x → (r : Row) × Has rows r × (p r ≡ true) × (x ≡ rowid r ∷ [])
+  pub complete : (r : Row) → Has rows r → p r ≡ true → Has found (rowid r ∷ [])
+
+equal_is : (o : Ordering) → is_eq o ≡ true → o ≡ Equal
+equal_is Less h = absurd (true≢false (sym h))
+equal_is Equal h = refl
+equal_is Greater h = absurd (true≢false (sym h))
+
+filter_on : (p q : Row → Bool) (rows : List Row) → ((r : Row) → Has rows r → p r ≡ q r) → filter p rows ≡ filter q rows
+filter_on p q [] same = refl
+filter_on p q (r ∷ rows) same = ap₂ (λ b l. cond b (r ∷ l) l) (same r (inl refl)) (filter_on p q rows (λ s h. same s (inr h)))
+
+filter_both : (p q : Row → Bool) (rows : List Row) → filter (λ r. not (q r)) (filter (λ r. not (p r)) rows) ≡ filter (λ r. not (p r || q r)) rows
+filter_both p q [] = refl
+filter_both p q (r ∷ rows) = elim (p r) as (λ b. filter (λ r. not (q r)) (cond (not b) (r ∷ filter (λ r. not (p r)) rows) (filter (λ r. not (p r)) rows)) ≡ cond (not (b || q r)) (r ∷ filter (λ r. not (p r || q r)) rows) (filter (λ r. not (p r || q r)) rows))
+    [ true ↦ filter_both p q rows | false ↦ ap (λ l. cond (not (q r)) (r ∷ l) l) (filter_both p q rows) ]
+
+has_any : List ℤ → Row → Bool
+has_any ids r = list_any (λ id. has_rowid id r) ids
+
+all_pass : (rows : List Row) → rows ≡ filter (λ r. true) rows
+all_pass [] = refl
+all_pass (r ∷ rows) = ap (λ l. r ∷ l) (all_pass rows)
+
+without_all_is : (ids : List ℤ) (rows : List Row) → without_all rows ids ≡ filter (λ r. not (has_any ids r)) rows
+unfolding has_any
+without_all_is [] rows = all_pass rows
+without_all_is (id ∷ ids) rows = without_all_is ids (without_rowid id rows) ∙ filter_both (has_rowid id) (has_any ids) rows
+
+found_ids : (found : List Row) (x : Row) → Has found x → Has (ids_of found) (id_in (rowid x))
+found_ids [] x h = absurd h
+found_ids (y ∷ ys) x (inl e) = inl (ap (λ r. id_in (rowid r)) e)
+found_ids (y ∷ ys) x (inr h) = inr (found_ids ys x h)
+
+ids_found : (found : List Row) (id : ℤ) → Has (ids_of found) id → (x : Row) × Has found x × (id ≡ id_in (rowid x))
+ids_found [] id h = absurd h
+ids_found (y ∷ ys) id (inl e) = (y, inl refl, e)
+ids_found (y ∷ ys) id (inr h) = let it = ids_found ys id h in (it.0, inr it.1, it.2)
+
+-- taking out the rowids that were found leaves the rows that do not pass
+pub without_found : (p : Row → Bool) (rows found : List Row) → AreRows rows → AreFound p rows found → without_all rows (ids_of found) ≡ filter (λ r. not (p r)) rows
+unfolding has_any
+without_found p rows found are it = without_all_is (ids_of found) rows ∙ filter_on (λ r. not (has_any (ids_of found) r)) (λ r. not (p r)) rows (λ r h. ap not (same r h))
+  where
+    int_at : (r : Row) → Has rows r → rowid r ≡ Int (id_in (rowid r))
+    int_at r h = int_is (rowid r) (all_has _ rows r are.ints h)
+
+    goes : (r : Row) → Has rows r → p r ≡ true → has_any (ids_of found) r ≡ true
+    goes r h e = some_from (λ id. has_rowid id r) (ids_of found) (id_in (rowid r)) (found_ids found _ (it.complete r h e))
+        (subst (λ v. is_eq (value_cmp (rowid r) v) ≡ true) (int_at r h) (ap is_eq (tied_itself value_cmp_total (rowid r))))
+
+    stays : (r : Row) → Has rows r → has_any (ids_of found) r ≡ true → p r ≡ true
+    stays r h e =
+        let one = some_has (λ id. has_rowid id r) (ids_of found) e in
+        let from = ids_found found one.0 one.1 in
+        let other = it.sound from.0 from.1 in
+        let id : one.0 ≡ id_in (rowid other.0) = from.2 ∙ ap (λ x. id_in (rowid x)) other.3 in
+        let tie : value_cmp (rowid r) (rowid other.0) ≡ Equal = equal_is _ (subst (λ v. is_eq (value_cmp (rowid r) v) ≡ true) (ap Int id ∙ sym (int_at other.0 other.1)) one.2) in
+        ap p (tied_same rows r other.0 are.rise h other.1 tie) ∙ other.2
+
+    same : (r : Row) → Has rows r → has_any (ids_of found) r ≡ p r
+    same r h = go (p r) refl
+      where
+        go : (b : Bool) → p r ≡ b → has_any (ids_of found) r ≡ b
+        go true e = goes r h e
+        go false e = false_from_ne_true _ (λ k. true≢false (sym (stays r h k) ∙ e))
+
+-- ---- the next rowid
+
+keyed_from : (rows : List Row) → AreRows rows → IsKeyedBy (λ r. id_in (rowid r)) rows
+keyed_from [] are = tt
+keyed_from (r ∷ rows) are = (
+  all_from _ rows (λ s h.
+      let less : value_cmp (Int (id_in (rowid r))) (Int (id_in (rowid s))) ≡ Less = ap₂ value_cmp (sym (int_is (rowid r) are.ints.0)) (sym (int_is (rowid s) (all_has _ rows s are.ints.1 h))) ∙ all_has _ rows s are.rise.0 h in
+      lt_from_Less _ _ (sym (value_cmp-Int _ _) ∙ less)),
+  keyed_from rows (record { rise = are.rise.1; ints = are.ints.1 }),
+)
+
+below_next_ids : (rows : List Row) → AreRows rows → AllByRecursion (λ r. id_in (rowid r) <ℤ next_rowid rows) rows
+below_next_ids [] are = tt
+below_next_ids (r ∷ rows) are = above_all (λ s. id_in (rowid s)) rows r (keyed_from (r ∷ rows) are)
+
+-- the next rowid is above each that is there
+pub below_next : (rows : List Row) → AreRows rows → AllByRecursion (λ r. value_cmp (rowid r) (Int (next_rowid rows)) ≡ Less) rows
+below_next rows are = all_from _ rows (λ r h.
+    ap (λ v. value_cmp v (Int (next_rowid rows))) (int_is (rowid r) (all_has _ rows r are.ints h))
+    ∙ value_cmp-Int _ _ ∙ Less-from_lt _ _ (all_has _ rows r (below_next_ids rows are) h))
+
+pub put_last : (new : Row) (rows : List Row) → AllByRecursion (λ r. value_cmp (rowid r) (rowid new) ≡ Less) rows → put_row new rows ≡ rows ++ new ∷ []
+put_last new [] all = refl
+put_last new (r ∷ rows) all = rw all.0 (ap (λ l. r ∷ l) (put_last new rows all.1))
+
+-- ---- as an application reads them
+
+pub typed-filter : {X : Type 0} (decode : Row → Option X) (p : Row → Bool) (q : X → Bool) → ((r : Row) (x : X) → decode r ≡ Some x → p r ≡ q x) → (rows : List Row)
+    → filter_map decode (filter p rows) ≡ filter q (filter_map decode rows)
+typed-filter decode p q same [] = refl
+typed-filter {X} decode p q same (r ∷ rows) = go (decode r) refl (p r) refl (typed-filter decode p q same rows)
+  where
+    go : (o : Option X) → decode r ≡ o → (b : Bool) → p r ≡ b → filter_map decode (filter p rows) ≡ filter q (filter_map decode rows)
+        → filter_map decode (cond b (r ∷ filter p rows) (filter p rows)) ≡ filter q (filter_map decode (r ∷ rows))
+    go None e true f more = rw e more
+    go None e false f more = rw e more
+    go (Some x) e true f more = rw (e, (sym (same r x e) ∙ f)) (ap (λ l. x ∷ l) more)
+    go (Some x) e false f more = rw (e, (sym (same r x e) ∙ f)) more
+
+pub typed-push : {X : Type 0} (decode : Row → Option X) (rows : List Row) (new : Row) (x : X) → decode new ≡ Some x → filter_map decode (rows ++ new ∷ []) ≡ filter_map decode rows ++ x ∷ []
+typed-push decode [] new x e = rw e refl
+typed-push {X} decode (r ∷ rows) new x e = go (decode r) refl (typed-push decode rows new x e)
+  where
+    go : (o : Option X) → decode r ≡ o → filter_map decode (rows ++ new ∷ []) ≡ filter_map decode rows ++ x ∷ [] → filter_map decode (r ∷ rows ++ new ∷ []) ≡ filter_map decode (r ∷ rows) ++ x ∷ []
+    go None f more = rw f more
+    go (Some y) f more = rw f (ap (λ l. y ∷ l) more)

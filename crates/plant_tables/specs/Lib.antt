@@ -1,0 +1,4 @@
+pub mod Tables
+pub mod Kept
+pub mod Tidy
+pub mod Shape

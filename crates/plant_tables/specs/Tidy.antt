@@ -1,0 +1,22 @@
+-- What is true of a table's rows from its making on.
+use Rattle.std.specs.Prelude.{◌≡◌, ℕ, false, true, List}
+use Rattle.std.specs.Ordering.{is_eq}
+use Rattle.std.specs.List.{AllByRecursion}
+use Rattle.sqlite.specs.Tree.{rowid, IsTable, IsAscending}
+use Rattle.sqlite.specs.View.{is_int}
+use Rattle.sqlite_value.specs.Order.{Row}
+use Rattle.plant_tables.specs.Kept.{by_columns}
+
+-- each row has an integer for its rowid, and no two have one
+pub record AreRows (rows : List Row) : Type 0 where
+  pub rise : IsTable rows
+  pub ints : AllByRecursion (λ r. is_int (rowid r) ≡ true) rows
+
+-- no two rows have one key
+abbrev pub AreApart : List ℕ → List Row → Type 0
+AreApart key = IsAscending (λ a b. is_eq (by_columns key a b) ≡ false)
+
+pub record IsTidy (Wf : Row → Type 0) (key : List ℕ) (rows : List Row) : Type 0 where
+  pub are : AreRows rows
+  pub each : AllByRecursion Wf rows
+  pub apart : AreApart key rows
