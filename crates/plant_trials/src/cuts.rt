@@ -1,0 +1,120 @@
+//! Streams that are cut in two, and streams that end too early.
+
+use crate::examples::{BASE, LOOKED_AT, SHELVED, STRANGER};
+use crate::exchanges::Exchanges;
+use crate::replays::{lists, replays};
+use plant_office::Books;
+use plant_wire::End;
+use std::alloc::Global;
+use std::process::Abort;
+use std::test::Fail;
+
+/// The first shelf, from the opening of its unit on.
+fn first_shelf(alloc: Global) -> Result<Exchanges, Fail> {
+    let mut wanted = Exchanges::new(alloc);
+    for part in [BASE, SHELVED, LOOKED_AT] {
+        wanted.add_all(part)?;
+    }
+    Ok(wanted)
+}
+
+/// Cut in two reads at this place, the requests are answered as in one.
+fn is_answered_cut<B: Books + Drop>(
+    rt: &(impl Abort + AllocGlobal),
+    books: B,
+    wanted: &Exchanges,
+    place: usize,
+) {
+    let (first, second) = wanted
+        .requests
+        .as_bytes()
+        .split_at_checked(place)
+        .expect(rt, "a place");
+    let (answers, end) = replays(rt.alloc(), books, first, second);
+    assert!(rt;
+        answers.as_slice() == wanted.answers.as_bytes(),
+        "cut at {place}"
+    );
+    assert_eq!(rt; end, End::Closed, "cut at {place}");
+}
+
+/// How many bytes of answers the requests have that are whole before this place, and whether one ends there.
+fn whole_before(wanted: &Exchanges, place: usize) -> (usize, bool) {
+    let mut whole = (0, place == 0);
+    for mark in &wanted.marks {
+        if mark.asked <= place {
+            whole = (mark.answered, mark.asked == place);
+        }
+    }
+    whole
+}
+
+/// Ended at this place, the requests before it are answered, and one that is not whole is answered nothing.
+fn is_answered_ended<B: Books + Drop>(
+    rt: &(impl Abort + AllocGlobal),
+    books: B,
+    wanted: &Exchanges,
+    place: usize,
+) {
+    let (first, _) = wanted
+        .requests
+        .as_bytes()
+        .split_at_checked(place)
+        .expect(rt, "a place");
+    let (answers, end) = replays(rt.alloc(), books, first, b"");
+    let (answered, is_closed) = whole_before(wanted, place);
+    let due = wanted
+        .answers
+        .as_bytes()
+        .get(..answered)
+        .expect(rt, "answers");
+    assert!(rt; answers.as_slice() == due, "ended at {place}");
+    let due = if is_closed {
+        End::Closed
+    } else {
+        End::BrokenInput
+    };
+    assert_eq!(rt; end, due, "ended at {place}");
+}
+
+/// Every place of the stream, its begin and its end too.
+fn places(wanted: &Exchanges) -> usize {
+    wanted.requests.len().saturating_add(1)
+}
+
+#[test]
+fn first_shelf_has_its_bytes(rt: HostRuntime) -> Result<(), Fail> {
+    let wanted = first_shelf(rt.alloc())?;
+    assert_eq!(rt; wanted.requests.len(), 1616);
+    assert_eq!(rt; wanted.answers.len(), 1568);
+    Ok(())
+}
+
+#[test]
+fn first_shelf_cut_in_two(rt: HostRuntime) -> Result<(), Fail> {
+    let wanted = first_shelf(rt.alloc())?;
+    for place in 0..places(&wanted) {
+        is_answered_cut(&rt, lists(&rt)?, &wanted, place);
+    }
+    Ok(())
+}
+
+#[test]
+fn first_shelf_ended_early(rt: HostRuntime) -> Result<(), Fail> {
+    let wanted = first_shelf(rt.alloc())?;
+    for place in 0..places(&wanted) {
+        is_answered_ended(&rt, lists(&rt)?, &wanted, place);
+    }
+    Ok(())
+}
+
+#[test]
+fn a_strangers_status_cut(rt: HostRuntime) -> Result<(), Fail> {
+    let mut wanted = Exchanges::new(rt.alloc());
+    wanted.add_all(STRANGER)?;
+    for place in 0..places(&wanted) {
+        is_answered_cut(&rt, lists(&rt)?, &wanted, place);
+        is_answered_ended(&rt, lists(&rt)?, &wanted, place);
+    }
+    Ok(())
+}

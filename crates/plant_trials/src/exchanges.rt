@@ -1,0 +1,114 @@
+//! The notation of the examples. Exchanges are parted by an empty line; each is a line for the request, which is the
+//! caller, the moment (on 2026-03-01 where no day is given), the method, the target and the body, and then the answer,
+//! which is the status and the body.
+
+use std::alloc::Global;
+use std::test::Fail;
+
+/// How many bytes the requests and their answers have, up to the end of one exchange.
+#[derive(Clone, Copy)]
+pub(crate) struct Mark {
+    pub(crate) asked: usize,
+    pub(crate) answered: usize,
+}
+
+/// Requests, and the answers that are wanted.
+#[derive(Drop)]
+pub(crate) struct Exchanges {
+    pub(crate) requests: String,
+    pub(crate) answers: String,
+    pub(crate) marks: Vec<Mark>,
+}
+
+fn phrase(status: &str) -> &'static str {
+    match status {
+        "200" => "OK",
+        "400" => "Bad Request",
+        "403" => "Forbidden",
+        "404" => "Not Found",
+        "409" => "Conflict",
+        "501" => "Not Implemented",
+        _ => "Service Unavailable",
+    }
+}
+
+/// Adds a moment, given by its time of day or whole.
+fn add_moment(out: &mut String, moment: &str) -> Result<(), Fail> {
+    if moment.len() == 8 {
+        write!(out, "2026-03-01T{moment}Z")?;
+    } else {
+        out.push_str(moment)?;
+    }
+    Ok(())
+}
+
+/// Adds the request of one line.
+pub(crate) fn add_request(out: &mut String, line: &str) -> Result<(), Fail> {
+    let (person, rest) = line.split_once(' ').ok_or("no person")?;
+    let (moment, rest) = rest.split_once(' ').ok_or("no moment")?;
+    let (method, rest) = rest.split_once(' ').ok_or("no method")?;
+    let (target, body) = rest.split_once(' ').unwrap_or((rest, ""));
+    write!(
+        out,
+        "{method} {target} HTTP/1.1\r\nX-Person: {person}\r\nX-Moment: "
+    )?;
+    add_moment(out, moment)?;
+    out.push_str("\r\n")?;
+    if !body.is_empty() {
+        let length = body.len();
+        write!(out, "Content-Length: {length}\r\n")?;
+    }
+    out.push_str("\r\n")?;
+    out.push_str(body)?;
+    Ok(())
+}
+
+/// Adds the answer of a status and a body: a JSON object, or lines of text, each of which ends with a line feed.
+pub(crate) fn add_answer(out: &mut String, answer: &str) -> Result<(), Fail> {
+    let (status, body) = answer.split_once(' ').ok_or("no body")?;
+    let (media, feed) = if body.starts_with('{') {
+        ("application/json", "")
+    } else {
+        ("text/plain", "\n")
+    };
+    let phrase = phrase(status);
+    let length = body.len().saturating_add(feed.len());
+    write!(
+        out,
+        "HTTP/1.1 {status} {phrase}\r\nContent-Type: {media}\r\nContent-Length: {length}\r\n\r\n{body}{feed}"
+    )?;
+    Ok(())
+}
+
+impl Exchanges {
+    /// None yet.
+    pub(crate) fn new(alloc: Global) -> Exchanges {
+        Exchanges {
+            requests: String::new(alloc),
+            answers: String::new(alloc),
+            marks: Vec::new(alloc),
+        }
+    }
+
+    /// Adds one exchange.
+    pub(crate) fn add(&mut self, exchange: &str) -> Result<(), Fail> {
+        let (request, answer) = exchange.split_once('\n').ok_or("no answer")?;
+        add_request(&mut self.requests, request)?;
+        add_answer(&mut self.answers, answer)?;
+        self.marks.push(Mark {
+            asked: self.requests.len(),
+            answered: self.answers.len(),
+        })?;
+        Ok(())
+    }
+
+    /// Adds the exchanges of a text, which may have none.
+    pub(crate) fn add_all(&mut self, text: &str) -> Result<(), Fail> {
+        for exchange in text.split("\n\n") {
+            if !exchange.is_empty() {
+                self.add(exchange)?;
+            }
+        }
+        Ok(())
+    }
+}

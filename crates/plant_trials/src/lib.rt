@@ -1,0 +1,18 @@
+//! Whole sessions over the office, as tests alone: worked examples, streams that are cut, streams without the calls of
+//! others, and requests that are no calls. Each is generic in the keeper of the units.
+#![tactic(auto)]
+
+#[cfg(test)]
+mod cuts;
+#[cfg(test)]
+mod examples;
+#[cfg(test)]
+mod exchanges;
+#[cfg(test)]
+mod malformed;
+#[cfg(test)]
+mod purges;
+#[cfg(test)]
+mod replays;
+#[cfg(test)]
+mod worked;
