@@ -1,3 +1,15 @@
-.PHONY: test
+.PHONY: run build test
+
+# Runs the example's requests, shows the answers and compares them with the expected ones. Nothing is proved first.
+run:
+	scripts/run-first-shelf
+
+# Proves the program and leaves it at out/shelfoffice.
+build:
+	cd crates/shelfoffice && rt run -- --help
+	mkdir -p out
+	cp crates/shelfoffice/out/shelfoffice out/shelfoffice
+
+# The gate: every proof from nothing, the must-fail edits, the tests, and the programs.
 test:
 	rt ci
