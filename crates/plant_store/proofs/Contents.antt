@@ -18,9 +18,9 @@ use Rattle.plant_types.proofs.TableLaws.{tied}
 use Rattle.plant_store.specs.Changes.{Applies, IsOfficeOf}
 use Rattle.plant_store.specs.Keeping.{KeepsIn, has_any}
 use Rattle.plant_store.specs.Making.{AreNew}
-use Rattle.plant_store.specs.Tables.{AreBooks, AreSeen, Kept, rows_at, rows_seen, shape}
+use Rattle.plant_columns.specs.Tables.{AreBooks, AreSeen, Kept, rows_at, rows_seen, shape}
 use Rattle.plant_tables.specs.Shape.{rows_in as rows_of}
-use Rattle.plant_store.specs.Tables.Kept.{UnitKept, GrantKept, AlarmKept, ShelfKept, BandKept, CellKept}
+use Rattle.plant_columns.specs.Tables.Kept.{UnitKept, GrantKept, AlarmKept, ShelfKept, BandKept, CellKept}
 
 same_codes : (a b : Name) → same_name a b ≡ true → a ≡ b
 same_codes a b h = same_names a b (tied _ _ h refl)

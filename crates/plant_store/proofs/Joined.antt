@@ -31,12 +31,12 @@ use Rattle.plant_tables.proofs.Joins.{joins, meets, met}
 use Rattle.plant_tables.proofs.Shapes.{named}
 use Rattle.plant_store.specs.Keeping.{KeepsIn, has_any}
 use Rattle.plant_store.specs.Mine.{is_named, last_in, line_at, line_cells, lines_of}
-use Rattle.plant_store.specs.Tables.{books_schema, grant_shape, rows_seen, unit_shape}
-use Rattle.plant_store.specs.Tables.Kept.{UnitKept, GrantKept}
+use Rattle.plant_columns.specs.Tables.{books_schema, grant_shape, rows_seen, unit_shape}
+use Rattle.plant_columns.specs.Tables.Kept.{UnitKept, GrantKept}
 use Rattle.plant_store.specs.Texts.{mine_text}
 use Rattle.plant_store.proofs.Contents.{was_opened}
 use Rattle.plant_store.proofs.Meanings.{mine_is, mine_plain, mine_shows, mine_tests, order_3}
-use Rattle.plant_store.proofs.ShapeLaws.{good}
+use Rattle.plant_columns.proofs.ShapeLaws.{good}
 
 abbrev grant_key : List ℕ
 grant_key = 1 ∷ 2 ∷ 3 ∷ []
@@ -164,7 +164,7 @@ module _ (s : State) (m : Content) (k : KeepsIn s m) where
     unfolding HasUnit
     line_shown g h =
         let last : last_in (rows_seen (bytes (column g 1)) s.now.trees UnitKept) ≡ (unit_shape.read h.1).last_s = ap (λ us. last_in (map unit_shape.read (sort_by (by_columns (1 ∷ [])) us))) h.2 in
-        let cells : out g h.1 ≡ line_cells (line_at s.now.trees g) = λ i. grant_name g h.0 i ∷ ap (λ (r : Row). column r 3) h.0 i ∷ ap (λ (r : Row). column r 4) h.0 i ∷ (ap (λ (r : Row). column r 2) h.3 ∙ ap Rattle.plant_store.specs.Codes.number (sym last)) i ∷ [] in
+        let cells : out g h.1 ≡ line_cells (line_at s.now.trees g) = λ i. grant_name g h.0 i ∷ ap (λ (r : Row). column r 3) h.0 i ∷ ap (λ (r : Row). column r 4) h.0 i ∷ (ap (λ (r : Row). column r 2) h.3 ∙ ap Rattle.plant_columns.specs.Codes.number (sym last)) i ∷ [] in
         ap (map (out g)) h.2 ∙ ap (λ c. c ∷ []) cells
 
     lines_shown : (gs : List Row) → AllByRecursion HasUnit gs → map (λ (o : Output). o.1) (flat_map (met 3 1 mine_tests mine_shows order_3 grant_key (Text p ∷ []) (s.now.trees 1)) gs) ≡ map line_cells (map (line_at s.now.trees) (filter (is_named p) gs))

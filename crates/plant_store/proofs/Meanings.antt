@@ -18,7 +18,7 @@ use Rattle.sqlite_value.specs.declared.keys.Key.{Key}
 use Rattle.sqlite_value.specs.declared.value.Value.TheVariants.{Null, Int}
 use Rattle.sqlite_value.specs.Keys.{ascending}
 use Rattle.plant_store.specs.Texts.{office_text, units_text, grants_text, alarms_text, shelves_text, bands_text, cells_text, by_person_text, put_office_text, office_row_text, put_unit_text, put_grant_text, put_alarm_text, put_shelf_text, put_band_text, put_cell_text, remove_grant_text, remove_shelf_text, units_of_text, grants_of_text, alarms_of_text, shelves_of_text, bands_of_text, cells_of_text, own_grants_text, alarm_at_text, shelf_at_text, tags_of_text, mine_text}
-use Rattle.plant_store.specs.Tables.{office_table, unit_shape, grant_shape, alarm_shape, shelf_shape, band_shape, cell_shape, by_person, no_schema, office_schema, units_schema, grants_schema, alarms_schema, shelves_schema, bands_schema, cells_schema, books_schema}
+use Rattle.plant_columns.specs.Tables.{office_table, unit_shape, grant_shape, alarm_shape, shelf_shape, band_shape, cell_shape, by_person, no_schema, office_schema, units_schema, grants_schema, alarms_schema, shelves_schema, bands_schema, cells_schema, books_schema}
 use Rattle.plant_tables.specs.Kept.{plain_query}
 use Rattle.plant_tables.specs.Shape.{table_in}
 

@@ -34,10 +34,10 @@ use Rattle.plant_tables.proofs.Shapes.{named}
 use Rattle.plant_store.specs.declared.mine.Line.{Line}
 use Rattle.plant_store.specs.Keeping.{KeepsIn, has_any}
 use Rattle.plant_store.specs.Mine.{is_named, last_in, line_at, lines_of, runs_of, standing_lines}
-use Rattle.plant_store.specs.Tables.{grant_shape, rows_seen}
-use Rattle.plant_store.specs.Tables.Kept.{UnitKept, GrantKept}
+use Rattle.plant_columns.specs.Tables.{grant_shape, rows_seen}
+use Rattle.plant_columns.specs.Tables.Kept.{UnitKept, GrantKept}
 use Rattle.plant_store.proofs.LineLaws.{roles_at, run_at, run_with, runs_in_order}
-use Rattle.plant_store.proofs.ShapeLaws.{good}
+use Rattle.plant_columns.proofs.ShapeLaws.{good}
 
 abbrev grant_key : List ℕ
 grant_key = 1 ∷ 2 ∷ 3 ∷ []

@@ -22,7 +22,7 @@ use Rattle.sqlite.proofs.Callers.{IsPlain, command_of}
 use Rattle.sqlite_schema.specs.declared.schema.Index.{Index}
 use Rattle.sqlite_tied.specs.Compute.{everything}
 use Rattle.plant_store.specs.Opening.{IsOfficeFirst, IsThisOffice, office_cells, office_shown, with_office}
-use Rattle.plant_store.specs.Tables.{AreBooks}
+use Rattle.plant_columns.specs.Tables.{AreBooks}
 use Rattle.plant_store.specs.Texts.{office_row_text}
 use Rattle.plant_tables.specs.Kept.{plain_query}
 
@@ -59,22 +59,22 @@ module _ (old new : State) (first : IsOfficeFirst old.now.schema) (rows : List R
     λ e. one_permutation x rows (subst (λ l. IsPermutation l rows) e some_order),
   )
 
-columns_each : (rows : List Row) → map (Rattle.plant_store.specs.Shown.columns 3) (map office_shown rows) ≡ map office_shown rows
+columns_each : (rows : List Row) → map (Rattle.plant_columns.specs.Shown.columns 3) (map office_shown rows) ≡ map office_shown rows
 columns_each [] = refl
 columns_each (r ∷ rows) = ap (λ l. office_shown r ∷ l) (columns_each rows)
 
-cells_alone : (admin : Name) (rows xs : List Row) → IsPermutation (map office_shown xs) rows → map (Rattle.plant_store.specs.Shown.columns 3) rows ≡ office_cells admin ∷ [] → map office_shown xs ≡ office_cells admin ∷ []
+cells_alone : (admin : Name) (rows xs : List Row) → IsPermutation (map office_shown xs) rows → map (Rattle.plant_columns.specs.Shown.columns 3) rows ≡ office_cells admin ∷ [] → map office_shown xs ≡ office_cells admin ∷ []
 cells_alone admin rows xs same e =
-    let turned = IsPermutation-map (Rattle.plant_store.specs.Shown.columns 3) (map office_shown xs) rows same in
+    let turned = IsPermutation-map (Rattle.plant_columns.specs.Shown.columns 3) (map office_shown xs) rows same in
     one_permutation (office_cells admin) (map office_shown xs)
-    (IsPermutation-sym (map office_shown xs) (office_cells admin ∷ []) (subst (λ l. IsPermutation l (office_cells admin ∷ [])) (columns_each xs) (subst (IsPermutation (map (Rattle.plant_store.specs.Shown.columns 3) (map office_shown xs))) e turned)))
+    (IsPermutation-sym (map office_shown xs) (office_cells admin ∷ []) (subst (λ l. IsPermutation l (office_cells admin ∷ [])) (columns_each xs) (subst (IsPermutation (map (Rattle.plant_columns.specs.Shown.columns 3) (map office_shown xs))) e turned)))
 
 -- the rows that are shown tell whether it is this office
 pub office_told : (admin : Name) (old new : State) → IsOfficeFirst old.now.schema → (rows : List Row) → Shown office_row_text [] old new rows
-    → (map (Rattle.plant_store.specs.Shown.columns 3) rows ≡ office_cells admin ∷ []) ↔ IsThisOffice admin old.now
+    → (map (Rattle.plant_columns.specs.Shown.columns 3) rows ≡ office_cells admin ∷ []) ↔ IsThisOffice admin old.now
 office_told admin old new first rows h = (
   cells_alone admin rows (old.now.trees 0) (some_order old new first rows h),
-  λ e. ap (map (Rattle.plant_store.specs.Shown.columns 3)) ((one_office old new first rows h (office_cells admin)).1 e),
+  λ e. ap (map (Rattle.plant_columns.specs.Shown.columns 3)) ((one_office old new first rows h (office_cells admin)).1 e),
 )
 
 -- ---- the books of this office

@@ -16,12 +16,12 @@ use Rattle.plant_tables.specs.Kept.{is_of}
 use Rattle.plant_tables.specs.Shape.{Shape}
 use Rattle.plant_tables.proofs.Keys.{equal_is}
 use Rattle.plant_tables.proofs.Shapes.{IsShape, finds_rows, shown_kept, some_kept}
-use Rattle.plant_store.specs.Shown.{columns}
-use Rattle.plant_store.specs.Tables.{AreBooks, books_schema, rows_seen, unit_shape, grant_shape, alarm_shape, shelf_shape, band_shape, cell_shape}
-use Rattle.plant_store.specs.Tables.Kept.{UnitKept, GrantKept, AlarmKept, ShelfKept, BandKept, CellKept}
+use Rattle.plant_columns.specs.Shown.{columns}
+use Rattle.plant_columns.specs.Tables.{AreBooks, books_schema, rows_seen, unit_shape, grant_shape, alarm_shape, shelf_shape, band_shape, cell_shape}
+use Rattle.plant_columns.specs.Tables.Kept.{UnitKept, GrantKept, AlarmKept, ShelfKept, BandKept, CellKept}
 use Rattle.plant_store.specs.Texts.{units_of_text, grants_of_text, alarms_of_text, shelves_of_text, bands_of_text, cells_of_text, own_grants_text, alarm_at_text, shelf_at_text, tags_of_text}
 use Rattle.plant_store.proofs.Meanings.{by_unit, by_two, order_1, order_2, order_3, order_4, unit_shows, grant_shows, alarm_shows, shelf_shows, band_shows, cell_shows, unit_names, grant_names, alarm_names, shelf_names, band_names, cell_names, units_of_is, grants_of_is, alarms_of_is, shelves_of_is, bands_of_is, cells_of_is, own_grants_is, alarm_at_is, shelf_at_is, tags_of_is, units_of_plain, grants_of_plain, alarms_of_plain, shelves_of_plain, bands_of_plain, cells_of_plain, own_grants_plain, alarm_at_plain, shelf_at_plain, tags_of_plain}
-use Rattle.plant_store.proofs.ShapeLaws.{good}
+use Rattle.plant_columns.proofs.ShapeLaws.{good}
 
 -- ---- what was shown is read back
 

@@ -20,8 +20,8 @@ use Rattle.plant_types.specs.Roles.{Pair}
 use Rattle.plant_store.specs.declared.part.Scope.{Scope}
 use Rattle.plant_store.specs.declared.part.Scope.TheVariants.{Every, Nothing, One}
 use Rattle.plant_store.specs.Keeping.{KeepsIn, has_any}
-use Rattle.plant_store.specs.Tables.{rows_seen}
-use Rattle.plant_store.specs.Tables.Kept.{UnitKept, GrantKept, AlarmKept, ShelfKept}
+use Rattle.plant_columns.specs.Tables.{rows_seen}
+use Rattle.plant_columns.specs.Tables.Kept.{UnitKept, GrantKept, AlarmKept, ShelfKept}
 use Rattle.plant_store.specs.Wanted.{IsScope, alarms_with, shelves_with}
 use Rattle.plant_store.proofs.Contents.{kept_rows, never_opened}
 use Rattle.plant_store.proofs.Queries.{passing_all, passing_none}

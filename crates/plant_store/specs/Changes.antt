@@ -5,7 +5,7 @@ use Rattle.std.specs.Prelude.{IsTrue, List, [], ◌∷◌, ◌≡◌, ◌≢◌}
 use Rattle.plant_model.specs.declared.rows.Change.{Change}
 use Rattle.plant_model.specs.declared.rows.UnitRows.{UnitRows}
 use Rattle.plant_model.specs.RowChanges.{changed_by}
-use Rattle.plant_store.specs.Tables.{AreBooks, AreSeen, Kept, office_row, rows_seen}
+use Rattle.plant_columns.specs.Tables.{AreBooks, AreSeen, Kept, office_row, rows_seen}
 use Rattle.plant_types.specs.Names.{Name}
 
 -- the unit's rows are changed, in the order of the list, and nothing else is

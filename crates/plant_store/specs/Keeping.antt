@@ -4,7 +4,7 @@ use Rattle.std.specs.FinMap.{contains_key}
 use Rattle.std.specs.Prelude.{Bool, List, [], false, true, ◌∷◌, ◌≡◌}
 use Rattle.plant_books.specs.Contents.{Content, rows_in}
 use Rattle.plant_store.specs.Changes.{CanTell, IsOfficeOf}
-use Rattle.plant_store.specs.Tables.{AreBooks, AreSeen}
+use Rattle.plant_columns.specs.Tables.{AreBooks, AreSeen}
 use Rattle.plant_types.specs.Names.{Name}
 
 abbrev pub has_any : {A : Type 0} → List A → Bool

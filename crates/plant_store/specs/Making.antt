@@ -4,7 +4,7 @@ use Rattle.sqlite.specs.Schema.{Schema}
 use Rattle.std.specs.List.{AllByRecursion}
 use Rattle.std.specs.Prelude.{[], ◌≡◌}
 use Rattle.plant_store.specs.Changes.{IsOfficeOf}
-use Rattle.plant_store.specs.Tables.{AreBooks, Kept, shape}
+use Rattle.plant_columns.specs.Tables.{AreBooks, Kept, shape}
 use Rattle.plant_types.specs.Names.{Name}
 
 -- the tables of this schema are there, and have no row

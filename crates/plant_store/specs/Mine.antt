@@ -10,9 +10,9 @@ use Rattle.plant_model.specs.declared.rows.UnitRow.{UnitRow}
 use Rattle.plant_model.specs.Grants.{is_before}
 use Rattle.plant_model.specs.RowFacts.{no_unit}
 use Rattle.plant_store.specs.declared.mine.Line.{Line}
-use Rattle.plant_store.specs.Codes.{number, open_number, open_number_in, role, role_in}
-use Rattle.plant_store.specs.Tables.{grant_shape, rows_seen}
-use Rattle.plant_store.specs.Tables.Kept.{UnitKept}
+use Rattle.plant_columns.specs.Codes.{number, open_number, open_number_in, role, role_in}
+use Rattle.plant_columns.specs.Tables.{grant_shape, rows_seen}
+use Rattle.plant_columns.specs.Tables.Kept.{UnitKept}
 use Rattle.plant_tables.specs.Kept.{by_columns, kept}
 use Rattle.plant_types.specs.Names.{Name, same_name}
 

@@ -8,8 +8,8 @@ use Rattle.sqlite_value.specs.Order.{Row, column}
 use Rattle.std.specs.List.{list_any}
 use Rattle.std.specs.Prelude.{Bool, List, [], codes, map, ℕ, ◌&&◌, ◌∷◌, ◌≡◌}
 use Rattle.std.specs.Str.{bytes_eq}
-use Rattle.plant_store.specs.Codes.{number}
-use Rattle.plant_store.specs.Tables.{office_table, schema_no}
+use Rattle.plant_columns.specs.Codes.{number}
+use Rattle.plant_columns.specs.Tables.{office_table, schema_no}
 use Rattle.plant_types.specs.Names.{Name}
 
 -- a table of the name office with the columns id, schema_no and admin

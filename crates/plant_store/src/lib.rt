@@ -1,8 +1,7 @@
-//! The books of an office in the tables of a SQL database.
+//! The books of an office in the tables of a SQL database: one set of tables for all units, each row under its unit's
+//! code. Each statement is a fixed text, and one unit's calls look at that unit's rows alone.
 #![tactic(auto)]
 
-mod decode;
-mod encode;
 mod make;
 mod mine;
 mod opening;
@@ -13,6 +12,3 @@ mod unit;
 mod write;
 
 pub use tables::{StoreFault, Tables, Unopened};
-
-#[cfg(test)]
-mod tests;

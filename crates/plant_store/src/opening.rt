@@ -6,10 +6,10 @@ ghost use Rattle.sqlite.specs.Held.{state};
 ghost use Rattle.sqlite_value.specs.Order.{column};
 ghost use Rattle.sqlite_value.specs.declared.value.Value.TheVariants.{Text as TextValue};
 ghost use Rattle.plant_store.specs.Changes.{CanTell};
-ghost use Rattle.plant_store.specs.Codes as codings;
+ghost use Rattle.plant_columns.specs.Codes as codings;
 ghost use Rattle.plant_store.specs.Opening as opening;
 ghost use Rattle.plant_store.specs.Opening.{IsOfficeFirst, IsThisOffice, office_cells};
-ghost use Rattle.plant_store.specs.Shown.{columns};
+ghost use Rattle.plant_columns.specs.Shown.{columns};
 
 use crate::read::ask;
 use plant_types::Person;

@@ -13,8 +13,8 @@ ghost use Rattle.plant_types.specs.Names.{Name};
 ghost use Rattle.plant_books.specs.Contents.{Content, part_in};
 ghost use Rattle.plant_store.specs.Changes.{CanTell};
 ghost use Rattle.plant_store.specs.Keeping.{KeepsIn};
-ghost use Rattle.plant_store.specs.Tables.{AreBooks, rows_seen};
-ghost use Rattle.plant_store.specs.Tables.Kept.{GrantKept, AlarmKept, ShelfKept};
+ghost use Rattle.plant_columns.specs.Tables.{AreBooks, rows_seen};
+ghost use Rattle.plant_columns.specs.Tables.Kept.{GrantKept, AlarmKept, ShelfKept};
 ghost use Rattle.plant_store.specs.Wanted.{IsScope, alarms_with, shelves_with};
 
 use crate::read::{

@@ -9,11 +9,11 @@ ghost use Rattle.sqlite.specs.Values.{bound};
 ghost use Rattle.sqlite.proofs.Callers.{IsPlain};
 ghost use Rattle.plant_types.specs.Names.{same_name};
 ghost use Rattle.plant_store.specs.Changes.{CanTell};
-ghost use Rattle.plant_store.specs.Tables.{AreBooks, rows_seen};
-ghost use Rattle.plant_store.specs.Tables.Kept.{UnitKept, GrantKept, AlarmKept, ShelfKept, BandKept, CellKept};
+ghost use Rattle.plant_columns.specs.Tables.{AreBooks, rows_seen};
+ghost use Rattle.plant_columns.specs.Tables.Kept.{UnitKept, GrantKept, AlarmKept, ShelfKept, BandKept, CellKept};
 
-use crate::decode::read_all;
-use crate::encode::{pair, single};
+use plant_columns::decode::read_all;
+use plant_columns::encode::{pair, single};
 use plant_model::{AlarmRow, BandRow, CellRow, GrantRow, ShelfRow, UnitRow};
 use plant_types::{Person, Table, Tag, UnitCode};
 use sqlite::types::ValueRef;

@@ -8,7 +8,7 @@ ghost use Rattle.plant_store.specs.Changes.{CanTell};
 ghost use Rattle.plant_store.specs.Counting.{Names};
 ghost use Rattle.plant_store.specs.Keeping.{Keeps};
 ghost use Rattle.plant_store.specs.Opening.{IsOfficeFirst, IsThisOffice, has_office};
-ghost use Rattle.plant_store.specs.Tables.{no_schema};
+ghost use Rattle.plant_columns.specs.Tables.{no_schema};
 ghost use Rattle.plant_types.specs.declared.fault.Fault.TheVariants.{Store};
 
 use crate::make::make_all;

@@ -6,7 +6,7 @@ ghost use Rattle.sqlite.specs.Held.{state};
 ghost use Rattle.plant_books.specs.Contents.{Content};
 ghost use Rattle.plant_store.specs.Changes.{CanTell};
 ghost use Rattle.plant_store.specs.Keeping.{KeepsIn, has_any};
-ghost use Rattle.plant_store.specs.Tables.{AreBooks};
+ghost use Rattle.plant_columns.specs.Tables.{AreBooks};
 
 use crate::read::{alarms_of, bands_of, cells_of, grants_of, shelves_of, units_of};
 use plant_model::{UnitRow, UnitRows};

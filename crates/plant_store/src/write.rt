@@ -8,9 +8,9 @@ ghost use Rattle.plant_model.specs.declared.rows.Change.TheVariants.{Put, Remove
 ghost use Rattle.plant_model.specs.declared.rows.Key.TheVariants.{Grant as GrantKey, Shelf as ShelfKey};
 ghost use Rattle.plant_model.specs.declared.rows.Row.TheVariants.{Alarm as AlarmPut, Band as BandPut, Cell as CellPut, Grant as GrantPut, Shelf as ShelfPut, Unit as UnitPut};
 ghost use Rattle.plant_store.specs.Changes.{Applies, CanTell};
-ghost use Rattle.plant_store.specs.Tables.{AreBooks};
+ghost use Rattle.plant_columns.specs.Tables.{AreBooks};
 
-use crate::encode::{
+use plant_columns::encode::{
     alarm_cells, band_cells, cell_cells, grant_cells, grant_key, pair, shelf_cells, unit_cells,
     wide,
 };

@@ -4,8 +4,8 @@ use Rattle.sqlite.specs.Held.{state}
 use Rattle.plant_model.specs.declared.rows.GrantRow.{GrantRow}
 use Rattle.plant_types.specs.Names.{same_name}
 use Rattle.plant_store.specs.Keeping.{has_any}
-use Rattle.plant_store.specs.Tables.{AreBooks, rows_seen}
-use Rattle.plant_store.specs.Tables.Kept.{GrantKept, AlarmKept, ShelfKept}
+use Rattle.plant_columns.specs.Tables.{AreBooks, rows_seen}
+use Rattle.plant_columns.specs.Tables.Kept.{GrantKept, AlarmKept, ShelfKept}
 use Rattle.plant_store.specs.Wanted.{alarms_with, shelves_with}
 use Rattle.plant_store.proofs.Selected.{no_part, part_found}
 use Rattle.plant_store.proofs.part.unit_part.Goals as goal

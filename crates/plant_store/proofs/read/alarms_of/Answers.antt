@@ -1,11 +1,11 @@
 use Rattle.std.proofs.Common.{refl}
 use Rattle.sqlite.specs.Held.{state}
-use Rattle.plant_store.specs.Tables.{alarm_shape}
-use Rattle.plant_store.specs.Tables.Kept.{AlarmKept}
-use Rattle.plant_store.specs.Tables.{books_schema}
+use Rattle.plant_columns.specs.Tables.{alarm_shape}
+use Rattle.plant_columns.specs.Tables.Kept.{AlarmKept}
+use Rattle.plant_columns.specs.Tables.{books_schema}
 use Rattle.plant_store.proofs.Meanings.{alarms_of_plain}
 use Rattle.plant_store.proofs.Queries.{if_ok, told_back, find_alarms}
-use Rattle.plant_store.proofs.ShapeLaws.{good}
+use Rattle.plant_columns.proofs.ShapeLaws.{good}
 use Rattle.plant_store.proofs.read.alarms_of.Goals as goal
 
 pub returns-clause-rows : goal.returns-clause-rows

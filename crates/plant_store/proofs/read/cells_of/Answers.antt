@@ -1,11 +1,11 @@
 use Rattle.std.proofs.Common.{refl}
 use Rattle.sqlite.specs.Held.{state}
-use Rattle.plant_store.specs.Tables.{cell_shape}
-use Rattle.plant_store.specs.Tables.Kept.{CellKept}
-use Rattle.plant_store.specs.Tables.{books_schema}
+use Rattle.plant_columns.specs.Tables.{cell_shape}
+use Rattle.plant_columns.specs.Tables.Kept.{CellKept}
+use Rattle.plant_columns.specs.Tables.{books_schema}
 use Rattle.plant_store.proofs.Meanings.{cells_of_plain}
 use Rattle.plant_store.proofs.Queries.{if_ok, told_back, find_cells}
-use Rattle.plant_store.proofs.ShapeLaws.{good}
+use Rattle.plant_columns.proofs.ShapeLaws.{good}
 use Rattle.plant_store.proofs.read.cells_of.Goals as goal
 
 pub returns-clause-rows : goal.returns-clause-rows

@@ -1,6 +1,6 @@
 use Rattle.std.proofs.Common.{ap, ◌∙◌, length}
 use Rattle.sqlite.specs.Held.{state}
-use Rattle.plant_store.specs.Tables.{books_schema}
+use Rattle.plant_columns.specs.Tables.{books_schema}
 use Rattle.plant_store.proofs.Meanings.{tags_of_plain}
 use Rattle.plant_store.proofs.Queries.{find_tags, length_mapped}
 use Rattle.plant_store.proofs.read.count_of_alarms.Goals as goal

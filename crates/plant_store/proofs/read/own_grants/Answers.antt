@@ -1,11 +1,11 @@
 use Rattle.std.proofs.Common.{refl}
 use Rattle.sqlite.specs.Held.{state}
-use Rattle.plant_store.specs.Tables.{grant_shape}
-use Rattle.plant_store.specs.Tables.Kept.{GrantKept}
-use Rattle.plant_store.specs.Tables.{books_schema}
+use Rattle.plant_columns.specs.Tables.{grant_shape}
+use Rattle.plant_columns.specs.Tables.Kept.{GrantKept}
+use Rattle.plant_columns.specs.Tables.{books_schema}
 use Rattle.plant_store.proofs.Meanings.{own_grants_plain}
 use Rattle.plant_store.proofs.Queries.{if_ok, told_back, find_own_grants}
-use Rattle.plant_store.proofs.ShapeLaws.{good}
+use Rattle.plant_columns.proofs.ShapeLaws.{good}
 use Rattle.plant_store.proofs.read.own_grants.Goals as goal
 
 pub returns-clause-rows : goal.returns-clause-rows

@@ -1,11 +1,11 @@
 use Rattle.std.proofs.Common.{refl}
 use Rattle.sqlite.specs.Held.{state}
-use Rattle.plant_store.specs.Tables.{shelf_shape}
-use Rattle.plant_store.specs.Tables.Kept.{ShelfKept}
-use Rattle.plant_store.specs.Tables.{books_schema}
+use Rattle.plant_columns.specs.Tables.{shelf_shape}
+use Rattle.plant_columns.specs.Tables.Kept.{ShelfKept}
+use Rattle.plant_columns.specs.Tables.{books_schema}
 use Rattle.plant_store.proofs.Meanings.{shelves_of_plain}
 use Rattle.plant_store.proofs.Queries.{if_ok, told_back, find_shelves}
-use Rattle.plant_store.proofs.ShapeLaws.{good}
+use Rattle.plant_columns.proofs.ShapeLaws.{good}
 use Rattle.plant_store.proofs.read.shelves_of.Goals as goal
 
 pub returns-clause-rows : goal.returns-clause-rows

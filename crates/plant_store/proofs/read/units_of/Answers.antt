@@ -1,11 +1,11 @@
 use Rattle.std.proofs.Common.{refl}
 use Rattle.sqlite.specs.Held.{state}
-use Rattle.plant_store.specs.Tables.{unit_shape}
-use Rattle.plant_store.specs.Tables.Kept.{UnitKept}
-use Rattle.plant_store.specs.Tables.{books_schema}
+use Rattle.plant_columns.specs.Tables.{unit_shape}
+use Rattle.plant_columns.specs.Tables.Kept.{UnitKept}
+use Rattle.plant_columns.specs.Tables.{books_schema}
 use Rattle.plant_store.proofs.Meanings.{units_of_plain}
 use Rattle.plant_store.proofs.Queries.{if_ok, told_back, find_units}
-use Rattle.plant_store.proofs.ShapeLaws.{good}
+use Rattle.plant_columns.proofs.ShapeLaws.{good}
 use Rattle.plant_store.proofs.read.units_of.Goals as goal
 
 pub returns-clause-rows : goal.returns-clause-rows

@@ -1,8 +1,8 @@
 use Rattle.std.proofs.Common.{◌≡◌, List, ap, sym, ◌∙◌, subst, true, rules}
 use Rattle.sqlite.specs.Effect.{Database}
 use Rattle.sqlite.specs.Held.{state}
-use Rattle.plant_store.specs.Tables.{AreBooks, AreSeen, rows_seen}
-use Rattle.plant_store.specs.Tables.Kept.{UnitKept, GrantKept, AlarmKept, ShelfKept, BandKept, CellKept}
+use Rattle.plant_columns.specs.Tables.{AreBooks, AreSeen, rows_seen}
+use Rattle.plant_columns.specs.Tables.Kept.{UnitKept, GrantKept, AlarmKept, ShelfKept, BandKept, CellKept}
 use Rattle.plant_model.specs.declared.rows.UnitRows.{UnitRows}
 use Rattle.plant_store.proofs.Contents.{none_found, whole_found}
 use Rattle.plant_store.proofs.unit.rows_of.Goals as goal

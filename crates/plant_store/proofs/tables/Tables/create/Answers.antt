@@ -1,6 +1,6 @@
 use Rattle.std.proofs.Common.{◌≡◌, refl, rules}
 use Rattle.sqlite.specs.Held.{state}
-use Rattle.plant_store.specs.Tables.{no_schema}
+use Rattle.plant_columns.specs.Tables.{no_schema}
 use Rattle.plant_store.proofs.Contents.{keeps_new}
 use Rattle.plant_store.proofs.tables.Tables.create.Goals as goal
 

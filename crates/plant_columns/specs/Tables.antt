@@ -19,7 +19,7 @@ use Rattle.plant_model.specs.declared.rows.UnitRow.{UnitRow}
 use Rattle.plant_model.specs.declared.rows.UnitRows.{UnitRows}
 use Rattle.plant_model.specs.Matrices.{BandKey, CellKey, band_cmp, cell_cmp}
 use Rattle.plant_model.specs.RowFacts.{alarm_tag, band_key, cell_key, pair_of, shelf_tag}
-use Rattle.plant_store.specs.Codes.{alarm_state, cell, cell_in, flag, flag_in, number, number_in, open_number, open_number_in, open_text, open_text_in, role, role_in, state_in}
+use Rattle.plant_columns.specs.Codes.{alarm_state, cell, cell_in, flag, flag_in, number, number_in, open_number, open_number_in, open_text, open_text_in, role, role_in, state_in}
 use Rattle.plant_tables.specs.Shape.{AreTables, Shape, seen, table_in}
 use Rattle.plant_tables.specs.Tables.{column_of, index_of, open_column}
 use Rattle.plant_types.specs.Names.{Name, name_cmp}

@@ -32,9 +32,9 @@ use Rattle.plant_tables.proofs.Bridge.{int_cmp-pos}
 use Rattle.plant_tables.proofs.Family.{AreListed}
 use Rattle.plant_tables.proofs.Laws.{cast_int, cast_null}
 use Rattle.plant_tables.proofs.Shapes.{IsListed, IsShape}
-use Rattle.plant_store.specs.Codes.{cell_no, cell_numbered, flag, flag_in, number, open_number, open_number_in, open_text, open_text_in, role_numbered, state_no, state_numbered}
-use Rattle.plant_store.specs.Tables.{Kept, RowOf, KeyOf, alarm_shape, band_shape, books_schema, cell_shape, grant_shape, shape, shelf_shape, unit_shape}
-use Rattle.plant_store.specs.Tables.Kept.{UnitKept, GrantKept, AlarmKept, ShelfKept, BandKept, CellKept}
+use Rattle.plant_columns.specs.Codes.{cell_no, cell_numbered, flag, flag_in, number, open_number, open_number_in, open_text, open_text_in, role_numbered, state_no, state_numbered}
+use Rattle.plant_columns.specs.Tables.{Kept, RowOf, KeyOf, alarm_shape, band_shape, books_schema, cell_shape, grant_shape, shape, shelf_shape, unit_shape}
+use Rattle.plant_columns.specs.Tables.Kept.{UnitKept, GrantKept, AlarmKept, ShelfKept, BandKept, CellKept}
 
 -- ---- what is written is read back
 
