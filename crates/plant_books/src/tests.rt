@@ -5,7 +5,9 @@ use plant_model::{
     UnitRow, UnitRows,
 };
 use plant_ration::Cell;
-use plant_types::{Fault, Moment, Person, Quota, Role, Seconds, Table, Tag, UnitCode, Words};
+use plant_types::{
+    Duplicate, Fault, Moment, Person, Quota, Role, Seconds, Table, Tag, UnitCode, Words,
+};
 use std::alloc::Global;
 use std::process::Abort;
 use std::test::Fail;
@@ -201,10 +203,10 @@ fn removes_a_shelf(rt: HostRuntime) -> Result<(), Fail> {
     let alloc = rt.alloc();
     let mut books = plain(&rt, alloc)?;
     let unit = code(&rt, alloc, b"U1")?;
-    books.apply(&unit, &later(&rt, alloc)?)?;
+    books.apply(&unit, &later(&rt, alloc)?.duplicate(alloc)?)?;
     let mut changes = Table::new(alloc);
     changes.push(Change::Remove(Key::Shelf(tag(&rt, alloc, b"LT-2")?)))?;
-    books.apply(&unit, &changes)?;
+    books.apply(&unit, &changes.duplicate(alloc)?)?;
     let rows = rows_in(&rt, alloc, &mut books, b"U1")?;
     assert_eq!(rt; rows.shelves.len(), 1);
     Ok(())
