@@ -55,6 +55,9 @@ fn drop_front(alloc: Global, buffer: &mut Vec<u8>, n: usize) -> Result<(), Alloc
     requires { n ≤ length buffer.old.items }
     ensures { OnOk result (buffer.new.items ≡ drop n buffer.old.items) }
 {
+    if n == 0 {
+        return Ok(());
+    }
     let rest = Vec::from_slice(alloc, bytes_from(buffer, n))?;
     *buffer = rest;
     Ok(())
