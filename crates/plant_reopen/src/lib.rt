@@ -52,3 +52,6 @@ pub fn reopen<D: Disk + Drop>(
         Err(_) => None,
     }
 }
+
+#[cfg(test)]
+mod tests;

@@ -6,9 +6,10 @@ use plant_model::{
     UnitRows,
 };
 use plant_ration::Cell;
-use plant_types::{Fault, Moment, Person, Quota, Role, Seconds, Table, Tag, UnitCode, Words};
-use sqlite::{Connection, MemStore};
-use std::alloc::Global;
+use plant_store::StoreFault;
+use plant_types::{Fault, Moment, Quota, Role, Seconds, Table, Tag, UnitCode, Words};
+use sqlite::{Files, MemStore};
+use sqlite_disk::Memory;
 use std::test::Fail;
 
 fn unit(alloc: Global, bytes: &[u8]) -> Result<UnitCode, Fail> {
@@ -120,97 +121,106 @@ fn counts(rows: &UnitRows) -> [usize; 6] {
     ]
 }
 
+/// Books with one unit.
+fn opened(alloc: Global) -> Result<Tables<MemStore>, Fail> {
+    let mut books = new_books(alloc)?;
+    books.apply(&unit(alloc, b"U1")?, &changes(alloc)?)?;
+    Ok(books)
+}
+
+/// The rows of the unit.
+fn rows(books: &mut Tables<MemStore>, alloc: Global) -> Result<UnitRows, Fail> {
+    Ok(
+        books
+            .rows(&unit(alloc, b"U1")?)?
+            .ok_or("the unit was opened")?,
+    )
+}
+
+/// A list of one change.
+fn one(alloc: Global, change: Change) -> Result<Table<Change>, Fail> {
+    let mut list = Table::new(alloc);
+    list.push(change)?;
+    Ok(list)
+}
+
 #[test]
 fn keeps_the_rows_of_a_unit(rt: HostRuntime) -> Result<(), Fail> {
-    let alloc = rt.alloc();
-    let mut books = new_books(alloc)?;
-    let u1 = unit(alloc, b"U1")?;
-    assert!(rt; !books.taken(&u1)?);
-    assert!(rt; books.rows(&u1)?.is_none());
-    books.apply(&u1, &changes(alloc)?)?;
-    assert!(rt; books.taken(&u1)?);
-    assert!(rt; !books.taken(&unit(alloc, b"U2")?)?);
-    let rows = books.rows(&u1)?.ok_or("the unit was opened")?;
+    let mut books = opened(rt.alloc())?;
+    let rows = rows(&mut books, rt.alloc())?;
     assert_eq!(rt; counts(&rows), [1, 3, 2, 1, 1, 2]);
-    let [own] = rows.units.as_slice() else {
-        return Err(Fail::from("one row of its own"));
-    };
-    assert_eq!(rt; own.quota.get(), 2);
-    assert_eq!(rt; own.last_s.seconds(), 80);
-    let [ann, _, ste] = rows.grants.as_slice() else {
-        return Err(Fail::from("three grants"));
-    };
-    assert_eq!(rt; ann.role_no, Role::Viewer);
-    assert_eq!(rt; ste.role_no, Role::Steward);
-    let [level, _] = rows.alarms.as_slice() else {
-        return Err(Fail::from("two alarms"));
-    };
-    assert_eq!(rt; level.tag, tag(alloc, b"LT-2")?);
-    assert_eq!(rt; level.state_no, AlarmState::ReturnedUnack);
-    assert_eq!(rt; level.return_s, Some(at(50)?));
-    assert_eq!(rt; level.active_s, None);
-    let mut later = Table::new(alloc);
-    later.push(Change::Remove(Key::Shelf(tag(alloc, b"PT-101")?)))?;
-    later.push(Change::Remove(Key::Grant(person(alloc, b"ann")?, Role::Viewer)))?;
-    later.push(own_row(90)?)?;
-    books.apply(&u1, &later)?;
-    let rows = books.rows(&u1)?.ok_or("the unit was opened")?;
-    assert_eq!(rt; counts(&rows), [1, 2, 2, 0, 1, 2]);
+    assert!(rt;
+        rows.units
+            .as_slice()
+            .iter()
+            .all(|own| own.last_s.seconds() == 80)
+    );
+    assert!(rt;
+        rows.shelves
+            .as_slice()
+            .iter()
+            .all(|shelf| shelf.until_s == 3670)
+    );
+    Ok(())
+}
+
+#[test]
+fn tells_whether_a_unit_was_opened(rt: HostRuntime) -> Result<(), Fail> {
+    let mut books = opened(rt.alloc())?;
+    assert!(rt; books.taken(&unit(rt.alloc(), b"U1")?)?);
+    assert!(rt; !books.taken(&unit(rt.alloc(), b"U2")?)?);
+    Ok(())
+}
+
+#[test]
+fn removes_a_shelf(rt: HostRuntime) -> Result<(), Fail> {
+    let alloc = rt.alloc();
+    let mut books = opened(alloc)?;
+    let change = Change::Remove(Key::Shelf(tag(alloc, b"PT-101")?));
+    books.apply(&unit(alloc, b"U1")?, &one(alloc, change)?)?;
+    assert_eq!(rt; counts(&rows(&mut books, alloc)?), [1, 3, 2, 0, 1, 2]);
     Ok(())
 }
 
 #[test]
 fn finds_what_a_person_holds(rt: HostRuntime) -> Result<(), Fail> {
     let alloc = rt.alloc();
-    let mut books = new_books(alloc)?;
-    for code in [b"U3", b"U1", b"U2"] {
-        books.apply(&unit(alloc, code)?, &changes(alloc)?)?;
-    }
-    let mut gone = Table::new(alloc);
-    gone.push(Change::Remove(Key::Grant(person(alloc, b"ann")?, Role::Viewer)))?;
-    books.apply(&unit(alloc, b"U2")?, &gone)?;
+    let mut books = opened(alloc)?;
+    books.apply(&unit(alloc, b"U0")?, &changes(alloc)?)?;
     let ann = person(alloc, b"ann")?;
-    let early = books.mine_units(&ann, at(99)?)?;
-    assert_eq!(rt; early.len(), 3);
-    let [first, second, _] = early.as_slice() else {
-        return Err(Fail::from("three units"));
+    assert_eq!(rt; books.held(&ann, at(100)?)?.len(), 2);
+    let units = books.mine_units(&ann, at(99)?)?;
+    let [first, _] = units.as_slice() else {
+        return Err(Fail::from("two units"));
     };
-    assert_eq!(rt; first.unit, unit(alloc, b"U1")?);
     assert_eq!(rt;
         first.roles.as_slice(),
         [Role::Viewer, Role::Operator].as_slice()
     );
     assert_eq!(rt; first.last.seconds(), 80);
-    assert_eq!(rt; second.roles.as_slice(), [Role::Operator].as_slice());
-    let late = books.held(&ann, at(100)?)?;
-    let [one, three] = late.as_slice() else {
-        return Err(Fail::from("two units"));
-    };
-    assert_eq!(rt; *one, unit(alloc, b"U1")?);
-    assert_eq!(rt; *three, unit(alloc, b"U3")?);
-    let status = Call {
-        person: ann,
-        moment: at(100)?,
-        request: Request::Status {
-            unit: unit(alloc, b"U1")?,
-            tag: tag(alloc, b"PT-101")?,
-        },
-    };
-    let part = books.part(&status)?.ok_or("the unit was opened")?;
-    assert_eq!(rt; counts(&part.rows), [1, 2, 1, 1, 0, 0]);
-    assert_eq!(rt; part.count, 0);
-    let register = Call {
+    Ok(())
+}
+
+fn register(alloc: Global) -> Result<Call, Fail> {
+    Ok(Call {
         person: person(alloc, b"ste")?,
         moment: at(100)?,
         request: Request::Register {
-            unit: unit(alloc, b"U3")?,
-            tag: tag(alloc, b"FT-7")?,
+            unit: unit(alloc, b"U1")?,
+            tag: tag(alloc, b"LT-2")?,
             latching: false,
             max: Seconds::new(60).ok_or("a length")?,
         },
-    };
-    let part = books.part(&register)?.ok_or("the unit was opened")?;
-    assert_eq!(rt; counts(&part.rows), [1, 1, 0, 0, 0, 0]);
+    })
+}
+
+#[test]
+fn reads_the_part_of_a_call(rt: HostRuntime) -> Result<(), Fail> {
+    let mut books = opened(rt.alloc())?;
+    let part = books
+        .part(&register(rt.alloc())?)?
+        .ok_or("the unit was opened")?;
+    assert_eq!(rt; counts(&part.rows), [1, 1, 1, 0, 0, 0]);
     assert_eq!(rt; part.count, 2);
     Ok(())
 }
@@ -218,56 +228,71 @@ fn finds_what_a_person_holds(rt: HostRuntime) -> Result<(), Fail> {
 #[test]
 fn opens_its_own_store_alone(rt: HostRuntime) -> Result<(), Fail> {
     let alloc = rt.alloc();
-    let mut books = new_books(alloc)?;
-    let u1 = unit(alloc, b"U1")?;
-    books.apply(&u1, &changes(alloc)?)?;
+    let books = opened(alloc)?;
     let Err(back) = Tables::open(alloc, books.close(), person(alloc, b"ste")?) else {
         return Err(Fail::from("another administrator's"));
     };
     assert!(rt; matches!(back.fault, StoreFault::NotThisStore));
-    let Err(back) = Tables::create(alloc, back.conn, person(alloc, b"root")?) else {
-        return Err(Fail::from("tables are there"));
-    };
-    assert!(rt; matches!(back.fault, StoreFault::Fault(Fault::Store)));
-    let Ok(mut books) = Tables::open(alloc, back.conn, back.admin) else {
+    let Ok(mut books) = Tables::open(alloc, back.conn, person(alloc, b"root")?) else {
         return Err(Fail::from("the same administrator's"));
     };
     assert_eq!(rt; *books.administrator(), person(alloc, b"root")?);
-    let rows = books.rows(&u1)?.ok_or("the unit was opened")?;
-    assert_eq!(rt; counts(&rows), [1, 3, 2, 1, 1, 2]);
-    let empty = Connection::open_in_memory(alloc)?;
-    let Err(back) = Tables::open(alloc, empty, person(alloc, b"root")?) else {
-        return Err(Fail::from("no table"));
+    assert_eq!(rt; counts(&rows(&mut books, alloc)?), [1, 3, 2, 1, 1, 2]);
+    Ok(())
+}
+
+#[test]
+fn makes_no_second_store(rt: HostRuntime) -> Result<(), Fail> {
+    let alloc = rt.alloc();
+    let books = opened(alloc)?;
+    let Err(back) = Tables::create(alloc, books.close(), person(alloc, b"root")?) else {
+        return Err(Fail::from("tables are there"));
     };
-    assert!(rt; matches!(back.fault, StoreFault::NotThisStore));
+    assert!(rt; matches!(back.fault, StoreFault::Fault(Fault::Store)));
     Ok(())
 }
 
 #[test]
 fn changes_nothing_where_it_is_interrupted(rt: HostRuntime) -> Result<(), Fail> {
     let alloc = rt.alloc();
-    let mut books = new_books(alloc)?;
-    let u1 = unit(alloc, b"U1")?;
-    books.apply(&u1, &changes(alloc)?)?;
+    let mut books = opened(alloc)?;
     books.set_steps(Some(0));
-    assert!(rt; matches!(books.rows(&u1), Err(Fault::Store)));
+    assert!(rt; matches!(books.taken(&unit(alloc, b"U1")?), Err(Fault::Store)));
     books.set_steps(None);
-    let rows = books.rows(&u1)?.ok_or("the unit was opened")?;
-    assert_eq!(rt; counts(&rows), [1, 3, 2, 1, 1, 2]);
-    let mut wide = Table::new(alloc);
-    wide.push(own_row(95)?)?;
+    let mut wide = one(alloc, own_row(95)?)?;
     wide.push(Change::Put(Row::Band(BandRow {
         matrix_no: 0,
         band_no: 2,
         limit_s: u64::MAX,
     })))?;
-    assert!(rt; matches!(books.apply(&u1, &wide), Err(Fault::Store)));
-    let rows = books.rows(&u1)?.ok_or("the unit was opened")?;
+    assert!(rt; matches!(books.apply(&unit(alloc, b"U1")?, &wide), Err(Fault::Store)));
+    let rows = rows(&mut books, alloc)?;
     assert!(rt;
         rows.units
             .as_slice()
             .iter()
             .all(|own| own.last_s.seconds() == 80)
     );
+    Ok(())
+}
+
+#[test]
+fn finds_again_what_was_kept_in_files(rt: HostRuntime) -> Result<(), Fail> {
+    let alloc = rt.alloc();
+    let files = Files {
+        log: Memory::new(alloc),
+        db: Memory::new(alloc),
+    };
+    let Ok(conn) = Connection::open_files(alloc, files, Options::new(7)) else {
+        return Err(Fail::from("no connection"));
+    };
+    let Ok(mut books) = Tables::create(alloc, conn, person(alloc, b"root")?) else {
+        return Err(Fail::from("no books"));
+    };
+    let u1 = unit(alloc, b"U1")?;
+    books.apply(&u1, &changes(alloc)?)?;
+    let again = reopen(alloc, books, person(alloc, b"root")?, Options::new(7));
+    let mut again = again.ok_or("no books again")?;
+    assert!(rt; again.taken(&u1)?);
     Ok(())
 }
