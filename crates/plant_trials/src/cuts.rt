@@ -2,10 +2,11 @@
 
 use crate::examples::{BASE, LOOKED_AT, SHELVED, STRANGER};
 use crate::exchanges::Exchanges;
-use crate::replays::{lists, replays};
+use crate::replays::{lists, replays, tables};
 use plant_office::Books;
 use plant_wire::End;
 use std::alloc::Global;
+use std::ops::Range;
 use std::process::Abort;
 use std::test::Fail;
 
@@ -114,7 +115,57 @@ fn a_strangers_status_cut(rt: HostRuntime) -> Result<(), Fail> {
     wanted.add_all(STRANGER)?;
     for place in 0..places(&wanted) {
         is_answered_cut(&rt, lists(&rt)?, &wanted, place);
+        is_answered_cut(&rt, tables(&rt)?, &wanted, place);
         is_answered_ended(&rt, lists(&rt)?, &wanted, place);
+        is_answered_ended(&rt, tables(&rt)?, &wanted, place);
     }
     Ok(())
+}
+
+fn cut_over_tables(rt: &(impl Abort + AllocGlobal), places: Range<usize>) -> Result<(), Fail> {
+    let wanted = first_shelf(rt.alloc())?;
+    for place in places {
+        is_answered_cut(rt, tables(rt)?, &wanted, place);
+    }
+    Ok(())
+}
+
+fn ended_over_tables(rt: &(impl Abort + AllocGlobal), places: Range<usize>) -> Result<(), Fail> {
+    let wanted = first_shelf(rt.alloc())?;
+    for place in places {
+        is_answered_ended(rt, tables(rt)?, &wanted, place);
+    }
+    Ok(())
+}
+
+// Over tables a session takes longer, so the 1,617 places are parted.
+
+#[test]
+fn first_shelf_cut_over_tables_before_400(rt: HostRuntime) -> Result<(), Fail> {
+    cut_over_tables(&rt, 0..400)
+}
+
+#[test]
+fn first_shelf_cut_over_tables_before_800(rt: HostRuntime) -> Result<(), Fail> {
+    cut_over_tables(&rt, 400..800)
+}
+
+#[test]
+fn first_shelf_cut_over_tables_before_1200(rt: HostRuntime) -> Result<(), Fail> {
+    cut_over_tables(&rt, 800..1200)
+}
+
+#[test]
+fn first_shelf_cut_over_tables_to_its_end(rt: HostRuntime) -> Result<(), Fail> {
+    cut_over_tables(&rt, 1200..1617)
+}
+
+#[test]
+fn first_shelf_ended_over_tables_before_900(rt: HostRuntime) -> Result<(), Fail> {
+    ended_over_tables(&rt, 0..900)
+}
+
+#[test]
+fn first_shelf_ended_over_tables_to_its_end(rt: HostRuntime) -> Result<(), Fail> {
+    ended_over_tables(&rt, 900..1617)
 }

@@ -2,7 +2,7 @@
 
 use crate::examples::NO_UNITS;
 use crate::exchanges::{Exchanges, add_answer};
-use crate::replays::{lists, replays};
+use crate::replays::{lists, replays, tables, text};
 use plant_office::Books;
 use plant_wire::End;
 use std::alloc::Global;
@@ -167,9 +167,8 @@ fn ends<B: Books + Drop>(
     add_answer(&mut wanted, answer)?;
     add_follower(&mut requests, &mut unsaid)?;
     let (answers, end) = replays(rt.alloc(), books, &requests, b"");
-    let answers = str::from_utf8(&answers).unwrap_or("no text");
-    assert_eq!(rt; answers, wanted.as_str(), "{request:?}");
-    assert_eq!(rt; end, End::BrokenInput, "{request:?}");
+    assert_eq!(rt; text(&answers), wanted.as_str(), "{}", text(request));
+    assert_eq!(rt; end, End::BrokenInput, "{}", text(request));
     Ok(())
 }
 
@@ -185,9 +184,8 @@ fn goes_on<B: Books + Drop>(
     add_answer(&mut wanted, answer)?;
     add_follower(&mut requests, &mut wanted)?;
     let (answers, end) = replays(rt.alloc(), books, &requests, b"");
-    let answers = str::from_utf8(&answers).unwrap_or("no text");
-    assert_eq!(rt; answers, wanted.as_str(), "{request:?}");
-    assert_eq!(rt; end, End::Closed, "{request:?}");
+    assert_eq!(rt; text(&answers), wanted.as_str(), "{}", text(request));
+    assert_eq!(rt; end, End::Closed, "{}", text(request));
     Ok(())
 }
 
@@ -195,6 +193,7 @@ fn goes_on<B: Books + Drop>(
 fn broken_requests(rt: HostRuntime) -> Result<(), Fail> {
     for (request, answer) in BROKEN {
         ends(&rt, lists(&rt)?, request.as_bytes(), answer)?;
+        ends(&rt, tables(&rt)?, request.as_bytes(), answer)?;
     }
     Ok(())
 }
@@ -203,6 +202,7 @@ fn broken_requests(rt: HostRuntime) -> Result<(), Fail> {
 fn wrong_requests(rt: HostRuntime) -> Result<(), Fail> {
     for (request, answer) in WRONG {
         goes_on(&rt, lists(&rt)?, request.as_bytes(), answer)?;
+        goes_on(&rt, tables(&rt)?, request.as_bytes(), answer)?;
     }
     Ok(())
 }
@@ -231,6 +231,7 @@ fn long_heads(rt: HostRuntime) -> Result<(), Fail> {
     let mut head = long_head(rt.alloc(), 16_380)?;
     head.extend_from_slice(b"\r\n\r\n")?;
     goes_on(&rt, lists(&rt)?, &head, r#"200 {"units":[]}"#)?;
+    goes_on(&rt, tables(&rt)?, &head, r#"200 {"units":[]}"#)?;
     let head = long_head(rt.alloc(), 16_383)?;
     let (answers, end) = replays(rt.alloc(), lists(&rt)?, &head, b"");
     assert!(rt; answers.is_empty());
@@ -257,9 +258,11 @@ fn strange_bodies(rt: HostRuntime) -> Result<(), Fail> {
     let answer = r#"400 {"cause":"BadBody","malformed":10}"#;
     let request = registration(rt.alloc(), &nested)?;
     goes_on(&rt, lists(&rt)?, &request, answer)?;
+    goes_on(&rt, tables(&rt)?, &request, answer)?;
     let no_text = b"{\"tag\":\"A-1\",\"latching\":false,\"max\":60,\"more\":\"\xff\"}";
     let request = registration(rt.alloc(), no_text)?;
     goes_on(&rt, lists(&rt)?, &request, answer)?;
+    goes_on(&rt, tables(&rt)?, &request, answer)?;
     Ok(())
 }
 

@@ -2,7 +2,7 @@
 //! has a role.
 
 use crate::exchanges::Exchanges;
-use crate::replays::{is_answered, lists};
+use crate::replays::{is_answered, lists, tables};
 use std::alloc::Global;
 use std::test::Fail;
 
@@ -158,6 +158,7 @@ fn forty_calls(rt: HostRuntime) -> Result<(), Fail> {
     wanted.add_all(FORTY_CALLS)?;
     assert_eq!(rt; wanted.marks.len(), 40);
     is_answered(&rt, lists(&rt)?, &wanted, "all calls");
+    is_answered(&rt, tables(&rt)?, &wanted, "all calls");
     Ok(())
 }
 
@@ -176,6 +177,7 @@ fn calls_of_others_can_go(rt: HostRuntime) -> Result<(), Fail> {
         let wanted = purged(rt.alloc(), person, unit)?;
         assert_eq!(rt; wanted.marks.len(), count, "{person}");
         is_answered(&rt, lists(&rt)?, &wanted, person);
+        is_answered(&rt, tables(&rt)?, &wanted, person);
     }
     Ok(())
 }

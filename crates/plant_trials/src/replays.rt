@@ -3,17 +3,31 @@
 use crate::exchanges::Exchanges;
 use plant_books::Plain;
 use plant_office::{Books, Office};
+use plant_store::Tables;
 use plant_types::Person;
 use plant_wire::{End, FromRead, ToWrite, session};
+use sqlite::{Connection, MemStore};
 use std::alloc::Global;
 use std::io::Read;
 use std::process::Abort;
 use std::test::Fail;
 
+fn root(alloc: Global) -> Result<Person, Fail> {
+    Ok(Person::read(alloc, b"root")?.ok_or("no person")?)
+}
+
 /// Lists that hold nothing yet, with the administrator `root`.
-pub(crate) fn lists(rt: &(impl Abort + AllocGlobal)) -> Result<Plain, Fail> {
-    let root = Person::read(rt.alloc(), b"root")?.expect(rt, "a person");
-    Ok(Plain::new(rt.alloc(), root))
+pub(crate) fn lists(rt: &impl AllocGlobal) -> Result<Plain, Fail> {
+    Ok(Plain::new(rt.alloc(), root(rt.alloc())?))
+}
+
+/// Tables in memory that hold nothing yet, with the administrator `root`.
+pub(crate) fn tables(rt: &impl AllocGlobal) -> Result<Tables<MemStore>, Fail> {
+    let connection = Connection::open_in_memory(rt.alloc())?;
+    match Tables::create(rt.alloc(), connection, root(rt.alloc())?) {
+        Ok(tables) => Ok(tables),
+        Err(unopened) => Err(Fail::from(unopened.fault)),
+    }
 }
 
 /// What a session answers to requests that come in two reads, and how it ends.
@@ -33,6 +47,11 @@ pub(crate) fn replays<B: Books + Drop>(
     (answers, end)
 }
 
+/// Bytes as a text, to be shown.
+pub(crate) fn text(bytes: &[u8]) -> &str {
+    str::from_utf8(bytes).unwrap_or("no text")
+}
+
 /// The requests are answered as wanted, and the session ends with its input.
 pub(crate) fn is_answered<B: Books + Drop>(
     rt: &(impl Abort + AllocGlobal),
@@ -41,7 +60,6 @@ pub(crate) fn is_answered<B: Books + Drop>(
     title: &str,
 ) {
     let (answers, end) = replays(rt.alloc(), books, wanted.requests.as_bytes(), b"");
-    let answers = str::from_utf8(&answers).unwrap_or("no text");
-    assert_eq!(rt; answers, wanted.answers.as_str(), "{title}");
+    assert_eq!(rt; text(&answers), wanted.answers.as_str(), "{title}");
     assert_eq!(rt; end, End::Closed, "{title}");
 }

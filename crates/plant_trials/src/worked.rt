@@ -2,7 +2,7 @@
 
 use crate::examples::{ALARMS_FULL, BASE, GRANTS_FULL, WORKED};
 use crate::exchanges::Exchanges;
-use crate::replays::{is_answered, lists};
+use crate::replays::{is_answered, lists, tables};
 use std::alloc::Global;
 use std::test::Fail;
 
@@ -20,6 +20,7 @@ fn worked_examples(rt: HostRuntime) -> Result<(), Fail> {
     for (title, setting, example) in WORKED {
         let wanted = exchanges(&rt, setting, example)?;
         is_answered(&rt, lists(&rt)?, &wanted, title);
+        is_answered(&rt, tables(&rt)?, &wanted, title);
     }
     Ok(())
 }
@@ -45,6 +46,14 @@ fn no_more_than_2000_alarms(rt: HostRuntime) -> Result<(), Fail> {
     Ok(())
 }
 
+#[test]
+fn no_more_than_2000_alarms_over_tables(rt: HostRuntime) -> Result<(), Fail> {
+    let mut wanted = many_alarms(rt.alloc())?;
+    wanted.add_all(ALARMS_FULL)?;
+    is_answered(&rt, tables(&rt)?, &wanted, "2,000 alarms");
+    Ok(())
+}
+
 /// The base office, and grants until it has 500 pairs.
 fn many_grants(alloc: Global) -> Result<Exchanges, Fail> {
     let mut wanted = Exchanges::new(alloc);
@@ -63,5 +72,6 @@ fn no_more_than_500_pairs(rt: HostRuntime) -> Result<(), Fail> {
     let mut wanted = many_grants(rt.alloc())?;
     wanted.add_all(GRANTS_FULL)?;
     is_answered(&rt, lists(&rt)?, &wanted, "500 pairs");
+    is_answered(&rt, tables(&rt)?, &wanted, "500 pairs");
     Ok(())
 }
