@@ -10,3 +10,7 @@ status_of BrokenInput = 4
 status_of ReadFailed = 5
 status_of WriteFailed = 6
 status_of Fault = 7
+
+-- no books were opened
+abbrev pub unready : ℕ
+unready = 3

@@ -48,3 +48,8 @@ pub fn in_file(
         Err(unopened) => Err(unopened.fault),
     }
 }
+
+/// Copies the log into the file. Where that fails, the log stays beside the file and is read when it is opened again.
+pub fn close_file(books: Tables<FileStore<File>>) {
+    let _ = books.close().close();
+}

@@ -1,7 +1,7 @@
 ghost use Rattle.std.specs.Prelude.{◌≡◌};
 ghost use Rattle.plant_server.specs.Statuses as statuses;
 
-use crate::books::{in_file, in_memory};
+use crate::books::{close_file, in_file, in_memory};
 use crate::line::{Line, LineError, line_of};
 use plant_office::Office;
 use plant_store::{StoreFault, Tables};
@@ -38,18 +38,24 @@ fn say(writer: &mut impl Write, text: &str) {
     let _ = writer.write_all(text.as_bytes());
 }
 
-fn serve<S: Alter + Drop, I: Read + Drop, O: Write + Drop, E: Write + Drop>(
+/// One session over these books, how it ended, and the books after it.
+fn serve<S: Alter + Drop, I: Read + Drop, O: Write + Drop>(
     alloc: Global,
     books: Tables<S>,
     input: I,
     output: O,
-    errors: &mut E,
-) -> u8 {
+) -> (End, Tables<S>) {
     let mut office = Office::new(alloc, books);
     let mut inlet = FromRead::new(input);
     let mut outlet = ToWrite::new(output);
     let end = session(alloc, &mut inlet, &mut outlet, &mut office);
-    drop(office.into_books());
+    (end, office.into_books())
+}
+
+/// Says how the session ended, and gives the status.
+fn ended(errors: &mut impl Write, end: End) -> u8
+    ensures { result ≡ statuses.status_of end }
+{
     say(errors, "end: ");
     say(errors, name_of(end));
     say(errors, "\n");
@@ -57,7 +63,9 @@ fn serve<S: Alter + Drop, I: Read + Drop, O: Write + Drop, E: Write + Drop>(
 }
 
 /// Says why no books were opened, and gives the status.
-fn unready(errors: &mut impl Write, fault: &StoreFault) -> u8 {
+fn unready(errors: &mut impl Write, fault: &StoreFault) -> u8
+    ensures { result ≡ statuses.unready }
+{
     match fault {
         StoreFault::NotThisStore => say(errors, "store: not this store\n"),
         StoreFault::Fault(_) => say(errors, "store: fault\n"),
@@ -76,11 +84,19 @@ fn run<I: Read + Drop, O: Write + Drop, E: Write + Drop>(
     let Line { admin, db } = line;
     match db {
         None => match in_memory(alloc, admin) {
-            Ok(books) => serve(alloc, books, input, output, errors),
+            Ok(books) => {
+                let (end, books) = serve(alloc, books, input, output);
+                drop(books);
+                ended(errors, end)
+            }
             Err(fault) => unready(errors, &fault),
         },
         Some(path) => match in_file(rt, path.as_str(), admin) {
-            Ok(books) => serve(alloc, books, input, output, errors),
+            Ok(books) => {
+                let (end, books) = serve(alloc, books, input, output);
+                close_file(books);
+                ended(errors, end)
+            }
             Err(fault) => unready(errors, &fault),
         },
     }

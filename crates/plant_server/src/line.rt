@@ -68,10 +68,14 @@ fn office_command<'a>(alloc: Global) -> Result<Command<'a>, LineError> {
     let db = Arg::new(alloc, "db")
         .long("db")
         .value_name("FILE")
-        .help("The file that keeps the tables: made where it is not there; without it they are kept in memory")
+        .help(
+            "The file that keeps the tables: made where it is not there; without it they are kept in memory",
+        )
         .action(ArgAction::Set);
     Command::new(alloc, "shelfoffice")
-        .about("Answers the control rooms of a plant: requests on standard input, answers on standard output")
+        .about(
+            "Answers the control rooms of a plant: requests on standard input, answers on standard output",
+        )
         .arg(admin)
         .map_err(|_| LineError::Memory)?
         .arg(db)

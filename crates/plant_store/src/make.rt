@@ -7,8 +7,8 @@ ghost use Rattle.plant_store.specs.Changes.{CanTell};
 ghost use Rattle.plant_store.specs.Making.{AreEmpty, AreNew};
 ghost use Rattle.plant_columns.specs.Tables.{no_schema, grants_schema, shelves_schema, cells_schema, books_schema};
 
-use plant_columns::encode::single;
 use crate::write::run;
+use plant_columns::encode::single;
 use plant_types::Person;
 use sqlite::{Alter, Connection, Error, Transaction};
 

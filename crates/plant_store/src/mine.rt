@@ -13,10 +13,10 @@ ghost use Rattle.plant_store.specs.Keeping.{KeepsIn};
 ghost use Rattle.plant_store.specs.Mine.{line_cells, lines_of, runs_after, runs_of, standing_lines, started};
 ghost use Rattle.plant_columns.specs.Tables.{AreBooks};
 
-use plant_columns::decode::{Shown, moment, open_moment, read_all, role, text};
-use plant_columns::encode::single;
 use crate::read::ask;
 use plant_books::MineUnit;
+use plant_columns::decode::{Shown, moment, open_moment, read_all, role, text};
+use plant_columns::encode::single;
 use plant_types::{Moment, Person, Role, Table, UnitCode};
 use sqlite::{Alter, Connection, Error, ErrorCode, Row};
 use std::alloc::Global;
