@@ -276,9 +276,8 @@ fn changes_nothing_where_it_is_interrupted(rt: HostRuntime) -> Result<(), Fail> 
     Ok(())
 }
 
-#[test]
-fn finds_again_what_was_kept_in_files(rt: HostRuntime) -> Result<(), Fail> {
-    let alloc = rt.alloc();
+/// Books in two files that lie in memory.
+fn in_files(alloc: Global) -> Result<Tables<FileStore<Memory>>, Fail> {
     let files = Files {
         log: Memory::new(alloc),
         db: Memory::new(alloc),
@@ -286,13 +285,26 @@ fn finds_again_what_was_kept_in_files(rt: HostRuntime) -> Result<(), Fail> {
     let Ok(conn) = Connection::open_files(alloc, files, Options::new(7)) else {
         return Err(Fail::from("no connection"));
     };
-    let Ok(mut books) = Tables::create(alloc, conn, person(alloc, b"root")?) else {
-        return Err(Fail::from("no books"));
-    };
-    let u1 = unit(alloc, b"U1")?;
-    books.apply(&u1, &changes(alloc)?)?;
-    let again = reopen(alloc, books, person(alloc, b"root")?, Options::new(7));
-    let mut again = again.ok_or("no books again")?;
-    assert!(rt; again.taken(&u1)?);
+    match Tables::create(alloc, conn, person(alloc, b"root")?) {
+        Ok(books) => Ok(books),
+        Err(back) => Err(Fail::from(back.fault)),
+    }
+}
+
+/// The same books again.
+fn again(
+    alloc: Global,
+    books: Tables<FileStore<Memory>>,
+) -> Result<Tables<FileStore<Memory>>, Fail> {
+    Ok(reopen(alloc, books, person(alloc, b"root")?, Options::new(7)).ok_or("no books again")?)
+}
+
+#[test]
+fn finds_again_what_was_kept_in_files(rt: HostRuntime) -> Result<(), Fail> {
+    let mut books = in_files(rt.alloc())?;
+    let u1 = unit(rt.alloc(), b"U1")?;
+    books.apply(&u1, &changes(rt.alloc())?)?;
+    let mut books = again(rt.alloc(), books)?;
+    assert!(rt; books.taken(&u1)?);
     Ok(())
 }
