@@ -3,10 +3,7 @@ ghost use Rattle.std.specs.Prelude.{◌≡◌, false};
 use super::*;
 use plant_alarm::AlarmState;
 use plant_books::Books;
-use plant_model::{
-    AlarmRow, BandRow, Call, CellRow, Change, GrantRow, Key, Request, Row, ShelfRow, UnitRow,
-    UnitRows,
-};
+use plant_model::{AlarmRow, BandRow, CellRow, Change, GrantRow, Row, ShelfRow, UnitRow, UnitRows};
 use plant_ration::Cell;
 use plant_store::StoreFault;
 use plant_types::{Fault, Moment, Quota, Role, Seconds, Table, Tag, UnitCode, Words};
@@ -167,24 +164,6 @@ fn keeps_the_rows_of_a_unit(rt: HostRuntime) -> Result<(), Fail> {
 }
 
 #[test]
-fn tells_whether_a_unit_was_opened(rt: HostRuntime) -> Result<(), Fail> {
-    let mut books = opened(rt.alloc())?;
-    assert!(rt; books.taken(&unit(rt.alloc(), b"U1")?)?);
-    assert!(rt; !books.taken(&unit(rt.alloc(), b"U2")?)?);
-    Ok(())
-}
-
-#[test]
-fn removes_a_shelf(rt: HostRuntime) -> Result<(), Fail> {
-    let alloc = rt.alloc();
-    let mut books = opened(alloc)?;
-    let change = Change::Remove(Key::Shelf(tag(alloc, b"PT-101")?));
-    books.apply(&unit(alloc, b"U1")?, &one(alloc, change)?)?;
-    assert_eq!(rt; counts(&rows(&mut books, alloc)?), [1, 3, 2, 0, 1, 2]);
-    Ok(())
-}
-
-#[test]
 fn finds_what_a_person_holds(rt: HostRuntime) -> Result<(), Fail> {
     let alloc = rt.alloc();
     let mut books = opened(alloc)?;
@@ -200,30 +179,6 @@ fn finds_what_a_person_holds(rt: HostRuntime) -> Result<(), Fail> {
         [Role::Viewer, Role::Operator].as_slice()
     );
     assert_eq!(rt; first.last.seconds(), 80);
-    Ok(())
-}
-
-fn register(alloc: Global) -> Result<Call, Fail> {
-    Ok(Call {
-        person: person(alloc, b"ste")?,
-        moment: at(100)?,
-        request: Request::Register {
-            unit: unit(alloc, b"U1")?,
-            tag: tag(alloc, b"LT-2")?,
-            latching: false,
-            max: Seconds::new(60).ok_or("a length")?,
-        },
-    })
-}
-
-#[test]
-fn reads_the_part_of_a_call(rt: HostRuntime) -> Result<(), Fail> {
-    let mut books = opened(rt.alloc())?;
-    let part = books
-        .part(&register(rt.alloc())?)?
-        .ok_or("the unit was opened")?;
-    assert_eq!(rt; counts(&part.rows), [1, 1, 1, 0, 0, 0]);
-    assert_eq!(rt; part.count, 2);
     Ok(())
 }
 
