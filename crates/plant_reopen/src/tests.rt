@@ -1,10 +1,9 @@
+ghost use Rattle.std.specs.Prelude.{◌≡◌, false};
+
 use super::*;
 use plant_alarm::AlarmState;
 use plant_books::Books;
-use plant_model::{
-    AlarmRow, BandRow, Call, CellRow, Change, GrantRow, Key, Request, Row, ShelfRow, UnitRow,
-    UnitRows,
-};
+use plant_model::{AlarmRow, BandRow, CellRow, Change, GrantRow, Row, ShelfRow, UnitRow, UnitRows};
 use plant_ration::Cell;
 use plant_store::StoreFault;
 use plant_types::{Fault, Moment, Quota, Role, Seconds, Table, Tag, UnitCode, Words};
@@ -165,24 +164,6 @@ fn keeps_the_rows_of_a_unit(rt: HostRuntime) -> Result<(), Fail> {
 }
 
 #[test]
-fn tells_whether_a_unit_was_opened(rt: HostRuntime) -> Result<(), Fail> {
-    let mut books = opened(rt.alloc())?;
-    assert!(rt; books.taken(&unit(rt.alloc(), b"U1")?)?);
-    assert!(rt; !books.taken(&unit(rt.alloc(), b"U2")?)?);
-    Ok(())
-}
-
-#[test]
-fn removes_a_shelf(rt: HostRuntime) -> Result<(), Fail> {
-    let alloc = rt.alloc();
-    let mut books = opened(alloc)?;
-    let change = Change::Remove(Key::Shelf(tag(alloc, b"PT-101")?));
-    books.apply(&unit(alloc, b"U1")?, &one(alloc, change)?)?;
-    assert_eq!(rt; counts(&rows(&mut books, alloc)?), [1, 3, 2, 0, 1, 2]);
-    Ok(())
-}
-
-#[test]
 fn finds_what_a_person_holds(rt: HostRuntime) -> Result<(), Fail> {
     let alloc = rt.alloc();
     let mut books = opened(alloc)?;
@@ -198,30 +179,6 @@ fn finds_what_a_person_holds(rt: HostRuntime) -> Result<(), Fail> {
         [Role::Viewer, Role::Operator].as_slice()
     );
     assert_eq!(rt; first.last.seconds(), 80);
-    Ok(())
-}
-
-fn register(alloc: Global) -> Result<Call, Fail> {
-    Ok(Call {
-        person: person(alloc, b"ste")?,
-        moment: at(100)?,
-        request: Request::Register {
-            unit: unit(alloc, b"U1")?,
-            tag: tag(alloc, b"LT-2")?,
-            latching: false,
-            max: Seconds::new(60).ok_or("a length")?,
-        },
-    })
-}
-
-#[test]
-fn reads_the_part_of_a_call(rt: HostRuntime) -> Result<(), Fail> {
-    let mut books = opened(rt.alloc())?;
-    let part = books
-        .part(&register(rt.alloc())?)?
-        .ok_or("the unit was opened")?;
-    assert_eq!(rt; counts(&part.rows), [1, 1, 1, 0, 0, 0]);
-    assert_eq!(rt; part.count, 2);
     Ok(())
 }
 
@@ -276,35 +233,43 @@ fn changes_nothing_where_it_is_interrupted(rt: HostRuntime) -> Result<(), Fail> 
     Ok(())
 }
 
-/// Books in two files that lie in memory.
-fn in_files(alloc: Global) -> Result<Tables<FileStore<Memory>>, Fail> {
-    let files = Files {
-        log: Memory::new(alloc),
-        db: Memory::new(alloc),
+/// Whether a unit that is kept in these files is found again.
+fn is_found_again<D: Disk + Drop>(
+    alloc: Global,
+    conn: Connection<FileStore<D>>,
+) -> Result<bool, Fail>
+    requires { conn.in_transaction ≡ false }
+{
+    let Ok(books) = Tables::create(alloc, conn, person(alloc, b"root")?) else {
+        return Err(Fail::from("no books"));
     };
-    let Ok(conn) = Connection::open_files(alloc, files, Options::new(7)) else {
-        return Err(Fail::from("no connection"));
-    };
-    match Tables::create(alloc, conn, person(alloc, b"root")?) {
-        Ok(books) => Ok(books),
-        Err(back) => Err(Fail::from(back.fault)),
-    }
+    let books = with_unit(alloc, books)?;
+    let again = reopen(alloc, books, person(alloc, b"root")?, Options::new(7));
+    is_taken(alloc, again.ok_or("no books again")?)
 }
 
-/// The same books again.
-fn again(
+/// The same books with one unit more.
+fn with_unit<D: Disk + Drop>(
     alloc: Global,
-    books: Tables<FileStore<Memory>>,
-) -> Result<Tables<FileStore<Memory>>, Fail> {
-    Ok(reopen(alloc, books, person(alloc, b"root")?, Options::new(7)).ok_or("no books again")?)
+    mut books: Tables<FileStore<D>>,
+) -> Result<Tables<FileStore<D>>, Fail> {
+    books.apply(&unit(alloc, b"U1")?, &changes(alloc)?)?;
+    Ok(books)
+}
+
+fn is_taken<D: Disk + Drop>(alloc: Global, mut books: Tables<FileStore<D>>) -> Result<bool, Fail> {
+    Ok(books.taken(&unit(alloc, b"U1")?)?)
 }
 
 #[test]
 fn finds_again_what_was_kept_in_files(rt: HostRuntime) -> Result<(), Fail> {
-    let mut books = in_files(rt.alloc())?;
-    let u1 = unit(rt.alloc(), b"U1")?;
-    books.apply(&u1, &changes(rt.alloc())?)?;
-    let mut books = again(rt.alloc(), books)?;
-    assert!(rt; books.taken(&u1)?);
+    let files = Files {
+        log: Memory::new(rt.alloc()),
+        db: Memory::new(rt.alloc()),
+    };
+    match Connection::open_files(rt.alloc(), files, Options::new(7)) {
+        Ok(conn) => assert!(rt; is_found_again(rt.alloc(), conn)?),
+        Err(_) => return Err(Fail::from("no connection")),
+    }
     Ok(())
 }
