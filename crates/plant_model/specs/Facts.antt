@@ -1,5 +1,5 @@
 -- What a verdict looks at, of a unit.
-use Rattle.std.specs.Prelude.{Bool, List, Option, Some, count_by, length, not, option_and_then, option_map, unwrap_or, ℕ, ◌&&◌}
+use Rattle.std.specs.Prelude.{Bool, List, Option, Some, count_by, false, is_some, length, not, option_and_then, option_map, unwrap_or, ℕ, ◌&&◌}
 use Rattle.plant_alarm.specs.declared.shelf.ShelfState.{ShelfState}
 use Rattle.plant_model.specs.declared.call.Call.{Call}
 use Rattle.plant_model.specs.declared.rows.AlarmRow.{AlarmRow}
@@ -22,6 +22,7 @@ pub record Facts : Type 0 where
   pub stewards : ℕ
   pub alarm_count : ℕ
   pub alarm : Name → Option AlarmRow
+  pub alarms : List AlarmRow
   pub shelf : Name → Option ShelfRow
   pub shelves : List ShelfRow
 
@@ -39,6 +40,7 @@ facts h =
       stewards = count_by is_steward_row (grant_rows h);
       alarm_count = length (alarm_rows h);
       alarm = alarm_row h;
+      alarms = alarm_rows h;
       shelf = shelf h;
       shelves = shelf_rows h;
     }
@@ -46,6 +48,10 @@ facts h =
 -- MaxTimeShelved in force
 abbrev pub limit_of : Facts → Name → ℕ
 limit_of f a = unwrap_or (option_map (λ r. r.max_s) (f.alarm a)) 0
+
+-- the alarm is out of service
+abbrev pub is_out : Facts → Name → Bool
+is_out f a = unwrap_or (option_map (λ r. is_some r.out_s) (f.alarm a)) false
 
 -- when the alarm last returned to normal
 abbrev pub returned : Facts → Name → Option ℕ

@@ -2,6 +2,7 @@ pub mod Histories
 pub mod Grants
 pub mod Alarms
 pub mod Shelves
+pub mod Service
 pub mod Matrices
 pub mod Rows
 pub mod Facts

@@ -1,8 +1,8 @@
 -- The part of a unit's rows that a call looks at: the unit's row, the caller's grants, and what its request selects.
 use Rattle.std.specs.Prelude.{Bool, [], false, filter, length, true, ℕ, ◌||◌}
 use Rattle.plant_model.specs.declared.call.Call.{Call}
+use Rattle.plant_model.specs.declared.call.Request.TheVariants.{Alarms, Grant, OneShotShelve, PlaceInService, Register, RemoveFromService, Shelves, Standing, Status, TimedShelve, Unshelve, Withdraw}
 use Rattle.plant_model.specs.declared.call.Request.{Request}
-use Rattle.plant_model.specs.declared.call.Request.TheVariants.{Grant, OneShotShelve, Register, Shelves, Status, TimedShelve, Unshelve, Withdraw}
 use Rattle.plant_model.specs.declared.rows.UnitPart.{UnitPart}
 use Rattle.plant_model.specs.declared.rows.UnitRows.{UnitRows}
 use Rattle.plant_model.specs.RowFacts.{pair_of}
@@ -39,7 +39,11 @@ selected (TimedShelve u a d w) = all_shelves
 selected (OneShotShelve u a w) = all_shelves
 selected (Unshelve u a) = of_tag a
 selected (Status u a) = of_tag a
+selected (RemoveFromService u a w) = of_tag a
+selected (PlaceInService u a) = of_tag a
 selected (Shelves u) = all_shelves
+selected (Alarms u) = all_shelves
+selected (Standing u) = all_shelves
 selected _ = nothing
 
 -- how many alarms there are, for the call that needs the number

@@ -2,15 +2,15 @@
 use Rattle.std.specs.List.{list_any}
 use Rattle.std.specs.Prelude.{Bool, List, None, Option, Some, [], if◌then◌else◌, is_none, is_some, nat_le, nat_lt, not, ℕ, ◌&&◌, ◌++◌, ◌∷◌}
 use Rattle.plant_model.specs.declared.call.Call.{Call}
+use Rattle.plant_model.specs.declared.call.Request.TheVariants.{Grant, OneShotShelve, PlaceInService, Register, RemoveFromService, Status, TimedShelve, Unshelve, Withdraw}
 use Rattle.plant_model.specs.declared.call.Request.{Request}
-use Rattle.plant_model.specs.declared.call.Request.TheVariants.{Grant, OneShotShelve, Register, Status, TimedShelve, Unshelve, Withdraw}
 use Rattle.plant_model.specs.declared.reply.Full.TheVariants.{Alarms as TooManyAlarms, Grants as TooManyGrants}
+use Rattle.plant_model.specs.declared.reply.Refused.TheVariants.{AlarmTaken, AlarmUnknown, AlreadyHeld, AlreadyOutOfService, ConditionAlreadyShelved, ConditionNotShelved, EndNotAhead, LastSteward, MomentBehind, NotGranted, NotHeld, NotOutOfService, RoleLacking, ShelfQuota, ShelvingTimeOutOfRange, UnitFull}
 use Rattle.plant_model.specs.declared.reply.Refused.{Refused}
-use Rattle.plant_model.specs.declared.reply.Refused.TheVariants.{AlarmTaken, AlarmUnknown, AlreadyHeld, ConditionAlreadyShelved, ConditionNotShelved, EndNotAhead, LastSteward, MomentBehind, NotGranted, NotHeld, RoleLacking, ShelfQuota, ShelvingTimeOutOfRange, UnitFull}
+use Rattle.plant_types.specs.declared.role.Role.TheVariants.{Engineer, Maintainer, Operator, Steward}
 use Rattle.plant_types.specs.declared.role.Role.{Role}
-use Rattle.plant_types.specs.declared.role.Role.TheVariants.{Engineer, Operator, Steward}
 use Rattle.plant_alarm.specs.Shelves.{is_one_shot, is_timed, is_unshelved}
-use Rattle.plant_model.specs.Facts.{Facts, limit_of, others_shelved, shelf_now}
+use Rattle.plant_model.specs.Facts.{Facts, is_out, limit_of, others_shelved, shelf_now}
 use Rattle.plant_model.specs.Grants.{is_before}
 use Rattle.plant_types.specs.Names.{Name}
 use Rattle.plant_types.specs.Roles.{all_roles, same_role}
@@ -23,6 +23,8 @@ role_needed (Register u a l m) = Some Engineer
 role_needed (TimedShelve u a d w) = Some Operator
 role_needed (OneShotShelve u a w) = Some Operator
 role_needed (Unshelve u a) = Some Operator
+role_needed (RemoveFromService u a w) = Some Maintainer
+role_needed (PlaceInService u a) = Some Maintainer
 role_needed _ = None
 
 -- no alarm has this tag
@@ -41,6 +43,8 @@ own_refusals f t (Register u a l m) = (nat_le 2000 f.alarm_count, UnitFull TooMa
 own_refusals f t (TimedShelve u a d w) = unknown f a ∷ (nat_lt (limit_of f a) d, ShelvingTimeOutOfRange (limit_of f a)) ∷ (is_timed (shelf_now f a t), ConditionAlreadyShelved) ∷ over_quota f a t ∷ []
 own_refusals f t (OneShotShelve u a w) = unknown f a ∷ (is_one_shot (shelf_now f a t), ConditionAlreadyShelved) ∷ over_quota f a t ∷ []
 own_refusals f t (Unshelve u a) = unknown f a ∷ (is_unshelved (shelf_now f a t), ConditionNotShelved) ∷ []
+own_refusals f t (RemoveFromService u a w) = unknown f a ∷ (is_out f a, AlreadyOutOfService) ∷ []
+own_refusals f t (PlaceInService u a) = unknown f a ∷ (not (is_out f a), NotOutOfService) ∷ []
 own_refusals f t (Status u a) = unknown f a ∷ []
 own_refusals f t _ = []
 

@@ -1,12 +1,14 @@
 -- The replies to accepted calls.
-use Rattle.std.specs.Prelude.{List, None, Option, Some, false, filter_map, is_some, not, true, ℕ, ◌||◌}
-use Rattle.plant_alarm.specs.declared.shelf.ShelfState.{ShelfState}
+use Rattle.std.specs.Prelude.{List, None, Option, Some, false, filter_map, is_some, map, not, option_map, true, ℕ, ◌||◌}
 use Rattle.plant_alarm.specs.declared.shelf.ShelfState.TheVariants.{OneShotShelved, TimedShelved, Unshelved}
+use Rattle.plant_alarm.specs.declared.shelf.ShelfState.{ShelfState}
+use Rattle.plant_model.specs.declared.call.Request.TheVariants.{Alarms, Shelves, Standing, Status}
 use Rattle.plant_model.specs.declared.call.Request.{Request}
-use Rattle.plant_model.specs.declared.call.Request.TheVariants.{Shelves, Status}
+use Rattle.plant_model.specs.declared.reply.AlarmLine.{AlarmLine}
+use Rattle.plant_model.specs.declared.reply.Reply.TheVariants.{Alarms as AlarmsOf, Done, Shelves as ShelvesOf, Standing as StandingOf, Status as StatusOf}
 use Rattle.plant_model.specs.declared.reply.Reply.{Reply}
-use Rattle.plant_model.specs.declared.reply.Reply.TheVariants.{Done, Shelves as ShelvesOf, Status as StatusOf}
 use Rattle.plant_model.specs.declared.reply.ShelfLine.{ShelfLine}
+use Rattle.plant_model.specs.declared.reply.StandingLine.{StandingLine}
 use Rattle.plant_model.specs.declared.reply.StatusRow.{StatusRow}
 use Rattle.plant_model.specs.declared.rows.AlarmRow.{AlarmRow}
 use Rattle.plant_model.specs.declared.rows.ShelfRow.{ShelfRow}
@@ -37,6 +39,32 @@ line_of s (OneShotShelved left) = Some (record { tag = s.tag; one_shot = true; s
 abbrev pub shelf_lines : Facts → ℕ → List ShelfLine
 shelf_lines f t = filter_map (λ s. line_of s (shelf_state (shelf_left (Some s)) (returned f s.tag) t)) f.shelves
 
+-- the line of an alarm: its suppression is told by kind. No call here approves a record, so no alarm has a priority
+abbrev pub alarm_line : Facts → ℕ → AlarmRow → AlarmLine
+alarm_line f t r =
+    record {
+      tag = r.tag;
+      state = r.state_no;
+      priority = None;
+      shelved = not (is_unshelved (shelf_state (shelf_left (f.shelf r.tag)) r.return_s t));
+      by_design = r.suppressed;
+      out_of_service = is_some r.out_s;
+      limit = r.max_s;
+    }
+
+-- the line of an alarm that is active since a moment
+abbrev pub standing_as : AlarmLine → ℕ → StandingLine
+standing_as l since = record { tag = l.tag; state = l.state; priority = l.priority; since = since; shelved = l.shelved; by_design = l.by_design; out_of_service = l.out_of_service }
+
+abbrev pub standing_line : Facts → ℕ → AlarmRow → Option StandingLine
+standing_line f t r = option_map (standing_as (alarm_line f t r)) r.active_s
+
+abbrev pub alarm_lines : Facts → ℕ → List AlarmLine
+alarm_lines f t = map (alarm_line f t) f.alarms
+
+abbrev pub standing_lines : Facts → ℕ → List StandingLine
+standing_lines f t = filter_map (standing_line f t) f.alarms
+
 abbrev pub status_reply : Option AlarmRow → ShelfState → Reply
 status_reply None shelf = Done
 status_reply (Some r) shelf = StatusOf (status_of r shelf)
@@ -44,4 +72,6 @@ status_reply (Some r) shelf = StatusOf (status_of r shelf)
 abbrev pub reply : Facts → ℕ → Request → Reply
 reply f t (Status u a) = status_reply (f.alarm a) (shelf_now f a t)
 reply f t (Shelves u) = ShelvesOf u t (shelf_lines f t)
+reply f t (Alarms u) = AlarmsOf u t (alarm_lines f t)
+reply f t (Standing u) = StandingOf u t (standing_lines f t)
 reply f t _ = Done

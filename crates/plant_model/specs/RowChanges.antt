@@ -1,15 +1,17 @@
 -- Changes of a unit's rows.
 use Rattle.std.specs.List.{list_any}
-use Rattle.std.specs.Prelude.{Bool, List, None, [], false, filter_map, map, max, true, ℕ, ◌++◌, ◌+◌, ◌∷◌}
+use Rattle.std.specs.Option.{option_to_list}
+use Rattle.std.specs.Prelude.{Bool, List, None, Some, [], false, filter_map, map, max, true, ℕ, ◌++◌, ◌+◌, ◌∷◌}
 use Rattle.plant_model.specs.declared.call.Call.{Call}
+use Rattle.plant_model.specs.declared.call.Request.TheVariants.{Grant, OneShotShelve, OpenUnit, PlaceInService, Register, RemoveFromService, TimedShelve, Unshelve, Withdraw}
 use Rattle.plant_model.specs.declared.call.Request.{Request}
-use Rattle.plant_model.specs.declared.call.Request.TheVariants.{Grant, OneShotShelve, OpenUnit, Register, TimedShelve, Unshelve, Withdraw}
-use Rattle.plant_model.specs.declared.rows.Change.{Change}
+use Rattle.plant_model.specs.declared.rows.AlarmRow.{AlarmRow}
 use Rattle.plant_model.specs.declared.rows.Change.TheVariants.{Put, Remove}
-use Rattle.plant_model.specs.declared.rows.Key.{Key}
+use Rattle.plant_model.specs.declared.rows.Change.{Change}
 use Rattle.plant_model.specs.declared.rows.Key.TheVariants.{Grant as GrantKey, Shelf as ShelfKey}
-use Rattle.plant_model.specs.declared.rows.Row.{Row}
+use Rattle.plant_model.specs.declared.rows.Key.{Key}
 use Rattle.plant_model.specs.declared.rows.Row.TheVariants.{Alarm as AlarmPut, Band as BandPut, Cell as CellPut, Grant as GrantPut, Shelf as ShelfPut, Unit as UnitPut}
+use Rattle.plant_model.specs.declared.rows.Row.{Row}
 use Rattle.plant_model.specs.declared.rows.UnitRow.{UnitRow}
 use Rattle.plant_model.specs.declared.rows.UnitRows.{UnitRows}
 use Rattle.plant_types.specs.declared.role.Role.TheVariants.{Steward}
@@ -67,15 +69,28 @@ cells_of n m = map (λ r. Put (CellPut r)) (filter_map (λ k. cell_of k m) (cell
 abbrev pub matrix_changes : ℕ → Grid → List Change
 matrix_changes n m = bands_of n m ++ cells_of n m
 
+-- the alarm's row, changed
+abbrev pub with_alarm : Facts → Name → (AlarmRow → AlarmRow) → List Change
+with_alarm f a row = map (λ r. Put (AlarmPut (row r))) (option_to_list (f.alarm a))
+
+-- an alarm that is out of service from a moment on, by a person and for a reason; one that is in service
+abbrev pub taken_out : Name → ℕ → Name → AlarmRow → AlarmRow
+taken_out p t words r = record r { out_s = Some t; out_by = Some p; out_words = Some words }
+
+abbrev pub placed_in : AlarmRow → AlarmRow
+placed_in r = record r { out_s = None; out_by = None; out_words = None }
+
 -- the changes that an accepted call makes beside that of the unit's row
 abbrev pub own_changes : Facts → Name → ℕ → Request → List Change
 own_changes f p t (OpenUnit u s m q) = Put (GrantPut (grant_as (s, Steward) None)) ∷ matrix_changes 0 m
 own_changes f p t (Grant u q r) = Put (GrantPut (grant_as (q, r.0) r.1)) ∷ []
 own_changes f p t (Withdraw u q r) = Remove (GrantKey q r) ∷ []
-own_changes f p t (Register u a l max) = Put (AlarmPut (alarm_as a max l)) ∷ []
+own_changes f p t (Register u a l max) = Put (AlarmPut (alarm_as a max None l)) ∷ []
 own_changes f p t (TimedShelve u a d w) = Put (ShelfPut (shelf_row_as false t (t + d) p w a)) ∷ []
 own_changes f p t (OneShotShelve u a w) = Put (ShelfPut (shelf_row_as true t (t + limit_of f a) p w a)) ∷ []
 own_changes f p t (Unshelve u a) = Remove (ShelfKey a) ∷ []
+own_changes f p t (RemoveFromService u a w) = with_alarm f a (taken_out p t w)
+own_changes f p t (PlaceInService u a) = with_alarm f a placed_in
 own_changes f p t _ = []
 
 -- the unit's row after the call

@@ -49,6 +49,7 @@ facts_from rows alarm_count =
       stewards = count_by is_steward_row rows.grants;
       alarm_count = alarm_count;
       alarm = λ a. row_at name_cmp alarm_tag a rows.alarms;
+      alarms = rows.alarms;
       shelf = λ a. row_at name_cmp shelf_tag a rows.shelves;
       shelves = rows.shelves;
     }

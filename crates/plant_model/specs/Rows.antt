@@ -2,8 +2,8 @@
 use Rattle.std.specs.Prelude.{Bool, List, None, Option, [], false, filter_map, max, option_and_then, option_map, unwrap_or, ℕ, ◌∷◌}
 use Rattle.plant_alarm.specs.declared.summary.AlarmState.TheVariants.{Normal}
 use Rattle.plant_model.specs.declared.call.Call.{Call}
-use Rattle.plant_model.specs.declared.call.Request.{Request}
 use Rattle.plant_model.specs.declared.call.Request.TheVariants.{Grant, OneShotShelve, OpenUnit, Register, TimedShelve, Unshelve, Withdraw}
+use Rattle.plant_model.specs.declared.call.Request.{Request}
 use Rattle.plant_model.specs.declared.rows.AlarmRow.{AlarmRow}
 use Rattle.plant_model.specs.declared.rows.BandRow.{BandRow}
 use Rattle.plant_model.specs.declared.rows.CellRow.{CellRow}
@@ -16,6 +16,7 @@ use Rattle.plant_model.specs.Alarms.{latching, limit, quota}
 use Rattle.plant_model.specs.Grants.{standing}
 use Rattle.plant_model.specs.Histories.{all_named, last_moment}
 use Rattle.plant_model.specs.Matrices.{BandKey, CellKey, band_at, band_cmp, band_places, cell_cmp, cell_of, cell_places, matrix_numbered, numbered_matrix, places_in}
+use Rattle.plant_model.specs.Service.{Outage, outage}
 use Rattle.plant_model.specs.Shelves.{shelf}
 use Rattle.plant_types.specs.Names.{Name, name_cmp}
 use Rattle.plant_types.specs.Roles.{Pair, pair_cmp}
@@ -37,13 +38,13 @@ grant_row h k = option_map (grant_as k) (standing h k)
 abbrev pub grant_rows : List Call → List GrantRow
 grant_rows h = filter_map (grant_row h) (in_order pair_cmp (all_named (λ c before. pairs_named c.request) h))
 
--- Alarms, one for each registration. No call here brings an event or takes an alarm out of service, so each alarm is Normal
+-- Alarms, one for each registration. No call here brings an event, so each alarm is Normal
 abbrev pub tags_registered : Request → List Name
 tags_registered (Register u a l m) = a ∷ []
 tags_registered _ = []
 
-abbrev pub alarm_as : Name → ℕ → Bool → AlarmRow
-alarm_as a max latches =
+abbrev pub alarm_as : Name → ℕ → Option Outage → Bool → AlarmRow
+alarm_as a max out latches =
     record {
       tag = a;
       latching = latches;
@@ -53,13 +54,13 @@ alarm_as a max latches =
       suppressed = false;
       active_s = None;
       return_s = None;
-      out_s = None;
-      out_by = None;
-      out_words = None;
+      out_s = option_map (λ o. o.from) out;
+      out_by = option_map (λ o. o.person) out;
+      out_words = option_map (λ o. o.words) out;
     }
 
 abbrev pub alarm_row : List Call → Name → Option AlarmRow
-alarm_row h a = option_map (alarm_as a (unwrap_or (limit h a) 0)) (latching h a)
+alarm_row h a = option_map (alarm_as a (unwrap_or (limit h a) 0) (outage h a)) (latching h a)
 
 abbrev pub alarm_rows : List Call → List AlarmRow
 alarm_rows h = filter_map (alarm_row h) (in_order name_cmp (all_named (λ c before. tags_registered c.request) h))

@@ -1,8 +1,8 @@
 -- What a unit answers to a call: the first refusal whose condition holds, else the reply.
 use Rattle.std.specs.Prelude.{Bool, Err, List, None, Ok, Option, Result, Some, false, if◌then◌else◌, is_ok, not, true, ◌&&◌, ◌∷◌}
 use Rattle.plant_model.specs.declared.call.Call.{Call}
+use Rattle.plant_model.specs.declared.call.Request.TheVariants.{Alarms, MyShelves, MyUnits, OpenUnit, Shelves, Standing, Status}
 use Rattle.plant_model.specs.declared.call.Request.{Request}
-use Rattle.plant_model.specs.declared.call.Request.TheVariants.{MyUnits, OpenUnit, Shelves, Status}
 use Rattle.plant_model.specs.declared.reply.Refused.{Refused}
 use Rattle.plant_model.specs.declared.reply.Reply.{Reply}
 use Rattle.plant_model.specs.Facts.{Facts, facts}
@@ -23,7 +23,10 @@ verdict h c = verdict_of (facts h) c
 abbrev pub is_read : Request → Bool
 is_read (Status u a) = true
 is_read (Shelves u) = true
+is_read (Alarms u) = true
+is_read (Standing u) = true
 is_read MyUnits = true
+is_read MyShelves = true
 is_read _ = false
 
 -- an accepted call that is no read is an entry of the history

@@ -1,17 +1,22 @@
 -- The office: an administrator, and for each opened unit its history.
 use Rattle.std.specs.FinMap.{FinMap, contains_key, empty, get, insert, keys}
+use Rattle.std.specs.List.{flat_map}
 use Rattle.std.specs.Prelude.{Bool, Err, List, None, Ok, Option, Result, Some, [], filter_map, fold, if◌then◌else◌, map, max, nat_lt, not, unwrap_or, ℕ, ◌∷◌, ◌≡◌}
 use Rattle.plant_model.specs.declared.call.Call.{Call}
+use Rattle.plant_model.specs.declared.call.Request.TheVariants.{Alarms, Grant, MyShelves, MyUnits, OneShotShelve, OpenUnit, PlaceInService, Register, RemoveFromService, Shelves, Standing, Status, TimedShelve, Unshelve, Withdraw}
 use Rattle.plant_model.specs.declared.call.Request.{Request}
-use Rattle.plant_model.specs.declared.call.Request.TheVariants.{Grant, MyUnits, OneShotShelve, OpenUnit, Register, Shelves, Status, TimedShelve, Unshelve, Withdraw}
-use Rattle.plant_model.specs.declared.reply.Refused.{Refused}
+use Rattle.plant_model.specs.declared.reply.MineLine.{MineLine}
 use Rattle.plant_model.specs.declared.reply.Refused.TheVariants.{MomentBehind, NotAdministrator, UnitTaken}
+use Rattle.plant_model.specs.declared.reply.Refused.{Refused}
+use Rattle.plant_model.specs.declared.reply.Reply.TheVariants.{Done, Mine, Units}
 use Rattle.plant_model.specs.declared.reply.Reply.{Reply}
-use Rattle.plant_model.specs.declared.reply.Reply.TheVariants.{Done, Units}
+use Rattle.plant_model.specs.declared.reply.ShelfLine.{ShelfLine}
 use Rattle.plant_model.specs.declared.reply.UnitLine.{UnitLine}
+use Rattle.plant_model.specs.Facts.{facts}
 use Rattle.plant_model.specs.Grants.{holds_any, roles_held}
 use Rattle.plant_model.specs.Histories.{last_moment}
 use Rattle.plant_model.specs.Legality.{IsLegal}
+use Rattle.plant_model.specs.Replies.{shelf_lines}
 use Rattle.plant_model.specs.Verdicts.{changes_history, is_opening, verdict}
 use Rattle.plant_types.specs.Names.{Name, name_cmp, same_name}
 use Rattle.plant_types.specs.Options.{when}
@@ -33,9 +38,14 @@ unit_named (Register u a l max) = Some u
 unit_named (TimedShelve u a d words) = Some u
 unit_named (OneShotShelve u a words) = Some u
 unit_named (Unshelve u a) = Some u
+unit_named (RemoveFromService u a words) = Some u
+unit_named (PlaceInService u a) = Some u
 unit_named (Status u a) = Some u
 unit_named (Shelves u) = Some u
+unit_named (Alarms u) = Some u
+unit_named (Standing u) = Some u
 unit_named MyUnits = None
+unit_named MyShelves = None
 
 -- a unit with its history, where the person holds a role in it at the moment
 abbrev pub unit_seen : World → ℕ → Name → Name → Option (Name × List Call)
@@ -51,9 +61,20 @@ greatest_last units = fold max 0 (map (λ e. last_moment e.1) units)
 abbrev pub unit_lines : ℕ → Name → List (Name × List Call) → List UnitLine
 unit_lines t p units = map (λ e. record { unit = e.0; roles = roles_held e.1 t p }) units
 
+-- their shelves that hold at a moment, by unit and tag
+abbrev pub mine_line : Name → ShelfLine → MineLine
+mine_line u l = record { unit = u; line = l }
+
+abbrev pub mine_lines : ℕ → List (Name × List Call) → List MineLine
+mine_lines t units = flat_map (λ e. map (mine_line e.0) (shelf_lines (facts e.1) t)) units
+
+abbrev pub reply_of_units : List (Name × List Call) → Call → Request → Reply
+reply_of_units units c MyShelves = Mine c.person c.moment (mine_lines c.moment units)
+reply_of_units units c _ = Units (unit_lines c.moment c.person units)
+
 -- the answer to a call that names no unit, from the caller's units
 abbrev pub answer_of_units : List (Name × List Call) → Call → Result Reply Refused
-answer_of_units units c = if nat_lt c.moment (greatest_last units) then Err (MomentBehind (greatest_last units)) else Ok (Units (unit_lines c.moment c.person units))
+answer_of_units units c = if nat_lt c.moment (greatest_last units) then Err (MomentBehind (greatest_last units)) else Ok (reply_of_units units c c.request)
 
 -- the answer to an opening
 abbrev pub opening : Bool → Bool → Result Reply Refused

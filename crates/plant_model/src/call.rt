@@ -48,6 +48,17 @@ pub enum Request {
         unit: UnitCode,
         tag: Tag,
     },
+    /// Removes an alarm from service.
+    RemoveFromService {
+        unit: UnitCode,
+        tag: Tag,
+        words: Words,
+    },
+    /// Places an alarm in service again.
+    PlaceInService {
+        unit: UnitCode,
+        tag: Tag,
+    },
     /// Asks for an alarm's state and shelf.
     Status {
         unit: UnitCode,
@@ -57,8 +68,18 @@ pub enum Request {
     Shelves {
         unit: UnitCode,
     },
+    /// Asks for all alarms.
+    Alarms {
+        unit: UnitCode,
+    },
+    /// Asks for the alarms that are active.
+    Standing {
+        unit: UnitCode,
+    },
     /// Asks for the units in which the caller holds a role.
     MyUnits,
+    /// Asks for the alarms that are shelved in all units in which the caller holds a role.
+    MyShelves,
 }
 
 /// A request with the person who makes it and the moment that the person names.

@@ -9,7 +9,9 @@ mod reply;
 mod rows;
 
 pub use call::{Call, Request};
-pub use reply::{Answer, Full, Refused, Reply, ShelfLine, StatusRow, UnitLine};
+pub use reply::{
+    AlarmLine, Answer, Full, MineLine, Refused, Reply, ShelfLine, StandingLine, StatusRow, UnitLine,
+};
 pub use rows::{
     AlarmRow, BandRow, CellRow, Change, GrantRow, Key, Row, ShelfRow, UnitPart, UnitRow, UnitRows,
     Verdict,

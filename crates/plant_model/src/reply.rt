@@ -1,4 +1,5 @@
 use plant_alarm::{AlarmState, ShelfState};
+use plant_ration::Cell;
 use plant_types::{Fault, Moment, Person, Quota, Role, Seconds, Table, Tag, UnitCode, Words};
 
 /// What a unit has no room for.
@@ -25,6 +26,8 @@ pub enum Refused {
     ShelvingTimeOutOfRange(Seconds),
     ConditionAlreadyShelved,
     ConditionNotShelved,
+    AlreadyOutOfService,
+    NotOutOfService,
     AlreadyHeld,
     NotHeld,
     LastSteward,
@@ -58,6 +61,41 @@ pub struct ShelfLine {
     pub words: Words,
 }
 
+/// An alarm that is active.
+#[derive(Drop)]
+pub struct StandingLine {
+    pub tag: Tag,
+    pub state: AlarmState,
+    /// Its priority, if it has a record.
+    pub priority: Option<Cell>,
+    /// The moment of its last activation.
+    pub since: Moment,
+    pub shelved: bool,
+    pub by_design: bool,
+    pub out_of_service: bool,
+}
+
+/// An alarm.
+#[derive(Drop)]
+pub struct AlarmLine {
+    pub tag: Tag,
+    pub state: AlarmState,
+    /// Its priority, if it has a record.
+    pub priority: Option<Cell>,
+    pub shelved: bool,
+    pub by_design: bool,
+    pub out_of_service: bool,
+    /// MaxTimeShelved.
+    pub limit: Seconds,
+}
+
+/// A shelf that holds, with the unit of its alarm.
+#[derive(Drop)]
+pub struct MineLine {
+    pub unit: UnitCode,
+    pub line: ShelfLine,
+}
+
 /// A unit with the roles that the caller holds in it.
 #[derive(Drop)]
 pub struct UnitLine {
@@ -75,6 +113,21 @@ pub enum Reply {
         unit: UnitCode,
         at: Moment,
         lines: Table<ShelfLine>,
+    },
+    Standing {
+        unit: UnitCode,
+        at: Moment,
+        lines: Table<StandingLine>,
+    },
+    Alarms {
+        unit: UnitCode,
+        at: Moment,
+        lines: Table<AlarmLine>,
+    },
+    Mine {
+        person: Person,
+        at: Moment,
+        lines: Table<MineLine>,
     },
 }
 

@@ -1,0 +1,24 @@
+-- Out of service (ISA-18.2, IEC 62682): the third kind of suppression, beside shelving and suppression by design.
+use Rattle.std.specs.Prelude.{List, None, Option, Some, ℕ}
+use Rattle.plant_model.specs.declared.call.Call.{Call}
+use Rattle.plant_model.specs.declared.call.Request.TheVariants.{PlaceInService, RemoveFromService}
+use Rattle.plant_model.specs.declared.call.Request.{Request}
+use Rattle.plant_model.specs.Histories.{latest}
+use Rattle.plant_types.specs.Names.{Name, same_name}
+use Rattle.plant_types.specs.Options.{flatten, when}
+
+-- when, by whom and why an alarm was removed from service
+pub record Outage : Type 0 where
+  pub from : ℕ
+  pub person : Name
+  pub words : Name
+
+-- what an entry says of the alarm's service: the removal, or that there is none
+abbrev pub said_of_service : Name → Name → ℕ → Request → Option (Option Outage)
+said_of_service a p t (RemoveFromService u b words) = when (same_name a b) (Some (record { from = t; person = p; words = words }))
+said_of_service a p t (PlaceInService u b) = when (same_name a b) None
+said_of_service a p t _ = None
+
+-- the removal that stands: the last RemoveFromService or PlaceInService is a RemoveFromService
+abbrev pub outage : List Call → Name → Option Outage
+outage h a = flatten (latest (λ c before. said_of_service a c.person c.moment c.request) h)
