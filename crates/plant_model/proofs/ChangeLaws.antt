@@ -1,32 +1,39 @@
 -- The changes that a call makes turn the rows of the history into those of the history with the call.
 use Rattle.std.proofs.Common.{ap, refl, ◌∙◌}
-use Rattle.std.specs.Prelude.{Bool, List, None, Option, Some, [], cond, false, filter_map, max, option_map, true, unwrap_or, ℕ, ◌+◌, ◌∷◌, ◌≡◌}
+use Rattle.std.specs.Option.{option_to_list}
+use Rattle.std.specs.Ordering.{eq_by_cmp}
+use Rattle.std.specs.Prelude.{Bool, List, None, Option, Some, [], cond, false, filter_map, map, max, option_map, true, unwrap_or, ℕ, ◌+◌, ◌∷◌, ◌≡◌}
+use Rattle.std.specs.declared.cmp.Ordering.TheVariants.{Equal}
+use Rattle.std.specs.declared.cmp.Ordering.{Ordering}
 use Rattle.plant_model.specs.declared.call.Call.{Call}
+use Rattle.plant_model.specs.declared.call.Request.TheVariants.{Grant, OneShotShelve, OpenUnit, PlaceInService, Register, RemoveFromService, TimedShelve, Unshelve, Withdraw}
 use Rattle.plant_model.specs.declared.call.Request.{Request}
-use Rattle.plant_model.specs.declared.call.Request.TheVariants.{Grant, OneShotShelve, OpenUnit, Register, TimedShelve, Unshelve, Withdraw}
 use Rattle.plant_model.specs.declared.rows.AlarmRow.{AlarmRow}
 use Rattle.plant_model.specs.declared.rows.BandRow.{BandRow}
 use Rattle.plant_model.specs.declared.rows.CellRow.{CellRow}
 use Rattle.plant_model.specs.declared.rows.Change.TheVariants.{Put}
-use Rattle.plant_model.specs.declared.rows.Row.TheVariants.{Grant as GrantPut, Shelf as ShelfPut, Unit as UnitPut}
+use Rattle.plant_model.specs.declared.rows.Row.TheVariants.{Alarm as AlarmPut, Grant as GrantPut, Shelf as ShelfPut, Unit as UnitPut}
 use Rattle.plant_model.specs.declared.rows.ShelfRow.{ShelfRow}
 use Rattle.plant_model.specs.declared.rows.UnitRows.{UnitRows}
-use Rattle.plant_types.specs.declared.role.Role.{Role}
 use Rattle.plant_types.specs.declared.role.Role.TheVariants.{Steward}
+use Rattle.plant_types.specs.declared.role.Role.{Role}
+use Rattle.plant_model.proofs.Base.{base, cells}
 use Rattle.plant_model.proofs.HistoryLaws.{alarm_of, alarms_told, grants_told, pairs_of, shelves_told, tags_of_alarms, tags_of_shelves}
 use Rattle.plant_model.proofs.MatrixLaws.{band_keys, bands_anew, bands_told, cell_keys, cells_anew, cells_told}
 use Rattle.plant_model.proofs.PutLaws.{put_bands, put_cells, puts, puts-rows}
 use Rattle.plant_model.specs.Alarms.{latching, limit}
 use Rattle.plant_model.specs.Facts.{facts, limit_of}
+use Rattle.plant_model.specs.Histories.{latest}
 use Rattle.plant_model.specs.Matrices.{band_at, band_cmp, band_places, cell_of, cell_places}
-use Rattle.plant_model.specs.RowChanges.{cells_of, changed_by, changes_for, no_rows, put}
+use Rattle.plant_model.specs.RowChanges.{cells_of, changed_by, changes_for, no_rows, placed_in, put, taken_out}
 use Rattle.plant_model.specs.RowFacts.{band_key}
 use Rattle.plant_model.specs.Rows.{alarm_as, alarm_row, band_row, band_rows, cell_row, grant_as, grant_row, rows_of, unit_row}
+use Rattle.plant_model.specs.Service.{Outage, outage, said_of_service}
 use Rattle.plant_model.specs.Shelves.{shelf, shelf_row_as}
 use Rattle.plant_ration.specs.Grid.{Grid}
 use Rattle.plant_types.proofs.Orders.{same_names, same_pairs}
 use Rattle.plant_types.proofs.TableLaws.{put-rows, remove-rows, tied}
-use Rattle.plant_types.specs.Names.{Name, same_name}
+use Rattle.plant_types.specs.Names.{Name, name_cmp, same_name}
 use Rattle.plant_types.specs.Options.{flatten, or_else, when}
 use Rattle.plant_types.specs.Roles.{Pair, same_pair}
 
@@ -53,6 +60,18 @@ now_shelved a b row rest =
 now_unshelved : (a b : Name) (rest : Option (Option ShelfRow)) → flatten (or_else (when (same_name a b) None) rest) ≡ cond (same_name a b) None (flatten rest)
 now_unshelved a b rest =
     elim (same_name a b) as (λ t. flatten (or_else (when t None) rest) ≡ cond t None (flatten rest)) [ true ↦ refl | false ↦ refl ]
+
+-- a row that is made from what is said of its key, and of which one thing is said anew
+said_anew : {K V B X : Type 0} (R : K → K → Ordering) (same : (x y : K) → R x y ≡ Equal → x ≡ y) (row : K → V → B → X) (value : K → V) (base : K → Option B) (a : K) (b : B) (v : V) → base a ≡ Some b → (k : K) → option_map (row k (cond (eq_by_cmp R k a) v (value k))) (base k) ≡ cond (eq_by_cmp R k a) (Some (row a v b)) (option_map (row k (value k)) (base k))
+said_anew R same row value base a b v known k =
+    elim (eq_by_cmp R k a) as (λ t. eq_by_cmp R k a ≡ t → option_map (row k (cond t v (value k))) (base k) ≡ cond t (Some (row a v b)) (option_map (row k (value k)) (base k))) [
+      | true ↦ λ e. ap (λ y. option_map (row y v) (base y)) (same k a (tied _ true e refl)) ∙ ap (option_map (row a v)) known
+      | false ↦ λ e. refl
+    ] refl
+
+flatten_when : {A : Type 0} (b : Bool) (v : Option A) (rest : Option (Option A)) → flatten (or_else (when b v) rest) ≡ cond b v (flatten rest)
+flatten_when true v rest = refl
+flatten_when false v rest = refl
 
 module _ (h : List Call) (p : Name) (t : ℕ) where
   abbrev pub with_request : Request → List Call
@@ -91,19 +110,49 @@ module _ (h : List Call) (p : Name) (t : ℕ) where
         shelves = put-rows (shelf h) (shelf (with_request (OneShotShelve u a w))) (tags_of_shelves h) (tags_of_shelves (with_request (OneShotShelve u a w))) (shelf_row_as true t (t + unwrap_or (limit h a) 0) p w a) (shelves_told h) (shelves_told (with_request (OneShotShelve u a w))) (λ b. now_shelved b a (shelf_row_as true t (t + unwrap_or (limit h a) 0) p w) _) i;
       })
 
-  -- Registration
-  alarm_anew : (a k : Name) (l : Bool) (max : ℕ) → option_map (alarm_as k (unwrap_or (or_else (when (same_name k a) max) (limit h k)) 0)) (or_else (when (same_name k a) l) (latching h k)) ≡ cond (same_name k a) (Some (alarm_as a max l)) (alarm_row h k)
-  alarm_anew a k l max =
-      elim (same_name k a) as (λ s. same_name k a ≡ s → option_map (alarm_as k (unwrap_or (or_else (when s max) (limit h k)) 0)) (or_else (when s l) (latching h k)) ≡ cond s (Some (alarm_as a max l)) (alarm_row h k)) [
-        | true ↦ λ e. ap (λ y. Some (alarm_as y max l)) (same_names k a (tied _ true e refl))
+  -- Service
+  abbrev row_by_outage : (a : Name) → Option Outage → Bool → AlarmRow
+  row_by_outage a out = alarm_as a (unwrap_or (limit h a) 0) out
+
+  outage_anew : (a k : Name) (l : Bool) (v : Option Outage) → latching h a ≡ Some l → option_map (row_by_outage k (flatten (or_else (when (same_name k a) v) (latest (λ c before. said_of_service k c.person c.moment c.request) h)))) (latching h k) ≡ cond (same_name k a) (Some (row_by_outage a v l)) (alarm_row h k)
+  outage_anew a k l v known =
+      ap (λ o. option_map (row_by_outage k o) (latching h k)) (flatten_when (same_name k a) v _)
+      ∙ said_anew name_cmp same_names row_by_outage (outage h) (latching h) a l v known k
+
+  alarm_put : (q : Request) → (AlarmRow → AlarmRow) → Option AlarmRow → UnitRows
+  alarm_put q g o = changed_by (Put (UnitPut (unit_row (with_request q))) ∷ map (λ r. Put (AlarmPut (g r))) (option_to_list o)) (rows_of h)
+
+  pub remove_turns : (u a w : Name) (l : Bool) → latching h a ≡ Some l → Turns (RemoveFromService u a w)
+  unfolding alarm_put
+  remove_turns u a w l known =
+      let c = with_request (RemoveFromService u a w) in
+      ap (λ o. alarm_put (RemoveFromService u a w) (taken_out p t w) (option_map (alarm_of h a) o)) known
+      ∙ (λ i. record (rows_of c) {
+        alarms = put-rows (alarm_row h) (alarm_row c) (tags_of_alarms h) (tags_of_alarms c) (row_by_outage a (Some (record { from = t; person = p; words = w })) l) (alarms_told h) (alarms_told c) (λ k. outage_anew a k l (Some (record { from = t; person = p; words = w })) known) i;
+      })
+
+  pub place_turns : (u a : Name) (l : Bool) → latching h a ≡ Some l → Turns (PlaceInService u a)
+  unfolding alarm_put
+  place_turns u a l known =
+      let c = with_request (PlaceInService u a) in
+      ap (λ o. alarm_put (PlaceInService u a) placed_in (option_map (alarm_of h a) o)) known
+      ∙ (λ i. record (rows_of c) {
+        alarms = put-rows (alarm_row h) (alarm_row c) (tags_of_alarms h) (tags_of_alarms c) (row_by_outage a None l) (alarms_told h) (alarms_told c) (λ k. outage_anew a k l None known) i;
+      })
+
+  -- Registration of an alarm of which no removal from service stands
+  alarm_anew : (a k : Name) (l : Bool) (max : ℕ) → outage h a ≡ None → option_map (alarm_as k (unwrap_or (or_else (when (same_name k a) max) (limit h k)) 0) (outage h k)) (or_else (when (same_name k a) l) (latching h k)) ≡ cond (same_name k a) (Some (alarm_as a max None l)) (alarm_row h k)
+  alarm_anew a k l max new =
+      elim (same_name k a) as (λ s. same_name k a ≡ s → option_map (alarm_as k (unwrap_or (or_else (when s max) (limit h k)) 0) (outage h k)) (or_else (when s l) (latching h k)) ≡ cond s (Some (alarm_as a max None l)) (alarm_row h k)) [
+        | true ↦ λ e. ap (λ y. Some (alarm_as y max (outage h y) l)) (same_names k a (tied _ true e refl)) ∙ (λ i. Some (alarm_as a max (new i) l))
         | false ↦ λ e. refl
       ] refl
 
-  pub register_turns : (u a : Name) (l : Bool) (max : ℕ) → Turns (Register u a l max)
-  register_turns u a l max =
+  pub register_turns : (u a : Name) (l : Bool) (max : ℕ) → outage h a ≡ None → Turns (Register u a l max)
+  register_turns u a l max new =
       let c = with_request (Register u a l max) in
       λ i. record (rows_of c) {
-        alarms = put-rows (alarm_row h) (alarm_row c) (tags_of_alarms h) (tags_of_alarms c) (alarm_as a max l) (alarms_told h) (alarms_told c) (λ k. alarm_anew a k l max) i;
+        alarms = put-rows (alarm_row h) (alarm_row c) (tags_of_alarms h) (tags_of_alarms c) (alarm_as a max None l) (alarms_told h) (alarms_told c) (λ k. alarm_anew a k l max new) i;
       }
 
 -- An opening: no rows become those of the one entry

@@ -6,7 +6,7 @@ use Rattle.plant_model.specs.declared.call.Call.{Call}
 use Rattle.plant_model.specs.declared.call.Request.{Request}
 use Rattle.plant_model.specs.declared.call.Request.TheVariants.{Grant, OpenUnit, Withdraw}
 use Rattle.plant_types.specs.declared.role.Role.TheVariants.{Steward}
-use Rattle.plant_model.proofs.AcceptLaws.{both_true}
+use Rattle.plant_model.proofs.ServiceLaws.{both_true}
 use Rattle.plant_model.specs.Grants.{is_before, said_of_pair}
 use Rattle.plant_model.specs.Histories.{latest}
 use Rattle.plant_model.specs.Laws.{WithoutEndsStandingIsHolding, has_no_end}

@@ -5,17 +5,19 @@ use Rattle.std.specs.Ordering.{eq_by_cmp}
 use Rattle.std.specs.Prelude.{Bool, List, None, Option, Some, [], false, option_and_then, option_map, true, unwrap_or, ℕ, ◌++◌, ◌||◌, ◌∷◌, ◌≡◌, ◌⊎◌}
 use Rattle.std.specs.declared.cmp.Ordering.{Ordering}
 use Rattle.plant_model.specs.declared.call.Call.{Call}
-use Rattle.plant_model.specs.declared.call.Request.{Request}
 use Rattle.plant_model.specs.declared.call.Request.TheVariants.{Grant, OneShotShelve, OpenUnit, Register, TimedShelve, Unshelve, Withdraw}
+use Rattle.plant_model.specs.declared.call.Request.{Request}
 use Rattle.plant_model.specs.declared.rows.AlarmRow.{AlarmRow}
 use Rattle.plant_model.specs.declared.rows.ShelfRow.{ShelfRow}
 use Rattle.plant_types.specs.declared.role.Role.TheVariants.{Steward}
+use Rattle.plant_model.proofs.PutLaws.{said}
 use Rattle.plant_model.specs.Alarms.{latching, limit, said_of_latching}
 use Rattle.plant_model.specs.Grants.{said_of_pair, standing}
 use Rattle.plant_model.specs.Histories.{all_named, latest}
 use Rattle.plant_model.specs.Parts.{none, nothing}
 use Rattle.plant_model.specs.RowFacts.{alarm_tag, pair_of, shelf_tag}
 use Rattle.plant_model.specs.Rows.{alarm_as, alarm_row, grant_as, grant_row, pairs_named, tags_registered, tags_shelved}
+use Rattle.plant_model.specs.Service.{outage}
 use Rattle.plant_model.specs.Shelves.{said_of_shelf, shelf}
 use Rattle.plant_types.proofs.Orders.{name_total, pair_total, same_names, same_pairs}
 use Rattle.plant_types.proofs.TableLaws.{Tells}
@@ -116,7 +118,7 @@ abbrev pub tags_of_alarms : List Call → List Name
 tags_of_alarms h = all_named (λ c before. tags_registered c.request) h
 
 abbrev pub alarm_of : List Call → Name → Bool → AlarmRow
-alarm_of h a = alarm_as a (unwrap_or (limit h a) 0)
+alarm_of h a = alarm_as a (unwrap_or (limit h a) 0) (outage h a)
 
 pub alarms_told : (h : List Call) → Tells name_cmp alarm_tag (alarm_row h) (tags_of_alarms h)
 alarms_told h =

@@ -5,6 +5,7 @@ pub mod FactLaws
 pub mod HeldLaws
 pub mod MatrixLaws
 pub mod ChangeLaws
+pub mod ServiceLaws
 pub mod AcceptLaws
 pub mod PartLaws
 pub mod WorldLaws
@@ -15,6 +16,7 @@ pub mod QuotaLaws
 pub mod Base
 mod WorkedShelves
 mod WorkedGrants
+mod WorkedService
 mod WorkedWorld
 mod WorkedQuota
 mod WorkedRows

@@ -1,22 +1,24 @@
 -- The part that a call looks at gives the verdict, the reply and the changes of all rows.
 use Rattle.std.proofs.Common.{ap, refl, sym, ◌∙◌}
+use Rattle.std.specs.Option.{option_to_list}
 use Rattle.std.specs.Ordering.{eq_by_cmp, is_eq, nat_cmp}
-use Rattle.std.specs.Prelude.{Bool, List, None, Option, Some, [], cond, false, filter, is_none, is_some, length, max, nat_le, nat_lt, not, option_and_then, option_map, true, unwrap_or, ℕ, ◌++◌, ◌+◌, ◌||◌, ◌∷◌, ◌≡◌}
+use Rattle.std.specs.Prelude.{Bool, List, None, Option, Some, [], cond, false, filter, is_none, is_some, length, map, max, nat_le, nat_lt, not, option_and_then, option_map, true, unwrap_or, ℕ, ◌++◌, ◌+◌, ◌||◌, ◌∷◌, ◌≡◌}
 use Rattle.std.specs.declared.cmp.Ordering.{Ordering}
 use Rattle.plant_alarm.specs.declared.shelf.ShelfState.{ShelfState}
 use Rattle.plant_model.specs.declared.call.Call.{Call}
+use Rattle.plant_model.specs.declared.call.Request.TheVariants.{Alarms, Grant, MyShelves, MyUnits, OneShotShelve, OpenUnit, PlaceInService, Register, RemoveFromService, Shelves, Standing, Status, TimedShelve, Unshelve, Withdraw}
 use Rattle.plant_model.specs.declared.call.Request.{Request}
-use Rattle.plant_model.specs.declared.call.Request.TheVariants.{Grant, MyUnits, OneShotShelve, OpenUnit, Register, Shelves, Status, TimedShelve, Unshelve, Withdraw}
 use Rattle.plant_model.specs.declared.reply.Full.TheVariants.{Alarms as TooManyAlarms}
-use Rattle.plant_model.specs.declared.reply.Refused.TheVariants.{AlarmTaken, AlarmUnknown, ConditionNotShelved, MomentBehind, NotGranted, RoleLacking, UnitFull}
+use Rattle.plant_model.specs.declared.reply.Refused.TheVariants.{AlarmTaken, AlarmUnknown, AlreadyOutOfService, ConditionNotShelved, MomentBehind, NotGranted, NotOutOfService, RoleLacking, UnitFull}
 use Rattle.plant_model.specs.declared.rows.AlarmRow.{AlarmRow}
 use Rattle.plant_model.specs.declared.rows.Change.TheVariants.{Put}
+use Rattle.plant_model.specs.declared.rows.Change.{Change}
 use Rattle.plant_model.specs.declared.rows.GrantRow.{GrantRow}
-use Rattle.plant_model.specs.declared.rows.Row.TheVariants.{Shelf as ShelfPut, Unit as UnitPut}
+use Rattle.plant_model.specs.declared.rows.Row.TheVariants.{Alarm as AlarmPut, Shelf as ShelfPut, Unit as UnitPut}
 use Rattle.plant_model.specs.declared.rows.ShelfRow.{ShelfRow}
 use Rattle.plant_model.specs.declared.rows.UnitRows.{UnitRows}
-use Rattle.plant_types.specs.declared.role.Role.{Role}
 use Rattle.plant_types.specs.declared.role.Role.TheVariants.{Approver, Engineer, Maintainer, Operator, Steward, Viewer}
+use Rattle.plant_types.specs.declared.role.Role.{Role}
 use Rattle.plant_alarm.specs.Shelves.{is_unshelved, shelf_state}
 use Rattle.plant_model.proofs.FactLaws.{not_true}
 use Rattle.plant_model.specs.Facts.{Facts, limit_of}
@@ -24,7 +26,7 @@ use Rattle.plant_model.specs.Grants.{is_before}
 use Rattle.plant_model.specs.Parts.{Selection, part_of, selected}
 use Rattle.plant_model.specs.Refusals.{first_refusal, holds_some, lacks_role, own_refusals, role_needed}
 use Rattle.plant_model.specs.Replies.{reply, status_reply}
-use Rattle.plant_model.specs.RowChanges.{changes_for}
+use Rattle.plant_model.specs.RowChanges.{changes_for, placed_in, taken_out}
 use Rattle.plant_model.specs.RowFacts.{alarm_tag, facts_from, facts_in, facts_of, pair_of, shelf_tag, unit_read}
 use Rattle.plant_model.specs.Shelves.{shelf, shelf_left, shelf_row_as}
 use Rattle.plant_model.specs.Verdicts.{refused_or, verdict_of}
@@ -96,6 +98,9 @@ module _ (rows : UnitRows) (p : Name) (t : ℕ) where
   abbrev state_now : Option AlarmRow → Option ShelfRow → ShelfState
   state_now alarm shelf = shelf_state (shelf_left shelf) (option_and_then (λ r. r.return_s) alarm) t
 
+  abbrev removed : Option AlarmRow → Bool
+  removed o = unwrap_or (option_map (λ r. is_some r.out_s) o) false
+
   -- the facts of these grants, or of these alarms and shelves, among the rows
   abbrev with_grants : List GrantRow → Facts
   with_grants grants = facts_from (record rows { grants = grants }) 0
@@ -111,9 +116,14 @@ module _ (rows : UnitRows) (p : Name) (t : ℕ) where
   own_same (TimedShelve u a d w) = λ i. own_refusals (with_shelves (filter-true rows.alarms i) (filter-true rows.shelves i)) t (TimedShelve u a d w)
   own_same (OneShotShelve u a w) = λ i. own_refusals (with_shelves (filter-true rows.alarms i) (filter-true rows.shelves i)) t (OneShotShelve u a w)
   own_same (Unshelve u a) = λ i. (is_none (alarm_there a i), AlarmUnknown) ∷ (is_unshelved (state_now (alarm_there a i) (shelf_there a i)), ConditionNotShelved) ∷ []
+  own_same (RemoveFromService u a w) = ap (λ o. (is_none o, AlarmUnknown) ∷ (removed o, AlreadyOutOfService) ∷ []) (alarm_there a)
+  own_same (PlaceInService u a) = ap (λ o. (is_none o, AlarmUnknown) ∷ (not (removed o), NotOutOfService) ∷ []) (alarm_there a)
   own_same (Status u a) = ap (λ o. (is_none o, AlarmUnknown) ∷ []) (alarm_there a)
   own_same (Shelves u) = refl
+  own_same (Alarms u) = refl
+  own_same (Standing u) = refl
   own_same MyUnits = refl
+  own_same MyShelves = refl
 
   reply_same : (q : Request) → reply (of_part q) t q ≡ reply (facts_of rows) t q
   reply_same (OpenUnit u s m k) = refl
@@ -123,9 +133,14 @@ module _ (rows : UnitRows) (p : Name) (t : ℕ) where
   reply_same (TimedShelve u a d w) = refl
   reply_same (OneShotShelve u a w) = refl
   reply_same (Unshelve u a) = refl
+  reply_same (RemoveFromService u a w) = refl
+  reply_same (PlaceInService u a) = refl
   reply_same (Status u a) = λ i. status_reply (alarm_there a i) (state_now (alarm_there a i) (shelf_there a i))
   reply_same (Shelves u) = λ i. reply (with_shelves (filter-true rows.alarms i) (filter-true rows.shelves i)) t (Shelves u)
+  reply_same (Alarms u) = λ i. reply (with_shelves (filter-true rows.alarms i) (filter-true rows.shelves i)) t (Alarms u)
+  reply_same (Standing u) = λ i. reply (with_shelves (filter-true rows.alarms i) (filter-true rows.shelves i)) t (Standing u)
   reply_same MyUnits = refl
+  reply_same MyShelves = refl
 
   -- the verdict from the part is the verdict from all rows
   pub part_verdict : (q : Request) → verdict_of (of_part q) (asked q) ≡ verdict_of (facts_of rows) (asked q)
@@ -134,6 +149,9 @@ module _ (rows : UnitRows) (p : Name) (t : ℕ) where
 
   limit_same : (a : Name) → limit_of (with_shelves (filter (λ (r : AlarmRow). true) rows.alarms) (filter (λ (r : ShelfRow). true) rows.shelves)) a ≡ limit_of (facts_of rows) a
   limit_same a = λ i. limit_of (with_shelves (filter-true rows.alarms i) (filter-true rows.shelves i)) a
+
+  abbrev alarm_changed : (AlarmRow → AlarmRow) → Option AlarmRow → List Change
+  alarm_changed g o = Put (UnitPut (record (unit_read rows) { last_s = t })) ∷ map (λ r. Put (AlarmPut (g r))) (option_to_list o)
 
   -- and so are the changes
   pub part_changes : (q : Request) → changes_for (of_part q) (asked q) ≡ changes_for (facts_of rows) (asked q)
@@ -144,6 +162,11 @@ module _ (rows : UnitRows) (p : Name) (t : ℕ) where
   part_changes (TimedShelve u a d w) = refl
   part_changes (OneShotShelve u a w) = ap (λ max. Put (UnitPut (record (unit_read rows) { last_s = t })) ∷ Put (ShelfPut (shelf_row_as true t (t + max) p w a)) ∷ []) (limit_same a)
   part_changes (Unshelve u a) = refl
+  part_changes (RemoveFromService u a w) = ap (alarm_changed (taken_out p t w)) (alarm_there a)
+  part_changes (PlaceInService u a) = ap (alarm_changed placed_in) (alarm_there a)
   part_changes (Status u a) = refl
   part_changes (Shelves u) = refl
+  part_changes (Alarms u) = refl
+  part_changes (Standing u) = refl
   part_changes MyUnits = refl
+  part_changes MyShelves = refl

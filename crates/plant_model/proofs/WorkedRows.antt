@@ -2,10 +2,10 @@
 use Rattle.std.proofs.Common.{refl}
 use Rattle.std.specs.Prelude.{List, Some, [], codes, true, ◌∷◌, ◌≡◌}
 use Rattle.plant_model.specs.declared.call.Call.{Call}
-use Rattle.plant_model.specs.declared.call.Request.TheVariants.{Grant, OneShotShelve, OpenUnit, Register, TimedShelve, Unshelve, Withdraw}
+use Rattle.plant_model.specs.declared.call.Request.TheVariants.{Grant, OneShotShelve, OpenUnit, PlaceInService, Register, RemoveFromService, TimedShelve, Unshelve, Withdraw}
 use Rattle.plant_ration.specs.declared.cell.Cell.TheVariants.{P1, P2, P3, P4}
 use Rattle.plant_types.specs.declared.role.Role.TheVariants.{Viewer}
-use Rattle.plant_model.proofs.Base.{amy, ann, at, base, bob, call, eve, grid, lt, opened, pt, root, ste, u1, vic, x}
+use Rattle.plant_model.proofs.Base.{amy, ann, at, base, bob, call, eve, grid, lt, moe, opened, pt, root, ste, u1, vic, x}
 use Rattle.plant_model.specs.Facts.{facts}
 use Rattle.plant_model.specs.Parts.{part_of}
 use Rattle.plant_model.specs.Refusals.{holds_some}
@@ -37,6 +37,10 @@ registered = (refl, refl)
 shelved_rows : IsByPart rich (call ann (at 10 0 0) (TimedShelve u1 lt 60 x)) × IsByPart rich (call ann (at 10 0 0) (OneShotShelve u1 pt x)) × IsByPart rich (call ann (at 10 0 0) (Unshelve u1 lt))
 unfolding holds_some
 shelved_rows = ((refl, refl), (refl, refl), (refl, refl))
+
+service_rows : IsByPart rich (call moe (at 10 0 0) (RemoveFromService u1 pt x)) × IsByPart (call moe (at 9 40 0) (RemoveFromService u1 lt x) ∷ rich) (call moe (at 10 0 0) (PlaceInService u1 lt))
+unfolding holds_some
+service_rows = ((refl, refl), (refl, refl))
 
 -- the rows of the opening's matrix
 matrix_rows : (rows_of opened).cells ≡

@@ -1,0 +1,74 @@
+-- Worked examples: out of service, and the list of alarms.
+use Rattle.std.proofs.Common.{refl, ◌≡◌}
+use Rattle.std.specs.Prelude.{List, None, Ok, Some, [], codes, false, true, ◌∷◌}
+use Rattle.plant_alarm.specs.declared.shelf.ShelfState.TheVariants.{TimedShelved, Unshelved}
+use Rattle.plant_alarm.specs.declared.summary.AlarmState.TheVariants.{Normal}
+use Rattle.plant_model.specs.declared.call.Call.{Call}
+use Rattle.plant_model.specs.declared.call.Request.TheVariants.{Alarms, PlaceInService, RemoveFromService, Standing, TimedShelve}
+use Rattle.plant_model.specs.declared.reply.Refused.TheVariants.{AlarmUnknown, AlreadyOutOfService, NotOutOfService, RoleLacking}
+use Rattle.plant_model.specs.declared.reply.Reply.TheVariants.{Alarms as AlarmsOf, Standing as StandingOf, Status as StatusOf}
+use Rattle.plant_types.specs.declared.role.Role.TheVariants.{Maintainer}
+use Rattle.plant_model.proofs.Base.{IsAnswered, IsDone, ann, at, base, call, lt, moe, pt, status, u1, vic, x}
+use Rattle.plant_model.specs.Alarms.{latching}
+use Rattle.plant_model.specs.Refusals.{holds_some}
+use Rattle.plant_model.specs.Rows.{alarm_row}
+use Rattle.plant_model.specs.Verdicts.{verdict}
+
+-- removed from service
+abbrev removed : List Call
+removed = call moe (at 10 0 0) (RemoveFromService u1 pt (codes "valve")) ∷ base
+
+removing : IsDone base (call moe (at 10 0 0) (RemoveFromService u1 pt (codes "valve")))
+unfolding holds_some
+removing = refl
+
+removing_by_operator : IsAnswered base (call ann (at 10 0 0) (RemoveFromService u1 pt (codes "valve"))) (RoleLacking Maintainer)
+unfolding holds_some
+removing_by_operator = refl
+
+removing_none : IsAnswered base (call moe (at 10 0 0) (RemoveFromService u1 x (codes "valve"))) AlarmUnknown
+unfolding holds_some
+removing_none = refl
+
+removed_status : status removed (at 10 0 0) ≡ Ok (StatusOf (record { tag = pt; limit = 3600; limit_revision = 0; state = Normal; shelf = Unshelved; suppressed = false; out_of_service = true; suppressed_or_shelved = true }))
+unfolding holds_some
+removed_status = refl
+
+removed_again : IsAnswered removed (call moe (at 10 0 0) (RemoveFromService u1 pt (codes "valve"))) AlreadyOutOfService
+unfolding holds_some
+removed_again = refl
+
+-- it can be shelved while it is out of service, and the three kinds of suppression stay apart
+abbrev shelved_too : List Call
+shelved_too = call ann (at 10 0 0) (TimedShelve u1 pt 60 x) ∷ removed
+
+shelving_out_of_service : IsDone removed (call ann (at 10 0 0) (TimedShelve u1 pt 60 x))
+unfolding holds_some
+shelving_out_of_service = refl
+
+alarm_list : verdict shelved_too (call vic (at 10 0 0) (Alarms u1)) ≡ Ok (AlarmsOf u1 (at 10 0 0)
+    (record { tag = lt; state = Normal; priority = None; shelved = false; by_design = false; out_of_service = false; limit = 86400 }
+    ∷ record { tag = pt; state = Normal; priority = None; shelved = true; by_design = false; out_of_service = true; limit = 3600 } ∷ []))
+unfolding holds_some
+alarm_list = refl
+
+-- no event was brought, so no alarm is active
+standing_list : verdict shelved_too (call vic (at 10 0 0) (Standing u1)) ≡ Ok (StandingOf u1 (at 10 0 0) [])
+unfolding holds_some
+standing_list = refl
+
+-- placed in service again
+abbrev placed : List Call
+placed = call moe (at 10 0 0) (PlaceInService u1 pt) ∷ shelved_too
+
+placing : IsDone shelved_too (call moe (at 10 0 0) (PlaceInService u1 pt)) × IsAnswered placed (call moe (at 10 0 0) (PlaceInService u1 pt)) NotOutOfService
+unfolding holds_some
+placing = (refl, refl)
+
+placed_status : status placed (at 10 0 30) ≡ Ok (StatusOf (record { tag = pt; limit = 3600; limit_revision = 0; state = Normal; shelf = TimedShelved 30; suppressed = false; out_of_service = false; suppressed_or_shelved = true }))
+unfolding holds_some
+placed_status = refl
+
+-- the row of an alarm that is out of service tells since when, by whom and why
+removed_row : alarm_row removed pt ≡ Some (record { tag = pt; latching = false; max_s = 3600; max_rev = 0; state_no = Normal; suppressed = false; active_s = None; return_s = None; out_s = Some (at 10 0 0); out_by = Some moe; out_words = Some (codes "valve") })
+removed_row = refl
