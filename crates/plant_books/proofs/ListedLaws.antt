@@ -1,25 +1,26 @@
 -- Books in a list of units: what is found there, and what is there after a put.
-use Rattle.std.proofs.Common.{◌≡◌, List, [], ◌∷◌, Some, Bool, true, false, T, cond, refl, sym, ap, subst, ◌∙◌, map, length, arith}
-use Rattle.std.specs.FinMap.{entries, entries_sorted, entries-insert, get, get-entries, keys, len-empty, len-entries}
-use Rattle.std.specs.FinMap.Entries.{below_all, by_order, find as found, is_sorted, put}
-use Rattle.std.specs.List.{cons_option}
-use Rattle.std.specs.Ordering.{eq_by_cmp, is_eq, is_lt, ordering_reverse}
+use Rattle.std.proofs.Common.{Bool, List, Some, T, [], ap, arith, cond, false, length, map, refl, subst, sym, true, ◌++◌, ◌∙◌, ◌∷◌, ◌≡◌}
 use Rattle.std.specs.Cmp.{tied_itself}
-use Rattle.std.specs.Prelude.{◌&&◌, Err, Ok, OnOk, Option, Result, filter_map, option_map, unwrap_or}
-use Rattle.std.specs.declared.cmp.Ordering.TheVariants.{Less, Equal, Greater}
+use Rattle.std.specs.FinMap.Entries.{below_all, by_order, find as found, is_sorted, put}
+use Rattle.std.specs.FinMap.{entries, entries-insert, entries_sorted, get, get-entries, keys, len-empty, len-entries}
+use Rattle.std.specs.List.{cons_option, flat_map}
+use Rattle.std.specs.Ordering.{eq_by_cmp, is_eq, is_lt, ordering_reverse}
+use Rattle.std.specs.Prelude.{Err, Ok, OnOk, Option, Result, filter_map, option_map, unwrap_or, ◌&&◌}
+use Rattle.std.specs.declared.cmp.Ordering.TheVariants.{Equal, Greater, Less}
 use Rattle.plant_books.specs.declared.opened.OpenedUnit.{OpenedUnit}
-use Rattle.plant_books.specs.Contents.{Content, after_changes, no_units, part_in, rows_in, with_rows}
-use Rattle.plant_books.specs.Listed.{IsListed, rows_at, unit_cmp}
 use Rattle.plant_model.specs.declared.call.Call.{Call}
 use Rattle.plant_model.specs.declared.rows.Change.{Change}
 use Rattle.plant_model.specs.declared.rows.UnitRows.{UnitRows}
+use Rattle.plant_types.specs.declared.fault.Fault.{Fault}
+use Rattle.plant_books.specs.Contents.{Content, after_changes, no_units, part_in, rows_in, with_rows}
+use Rattle.plant_books.specs.Listed.{IsListed, rows_at, unit_cmp}
+use Rattle.plant_model.proofs.Base.{lt}
 use Rattle.plant_model.specs.Parts.{part_of}
 use Rattle.plant_model.specs.RowChanges.{changed_by, no_rows}
 use Rattle.plant_model.specs.Worlds.{unit_named}
-use Rattle.plant_types.specs.declared.fault.Fault.{Fault}
+use Rattle.plant_types.proofs.Orders.{name_total, same_names}
 use Rattle.plant_types.specs.Names.{Name, name_cmp}
 use Rattle.plant_types.specs.Tables.{put_row, row_at}
-use Rattle.plant_types.proofs.Orders.{name_total, same_names}
 
 abbrev entry : OpenedUnit → Name × UnitRows
 entry o = (o.unit, o.rows)
@@ -110,6 +111,21 @@ told_listed f admin opened m h =
     let lookup : ◌≡◌ {A = Name → Option UnitRows} (λ q. found name_cmp q (entries m.units)) (get m.units) = λ i q. sym (get-entries m.units q) i in
     sym (told_entries f opened) ∙ ap (filter_map (λ e. f e.0 (Some e.1))) h.units
     ∙ sym (told_found f (get m.units) (entries m.units) (subst (λ g. AreFound g (entries m.units)) lookup (are_found (entries m.units) (entries_sorted m.units))))
+
+-- the same for what is told in lists
+all_found : {A : Type 0} (f : Name → Option UnitRows → List A) (g : Name → Option UnitRows) (es : List (Name × UnitRows)) → AreFound g es → flat_map (λ u. f u (g u)) (map (λ e. e.0) es) ≡ flat_map (λ e. f e.0 (Some e.1)) es
+all_found f g [] a = refl
+all_found f g (e ∷ es) a = λ i. f e.0 (a.0 i) ++ all_found f g es a.1 i
+
+all_entries : {A : Type 0} (f : Name → Option UnitRows → List A) (opened : List OpenedUnit) → flat_map (λ e. f e.0 (Some e.1)) (map entry opened) ≡ flat_map (λ o. f o.unit (Some o.rows)) opened
+all_entries f [] = refl
+all_entries f (o ∷ os) = ap (λ xs. f o.unit (Some o.rows) ++ xs) (all_entries f os)
+
+pub all_listed : {A : Type 0} (f : Name → Option UnitRows → List A) (admin : Name) (opened : List OpenedUnit) (m : Content) → IsListed admin opened m → flat_map (λ o. f o.unit (Some o.rows)) opened ≡ flat_map (λ u. f u (get m.units u)) (keys m.units)
+all_listed f admin opened m h =
+    let lookup : ◌≡◌ {A = Name → Option UnitRows} (λ q. found name_cmp q (entries m.units)) (get m.units) = λ i q. sym (get-entries m.units q) i in
+    sym (all_entries f opened) ∙ ap (flat_map (λ e. f e.0 (Some e.1))) h.units
+    ∙ sym (all_found f (get m.units) (entries m.units) (subst (λ g. AreFound g (entries m.units)) lookup (are_found (entries m.units) (entries_sorted m.units))))
 
 -- what the keeper answers and leaves, said of the content
 pub part_listed : (admin u v : Name) (opened : List OpenedUnit) (m : Content) (c : Call) → IsListed admin opened m → Some v ≡ unit_named c.request → unit_named c.request ≡ Some u → option_map (part_of c) (rows_at opened v) ≡ part_in m c u

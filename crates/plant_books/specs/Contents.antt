@@ -1,20 +1,24 @@
 -- What books contain: the administrator's name, and the rows of each opened unit.
 use Rattle.std.specs.FinMap.{FinMap, contains_key, empty, get, insert, keys}
-use Rattle.std.specs.List.{list_any}
-use Rattle.std.specs.Prelude.{Bool, List, None, Option, Some, false, filter, filter_map, if◌then◌else◌, map, option_map, true, unwrap_or, ℕ, ◌≡◌, ◌⊎◌}
+use Rattle.std.specs.List.{flat_map, list_any}
+use Rattle.std.specs.Prelude.{Bool, List, None, Option, Some, [], false, filter, filter_map, if◌then◌else◌, map, option_and_then, option_map, true, unwrap_or, ℕ, ◌≡◌, ◌⊎◌}
+use Rattle.plant_books.specs.declared.books.MineShelf.{MineShelf}
 use Rattle.plant_books.specs.declared.books.MineUnit.{MineUnit}
 use Rattle.plant_model.specs.declared.call.Call.{Call}
+use Rattle.plant_model.specs.declared.rows.AlarmRow.{AlarmRow}
 use Rattle.plant_model.specs.declared.rows.Change.{Change}
 use Rattle.plant_model.specs.declared.rows.GrantRow.{GrantRow}
+use Rattle.plant_model.specs.declared.rows.ShelfRow.{ShelfRow}
 use Rattle.plant_model.specs.declared.rows.UnitPart.{UnitPart}
 use Rattle.plant_model.specs.declared.rows.UnitRows.{UnitRows}
 use Rattle.plant_types.specs.declared.role.Role.{Role}
 use Rattle.plant_model.specs.Grants.{is_before}
 use Rattle.plant_model.specs.Parts.{part_of}
 use Rattle.plant_model.specs.RowChanges.{changed_by, no_rows, puts_unit}
-use Rattle.plant_model.specs.RowFacts.{unit_read}
+use Rattle.plant_model.specs.RowFacts.{alarm_tag, unit_read}
 use Rattle.plant_types.specs.Names.{Name, name_cmp, same_name}
 use Rattle.plant_types.specs.Options.{when}
+use Rattle.plant_types.specs.Tables.{row_at}
 
 pub record Content : Type 0 where
   pub admin : Name
@@ -66,6 +70,22 @@ mine_unit t p u (Some rows) = when (is_held_in t p (Some rows)) (mine_as t p u r
 -- the units in which the person holds a role at the moment, rising
 abbrev pub mine_units : Content → ℕ → Name → List MineUnit
 mine_units m t p = filter_map (λ u. mine_unit t p u (get m.units u)) (keys m.units)
+
+-- when the alarm of a tag last returned to normal
+abbrev pub last_return : List AlarmRow → Name → Option ℕ
+last_return alarms a = option_and_then (λ r. r.return_s) (row_at name_cmp alarm_tag a alarms)
+
+abbrev pub mine_shelf : Name → UnitRows → ShelfRow → MineShelf
+mine_shelf u rows s = record { unit = u; shelf = s; last_return = last_return rows.alarms s.tag }
+
+-- the shelves of a unit in which the person holds a role at the moment
+abbrev pub shelves_mine : ℕ → Name → Name → Option UnitRows → List MineShelf
+shelves_mine t p u None = []
+shelves_mine t p u (Some rows) = if is_held_in t p (Some rows) then map (mine_shelf u rows) rows.shelves else []
+
+-- the shelves of all units in which the person holds a role at the moment, by unit and tag, each once
+abbrev pub mine_shelves : Content → ℕ → Name → List MineShelf
+mine_shelves m t p = flat_map (λ u. shelves_mine t p u (get m.units u)) (keys m.units)
 
 -- the part of a unit's rows that a call looks at, none where the code was never opened
 abbrev pub part_in : Content → Call → Name → Option UnitPart

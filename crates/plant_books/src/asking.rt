@@ -43,9 +43,13 @@ pub fn unit_of(request: &Request) -> Option<&UnitCode>
         | Request::TimedShelve { unit, .. }
         | Request::OneShotShelve { unit, .. }
         | Request::Unshelve { unit, .. }
+        | Request::RemoveFromService { unit, .. }
+        | Request::PlaceInService { unit, .. }
         | Request::Status { unit, .. }
-        | Request::Shelves { unit } => Some(unit),
-        Request::MyUnits => None,
+        | Request::Shelves { unit }
+        | Request::Alarms { unit }
+        | Request::Standing { unit } => Some(unit),
+        Request::MyUnits | Request::MyShelves => None,
     }
 }
 
@@ -63,13 +67,19 @@ pub fn wanted_alarms(request: &Request) -> Wanted<'_>
     match request {
         Request::Register { tag, .. }
         | Request::Unshelve { tag, .. }
+        | Request::RemoveFromService { tag, .. }
+        | Request::PlaceInService { tag, .. }
         | Request::Status { tag, .. } => Wanted::One(tag),
-        Request::TimedShelve { .. } | Request::OneShotShelve { .. } | Request::Shelves { .. } =>
-            Wanted::Every,
+        Request::TimedShelve { .. }
+        | Request::OneShotShelve { .. }
+        | Request::Shelves { .. }
+        | Request::Alarms { .. }
+        | Request::Standing { .. } => Wanted::Every,
         Request::OpenUnit { .. }
         | Request::Grant { .. }
         | Request::Withdraw { .. }
-        | Request::MyUnits => Wanted::Nothing,
+        | Request::MyUnits
+        | Request::MyShelves => Wanted::Nothing,
     }
 }
 

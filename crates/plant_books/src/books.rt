@@ -2,10 +2,10 @@ ghost use Rattle.std.specs.Prelude.{◌≡◌, ℕ, Some, IfOk, OnOk, OnErr};
 ghost use Rattle.std.specs.FinMap as fin;
 ghost use Rattle.plant_types.specs.Names.{Name};
 ghost use Rattle.plant_model.specs.Worlds.{unit_named};
-ghost use Rattle.plant_books.specs.Contents.{Content, IsKnownTo, after_changes, codes_held, mine_units, part_in};
+ghost use Rattle.plant_books.specs.Contents.{Content, IsKnownTo, after_changes, codes_held, mine_shelves, mine_units, part_in};
 ghost use Rattle.plant_books.specs.Counting.{Counts};
 
-use plant_model::{Call, Change, UnitPart, UnitRows};
+use plant_model::{Call, Change, ShelfRow, UnitPart, UnitRows};
 use plant_types::{Fault, Moment, Person, Role, Table, UnitCode};
 
 /// A unit in which a person holds roles, with its last moment.
@@ -14,6 +14,14 @@ pub struct MineUnit {
     pub unit: UnitCode,
     pub roles: Table<Role>,
     pub last: Moment,
+}
+
+/// A shelf of a unit in which a person holds a role, with the moment at which its alarm last returned to normal.
+#[derive(Drop)]
+pub struct MineShelf {
+    pub unit: UnitCode,
+    pub shelf: ShelfRow,
+    pub last_return: Option<Moment>,
 }
 
 /// Where the rows of all units are kept. A fault leaves them as they were.
@@ -62,6 +70,14 @@ pub trait Books {
     /// The units in which the person holds a role at the moment, rising, each once with its roles by number.
     fn mine_units(&mut self, person: &Person, now: Moment) -> Result<Table<MineUnit>, Fault>
         ensures found { (m : Content) → holds self.old m → can_tell self.new → IfOk result (λ units. units ≡ mine_units m now person.now) }
+        ensures same { (m : Content) → holds self.old m → holds self.new m }
+        ensures told { can_tell self.new → can_tell self.old }
+        ensures count { Counts (stores self.old) (stores self.new) result };
+
+    /// Every shelf of the units in which the person holds a role at the moment, by unit and tag, each once. Shelves whose
+    /// time has passed are among them.
+    fn mine_shelves(&mut self, person: &Person, now: Moment) -> Result<Table<MineShelf>, Fault>
+        ensures found { (m : Content) → holds self.old m → can_tell self.new → IfOk result (λ shelves. shelves ≡ mine_shelves m now person.now) }
         ensures same { (m : Content) → holds self.old m → holds self.new m }
         ensures told { can_tell self.new → can_tell self.old }
         ensures count { Counts (stores self.old) (stores self.new) result };

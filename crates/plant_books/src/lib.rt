@@ -12,7 +12,8 @@ mod plain;
 mod rows;
 
 pub use asking::{Wanted, unit_of, wanted_alarms, wanted_shelves, wants_all_grants, wants_count};
-pub use books::{Books, MineUnit};
+pub use books::{Books, MineShelf, MineUnit};
+pub use opened::{alarm_of, last_return};
 pub use plain::Plain;
 
 #[cfg(test)]

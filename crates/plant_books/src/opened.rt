@@ -1,20 +1,22 @@
-ghost use Rattle.std.specs.Prelude.{◌≡◌, IfErr, IfOk, OnErr, OnOk, Some, filter_map, is_some, option_map, unwrap_or};
-ghost use Rattle.plant_books.specs.Contents.{is_held_in, mine_unit};
+ghost use Rattle.std.specs.Prelude.{◌≡◌, IfErr, IfOk, OnErr, OnOk, Some, filter_map, flat_map, is_some, map, option_copied, option_map, unwrap_or, ◌++◌};
+ghost use Rattle.plant_books.specs.Contents as contents;
+ghost use Rattle.plant_books.specs.Contents.{is_held_in, mine_shelf, mine_unit, shelves_mine};
 ghost use Rattle.plant_books.specs.Listed.{rows_at, unit_cmp};
 ghost use Rattle.plant_model.specs.Parts.{part_of as the_part};
 ghost use Rattle.plant_model.specs.RowChanges.{changed_by, no_rows};
-ghost use Rattle.plant_model.specs.RowFacts.{unit_read};
+ghost use Rattle.plant_model.specs.RowFacts.{alarm_tag, unit_read};
 ghost use Rattle.plant_types.specs.Options.{when};
-ghost use Rattle.plant_types.specs.Tables.{put_row};
+ghost use Rattle.plant_types.specs.Names.{name_cmp};
+ghost use Rattle.plant_types.specs.Tables.{put_row, row_at};
 ghost use Rattle.plant_types.specs.declared.fault.Fault.TheVariants.{Memory};
 
-use crate::books::MineUnit;
+use crate::books::{MineShelf, MineUnit};
 use crate::changes::after_changes;
 use crate::grants::{holds_role, roles_held};
 use crate::keyed::{Keyed, put};
 use crate::parts::part_of;
-use plant_model::{Call, Change, UnitPart, UnitRows};
-use plant_types::{Duplicate, Fault, Moment, Person, Table, UnitCode};
+use plant_model::{AlarmRow, Call, Change, UnitPart, UnitRows};
+use plant_types::{Duplicate, Fault, Moment, Person, Table, Tag, UnitCode};
 use std::alloc::Global;
 use std::cmp::Ordering;
 
@@ -131,6 +133,62 @@ pub fn units_held(
                 roles: roles_held(alloc, &opened.rows, person, now)?,
                 last: last_moment(&opened.rows),
             })?;
+        }
+    }
+    Ok(mine)
+}
+
+/// The alarm of the tag.
+pub fn alarm_of<'a>(alarms: &'a [AlarmRow], tag: &Tag) -> Option<&'a AlarmRow>
+    ensures { option_copied result ≡ row_at name_cmp alarm_tag tag.now alarms.now }
+{
+    alarms.iter().find(|row| *tag == row.tag)
+}
+
+/// When the alarm of the tag last returned to normal.
+pub fn last_return(alarms: &[AlarmRow], tag: &Tag) -> Option<Moment>
+    ensures { result ≡ contents.last_return alarms.now tag.now }
+{
+    match alarm_of(alarms, tag) {
+        Some(alarm) => alarm.return_s,
+        None => None,
+    }
+}
+
+/// Puts the unit's shelves at the end.
+fn push_shelves(
+    alloc: Global,
+    mine: &mut Table<MineShelf>,
+    opened: &OpenedUnit,
+) -> Result<(), Fault>
+    ensures pushed { OnOk result (mine.new ≡ mine.old ++ map (mine_shelf opened.now.unit opened.now.rows) opened.now.rows.shelves) }
+    ensures memory { IfErr result (λ e. e ≡ Memory) }
+{
+    let alarms = opened.rows.alarms.as_slice();
+    for shelf in opened.rows.shelves.as_slice() {
+        mine.push(MineShelf {
+            unit: opened.unit.duplicate(alloc)?,
+            shelf: shelf.duplicate(alloc)?,
+            last_return: last_return(alarms, &shelf.tag),
+        })?;
+    }
+    Ok(())
+}
+
+/// The shelves of the units in which the person holds a role at the moment.
+pub fn shelves_held(
+    alloc: Global,
+    units: &Table<OpenedUnit>,
+    person: &Person,
+    now: Moment,
+) -> Result<Table<MineShelf>, Fault>
+    ensures value { IfOk result (λ mine. mine ≡ flat_map (λ o. shelves_mine now person.now o.unit (Some o.rows)) units.now) }
+    ensures memory { IfErr result (λ e. e ≡ Memory) }
+{
+    let mut mine = Table::new(alloc);
+    for opened in units.as_slice() {
+        if holds_role(&opened.rows, person, now) {
+            push_shelves(alloc, &mut mine, opened)?;
         }
     }
     Ok(mine)

@@ -1,6 +1,6 @@
 ghost use Rattle.std.specs.Prelude.{◌≡◌, ◌||◌, IfErr, IfOk, filter};
 ghost use Rattle.plant_books.specs.Asking.{is_wanted};
-ghost use Rattle.plant_model.specs.Parts.{part_of as the_part, selected};
+ghost use Rattle.plant_model.specs.Parts.{counted_for, part_of as the_part, rows_selected, selected};
 ghost use Rattle.plant_model.specs.RowFacts.{pair_of};
 ghost use Rattle.plant_types.specs.Names.{same_name};
 ghost use Rattle.plant_types.specs.declared.fault.Fault.TheVariants.{Memory};
@@ -65,27 +65,40 @@ fn shelves_asked(
     Ok(rows)
 }
 
-/// The part of a unit's rows that the call looks at.
-pub fn part_of(alloc: Global, rows: &UnitRows, call: &Call) -> Result<UnitPart, Fault>
-    ensures value { IfOk result (λ part. part ≡ the_part call.now rows.now) }
+/// The rows that the call looks at.
+fn rows_asked(alloc: Global, rows: &UnitRows, call: &Call) -> Result<UnitRows, Fault>
+    ensures value { IfOk result (λ asked. asked ≡ rows_selected call.now.person (selected call.now.request) rows.now) }
     ensures memory { IfErr result (λ e. e ≡ Memory) }
 {
     let request = &call.request;
-    let rows_asked = UnitRows {
+    Ok(UnitRows {
         units: rows.units.duplicate(alloc)?,
         grants: grants_asked(alloc, &rows.grants, call)?,
         alarms: alarms_asked(alloc, &rows.alarms, &wanted_alarms(request))?,
         shelves: shelves_asked(alloc, &rows.shelves, &wanted_shelves(request))?,
         bands: Table::new(alloc),
         cells: Table::new(alloc),
-    };
-    let count = if wants_count(request) {
+    })
+}
+
+/// How many alarms there are, for the call that needs the number.
+fn count_asked(rows: &UnitRows, call: &Call) -> u64
+    ensures { result ≡ counted_for rows.now call.now.request }
+{
+    if wants_count(&call.request) {
         rows.alarms.len() as u64
     } else {
         0
-    };
+    }
+}
+
+/// The part of a unit's rows that the call looks at.
+pub fn part_of(alloc: Global, rows: &UnitRows, call: &Call) -> Result<UnitPart, Fault>
+    ensures value { IfOk result (λ part. part ≡ the_part call.now rows.now) }
+    ensures memory { IfErr result (λ e. e ≡ Memory) }
+{
     Ok(UnitPart {
-        rows: rows_asked,
-        count,
+        rows: rows_asked(alloc, rows, call)?,
+        count: count_asked(rows, call),
     })
 }

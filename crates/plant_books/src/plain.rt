@@ -3,8 +3,10 @@ ghost use Rattle.plant_books.specs.Contents.{no_units};
 ghost use Rattle.plant_books.specs.Listed.{IsListed};
 
 use crate::asking::unit_of;
-use crate::books::{Books, MineUnit};
-use crate::opened::{OpenedUnit, change_unit, codes_held, copy_of, is_opened, part_at, units_held};
+use crate::books::{Books, MineShelf, MineUnit};
+use crate::opened::{
+    OpenedUnit, change_unit, codes_held, copy_of, is_opened, part_at, shelves_held, units_held,
+};
 use plant_model::{Call, Change, UnitPart, UnitRows};
 use plant_types::{Fault, Moment, Person, Table, UnitCode};
 use std::alloc::Global;
@@ -63,6 +65,10 @@ impl Books for Plain {
 
     fn mine_units(&mut self, person: &Person, now: Moment) -> Result<Table<MineUnit>, Fault> {
         units_held(self.alloc, &self.units, person, now)
+    }
+
+    fn mine_shelves(&mut self, person: &Person, now: Moment) -> Result<Table<MineShelf>, Fault> {
+        shelves_held(self.alloc, &self.units, person, now)
     }
 
     fn apply(&mut self, unit: &UnitCode, changes: &Table<Change>) -> Result<(), Fault> {
