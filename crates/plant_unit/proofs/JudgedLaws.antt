@@ -3,26 +3,29 @@ use Rattle.std.proofs.Common.{ap, refl, subst, sym, ◌∙◌}
 use Rattle.std.specs.List.{slice_get}
 use Rattle.std.specs.Prelude.{Bool, Err, IfOk, List, None, Ok, Option, Result, Some, [], false, if◌then◌else◌, true, ℕ, ◌∷◌, ◌≡◌}
 use Rattle.plant_model.specs.declared.call.Call.{Call}
-use Rattle.plant_model.specs.declared.call.Request.{Request}
 use Rattle.plant_model.specs.declared.call.Request.TheVariants.{OpenUnit}
+use Rattle.plant_model.specs.declared.call.Request.{Request}
 use Rattle.plant_model.specs.declared.reply.Refused.TheVariants.{NotGranted}
 use Rattle.plant_model.specs.declared.reply.Reply.TheVariants.{Done}
 use Rattle.plant_model.specs.declared.rows.Change.{Change}
 use Rattle.plant_model.specs.declared.rows.UnitPart.{UnitPart}
-use Rattle.plant_model.specs.declared.rows.Verdict.{Verdict}
 use Rattle.plant_model.specs.declared.rows.Verdict.TheVariants.{Accepted as IsAccepted, Refused as IsRefused}
+use Rattle.plant_model.specs.declared.rows.Verdict.{Verdict}
 use Rattle.plant_types.specs.declared.fault.Fault.{Fault}
 use Rattle.plant_model.proofs.AcceptLaws.{accepted_turns}
 use Rattle.plant_model.proofs.ChangeLaws.{opening_turns}
 use Rattle.plant_model.proofs.FactLaws.{facts-rows, not_true}
 use Rattle.plant_model.proofs.PartLaws.{part_changes, part_verdict}
+use Rattle.plant_model.proofs.PutLaws.{puts}
 use Rattle.plant_model.proofs.WorldLaws.{not_granted, refused_changes}
 use Rattle.plant_model.specs.Facts.{facts}
+use Rattle.plant_model.specs.Legality.{IsLegal}
 use Rattle.plant_model.specs.Parts.{none, part_of}
 use Rattle.plant_model.specs.RowChanges.{changed_by, changes_for, no_rows, puts_unit}
 use Rattle.plant_model.specs.RowFacts.{facts_in}
 use Rattle.plant_model.specs.Rows.{rows_of, unit_row}
 use Rattle.plant_model.specs.Verdicts.{changes_history, is_opening, verdict, verdict_of}
+use Rattle.plant_model.specs.Worlds.{answer}
 use Rattle.plant_types.specs.Names.{Name}
 use Rattle.plant_unit.specs.Judged.{IsJudged, IsOpening, IsPartOf, IsVerdictOn}
 
@@ -38,11 +41,11 @@ none_if : (cs : List Change) (b : Bool) → b ≡ false → (if b then cs else [
 none_if cs true e = cc
 none_if cs false e = refl
 
-judged : (h : List Call) (c : Call) (v : Verdict) → is_opening c.request ≡ false → IsJudged (facts h) c v → IsVerdictOn h c v
-judged h c v plain j =
+judged : (h : List Call) → IsLegal h → (c : Call) (v : Verdict) → is_opening c.request ≡ false → IsJudged (facts h) c v → IsVerdictOn h c v
+judged h legal c v plain j =
     record {
       answer = j.answer;
-      changes = ap (λ cs. changed_by cs (rows_of h)) j.changes ∙ changed_if h c (changes_history (verdict h c) c) (accepted_turns h c.person c.moment c.request plain);
+      changes = ap (λ cs. changed_by cs (rows_of h)) j.changes ∙ changed_if h c (changes_history (verdict h c) c) (accepted_turns h c.person c.moment legal c.request plain);
       none = λ e. j.changes ∙ none_if (changes_for (facts h) c) (changes_history (verdict h c) c) e;
       puts = λ e. ap puts_unit j.changes ∙ puts_if h c (changes_history (verdict h c) c) e;
     }
@@ -74,8 +77,9 @@ judged_none h c o none left = subst (λ k. IsVerdictOn k c (IsRefused NotGranted
 
 pub judged_some : (h : List Call) (part : UnitPart) (c : Call) (o : Option UnitPart) (r : Result Verdict Fault) → is_opening c.request ≡ false → o ≡ Some part → IsPartOf o h c → IfOk r (IsJudged (facts_in part) c) → IfOk r (IsVerdictOn h c)
 judged_some h part c o (Ok v) plain some left j =
-    let is : part ≡ part_of c (rows_of h) = (subst (λ x. IsPartOf x h c) some left).0 in
-    judged h c v plain (part_judged h c v (subst (λ x. IsJudged (facts_in x) c v) is j))
+    let known : IsPartOf (Some part) h c = subst (λ x. IsPartOf x h c) some left in
+    let is : part ≡ part_of c (rows_of h) = known.0 in
+    judged h known.1 c v plain (part_judged h c v (subst (λ x. IsJudged (facts_in x) c v) is j))
 judged_some h part c o (Err x) plain some left j = tt
 
 -- a part of a history's rows has the unit's row

@@ -1,26 +1,26 @@
 //! The changes that an accepted call makes.
 
-ghost use Rattle.std.specs.Prelude.{◌≡◌, ◌≤◌, ◌<◌, ℕ, List, [], ◌∷◌, ◌++◌, if◌then◌else◌, map, flat_map, length, All, IfOk, IfErr, OnOk, IsTrue, true, false, option_to_list};
+ghost use Rattle.std.specs.Prelude.{◌≡◌, ◌≤◌, ◌<◌, ℕ, List, [], ◌∷◌, ◌++◌, if◌then◌else◌, map, flat_map, length, All, IfOk, IfErr, OnOk, IsTrue, None, true, false, option_to_list};
 ghost use Rattle.std.specs.List.{enumerate_from};
 ghost use Rattle.plant_types.specs.declared.fault.Fault.TheVariants.{Memory};
 ghost use Rattle.plant_ration.specs.Matrix.{is_matrix};
 ghost use Rattle.plant_model.specs.Facts.{facts, limit_of};
 ghost use Rattle.plant_model.specs.Rows.{alarm_as};
-ghost use Rattle.plant_model.specs.RowChanges.{changes_for, matrix_changes, own_changes};
+ghost use Rattle.plant_model.specs.RowChanges.{changes_for, matrix_changes, own_changes, placed_in, taken_out, with_alarm};
 ghost use Rattle.plant_model.specs.RowFacts.{facts_in, unit_read};
 ghost use Rattle.plant_model.specs.Verdicts.{is_opening, is_read};
 ghost use Rattle.plant_model.specs.declared.rows.Change.TheVariants.{Put};
 ghost use Rattle.plant_model.specs.declared.rows.Row.TheVariants.{Band as BandPut, Cell as CellPut};
 ghost use Rattle.plant_unit.specs.MatrixRows.{band_row_of, cell_row_of, row_of_cells};
 
-use crate::facts::alarm_of;
 use plant_alarm::AlarmState;
+use plant_books::alarm_of;
 use plant_model::{
     AlarmRow, BandRow, Call, CellRow, Change, GrantRow, Key, Request, Row, ShelfRow, UnitPart,
     UnitRow,
 };
 use plant_ration::{Cell, Matrix};
-use plant_types::{Fault, Role, Seconds, Table, Tag};
+use plant_types::{Duplicate, Fault, Role, Seconds, Table, Tag, Words};
 use std::alloc::Global;
 
 fn limit_of(part: &UnitPart, tag: &Tag) -> u64
@@ -34,7 +34,7 @@ fn limit_of(part: &UnitPart, tag: &Tag) -> u64
 }
 
 fn new_alarm(alloc: Global, tag: &Tag, latching: bool, max: Seconds) -> Result<AlarmRow, Fault>
-    ensures value { IfOk result (λ row. row ≡ alarm_as tag.now max latching) }
+    ensures value { IfOk result (λ row. row ≡ alarm_as tag.now max None latching) }
     ensures err { IfErr result (λ e. e ≡ Memory) }
 {
     Ok(AlarmRow {
@@ -50,6 +50,56 @@ fn new_alarm(alloc: Global, tag: &Tag, latching: bool, max: Seconds) -> Result<A
         out_by: None,
         out_words: None,
     })
+}
+
+/// The alarm's row, out of service.
+fn removed(alloc: Global, alarm: &AlarmRow, call: &Call, words: &Words) -> Result<AlarmRow, Fault>
+    ensures value { IfOk result (λ row. row ≡ taken_out call.now.person call.now.moment words.now alarm.now) }
+    ensures err { IfErr result (λ e. e ≡ Memory) }
+{
+    let mut row = alarm.duplicate(alloc)?;
+    row.out_s = Some(call.moment);
+    row.out_by = Some(call.person.copy(alloc)?);
+    row.out_words = Some(words.copy(alloc)?);
+    Ok(row)
+}
+
+/// The alarm's row, in service.
+fn placed(alloc: Global, alarm: &AlarmRow) -> Result<AlarmRow, Fault>
+    ensures value { IfOk result (λ row. row ≡ placed_in alarm.now) }
+    ensures err { IfErr result (λ e. e ≡ Memory) }
+{
+    let mut row = alarm.duplicate(alloc)?;
+    row.out_s = None;
+    row.out_by = None;
+    row.out_words = None;
+    Ok(row)
+}
+
+fn removal(
+    alloc: Global,
+    part: &UnitPart,
+    call: &Call,
+    tag: &Tag,
+    words: &Words,
+) -> Result<Option<Change>, Fault>
+    ensures value { IfOk result (λ change. option_to_list change ≡ with_alarm (facts_in part.now) tag.now (taken_out call.now.person call.now.moment words.now)) }
+    ensures err { IfErr result (λ e. e ≡ Memory) }
+{
+    match alarm_of(part.rows.alarms.as_slice(), tag) {
+        None => Ok(None),
+        Some(alarm) => Ok(Some(Change::Put(Row::Alarm(removed(alloc, alarm, call, words)?)))),
+    }
+}
+
+fn placement(alloc: Global, part: &UnitPart, tag: &Tag) -> Result<Option<Change>, Fault>
+    ensures value { IfOk result (λ change. option_to_list change ≡ with_alarm (facts_in part.now) tag.now placed_in) }
+    ensures err { IfErr result (λ e. e ≡ Memory) }
+{
+    match alarm_of(part.rows.alarms.as_slice(), tag) {
+        None => Ok(None),
+        Some(alarm) => Ok(Some(Change::Put(Row::Alarm(placed(alloc, alarm)?)))),
+    }
 }
 
 /// The change that the request makes beside that of the unit's row, where it makes one.
@@ -96,6 +146,10 @@ fn own_change(alloc: Global, part: &UnitPart, call: &Call) -> Result<Option<Chan
             words: words.copy(alloc)?,
         })),
         Request::Unshelve { tag, .. } => Change::Remove(Key::Shelf(tag.copy(alloc)?)),
+        Request::RemoveFromService { tag, words, .. } => {
+            return removal(alloc, part, call, tag, words);
+        }
+        Request::PlaceInService { tag, .. } => return placement(alloc, part, tag),
         _ => return Ok(None),
     };
     Ok(Some(change))
@@ -132,7 +186,12 @@ pub fn is_read(request: &Request) -> bool
 {
     matches!(
         request,
-        Request::Status { .. } | Request::Shelves { .. } | Request::MyUnits
+        Request::Status { .. }
+            | Request::Shelves { .. }
+            | Request::Alarms { .. }
+            | Request::Standing { .. }
+            | Request::MyUnits
+            | Request::MyShelves
     )
 }
 

@@ -13,7 +13,8 @@ ghost use Rattle.plant_model.specs.Refusals.{holds_some};
 ghost use Rattle.plant_model.specs.RowFacts.{alarm_tag, facts_in, pair_of, shelf_tag};
 
 use plant_alarm::{Shelf, ShelfState, shelf_at};
-use plant_model::{AlarmRow, GrantRow, ShelfRow, UnitPart};
+use plant_books::last_return;
+use plant_model::{GrantRow, ShelfRow, UnitPart};
 use plant_types::{Moment, Person, Role, Tag};
 
 fn is_pair(row: &GrantRow, person: &Person, role: Role) -> bool
@@ -82,28 +83,11 @@ pub fn stewards(grants: &[GrantRow]) -> usize
         .count()
 }
 
-/// The alarm of a tag.
-pub fn alarm_of<'a>(alarms: &'a [AlarmRow], tag: &Tag) -> Option<&'a AlarmRow>
-    ensures { option_copied result ≡ row_at name_cmp alarm_tag tag.now alarms.now }
-{
-    alarms.iter().find(|row| *tag == row.tag)
-}
-
 /// The shelf that the last shelving of a tag's alarm left.
 pub fn shelf_of<'a>(shelves: &'a [ShelfRow], tag: &Tag) -> Option<&'a ShelfRow>
     ensures { option_copied result ≡ row_at name_cmp shelf_tag tag.now shelves.now }
 {
     shelves.iter().find(|row| *tag == row.tag)
-}
-
-/// When the alarm last returned to normal.
-pub fn last_return(alarms: &[AlarmRow], tag: &Tag) -> Option<Moment>
-    ensures { result ≡ option_and_then (λ r. r.return_s) (row_at name_cmp alarm_tag tag.now alarms.now) }
-{
-    match alarm_of(alarms, tag) {
-        Some(alarm) => alarm.return_s,
-        None => None,
-    }
 }
 
 fn shelf_left(row: Option<&ShelfRow>) -> Shelf

@@ -9,8 +9,10 @@ mod replies;
 
 pub use changes::is_read;
 pub use judgement::{judge, judge_open};
-pub use plant_books::{Books, MineUnit};
+pub use plant_books::{Books, MineShelf, MineUnit};
 pub use plant_model::{
-    AlarmRow, Answer, BandRow, Call, CellRow, Change, Full, GrantRow, Key, Refused, Reply, Request,
-    Row, ShelfLine, ShelfRow, StatusRow, UnitLine, UnitPart, UnitRow, UnitRows, Verdict, laws,
+    AlarmLine, AlarmRow, Answer, BandRow, Call, CellRow, Change, Full, GrantRow, Key, MineLine,
+    Refused, Reply, Request, Row, ShelfLine, ShelfRow, StandingLine, StatusRow, UnitLine, UnitPart,
+    UnitRow, UnitRows, Verdict, laws,
 };
+pub use replies::shelf_line;

@@ -4,12 +4,11 @@ ghost use Rattle.std.specs.Prelude.{◌≡◌, ℕ, Bool, [], ◌∷◌};
 ghost use Rattle.plant_types.specs.Names.{Name};
 ghost use Rattle.plant_model.specs.RowFacts.{facts_in, unit_read};
 ghost use Rattle.plant_model.specs.Refusals.{first_refusal, over_quota, own_refusals, refusals, role_needed};
-ghost use Rattle.plant_model.specs.declared.call.Request.TheVariants.{Grant, OneShotShelve, Register, TimedShelve, Unshelve, Withdraw};
+ghost use Rattle.plant_model.specs.declared.call.Request.TheVariants.{Grant, OneShotShelve, PlaceInService, Register, RemoveFromService, TimedShelve, Unshelve, Withdraw};
 
-use crate::facts::{
-    alarm_of, holds_any, is_before, is_held, others_shelved, stands, state_now, stewards,
-};
+use crate::facts::{holds_any, is_before, is_held, others_shelved, stands, state_now, stewards};
 use plant_alarm::ShelfState;
+use plant_books::alarm_of;
 use plant_model::{Call, Full, Refused, Request, UnitPart, UnitRow};
 use plant_types::{Moment, Person, Role, Seconds, Tag, Tenure};
 
@@ -21,6 +20,9 @@ fn needed(request: &Request) -> Option<Role>
         Request::Register { .. } => Some(Role::Engineer),
         Request::TimedShelve { .. } | Request::OneShotShelve { .. } | Request::Unshelve { .. } => {
             Some(Role::Operator)
+        }
+        Request::RemoveFromService { .. } | Request::PlaceInService { .. } => {
+            Some(Role::Maintainer)
         }
         _ => None,
     }
@@ -124,6 +126,26 @@ fn unshelve_refusal(part: &UnitPart, tag: &Tag, now: Moment) -> Option<Refused>
     }
 }
 
+fn removal_refusal(part: &UnitPart, tag: &Tag) -> Option<Refused>
+    ensures { (t : ℕ) (u w : Name) → result ≡ first_refusal (own_refusals (facts_in part.now) t (RemoveFromService u tag.now w)) }
+{
+    match alarm_of(part.rows.alarms.as_slice(), tag) {
+        None => Some(Refused::AlarmUnknown),
+        Some(alarm) if alarm.out_s.is_some() => Some(Refused::AlreadyOutOfService),
+        Some(_) => None,
+    }
+}
+
+fn placement_refusal(part: &UnitPart, tag: &Tag) -> Option<Refused>
+    ensures { (t : ℕ) (u : Name) → result ≡ first_refusal (own_refusals (facts_in part.now) t (PlaceInService u tag.now)) }
+{
+    match alarm_of(part.rows.alarms.as_slice(), tag) {
+        None => Some(Refused::AlarmUnknown),
+        Some(alarm) if alarm.out_s.is_none() => Some(Refused::NotOutOfService),
+        Some(_) => None,
+    }
+}
+
 fn own_refusal(unit: &UnitRow, part: &UnitPart, now: Moment, request: &Request) -> Option<Refused>
     requires { unit_read part.now.rows ≡ unit.now }
     ensures { result ≡ first_refusal (own_refusals (facts_in part.now) now request.now) }
@@ -135,6 +157,8 @@ fn own_refusal(unit: &UnitRow, part: &UnitPart, now: Moment, request: &Request) 
         Request::TimedShelve { tag, seconds, .. } => timed_refusal(unit, part, tag, *seconds, now),
         Request::OneShotShelve { tag, .. } => one_shot_refusal(unit, part, tag, now),
         Request::Unshelve { tag, .. } => unshelve_refusal(part, tag, now),
+        Request::RemoveFromService { tag, .. } => removal_refusal(part, tag),
+        Request::PlaceInService { tag, .. } => placement_refusal(part, tag),
         Request::Status { tag, .. } => {
             if alarm_of(part.rows.alarms.as_slice(), tag).is_some() {
                 None

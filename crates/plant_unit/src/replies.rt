@@ -1,18 +1,22 @@
 //! The replies to accepted calls.
 
-ghost use Rattle.std.specs.Prelude.{◌≡◌, Some, IfOk, IfErr, filter_map, option_copied};
+ghost use Rattle.std.specs.Prelude.{◌≡◌, Some, IfOk, IfErr, filter_map, map, not, option_copied};
 ghost use Rattle.plant_types.specs.Names.{Name};
 ghost use Rattle.plant_types.specs.declared.fault.Fault.TheVariants.{Memory};
-ghost use Rattle.plant_alarm.specs.Shelves.{shelf_state};
+ghost use Rattle.plant_alarm.specs.Shelves.{is_unshelved, shelf_state};
 ghost use Rattle.plant_model.specs.Facts.{returned};
+ghost use Rattle.plant_model.specs.Replies as replies;
 ghost use Rattle.plant_model.specs.Replies.{line_of, reply, shelf_lines};
 ghost use Rattle.plant_model.specs.RowFacts.{facts_in};
 ghost use Rattle.plant_model.specs.Shelves as shelves;
-ghost use Rattle.plant_model.specs.declared.call.Request.TheVariants.{Status as StatusCall, Shelves as ShelvesCall};
+ghost use Rattle.plant_model.specs.declared.call.Request.TheVariants.{Alarms as AlarmsCall, Shelves as ShelvesCall, Standing as StandingCall, Status as StatusCall};
 
-use crate::facts::{alarm_of, last_return, state_now, state_of};
+use crate::facts::{shelf_of, state_now, state_of};
 use plant_alarm::ShelfState;
-use plant_model::{Reply, Request, ShelfLine, ShelfRow, StatusRow, UnitPart};
+use plant_books::{alarm_of, last_return};
+use plant_model::{
+    AlarmLine, AlarmRow, Reply, Request, ShelfLine, ShelfRow, StandingLine, StatusRow, UnitPart,
+};
 use plant_types::{Fault, Moment, Table, Tag, UnitCode};
 use std::alloc::Global;
 
@@ -38,16 +42,16 @@ fn status_reply(alloc: Global, part: &UnitPart, tag: &Tag, now: Moment) -> Resul
     }))
 }
 
-fn line(
+/// The line of a shelf whose alarm last returned to normal at this moment; none where its time has passed.
+pub fn shelf_line(
     alloc: Global,
-    part: &UnitPart,
     row: &ShelfRow,
+    returned: Option<Moment>,
     now: Moment,
 ) -> Result<Option<ShelfLine>, Fault>
-    ensures value { IfOk result (λ l. l ≡ line_of row.now (shelf_state (shelves.shelf_left (Some row.now)) (returned (facts_in part.now) row.now.tag) now)) }
+    ensures value { IfOk result (λ l. l ≡ line_of row.now (shelf_state (shelves.shelf_left (Some row.now)) returned now)) }
     ensures err { IfErr result (λ e. e ≡ Memory) }
 {
-    let returned = last_return(part.rows.alarms.as_slice(), &row.tag);
     let (one_shot, left) = match state_of(Some(row), returned, now) {
         ShelfState::Unshelved => return Ok(None),
         ShelfState::TimedShelved(left) => (false, left),
@@ -61,6 +65,19 @@ fn line(
         person: row.person.copy(alloc)?,
         words: row.words.copy(alloc)?,
     }))
+}
+
+fn line(
+    alloc: Global,
+    part: &UnitPart,
+    row: &ShelfRow,
+    now: Moment,
+) -> Result<Option<ShelfLine>, Fault>
+    ensures value { IfOk result (λ l. l ≡ line_of row.now (shelf_state (shelves.shelf_left (Some row.now)) (returned (facts_in part.now) row.now.tag) now)) }
+    ensures err { IfErr result (λ e. e ≡ Memory) }
+{
+    let returned = last_return(part.rows.alarms.as_slice(), &row.tag);
+    shelf_line(alloc, row, returned, now)
 }
 
 fn lines(alloc: Global, part: &UnitPart, now: Moment) -> Result<Table<ShelfLine>, Fault>
@@ -93,6 +110,116 @@ fn shelves_reply(
     })
 }
 
+fn is_shelved(part: &UnitPart, alarm: &AlarmRow, now: Moment) -> bool
+    ensures { result ≡ not (is_unshelved (shelf_state (shelves.shelf_left ((facts_in part.now).shelf alarm.now.tag)) alarm.now.return_s now)) }
+{
+    let shelf = shelf_of(part.rows.shelves.as_slice(), &alarm.tag);
+    !matches!(state_of(shelf, alarm.return_s, now), ShelfState::Unshelved)
+}
+
+fn alarm_line(
+    alloc: Global,
+    part: &UnitPart,
+    alarm: &AlarmRow,
+    now: Moment,
+) -> Result<AlarmLine, Fault>
+    ensures value { IfOk result (λ l. l ≡ replies.alarm_line (facts_in part.now) now alarm.now) }
+    ensures err { IfErr result (λ e. e ≡ Memory) }
+{
+    Ok(AlarmLine {
+        tag: alarm.tag.copy(alloc)?,
+        state: alarm.state_no,
+        priority: None,
+        shelved: is_shelved(part, alarm, now),
+        by_design: alarm.suppressed,
+        out_of_service: alarm.out_s.is_some(),
+        limit: alarm.max_s,
+    })
+}
+
+/// The line of an alarm that is active; none for another.
+fn standing_line(
+    alloc: Global,
+    part: &UnitPart,
+    alarm: &AlarmRow,
+    now: Moment,
+) -> Result<Option<StandingLine>, Fault>
+    ensures value { IfOk result (λ l. l ≡ replies.standing_line (facts_in part.now) now alarm.now) }
+    ensures err { IfErr result (λ e. e ≡ Memory) }
+{
+    let Some(since) = alarm.active_s else {
+        return Ok(None);
+    };
+    let line = alarm_line(alloc, part, alarm, now)?;
+    Ok(Some(StandingLine {
+        tag: line.tag,
+        state: line.state,
+        priority: line.priority,
+        since,
+        shelved: line.shelved,
+        by_design: line.by_design,
+        out_of_service: line.out_of_service,
+    }))
+}
+
+fn alarm_lines(alloc: Global, part: &UnitPart, now: Moment) -> Result<Table<AlarmLine>, Fault>
+    ensures value { IfOk result (λ lines. lines ≡ replies.alarm_lines (facts_in part.now) now) }
+    ensures err { IfErr result (λ e. e ≡ Memory) }
+{
+    let alarms = part.rows.alarms.as_slice();
+    let mut lines = Table::new(alloc);
+    for alarm in alarms {
+        lines.push(alarm_line(alloc, part, alarm, now)?)?;
+    }
+    Ok(lines)
+}
+
+fn standing_lines(alloc: Global, part: &UnitPart, now: Moment) -> Result<Table<StandingLine>, Fault>
+    ensures value { IfOk result (λ lines. lines ≡ replies.standing_lines (facts_in part.now) now) }
+    ensures err { IfErr result (λ e. e ≡ Memory) }
+{
+    let alarms = part.rows.alarms.as_slice();
+    let mut lines = Table::new(alloc);
+    for alarm in alarms {
+        if let Some(found) = standing_line(alloc, part, alarm, now)? {
+            lines.push(found)?;
+        }
+    }
+    Ok(lines)
+}
+
+fn alarms_reply(
+    alloc: Global,
+    part: &UnitPart,
+    unit: &UnitCode,
+    now: Moment,
+) -> Result<Reply, Fault>
+    ensures value { IfOk result (λ r. r ≡ reply (facts_in part.now) now (AlarmsCall unit.now)) }
+    ensures err { IfErr result (λ e. e ≡ Memory) }
+{
+    Ok(Reply::Alarms {
+        unit: unit.copy(alloc)?,
+        at: now,
+        lines: alarm_lines(alloc, part, now)?,
+    })
+}
+
+fn standing_reply(
+    alloc: Global,
+    part: &UnitPart,
+    unit: &UnitCode,
+    now: Moment,
+) -> Result<Reply, Fault>
+    ensures value { IfOk result (λ r. r ≡ reply (facts_in part.now) now (StandingCall unit.now)) }
+    ensures err { IfErr result (λ e. e ≡ Memory) }
+{
+    Ok(Reply::Standing {
+        unit: unit.copy(alloc)?,
+        at: now,
+        lines: standing_lines(alloc, part, now)?,
+    })
+}
+
 /// The reply to an accepted request.
 pub fn reply_to(
     alloc: Global,
@@ -106,6 +233,8 @@ pub fn reply_to(
     match request {
         Request::Status { tag, .. } => status_reply(alloc, part, tag, now),
         Request::Shelves { unit } => shelves_reply(alloc, part, unit, now),
+        Request::Alarms { unit } => alarms_reply(alloc, part, unit, now),
+        Request::Standing { unit } => standing_reply(alloc, part, unit, now),
         _ => Ok(Reply::Done),
     }
 }

@@ -17,3 +17,9 @@ returns-in-OneShotShelve c = rw c.in-OneShotShelve.is (c.one_shot_refusal.ensure
 
 pub returns-in-Unshelve : goal.returns-in-Unshelve
 returns-in-Unshelve c = rw c.in-Unshelve.is (c.unshelve_refusal.ensures c.in-Unshelve.unit)
+
+pub returns-in-RemoveFromService : goal.returns-in-RemoveFromService
+returns-in-RemoveFromService c = rw c.in-RemoveFromService.is (c.removal_refusal.ensures c.args.now c.in-RemoveFromService.unit c.in-RemoveFromService.words)
+
+pub returns-in-PlaceInService : goal.returns-in-PlaceInService
+returns-in-PlaceInService c = rw c.in-PlaceInService.is (c.placement_refusal.ensures c.args.now c.in-PlaceInService.unit)
