@@ -48,7 +48,7 @@ held_in h t k =
     ∙ ap (λ o. unwrap_or o false) (map-map (λ (g : GrantRow). is_before t g.end_s) (grant_as k) (standing h k))
 
 -- Alarms and shelves
-alarm_in : (h : List Call) (a : Name) → row_at name_cmp alarm_tag a (alarm_rows h) ≡ alarm_row h a
+pub alarm_in : (h : List Call) (a : Name) → row_at name_cmp alarm_tag a (alarm_rows h) ≡ alarm_row h a
 alarm_in h a = row_at-rows (alarm_row h) (tags_of_alarms h) (alarms_told h) a
 
 shelf_in : (h : List Call) (a : Name) → row_at name_cmp shelf_tag a (shelf_rows h) ≡ shelf h a

@@ -1,43 +1,53 @@
 -- Books that hold the rows of a world, and what a call does to them.
-use Rattle.std.proofs.Common.{ap, arith, inl, inr, refl, subst, sym, ◌∙◌}
+use Rattle.std.proofs.Common.{ap, arith, inl, inr, refl, subst, sym, ◌++◌, ◌∙◌}
 use Rattle.std.proofs.lemmas.Bool.Decides.{nat_tests}
+use Rattle.std.proofs.lemmas.List.Elements.{filter_map-append}
+use Rattle.std.specs.FinMap.Entries.{find as found}
 use Rattle.std.specs.FinMap.{contains_key, get, get-insert, keys}
-use Rattle.std.specs.List.{cons_option}
-use Rattle.std.specs.Prelude.{Bool, Err, IfOk, List, None, Ok, OnErr, Option, Result, Some, [], cond, false, filter_map, fold, if◌then◌else◌, is_ok, is_some, map, max, nat_lt, not, option_map, true, unwrap_or, ℕ, ◌<◌, ◌∷◌, ◌≡◌, ◌≤◌}
+use Rattle.std.specs.List.{cons_option, flat_map}
+use Rattle.std.specs.Prelude.{Bool, Err, IfOk, List, None, Ok, OnErr, Option, Result, Some, [], cond, false, filter_map, fold, if◌then◌else◌, is_ok, is_some, map, max, nat_lt, not, option_and_then, option_map, true, unwrap_or, ℕ, ◌<◌, ◌∷◌, ◌≡◌, ◌≤◌}
+use Rattle.plant_books.specs.declared.books.MineShelf.{MineShelf}
 use Rattle.plant_books.specs.declared.books.MineUnit.{MineUnit}
 use Rattle.plant_model.specs.declared.call.Call.{Call}
+use Rattle.plant_model.specs.declared.call.Request.TheVariants.{MyShelves, MyUnits, OpenUnit}
 use Rattle.plant_model.specs.declared.call.Request.{Request}
-use Rattle.plant_model.specs.declared.call.Request.TheVariants.{OpenUnit}
-use Rattle.plant_model.specs.declared.reply.Answer.{Answer}
 use Rattle.plant_model.specs.declared.reply.Answer.TheVariants.{Fault as Faulted, Refused as WasRefused, Reply as Replied}
-use Rattle.plant_model.specs.declared.reply.Refused.{Refused}
+use Rattle.plant_model.specs.declared.reply.Answer.{Answer}
+use Rattle.plant_model.specs.declared.reply.MineLine.{MineLine}
 use Rattle.plant_model.specs.declared.reply.Refused.TheVariants.{MomentBehind, NotGranted}
+use Rattle.plant_model.specs.declared.reply.Refused.{Refused}
+use Rattle.plant_model.specs.declared.reply.Reply.TheVariants.{Mine, Units}
 use Rattle.plant_model.specs.declared.reply.Reply.{Reply}
-use Rattle.plant_model.specs.declared.reply.Reply.TheVariants.{Units}
 use Rattle.plant_model.specs.declared.reply.UnitLine.{UnitLine}
+use Rattle.plant_model.specs.declared.rows.AlarmRow.{AlarmRow}
 use Rattle.plant_model.specs.declared.rows.Change.{Change}
 use Rattle.plant_model.specs.declared.rows.UnitPart.{UnitPart}
 use Rattle.plant_model.specs.declared.rows.UnitRows.{UnitRows}
-use Rattle.plant_model.specs.declared.rows.Verdict.{Verdict}
 use Rattle.plant_model.specs.declared.rows.Verdict.TheVariants.{Accepted as IsAccepted, Refused as IsRefused}
+use Rattle.plant_model.specs.declared.rows.Verdict.{Verdict}
 use Rattle.plant_types.specs.declared.fault.Fault.{Fault}
-use Rattle.plant_books.specs.Contents.{Content, IsKnownTo, after_changes, mine_unit, mine_units, part_in, rows_in, with_rows}
+use Rattle.plant_alarm.specs.Shelves.{shelf_state}
+use Rattle.plant_books.specs.Contents.{Content, IsKnownTo, after_changes, last_return, mine_shelf, mine_shelves, mine_unit, mine_units, part_in, rows_in, shelves_mine, with_rows}
 use Rattle.plant_books.specs.Counting.{Counts}
+use Rattle.plant_model.proofs.Base.{lt}
+use Rattle.plant_model.proofs.FactLaws.{alarm_in}
 use Rattle.plant_model.proofs.HeldLaws.{any_of_rows, roles_of_rows}
 use Rattle.plant_model.proofs.LegalLaws.{next_legal, own_units_after, same_unit, there_of_held}
 use Rattle.plant_model.proofs.WorldLaws.{Said, equal_views, not_granted, refused_changes, same_keys, same_seen, view_alike}
+use Rattle.plant_model.specs.Facts.{facts, returned}
 use Rattle.plant_model.specs.Grants.{held, holds_any, roles_held}
 use Rattle.plant_model.specs.Histories.{last_moment}
 use Rattle.plant_model.specs.Legality.{has_matrix}
 use Rattle.plant_model.specs.Parts.{part_of}
-use Rattle.plant_model.specs.Replies.{reply}
+use Rattle.plant_model.specs.Replies.{line_of, reply, shelf_lines}
 use Rattle.plant_model.specs.RowChanges.{changed_by, no_rows}
-use Rattle.plant_model.specs.Rows.{rows_of}
+use Rattle.plant_model.specs.Rows.{alarm_rows, rows_of, shelf_rows}
+use Rattle.plant_model.specs.Shelves.{shelf_left}
 use Rattle.plant_model.specs.Verdicts.{changes_history, is_opening, is_read, verdict}
 use Rattle.plant_model.specs.Views.{view}
-use Rattle.plant_model.specs.Worlds.{IsLegalWorld, World, answer, answer_at, answer_of_units, by_admin, greatest_last, history, is_taken, next, next_at, opening, unit_lines, unit_named, unit_seen, units_held, with_call}
+use Rattle.plant_model.specs.Worlds.{IsLegalWorld, World, answer, answer_at, answer_of_units, by_admin, greatest_last, history, is_taken, mine_line, mine_lines, next, next_at, opening, reply_of_units, unit_lines, unit_named, unit_seen, units_held, with_call}
 use Rattle.plant_office.specs.Answers.{CountsAnswer, IfSaid, OnFault, answer_as}
-use Rattle.plant_office.specs.Lines.{line_of_mine}
+use Rattle.plant_office.specs.Lines.{line_of_mine, line_of_shelf}
 use Rattle.plant_office.specs.Runs.{IsAlike}
 use Rattle.plant_office.specs.Served.{Holds, IsIsolated, IsOwnUnit, IsServed}
 use Rattle.plant_types.proofs.DateTests.{left}
@@ -261,22 +271,75 @@ units_behind : (us : List (Name × List Call)) (c : Call) (last : ℕ) → last 
 units_behind us c last e lt =
     let is : last ≡ greatest_last us = omega (arith, e, lt) in
     let less : c.moment < greatest_last us = omega (arith, e, lt) in
-    ap (λ x. Err (MomentBehind x)) is ∙ sym (ap (λ b. if b then Err (MomentBehind (greatest_last us)) else Ok (Units (unit_lines c.moment c.person us))) (lt_true c.moment (greatest_last us) less))
+    ap (λ x. Err (MomentBehind x)) is ∙ sym (ap (λ b. if b then Err (MomentBehind (greatest_last us)) else Ok (reply_of_units us c c.request)) (lt_true c.moment (greatest_last us) less))
 
-units_told : (us : List (Name × List Call)) (c : Call) (last : ℕ) (lines : List UnitLine) → last ≡ max c.moment (greatest_last us) → lines ≡ unit_lines c.moment c.person us → last ≤ c.moment → Ok (Units lines) ≡ answer_of_units us c
-units_told us c last lines e is le =
+units_told : (us : List (Name × List Call)) (c : Call) (last : ℕ) (reply : Reply) → last ≡ max c.moment (greatest_last us) → reply ≡ reply_of_units us c c.request → last ≤ c.moment → Ok reply ≡ answer_of_units us c
+units_told us c last reply e is le =
     let least : greatest_last us ≤ c.moment = omega (arith, e, le) in
-    ap (λ x. Ok (Units x)) is ∙ sym (ap (λ b. if b then Err (MomentBehind (greatest_last us)) else Ok (Units (unit_lines c.moment c.person us))) (lt_false c.moment (greatest_last us) least))
+    ap (λ x. Ok x) is ∙ sym (ap (λ b. if b then Err (MomentBehind (greatest_last us)) else Ok (reply_of_units us c c.request)) (lt_false c.moment (greatest_last us) least))
 
 pub behind_units : (b : Content) (w : World) (c : Call) (units : List MineUnit) (last : ℕ) → Holds b w → unit_named c.request ≡ None → units ≡ mine_units b c.moment c.person → last ≡ fold max c.moment (map (λ (u : MineUnit). u.last) units) → c.moment < last → Serves w c (Err (MomentBehind last)) (λ m. m ≡ b)
 behind_units b w c units last h named is e lt =
     answered_of_units b w c _ h named (units_behind (units_held w c.moment c.person) c last (last_told c.moment c.person (units_held w c.moment c.person) units last (is ∙ mine_told b w c.moment c.person h) e) lt)
 
-pub told_units : (b : Content) (w : World) (c : Call) (units : List MineUnit) (last : ℕ) (lines : List UnitLine) → Holds b w → unit_named c.request ≡ None → units ≡ mine_units b c.moment c.person → last ≡ fold max c.moment (map (λ (u : MineUnit). u.last) units) → lines ≡ map line_of_mine units → last ≤ c.moment → Serves w c (Ok (Units lines)) (λ m. m ≡ b)
-told_units b w c units last lines h named is e l le =
+pub told_units : (b : Content) (w : World) (c : Call) (units : List MineUnit) (last : ℕ) (lines : List UnitLine) → Holds b w → c.request ≡ MyUnits → units ≡ mine_units b c.moment c.person → last ≡ fold max c.moment (map (λ (u : MineUnit). u.last) units) → lines ≡ map line_of_mine units → last ≤ c.moment → Serves w c (Ok (Units lines)) (λ m. m ≡ b)
+told_units b w c units last lines h asked is e l le =
+    let us = units_held w c.moment c.person in
     let told = is ∙ mine_told b w c.moment c.person h in
-    answered_of_units b w c _ h named (units_told (units_held w c.moment c.person) c last lines (last_told c.moment c.person (units_held w c.moment c.person) units last told e)
-    (l ∙ ap (map line_of_mine) told ∙ map-mapped line_of_mine (mine_of c.moment c.person) (units_held w c.moment c.person)) le)
+    let same : lines ≡ unit_lines c.moment c.person us = l ∙ ap (map line_of_mine) told ∙ map-mapped line_of_mine (mine_of c.moment c.person) us in
+    answered_of_units b w c _ h (ap unit_named asked) (units_told us c last (Units lines) (last_told c.moment c.person us units last told e) (ap (λ x. Units x) same ∙ ap (reply_of_units us c) (sym asked)) le)
+
+-- The shelves of a person
+returned_in : (h : List Call) (a : Name) → last_return (alarm_rows h) a ≡ returned (facts h) a
+returned_in h a = ap (option_and_then (λ (r : AlarmRow). r.return_s)) (alarm_in h a)
+
+-- the shelves of a unit that is seen
+abbrev shelves_of : Name × List Call → List MineShelf
+shelves_of e = map (mine_shelf e.0 (rows_of e.1)) (shelf_rows e.1)
+
+abbrev seen_shelves : Option (Name × List Call) → List MineShelf
+seen_shelves None = []
+seen_shelves (Some e) = shelves_of e
+
+one_unit_shelves : (t : ℕ) (p u : Name) (o : Option (List Call)) → shelves_mine t p u (option_map rows_of o) ≡ seen_shelves (when (holds_any (unwrap_or o []) t p) (u, unwrap_or o []))
+one_unit_shelves t p u None = refl
+one_unit_shelves t p u (Some h) =
+    (λ i. if any_of_rows h t p i then shelves_of (u, h) else [])
+    ∙ elim (holds_any h t p) as (λ b. (if b then shelves_of (u, h) else []) ≡ seen_shelves (when b (u, h))) [ true ↦ refl | false ↦ refl ]
+
+flat_map-seen : {A : Type 0} (s : A → Option (Name × List Call)) (xs : List A) → flat_map (λ x. seen_shelves (s x)) xs ≡ flat_map shelves_of (filter_map s xs)
+flat_map-seen s [] = refl
+flat_map-seen s (x ∷ xs) =
+    elim (s x) as (λ o. seen_shelves o ++ flat_map (λ x. seen_shelves (s x)) xs ≡ flat_map shelves_of (cons_option o (filter_map s xs))) [ None ↦ flat_map-seen s xs | Some e ↦ ap (λ ys. shelves_of e ++ ys) (flat_map-seen s xs) ]
+
+shelves_told : (b : Content) (w : World) (t : ℕ) (p : Name) → Holds b w → mine_shelves b t p ≡ flat_map shelves_of (units_held w t p)
+shelves_told b w t p h =
+    (λ i. flat_map (λ u. shelves_mine t p u (h.rows u i)) (same_keys b.units w.units (λ q. held_taken b w q h) i))
+    ∙ (λ i. flat_map (λ u. one_unit_shelves t p u (get w.units u) i) (keys w.units))
+    ∙ flat_map-seen (unit_seen w t p) (keys w.units)
+
+filter_map-of_map : {A B C : Type 0} (f : B → Option C) (g : A → B) (xs : List A) → filter_map f (map g xs) ≡ filter_map (λ x. f (g x)) xs
+filter_map-of_map f g [] = refl
+filter_map-of_map f g (x ∷ xs) = ap (cons_option (f (g x))) (filter_map-of_map f g xs)
+
+-- the lines of one unit's shelves
+unit_shelf_lines : (t : ℕ) (u : Name) (h : List Call) → filter_map (line_of_shelf t) (shelves_of (u, h)) ≡ map (mine_line u) (shelf_lines (facts h) t)
+unit_shelf_lines t u h =
+    filter_map-of_map (line_of_shelf t) (mine_shelf u (rows_of h)) (shelf_rows h)
+    ∙ (λ i. filter_map (λ s. option_map (mine_line u) (line_of s (shelf_state (shelf_left (Some s)) (returned_in h s.tag i) t))) (shelf_rows h))
+    ∙ filter_map-mapped (mine_line u) (λ s. line_of s (shelf_state (shelf_left (Some s)) (returned (facts h) s.tag) t)) (shelf_rows h)
+
+all_shelf_lines : (t : ℕ) (us : List (Name × List Call)) → filter_map (line_of_shelf t) (flat_map shelves_of us) ≡ mine_lines t us
+all_shelf_lines t [] = refl
+all_shelf_lines t (e ∷ us) =
+    filter_map-append (line_of_shelf t) (shelves_of e) (flat_map shelves_of us)
+    ∙ (λ i. unit_shelf_lines t e.0 e.1 i ++ all_shelf_lines t us i)
+
+pub told_shelves : (b : Content) (w : World) (c : Call) (units : List MineUnit) (last : ℕ) (shelves : List MineShelf) (lines : List MineLine) (person : Name) → Holds b w → c.request ≡ MyShelves → units ≡ mine_units b c.moment c.person → last ≡ fold max c.moment (map (λ (u : MineUnit). u.last) units) → shelves ≡ mine_shelves b c.moment c.person → lines ≡ filter_map (line_of_shelf c.moment) shelves → last ≤ c.moment → person ≡ c.person → Serves w c (Ok (Mine person c.moment lines)) (λ m. m ≡ b)
+told_shelves b w c units last shelves lines person h asked is e found l le copied =
+    let us = units_held w c.moment c.person in
+    let same : lines ≡ mine_lines c.moment us = l ∙ ap (filter_map (line_of_shelf c.moment)) (found ∙ shelves_told b w c.moment c.person h) ∙ all_shelf_lines c.moment us in
+    answered_of_units b w c _ h (ap unit_named asked) (units_told us c last (Mine person c.moment lines) (last_told c.moment c.person us units last (is ∙ mine_told b w c.moment c.person h) e) ((λ i. Mine (copied i) c.moment (same i)) ∙ ap (reply_of_units us c) (sym asked)) le)
 
 -- what a call said, as an answer
 pub said_if : (r : Result Said Fault) (P : Said → Type 0) → IfOk r P → IfSaid (answer_as r) P

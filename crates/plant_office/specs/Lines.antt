@@ -1,6 +1,17 @@
--- The lines of a person's units.
+-- The lines of a person's units and shelves.
+use Rattle.std.specs.Prelude.{Option, Some, option_map, ℕ}
+use Rattle.plant_books.specs.declared.books.MineShelf.{MineShelf}
 use Rattle.plant_books.specs.declared.books.MineUnit.{MineUnit}
+use Rattle.plant_model.specs.declared.reply.MineLine.{MineLine}
 use Rattle.plant_model.specs.declared.reply.UnitLine.{UnitLine}
+use Rattle.plant_alarm.specs.Shelves.{shelf_state}
+use Rattle.plant_model.specs.Replies.{line_of}
+use Rattle.plant_model.specs.Shelves.{shelf_left}
+use Rattle.plant_model.specs.Worlds.{mine_line}
 
 abbrev pub line_of_mine : MineUnit → UnitLine
 line_of_mine u = record { unit = u.unit; roles = u.roles }
+
+-- the line of a shelf that is not over at the moment
+abbrev pub line_of_shelf : ℕ → MineShelf → Option MineLine
+line_of_shelf t s = option_map (mine_line s.unit) (line_of s.shelf (shelf_state (shelf_left (Some s.shelf)) s.last_return t))

@@ -1,5 +1,6 @@
-ghost use Rattle.std.specs.Prelude.{◌≡◌, ◌<◌, ◌^◌, ◌-◌, ◌+◌, ◌≤◌, ℕ, Some, None, true, false, IsTrue, IfOk, IfErr, OnOk, OnErr, List, [], ◌∷◌, ◌++◌, map, max, fold, length, vec_len, vec_capacity};
+ghost use Rattle.std.specs.Prelude.{◌≡◌, ◌<◌, ◌^◌, ◌-◌, ◌+◌, ◌≤◌, ℕ, Some, None, true, false, IsTrue, IfOk, IfErr, OnOk, OnErr, List, [], ◌∷◌, ◌++◌, filter_map, map, max, fold, length, vec_len, vec_capacity};
 ghost use Rattle.plant_types.specs.declared.fault.Fault.TheVariants.{Memory};
+ghost use Rattle.plant_model.specs.declared.call.Request.TheVariants.{MyShelves, MyUnits};
 ghost use Rattle.plant_model.specs.Legality.{has_matrix};
 ghost use Rattle.plant_model.specs.Verdicts.{is_opening};
 ghost use Rattle.plant_model.specs.Views.{view};
@@ -10,12 +11,12 @@ ghost use Rattle.plant_books.specs.declared.books.MineUnit.{MineUnit};
 ghost use Rattle.plant_office.specs.Answers.{CountsAnswer, IfSaid, OnFault, answer_as};
 ghost use Rattle.plant_office.specs.Runs.{IsRun, stores_in};
 ghost use Rattle.plant_office.specs.Served.{Holds, IsIsolated, IsServed};
-ghost use Rattle.plant_office.specs.Lines.{line_of_mine};
+ghost use Rattle.plant_office.specs.Lines.{line_of_mine, line_of_shelf};
 
-use plant_books::{Books, MineUnit};
-use plant_model::{Answer, Call, Refused, Reply, Request, UnitLine, Verdict};
+use plant_books::{Books, MineShelf, MineUnit};
+use plant_model::{Answer, Call, MineLine, Refused, Reply, Request, UnitLine, Verdict};
 use plant_types::{Fault, Moment, Table, UnitCode};
-use plant_unit::{is_read, judge, judge_open};
+use plant_unit::{is_read, judge, judge_open, shelf_line};
 use std::alloc::Global;
 
 /// Whether a request's matrix is one needs no test: every matrix is.
@@ -66,7 +67,7 @@ impl<B: Books> Office<B> {
     }
 
     fn my_units(&mut self, call: &Call) -> Result<Result<Reply, Refused>, Fault>
-        requires { unit_named call.now.request ≡ None }
+        requires { call.now.request ≡ MyUnits }
         ensures served { (m : Content) → B.holds self.old.books m → (w : World) → IsLegalWorld w → Holds m w → B.can_tell self.new.books → IfOk result (λ a. IsServed w call.now a (B.holds self.new.books)) }
         ensures told { B.can_tell self.new.books → B.can_tell self.old.books }
         ensures fault { (m : Content) → B.holds self.old.books m → OnErr result (B.holds self.new.books m) }
@@ -81,6 +82,30 @@ impl<B: Books> Office<B> {
         } else {
             Ok(Ok(Reply::Units(self.lines(units)?)))
         }
+    }
+
+    fn my_shelves(&mut self, call: &Call) -> Result<Result<Reply, Refused>, Fault>
+        requires { call.now.request ≡ MyShelves }
+        ensures served { (m : Content) → B.holds self.old.books m → (w : World) → IsLegalWorld w → Holds m w → B.can_tell self.new.books → IfOk result (λ a. IsServed w call.now a (B.holds self.new.books)) }
+        ensures told { B.can_tell self.new.books → B.can_tell self.old.books }
+        ensures fault { (m : Content) → B.holds self.old.books m → OnErr result (B.holds self.new.books m) }
+        ensures count { Counts (B.stores self.old.books) (B.stores self.new.books) result }
+    {
+        note_matrix(&call.request);
+        let now = call.moment;
+        let units = self.books.mine_units(&call.person, now)?;
+        let last = latest(now, units.as_slice());
+        if now.seconds() < last.seconds() {
+            return Ok(Err(Refused::MomentBehind(last)));
+        }
+        let shelves = self.books.mine_shelves(&call.person, now)?;
+        let lines = shelf_lines(self.alloc, shelves.as_slice(), now)?;
+        let person = call.person.copy(self.alloc)?;
+        Ok(Ok(Reply::Mine {
+            person,
+            at: now,
+            lines,
+        }))
     }
 
     fn serve_unit(&mut self, unit: &UnitCode, call: &Call) -> Result<Result<Reply, Refused>, Fault>
@@ -142,9 +167,14 @@ impl<B: Books> Office<B> {
             | Request::TimedShelve { unit, .. }
             | Request::OneShotShelve { unit, .. }
             | Request::Unshelve { unit, .. }
+            | Request::RemoveFromService { unit, .. }
+            | Request::PlaceInService { unit, .. }
             | Request::Status { unit, .. }
-            | Request::Shelves { unit } => self.serve_unit(unit, call),
+            | Request::Shelves { unit }
+            | Request::Alarms { unit }
+            | Request::Standing { unit } => self.serve_unit(unit, call),
             Request::MyUnits => self.my_units(call),
+            Request::MyShelves => self.my_shelves(call),
         }
     }
 
@@ -214,4 +244,32 @@ fn latest(now: Moment, units: &[MineUnit]) -> Moment
         }
     }
     latest
+}
+
+/// The line of a shelf with its unit; none where its time has passed.
+fn mine_line(alloc: Global, mine: &MineShelf, now: Moment) -> Result<Option<MineLine>, Fault>
+    ensures value { IfOk result (λ line. line ≡ line_of_shelf now mine.now) }
+    ensures err { IfErr result (λ e. e ≡ Memory) }
+{
+    let Some(line) = shelf_line(alloc, &mine.shelf, mine.last_return, now)? else {
+        return Ok(None);
+    };
+    Ok(Some(MineLine {
+        unit: mine.unit.copy(alloc)?,
+        line,
+    }))
+}
+
+/// The lines of the shelves that hold at the moment.
+fn shelf_lines(alloc: Global, shelves: &[MineShelf], now: Moment) -> Result<Table<MineLine>, Fault>
+    ensures value { IfOk result (λ lines. lines ≡ filter_map (line_of_shelf now) shelves.now) }
+    ensures err { IfErr result (λ e. e ≡ Memory) }
+{
+    let mut lines = Table::new(alloc);
+    for mine in shelves {
+        if let Some(line) = mine_line(alloc, mine, now)? {
+            lines.push(line)?;
+        }
+    }
+    Ok(lines)
 }

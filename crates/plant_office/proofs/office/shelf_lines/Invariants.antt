@@ -1,0 +1,7 @@
+use Rattle.std.proofs.Common.{◌≡◌, take}
+use Rattle.std.specs.Prelude.{filter_map}
+use Rattle.plant_office.specs.Lines.{line_of_shelf}
+use Rattle.plant_office.proofs.office.shelf_lines.Given as goal
+
+abbrev pub invariant-loop-mine : goal.invariant-loop-mine
+invariant-loop-mine l = l.lines ≡ filter_map (line_of_shelf l.now) (take l.mine-index l.shelves)
