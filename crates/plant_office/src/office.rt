@@ -95,7 +95,7 @@ impl<B: Books> Office<B> {
         let now = call.moment;
         let units = self.books.mine_units(&call.person, now)?;
         let last = latest(now, units.as_slice());
-        if now.seconds() < last.seconds() {
+        if last.seconds() > now.seconds() {
             return Ok(Err(Refused::MomentBehind(last)));
         }
         let shelves = self.books.mine_shelves(&call.person, now)?;
