@@ -10,7 +10,7 @@ use Rattle.matchit.specs.Route.{Scan, parse_route}
 use Rattle.matchit.specs.Router.{RouteOf, route_from}
 use Rattle.matchit.specs.declared.error.InsertError.{InsertError}
 use Rattle.plant_route.specs.declared.routes.Route.{Route}
-use Rattle.plant_route.specs.declared.routes.Route.TheVariants.{OpenUnit, Grant, Withdraw, Register, TimedShelve, OneShotShelve, Unshelve, Status, Shelves, MyUnits}
+use Rattle.plant_route.specs.declared.routes.Route.TheVariants.{OpenUnit, Grant, Withdraw, Register, TimedShelve, OneShotShelve, Unshelve, RemoveFromService, PlaceInService, Status, Shelves, Alarms, Standing, MyUnits, MyShelves}
 
 abbrev pub Rows : Type 0
 Rows = RowsOf (RouteOf Route)
@@ -45,7 +45,14 @@ alarm_posts =
     ∷ (codes "/units/{unit}/alarms/{tag}/unshelve", Unshelve)
     ∷ []
 
--- GET
+-- POST: an alarm's service
+unfoldable pub service_posts : List (List ℕ × Route)
+service_posts =
+    (codes "/units/{unit}/alarms/{tag}/remove-from-service", RemoveFromService)
+    ∷ (codes "/units/{unit}/alarms/{tag}/place-in-service", PlaceInService)
+    ∷ []
+
+-- GET: an alarm, a unit's shelves, and the caller's units
 unfoldable pub gets : List (List ℕ × Route)
 gets =
     (codes "/units/{unit}/alarms/{tag}", Status)
@@ -53,13 +60,21 @@ gets =
     ∷ (codes "/units", MyUnits)
     ∷ []
 
+-- GET: a unit's alarms, and the shelves of the caller's units
+unfoldable pub lists : List (List ℕ × Route)
+lists =
+    (codes "/units/{unit}/alarms", Alarms)
+    ∷ (codes "/units/{unit}/standing", Standing)
+    ∷ (codes "/shelves", MyShelves)
+    ∷ []
+
 -- the routes of POST
 unfoldable pub post_rows : Rows
-post_rows = with_routes alarm_posts (with_routes unit_posts [])
+post_rows = with_routes service_posts (with_routes alarm_posts (with_routes unit_posts []))
 
 -- the routes of GET
 unfoldable pub get_rows : Rows
-get_rows = with_routes gets []
+get_rows = with_routes lists (with_routes gets [])
 
 abbrev pub route_in : Rows → List ℕ → Option Route
 route_in rows path = option_map (λ found. found.value) (first rows path)

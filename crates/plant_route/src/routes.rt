@@ -1,7 +1,7 @@
 ghost use Rattle.std.specs.Prelude.{◌≡◌, IfOk, IfErr, OnOk, IsTrue};
 ghost use Rattle.std.specs.List.{list_all};
 ghost use Rattle.plant_types.specs.declared.fault.Fault.TheVariants.{Memory};
-ghost use Rattle.plant_route.specs.Routes.{insert, unit_posts, alarm_posts, gets, post_rows, get_rows, with_routes, route_in, route_of, is_path_byte, is_path};
+ghost use Rattle.plant_route.specs.Routes.{insert, unit_posts, alarm_posts, service_posts, gets, lists, post_rows, get_rows, with_routes, route_in, route_of, is_path_byte, is_path};
 
 use matchit::Router;
 use plant_types::Fault;
@@ -17,9 +17,14 @@ pub enum Route {
     TimedShelve,
     OneShotShelve,
     Unshelve,
+    RemoveFromService,
+    PlaceInService,
     Status,
     Shelves,
+    Alarms,
+    Standing,
     MyUnits,
+    MyShelves,
 }
 
 /// Adds a route. A router without room for it is short of memory.
@@ -68,6 +73,35 @@ fn add_alarm_posts(router: &mut Router<Route>) -> Result<(), Fault>
     Ok(())
 }
 
+#[tactic(auto, unfolding(crate::specs::Routes::service_posts))]
+fn add_service_posts(router: &mut Router<Route>) -> Result<(), Fault>
+    ensures ok { OnOk result (router.new ≡ with_routes service_posts router.old) }
+    ensures err { IfErr result (λ e. e ≡ Memory) }
+{
+    add(
+        router,
+        "/units/{unit}/alarms/{tag}/remove-from-service",
+        Route::RemoveFromService,
+    )?;
+    add(
+        router,
+        "/units/{unit}/alarms/{tag}/place-in-service",
+        Route::PlaceInService,
+    )?;
+    Ok(())
+}
+
+#[tactic(auto, unfolding(crate::specs::Routes::lists))]
+fn add_lists(router: &mut Router<Route>) -> Result<(), Fault>
+    ensures ok { OnOk result (router.new ≡ with_routes lists router.old) }
+    ensures err { IfErr result (λ e. e ≡ Memory) }
+{
+    add(router, "/units/{unit}/alarms", Route::Alarms)?;
+    add(router, "/units/{unit}/standing", Route::Standing)?;
+    add(router, "/shelves", Route::MyShelves)?;
+    Ok(())
+}
+
 #[tactic(auto, unfolding(crate::specs::Routes::gets))]
 fn add_gets(router: &mut Router<Route>) -> Result<(), Fault>
     ensures ok { OnOk result (router.new ≡ with_routes gets router.old) }
@@ -87,6 +121,7 @@ fn post_routes(alloc: Global) -> Result<Router<Route>, Fault>
     let mut router = Router::new(alloc);
     add_unit_posts(&mut router)?;
     add_alarm_posts(&mut router)?;
+    add_service_posts(&mut router)?;
     Ok(router)
 }
 
@@ -97,6 +132,7 @@ fn get_routes(alloc: Global) -> Result<Router<Route>, Fault>
 {
     let mut router = Router::new(alloc);
     add_gets(&mut router)?;
+    add_lists(&mut router)?;
     Ok(router)
 }
 

@@ -1,7 +1,7 @@
 use super::*;
 use std::test::Fail;
 
-const TABLE: [(&[u8], &[u8], Route); 10] = [
+const TABLE: [(&[u8], &[u8], Route); 15] = [
     (b"POST", b"/units/U1", Route::OpenUnit),
     (b"POST", b"/units/U1/grants", Route::Grant),
     (b"POST", b"/units/U1/withdrawals", Route::Withdraw),
@@ -24,6 +24,19 @@ const TABLE: [(&[u8], &[u8], Route); 10] = [
     (b"GET", b"/units/U1/alarms/PT-101", Route::Status),
     (b"GET", b"/units/U1/shelves", Route::Shelves),
     (b"GET", b"/units", Route::MyUnits),
+    (
+        b"POST",
+        b"/units/U1/alarms/PT-101/remove-from-service",
+        Route::RemoveFromService,
+    ),
+    (
+        b"POST",
+        b"/units/U1/alarms/PT-101/place-in-service",
+        Route::PlaceInService,
+    ),
+    (b"GET", b"/units/U1/alarms", Route::Alarms),
+    (b"GET", b"/units/U1/standing", Route::Standing),
+    (b"GET", b"/shelves", Route::MyShelves),
 ];
 
 const NONE: [(&[u8], &[u8]); 12] = [
