@@ -6,7 +6,7 @@ use Rattle.plant_model.specs.declared.reply.Reply.{Reply}
 use Rattle.plant_model.specs.declared.reply.Reply.TheVariants as reply
 use Rattle.plant_model.specs.declared.reply.Refused.{Refused}
 use Rattle.plant_model.specs.declared.reply.Refused.TheVariants.{NotAdministrator, NotGranted, RoleLacking}
-use Rattle.plant_report.specs.Texts.{shelf_text}
+use Rattle.plant_report.specs.Texts.{shelf_text, standing_text, alarm_text, mine_text}
 use Rattle.plant_answer.specs.declared.responses.Media.{Media}
 use Rattle.plant_answer.specs.declared.responses.Media.TheVariants.{Json, Plain}
 use Rattle.plant_answer.specs.Response.{response}
@@ -19,9 +19,12 @@ refusal_status NotGranted = 403
 refusal_status (RoleLacking role) = 403
 refusal_status _ = 409
 
--- a reply is JSON, but for the shelves, which are a text
+-- a reply is JSON, but for the lists, which are texts
 abbrev pub reply_media : Reply → Media
 reply_media (reply.Shelves unit at lines) = Plain
+reply_media (reply.Standing unit at lines) = Plain
+reply_media (reply.Alarms unit at lines) = Plain
+reply_media (reply.Mine person at lines) = Plain
 reply_media _ = Json
 
 abbrev pub reply_body : Reply → List ℕ
@@ -29,6 +32,9 @@ reply_body reply.Done = done_body
 reply_body (reply.Status row) = status_body row
 reply_body (reply.Units lines) = units_body lines
 reply_body (reply.Shelves unit at lines) = shelf_text unit at lines
+reply_body (reply.Standing unit at lines) = standing_text unit at lines
+reply_body (reply.Alarms unit at lines) = alarm_text unit at lines
+reply_body (reply.Mine person at lines) = mine_text person at lines
 
 -- the bytes of an answer
 abbrev pub text_of : Answer → List ℕ

@@ -11,7 +11,7 @@ use Rattle.plant_alarm.specs.declared.shelf.ShelfState.TheVariants.{Unshelved, T
 use Rattle.plant_model.specs.declared.reply.Full.{Full}
 use Rattle.plant_model.specs.declared.reply.Full.TheVariants as full
 use Rattle.plant_model.specs.declared.reply.Refused.{Refused}
-use Rattle.plant_model.specs.declared.reply.Refused.TheVariants.{NotAdministrator, UnitTaken, NotGranted, RoleLacking, MomentBehind, UnitFull, AlarmTaken, AlarmUnknown, ShelvingTimeOutOfRange, ConditionAlreadyShelved, ConditionNotShelved, AlreadyHeld, NotHeld, LastSteward, ShelfQuota, EndNotAhead}
+use Rattle.plant_model.specs.declared.reply.Refused.TheVariants.{NotAdministrator, UnitTaken, NotGranted, RoleLacking, MomentBehind, UnitFull, AlarmTaken, AlarmUnknown, ShelvingTimeOutOfRange, ConditionAlreadyShelved, ConditionNotShelved, AlreadyOutOfService, NotOutOfService, AlreadyHeld, NotHeld, LastSteward, ShelfQuota, EndNotAhead}
 
 abbrev pub role_name : Role → List ℕ
 role_name Viewer = codes "Viewer"
@@ -62,6 +62,8 @@ refusal_name AlarmUnknown = codes "AlarmUnknown"
 refusal_name (ShelvingTimeOutOfRange max) = codes "ShelvingTimeOutOfRange"
 refusal_name ConditionAlreadyShelved = codes "ConditionAlreadyShelved"
 refusal_name ConditionNotShelved = codes "ConditionNotShelved"
+refusal_name AlreadyOutOfService = codes "AlreadyOutOfService"
+refusal_name NotOutOfService = codes "NotOutOfService"
 refusal_name AlreadyHeld = codes "AlreadyHeld"
 refusal_name NotHeld = codes "NotHeld"
 refusal_name LastSteward = codes "LastSteward"
@@ -80,6 +82,8 @@ refusal_no AlarmUnknown = 8
 refusal_no (ShelvingTimeOutOfRange max) = 9
 refusal_no ConditionAlreadyShelved = 10
 refusal_no ConditionNotShelved = 11
+refusal_no AlreadyOutOfService = 12
+refusal_no NotOutOfService = 13
 refusal_no AlreadyHeld = 14
 refusal_no NotHeld = 15
 refusal_no LastSteward = 16

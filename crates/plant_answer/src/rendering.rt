@@ -8,7 +8,7 @@ use crate::refusals::{refusal_body, status_of};
 use crate::responses::{Media, response};
 use http::StatusCode;
 use plant_model::{Answer, Reply};
-use plant_report::shelf_text;
+use plant_report::{alarm_text, mine_text, shelf_text, standing_text};
 use plant_types::Fault;
 use std::alloc::Global;
 
@@ -16,7 +16,10 @@ fn media_of(reply: &Reply) -> Media
     ensures { result ≡ reply_media reply.now }
 {
     match reply {
-        Reply::Shelves { .. } => Media::Plain,
+        Reply::Shelves { .. }
+        | Reply::Standing { .. }
+        | Reply::Alarms { .. }
+        | Reply::Mine { .. } => Media::Plain,
         _ => Media::Json,
     }
 }
@@ -30,6 +33,9 @@ fn reply_body(alloc: Global, reply: &Reply) -> Result<Vec<u8>, Fault>
         Reply::Status(row) => status_body(alloc, row),
         Reply::Units(lines) => units_body(alloc, lines.as_slice()),
         Reply::Shelves { unit, at, lines } => shelf_text(alloc, unit, *at, lines.as_slice()),
+        Reply::Standing { unit, at, lines } => standing_text(alloc, unit, *at, lines.as_slice()),
+        Reply::Alarms { unit, at, lines } => alarm_text(alloc, unit, *at, lines.as_slice()),
+        Reply::Mine { person, at, lines } => mine_text(alloc, person, *at, lines.as_slice()),
     }
 }
 

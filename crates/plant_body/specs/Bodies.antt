@@ -65,8 +65,8 @@ timed_shelving_in d = do
   Ok (record { seconds = seconds; words = words })
 
 -- of a one-shot shelving: the words alone
-abbrev pub one_shot_shelving_in : Data → Result (List ℕ) Unfit
-one_shot_shelving_in d = told (words_at (codes "words") d)
+abbrev pub reason_in : Data → Result (List ℕ) Unfit
+reason_in d = told (words_at (codes "words") d)
 
 -- the same over the bytes of a body
 abbrev pub read_by : {A : Type 0} → (Data → Result A Unfit) → List ℕ → Result A Unfit

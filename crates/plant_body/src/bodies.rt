@@ -1,7 +1,7 @@
 ghost use Rattle.std.specs.Prelude.{◌≡◌, map};
 ghost use Rattle.serde_json.specs.View.{view};
 ghost use Rattle.plant_body.specs.Members.{Gives};
-ghost use Rattle.plant_body.specs.Bodies.{matrix_from, opening_in, granting_in, withdrawal_in, registration_in, timed_shelving_in, one_shot_shelving_in, read_by};
+ghost use Rattle.plant_body.specs.Bodies.{matrix_from, opening_in, granting_in, withdrawal_in, registration_in, timed_shelving_in, reason_in, read_by};
 
 use crate::lists::{numbers_in, rows_in};
 use crate::members::{
@@ -156,9 +156,9 @@ pub fn read_timed_shelving(alloc: Global, bytes: &[u8]) -> Result<TimedShelving,
     timed_shelving_in(alloc, &value)
 }
 
-/// The body of a one-shot shelving: `words`.
-pub fn read_one_shot_shelving(alloc: Global, bytes: &[u8]) -> Result<Words, BodyError>
-    ensures { Gives result (read_by one_shot_shelving_in bytes.now) }
+/// The body of a one-shot shelving or of a removal from service: `words`.
+pub fn read_reason(alloc: Global, bytes: &[u8]) -> Result<Words, BodyError>
+    ensures { Gives result (read_by reason_in bytes.now) }
 {
     let value = value_in(alloc, bytes)?;
     text_in::<WordsBytes>(alloc, &value, "words")

@@ -6,8 +6,8 @@ mod lists;
 mod members;
 
 pub use bodies::{
-    Granting, Opening, Registration, TimedShelving, Withdrawal, read_granting,
-    read_one_shot_shelving, read_opening, read_registration, read_timed_shelving, read_withdrawal,
+    Granting, Opening, Registration, TimedShelving, Withdrawal, read_granting, read_opening,
+    read_reason, read_registration, read_timed_shelving, read_withdrawal,
 };
 pub use members::{BodyError, Unfit};
 

@@ -187,8 +187,8 @@ fn reads_registrations_and_shelvings(rt: HostRuntime) -> Result<(), Fail> {
     assert_eq!(rt; shelving.words.as_bytes(), b"pump test".as_slice());
     assert!(rt; read_timed_shelving(alloc, b"{\"seconds\":0,\"words\":\"x\"}").is_err());
     assert!(rt; read_timed_shelving(alloc, b"{\"seconds\":\"1\",\"words\":\"x\"}").is_err());
-    let words = read_one_shot_shelving(alloc, b"{\"words\":\"a\\u0020b\"}")?;
+    let words = read_reason(alloc, b"{\"words\":\"a\\u0020b\"}")?;
     assert_eq!(rt; words.as_bytes(), b"a b".as_slice());
-    assert!(rt; read_one_shot_shelving(alloc, b"{\"words\":\"\"}").is_err());
+    assert!(rt; read_reason(alloc, b"{\"words\":\"\"}").is_err());
     Ok(())
 }

@@ -9,7 +9,7 @@ use Rattle.plant_model.specs.declared.call.Call.{Call}
 use Rattle.plant_route.specs.declared.routes.Route.{Route}
 use Rattle.plant_route.specs.declared.routes.Route.TheVariants as route
 use Rattle.plant_route.specs.Routes.{route_of}
-use Rattle.plant_body.specs.Bodies.{read_by, opening_in, granting_in, withdrawal_in, registration_in, timed_shelving_in, one_shot_shelving_in}
+use Rattle.plant_body.specs.Bodies.{read_by, opening_in, granting_in, withdrawal_in, registration_in, timed_shelving_in, reason_in}
 use Rattle.plant_head.specs.Fields.{NameValue, values_named}
 use Rattle.plant_call.specs.Causes.{of_body, ◌>>=◌}
 use Rattle.plant_call.specs.Path.{unit_in, tag_in}
@@ -54,12 +54,21 @@ request_in route.TimedShelve path body = do
 request_in route.OneShotShelve path body = do
   unit ← unit_in path
   tag ← tag_in path
-  words ← of_body (read_by one_shot_shelving_in body)
+  words ← of_body (read_by reason_in body)
   Ok (request.OneShotShelve unit tag words)
 request_in route.Unshelve path body = do
   unit ← unit_in path
   tag ← tag_in path
   Ok (request.Unshelve unit tag)
+request_in route.RemoveFromService path body = do
+  unit ← unit_in path
+  tag ← tag_in path
+  words ← of_body (read_by reason_in body)
+  Ok (request.RemoveFromService unit tag words)
+request_in route.PlaceInService path body = do
+  unit ← unit_in path
+  tag ← tag_in path
+  Ok (request.PlaceInService unit tag)
 request_in route.Status path body = do
   unit ← unit_in path
   tag ← tag_in path
@@ -67,7 +76,14 @@ request_in route.Status path body = do
 request_in route.Shelves path body = do
   unit ← unit_in path
   Ok (request.Shelves unit)
+request_in route.Alarms path body = do
+  unit ← unit_in path
+  Ok (request.Alarms unit)
+request_in route.Standing path body = do
+  unit ← unit_in path
+  Ok (request.Standing unit)
 request_in route.MyUnits path body = Ok request.MyUnits
+request_in route.MyShelves path body = Ok request.MyShelves
 
 -- the call of a request, or its first cause: the route, the person, the moment, the path, the body
 unfoldable pub call_in : List ℕ → List ℕ → List NameValue → List ℕ → Result Call Cause

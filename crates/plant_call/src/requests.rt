@@ -16,7 +16,7 @@ use crate::path::{tag_in, unit_in};
 use httparse::spans::HeaderSpan;
 use plant_body::{
     BodyError, Granting, Opening, Registration, TimedShelving, Withdrawal, read_granting,
-    read_one_shot_shelving, read_opening, read_registration, read_timed_shelving, read_withdrawal,
+    read_opening, read_reason, read_registration, read_timed_shelving, read_withdrawal,
 };
 use plant_head::{Lookup, field};
 use plant_model::{Call, Request};
@@ -135,8 +135,18 @@ fn one_shot_shelve(alloc: Global, path: &[u8], body: &[u8]) -> Result<Request, C
 {
     let unit = unit_in(alloc, path)?;
     let tag = tag_in(alloc, path)?;
-    let words = of_body(read_one_shot_shelving(alloc, body))?;
+    let words = of_body(read_reason(alloc, body))?;
     Ok(Request::OneShotShelve { unit, tag, words })
+}
+
+#[tactic(auto, unfolding(crate::specs::Reading::request_in))]
+fn remove_from_service(alloc: Global, path: &[u8], body: &[u8]) -> Result<Request, CallError>
+    ensures { Gives result (request_in route.RemoveFromService path.now body.now) }
+{
+    let unit = unit_in(alloc, path)?;
+    let tag = tag_in(alloc, path)?;
+    let words = of_body(read_reason(alloc, body))?;
+    Ok(Request::RemoveFromService { unit, tag, words })
 }
 
 #[tactic(auto, unfolding(crate::specs::Reading::request_in))]
@@ -154,6 +164,11 @@ fn request_in(alloc: Global, route: Route, path: &[u8], body: &[u8]) -> Result<R
             unit: unit_in(alloc, path)?,
             tag: tag_in(alloc, path)?,
         }),
+        Route::RemoveFromService => remove_from_service(alloc, path, body),
+        Route::PlaceInService => Ok(Request::PlaceInService {
+            unit: unit_in(alloc, path)?,
+            tag: tag_in(alloc, path)?,
+        }),
         Route::Status => Ok(Request::Status {
             unit: unit_in(alloc, path)?,
             tag: tag_in(alloc, path)?,
@@ -161,7 +176,14 @@ fn request_in(alloc: Global, route: Route, path: &[u8], body: &[u8]) -> Result<R
         Route::Shelves => Ok(Request::Shelves {
             unit: unit_in(alloc, path)?,
         }),
+        Route::Alarms => Ok(Request::Alarms {
+            unit: unit_in(alloc, path)?,
+        }),
+        Route::Standing => Ok(Request::Standing {
+            unit: unit_in(alloc, path)?,
+        }),
         Route::MyUnits => Ok(Request::MyUnits),
+        Route::MyShelves => Ok(Request::MyShelves),
     }
 }
 

@@ -6,9 +6,9 @@ ghost use Rattle.plant_report.specs.Texts.{alarm_columns, standing_columns};
 
 use crate::columns::{push_column, push_last, push_last_right, push_left, push_moment};
 use crate::heading::push_heading;
-use crate::{AlarmLine, StandingLine};
 use itoa::Buffer;
 use plant_alarm::AlarmState;
+use plant_model::{AlarmLine, StandingLine};
 use plant_ration::Cell;
 use plant_types::{Fault, Moment, UnitCode};
 use std::alloc::Global;

@@ -11,7 +11,7 @@ mod shelves;
 
 pub use alarms::{alarm_text, standing_text};
 pub use flood_lines::flood_text;
-pub use lines::{AlarmLine, FloodLine, MineLine, StandingLine};
+pub use lines::FloodLine;
 pub use moments::write as write_moment;
 pub use plant_floods::{Run, floods};
 pub use shelves::{mine_text, shelf_text};

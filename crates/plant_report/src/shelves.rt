@@ -4,11 +4,10 @@ ghost use Rattle.plant_report.specs.Columns.{line as line_of};
 ghost use Rattle.plant_report.specs.Texts as texts;
 ghost use Rattle.plant_report.specs.Texts.{shelf_columns, mine_columns};
 
-use crate::MineLine;
 use crate::columns::{push_last, push_left, push_moment, push_right};
 use crate::heading::push_heading;
 use itoa::Buffer;
-use plant_model::ShelfLine;
+use plant_model::{MineLine, ShelfLine};
 use plant_types::{Fault, Moment, Person, UnitCode};
 use std::alloc::Global;
 
