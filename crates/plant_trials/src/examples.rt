@@ -214,6 +214,115 @@ ste 14:00:00 POST /units/U1/withdrawals {"person":"dan","role":"Viewer"}
 ste 14:00:00 POST /units/U1/grants {"person":"dan","role":"Steward","end":"2026-03-01T15:00:00Z"}
 400 {"cause":"BadBody","malformed":10}"#;
 
+const SERVICE: &str =
+    r#"moe 10:00:00 POST /units/U1/alarms/PT-101/remove-from-service {"words":"valve"}
+200 {"done":true}
+
+moe 10:00:00 GET /units/U1/alarms/PT-101
+200 {"limit":3600,"limit_revision":0,"out_of_service":true,"shelf":"Unshelved","shelf_left":0,"state":"Normal","suppressed":false,"suppressed_or_shelved":true,"tag":"PT-101"}
+
+moe 10:00:00 POST /units/U1/alarms/PT-101/remove-from-service {"words":"valve"}
+409 {"name":"AlreadyOutOfService","refused":12}
+
+ann 10:00:00 POST /units/U1/alarms/LT-2/remove-from-service {"words":"valve"}
+403 {"name":"RoleLacking","refused":4,"value":"Maintainer"}
+
+moe 10:00:00 POST /units/U1/alarms/LT-3/remove-from-service {"words":"valve"}
+409 {"name":"AlarmUnknown","refused":8}
+
+ann 10:00:00 POST /units/U1/alarms/PT-101/timed-shelve {"seconds":60,"words":"x"}
+200 {"done":true}
+
+moe 10:00:00 POST /units/U1/alarms/PT-101/place-in-service
+200 {"done":true}
+
+moe 10:00:00 POST /units/U1/alarms/PT-101/place-in-service
+409 {"name":"NotOutOfService","refused":13}
+
+moe 10:00:00 GET /units/U1/alarms/PT-101
+200 {"limit":3600,"limit_revision":0,"out_of_service":false,"shelf":"TimedShelved","shelf_left":60,"state":"Normal","suppressed":false,"suppressed_or_shelved":true,"tag":"PT-101"}"#;
+
+const LISTS: &str =
+    r#"ann 10:00:00 POST /units/U1/alarms/PT-101/timed-shelve {"seconds":60,"words":"x"}
+200 {"done":true}
+
+moe 10:00:00 POST /units/U1/alarms/LT-2/remove-from-service {"words":"valve"}
+200 {"done":true}
+
+vic 10:00:00 GET /units/U1/alarms
+200 ALARMS U1 AT 2026-03-01T10:00:00Z COUNT 2
+LT-2                     Normal         -  --O  86400
+PT-101                   Normal         -  S--   3600
+
+vic 10:01:00 GET /units/U1/alarms
+200 ALARMS U1 AT 2026-03-01T10:01:00Z COUNT 2
+LT-2                     Normal         -  --O  86400
+PT-101                   Normal         -  ---   3600
+
+vic 10:01:00 GET /units/U1/standing
+200 STANDING U1 AT 2026-03-01T10:01:00Z COUNT 0
+
+bob 10:01:00 GET /units/U1/alarms
+403 {"name":"NotGranted","refused":3}
+
+vic 09:59:59 GET /units/U1/standing
+409 {"name":"MomentBehind","refused":5,"value":"2026-03-01T10:00:00Z"}"#;
+
+/// A second unit, in which ann has three roles, with an alarm of its own; and a shelf in each of the two.
+const TWO_UNITS: &str =
+    r#"root 08:00:00 POST /units/U2 {"steward":"ste","bands":[300],"cells":[["P3","P4"],["P1","P2"]]}
+200 {"done":true}
+
+ste 08:00:00 POST /units/U2/grants {"person":"ann","role":"Viewer"}
+200 {"done":true}
+
+ste 08:00:00 POST /units/U2/grants {"person":"ann","role":"Operator"}
+200 {"done":true}
+
+ste 08:00:00 POST /units/U2/grants {"person":"ann","role":"Maintainer"}
+200 {"done":true}
+
+ste 08:00:00 POST /units/U2/grants {"person":"eve","role":"Engineer"}
+200 {"done":true}
+
+eve 08:00:00 POST /units/U2/alarms {"tag":"FT-7","latching":false,"max":7200}
+200 {"done":true}
+
+ann 10:00:00 POST /units/U1/alarms/LT-2/timed-shelve {"seconds":10800,"words":"drain"}
+200 {"done":true}
+
+ann 12:00:00 POST /units/U2/alarms/FT-7/one-shot-shelve {"words":"wiring"}
+200 {"done":true}"#;
+
+const MY_SHELVES: &str = r#"ann 11:00:00 GET /shelves
+409 {"name":"MomentBehind","refused":5,"value":"2026-03-01T12:00:00Z"}
+
+ann 12:00:00 GET /shelves
+200 MINE ann AT 2026-03-01T12:00:00Z COUNT 2
+U1       LT-2                     timed    2026-03-01T10:00:00Z   3600 ann                              drain
+U2       FT-7                     one-shot 2026-03-01T12:00:00Z   7200 ann                              wiring
+
+vic 11:00:00 GET /shelves
+200 MINE vic AT 2026-03-01T11:00:00Z COUNT 1
+U1       LT-2                     timed    2026-03-01T10:00:00Z   7200 ann                              drain
+
+ann 13:00:00 GET /shelves
+200 MINE ann AT 2026-03-01T13:00:00Z COUNT 1
+U2       FT-7                     one-shot 2026-03-01T12:00:00Z   3600 ann                              wiring
+
+bob 07:00:00 GET /shelves
+200 MINE bob AT 2026-03-01T07:00:00Z COUNT 0
+
+ste 12:00:00 POST /units/U2/grants {"person":"con","role":"Viewer","end":"2026-03-01T12:30:00Z"}
+200 {"done":true}
+
+con 12:29:59 GET /shelves
+200 MINE con AT 2026-03-01T12:29:59Z COUNT 1
+U2       FT-7                     one-shot 2026-03-01T12:00:00Z   5401 ann                              wiring
+
+con 12:30:00 GET /shelves
+200 MINE con AT 2026-03-01T12:30:00Z COUNT 0"#;
+
 /// What a registration in a unit with 2,000 alarms is answered, of a new tag and of one that is there.
 pub(crate) const ALARMS_FULL: &str =
     r#"eve 08:00:00 POST /units/U1/alarms {"tag":"NEW-1","latching":false,"max":3600}
@@ -231,7 +340,7 @@ ste 08:00:00 POST /units/U1/grants {"person":"ann","role":"Operator"}
 409 {"name":"UnitFull","refused":6,"value":"Grants"}"#;
 
 /// Each example: its title, what goes before it, and its own exchanges.
-pub(crate) const WORKED: [(&str, &[&str], &str); 13] = [
+pub(crate) const WORKED: [(&str, &[&str], &str); 16] = [
     ("no units", &[], NO_UNITS),
     ("opened once, by the administrator", &[], OPENINGS),
     ("a stranger's status", &[BASE], STRANGER),
@@ -245,4 +354,7 @@ pub(crate) const WORKED: [(&str, &[&str], &str); 13] = [
     ("no more shelves than the quota", &[QUOTA], QUOTA_REACHED),
     ("a grant that ends", &[BASE], ENDED_GRANT),
     ("a unit that is not there", &[], STRANGER),
+    ("out of service and back", &[BASE], SERVICE),
+    ("all alarms, and those that are active", &[BASE], LISTS),
+    ("the shelves of two units", &[BASE, TWO_UNITS], MY_SHELVES),
 ];

@@ -1,4 +1,4 @@
-//! The worked examples of the ten calls, each as bytes.
+//! The worked examples, each as bytes.
 
 use crate::examples::{ALARMS_FULL, BASE, GRANTS_FULL, WORKED};
 use crate::exchanges::Exchanges;
