@@ -7,3 +7,4 @@ pub mod Merges
 pub mod Risings
 pub mod Nearest
 pub mod Examples
+pub mod FileLaws

@@ -3,6 +3,7 @@
 
 mod bad_file;
 mod fields;
+pub mod laws;
 mod merging;
 mod reading;
 mod records;

@@ -1,0 +1,5 @@
+use Rattle.plant_import.proofs.FileLaws.{files_agree}
+use Rattle.plant_import.proofs.laws.files_agree.Goals as goal
+
+pub returns : goal.returns
+returns c = files_agree
