@@ -4,5 +4,6 @@ pub mod Keeping
 pub mod Wanted
 pub mod Making
 pub mod Mine
+pub mod Shelves
 pub mod Counting
 pub mod Opening

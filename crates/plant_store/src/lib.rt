@@ -7,6 +7,7 @@ mod mine;
 mod opening;
 mod part;
 mod read;
+mod shelves;
 mod tables;
 mod unit;
 mod write;

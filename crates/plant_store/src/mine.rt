@@ -64,7 +64,8 @@ fn one_role(alloc: Global, role_no: Role) -> Result<Table<Role>, Error>
     Ok(roles)
 }
 
-fn push<T: Drop>(table: &mut Table<T>, row: T) -> Result<(), Error>
+/// Puts a value at the end.
+pub fn push<T: Drop>(table: &mut Table<T>, row: T) -> Result<(), Error>
     ensures { OnOk result (table.new ≡ table.old ++ row ∷ []) }
 {
     match table.push(row) {

@@ -42,12 +42,18 @@ pub fn scope_of(request: &Request) -> Scope<'_>
         Request::OpenUnit { .. }
         | Request::Grant { .. }
         | Request::Withdraw { .. }
-        | Request::MyUnits => Scope::Nothing,
+        | Request::MyUnits
+        | Request::MyShelves => Scope::Nothing,
         Request::Register { tag, .. }
         | Request::Unshelve { tag, .. }
+        | Request::RemoveFromService { tag, .. }
+        | Request::PlaceInService { tag, .. }
         | Request::Status { tag, .. } => Scope::One(tag),
-        Request::TimedShelve { .. } | Request::OneShotShelve { .. } | Request::Shelves { .. } =>
-            Scope::Every,
+        Request::TimedShelve { .. }
+        | Request::OneShotShelve { .. }
+        | Request::Shelves { .. }
+        | Request::Alarms { .. }
+        | Request::Standing { .. } => Scope::Every,
     }
 }
 
@@ -62,9 +68,14 @@ pub fn is_of_grants(request: &Request) -> bool
         | Request::TimedShelve { .. }
         | Request::OneShotShelve { .. }
         | Request::Unshelve { .. }
+        | Request::RemoveFromService { .. }
+        | Request::PlaceInService { .. }
         | Request::Status { .. }
         | Request::Shelves { .. }
-        | Request::MyUnits => false,
+        | Request::Alarms { .. }
+        | Request::Standing { .. }
+        | Request::MyUnits
+        | Request::MyShelves => false,
     }
 }
 
@@ -80,9 +91,13 @@ pub fn unit_of(request: &Request) -> Option<&UnitCode>
         | Request::TimedShelve { unit, .. }
         | Request::OneShotShelve { unit, .. }
         | Request::Unshelve { unit, .. }
+        | Request::RemoveFromService { unit, .. }
+        | Request::PlaceInService { unit, .. }
         | Request::Status { unit, .. }
-        | Request::Shelves { unit, .. } => Some(unit),
-        Request::MyUnits => None,
+        | Request::Shelves { unit }
+        | Request::Alarms { unit }
+        | Request::Standing { unit } => Some(unit),
+        Request::MyUnits | Request::MyShelves => None,
     }
 }
 
@@ -167,9 +182,14 @@ fn count_for<S: Alter>(
         | Request::TimedShelve { .. }
         | Request::OneShotShelve { .. }
         | Request::Unshelve { .. }
+        | Request::RemoveFromService { .. }
+        | Request::PlaceInService { .. }
         | Request::Status { .. }
         | Request::Shelves { .. }
-        | Request::MyUnits => Ok(0),
+        | Request::Alarms { .. }
+        | Request::Standing { .. }
+        | Request::MyUnits
+        | Request::MyShelves => Ok(0),
     }
 }
 

@@ -13,8 +13,8 @@ ghost use Rattle.plant_types.specs.declared.fault.Fault.TheVariants.{Store};
 
 use crate::make::make_all;
 use crate::opening::{has_office, is_office_of};
-use crate::{mine, part, unit, write};
-use plant_books::{Books, MineUnit};
+use crate::{mine, part, shelves, unit, write};
+use plant_books::{Books, MineShelf, MineUnit};
 use plant_model::{Call, Change, UnitPart, UnitRows};
 use plant_types::{Fault, Moment, Person, Table, UnitCode};
 use sqlite::{Alter, Connection, Error as SqlError, ErrorCode};
@@ -257,6 +257,17 @@ impl<S: Alter> Books for Tables<S> {
 
     fn mine_units(&mut self, person: &Person, now: Moment) -> Result<Table<MineUnit>, Fault> {
         match mine::mine_units(self.alloc, &mut self.conn, person, now) {
+            Ok(found) => Ok(found),
+            Err(error) => {
+                let fault = fault_of(&error);
+                self.stores = counted(self.stores, &fault);
+                Err(fault)
+            }
+        }
+    }
+
+    fn mine_shelves(&mut self, person: &Person, now: Moment) -> Result<Table<MineShelf>, Fault> {
+        match shelves::mine_shelves(self.alloc, &mut self.conn, person, now) {
             Ok(found) => Ok(found),
             Err(error) => {
                 let fault = fault_of(&error);
