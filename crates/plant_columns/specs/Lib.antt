@@ -1,3 +1,4 @@
 pub mod Codes
+pub mod Causes
 pub mod Tables
 pub mod Shown

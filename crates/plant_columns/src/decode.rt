@@ -1,10 +1,12 @@
-//! Typed rows from the rows that a query shows. A value outside its column's set is an error.
+//! Typed rows from the rows that a query shows. A value outside its column's set is an error, and not want of memory.
 
-ghost use Rattle.std.specs.Prelude.{◌≡◌, ◌∷◌, [], ℕ, map, IfOk};
+ghost use Rattle.std.specs.Prelude.{◌≡◌, ◌∷◌, [], ℕ, map, IfErr, IfOk, IsTrue};
 ghost use Rattle.sqlite_value.specs.Order.{column, Row as SqlRow};
 ghost use Rattle.sqlite_value.specs.declared.value.Value.TheVariants.{Text as TextValue};
+ghost use Rattle.plant_columns.specs.Causes.{IsNoMemory, MemoryIsOfText};
 ghost use Rattle.plant_columns.specs.Codes as codes;
 ghost use Rattle.plant_columns.specs.Shown.{columns};
+ghost use Rattle.plant_types.specs.Text.{is_text};
 ghost use Rattle.plant_columns.specs.Tables.{unit_shape, grant_shape, alarm_shape, shelf_shape, band_shape, cell_shape};
 
 use plant_alarm::AlarmState;
@@ -16,7 +18,8 @@ use sqlite::{Error, ErrorCode, Row};
 use std::alloc::Global;
 
 fn text_of<C: Alphabet>(alloc: Global, bytes: &[u8], at: usize) -> Result<Text<C>, Error>
-    ensures { IfOk result (λ t. t ≡ bytes.now) }
+    ensures value { IfOk result (λ t. t ≡ bytes.now) }
+    ensures cause { IfErr result (λ e. e ≡ Error.SqliteFailure ErrorCode.OutOfMemory → IsTrue (is_text C.admits C.longest bytes.now)) }
 {
     match Text::read(alloc, bytes) {
         Ok(Some(text)) => Ok(text),
@@ -26,7 +29,8 @@ fn text_of<C: Alphabet>(alloc: Global, bytes: &[u8], at: usize) -> Result<Text<C
 }
 
 pub fn text<C: Alphabet>(alloc: Global, row: &Row, at: usize) -> Result<Text<C>, Error>
-    ensures { IfOk result (λ t. column row.now at ≡ TextValue t) }
+    ensures value { IfOk result (λ t. column row.now at ≡ TextValue t) }
+    ensures cause { IfErr result (MemoryIsOfText C.admits C.longest (column row.now at)) }
 {
     match row.get_ref(at)? {
         ValueRef::Text(bytes) => text_of(alloc, bytes, at),
@@ -35,7 +39,8 @@ pub fn text<C: Alphabet>(alloc: Global, row: &Row, at: usize) -> Result<Text<C>,
 }
 
 fn open_text<C: Alphabet>(alloc: Global, row: &Row, at: usize) -> Result<Option<Text<C>>, Error>
-    ensures { IfOk result (λ t. column row.now at ≡ codes.open_text t) }
+    ensures value { IfOk result (λ t. column row.now at ≡ codes.open_text t) }
+    ensures cause { IfErr result (MemoryIsOfText C.admits C.longest (column row.now at)) }
 {
     if let ValueRef::Null = row.get_ref(at)? {
         return Ok(None);
@@ -44,19 +49,31 @@ fn open_text<C: Alphabet>(alloc: Global, row: &Row, at: usize) -> Result<Option<
 }
 
 fn wide(row: &Row, at: usize) -> Result<u64, Error>
-    ensures { IfOk result (λ n. column row.now at ≡ codes.number n) }
+    ensures value { IfOk result (λ n. column row.now at ≡ codes.number n) }
+    ensures cause { IfErr result IsNoMemory }
 {
-    row.get(at)
+    match row.get_ref(at)? {
+        ValueRef::Int(found) => match u64::try_from(found) {
+            Ok(number) => Ok(number),
+            Err(_) => Err(Error::IntegralValueOutOfRange(at)),
+        },
+        other => Err(Error::InvalidColumnType(at, Type::of(other))),
+    }
 }
 
 fn number(row: &Row, at: usize) -> Result<u32, Error>
-    ensures { IfOk result (λ n. column row.now at ≡ codes.number n) }
+    ensures value { IfOk result (λ n. column row.now at ≡ codes.number n) }
+    ensures cause { IfErr result IsNoMemory }
 {
-    row.get(at)
+    match u32::try_from(wide(row, at)?) {
+        Ok(number) => Ok(number),
+        Err(_) => Err(Error::IntegralValueOutOfRange(at)),
+    }
 }
 
 fn small(row: &Row, at: usize) -> Result<u8, Error>
-    ensures { IfOk result (λ n. column row.now at ≡ codes.number n) }
+    ensures value { IfOk result (λ n. column row.now at ≡ codes.number n) }
+    ensures cause { IfErr result IsNoMemory }
 {
     match u8::try_from(number(row, at)?) {
         Ok(small) => Ok(small),
@@ -65,7 +82,8 @@ fn small(row: &Row, at: usize) -> Result<u8, Error>
 }
 
 fn moment_of(seconds: u64, at: usize) -> Result<Moment, Error>
-    ensures { IfOk result (λ m. m ≡ seconds) }
+    ensures value { IfOk result (λ m. m ≡ seconds) }
+    ensures cause { IfErr result IsNoMemory }
 {
     match Moment::of_seconds(seconds) {
         Some(moment) => Ok(moment),
@@ -74,13 +92,15 @@ fn moment_of(seconds: u64, at: usize) -> Result<Moment, Error>
 }
 
 pub fn moment(row: &Row, at: usize) -> Result<Moment, Error>
-    ensures { IfOk result (λ m. column row.now at ≡ codes.number m) }
+    ensures value { IfOk result (λ m. column row.now at ≡ codes.number m) }
+    ensures cause { IfErr result IsNoMemory }
 {
     moment_of(wide(row, at)?, at)
 }
 
 pub fn open_moment(row: &Row, at: usize) -> Result<Option<Moment>, Error>
-    ensures { IfOk result (λ m. column row.now at ≡ codes.open_number m) }
+    ensures value { IfOk result (λ m. column row.now at ≡ codes.open_number m) }
+    ensures cause { IfErr result IsNoMemory }
 {
     match row.get_ref(at)? {
         ValueRef::Null => Ok(None),
@@ -89,7 +109,8 @@ pub fn open_moment(row: &Row, at: usize) -> Result<Option<Moment>, Error>
 }
 
 fn seconds(row: &Row, at: usize) -> Result<Seconds, Error>
-    ensures { IfOk result (λ n. column row.now at ≡ codes.number n) }
+    ensures value { IfOk result (λ n. column row.now at ≡ codes.number n) }
+    ensures cause { IfErr result IsNoMemory }
 {
     match Seconds::new(wide(row, at)?) {
         Some(seconds) => Ok(seconds),
@@ -98,7 +119,8 @@ fn seconds(row: &Row, at: usize) -> Result<Seconds, Error>
 }
 
 fn quota(row: &Row, at: usize) -> Result<Quota, Error>
-    ensures { IfOk result (λ n. column row.now at ≡ codes.number n) }
+    ensures value { IfOk result (λ n. column row.now at ≡ codes.number n) }
+    ensures cause { IfErr result IsNoMemory }
 {
     match Quota::new(wide(row, at)?) {
         Some(quota) => Ok(quota),
@@ -107,7 +129,8 @@ fn quota(row: &Row, at: usize) -> Result<Quota, Error>
 }
 
 fn flag(row: &Row, at: usize) -> Result<bool, Error>
-    ensures { IfOk result (λ b. column row.now at ≡ codes.flag b) }
+    ensures value { IfOk result (λ b. column row.now at ≡ codes.flag b) }
+    ensures cause { IfErr result IsNoMemory }
 {
     match number(row, at)? {
         0 => Ok(false),
@@ -117,7 +140,8 @@ fn flag(row: &Row, at: usize) -> Result<bool, Error>
 }
 
 pub fn role(row: &Row, at: usize) -> Result<Role, Error>
-    ensures { IfOk result (λ r. column row.now at ≡ codes.role r) }
+    ensures value { IfOk result (λ r. column row.now at ≡ codes.role r) }
+    ensures cause { IfErr result IsNoMemory }
 {
     match number(row, at)? {
         1 => Ok(Role::Viewer),
@@ -131,7 +155,8 @@ pub fn role(row: &Row, at: usize) -> Result<Role, Error>
 }
 
 fn state(row: &Row, at: usize) -> Result<AlarmState, Error>
-    ensures { IfOk result (λ s. column row.now at ≡ codes.alarm_state s) }
+    ensures value { IfOk result (λ s. column row.now at ≡ codes.alarm_state s) }
+    ensures cause { IfErr result IsNoMemory }
 {
     match number(row, at)? {
         1 => Ok(AlarmState::Normal),
@@ -145,7 +170,8 @@ fn state(row: &Row, at: usize) -> Result<AlarmState, Error>
 }
 
 fn cell(row: &Row, at: usize) -> Result<Cell, Error>
-    ensures { IfOk result (λ c. column row.now at ≡ codes.cell c) }
+    ensures value { IfOk result (λ c. column row.now at ≡ codes.cell c) }
+    ensures cause { IfErr result IsNoMemory }
 {
     match number(row, at)? {
         0 => Ok(Cell::N),

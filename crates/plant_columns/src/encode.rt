@@ -1,6 +1,6 @@
 //! Typed rows as the values of columns.
 
-ghost use Rattle.std.specs.Prelude.{◌≡◌, ◌∷◌, [], IfOk};
+ghost use Rattle.std.specs.Prelude.{◌≡◌, ◌≤◌, ◌^◌, ◌∷◌, [], IfErr, IfOk};
 ghost use Rattle.sqlite.specs.Values.{bound, bound_value};
 ghost use Rattle.sqlite_value.specs.Value.{owned};
 ghost use Rattle.sqlite_value.specs.declared.value.Value.TheVariants.{Text as TextValue};
@@ -28,9 +28,10 @@ fn number(number: u32) -> ValueRef<'static>
     ValueRef::Int(i64::from(number))
 }
 
-/// A number, if a column can hold it.
+/// A number, if a column can hold it: each below 2^63.
 pub fn wide(number: u64) -> Result<ValueRef<'static>, Error>
-    ensures { IfOk result (λ v. bound_value (owned v) ≡ codes.number number) }
+    ensures value { IfOk result (λ v. bound_value (owned v) ≡ codes.number number) }
+    ensures refused { IfErr result (λ e. (2 ^ 63 ≤ number) × (e ≡ Error.InvalidQuery)) }
 {
     match i64::try_from(number) {
         Ok(number) => Ok(ValueRef::Int(number)),

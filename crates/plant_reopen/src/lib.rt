@@ -54,4 +54,6 @@ pub fn reopen<D: Disk + Drop>(
 }
 
 #[cfg(test)]
+mod outside;
+#[cfg(test)]
 mod tests;

@@ -1,4 +1,4 @@
-ghost use Rattle.std.specs.Prelude.{◌≡◌, false};
+ghost use Rattle.std.specs.Prelude.{◌≡◌, false, IfOk};
 
 use super::*;
 use plant_alarm::AlarmState;
@@ -11,20 +11,42 @@ use sqlite::{Files, MemStore};
 use sqlite_disk::Memory;
 use std::test::Fail;
 
-fn unit(alloc: Global, bytes: &[u8]) -> Result<UnitCode, Fail> {
+pub(crate) fn unit(alloc: Global, bytes: &[u8]) -> Result<UnitCode, Fail> {
     Ok(UnitCode::read(alloc, bytes)?.ok_or("a code")?)
 }
 
-fn person(alloc: Global, bytes: &[u8]) -> Result<Person, Fail> {
+pub(crate) fn person(alloc: Global, bytes: &[u8]) -> Result<Person, Fail> {
     Ok(Person::read(alloc, bytes)?.ok_or("a person")?)
 }
 
-fn tag(alloc: Global, bytes: &[u8]) -> Result<Tag, Fail> {
+pub(crate) fn tag(alloc: Global, bytes: &[u8]) -> Result<Tag, Fail> {
     Ok(Tag::read(alloc, bytes)?.ok_or("a tag")?)
 }
 
-fn at(seconds: u64) -> Result<Moment, Fail> {
+pub(crate) fn at(seconds: u64) -> Result<Moment, Fail> {
     Ok(Moment::of_seconds(seconds).ok_or("a moment")?)
+}
+
+/// Runs the statements, and leaves no transaction.
+pub(crate) fn after(
+    mut conn: Connection<MemStore>,
+    statements: &str,
+) -> Result<Connection<MemStore>, Fail>
+    ensures { IfOk result (λ after. after.in_transaction ≡ false) }
+{
+    conn.execute_batch(statements)?;
+    if conn.is_autocommit() {
+        Ok(conn)
+    } else {
+        Err(Fail::from("a transaction"))
+    }
+}
+
+/// A database that these statements make.
+fn made_by(alloc: Global, statements: &str) -> Result<Connection<MemStore>, Fail>
+    ensures { IfOk result (λ made. made.in_transaction ≡ false) }
+{
+    after(Connection::open_in_memory(alloc)?, statements)
 }
 
 fn new_books(alloc: Global) -> Result<Tables<MemStore>, Fail> {
@@ -121,7 +143,7 @@ fn counts(rows: &UnitRows) -> [usize; 6] {
 }
 
 /// Books with one unit.
-fn opened(alloc: Global) -> Result<Tables<MemStore>, Fail> {
+pub(crate) fn opened(alloc: Global) -> Result<Tables<MemStore>, Fail> {
     let mut books = new_books(alloc)?;
     books.apply(&unit(alloc, b"U1")?, &changes(alloc)?)?;
     Ok(books)
@@ -195,6 +217,59 @@ fn opens_its_own_store_alone(rt: HostRuntime) -> Result<(), Fail> {
     };
     assert_eq!(rt; *books.administrator(), person(alloc, b"root")?);
     assert_eq!(rt; counts(&rows(&mut books, alloc)?), [1, 3, 2, 1, 1, 2]);
+    Ok(())
+}
+
+/// Statements that make a database, and whether it is then opened for `root`.
+const OFFICES: [(&str, bool); 9] = [
+    ("", false),
+    (
+        "CREATE TABLE other (id INTEGER, schema_no INTEGER, admin TEXT) STRICT; INSERT INTO other (id, schema_no, admin) VALUES (1, 2, 'root')",
+        false,
+    ),
+    (
+        "CREATE TABLE office (id INTEGER, schema_no INTEGER) STRICT; INSERT INTO office (id, schema_no) VALUES (1, 2)",
+        false,
+    ),
+    (
+        "CREATE TABLE other (id INTEGER) STRICT; CREATE TABLE office (admin TEXT, schema_no INTEGER, id INTEGER) STRICT; CREATE VIEW seen AS SELECT id FROM other; INSERT INTO office (id, schema_no, admin) VALUES (1, 2, 'root')",
+        true,
+    ),
+    (
+        "CREATE TABLE other (id INTEGER) STRICT; CREATE TABLE office (admin TEXT, schema_no INTEGER, id INTEGER) STRICT; INSERT INTO office (id, schema_no, admin) VALUES (1, 1, 'root')",
+        false,
+    ),
+    (
+        "CREATE TABLE office (id INTEGER, schema_no INTEGER, admin TEXT) STRICT; INSERT INTO office (id, schema_no, admin) VALUES (1, 2, 'ste')",
+        false,
+    ),
+    (
+        "CREATE TABLE office (id INTEGER, schema_no INTEGER, admin TEXT) STRICT; INSERT INTO office (id, schema_no, admin) VALUES (2, 2, 'root')",
+        false,
+    ),
+    (
+        "CREATE TABLE office (id INTEGER, schema_no INTEGER, admin TEXT) STRICT",
+        false,
+    ),
+    (
+        "CREATE TABLE office (id INTEGER, schema_no INTEGER, admin TEXT) STRICT; INSERT INTO office (id, schema_no, admin) VALUES (1, 2, 'root'), (1, 2, 'root')",
+        false,
+    ),
+];
+
+#[test]
+fn opens_where_the_office_has_its_row(rt: HostRuntime) -> Result<(), Fail> {
+    let alloc = rt.alloc();
+    for (statements, is_opened) in OFFICES {
+        let conn = made_by(alloc, statements)?;
+        match Tables::open(alloc, conn, person(alloc, b"root")?) {
+            Ok(_) => assert!(rt; is_opened, "{statements}"),
+            Err(back) => assert!(rt;
+                !is_opened && matches!(back.fault, StoreFault::NotThisStore),
+                "{statements}"
+            ),
+        }
+    }
     Ok(())
 }
 

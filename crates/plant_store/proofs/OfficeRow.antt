@@ -1,89 +1,157 @@
--- What the question for the office's row means, wherever the office's table is the first.
-use Rattle.std.proofs.Common.{◌≡◌, refl, sym, ap, subst, List, [], ◌∷◌, map, filter, false, true, codes, IsPermutation, ◌↔◌}
+-- What the question for the office's row shows, wherever the office's table stands.
+use Rattle.std.proofs.Common.{◌≡◌, refl, sym, ap, subst, ◌∙◌, ℕ, List, [], ◌∷◌, length, ltb, map, filter, false, true, inl, inr, codes, IsPermutation, ◌↔◌, Option, None, Some, slice_get, unwrap_or, is_some}
+use Rattle.std.specs.Prelude.{option_and_then, option_map}
+use Rattle.std.specs.List.{position_or_len}
+use Rattle.std.proofs.lemmas.Bool.{and_parts, cases_Bool, false≢true, ltb-true}
+use Rattle.std.proofs.lemmas.Iterator.Adapters.{position_from-zero}
 use Rattle.std.proofs.lemmas.List.Sorted.{IsPermutation-map, IsPermutation-sym}
-use Rattle.sqlite.specs.Query.{Output}
-use Rattle.sqlite.specs.State.{State, Shown}
-use Rattle.sqlite.proofs.Callers.{one_permutation, reads_as}
-use Rattle.sqlite_value.specs.declared.value.Value.TheVariants.{Null}
-use Rattle.sqlite_value.specs.Order.{Row}
-use Rattle.plant_tables.proofs.Laws.{reads, shows}
-use Rattle.plant_types.specs.Names.{Name}
+use Rattle.std.proofs.lemmas.Option.{slice_get-get_or}
 use Rattle.sqlite.specs.Effect.{Database}
+use Rattle.sqlite.specs.Kind.TheVariants.{Integer}
+use Rattle.sqlite.specs.Query.{Output, inner, end}
+use Rattle.sqlite.specs.Schema.{Schema}
+use Rattle.sqlite.specs.State.{State, Shown}
+use Rattle.sqlite.specs.Table.{Table}
+use Rattle.sqlite.specs.Term.{Term, col}
+use Rattle.sqlite.proofs.Callers.{IsPlain, command_of, one_permutation, reads_as}
+use Rattle.sqlite_schema.specs.Names.{column_named, place_of, same_name, table_named}
+use Rattle.sqlite_typing.specs.Types.{accepts_program}
+use Rattle.sqlite_value.specs.declared.value.Value.TheVariants.{Null}
+use Rattle.sqlite_value.specs.Order.{Row, column}
 use Rattle.plant_books.specs.Contents.{Content}
+use Rattle.plant_columns.specs.Shown.{columns}
+use Rattle.plant_columns.specs.Tables.{AreBooks, office_table}
+use Rattle.plant_store.proofs.Contents.{keeps_same}
+use Rattle.plant_store.proofs.OfficeMeaning.{is_refused, is_understood, query}
+use Rattle.plant_store.proofs.ThreeColumns.{IsColumn}
 use Rattle.plant_store.specs.Changes.{CanTell}
 use Rattle.plant_store.specs.Keeping.{Keeps, KeepsIn}
-use Rattle.plant_store.proofs.Contents.{keeps_same}
-use Rattle.sqlite.specs.Command.TheVariants.{Select}
-use Rattle.sqlite.specs.Listing.{understood, reads_listing}
-use Rattle.sqlite.specs.Query.{inner, end}
-use Rattle.sqlite.specs.Table.{Table}
-use Rattle.sqlite.specs.Term.{col}
-use Rattle.sqlite.proofs.Callers.{IsPlain, command_of}
-use Rattle.sqlite_schema.specs.declared.schema.Index.{Index}
-use Rattle.sqlite_tied.specs.Compute.{everything}
-use Rattle.plant_store.specs.Opening.{IsOfficeFirst, IsThisOffice, office_cells, office_shown, with_office}
-use Rattle.plant_columns.specs.Tables.{AreBooks}
+use Rattle.plant_store.specs.Opening.{IsThisOffice, has_office, is_office, office_cells, office_in, office_shown, place_named}
 use Rattle.plant_store.specs.Texts.{office_row_text}
-use Rattle.plant_tables.specs.Kept.{plain_query}
+use Rattle.plant_tables.proofs.Laws.{reads, shows}
+use Rattle.plant_tables.specs.Tables.{column_of}
+use Rattle.plant_types.specs.Names.{Name}
 
-pub office_is : (more : List Table) (indexes : List Index) → (command_of (understood (with_office more indexes) office_row_text) ≡ Select (record { lets = []; body = plain_query (inner 0 end) [] (col 1 0 ∷ col 1 2 ∷ col 1 3 ∷ []) [] }) (codes "id" ∷ codes "schema_no" ∷ codes "admin" ∷ []))
-    × (reads_listing (with_office more indexes) office_row_text ≡ false)
-unfolding understood everything
-office_is more indexes = (refl, refl)
+-- ---- a table and its columns are found by their names
 
-pub office_plain : (more : List Table) (indexes : List Index) → IsPlain (understood (with_office more indexes) office_row_text)
-unfolding understood everything
-office_plain more indexes = (refl, refl)
+found_table : (schema : Schema) (t : Table) (o : Option ℕ) → option_and_then (slice_get schema.tables) o ≡ Some t → (k : ℕ) × (o ≡ Some k) × (slice_get schema.tables k ≡ Some t)
+found_table schema t None h = absurd cc
+found_table schema t (Some k) h = (k, refl, h)
+
+has_found : (o : Option Table) → unwrap_or (option_map is_office o) false ≡ true → (t : Table) × (o ≡ Some t) × (is_office t ≡ true)
+has_found None h = absurd (false≢true h)
+has_found (Some t) h = (t, refl, h)
+
+pub office_there : (schema : Schema) → has_office schema ≡ true → (t : Table) × (office_in schema ≡ Some t) × (is_office t ≡ true)
+office_there schema h = has_found (office_in schema) h
+
+pub not_there : (admin : Name) (db : Database) → has_office db.schema ≡ false → ¬ IsThisOffice admin db
+not_there admin db none it = let e = ap (λ o. unwrap_or (option_map is_office o) false) it.is_there in false≢true (sym none ∙ e ∙ it.has_columns)
+
+found_column : (t : Table) (n : Name) → is_some (column_named t n) ≡ true → IsColumn t n
+found_column t n h =
+    let p = λ (c : Rattle.sqlite_schema.specs.declared.schema.Column.Column). same_name c.name n in
+    let at = position_or_len p t.columns in
+    elim (cases_Bool (ltb at (length t.columns))) [
+      | inl within ↦ record { at = at; column = _; has = sym (position_from-zero p t.columns) ∙ rw within; it = slice_get-get_or t.columns at (column_of [] Integer) (ltb-true at (length t.columns) within) }
+      | inr past ↦ absurd (let e : column_named t n ≡ None = sym (position_from-zero p t.columns) ∙ rw past in false≢true (sym (ap is_some e) ∙ h))
+    ]
+
+-- ---- what is shown
 
 all_pass : (rows : List Row) → filter (λ r. true) rows ≡ rows
 all_pass [] = refl
 all_pass (r ∷ rows) = ap (λ l. r ∷ l) (all_pass rows)
 
-shown_rows : (rows : List Row) → map (λ (o : Output). o.1) (map (shows 0 [] (col 1 0 ∷ col 1 2 ∷ col 1 3 ∷ []) [] []) rows) ≡ map office_shown rows
-shown_rows [] = refl
-shown_rows (r ∷ rows) = ap (λ l. office_shown r ∷ l) (shown_rows rows)
+abbrev three : ℕ → ℕ → ℕ → Row → Row
+three a b c r = column r a ∷ column r b ∷ column r c ∷ []
 
--- what the question shows are the rows of the office's table, in some order
-module _ (old new : State) (first : IsOfficeFirst old.now.schema) (rows : List Row) (h : Shown office_row_text [] old new rows) where
-  some_order : IsPermutation (map office_shown (old.now.trees 0)) rows
-  some_order =
-      let is = office_is first.0 first.1 in
-      let got = reads_as office_row_text [] old new (with_office first.0 first.1) first.2 _ is.0 (office_plain first.0 first.1) is.1 rows h in
-      let it = reads 0 [] (col 1 0 ∷ col 1 2 ∷ col 1 3 ∷ []) [] old.now.trees [] rows (got.answer Null) in
-      let all = subst (λ rs. IsPermutation (map (shows 0 [] (col 1 0 ∷ col 1 2 ∷ col 1 3 ∷ []) [] []) rs) it.ordered) (all_pass (old.now.trees 0)) it.same in
-      subst (λ l. IsPermutation l rows) (shown_rows (old.now.trees 0)) (subst (IsPermutation (map (λ (o : Output). o.1) (map (shows 0 [] (col 1 0 ∷ col 1 2 ∷ col 1 3 ∷ []) [] []) (old.now.trees 0)))) (sym it.rows_are) (IsPermutation-map (λ (o : Output). o.1) _ _ all))
+shown_rows : (tree a b c : ℕ) (rows : List Row) → map (λ (o : Output). o.1) (map (shows tree [] (col 1 a ∷ col 1 b ∷ col 1 c ∷ []) [] []) rows) ≡ map (three a b c) rows
+shown_rows tree a b c [] = refl
+shown_rows tree a b c (r ∷ rows) = ap (λ l. three a b c r ∷ l) (shown_rows tree a b c rows)
 
-  pub one_office : (x : Row) → (rows ≡ x ∷ []) ↔ (map office_shown (old.now.trees 0) ≡ x ∷ [])
-  one_office x = (
-    λ e. one_permutation x (map office_shown (old.now.trees 0)) (IsPermutation-sym (map office_shown (old.now.trees 0)) (x ∷ []) (subst (IsPermutation (map office_shown (old.now.trees 0))) e some_order)),
-    λ e. one_permutation x rows (subst (λ l. IsPermutation l rows) e some_order),
-  )
+columns_each : (a b c : ℕ) (rows : List Row) → map (columns 3) (map (three a b c) rows) ≡ map (three a b c) rows
+columns_each a b c [] = refl
+columns_each a b c (r ∷ rows) = ap (λ l. three a b c r ∷ l) (columns_each a b c rows)
 
-columns_each : (rows : List Row) → map (Rattle.plant_columns.specs.Shown.columns 3) (map office_shown rows) ≡ map office_shown rows
-columns_each [] = refl
-columns_each (r ∷ rows) = ap (λ l. office_shown r ∷ l) (columns_each rows)
-
-cells_alone : (admin : Name) (rows xs : List Row) → IsPermutation (map office_shown xs) rows → map (Rattle.plant_columns.specs.Shown.columns 3) rows ≡ office_cells admin ∷ [] → map office_shown xs ≡ office_cells admin ∷ []
-cells_alone admin rows xs same e =
-    let turned = IsPermutation-map (Rattle.plant_columns.specs.Shown.columns 3) (map office_shown xs) rows same in
-    one_permutation (office_cells admin) (map office_shown xs)
-    (IsPermutation-sym (map office_shown xs) (office_cells admin ∷ []) (subst (λ l. IsPermutation l (office_cells admin ∷ [])) (columns_each xs) (subst (IsPermutation (map (Rattle.plant_columns.specs.Shown.columns 3) (map office_shown xs))) e turned)))
-
--- the rows that are shown tell whether it is this office
-pub office_told : (admin : Name) (old new : State) → IsOfficeFirst old.now.schema → (rows : List Row) → Shown office_row_text [] old new rows
-    → (map (Rattle.plant_columns.specs.Shown.columns 3) rows ≡ office_cells admin ∷ []) ↔ IsThisOffice admin old.now
-office_told admin old new first rows h = (
-  cells_alone admin rows (old.now.trees 0) (some_order old new first rows h),
-  λ e. ap (map (Rattle.plant_columns.specs.Shown.columns 3)) ((one_office old new first rows h (office_cells admin)).1 e),
+-- rows in some order, of which one is shown
+one_shown : (x : Row) (all rows : List Row) → map (columns 3) all ≡ all → IsPermutation all rows → (map (columns 3) rows ≡ x ∷ []) ↔ (all ≡ x ∷ [])
+one_shown x all rows same order = (
+  λ e.
+      let turned : IsPermutation all (x ∷ []) = subst (IsPermutation all) e (subst (λ l. IsPermutation l (map (columns 3) rows)) same (IsPermutation-map (columns 3) all rows order)) in
+      one_permutation x all (IsPermutation-sym all (x ∷ []) turned),
+  λ e.
+      let turned : IsPermutation (x ∷ []) (map (columns 3) rows) = subst (λ l. IsPermutation l (map (columns 3) rows)) (same ∙ e) (IsPermutation-map (columns 3) all rows order) in
+      one_permutation x (map (columns 3) rows) turned,
 )
+
+module _ (admin : Name) (old new : State) (t : Table) (is_there : office_in old.now.schema ≡ Some t) (has : is_office t ≡ true) (rows : List Row) (h : Shown office_row_text [] old new rows) where
+  id : IsColumn t (codes "id")
+  id = found_column t (codes "id") (and_parts _ _ has).0
+
+  schema_no : IsColumn t (codes "schema_no")
+  schema_no = found_column t (codes "schema_no") (and_parts _ _ (and_parts _ _ has).1).0
+
+  by : IsColumn t (codes "admin")
+  by = found_column t (codes "admin") (and_parts _ _ (and_parts _ _ has).1).1
+
+  spot : (k : ℕ) × (table_named old.now.schema (codes "office") ≡ Some k) × (slice_get old.now.schema.tables k ≡ Some t)
+  spot = found_table old.now.schema t (table_named old.now.schema (codes "office")) is_there
+
+  abbrev asks : Rattle.sqlite.specs.Query.Query
+  asks = query old.now.schema spot.0 t spot.1 spot.2 id schema_no by
+
+  -- an answer is given to a query that is understood
+  accepted : accepts_program old.now.schema [] asks [] ≡ true
+  unfolding Shown
+  accepted = elim (cases_Bool (accepts_program old.now.schema [] asks [])) [
+    | inl fits ↦ fits
+    | inr refused ↦ absurd (let e = sym (is_refused old.now.schema spot.0 t spot.1 spot.2 id schema_no by refused) ∙ h.1.is in cc)
+  ]
+
+  abbrev a : ℕ
+  a = place_of t id.at
+
+  abbrev b : ℕ
+  b = place_of t schema_no.at
+
+  abbrev c : ℕ
+  c = place_of t by.at
+
+  some_order : IsPermutation (map (three a b c) (old.now.trees t.tree)) rows
+  some_order =
+      let known = is_understood old.now.schema spot.0 t spot.1 spot.2 id schema_no by accepted in
+      let got = reads_as office_row_text [] old new old.now.schema refl _ (ap command_of known.0) (subst IsPlain (sym known.0) (refl, refl)) known.1 rows h in
+      let it = reads t.tree [] (col 1 a ∷ col 1 b ∷ col 1 c ∷ []) [] old.now.trees [] rows (got.answer Null) in
+      let show = shows t.tree [] (col 1 a ∷ col 1 b ∷ col 1 c ∷ []) [] [] in
+      let all = subst (λ rs. IsPermutation (map show rs) it.ordered) (all_pass (old.now.trees t.tree)) it.same in
+      subst (λ l. IsPermutation l rows) (shown_rows t.tree a b c (old.now.trees t.tree)) (subst (IsPermutation (map (λ (o : Output). o.1) (map show (old.now.trees t.tree)))) (sym it.rows_are) (IsPermutation-map (λ (o : Output). o.1) _ _ all))
+
+  by_names : (rs : List Row) → map (office_shown t) rs ≡ map (three a b c) rs
+  by_names rs =
+      ap (λ o. map (three (place_of t (unwrap_or o 0)) (place_named t (codes "schema_no")) (place_named t (codes "admin"))) rs) id.has
+      ∙ ap (λ o. map (three a (place_of t (unwrap_or o 0)) (place_named t (codes "admin"))) rs) schema_no.has
+      ∙ ap (λ o. map (three a b (place_of t (unwrap_or o 0))) rs) by.has
+
+  this_row : (map (columns 3) rows ≡ office_cells admin ∷ []) ↔ (map (office_shown t) (old.now.trees t.tree) ≡ office_cells admin ∷ [])
+  this_row =
+      let it = one_shown (office_cells admin) (map (three a b c) (old.now.trees t.tree)) rows (columns_each a b c (old.now.trees t.tree)) some_order in
+      (λ e. by_names (old.now.trees t.tree) ∙ it.0 e, λ e. it.1 (sym (by_names (old.now.trees t.tree)) ∙ e))
+
+  -- the rows that are shown tell whether it is this office
+  pub office_told : (map (columns 3) rows ≡ office_cells admin ∷ []) ↔ IsThisOffice admin old.now
+  office_told = (
+    λ e. record { table = t; is_there = is_there; has_columns = has; row = this_row.0 e },
+    λ it.
+        let same : it.table ≡ t = let e = sym it.is_there ∙ is_there in cc in
+        this_row.1 (subst (λ (u : Table). map (office_shown u) (old.now.trees u.tree) ≡ office_cells admin ∷ []) same it.row),
+  )
 
 -- ---- the books of this office
 
-pub office_first : (db : Database) → AreBooks db → IsOfficeFirst db.schema
-office_first db books = (_, _, books.same_schema)
-
-pub keeps_asked : (old new : State) (m : Content) → Keeps old m → (CanTell new → CanTell old) → (CanTell new → IsOfficeFirst old.now.schema → new.now ≡ old.now) → Keeps new m
-keeps_asked old new m keeps told same now = let k = keeps (told now) in keeps_same old new m k (same now (office_first old.now k.books))
+pub keeps_asked : (old new : State) (m : Content) → Keeps old m → (CanTell new → CanTell old) → (CanTell new → AreBooks old.now → new.now ≡ old.now) → Keeps new m
+keeps_asked old new m keeps told same now = let k = keeps (told now) in keeps_same old new m k (same now k.books)
 
 pub is_this_office : (s : State) (m : Content) → KeepsIn s m → IsThisOffice m.admin s.now
-is_this_office s m k = ap (map office_shown) k.office
+unfolding same_name
+is_this_office s m k = record { table = office_table; is_there = rw k.books.same_schema; has_columns = refl; row = ap (map (office_shown office_table)) k.office }

@@ -2,40 +2,42 @@
 use Rattle.sqlite.specs.Effect.{Database}
 use Rattle.sqlite.specs.Schema.{Schema}
 use Rattle.sqlite.specs.Table.{Table}
-use Rattle.sqlite_schema.specs.declared.schema.Index.{Index}
+use Rattle.sqlite_schema.specs.Names.{column_named, place_of, table_named}
 use Rattle.sqlite_value.specs.declared.value.Value.TheVariants.{Text}
 use Rattle.sqlite_value.specs.Order.{Row, column}
-use Rattle.std.specs.List.{list_any}
-use Rattle.std.specs.Prelude.{Bool, List, [], codes, map, ℕ, ◌&&◌, ◌∷◌, ◌≡◌}
-use Rattle.std.specs.Str.{bytes_eq}
+use Rattle.std.specs.Prelude.{Bool, List, Option, Some, [], codes, is_some, map, option_and_then, option_map, false, slice_get, true, unwrap_or, ℕ, ◌&&◌, ◌∷◌, ◌≡◌}
 use Rattle.plant_columns.specs.Codes.{number}
-use Rattle.plant_columns.specs.Tables.{office_table, schema_no}
+use Rattle.plant_columns.specs.Tables.{schema_no}
 use Rattle.plant_types.specs.Names.{Name}
 
--- a table of the name office with the columns id, schema_no and admin
+-- the table of this name, wherever it stands; SQL tells no upper from lower case
+abbrev pub office_in : Schema → Option Table
+office_in schema = option_and_then (slice_get schema.tables) (table_named schema (codes "office"))
+
+-- the columns id, schema_no and admin
 abbrev pub has_column : List ℕ → Table → Bool
-has_column name t = list_any (λ c. bytes_eq c.name name) t.columns
+has_column name t = is_some (column_named t name)
 
 abbrev pub is_office : Table → Bool
-is_office t = bytes_eq t.name (codes "office") && (has_column (codes "id") t && (has_column (codes "schema_no") t && has_column (codes "admin") t))
+is_office t = has_column (codes "id") t && (has_column (codes "schema_no") t && has_column (codes "admin") t)
 
 abbrev pub has_office : Schema → Bool
-has_office schema = list_any is_office schema.tables
+has_office schema = unwrap_or (option_map is_office (office_in schema)) false
 
--- the office's table is the first, and there is no view: so it is in each database that was made for an office
-abbrev pub with_office : List Table → List Index → Schema
-with_office more indexes = record { tables = office_table ∷ more; indexes = indexes; views = [] }
-
-abbrev pub IsOfficeFirst : Schema → Type 0
-IsOfficeFirst schema = (more : List Table) × (indexes : List Index) × (schema ≡ with_office more indexes)
+-- where a row has the value of the column of this name
+abbrev pub place_named : Table → List ℕ → ℕ
+place_named t name = place_of t (unwrap_or (column_named t name) 0)
 
 -- the row of an office, as it is shown
-abbrev pub office_shown : Row → Row
-office_shown r = column r 0 ∷ column r 2 ∷ column r 3 ∷ []
+abbrev pub office_shown : Table → Row → Row
+office_shown t r = column r (place_named t (codes "id")) ∷ column r (place_named t (codes "schema_no")) ∷ column r (place_named t (codes "admin")) ∷ []
 
 abbrev pub office_cells : Name → Row
 office_cells admin = number 1 ∷ number schema_no ∷ Text admin ∷ []
 
--- the office's table has one row, this schema's and this person's
-abbrev pub IsThisOffice : Name → Database → Type 0
-IsThisOffice admin db = map office_shown (db.trees 0) ≡ office_cells admin ∷ []
+-- there is the office's table with its columns, and it has one row, this schema's and this person's
+pub record IsThisOffice (admin : Name) (db : Database) : Type 0 where
+  pub table : Table
+  pub is_there : office_in db.schema ≡ Some table
+  pub has_columns : is_office table ≡ true
+  pub row : map (office_shown table) (db.trees table.tree) ≡ office_cells admin ∷ []

@@ -1,15 +1,15 @@
 //! Whether a database is this office's books.
 
-ghost use Rattle.std.specs.Prelude.{◌≡◌, ◌↔◌, [], ◌∷◌, codes, false, map, IsTrue, IfOk};
-ghost use Rattle.std.specs.Str.{bytes_eq};
+ghost use Rattle.std.specs.Prelude.{◌≡◌, ◌↔◌, [], ◌∷◌, false, map, true, IsTrue, IfOk};
 ghost use Rattle.sqlite.specs.Held.{state};
 ghost use Rattle.sqlite_value.specs.Order.{column};
 ghost use Rattle.sqlite_value.specs.declared.value.Value.TheVariants.{Text as TextValue};
 ghost use Rattle.plant_store.specs.Changes.{CanTell};
 ghost use Rattle.plant_columns.specs.Codes as codings;
 ghost use Rattle.plant_store.specs.Opening as opening;
-ghost use Rattle.plant_store.specs.Opening.{IsOfficeFirst, IsThisOffice, office_cells};
+ghost use Rattle.plant_store.specs.Opening.{IsThisOffice, office_cells};
 ghost use Rattle.plant_columns.specs.Shown.{columns};
+ghost use Rattle.plant_columns.specs.Tables.{AreBooks};
 
 use crate::read::ask;
 use plant_types::Person;
@@ -20,27 +20,26 @@ use sqlite_schema::schema::{Schema, Table};
 fn has_column(table: &Table, name: &[u8]) -> bool
     ensures { result ≡ opening.has_column name.now table.now }
 {
-    table
-        .columns
-        .as_slice()
-        .iter()
-        .any(|column| column.name.as_slice() == name)
+    table.column_named(name).is_some()
 }
 
 fn is_office(table: &Table) -> bool
     ensures { result ≡ opening.is_office table.now }
 {
-    table.name.as_slice() == b"office".as_slice()
-        && has_column(table, b"id")
-        && has_column(table, b"schema_no")
-        && has_column(table, b"admin")
+    has_column(table, b"id") && has_column(table, b"schema_no") && has_column(table, b"admin")
 }
 
 /// Whether there is a table of the office, with its columns.
 pub fn has_office(schema: &Schema) -> bool
     ensures { result ≡ opening.has_office schema.now }
 {
-    schema.tables.as_slice().iter().any(is_office)
+    let Some(at) = schema.table_named(b"office") else {
+        return false;
+    };
+    match schema.tables.as_slice().get(at) {
+        Some(table) => is_office(table),
+        None => false,
+    }
 }
 
 fn is_number(row: &Row, at: usize, number: u32) -> bool
@@ -82,8 +81,8 @@ fn is_office_row(rows: &[Row], admin: &Person) -> bool
 pub fn is_office_of<S: Alter>(conn: &mut Connection<S>, admin: &Person) -> Result<bool, Error>
     requires { conn.old.in_transaction ≡ false }
     ensures mode { conn.new.in_transaction ≡ false }
-    ensures row { CanTell (state S.Store conn.new) → IsOfficeFirst (state S.Store conn.old).now.schema → IfOk result (λ is. IsTrue is ↔ IsThisOffice admin.now (state S.Store conn.old).now) }
-    ensures same { CanTell (state S.Store conn.new) → IsOfficeFirst (state S.Store conn.old).now.schema → (state S.Store conn.new).now ≡ (state S.Store conn.old).now }
+    ensures row { CanTell (state S.Store conn.new) → opening.has_office (state S.Store conn.old).now.schema ≡ true → IfOk result (λ is. IsTrue is ↔ IsThisOffice admin.now (state S.Store conn.old).now) }
+    ensures same { CanTell (state S.Store conn.new) → AreBooks (state S.Store conn.old).now → (state S.Store conn.new).now ≡ (state S.Store conn.old).now }
     ensures told { CanTell (state S.Store conn.new) → CanTell (state S.Store conn.old) }
 {
     let rows = ask(conn, "SELECT id, schema_no, admin FROM office", &[])?;

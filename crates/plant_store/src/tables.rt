@@ -7,7 +7,7 @@ ghost use Rattle.plant_books.specs.Counting.{CountsFault};
 ghost use Rattle.plant_store.specs.Changes.{CanTell};
 ghost use Rattle.plant_store.specs.Counting.{Names};
 ghost use Rattle.plant_store.specs.Keeping.{Keeps};
-ghost use Rattle.plant_store.specs.Opening.{IsOfficeFirst, IsThisOffice, has_office};
+ghost use Rattle.plant_store.specs.Opening.{IsThisOffice, has_office};
 ghost use Rattle.plant_columns.specs.Tables.{no_schema};
 ghost use Rattle.plant_types.specs.declared.fault.Fault.TheVariants.{Store};
 
@@ -141,8 +141,8 @@ impl<S: Alter> Tables<S> {
         requires { conn.in_transaction ≡ false }
         ensures kept { (m : Content) → Keeps (state S.Store conn) m → IfOk result (λ t. Keeps (state S.Store t.0.0) m) }
         ensures fresh { IfOk result (λ t. (t.0.1 ≡ admin) × (t.1 ≡ 0)) }
-        ensures office { IsOfficeFirst (state S.Store conn).now.schema → IfOk result (λ t. CanTell (state S.Store t.0.0) → IsThisOffice admin (state S.Store conn).now) }
-        ensures other { IsOfficeFirst (state S.Store conn).now.schema → IfErr result (λ e. e.fault ≡ StoreFault.NotThisStore → CanTell (state S.Store e.conn) → ¬ IsThisOffice admin (state S.Store conn).now) }
+        ensures office { IfOk result (λ t. CanTell (state S.Store t.0.0) → IsThisOffice admin (state S.Store conn).now) }
+        ensures other { IfErr result (λ e. e.fault ≡ StoreFault.NotThisStore → CanTell (state S.Store e.conn) → ¬ IsThisOffice admin (state S.Store conn).now) }
         ensures missing { has_office (state S.Store conn).now.schema ≡ false → IsErrAnd result (λ e. e.fault ≡ StoreFault.NotThisStore) }
         ensures own { (m : Content) → Keeps (state S.Store conn) m → m.admin ≡ admin → IfErr result (λ e. CanTell (state S.Store e.conn) → e.fault ≢ StoreFault.NotThisStore) }
         ensures left { (m : Content) → Keeps (state S.Store conn) m → IfErr result (λ e. Keeps (state S.Store e.conn) m) }

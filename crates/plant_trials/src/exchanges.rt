@@ -2,6 +2,7 @@
 //! caller, the moment (on 2026-03-01 where no day is given), the method, the target and the body, and then the answer,
 //! which is the status and the body.
 
+use plant_types::UnitCode;
 use std::alloc::Global;
 use std::test::Fail;
 
@@ -12,12 +13,14 @@ pub(crate) struct Mark {
     pub(crate) answered: usize,
 }
 
-/// Requests, and the answers that are wanted.
+/// Requests, the answers that are wanted, and the units that the requests name, each once.
 #[derive(Drop)]
 pub(crate) struct Exchanges {
     pub(crate) requests: String,
     pub(crate) answers: String,
     pub(crate) marks: Vec<Mark>,
+    pub(crate) units: Vec<UnitCode>,
+    alloc: Global,
 }
 
 fn phrase(status: &str) -> &'static str {
@@ -80,6 +83,12 @@ pub(crate) fn add_answer(out: &mut String, answer: &str) -> Result<(), Fail> {
     Ok(())
 }
 
+/// The unit that the target of an exchange names, or nothing.
+pub(crate) fn unit_named(exchange: &str) -> &str {
+    let target = exchange.split([' ', '\n']).nth(3).unwrap_or("");
+    target.split('/').nth(2).unwrap_or("")
+}
+
 impl Exchanges {
     /// None yet.
     pub(crate) fn new(alloc: Global) -> Exchanges {
@@ -87,6 +96,8 @@ impl Exchanges {
             requests: String::new(alloc),
             answers: String::new(alloc),
             marks: Vec::new(alloc),
+            units: Vec::new(alloc),
+            alloc,
         }
     }
 
@@ -99,6 +110,16 @@ impl Exchanges {
             asked: self.requests.len(),
             answered: self.answers.len(),
         })?;
+        self.add_unit(unit_named(exchange))
+    }
+
+    /// Adds a unit that is not there yet. A text that is no unit's code names none.
+    fn add_unit(&mut self, name: &str) -> Result<(), Fail> {
+        if let Some(unit) = UnitCode::read(self.alloc, name.as_bytes())? {
+            if !self.units.contains(&unit) {
+                self.units.push(unit)?;
+            }
+        }
         Ok(())
     }
 

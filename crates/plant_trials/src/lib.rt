@@ -9,6 +9,8 @@ mod examples;
 #[cfg(test)]
 mod exchanges;
 #[cfg(test)]
+mod keepers;
+#[cfg(test)]
 mod malformed;
 #[cfg(test)]
 mod purges;

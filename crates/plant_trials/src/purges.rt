@@ -1,7 +1,8 @@
 //! What a person is answered does not change when the calls go that others make on units in which the person never
 //! has a role.
 
-use crate::exchanges::Exchanges;
+use crate::exchanges::{Exchanges, unit_named};
+use crate::keepers::are_kept_alike;
 use crate::replays::{is_answered, lists, tables};
 use std::alloc::Global;
 use std::test::Fail;
@@ -135,12 +136,6 @@ fn caller(exchange: &str) -> &str {
     exchange.split(' ').next().unwrap_or("")
 }
 
-/// The unit that the target of an exchange names, or nothing.
-fn unit_named(exchange: &str) -> &str {
-    let target = exchange.split([' ', '\n']).nth(3).unwrap_or("");
-    target.split('/').nth(2).unwrap_or("")
-}
-
 /// The exchanges of the person, and those on the unit in which the person has or had a role.
 fn purged(alloc: Global, person: &str, unit: &str) -> Result<Exchanges, Fail> {
     let mut kept = Exchanges::new(alloc);
@@ -159,6 +154,7 @@ fn forty_calls(rt: HostRuntime) -> Result<(), Fail> {
     assert_eq!(rt; wanted.marks.len(), 40);
     is_answered(&rt, lists(&rt)?, &wanted, "all calls");
     is_answered(&rt, tables(&rt)?, &wanted, "all calls");
+    are_kept_alike(&rt, &wanted, "all calls")?;
     Ok(())
 }
 

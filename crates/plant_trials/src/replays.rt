@@ -30,6 +30,22 @@ pub(crate) fn tables(rt: &impl AllocGlobal) -> Result<Tables<MemStore>, Fail> {
     }
 }
 
+/// What a session answers to requests that come in two reads, how it ends, and the books as it leaves them.
+pub(crate) fn replays_on<B: Books + Drop>(
+    alloc: Global,
+    books: B,
+    first: &[u8],
+    second: &[u8],
+) -> (Vec<u8>, End, B) {
+    let mut office = Office::new(alloc, books);
+    let mut answers = Vec::new(alloc);
+    let mut inlet = FromRead::new(first.chain(second));
+    let mut outlet = ToWrite::new(&mut answers);
+    let end = session(alloc, &mut inlet, &mut outlet, &mut office);
+    drop(outlet);
+    (answers, end, office.into_books())
+}
+
 /// What a session answers to requests that come in two reads, and how it ends.
 pub(crate) fn replays<B: Books + Drop>(
     alloc: Global,
@@ -37,13 +53,8 @@ pub(crate) fn replays<B: Books + Drop>(
     first: &[u8],
     second: &[u8],
 ) -> (Vec<u8>, End) {
-    let mut office = Office::new(alloc, books);
-    let mut answers = Vec::new(alloc);
-    let mut inlet = FromRead::new(first.chain(second));
-    let mut outlet = ToWrite::new(&mut answers);
-    let end = session(alloc, &mut inlet, &mut outlet, &mut office);
-    drop(outlet);
-    drop(office.into_books());
+    let (answers, end, books) = replays_on(alloc, books, first, second);
+    drop(books);
     (answers, end)
 }
 

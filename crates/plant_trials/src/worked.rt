@@ -2,6 +2,7 @@
 
 use crate::examples::{ALARMS_FULL, BASE, GRANTS_FULL, WORKED};
 use crate::exchanges::Exchanges;
+use crate::keepers::are_kept_alike;
 use crate::replays::{is_answered, lists, tables};
 use std::alloc::Global;
 use std::test::Fail;
@@ -21,6 +22,7 @@ fn worked_examples(rt: HostRuntime) -> Result<(), Fail> {
         let wanted = exchanges(&rt, setting, example)?;
         is_answered(&rt, lists(&rt)?, &wanted, title);
         is_answered(&rt, tables(&rt)?, &wanted, title);
+        are_kept_alike(&rt, &wanted, title)?;
     }
     Ok(())
 }

@@ -1,0 +1,240 @@
+//! Tables in which a column holds a value outside its set: each call that reads the column answers a fault of the
+//! store, and counts it.
+
+ghost use Rattle.std.specs.Prelude.{ℕ, IfOk};
+ghost use Rattle.plant_books.specs.Counting.{Counts};
+
+use crate::tests::{after, at, opened, person, tag, unit};
+use plant_books::Books;
+use plant_model::{Call, Request};
+use plant_store::Tables;
+use plant_types::{Fault, Role};
+use sqlite::MemStore;
+use std::alloc::Global;
+use std::test::Fail;
+
+/// What is asked of the books: about the unit, of the alarm `PT-101`, or for the person `ann`.
+#[derive(Clone, Copy, Debug, PartialEq, Eq)]
+enum Asked {
+    Taken,
+    Rows,
+    /// What a call looks at that reads one alarm.
+    Status,
+    /// What a call looks at that reads all shelves and alarms.
+    Shelves,
+    /// What a call looks at that reads all grants.
+    Withdrawal,
+    Held,
+    MineUnits,
+}
+
+const ALL: [Asked; 7] = [
+    Asked::Taken,
+    Asked::Rows,
+    Asked::Status,
+    Asked::Shelves,
+    Asked::Withdrawal,
+    Asked::Held,
+    Asked::MineUnits,
+];
+
+const OF_THE_UNIT: [Asked; 5] = [
+    Asked::Taken,
+    Asked::Rows,
+    Asked::Status,
+    Asked::Shelves,
+    Asked::Withdrawal,
+];
+
+const OF_ANN: [Asked; 6] = [
+    Asked::Rows,
+    Asked::Status,
+    Asked::Shelves,
+    Asked::Withdrawal,
+    Asked::Held,
+    Asked::MineUnits,
+];
+
+const OF_ALARMS: [Asked; 3] = [Asked::Rows, Asked::Status, Asked::Shelves];
+
+/// Each statement that puts a value outside its column's set into the tables of `opened`, with what reads that column.
+const OUTSIDE: [(&str, &[Asked]); 43] = [
+    // a unit's code
+    (
+        "UPDATE units SET unit = 'u1'; UPDATE grants SET unit = 'u1'",
+        &[Asked::Held, Asked::MineUnits],
+    ),
+    (
+        "UPDATE units SET unit = ''; UPDATE grants SET unit = ''",
+        &[Asked::Held, Asked::MineUnits],
+    ),
+    (
+        "UPDATE units SET unit = 'UNIT56789'; UPDATE grants SET unit = 'UNIT56789'",
+        &[Asked::Held, Asked::MineUnits],
+    ),
+    // a moment
+    ("UPDATE units SET last_s = 3155760000", &ALL),
+    ("UPDATE units SET last_s = -1", &ALL),
+    (
+        "UPDATE shelves SET start_s = 3155760000",
+        &[Asked::Rows, Asked::Status, Asked::Shelves],
+    ),
+    // a matrix's number and revision
+    ("UPDATE units SET matrix_no = 4294967296", &OF_THE_UNIT),
+    ("UPDATE units SET matrix_rev = -1", &OF_THE_UNIT),
+    ("UPDATE bands SET matrix_no = 4294967296", &[Asked::Rows]),
+    ("UPDATE cells SET matrix_no = -1", &[Asked::Rows]),
+    // a quota
+    ("UPDATE units SET quota = 0", &OF_THE_UNIT),
+    ("UPDATE units SET quota = 2001", &OF_THE_UNIT),
+    // a person's name
+    (
+        "UPDATE grants SET person = 'Ste' WHERE role_no = 6",
+        &[Asked::Rows, Asked::Withdrawal],
+    ),
+    (
+        "UPDATE shelves SET person = ''",
+        &[Asked::Rows, Asked::Status, Asked::Shelves],
+    ),
+    (
+        "UPDATE shelves SET person = 'a-name-that-has-thirty-three-bytes'",
+        &[Asked::Rows, Asked::Status, Asked::Shelves],
+    ),
+    // a role
+    ("UPDATE grants SET role_no = 0 WHERE role_no = 2", &OF_ANN),
+    ("UPDATE grants SET role_no = 7 WHERE role_no = 2", &OF_ANN),
+    ("UPDATE grants SET role_no = -6 WHERE role_no = 2", &OF_ANN),
+    // the moment of an end
+    (
+        "UPDATE grants SET end_s = 3155760000 WHERE role_no = 2",
+        &OF_ANN,
+    ),
+    ("UPDATE grants SET end_s = -1 WHERE role_no = 1", &OF_ANN),
+    // a tag
+    (
+        "UPDATE alarms SET tag = 'pt-101' WHERE tag = 'PT-101'",
+        &[Asked::Rows, Asked::Shelves],
+    ),
+    (
+        "UPDATE alarms SET tag = '' WHERE tag = 'LT-2'",
+        &[Asked::Rows, Asked::Shelves],
+    ),
+    (
+        "UPDATE shelves SET tag = 'A-TAG-OF-TWENTY-FIVE.BYTES'",
+        &[Asked::Rows, Asked::Shelves],
+    ),
+    // a flag
+    ("UPDATE alarms SET latching = 2", &OF_ALARMS),
+    ("UPDATE alarms SET suppressed = -1", &OF_ALARMS),
+    ("UPDATE shelves SET one_shot = 2", &OF_ALARMS),
+    // a length of time
+    ("UPDATE alarms SET max_s = 0", &OF_ALARMS),
+    ("UPDATE alarms SET max_s = 604801", &OF_ALARMS),
+    // a sheet's revision
+    ("UPDATE alarms SET max_rev = 4294967296", &OF_ALARMS),
+    // an alarm's state
+    ("UPDATE alarms SET state_no = 0", &OF_ALARMS),
+    ("UPDATE alarms SET state_no = 7", &OF_ALARMS),
+    // a moment that may be missing
+    ("UPDATE alarms SET active_s = 3155760000", &OF_ALARMS),
+    ("UPDATE alarms SET return_s = -1", &OF_ALARMS),
+    ("UPDATE alarms SET out_s = 3155760000", &OF_ALARMS),
+    // a name and words that may be missing
+    ("UPDATE alarms SET out_by = 'Mat'", &OF_ALARMS),
+    ("UPDATE alarms SET out_words = 'p\u{fc}mp'", &OF_ALARMS),
+    // a shelf's words
+    ("UPDATE shelves SET words = ''", &OF_ALARMS),
+    // a number of 64 bits
+    ("UPDATE shelves SET until_s = -1", &OF_ALARMS),
+    ("UPDATE bands SET limit_s = -300", &[Asked::Rows]),
+    // a band, a severity and a cell
+    ("UPDATE bands SET band_no = 256", &[Asked::Rows]),
+    ("UPDATE cells SET severity = 256", &[Asked::Rows]),
+    (
+        "UPDATE cells SET band_no = -1 WHERE band_no = 1",
+        &[Asked::Rows],
+    ),
+    ("UPDATE cells SET cell_no = 5", &[Asked::Rows]),
+];
+
+/// Whether there was an answer.
+fn told<T: Drop>(answer: Result<T, Fault>) -> Result<(), Fault>
+    ensures { (old new : ℕ) → Counts old new answer → Counts old new result }
+{
+    match answer {
+        Ok(_) => Ok(()),
+        Err(fault) => Err(fault),
+    }
+}
+
+/// What the books answer to a call of `ann`.
+fn part(
+    books: &mut Tables<MemStore>,
+    alloc: Global,
+    request: Request,
+) -> Result<Result<(), Fault>, Fail>
+    ensures count { IfOk result (λ answer. Counts books.old.1 books.new.1 answer) }
+{
+    let call = Call {
+        person: person(alloc, b"ann")?,
+        moment: at(90)?,
+        request,
+    };
+    Ok(told(books.part(&call)))
+}
+
+/// What the books answer; an answer `Store` is counted, and no other.
+fn answer(
+    books: &mut Tables<MemStore>,
+    alloc: Global,
+    asked: Asked,
+) -> Result<Result<(), Fault>, Fail>
+    ensures count { IfOk result (λ answer. Counts books.old.1 books.new.1 answer) }
+{
+    let unit = unit(alloc, b"U1")?;
+    let ann = person(alloc, b"ann")?;
+    let tag = tag(alloc, b"PT-101")?;
+    match asked {
+        Asked::Taken => Ok(told(books.taken(&unit))),
+        Asked::Rows => Ok(told(books.rows(&unit))),
+        Asked::Status => part(books, alloc, Request::Status { unit, tag }),
+        Asked::Shelves => part(books, alloc, Request::Shelves { unit }),
+        Asked::Withdrawal => part(
+            books,
+            alloc,
+            Request::Withdraw {
+                unit,
+                person: ann,
+                role: Role::Viewer,
+            },
+        ),
+        Asked::Held => Ok(told(books.held(&ann, at(90)?))),
+        Asked::MineUnits => Ok(told(books.mine_units(&ann, at(90)?))),
+    }
+}
+
+/// The books of `opened`, after these statements.
+fn spoiled(alloc: Global, statements: &str) -> Result<Tables<MemStore>, Fail> {
+    let conn = after(opened(alloc)?.close(), statements)?;
+    match Tables::open(alloc, conn, person(alloc, b"root")?) {
+        Ok(books) => Ok(books),
+        Err(back) => Err(Fail::from(back.fault)),
+    }
+}
+
+#[test]
+fn answers_store_where_a_value_is_outside_its_set(rt: HostRuntime) -> Result<(), Fail> {
+    for (statements, readers) in OUTSIDE {
+        let mut books = spoiled(rt.alloc(), statements)?;
+        for asked in ALL {
+            let answer = answer(&mut books, rt.alloc(), asked)?;
+            let is_due = if readers.contains(&asked) {
+                matches!(answer, Err(Fault::Store))
+            } else {
+                answer.is_ok()
+            };
+            assert!(rt; is_due, "{statements}: {asked:?}");
+        }
+    }
+    Ok(())
+}

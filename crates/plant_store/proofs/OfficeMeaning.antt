@@ -1,0 +1,65 @@
+-- What the question for the office's row means under any schema that has the table with its columns.
+use Rattle.std.proofs.Common.{◌≡◌, ℕ, List, [], ◌∷◌, codes, Some, None, Ok, Err, true, false, slice_get}
+use Rattle.sqlite.specs.Listing.{understood, reads_listing}
+use Rattle.sqlite.specs.Query.{Query, inner, end}
+use Rattle.sqlite.specs.Term.{col}
+use Rattle.sqlite_resolve.specs.declared.compiled.Compiled.{Compiled}
+use Rattle.sqlite_resolve.specs.declared.error.CompileError.TheVariants.{Mismatch}
+use Rattle.sqlite_resolve.specs.Compile as compile
+use Rattle.sqlite_resolve.specs.Compile.{compiled}
+use Rattle.sqlite_resolve.specs.Scope.{Name}
+use Rattle.sqlite_schema.specs.declared.command.Command.TheVariants.{Select}
+use Rattle.sqlite_schema.specs.declared.program.Program.{Program}
+use Rattle.sqlite_schema.specs.declared.schema.Schema.{Schema}
+use Rattle.sqlite_schema.specs.declared.schema.Table.{Table}
+use Rattle.sqlite_schema.specs.Names.{table_named, place_of}
+use Rattle.sqlite_typing.specs.Types.{accepts_program}
+use Rattle.plant_tables.specs.Kept.{plain_query}
+use Rattle.plant_store.specs.Texts.{office_row_text}
+use Rattle.plant_store.proofs.OfficeAsked.{Asks, asked}
+use Rattle.plant_store.proofs.ThreeColumns.{IsColumn, is_read, not_read}
+
+module _ (schema : Schema) (k : ℕ) (t : Table) (named : table_named schema (codes "office") ≡ Some k) (is : slice_get schema.tables k ≡ Some t)
+    (id : IsColumn t (codes "id")) (schema_no : IsColumn t (codes "schema_no")) (admin : IsColumn t (codes "admin")) where
+  abbrev pub query : Query
+  query = plain_query (inner t.tree end) [] (col 1 (place_of t id.at) ∷ col 1 (place_of t schema_no.at) ∷ col 1 (place_of t admin.at) ∷ []) []
+
+  abbrev pub names : List Name
+  names = id.column.name ∷ schema_no.column.name ∷ admin.column.name ∷ []
+
+  abbrev pub program : Program
+  program = record { lets = []; body = query }
+
+  abbrev pub meant : Compiled
+  meant = record { command = Select program names; returning = None; names = []; formats = []; start = asked.p.start; end = asked.p.end; tail = asked.p.tail }
+
+  abbrev a : Asks asked.s
+  a = asked.asks
+
+  reads : accepts_program schema [] query [] ≡ true → compile.read schema asked.s ≡ Ok (Select program names)
+  reads h = is_read schema (codes "office") k t named is a.src a.from a.alias a.using a.left a.on
+      (codes "id") (codes "schema_no") (codes "admin") id schema_no admin
+      a.id.e a.schema_no.e a.admin.e a.id.out a.schema_no.out a.admin.out a.s₁ a.s₂ a.s₃ a.id.text a.schema_no.text a.admin.text a.id.one a.schema_no.one a.admin.one
+      a.core a.froms a.shown a.filter a.group a.having a.distinct asked.s a.with a.first_is a.others a.order a.limit a.offset h
+
+  refuses : accepts_program schema [] query [] ≡ false → compile.read schema asked.s ≡ Err Mismatch
+  refuses h = not_read schema (codes "office") k t named is a.src a.from a.alias a.using a.left a.on
+      (codes "id") (codes "schema_no") (codes "admin") id schema_no admin
+      a.id.e a.schema_no.e a.admin.e a.id.out a.schema_no.out a.admin.out a.s₁ a.s₂ a.s₃ a.id.text a.schema_no.text a.admin.text a.id.one a.schema_no.one a.admin.one
+      a.core a.froms a.shown a.filter a.group a.having a.distinct asked.s a.with a.first_is a.others a.order a.limit a.offset h
+
+  compiles : accepts_program schema [] query [] ≡ true → compiled schema office_row_text ≡ Ok meant
+  unfolding compiled compile.planned compile.meaning compile.returning compile.command compile.timed
+  compiles h = rw (asked.is, asked.statement_is, asked.formats, asked.names, reads h)
+
+  fails : accepts_program schema [] query [] ≡ false → compiled schema office_row_text ≡ Err Mismatch
+  unfolding compiled compile.planned compile.meaning compile.returning compile.command compile.timed
+  fails h = rw (asked.is, asked.statement_is, asked.formats, asked.names, refuses h)
+
+  pub is_understood : accepts_program schema [] query [] ≡ true → (understood schema office_row_text ≡ Ok meant) × (reads_listing schema office_row_text ≡ false)
+  unfolding understood
+  is_understood h = (rw (compiles h), rw (compiles h))
+
+  pub is_refused : accepts_program schema [] query [] ≡ false → understood schema office_row_text ≡ Err Mismatch
+  unfolding understood
+  is_refused h = rw (fails h)

@@ -1,0 +1,256 @@
+-- What a query means that shows three columns of one table, under any schema that has the table with these columns.
+use Rattle.std.proofs.Common.{◌≡◌, refl, ◌∙◌, ℕ, List, [], ◌∷◌, ◌++◌, false, true, Some, None, Ok, Err, slice_get, pos, negsuc, ◌-◌}
+use Rattle.std.specs.Prelude.{nat_lt}
+use Rattle.sqlite_ast.specs.declared.Expr.{Expr, out-Expr}
+use Rattle.sqlite_ast.specs.declared.Expr.TheOpen.{Expr-F, Shown-F}
+use Rattle.sqlite_ast.specs.declared.Shown as written
+use Rattle.sqlite_ast.specs.declared.Source.{Source, out-Source}
+use Rattle.sqlite_ast.specs.declared.Core.{Core, out-Core}
+use Rattle.sqlite_ast.specs.declared.Origin.TheVariants as origin
+use Rattle.sqlite_draft.specs.declared.join.Step.TheVariants.{Inner}
+use Rattle.sqlite_schema.specs.declared.schema.Column.{Column}
+use Rattle.sqlite_schema.specs.declared.schema.Schema.{Schema}
+use Rattle.sqlite_schema.specs.declared.schema.Table.{Table}
+use Rattle.sqlite_schema.specs.Names.{table_named, column_named, place_of}
+use Rattle.sqlite_sql.specs.Term.{Term, col, lit}
+use Rattle.sqlite_resolve.specs.declared.scope.Bound.{Bound}
+use Rattle.sqlite_resolve.specs.declared.scope.Output.{Output}
+use Rattle.sqlite_resolve.specs.declared.scope.Level.{Level}
+use Rattle.sqlite_resolve.specs.declared.scope.Found.TheVariants as found
+use Rattle.sqlite_resolve.specs.declared.select.Clauses.{Clauses}
+use Rattle.sqlite_resolve.specs.declared.state.Carried.{Carried}
+use Rattle.sqlite_resolve.specs.declared.state.State.{State}
+use Rattle.sqlite_resolve.specs.Lowering.{Checked, Lowering, and_then, fresh, nothing, max_budget}
+use Rattle.sqlite_resolve.specs.Scope.{Name, Context, column_in, hit, only, in_level, find, declared, column_at, term_of, column}
+use Rattle.sqlite_resolve.specs.Body as body
+use Rattle.sqlite_resolve.specs.Expr.{node, opened, lower_to, lower}
+use Rattle.sqlite_resolve.specs.Select.{parts, named, outermost, assembled, inside, ungrouped, paging, constant_or}
+use Rattle.sqlite_resolve.specs.Terms.{number}
+use Rattle.sqlite_resolve.specs.Program as program
+use Rattle.sqlite_resolve.specs.Program.{query_to, query}
+use Rattle.sqlite_resolve.specs.Compile as compile
+use Rattle.sqlite_resolve.proofs.ProgramLemmas.{single_named}
+use Rattle.sqlite_ast.specs.declared.Select.{Select, out-Select}
+use Rattle.sqlite_draft.specs.declared.query.Draft.{Draft}
+use Rattle.sqlite_draft.specs.Query.{query_of}
+use Rattle.sqlite_schema.specs.declared.command.Command.TheVariants as command
+use Rattle.sqlite_schema.specs.declared.program.Program.{Program}
+use Rattle.sqlite_resolve.specs.declared.error.CompileError.TheVariants.{Mismatch}
+use Rattle.sqlite_sql.specs.Query.{inner, end}
+use Rattle.sqlite_typing.specs.Types.{accepts_program}
+use Rattle.sqlite_value.specs.declared.value.Value.TheVariants.{Int}
+
+-- a column of a table
+pub record IsColumn (t : Table) (n : Name) : Type 0 where
+  pub at : ℕ
+  pub column : Column
+  pub has : column_named t n ≡ Some at
+  pub it : slice_get t.columns at ≡ Some column
+
+module _ (schema : Schema) (name : Name) (k : ℕ) (t : Table) (is_named : table_named schema name ≡ Some k) (is : slice_get schema.tables k ≡ Some t) where
+  abbrev bnd : Bound
+  bnd = record { name = name; table = k; slot = 1; shared = [] }
+
+  abbrev st : ℕ → Carried → State
+  st b l = record { next = 2; steps = []; aggregates = []; budget = b; written = None; last = l }
+
+  abbrev tables_level : Level
+  tables_level = record { tables = bnd ∷ []; shown = [] }
+
+  abbrev cx : Context
+  cx = record { schema = schema; levels = tables_level ∷ []; may_aggregate = true; may_alias = true }
+
+  found_table : body.table_in schema 1 (origin.Table name) ≡ Ok (name, k)
+  unfolding body.table_in
+  found_table = rw is_named
+
+  -- a column of the table
+  module _ (n : Name) (c : IsColumn t n) where
+    abbrev carried : Carried
+    carried = declared t c.at c.column
+
+    abbrev term : Term
+    term = col 1 (place_of t c.at)
+
+    abbrev output : Output
+    output = record { name = c.column.name; is_alias = false; is_column = true; term = term; carried = carried }
+
+    in_table : column_in schema n bnd ≡ Some (found.Column 1 k c.at)
+    unfolding column_in
+    in_table = rw (is, c.has)
+
+    is_hit : hit schema None n false bnd ≡ Some (found.Column 1 k c.at)
+    unfolding hit Rattle.sqlite_resolve.specs.Scope.is_among
+    is_hit = in_table
+
+    is_only : only schema None n false (bnd ∷ []) ≡ Ok (Some (found.Column 1 k c.at))
+    unfolding only
+    is_only = rw is_hit
+
+    is_in : in_level schema None n 0 tables_level ≡ Ok (Some (found.Column 1 k c.at))
+    unfolding in_level
+    is_in = rw is_only
+
+    is_found : find cx None n ≡ Ok (found.Column 1 k c.at)
+    unfolding find
+    is_found = rw is_in
+
+    at_place : column_at schema 1 k c.at ≡ Ok (term, carried)
+    unfolding column_at
+    at_place = rw (is, c.it)
+
+    is_term : (s : State) → term_of cx (found.Column 1 k c.at) s ≡ Ok (term, record s { last = carried })
+    unfolding term_of
+    is_term s = rw at_place
+
+    is_column : (s : State) → column cx None n s ≡ Ok (term, record s { last = carried })
+    unfolding column
+    is_column s = rw (is_found, is_term s)
+
+    module _ (e : Expr) (out : out-Expr e ≡ Expr-F.Column None n) where
+      is_opened : (s : State) (deeper : Context → Expr → Lowering Term) → opened deeper cx e s ≡ Ok (term, record s { last = carried })
+      unfolding opened
+      is_opened s deeper = rw (out, is_column s)
+
+      is_node : (b : ℕ) → nat_lt 1 b ≡ true → (l : Carried) (deeper : Context → Expr → Lowering Term) → node deeper cx e (st b l) ≡ Ok (term, st (b - 1) carried)
+      unfolding node Rattle.sqlite_resolve.specs.Lowering.spend Rattle.sqlite_resolve.specs.Lowering.begin Rattle.sqlite_resolve.specs.Lowering.finish Rattle.sqlite_resolve.specs.Expr.passes
+      is_node b many l deeper = rw (many, is_opened (st (b - 1) nothing) deeper, out)
+
+      is_lowered : (b : ℕ) → nat_lt 1 b ≡ true → (l : Carried) → lower cx e (st b l) ≡ Ok (term, st (b - 1) carried)
+      unfolding lower_to
+      is_lowered b many l = is_node b many l (lower_to 699)
+
+      is_headed : (text : Name) → body.heading cx e text ≡ c.column.name
+      unfolding body.heading body.declared
+      is_headed text = rw (out, is_found, is, c.it)
+
+      is_plain : body.is_column e ≡ true
+      unfolding body.is_column
+      is_plain = rw out
+
+      module _ (s : written.Shown) (text : Name) (one : written.out-Shown s ≡ Shown-F.One e None text) where
+        is_shown : (b : ℕ) → nat_lt 1 b ≡ true → (l : Carried) (done : List Output) → body.shown lower cx (bnd ∷ []) done s (st b l) ≡ Ok (done ++ output ∷ [], st (b - 1) carried)
+        unfolding body.shown
+        is_shown b many l done = rw (one, is_lowered b many l, is_headed text, is_plain)
+
+  module _ (src : Source) (from : (out-Source src).origin ≡ origin.Table name) (alias : (out-Source src).alias ≡ None) (using : (out-Source src).using ≡ [])
+      (left : (out-Source src).is_left ≡ false) (on : (out-Source src).on ≡ None) where
+    is_bound : body.bound schema src (fresh 1 max_budget) ≡ Ok (bnd, st max_budget nothing)
+    unfolding body.bound Rattle.sqlite_resolve.specs.Lowering.take_slot
+    is_bound = rw (from, alias, using, found_table)
+
+    are_bound : body.bounds schema (src ∷ []) (fresh 1 max_budget) ≡ Ok (bnd ∷ [], st max_budget nothing)
+    unfolding body.bounds
+    are_bound = rw is_bound
+
+    is_joined : (x : Context) → x.schema ≡ schema → (s : State) → body.join lower x (bnd ∷ []) (record { steps = []; filter = [] }) bnd src s ≡ Ok (record { steps = Inner t.tree ∷ []; filter = [] }, s)
+    unfolding body.join body.shared body.inner_join body.tests
+    is_joined x under s = rw (under, is, left, on)
+
+    are_joined : (x : Context) → x.schema ≡ schema → (s : State) → body.joins lower x (bnd ∷ []) (src ∷ []) s ≡ Ok (record { steps = Inner t.tree ∷ []; filter = [] }, s)
+    unfolding body.joins
+    are_joined x under s = rw (on, using, is_joined x under s)
+
+    module _ (n₁ n₂ n₃ : Name) (c₁ : IsColumn t n₁) (c₂ : IsColumn t n₂) (c₃ : IsColumn t n₃)
+        (e₁ e₂ e₃ : Expr) (out₁ : out-Expr e₁ ≡ Expr-F.Column None n₁) (out₂ : out-Expr e₂ ≡ Expr-F.Column None n₂) (out₃ : out-Expr e₃ ≡ Expr-F.Column None n₃)
+        (s₁ s₂ s₃ : written.Shown) (x₁ x₂ x₃ : Name) (one₁ : written.out-Shown s₁ ≡ Shown-F.One e₁ None x₁) (one₂ : written.out-Shown s₂ ≡ Shown-F.One e₂ None x₂) (one₃ : written.out-Shown s₃ ≡ Shown-F.One e₃ None x₃) where
+      abbrev all : List Output
+      all = output n₁ c₁ ∷ output n₂ c₂ ∷ output n₃ c₃ ∷ []
+
+      abbrev after : State
+      after = st 99997 (carried n₃ c₃)
+
+      are_shown : body.outputs lower cx (bnd ∷ []) (s₁ ∷ s₂ ∷ s₃ ∷ []) (st max_budget nothing) ≡ Ok (all, after)
+      unfolding body.outputs
+      are_shown = rw (is_shown n₁ c₁ e₁ out₁ s₁ x₁ one₁ max_budget refl nothing [], is_shown n₂ c₂ e₂ out₂ s₂ x₂ one₂ 99999 refl (carried n₁ c₁) (output n₁ c₁ ∷ []), is_shown n₃ c₃ e₃ out₃ s₃ x₃ one₃ 99998 refl (carried n₂ c₂) (output n₁ c₁ ∷ output n₂ c₂ ∷ []))
+
+      module _ (core : Core) (froms : (out-Core core).from ≡ src ∷ []) (shown : (out-Core core).shown ≡ s₁ ∷ s₂ ∷ s₃ ∷ []) (filter : (out-Core core).filter ≡ None)
+          (group : (out-Core core).group ≡ []) (having : (out-Core core).having ≡ None) (distinct : (out-Core core).distinct ≡ false) where
+        is_result : body.result lower (outermost schema) tables_level core (st max_budget nothing) ≡ Ok (all, after)
+        unfolding body.result
+        is_result = rw (shown, are_shown)
+
+        abbrev shown_level : Level
+        shown_level = record { tables = bnd ∷ []; shown = all }
+
+        is_matching : body.matching lower (outermost schema) shown_level core after ≡ Ok (record { steps = Inner t.tree ∷ []; filter = [] }, after)
+        unfolding body.matching body.tests
+        is_matching = rw (froms, filter, are_joined (body.within (outermost schema) shown_level false) refl after)
+
+        is_body : body.body lower (outermost schema) core (fresh 1 max_budget) ≡ Ok (record { level = shown_level; steps = Inner t.tree ∷ []; filter = [] }, after)
+        unfolding body.body
+        is_body = rw (froms, are_bound, is_result, is_matching)
+
+        abbrev clauses : Clauses
+        clauses = record { body = record { level = shown_level; steps = Inner t.tree ∷ []; filter = [] }; is_grouped = false; keys = []; collations = []; having = []; order = [] }
+
+        are_parts : parts schema core [] (fresh 1 max_budget) ≡ Ok (clauses, after)
+        unfolding parts Rattle.sqlite_resolve.specs.Order.keys Rattle.sqlite_resolve.specs.Order.sorts Rattle.sqlite_resolve.specs.Select.having body.tests
+        are_parts = rw (group, having, is_body)
+
+        abbrev page : Term × Term
+        page = (lit (Int (negsuc 0)), number 0)
+
+        abbrev pub draft : Draft
+        draft = record {
+          from = inner t.tree end;
+          filter = [];
+          group = None;
+          project = term n₁ c₁ ∷ term n₂ c₂ ∷ term n₃ c₃ ∷ [];
+          distinct = false;
+          collations = [];
+          order = [];
+          limit = lit (Int (negsuc 0));
+          offset = lit (Int (pos 0));
+        }
+
+        abbrev pub headings : List Name
+        headings = c₁.column.name ∷ c₂.column.name ∷ c₃.column.name ∷ []
+
+        abbrev shown_so : program.Shown
+        shown_so = (draft, headings, (carried n₁ c₁).collation ∷ (carried n₂ c₂).collation ∷ (carried n₃ c₃).collation ∷ [])
+
+        is_drafted : named schema core [] page ≡ Ok shown_so
+        unfolding named assembled ungrouped
+        is_drafted = rw (are_parts, distinct)
+
+        module _ (s : Select) (with : (out-Select s).with ≡ []) (first : (out-Select s).first ≡ core) (others : (out-Select s).others ≡ []) (order : (out-Select s).order ≡ [])
+            (limit : (out-Select s).limit ≡ None) (offset : (out-Select s).offset ≡ None) where
+          is_paged : paging schema s ≡ Ok page
+          unfolding paging constant_or
+          is_paged = rw (limit, offset)
+
+          sources_named : program.are_named (out-Core core).from ≡ true
+          sources_named = rw (froms, from)
+
+          is_single : (deeper : Schema → Select → program.Building program.Shown) → program.single deeper schema core [] page [] ≡ Ok ((shown_so, schema), [])
+          is_single deeper = single_named deeper schema core [] page [] sources_named ∙ rw is_drafted
+
+          is_whole : (deeper : Schema → Select → program.Building program.Shown) → program.whole deeper schema s [] ≡ Ok (shown_so, [])
+          unfolding program.whole program.alone
+          is_whole deeper = rw (is_paged, others, first, order, is_single deeper)
+
+          is_queried : query schema s ≡ Ok (shown_so, [])
+          unfolding query query_to program.level program.with
+          is_queried = rw (with, is_whole (query_to 15))
+
+          abbrev pub body_of : Program
+          body_of = record { lets = []; body = query_of draft }
+
+          module _ (accepted : accepts_program schema [] (query_of draft) [] ≡ true) where
+            is_program : program.program schema [] draft ≡ Ok body_of
+            unfolding program.program
+            is_program = rw accepted
+
+            pub is_read : compile.read schema s ≡ Ok (command.Select body_of headings)
+            unfolding compile.read
+            is_read = rw (is_queried, is_program)
+
+          module _ (refused : accepts_program schema [] (query_of draft) [] ≡ false) where
+            no_program : program.program schema [] draft ≡ Err Mismatch
+            unfolding program.program
+            no_program = rw refused
+
+            pub not_read : compile.read schema s ≡ Err Mismatch
+            unfolding compile.read
+            not_read = rw (is_queried, no_program)

@@ -1,0 +1,221 @@
+//! Both keepers hold the same rows after each call.
+
+use crate::examples::{BASE, SHELVED};
+use crate::exchanges::{Exchanges, Mark};
+use crate::replays::{lists, replays_on, tables, text};
+use plant_model::{AlarmRow, BandRow, CellRow, GrantRow, ShelfRow, UnitRow, UnitRows};
+use plant_office::Books;
+use plant_types::{Table, UnitCode};
+use plant_wire::End;
+use std::process::Abort;
+use std::test::Fail;
+
+/// A row that can be told from another.
+trait Same: Drop {
+    fn is_same(&self, other: &Self) -> bool;
+}
+
+impl Same for UnitRow {
+    fn is_same(&self, other: &UnitRow) -> bool {
+        self == other
+    }
+}
+
+impl Same for GrantRow {
+    fn is_same(&self, other: &GrantRow) -> bool {
+        let GrantRow {
+            person,
+            role_no,
+            end_s,
+        } = self;
+        *person == other.person && *role_no == other.role_no && *end_s == other.end_s
+    }
+}
+
+impl Same for AlarmRow {
+    fn is_same(&self, other: &AlarmRow) -> bool {
+        let AlarmRow {
+            tag,
+            latching,
+            max_s,
+            max_rev,
+            state_no,
+            suppressed,
+            active_s,
+            return_s,
+            out_s,
+            out_by,
+            out_words,
+        } = self;
+        *tag == other.tag
+            && *latching == other.latching
+            && *max_s == other.max_s
+            && *max_rev == other.max_rev
+            && *state_no == other.state_no
+            && *suppressed == other.suppressed
+            && *active_s == other.active_s
+            && *return_s == other.return_s
+            && *out_s == other.out_s
+            && *out_by == other.out_by
+            && *out_words == other.out_words
+    }
+}
+
+impl Same for ShelfRow {
+    fn is_same(&self, other: &ShelfRow) -> bool {
+        let ShelfRow {
+            tag,
+            one_shot,
+            start_s,
+            until_s,
+            person,
+            words,
+        } = self;
+        *tag == other.tag
+            && *one_shot == other.one_shot
+            && *start_s == other.start_s
+            && *until_s == other.until_s
+            && *person == other.person
+            && *words == other.words
+    }
+}
+
+impl Same for BandRow {
+    fn is_same(&self, other: &BandRow) -> bool {
+        self == other
+    }
+}
+
+impl Same for CellRow {
+    fn is_same(&self, other: &CellRow) -> bool {
+        self == other
+    }
+}
+
+fn are_same<T: Same>(ours: &Table<T>, theirs: &Table<T>) -> bool {
+    let (ours, theirs) = (ours.as_slice(), theirs.as_slice());
+    if ours.len() != theirs.len() {
+        return false;
+    }
+    for (our, their) in ours.iter().zip(theirs) {
+        if !our.is_same(their) {
+            return false;
+        }
+    }
+    true
+}
+
+/// Whether a unit has the same rows, in the same order, or none on both sides.
+fn are_same_rows(ours: &Option<UnitRows>, theirs: &Option<UnitRows>) -> bool {
+    let (Some(ours), Some(theirs)) = (ours, theirs) else {
+        return ours.is_none() && theirs.is_none();
+    };
+    let UnitRows {
+        units,
+        grants,
+        alarms,
+        shelves,
+        bands,
+        cells,
+    } = ours;
+    are_same(units, &theirs.units)
+        && are_same(grants, &theirs.grants)
+        && are_same(alarms, &theirs.alarms)
+        && are_same(shelves, &theirs.shelves)
+        && are_same(bands, &theirs.bands)
+        && are_same(cells, &theirs.cells)
+}
+
+/// Whether both keepers hold the same rows of each of the units.
+fn hold_alike(
+    ours: &mut impl Books,
+    theirs: &mut impl Books,
+    units: &[UnitCode],
+) -> Result<bool, Fail> {
+    for unit in units {
+        if !are_same_rows(&ours.rows(unit)?, &theirs.rows(unit)?) {
+            return Ok(false);
+        }
+    }
+    Ok(true)
+}
+
+/// The books after one request, which is answered so.
+fn after<B: Books + Drop>(
+    rt: &(impl Abort + AllocGlobal),
+    books: B,
+    request: &[u8],
+    answer: &[u8],
+    title: &str,
+) -> B {
+    let (answers, end, books) = replays_on(rt.alloc(), books, request, b"");
+    assert_eq!(rt; text(&answers), text(answer), "{title}: {}", text(request));
+    assert_eq!(rt; end, End::Closed, "{title}: {}", text(request));
+    books
+}
+
+/// After each request both keepers hold the same rows of each unit that the example names.
+pub(crate) fn are_kept_alike(
+    rt: &(impl Abort + AllocGlobal),
+    wanted: &Exchanges,
+    title: &str,
+) -> Result<(), Fail> {
+    let mut ours = lists(rt)?;
+    let mut theirs = tables(rt)?;
+    let mut last = Mark {
+        asked: 0,
+        answered: 0,
+    };
+    for mark in &wanted.marks {
+        let request = wanted
+            .requests
+            .as_bytes()
+            .get(last.asked..mark.asked)
+            .ok_or("a request")?;
+        let answer = wanted
+            .answers
+            .as_bytes()
+            .get(last.answered..mark.answered)
+            .ok_or("an answer")?;
+        ours = after(rt, ours, request, answer, title);
+        theirs = after(rt, theirs, request, answer, title);
+        assert!(rt;
+            hold_alike(&mut ours, &mut theirs, &wanted.units)?,
+            "{title}: {}",
+            text(request)
+        );
+        last = *mark;
+    }
+    Ok(())
+}
+
+/// The books after these exchanges.
+fn left_by<B: Books + Drop>(
+    rt: &(impl Abort + AllocGlobal),
+    books: B,
+    parts: &[&str],
+) -> Result<(B, Exchanges), Fail> {
+    let mut wanted = Exchanges::new(rt.alloc());
+    for part in parts {
+        wanted.add_all(part)?;
+    }
+    let (_, _, books) = replays_on(rt.alloc(), books, wanted.requests.as_bytes(), b"");
+    Ok((books, wanted))
+}
+
+#[test]
+fn tells_rows_that_differ(rt: HostRuntime) -> Result<(), Fail> {
+    let (mut ours, wanted) = left_by(&rt, lists(&rt)?, &[BASE])?;
+    for (parts, is_alike) in [
+        (&[BASE].as_slice(), true),
+        (&[BASE, SHELVED].as_slice(), false),
+        (&[].as_slice(), false),
+    ] {
+        let (mut theirs, _) = left_by(&rt, tables(&rt)?, parts)?;
+        assert_eq!(rt;
+            hold_alike(&mut ours, &mut theirs, &wanted.units)?,
+            is_alike
+        );
+    }
+    Ok(())
+}
