@@ -37,14 +37,16 @@ fn reopen_files<D: Disk + Drop>(
     }
 }
 
-/// Closes books that are kept in files, and opens them again for the same administrator. What they held is found again.
+/// Closes books that are kept in files, and opens them again for the same administrator. What they held is found again;
+/// faults are counted anew.
 pub fn reopen<D: Disk + Drop>(
     alloc: Global,
     tables: Tables<FileStore<D>>,
     admin: Person,
     options: Options,
 ) -> Option<Tables<FileStore<D>>>
-    ensures { (m : Content) → tables.0.1 ≡ m.admin → Keeps (file_state tables.0.0) m → m.admin ≡ admin → IfSome result (λ again. (again.0.1 ≡ m.admin) × Keeps (file_state again.0.0) m) }
+    ensures fresh { IfSome result (λ again. (again.0.1 ≡ admin) × (again.1 ≡ 0)) }
+    ensures kept { (m : Content) → tables.0.1 ≡ m.admin → Keeps (file_state tables.0.0) m → m.admin ≡ admin → IfSome result (λ again. (again.0.1 ≡ m.admin) × Keeps (file_state again.0.0) m) }
 {
     let conn = reopen_files(alloc, tables.close(), options)?;
     match Tables::open(alloc, conn, admin) {

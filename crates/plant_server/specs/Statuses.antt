@@ -1,7 +1,9 @@
 -- The exit statuses of the program.
-use Rattle.std.specs.Prelude.{ℕ}
+use Rattle.std.specs.Prelude.{if◌then◌else◌, ℕ, ◌≡◌, ◌⊎◌}
 use Rattle.plant_wire.specs.declared.reads.End.{End}
 use Rattle.plant_wire.specs.declared.reads.End.TheVariants.{BrokenInput, Closed, Fault, ReadFailed, WriteFailed}
+use Rattle.plant_server.specs.declared.line.LineError.{LineError}
+use Rattle.plant_server.specs.declared.line.LineError.TheVariants.{Memory, NotAPerson, Text}
 
 -- how a session ended, as a status: 0 where all was answered
 abbrev pub status_of : End → ℕ
@@ -14,3 +16,17 @@ status_of Fault = 7
 -- no books were opened
 abbrev pub unready : ℕ
 unready = 3
+
+-- why the words can't be followed: 0 where they ask for help
+abbrev pub unfollowed : LineError → ℕ
+unfollowed (Text text is_error) = if is_error then 2 else 0
+unfollowed NotAPerson = 2
+unfollowed Memory = 7
+
+-- no books were opened, or a session ended
+abbrev pub IsOfSession : ℕ → Type 0
+IsOfSession n = (n ≡ unready) ⊎ ((end : End) × (n ≡ status_of end))
+
+-- or the words can't be followed
+abbrev pub IsStatus : ℕ → Type 0
+IsStatus n = IsOfSession n ⊎ ((error : LineError) × (n ≡ unfollowed error))

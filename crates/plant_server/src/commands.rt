@@ -62,6 +62,8 @@ fn ended(errors: &mut impl Write, end: End) -> u8
     status_of(end)
 }
 
+const UNREADY: u8 = 3;
+
 /// Says why no books were opened, and gives the status.
 fn unready(errors: &mut impl Write, fault: &StoreFault) -> u8
     ensures { result ≡ statuses.unready }
@@ -70,7 +72,7 @@ fn unready(errors: &mut impl Write, fault: &StoreFault) -> u8
         StoreFault::NotThisStore => say(errors, "store: not this store\n"),
         StoreFault::Fault(_) => say(errors, "store: fault\n"),
     }
-    3
+    UNREADY
 }
 
 fn run<I: Read + Drop, O: Write + Drop, E: Write + Drop>(
@@ -79,7 +81,9 @@ fn run<I: Read + Drop, O: Write + Drop, E: Write + Drop>(
     input: I,
     output: O,
     errors: &mut E,
-) -> u8 {
+) -> u8
+    ensures { statuses.IsOfSession result }
+{
     let alloc = rt.alloc();
     let Line { admin, db } = line;
     match db {
@@ -102,6 +106,28 @@ fn run<I: Read + Drop, O: Write + Drop, E: Write + Drop>(
     }
 }
 
+/// Says why the words can't be followed, or gives the help that they ask for, and gives the status.
+fn unfollowed(output: &mut impl Write, errors: &mut impl Write, error: &LineError) -> u8
+    ensures { result ≡ statuses.unfollowed error.now }
+{
+    match error {
+        LineError::Text { text, is_error } => {
+            if *is_error {
+                say(errors, text.as_str());
+                2
+            } else {
+                say(output, text.as_str());
+                0
+            }
+        }
+        LineError::NotAPerson => {
+            say(errors, "admin: not a person name\n");
+            2
+        }
+        LineError::Memory => 7,
+    }
+}
+
 /// Does what the words ask for, the program's own name first, and answers the exit status: 0 where the input ended
 /// and every request was answered, or for help; 2 where the words are wrong; 3 where the file keeps no books of this
 /// administrator or can't be opened; 4, 5, 6 or 7 where the session ended by broken input, a failed read, a failed
@@ -112,22 +138,11 @@ pub fn command<S: AsStr, I: Read + Drop, O: Write + Drop, E: Write + Drop>(
     input: I,
     mut output: O,
     mut errors: E,
-) -> u8 {
+) -> u8
+    ensures { statuses.IsStatus result }
+{
     match line_of(rt.alloc(), words) {
         Ok(line) => run(rt, line, input, output, &mut errors),
-        Err(LineError::Text { text, is_error }) => {
-            if is_error {
-                say(&mut errors, text.as_str());
-                2
-            } else {
-                say(&mut output, text.as_str());
-                0
-            }
-        }
-        Err(LineError::NotAPerson) => {
-            say(&mut errors, "admin: not a person name\n");
-            2
-        }
-        Err(LineError::Memory) => 7,
+        Err(error) => unfollowed(&mut output, &mut errors, &error),
     }
 }
