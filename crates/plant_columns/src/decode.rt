@@ -43,7 +43,7 @@ fn open_text<C: Alphabet>(alloc: Global, row: &Row, at: usize) -> Result<Option<
     Ok(Some(text(alloc, row, at)?))
 }
 
-fn wide(row: &Row, at: usize) -> Result<u64, Error>
+pub fn wide(row: &Row, at: usize) -> Result<u64, Error>
     ensures { IfOk result (λ n. column row.now at ≡ codes.number n) }
 {
     row.get(at)
@@ -106,7 +106,7 @@ fn quota(row: &Row, at: usize) -> Result<Quota, Error>
     }
 }
 
-fn flag(row: &Row, at: usize) -> Result<bool, Error>
+pub fn flag(row: &Row, at: usize) -> Result<bool, Error>
     ensures { IfOk result (λ b. column row.now at ≡ codes.flag b) }
 {
     match number(row, at)? {
