@@ -48,7 +48,7 @@ fn open_text<C: Alphabet>(alloc: Global, row: &Row, at: usize) -> Result<Option<
     Ok(Some(text(alloc, row, at)?))
 }
 
-fn wide(row: &Row, at: usize) -> Result<u64, Error>
+pub fn wide(row: &Row, at: usize) -> Result<u64, Error>
     ensures value { IfOk result (λ n. column row.now at ≡ codes.number n) }
     ensures cause { IfErr result IsNoMemory }
 {
@@ -128,7 +128,7 @@ fn quota(row: &Row, at: usize) -> Result<Quota, Error>
     }
 }
 
-fn flag(row: &Row, at: usize) -> Result<bool, Error>
+pub fn flag(row: &Row, at: usize) -> Result<bool, Error>
     ensures value { IfOk result (λ b. column row.now at ≡ codes.flag b) }
     ensures cause { IfErr result IsNoMemory }
 {

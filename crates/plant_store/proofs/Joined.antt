@@ -45,7 +45,7 @@ map_append : {A B : Type 0} (f : A → B) (xs ys : List A) → map f (xs ++ ys) 
 map_append f [] ys = refl
 map_append f (x ∷ xs) ys = ap (λ l. f x ∷ l) (map_append f xs ys)
 
-one_test : (v : Value) (u : List ℕ) → (equal Binary v (Text u) && true) ≡ is_eq (value_cmp v (Text u))
+pub one_test : (v : Value) (u : List ℕ) → (equal Binary v (Text u) && true) ≡ is_eq (value_cmp v (Text u))
 one_test v u = and_true _ ∙ equal_is v (Text u) refl
 
 equal_when : (o : Ordering) → is_eq o ≡ true → o ≡ Equal
@@ -53,12 +53,12 @@ equal_when Less h = absurd (true≢false (sym h))
 equal_when Equal h = refl
 equal_when Greater h = absurd (true≢false (sym h))
 
-both : (a b : Bool) → (a && b) ≡ true → a ≡ true
+pub both : (a b : Bool) → (a && b) ≡ true → a ≡ true
 both true b h = refl
 both false b h = h
 
 -- what SQL calls equal ties, also where the second may be NULL
-equal_ties : (a b : Value) → equal Binary a b ≡ true → value_cmp a b ≡ Equal
+pub equal_ties : (a b : Value) → equal Binary a b ≡ true → value_cmp a b ≡ Equal
 unfolding binary
 equal_ties a (Int n) h = equal_when _ (sym (equal_is a (Int n) refl) ∙ h)
 equal_ties a (Real n) h = equal_when _ (sym (equal_is a (Real n) refl) ∙ h)
@@ -100,7 +100,7 @@ any_inserted : {B : Type 0} (f : Row → B) (cmp : Row → Row → Ordering) (x 
 any_inserted f cmp x [] = refl
 any_inserted f cmp x (y ∷ ys) = elim (Rattle.std.proofs.Common.is_gt (cmp x y)) as (λ b. has_any (map f (cond b (y ∷ insert_sorted cmp x ys) (x ∷ y ∷ ys))) ≡ true) [ true ↦ refl | false ↦ refl ]
 
-any_sorted : {B : Type 0} (f : Row → B) (cmp : Row → Row → Ordering) (xs : List Row) (r : Row) → Has xs r → has_any (map f (sort_by cmp xs)) ≡ true
+pub any_sorted : {B : Type 0} (f : Row → B) (cmp : Row → Row → Ordering) (xs : List Row) (r : Row) → Has xs r → has_any (map f (sort_by cmp xs)) ≡ true
 any_sorted f cmp [] r h = absurd h
 any_sorted f cmp (x ∷ xs) r h = any_inserted f cmp x (sort_by cmp xs)
 

@@ -37,7 +37,7 @@ joins_run u l h (v ∷ vs) = go (same_name l.unit v.unit) refl
 
 -- ---- the runs of lines whose units rise
 
-abbrev NotAbove : Name → Name → Type 0
+abbrev pub NotAbove : Name → Name → Type 0
 NotAbove a b = is_gt (name_cmp a b) ≡ false
 
 put_above : (P : Name → Type 0) (u : MineUnit) → P u.unit → (vs : List MineUnit) → AllByRecursion (λ v. P v.unit) vs → AllByRecursion (λ v. P v.unit) (put_run u vs)
@@ -48,7 +48,7 @@ runs_above : (P : Name → Type 0) (ls : List Line) → AllByRecursion (λ l. P 
 runs_above P [] all = tt
 runs_above P (l ∷ ls) all = put_above P (started l) all.0 (runs_of ls) (runs_above P ls all.1)
 
-less_when : (a b : Name) → NotAbove a b → same_name a b ≡ false → name_cmp a b ≡ Less
+pub less_when : (a b : Name) → NotAbove a b → same_name a b ≡ false → name_cmp a b ≡ Less
 less_when a b h k = go (name_cmp a b) h k
   where
     go : (o : Ordering) → is_gt o ≡ false → is_eq o ≡ false → o ≡ Less

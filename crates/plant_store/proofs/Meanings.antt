@@ -17,7 +17,7 @@ use Rattle.sqlite_tied.specs.Compute.{everything}
 use Rattle.sqlite_value.specs.declared.keys.Key.{Key}
 use Rattle.sqlite_value.specs.declared.value.Value.TheVariants.{Null, Int}
 use Rattle.sqlite_value.specs.Keys.{ascending}
-use Rattle.plant_store.specs.Texts.{office_text, units_text, grants_text, alarms_text, shelves_text, bands_text, cells_text, by_person_text, put_office_text, office_row_text, put_unit_text, put_grant_text, put_alarm_text, put_shelf_text, put_band_text, put_cell_text, remove_grant_text, remove_shelf_text, units_of_text, grants_of_text, alarms_of_text, shelves_of_text, bands_of_text, cells_of_text, own_grants_text, alarm_at_text, shelf_at_text, tags_of_text, mine_text}
+use Rattle.plant_store.specs.Texts.{office_text, units_text, grants_text, alarms_text, shelves_text, bands_text, cells_text, by_person_text, put_office_text, office_row_text, put_unit_text, put_grant_text, put_alarm_text, put_shelf_text, put_band_text, put_cell_text, remove_grant_text, remove_shelf_text, units_of_text, grants_of_text, alarms_of_text, shelves_of_text, bands_of_text, cells_of_text, own_grants_text, alarm_at_text, shelf_at_text, tags_of_text, mine_shelves_text, mine_text}
 use Rattle.plant_columns.specs.Tables.{office_table, unit_shape, grant_shape, alarm_shape, shelf_shape, band_shape, cell_shape, by_person, no_schema, office_schema, units_schema, grants_schema, alarms_schema, shelves_schema, bands_schema, cells_schema, books_schema}
 use Rattle.plant_tables.specs.Kept.{plain_query}
 use Rattle.plant_tables.specs.Shape.{table_in}
@@ -409,3 +409,24 @@ mine_is = (refl, refl)
 pub mine_plain : IsPlain (understood books_schema mine_text)
 unfolding understood everything
 mine_plain = (refl, refl)
+
+abbrev pub mine_shelves_tests : List Term
+mine_shelves_tests = op2 (Compare Eq Binary) (col 2 1) (col 1 1) ∷ op2 (Compare Eq Binary) (col 2 2) (col 0 0) ∷ []
+
+abbrev pub mine_shelves_shows : List Term
+mine_shelves_shows = col 1 1 ∷ col 1 2 ∷ col 1 3 ∷ col 1 4 ∷ col 1 5 ∷ col 1 6 ∷ col 1 7 ∷ col 2 4 ∷ []
+
+abbrev pub mine_shelves_order : List (Term × Key)
+mine_shelves_order = (col 1 1, ascending Binary) ∷ (col 1 2, ascending Binary) ∷ (col 2 3, ascending Binary) ∷ []
+
+abbrev pub mine_shelves_names : List (List ℕ)
+mine_shelves_names = codes "unit" ∷ codes "tag" ∷ codes "one_shot" ∷ codes "start_s" ∷ codes "until_s" ∷ codes "person" ∷ codes "words" ∷ codes "end_s" ∷ []
+
+pub mine_shelves_is : (command_of (understood books_schema mine_shelves_text) ≡ Select (record { lets = []; body = plain_query (inner 7 (inner 3 end)) mine_shelves_tests mine_shelves_shows mine_shelves_order }) mine_shelves_names)
+    × (reads_listing books_schema mine_shelves_text ≡ false)
+unfolding understood everything
+mine_shelves_is = (refl, refl)
+
+pub mine_shelves_plain : IsPlain (understood books_schema mine_shelves_text)
+unfolding understood everything
+mine_shelves_plain = (refl, refl)

@@ -95,3 +95,7 @@ tags_of_text = codes "SELECT tag FROM alarms WHERE unit = ?1 ORDER BY unit, tag"
 -- a person's grants in all units, each beside its unit's last moment
 abbrev pub mine_text : List ℕ
 mine_text = codes "SELECT grants.unit, grants.role_no, grants.end_s, units.last_s FROM grants INNER JOIN units ON units.unit = grants.unit WHERE grants.person = ?1 ORDER BY grants.unit, grants.person, grants.role_no"
+
+-- the shelves of the units in which a person has grants, each beside the end of each of these grants
+abbrev pub mine_shelves_text : List ℕ
+mine_shelves_text = codes "SELECT shelves.unit, shelves.tag, shelves.one_shot, shelves.start_s, shelves.until_s, shelves.person, shelves.words, grants.end_s FROM shelves INNER JOIN grants ON grants.unit = shelves.unit WHERE grants.person = ?1 ORDER BY shelves.unit, shelves.tag, grants.role_no"

@@ -46,7 +46,7 @@ impl Shown for Line {
 }
 
 /// Whether the moment is before the end.
-fn is_before_end(now: Moment, end_s: Option<Moment>) -> bool
+pub fn is_before_end(now: Moment, end_s: Option<Moment>) -> bool
     ensures { result ≡ is_before now end_s }
 {
     match end_s {

@@ -1,22 +1,23 @@
 //! The shelves of the units in which a person holds roles.
 
-ghost use Rattle.std.specs.List.{flat_map};
-ghost use Rattle.std.specs.Prelude.{◌≡◌, ◌++◌, false, map, IfOk, OnOk};
+ghost use Rattle.std.specs.Prelude.{◌≡◌, ◌∷◌, ◌++◌, false, map, List, None, IfOk, OnOk};
 ghost use Rattle.sqlite.specs.Held.{state};
 ghost use Rattle.plant_books.specs.Contents as contents;
 ghost use Rattle.plant_books.specs.Contents.{Content};
 ghost use Rattle.plant_store.specs.Changes.{CanTell};
 ghost use Rattle.plant_store.specs.Keeping.{KeepsIn};
-ghost use Rattle.plant_store.specs.Shelves as listed;
-ghost use Rattle.plant_store.specs.Shelves.{unit_shelf, with_return};
+ghost use Rattle.plant_store.specs.Shelves.{is_again, last_of, merged_after, shelf_line_cells, shelf_lines, shelf_of, standing_shelf_lines, with_return};
+ghost use Rattle.plant_store.specs.declared.shelves.ShelfLine.{ShelfLine as LineRow};
 ghost use Rattle.plant_columns.specs.Tables.{AreBooks};
 
-use crate::mine::{mine_units, push};
-use crate::read::{alarm_at, shelves_of};
-use plant_books::{MineShelf, MineUnit, last_return};
+use crate::mine::{is_before_end, push};
+use crate::read::{alarm_at, ask};
+use plant_books::{MineShelf, last_return};
+use plant_columns::decode::{Shown, flag, moment, open_moment, read_all, text, wide};
+use plant_columns::encode::single;
 use plant_model::ShelfRow;
 use plant_types::{Duplicate, Moment, Person, Table, UnitCode};
-use sqlite::{Alter, Connection, Error, ErrorCode};
+use sqlite::{Alter, Connection, Error, ErrorCode, Row};
 use std::alloc::Global;
 
 /// A shelf, beside its unit's code.
@@ -24,6 +25,35 @@ use std::alloc::Global;
 pub struct UnitShelf {
     pub unit: UnitCode,
     pub shelf: ShelfRow,
+}
+
+/// A shelf, beside its unit's code and the end of a grant of the person in the unit.
+#[derive(Drop)]
+pub struct ShelfLine {
+    pub unit: UnitCode,
+    pub shelf: ShelfRow,
+    pub end_s: Option<Moment>,
+}
+
+impl Shown for ShelfLine {
+    ghost width = { 8 };
+
+    ghost cells = { shelf_line_cells };
+
+    fn from_row(alloc: Global, row: &Row) -> Result<ShelfLine, Error> {
+        Ok(ShelfLine {
+            unit: text(alloc, row, 0)?,
+            shelf: ShelfRow {
+                tag: text(alloc, row, 1)?,
+                one_shot: flag(row, 2)?,
+                start_s: moment(row, 3)?,
+                until_s: wide(row, 4)?,
+                person: text(alloc, row, 5)?,
+                words: text(alloc, row, 6)?,
+            },
+            end_s: open_moment(row, 7)?,
+        })
+    }
 }
 
 /// A copy of a code.
@@ -46,43 +76,62 @@ fn copied_shelf(alloc: Global, shelf: &ShelfRow) -> Result<ShelfRow, Error>
     }
 }
 
-/// Puts the unit's shelves at the end.
-fn push_shelves(
-    alloc: Global,
-    listed: &mut Table<UnitShelf>,
-    unit: &UnitCode,
-    shelves: &[ShelfRow],
-) -> Result<(), Error>
-    ensures { OnOk result (listed.new ≡ listed.old ++ map (unit_shelf unit.now) shelves.now) }
+/// Whether the shelf of the line is the last that was listed.
+fn is_last(listed: &[UnitShelf], line: &ShelfLine) -> bool
+    ensures { result ≡ is_again (last_of listed.now) (shelf_of line.now) }
 {
-    for shelf in shelves {
-        let listing = UnitShelf {
-            unit: copied_code(alloc, unit)?,
-            shelf: copied_shelf(alloc, shelf)?,
-        };
-        push(listed, listing)?;
+    match listed.last() {
+        Some(last) => last.unit == line.unit && last.shelf.tag == line.shelf.tag,
+        None => false,
     }
-    Ok(())
 }
 
-/// The shelves of the units.
-fn shelves_under<S: Alter>(
+/// Lists the shelf of the line, once.
+#[tactic(auto, using(crate::proofs::ShelfLaws::lists_one, crate::proofs::ShelfLaws::lists_none))]
+fn list(alloc: Global, listed: &mut Table<UnitShelf>, line: &ShelfLine) -> Result<(), Error>
+    ensures { OnOk result ((rest : List LineRow) → listed.new ++ merged_after (last_of listed.new) rest ≡ listed.old ++ merged_after (last_of listed.old) (line.now ∷ rest)) }
+{
+    if is_last(listed.as_slice(), line) {
+        return Ok(());
+    }
+    let shelf = UnitShelf {
+        unit: copied_code(alloc, &line.unit)?,
+        shelf: copied_shelf(alloc, &line.shelf)?,
+    };
+    push(listed, shelf)
+}
+
+/// The shelves of the lines, each once, without those of grants that have ended.
+fn merge(alloc: Global, lines: &[ShelfLine], now: Moment) -> Result<Table<UnitShelf>, Error>
+    ensures { IfOk result (λ listed. listed ≡ merged_after None (standing_shelf_lines now lines.now)) }
+{
+    let mut listed = Table::new(alloc);
+    for line in lines {
+        if is_before_end(now, line.end_s) {
+            list(alloc, &mut listed, line)?;
+        }
+    }
+    Ok(listed)
+}
+
+/// The shelves of the units in which the person has grants, each beside the end of each of these grants.
+fn lines<S: Alter>(
     alloc: Global,
     conn: &mut Connection<S>,
-    units: &[MineUnit],
-) -> Result<Table<UnitShelf>, Error>
+    person: &Person,
+) -> Result<Table<ShelfLine>, Error>
     requires { conn.old.in_transaction ≡ false }
     ensures mode { conn.new.in_transaction ≡ false }
-    ensures found { CanTell (state S.Store conn.new) → (m : Content) → KeepsIn (state S.Store conn.old) m → IfOk result (λ shelves. shelves ≡ flat_map (λ u. listed.shelves_under m u.unit) units.now) }
+    ensures found { CanTell (state S.Store conn.new) → (m : Content) → KeepsIn (state S.Store conn.old) m → IfOk result (λ lines. lines ≡ shelf_lines m person.now) }
     ensures same { CanTell (state S.Store conn.new) → AreBooks (state S.Store conn.old).now → (state S.Store conn.new).now ≡ (state S.Store conn.old).now }
     ensures told { CanTell (state S.Store conn.new) → CanTell (state S.Store conn.old) }
 {
-    let mut listed = Table::new(alloc);
-    for mine in units {
-        let shelves = shelves_of(alloc, conn, &mine.unit)?;
-        push_shelves(alloc, &mut listed, &mine.unit, shelves.as_slice())?;
-    }
-    Ok(listed)
+    let rows = ask(
+        conn,
+        "SELECT shelves.unit, shelves.tag, shelves.one_shot, shelves.start_s, shelves.until_s, shelves.person, shelves.words, grants.end_s FROM shelves INNER JOIN grants ON grants.unit = shelves.unit WHERE grants.person = ?1 ORDER BY shelves.unit, shelves.tag, grants.role_no",
+        &single(person),
+    )?;
+    read_all(alloc, rows.as_slice())
 }
 
 /// The shelf with the moment at which its alarm last returned to normal.
@@ -138,7 +187,7 @@ pub fn mine_shelves<S: Alter>(
     ensures same { CanTell (state S.Store conn.new) → AreBooks (state S.Store conn.old).now → (state S.Store conn.new).now ≡ (state S.Store conn.old).now }
     ensures told { CanTell (state S.Store conn.new) → CanTell (state S.Store conn.old) }
 {
-    let units = mine_units(alloc, conn, person, now)?;
-    let shelves = shelves_under(alloc, conn, units.as_slice())?;
+    let lines = lines(alloc, conn, person)?;
+    let shelves = merge(alloc, lines.as_slice(), now)?;
     all_returned(alloc, conn, shelves.as_slice())
 }
