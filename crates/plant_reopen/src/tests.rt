@@ -2,7 +2,7 @@ ghost use Rattle.std.specs.Prelude.{◌≡◌, false, IfOk};
 
 use super::*;
 use plant_alarm::AlarmState;
-use plant_books::Books;
+use plant_books::{Books, MineShelf};
 use plant_model::{AlarmRow, BandRow, CellRow, Change, GrantRow, Row, ShelfRow, UnitRow, UnitRows};
 use plant_ration::Cell;
 use plant_store::StoreFault;
@@ -201,6 +201,59 @@ fn finds_what_a_person_holds(rt: HostRuntime) -> Result<(), Fail> {
         [Role::Viewer, Role::Operator].as_slice()
     );
     assert_eq!(rt; first.last.seconds(), 80);
+    Ok(())
+}
+
+/// A unit with one shelf, and a grant to ann until this end.
+fn shelved_unit(alloc: Global, end_s: Option<Moment>) -> Result<Table<Change>, Fail> {
+    let mut list = Table::new(alloc);
+    list.push(own_row(80)?)?;
+    list.push(grant(alloc, b"ann", Role::Operator, end_s)?)?;
+    list.push(shelf(alloc, b"PT-101")?)?;
+    Ok(list)
+}
+
+/// Whether it is the shelf of this unit and tag, with this return of its alarm.
+fn is_shelf_of(
+    alloc: Global,
+    mine: &MineShelf,
+    code: &[u8],
+    name: &[u8],
+    returned: Option<u64>,
+) -> Result<bool, Fail> {
+    let last = match mine.last_return {
+        Some(moment) => Some(moment.seconds()),
+        None => None,
+    };
+    Ok(mine.unit == unit(alloc, code)? && mine.shelf.tag == tag(alloc, name)? && last == returned)
+}
+
+/// Books in which ann has two roles in one unit, one in a second, and one that has ended in a third.
+fn shelved(alloc: Global) -> Result<Tables<MemStore>, Fail> {
+    let mut books = opened(alloc)?;
+    books.apply(&unit(alloc, b"U1")?, &one(alloc, shelf(alloc, b"LT-2")?)?)?;
+    books.apply(&unit(alloc, b"U0")?, &shelved_unit(alloc, None)?)?;
+    books.apply(&unit(alloc, b"U2")?, &shelved_unit(alloc, Some(at(90)?))?)?;
+    Ok(books)
+}
+
+#[test]
+fn lists_the_shelves_of_a_persons_units_once(rt: HostRuntime) -> Result<(), Fail> {
+    let alloc = rt.alloc();
+    let mut books = shelved(alloc)?;
+    let shelves = books.mine_shelves(&person(alloc, b"ann")?, at(95)?)?;
+    let [first, second, third] = shelves.as_slice() else {
+        return Err(Fail::from("three shelves"));
+    };
+    assert!(rt; is_shelf_of(alloc, first, b"U0", b"PT-101", None)?);
+    assert!(rt; is_shelf_of(alloc, second, b"U1", b"LT-2", Some(50))?);
+    assert!(rt; is_shelf_of(alloc, third, b"U1", b"PT-101", Some(50))?);
+    assert_eq!(rt; second.shelf.until_s, 3670);
+    assert!(rt;
+        books
+            .mine_shelves(&person(alloc, b"bob")?, at(95)?)?
+            .is_empty()
+    );
     Ok(())
 }
 

@@ -56,22 +56,12 @@ impl Shown for ShelfLine {
     }
 }
 
-/// A copy of a code.
-fn copied_code(alloc: Global, unit: &UnitCode) -> Result<UnitCode, Error>
-    ensures { IfOk result (λ copy. copy ≡ unit.now) }
+/// The same value again.
+fn copied<T: Duplicate>(alloc: Global, value: &T) -> Result<T, Error>
+    ensures { IfOk result (λ copy. copy ≡ value.now) }
 {
-    match unit.copy(alloc) {
-        Ok(unit) => Ok(unit),
-        Err(_) => Err(Error::SqliteFailure(ErrorCode::OutOfMemory)),
-    }
-}
-
-/// A copy of a shelf.
-fn copied_shelf(alloc: Global, shelf: &ShelfRow) -> Result<ShelfRow, Error>
-    ensures { IfOk result (λ copy. copy ≡ shelf.now) }
-{
-    match shelf.duplicate(alloc) {
-        Ok(shelf) => Ok(shelf),
+    match value.duplicate(alloc) {
+        Ok(copy) => Ok(copy),
         Err(_) => Err(Error::SqliteFailure(ErrorCode::OutOfMemory)),
     }
 }
@@ -95,8 +85,8 @@ fn list(alloc: Global, listed: &mut Table<UnitShelf>, line: &ShelfLine) -> Resul
         return Ok(());
     }
     let shelf = UnitShelf {
-        unit: copied_code(alloc, &line.unit)?,
-        shelf: copied_shelf(alloc, &line.shelf)?,
+        unit: copied(alloc, &line.unit)?,
+        shelf: copied(alloc, &line.shelf)?,
     };
     push(listed, shelf)
 }
@@ -148,8 +138,8 @@ fn returned<S: Alter>(
 {
     let alarms = alarm_at(alloc, conn, &listed.unit, &listed.shelf.tag)?;
     Ok(MineShelf {
-        unit: copied_code(alloc, &listed.unit)?,
-        shelf: copied_shelf(alloc, &listed.shelf)?,
+        unit: copied(alloc, &listed.unit)?,
+        shelf: copied(alloc, &listed.shelf)?,
         last_return: last_return(alarms.as_slice(), &listed.shelf.tag),
     })
 }
