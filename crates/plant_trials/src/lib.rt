@@ -1,7 +1,9 @@
 //! Whole sessions over the office, as tests alone: worked examples, streams that are cut, streams without the calls of
-//! others, and requests that are no calls. Each is generic in the keeper of the units.
+//! others, and requests that are no calls, each generic in the keeper of the units; and the program's command.
 #![tactic(auto)]
 
+#[cfg(test)]
+mod commands;
 #[cfg(test)]
 mod cuts;
 #[cfg(test)]
