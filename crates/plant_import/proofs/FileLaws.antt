@@ -1,18 +1,21 @@
 -- Files that bring the same rows leave the same events.
-use Rattle.std.proofs.Common.{[], ap, append-nil, append_assoc, arith, cond, false, length, length-append, refl, sym, true, ◌++◌, ◌+◌, ◌∙◌, ◌∷◌, ◌≡◌, ◌≤◌}
-use Rattle.std.proofs.lemmas.Bool.{eq-eqb}
+use Rattle.std.proofs.lemmas.Bool.Decides.{nat_tests}
+use Rattle.std.proofs.Common.{Some, [], ap, append-nil, append_assoc, arith, cond, false, length, length-append, refl, sym, true, ◌++◌, ◌+◌, ◌∙◌, ◌∷◌, ◌≡◌, ◌≤◌}
+use Rattle.std.proofs.lemmas.Bool.{eq-eqb, eqb-true}
 use Rattle.std.proofs.lemmas.List.Folds.{list_any-append}
 use Rattle.std.specs.Cmp.{eq_by_cmp_equiv}
 use Rattle.std.specs.List.{list_all, list_any}
-use Rattle.std.specs.Prelude.{Bool, List, None, filter, if◌then◌else◌, is_none, nat_lt, not, option_map, ℕ, ◌&&◌, ◌==◌, ◌||◌}
+use Rattle.std.specs.Prelude.{Bool, List, None, Option, filter, if◌then◌else◌, is_none, nat_lt, not, option_map, ℕ, ◌&&◌, ◌==◌, ◌||◌}
 use Rattle.plant_alarm.specs.declared.event.Event.{Event}
 use Rattle.plant_alarm.specs.declared.event.EventKind.TheVariants.{Ack, Act, Reset, Rtn, Sup, Unsup}
 use Rattle.plant_alarm.specs.declared.event.EventKind.{EventKind}
+use Rattle.plant_import.specs.declared.bad_file.BadFile.{BadFile}
 use Rattle.plant_import.specs.declared.bad_file.Cause.TheVariants.{MomentAhead, MomentOutOfOrder, SequenceClash, TagUnknown}
+use Rattle.plant_import.specs.declared.bad_file.Cause.{Cause}
 use Rattle.plant_alarm.specs.States.{passing}
 use Rattle.plant_import.proofs.Nearest.{same_any, same_is}
 use Rattle.plant_import.specs.Fields.{first_cause}
-use Rattle.plant_import.specs.Files.{Brought, FilesAgree, SameMembers, are_known, are_taken, is_fit, kept_after, new_rows, none_ahead, rows_brought}
+use Rattle.plant_import.specs.Files.{Brought, FilesAgree, SameMembers, TakenFilesFit, are_known, are_taken, is_fit, kept_after, new_rows, none_ahead, rows_brought}
 use Rattle.plant_import.specs.Merging.{clashes, first_fault, fresh, is_new, kind_no, merge_fault, out_of_order, same_event}
 use Rattle.plant_import.specs.Reading.{bad}
 use Rattle.plant_types.proofs.Orders.{name_total}
@@ -301,3 +304,120 @@ files_agree tags kept xs ys known first_ahead second_ahead fit same =
       first_count = new_rows_are kept xs;
       same_count = new_rows_are kept xs ∙ same_number_new kept rows (rows_brought ys) same ∙ sym (new_rows_are kept ys);
     }
+
+-- Files that are taken leave events that fit
+all_from : (p : Event → Bool) (xs : List Event) → ((e : Event) → member e xs ≡ true → p e ≡ true) → list_all p xs ≡ true
+all_from p [] each = refl
+all_from p (x ∷ xs) each =
+    let rest = all_from p xs (λ e h. each e (or_right (same_event e x) (member e xs) h)) in
+    λ i. each x (first_member x xs) i && rest i
+
+none_member : (p : Event → Bool) (xs : List Event) (e : Event) → list_any p xs ≡ false → member e xs ≡ true → p e ≡ false
+none_member p xs e none there = not_true (p e) (λ h. clash_of (list_any p xs) (same_any p e xs there h) none)
+
+-- a row that fits among events
+abbrev fits_in : List Event → Event → Bool
+fits_in es e = not (list_any (clashes e) es) && not (list_any (out_of_order e) es)
+
+fit_parts : (es : List Event) (e : Event) → fits_in es e ≡ true → (list_any (clashes e) es ≡ false) × (list_any (out_of_order e) es ≡ false)
+fit_parts es e h =
+    let parts = and_parts (not (list_any (clashes e) es)) (not (list_any (out_of_order e) es)) h in
+    (not_so (list_any (clashes e) es) parts.0, not_so (list_any (out_of_order e) es) parts.1)
+
+fit_from : (es : List Event) (e : Event) → list_any (clashes e) es ≡ false → list_any (out_of_order e) es ≡ false → fits_in es e ≡ true
+fit_from es e clash order = λ i. not (clash i) && not (order i)
+
+fit_within : (xs ys : List Event) → is_fit xs ≡ true → Within ys xs → is_fit ys ≡ true
+fit_within xs ys fit within =
+    all_from (fits_in ys) ys
+    (λ e there.
+    let parts = fit_parts xs e (all_member (fits_in xs) xs e fit (within e there)) in
+    fit_from ys e (none_within (clashes e) ys xs within parts.0) (none_within (out_of_order e) ys xs within parts.1))
+
+-- two events clash, or are out of order, whichever is named first
+same_turned : (a b : Event) → same_event a b ≡ same_event b a
+same_turned a b =
+    both_ways (same_event a b) (same_event b a) (λ h. ap (λ x. same_event b x) (same_is a b h) ∙ itself b) (λ h. ap (λ x. same_event a x) (same_is b a h) ∙ itself a)
+
+equal_turned : (m n : ℕ) → (m == n) ≡ (n == m)
+equal_turned m n = both_ways (m == n) (n == m) (λ h. eq-eqb n m (sym (eqb-true m n h))) (λ h. eq-eqb m n (sym (eqb-true n m h)))
+
+clashes_turned : (a b : Event) → clashes a b ≡ clashes b a
+clashes_turned a b = λ i. equal_turned a.seq b.seq i && not (same_turned a b i)
+
+or_turned : (a b : Bool) → (a || b) ≡ (b || a)
+or_turned true true = refl
+or_turned true false = refl
+or_turned false true = refl
+or_turned false false = refl
+
+order_turned : (a b : Event) → out_of_order a b ≡ out_of_order b a
+order_turned a b = or_turned (nat_lt a.seq b.seq && nat_lt b.moment a.moment) (nat_lt b.seq a.seq && nat_lt a.moment b.moment)
+
+-- one more test among events and one more event
+one_test : (p : Event → Bool) (others : List Event) (e : Event) → list_any p others ≡ false → p e ≡ false → list_any p (others ++ e ∷ []) ≡ false
+one_test p others e none new = list_any-append p others (e ∷ []) ∙ (λ i. none i || (new i || false))
+
+not_below : (n : ℕ) → nat_lt n n ≡ false
+not_below n = grind (arith, nat_tests)
+
+never_itself : (e : Event) → (clashes e e ≡ false) × (out_of_order e e ≡ false)
+never_itself e =
+    (ap (λ b. (e.seq == e.seq) && not b) (itself e) ∙ and_false (e.seq == e.seq), λ i. less i || less i) where
+      and_false : (b : Bool) → (b && false) ≡ false
+      and_false true = refl
+      and_false false = refl
+
+      less : (nat_lt e.seq e.seq && nat_lt e.moment e.moment) ≡ false
+      less = ap (λ b. b && nat_lt e.moment e.moment) (not_below e.seq)
+
+fit_more : (others : List Event) (e : Event) → is_fit others ≡ true → list_any (clashes e) others ≡ false → list_any (out_of_order e) others ≡ false → is_fit (others ++ e ∷ []) ≡ true
+fit_more others e fit clash order =
+    all_from (fits_in (others ++ e ∷ [])) (others ++ e ∷ []) (λ x there. by_place x (member x others) refl (sym (list_any-append (same_event x) others (e ∷ [])) ∙ there)) where
+      old : (x : Event) → member x others ≡ true → fits_in (others ++ e ∷ []) x ≡ true
+      old x known =
+          let parts = fit_parts others x (all_member (fits_in others) others x fit known) in
+          fit_from (others ++ e ∷ []) x
+          (one_test (clashes x) others e parts.0 (clashes_turned x e ∙ none_member (clashes e) others x clash known))
+          (one_test (out_of_order x) others e parts.1 (order_turned x e ∙ none_member (out_of_order e) others x order known))
+
+      by_place : (x : Event) (b : Bool) → member x others ≡ b → (b || member x (e ∷ [])) ≡ true → fits_in (others ++ e ∷ []) x ≡ true
+      by_place x true known there = old x known
+      by_place x false known there =
+          let same : x ≡ e = same_is x e (sym (or_false (same_event x e)) ∙ there) in
+          ap (fits_in (others ++ e ∷ [])) same
+          ∙ fit_from (others ++ e ∷ []) e (one_test (clashes e) others e clash (never_itself e).0) (one_test (out_of_order e) others e order (never_itself e).1)
+
+-- a row without fault clashes with none and is in order with all
+no_cause : (a b c d : Bool) → first_cause ((a, TagUnknown) ∷ (b, MomentAhead) ∷ (c, SequenceClash) ∷ (d, MomentOutOfOrder) ∷ []) ≡ None → (c ≡ false) × (d ≡ false)
+no_cause true b c d e = cc
+no_cause false true c d e = cc
+no_cause false false true d e = cc
+no_cause false false false true e = cc
+no_cause false false false false e = (refl, refl)
+
+row_fits : (tags : List Name) (now : ℕ) (others : List Event) (e : Event) → merge_fault tags now others e ≡ None → (list_any (clashes e) others ≡ false) × (list_any (out_of_order e) others ≡ false)
+unfolding merge_fault
+row_fits tags now others e h = no_cause (not (list_any (same_name e.tag) tags)) (nat_lt now e.moment) (list_any (clashes e) others) (list_any (out_of_order e) others) h
+
+no_first : (line : ℕ) (o : Option Cause) (rest : Option BadFile) → or_else (option_map (bad line) o) rest ≡ None → (o ≡ None) × (rest ≡ None)
+no_first line None rest e = (refl, e)
+no_first line (Some c) rest e = cc
+
+file_fits : (tags : List Name) (now line : ℕ) (others rows : List Event) → is_fit others ≡ true → first_fault tags now line others rows ≡ None → is_fit (others ++ rows) ≡ true
+file_fits tags now line others [] fit h = ap is_fit (append-nil others) ∙ fit
+file_fits tags now line others (e ∷ rows) fit h =
+    let parts = no_first line (merge_fault tags now others e) (first_fault tags now (line + 1) (others ++ e ∷ []) rows) h in
+    let here = row_fits tags now others e parts.0 in
+    ap is_fit (sym (append_assoc others (e ∷ []) rows)) ∙ file_fits tags now (line + 1) (others ++ e ∷ []) rows (fit_more others e fit here.0 here.1) parts.1
+
+none_of : {A : Type 0} (o : Option A) → is_none o ≡ true → o ≡ None
+none_of None e = refl
+none_of (Some x) e = cc
+
+pub taken_files_fit : TakenFilesFit
+taken_files_fit tags kept [] fit h = fit
+taken_files_fit tags kept (b ∷ files) fit h =
+    let parts = and_parts (is_none (first_fault tags b.0 2 kept b.1)) (are_taken tags (kept ++ fresh kept b.1) files) h in
+    let whole : is_fit (kept ++ b.1) ≡ true = file_fits tags b.0 2 kept b.1 fit (none_of (first_fault tags b.0 2 kept b.1) parts.0) in
+    taken_files_fit tags (kept ++ fresh kept b.1) files (fit_within (kept ++ b.1) (kept ++ fresh kept b.1) whole (λ e there. sym (kept_fresh kept b.1 e) ∙ there)) parts.1

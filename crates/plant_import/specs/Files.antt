@@ -60,3 +60,7 @@ FilesAgree =
     → is_fit (kept ++ rows_brought xs) ≡ true
     → SameMembers (rows_brought xs) (rows_brought ys)
     → Agree tags kept xs ys
+
+-- files that are taken leave events that fit, where those that were kept fit
+abbrev pub TakenFilesFit : Type 0
+TakenFilesFit = (tags : List Name) (kept : List Event) (files : List Brought) → is_fit kept ≡ true → are_taken tags kept files ≡ true → is_fit (kept_after kept files) ≡ true
