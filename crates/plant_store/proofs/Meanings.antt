@@ -160,11 +160,6 @@ pub put_office_plain : IsPlain (understood books_schema put_office_text)
 unfolding understood everything
 put_office_plain = (refl, refl)
 
-pub office_row_is : (command_of (understood books_schema office_row_text) ≡ Select (record { lets = []; body = plain_query (inner 0 end) [] (col 1 0 ∷ col 1 2 ∷ col 1 3 ∷ []) [] }) (codes "id" ∷ codes "schema_no" ∷ codes "admin" ∷ []))
-    × (reads_listing books_schema office_row_text ≡ false)
-unfolding understood everything
-office_row_is = (refl, refl)
-
 pub office_row_plain : IsPlain (understood books_schema office_row_text)
 unfolding understood everything
 office_row_plain = (refl, refl)

@@ -33,20 +33,20 @@ module _ (schema : Schema) (k : ℕ) (t : Table) (named : table_named schema (co
   abbrev pub meant : Compiled
   meant = record { command = Select program names; returning = None; names = []; formats = []; start = asked.p.start; end = asked.p.end; tail = asked.p.tail }
 
-  abbrev a : Asks asked.s
-  a = asked.asks
+  abbrev written : Asks asked.s
+  written = asked.asks
 
   reads : accepts_program schema [] query [] ≡ true → compile.read schema asked.s ≡ Ok (Select program names)
-  reads h = is_read schema (codes "office") k t named is a.src a.from a.alias a.using a.left a.on
+  reads h = is_read schema (codes "office") k t named is written.src written.from written.alias written.using written.left written.on
       (codes "id") (codes "schema_no") (codes "admin") id schema_no admin
-      a.id.e a.schema_no.e a.admin.e a.id.out a.schema_no.out a.admin.out a.s₁ a.s₂ a.s₃ a.id.text a.schema_no.text a.admin.text a.id.one a.schema_no.one a.admin.one
-      a.core a.froms a.shown a.filter a.group a.having a.distinct asked.s a.with a.first_is a.others a.order a.limit a.offset h
+      written.id.e written.schema_no.e written.admin.e written.id.out written.schema_no.out written.admin.out written.s₁ written.s₂ written.s₃ written.id.text written.schema_no.text written.admin.text written.id.one written.schema_no.one written.admin.one
+      written.core written.froms written.shown written.filter written.group written.having written.distinct asked.s written.with written.first_is written.others written.order written.limit written.offset h
 
   refuses : accepts_program schema [] query [] ≡ false → compile.read schema asked.s ≡ Err Mismatch
-  refuses h = not_read schema (codes "office") k t named is a.src a.from a.alias a.using a.left a.on
+  refuses h = not_read schema (codes "office") k t named is written.src written.from written.alias written.using written.left written.on
       (codes "id") (codes "schema_no") (codes "admin") id schema_no admin
-      a.id.e a.schema_no.e a.admin.e a.id.out a.schema_no.out a.admin.out a.s₁ a.s₂ a.s₃ a.id.text a.schema_no.text a.admin.text a.id.one a.schema_no.one a.admin.one
-      a.core a.froms a.shown a.filter a.group a.having a.distinct asked.s a.with a.first_is a.others a.order a.limit a.offset h
+      written.id.e written.schema_no.e written.admin.e written.id.out written.schema_no.out written.admin.out written.s₁ written.s₂ written.s₃ written.id.text written.schema_no.text written.admin.text written.id.one written.schema_no.one written.admin.one
+      written.core written.froms written.shown written.filter written.group written.having written.distinct asked.s written.with written.first_is written.others written.order written.limit written.offset h
 
   compiles : accepts_program schema [] query [] ≡ true → compiled schema office_row_text ≡ Ok meant
   unfolding compiled compile.planned compile.meaning compile.returning compile.command compile.timed

@@ -6,7 +6,6 @@ use Rattle.std.proofs.lemmas.Bool.{and_parts, cases_Bool, false≢true, ltb-true
 use Rattle.std.proofs.lemmas.Iterator.Adapters.{position_from-zero}
 use Rattle.std.proofs.lemmas.List.Sorted.{IsPermutation-map, IsPermutation-sym}
 use Rattle.std.proofs.lemmas.Option.{slice_get-get_or}
-use Rattle.sqlite.specs.Effect.{Database}
 use Rattle.sqlite.specs.Kind.TheVariants.{Integer}
 use Rattle.sqlite.specs.Query.{Output, inner, end}
 use Rattle.sqlite.specs.Schema.{Schema}
@@ -44,9 +43,6 @@ has_found (Some t) h = (t, refl, h)
 
 pub office_there : (schema : Schema) → has_office schema ≡ true → (t : Table) × (office_in schema ≡ Some t) × (is_office t ≡ true)
 office_there schema h = has_found (office_in schema) h
-
-pub not_there : (admin : Name) (db : Database) → has_office db.schema ≡ false → ¬ IsThisOffice admin db
-not_there admin db none it = let e = ap (λ o. unwrap_or (option_map is_office o) false) it.is_there in false≢true (sym none ∙ e ∙ it.has_columns)
 
 found_column : (t : Table) (n : Name) → is_some (column_named t n) ≡ true → IsColumn t n
 found_column t n h =

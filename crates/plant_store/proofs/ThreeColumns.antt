@@ -48,23 +48,25 @@ pub record IsColumn (t : Table) (n : Name) : Type 0 where
   pub it : slice_get t.columns at ≡ Some column
 
 module _ (schema : Schema) (name : Name) (k : ℕ) (t : Table) (is_named : table_named schema name ≡ Some k) (is : slice_get schema.tables k ≡ Some t) where
-  abbrev bnd : Bound
-  bnd = record { name = name; table = k; slot = 1; shared = [] }
+  -- the one table of FROM, and the state and the context in which the columns are read
+  abbrev table_bound : Bound
+  table_bound = record { name = name; table = k; slot = 1; shared = [] }
 
-  abbrev st : ℕ → Carried → State
-  st b l = record { next = 2; steps = []; aggregates = []; budget = b; written = None; last = l }
+  abbrev state_with : ℕ → Carried → State
+  state_with b l = record { next = 2; steps = []; aggregates = []; budget = b; written = None; last = l }
 
   abbrev tables_level : Level
-  tables_level = record { tables = bnd ∷ []; shown = [] }
+  tables_level = record { tables = table_bound ∷ []; shown = [] }
 
-  abbrev cx : Context
-  cx = record { schema = schema; levels = tables_level ∷ []; may_aggregate = true; may_alias = true }
+  abbrev showing : Context
+  showing = record { schema = schema; levels = tables_level ∷ []; may_aggregate = true; may_alias = true }
+
+  -- ---- the table, and one column of it
 
   found_table : body.table_in schema 1 (origin.Table name) ≡ Ok (name, k)
   unfolding body.table_in
   found_table = rw is_named
 
-  -- a column of the table
   module _ (n : Name) (c : IsColumn t n) where
     abbrev carried : Carried
     carried = declared t c.at c.column
@@ -75,15 +77,15 @@ module _ (schema : Schema) (name : Name) (k : ℕ) (t : Table) (is_named : table
     abbrev output : Output
     output = record { name = c.column.name; is_alias = false; is_column = true; term = term; carried = carried }
 
-    in_table : column_in schema n bnd ≡ Some (found.Column 1 k c.at)
+    in_table : column_in schema n table_bound ≡ Some (found.Column 1 k c.at)
     unfolding column_in
     in_table = rw (is, c.has)
 
-    is_hit : hit schema None n false bnd ≡ Some (found.Column 1 k c.at)
+    is_hit : hit schema None n false table_bound ≡ Some (found.Column 1 k c.at)
     unfolding hit Rattle.sqlite_resolve.specs.Scope.is_among
     is_hit = in_table
 
-    is_only : only schema None n false (bnd ∷ []) ≡ Ok (Some (found.Column 1 k c.at))
+    is_only : only schema None n false (table_bound ∷ []) ≡ Ok (Some (found.Column 1 k c.at))
     unfolding only
     is_only = rw is_hit
 
@@ -91,7 +93,7 @@ module _ (schema : Schema) (name : Name) (k : ℕ) (t : Table) (is_named : table
     unfolding in_level
     is_in = rw is_only
 
-    is_found : find cx None n ≡ Ok (found.Column 1 k c.at)
+    is_found : find showing None n ≡ Ok (found.Column 1 k c.at)
     unfolding find
     is_found = rw is_in
 
@@ -99,28 +101,28 @@ module _ (schema : Schema) (name : Name) (k : ℕ) (t : Table) (is_named : table
     unfolding column_at
     at_place = rw (is, c.it)
 
-    is_term : (s : State) → term_of cx (found.Column 1 k c.at) s ≡ Ok (term, record s { last = carried })
+    is_term : (s : State) → term_of showing (found.Column 1 k c.at) s ≡ Ok (term, record s { last = carried })
     unfolding term_of
     is_term s = rw at_place
 
-    is_column : (s : State) → column cx None n s ≡ Ok (term, record s { last = carried })
+    is_column : (s : State) → column showing None n s ≡ Ok (term, record s { last = carried })
     unfolding column
     is_column s = rw (is_found, is_term s)
 
     module _ (e : Expr) (out : out-Expr e ≡ Expr-F.Column None n) where
-      is_opened : (s : State) (deeper : Context → Expr → Lowering Term) → opened deeper cx e s ≡ Ok (term, record s { last = carried })
+      is_opened : (s : State) (deeper : Context → Expr → Lowering Term) → opened deeper showing e s ≡ Ok (term, record s { last = carried })
       unfolding opened
       is_opened s deeper = rw (out, is_column s)
 
-      is_node : (b : ℕ) → nat_lt 1 b ≡ true → (l : Carried) (deeper : Context → Expr → Lowering Term) → node deeper cx e (st b l) ≡ Ok (term, st (b - 1) carried)
+      is_node : (b : ℕ) → nat_lt 1 b ≡ true → (l : Carried) (deeper : Context → Expr → Lowering Term) → node deeper showing e (state_with b l) ≡ Ok (term, state_with (b - 1) carried)
       unfolding node Rattle.sqlite_resolve.specs.Lowering.spend Rattle.sqlite_resolve.specs.Lowering.begin Rattle.sqlite_resolve.specs.Lowering.finish Rattle.sqlite_resolve.specs.Expr.passes
-      is_node b many l deeper = rw (many, is_opened (st (b - 1) nothing) deeper, out)
+      is_node b many l deeper = rw (many, is_opened (state_with (b - 1) nothing) deeper, out)
 
-      is_lowered : (b : ℕ) → nat_lt 1 b ≡ true → (l : Carried) → lower cx e (st b l) ≡ Ok (term, st (b - 1) carried)
+      is_lowered : (b : ℕ) → nat_lt 1 b ≡ true → (l : Carried) → lower showing e (state_with b l) ≡ Ok (term, state_with (b - 1) carried)
       unfolding lower_to
       is_lowered b many l = is_node b many l (lower_to 699)
 
-      is_headed : (text : Name) → body.heading cx e text ≡ c.column.name
+      is_headed : (text : Name) → body.heading showing e text ≡ c.column.name
       unfolding body.heading body.declared
       is_headed text = rw (out, is_found, is, c.it)
 
@@ -129,25 +131,27 @@ module _ (schema : Schema) (name : Name) (k : ℕ) (t : Table) (is_named : table
       is_plain = rw out
 
       module _ (s : written.Shown) (text : Name) (one : written.out-Shown s ≡ Shown-F.One e None text) where
-        is_shown : (b : ℕ) → nat_lt 1 b ≡ true → (l : Carried) (done : List Output) → body.shown lower cx (bnd ∷ []) done s (st b l) ≡ Ok (done ++ output ∷ [], st (b - 1) carried)
+        is_shown : (b : ℕ) → nat_lt 1 b ≡ true → (l : Carried) (done : List Output) → body.shown lower showing (table_bound ∷ []) done s (state_with b l) ≡ Ok (done ++ output ∷ [], state_with (b - 1) carried)
         unfolding body.shown
         is_shown b many l done = rw (one, is_lowered b many l, is_headed text, is_plain)
 
+  -- ---- FROM, the columns that are shown, and the query
+
   module _ (src : Source) (from : (out-Source src).origin ≡ origin.Table name) (alias : (out-Source src).alias ≡ None) (using : (out-Source src).using ≡ [])
       (left : (out-Source src).is_left ≡ false) (on : (out-Source src).on ≡ None) where
-    is_bound : body.bound schema src (fresh 1 max_budget) ≡ Ok (bnd, st max_budget nothing)
+    is_bound : body.bound schema src (fresh 1 max_budget) ≡ Ok (table_bound, state_with max_budget nothing)
     unfolding body.bound Rattle.sqlite_resolve.specs.Lowering.take_slot
     is_bound = rw (from, alias, using, found_table)
 
-    are_bound : body.bounds schema (src ∷ []) (fresh 1 max_budget) ≡ Ok (bnd ∷ [], st max_budget nothing)
+    are_bound : body.bounds schema (src ∷ []) (fresh 1 max_budget) ≡ Ok (table_bound ∷ [], state_with max_budget nothing)
     unfolding body.bounds
     are_bound = rw is_bound
 
-    is_joined : (x : Context) → x.schema ≡ schema → (s : State) → body.join lower x (bnd ∷ []) (record { steps = []; filter = [] }) bnd src s ≡ Ok (record { steps = Inner t.tree ∷ []; filter = [] }, s)
+    is_joined : (x : Context) → x.schema ≡ schema → (s : State) → body.join lower x (table_bound ∷ []) (record { steps = []; filter = [] }) table_bound src s ≡ Ok (record { steps = Inner t.tree ∷ []; filter = [] }, s)
     unfolding body.join body.shared body.inner_join body.tests
     is_joined x under s = rw (under, is, left, on)
 
-    are_joined : (x : Context) → x.schema ≡ schema → (s : State) → body.joins lower x (bnd ∷ []) (src ∷ []) s ≡ Ok (record { steps = Inner t.tree ∷ []; filter = [] }, s)
+    are_joined : (x : Context) → x.schema ≡ schema → (s : State) → body.joins lower x (table_bound ∷ []) (src ∷ []) s ≡ Ok (record { steps = Inner t.tree ∷ []; filter = [] }, s)
     unfolding body.joins
     are_joined x under s = rw (on, using, is_joined x under s)
 
@@ -158,20 +162,20 @@ module _ (schema : Schema) (name : Name) (k : ℕ) (t : Table) (is_named : table
       all = output n₁ c₁ ∷ output n₂ c₂ ∷ output n₃ c₃ ∷ []
 
       abbrev after : State
-      after = st 99997 (carried n₃ c₃)
+      after = state_with 99997 (carried n₃ c₃)
 
-      are_shown : body.outputs lower cx (bnd ∷ []) (s₁ ∷ s₂ ∷ s₃ ∷ []) (st max_budget nothing) ≡ Ok (all, after)
+      are_shown : body.outputs lower showing (table_bound ∷ []) (s₁ ∷ s₂ ∷ s₃ ∷ []) (state_with max_budget nothing) ≡ Ok (all, after)
       unfolding body.outputs
       are_shown = rw (is_shown n₁ c₁ e₁ out₁ s₁ x₁ one₁ max_budget refl nothing [], is_shown n₂ c₂ e₂ out₂ s₂ x₂ one₂ 99999 refl (carried n₁ c₁) (output n₁ c₁ ∷ []), is_shown n₃ c₃ e₃ out₃ s₃ x₃ one₃ 99998 refl (carried n₂ c₂) (output n₁ c₁ ∷ output n₂ c₂ ∷ []))
 
       module _ (core : Core) (froms : (out-Core core).from ≡ src ∷ []) (shown : (out-Core core).shown ≡ s₁ ∷ s₂ ∷ s₃ ∷ []) (filter : (out-Core core).filter ≡ None)
           (group : (out-Core core).group ≡ []) (having : (out-Core core).having ≡ None) (distinct : (out-Core core).distinct ≡ false) where
-        is_result : body.result lower (outermost schema) tables_level core (st max_budget nothing) ≡ Ok (all, after)
+        is_result : body.result lower (outermost schema) tables_level core (state_with max_budget nothing) ≡ Ok (all, after)
         unfolding body.result
         is_result = rw (shown, are_shown)
 
         abbrev shown_level : Level
-        shown_level = record { tables = bnd ∷ []; shown = all }
+        shown_level = record { tables = table_bound ∷ []; shown = all }
 
         is_matching : body.matching lower (outermost schema) shown_level core after ≡ Ok (record { steps = Inner t.tree ∷ []; filter = [] }, after)
         unfolding body.matching body.tests

@@ -1,6 +1,6 @@
 //! Whether a database is this office's books.
 
-ghost use Rattle.std.specs.Prelude.{◌≡◌, ◌↔◌, [], ◌∷◌, false, map, true, IsTrue, IfOk};
+ghost use Rattle.std.specs.Prelude.{◌≡◌, ◌↔◌, [], ◌∷◌, false, map, true, IsTrue, IfOk, Ok};
 ghost use Rattle.sqlite.specs.Held.{state};
 ghost use Rattle.sqlite_value.specs.Order.{column};
 ghost use Rattle.sqlite_value.specs.declared.value.Value.TheVariants.{Text as TextValue};
@@ -30,7 +30,7 @@ fn is_office(table: &Table) -> bool
 }
 
 /// Whether there is a table of the office, with its columns.
-pub fn has_office(schema: &Schema) -> bool
+fn has_office(schema: &Schema) -> bool
     ensures { result ≡ opening.has_office schema.now }
 {
     let Some(at) = schema.table_named(b"office") else {
@@ -77,8 +77,8 @@ fn is_office_row(rows: &[Row], admin: &Person) -> bool
     }
 }
 
-/// Whether the office's table has this schema's and this person's one row.
-pub fn is_office_of<S: Alter>(conn: &mut Connection<S>, admin: &Person) -> Result<bool, Error>
+/// Whether the office's table has this schema's and this person's one row, where the table is there with its columns.
+fn has_its_row<S: Alter>(conn: &mut Connection<S>, admin: &Person) -> Result<bool, Error>
     requires { conn.old.in_transaction ≡ false }
     ensures mode { conn.new.in_transaction ≡ false }
     ensures row { CanTell (state S.Store conn.new) → opening.has_office (state S.Store conn.old).now.schema ≡ true → IfOk result (λ is. IsTrue is ↔ IsThisOffice admin.now (state S.Store conn.old).now) }
@@ -87,4 +87,19 @@ pub fn is_office_of<S: Alter>(conn: &mut Connection<S>, admin: &Person) -> Resul
 {
     let rows = ask(conn, "SELECT id, schema_no, admin FROM office", &[])?;
     Ok(is_office_row(rows.as_slice(), admin))
+}
+
+/// Whether the database has the office's table with its columns, and there this schema's and this person's one row.
+pub fn is_office_of<S: Alter>(conn: &mut Connection<S>, admin: &Person) -> Result<bool, Error>
+    requires { conn.old.in_transaction ≡ false }
+    ensures mode { conn.new.in_transaction ≡ false }
+    ensures row { CanTell (state S.Store conn.new) → IfOk result (λ is. IsTrue is ↔ IsThisOffice admin.now (state S.Store conn.old).now) }
+    ensures missing { opening.has_office (state S.Store conn.old).now.schema ≡ false → result ≡ Ok false }
+    ensures same { CanTell (state S.Store conn.new) → AreBooks (state S.Store conn.old).now → (state S.Store conn.new).now ≡ (state S.Store conn.old).now }
+    ensures told { CanTell (state S.Store conn.new) → CanTell (state S.Store conn.old) }
+{
+    if !has_office(conn.schema()) {
+        return Ok(false);
+    }
+    has_its_row(conn, admin)
 }

@@ -12,7 +12,7 @@ ghost use Rattle.plant_columns.specs.Tables.{no_schema};
 ghost use Rattle.plant_types.specs.declared.fault.Fault.TheVariants.{Store};
 
 use crate::make::make_all;
-use crate::opening::{has_office, is_office_of};
+use crate::opening::is_office_of;
 use crate::{mine, part, shelves, unit, write};
 use plant_books::{Books, MineShelf, MineUnit};
 use plant_model::{Call, Change, UnitPart, UnitRows};
@@ -148,13 +148,6 @@ impl<S: Alter> Tables<S> {
         ensures left { (m : Content) → Keeps (state S.Store conn) m → IfErr result (λ e. Keeps (state S.Store e.conn) m) }
         ensures back { IfErr result (λ e. (e.admin ≡ admin) × (e.conn.in_transaction ≡ false)) }
     {
-        if !has_office(conn.schema()) {
-            return Err(Unopened {
-                conn,
-                admin,
-                fault: StoreFault::NotThisStore,
-            });
-        }
         match is_office_of(&mut conn, &admin) {
             Ok(true) => Ok(Tables {
                 conn,

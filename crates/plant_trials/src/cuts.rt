@@ -12,11 +12,7 @@ use std::test::Fail;
 
 /// The first shelf, from the opening of its unit on.
 fn first_shelf(alloc: Global) -> Result<Exchanges, Fail> {
-    let mut wanted = Exchanges::new(alloc);
-    for part in [BASE, SHELVED, LOOKED_AT] {
-        wanted.add_all(part)?;
-    }
-    Ok(wanted)
+    Exchanges::of(alloc, &[BASE, SHELVED, LOOKED_AT])
 }
 
 /// Cut in two reads at this place, the requests are answered as in one.

@@ -101,6 +101,15 @@ impl Exchanges {
         }
     }
 
+    /// The exchanges of these texts, one after another.
+    pub(crate) fn of(alloc: Global, texts: &[&str]) -> Result<Exchanges, Fail> {
+        let mut exchanges = Exchanges::new(alloc);
+        for text in texts {
+            exchanges.add_all(text)?;
+        }
+        Ok(exchanges)
+    }
+
     /// Adds one exchange.
     pub(crate) fn add(&mut self, exchange: &str) -> Result<(), Fail> {
         let (request, answer) = exchange.split_once('\n').ok_or("no answer")?;

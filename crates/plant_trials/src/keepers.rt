@@ -7,6 +7,7 @@ use plant_model::{AlarmRow, BandRow, CellRow, GrantRow, ShelfRow, UnitRow, UnitR
 use plant_office::Books;
 use plant_types::{Table, UnitCode};
 use plant_wire::End;
+use std::alloc::Global;
 use std::process::Abort;
 use std::test::Fail;
 
@@ -155,13 +156,13 @@ fn after<B: Books + Drop>(
 }
 
 /// After each request both keepers hold the same rows of each unit that the example names.
-pub(crate) fn are_kept_alike(
+pub(crate) fn are_kept_alike<A: Books + Drop, B: Books + Drop>(
     rt: &(impl Abort + AllocGlobal),
+    mut ours: A,
+    mut theirs: B,
     wanted: &Exchanges,
     title: &str,
 ) -> Result<(), Fail> {
-    let mut ours = lists(rt)?;
-    let mut theirs = tables(rt)?;
     let mut last = Mark {
         asked: 0,
         answered: 0,
@@ -189,31 +190,30 @@ pub(crate) fn are_kept_alike(
     Ok(())
 }
 
-/// The books after these exchanges.
-fn left_by<B: Books + Drop>(
-    rt: &(impl Abort + AllocGlobal),
-    books: B,
-    parts: &[&str],
-) -> Result<(B, Exchanges), Fail> {
-    let mut wanted = Exchanges::new(rt.alloc());
-    for part in parts {
-        wanted.add_all(part)?;
-    }
-    let (_, _, books) = replays_on(rt.alloc(), books, wanted.requests.as_bytes(), b"");
-    Ok((books, wanted))
+/// Whether both keepers hold the same rows, one after these exchanges and the other after those.
+fn are_left_alike<A: Books + Drop, B: Books + Drop>(
+    alloc: Global,
+    ours: A,
+    theirs: B,
+    these: &Exchanges,
+    those: &Exchanges,
+) -> Result<bool, Fail> {
+    let (_, _, mut ours) = replays_on(alloc, ours, these.requests.as_bytes(), b"");
+    let (_, _, mut theirs) = replays_on(alloc, theirs, those.requests.as_bytes(), b"");
+    hold_alike(&mut ours, &mut theirs, &these.units)
 }
 
 #[test]
 fn tells_rows_that_differ(rt: HostRuntime) -> Result<(), Fail> {
-    let (mut ours, wanted) = left_by(&rt, lists(&rt)?, &[BASE])?;
+    let base = Exchanges::of(rt.alloc(), &[BASE])?;
     for (parts, is_alike) in [
-        (&[BASE].as_slice(), true),
-        (&[BASE, SHELVED].as_slice(), false),
-        (&[].as_slice(), false),
+        ([BASE].as_slice(), true),
+        ([BASE, SHELVED].as_slice(), false),
+        ([].as_slice(), false),
     ] {
-        let (mut theirs, _) = left_by(&rt, tables(&rt)?, parts)?;
+        let other = Exchanges::of(rt.alloc(), parts)?;
         assert_eq!(rt;
-            hold_alike(&mut ours, &mut theirs, &wanted.units)?,
+            are_left_alike(rt.alloc(), lists(&rt)?, tables(&rt)?, &base, &other)?,
             is_alike
         );
     }

@@ -154,7 +154,7 @@ fn forty_calls(rt: HostRuntime) -> Result<(), Fail> {
     assert_eq!(rt; wanted.marks.len(), 40);
     is_answered(&rt, lists(&rt)?, &wanted, "all calls");
     is_answered(&rt, tables(&rt)?, &wanted, "all calls");
-    are_kept_alike(&rt, &wanted, "all calls")?;
+    are_kept_alike(&rt, lists(&rt)?, tables(&rt)?, &wanted, "all calls")?;
     Ok(())
 }
 

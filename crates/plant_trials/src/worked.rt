@@ -8,10 +8,7 @@ use std::alloc::Global;
 use std::test::Fail;
 
 fn exchanges(rt: &impl AllocGlobal, setting: &[&str], example: &str) -> Result<Exchanges, Fail> {
-    let mut wanted = Exchanges::new(rt.alloc());
-    for part in setting {
-        wanted.add_all(part)?;
-    }
+    let mut wanted = Exchanges::of(rt.alloc(), setting)?;
     wanted.add_all(example)?;
     Ok(wanted)
 }
@@ -22,7 +19,7 @@ fn worked_examples(rt: HostRuntime) -> Result<(), Fail> {
         let wanted = exchanges(&rt, setting, example)?;
         is_answered(&rt, lists(&rt)?, &wanted, title);
         is_answered(&rt, tables(&rt)?, &wanted, title);
-        are_kept_alike(&rt, &wanted, title)?;
+        are_kept_alike(&rt, lists(&rt)?, tables(&rt)?, &wanted, title)?;
     }
     Ok(())
 }
@@ -75,5 +72,6 @@ fn no_more_than_500_pairs(rt: HostRuntime) -> Result<(), Fail> {
     wanted.add_all(GRANTS_FULL)?;
     is_answered(&rt, lists(&rt)?, &wanted, "500 pairs");
     is_answered(&rt, tables(&rt)?, &wanted, "500 pairs");
+    are_kept_alike(&rt, lists(&rt)?, tables(&rt)?, &wanted, "500 pairs")?;
     Ok(())
 }

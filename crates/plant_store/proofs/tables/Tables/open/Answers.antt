@@ -1,7 +1,7 @@
-use Rattle.std.proofs.Common.{rules, ◌≡◌, false, true, subst}
+use Rattle.std.proofs.Common.{rules, subst}
 use Rattle.sqlite.specs.Held.{state}
-use Rattle.plant_store.specs.Opening.{IsThisOffice, has_office}
-use Rattle.plant_store.proofs.OfficeRow.{is_this_office, keeps_asked, not_there}
+use Rattle.plant_store.specs.Opening.{IsThisOffice}
+use Rattle.plant_store.proofs.OfficeRow.{is_this_office, keeps_asked}
 use Rattle.plant_store.proofs.tables.Tables.open.Goals as goal
 
 pub returns-in-Ok-true-clause-kept : goal.returns-in-Ok-true-clause-kept
@@ -13,14 +13,8 @@ returns-in-Ok-false-clause-left g c m keeps = keeps_asked (state g.S.Store c.arg
 pub returns-in-Err-clause-left : goal.returns-in-Err-clause-left
 returns-in-Err-clause-left g c m keeps = keeps_asked (state g.S.Store c.args.conn) (state g.S.Store c.is_office_of.new.conn) m keeps c.is_office_of.ensures.told c.is_office_of.ensures.same
 
-pub returns-then-not-has_office-clause-own : goal.returns-then-not-has_office-clause-own
-returns-then-not-has_office-clause-own g c m keeps same told e =
-    let none : has_office (state g.S.Store c.args.conn).now.schema ≡ false = search rules in
-    not_there m.admin (state g.S.Store c.args.conn).now none (is_this_office (state g.S.Store c.args.conn) m (keeps told))
-
 pub returns-in-Ok-false-clause-own : goal.returns-in-Ok-false-clause-own
 returns-in-Ok-false-clause-own g c m keeps same told e =
-    let has : has_office (state g.S.Store c.args.conn).now.schema ≡ true = search rules in
     let this = subst (λ a. IsThisOffice a (state g.S.Store c.args.conn).now) same (is_this_office (state g.S.Store c.args.conn) m (keeps (c.is_office_of.ensures.told told))) in
-    let fits = (c.in-Ok-false.ensures.row told has).1 this in
+    let fits = (c.in-Ok-false.ensures.row told).1 this in
     search rules

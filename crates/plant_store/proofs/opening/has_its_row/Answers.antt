@@ -2,7 +2,7 @@ use Rattle.sqlite.specs.Held.{state}
 use Rattle.plant_columns.specs.Tables.{books_schema}
 use Rattle.plant_store.proofs.Meanings.{office_row_plain}
 use Rattle.plant_store.proofs.OfficeRow.{office_there, office_told}
-use Rattle.plant_store.proofs.opening.is_office_of.Goals as goal
+use Rattle.plant_store.proofs.opening.has_its_row.Goals as goal
 
 pub returns-clause-row : goal.returns-clause-row
 returns-clause-row g c told has =
