@@ -2,7 +2,9 @@
 #![tactic(auto)]
 
 mod pass;
+mod periods;
 mod run;
 
 pub use pass::floods;
+pub use periods::{activations, period_counts};
 pub use run::Run;
