@@ -5,4 +5,5 @@ CREATE TABLE alarms (unit TEXT NOT NULL, tag TEXT NOT NULL, latching INTEGER NOT
 CREATE TABLE shelves (unit TEXT NOT NULL, tag TEXT NOT NULL, one_shot INTEGER NOT NULL, start_s INTEGER NOT NULL, until_s INTEGER NOT NULL, person TEXT NOT NULL, words TEXT NOT NULL, PRIMARY KEY (unit, tag)) STRICT;
 CREATE TABLE bands (unit TEXT NOT NULL, matrix_no INTEGER NOT NULL, band_no INTEGER NOT NULL, limit_s INTEGER NOT NULL, PRIMARY KEY (unit, matrix_no, band_no)) STRICT;
 CREATE TABLE cells (unit TEXT NOT NULL, matrix_no INTEGER NOT NULL, severity INTEGER NOT NULL, band_no INTEGER NOT NULL, cell_no INTEGER NOT NULL, PRIMARY KEY (unit, matrix_no, severity, band_no)) STRICT;
+CREATE TABLE events (unit TEXT NOT NULL, seq INTEGER NOT NULL, moment_s INTEGER NOT NULL, tag TEXT NOT NULL, kind_no INTEGER NOT NULL, PRIMARY KEY (unit, seq)) STRICT;
 CREATE INDEX grants_by_person ON grants (person, unit);

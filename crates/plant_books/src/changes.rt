@@ -36,6 +36,7 @@ fn put_row(alloc: Global, rows: &mut UnitRows, row: Row) -> Result<(), Fault>
         Row::Grant(row) => put(&mut rows.grants, row),
         Row::Alarm(row) => put(&mut rows.alarms, row),
         Row::Shelf(row) => put(&mut rows.shelves, row),
+        Row::Event(row) => put(&mut rows.events, row),
         Row::Band(row) => put(&mut rows.bands, row),
         Row::Cell(row) => put(&mut rows.cells, row),
     }

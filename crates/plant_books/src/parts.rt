@@ -76,6 +76,7 @@ fn rows_asked(alloc: Global, rows: &UnitRows, call: &Call) -> Result<UnitRows, F
         grants: grants_asked(alloc, &rows.grants, call)?,
         alarms: alarms_asked(alloc, &rows.alarms, &wanted_alarms(request))?,
         shelves: shelves_asked(alloc, &rows.shelves, &wanted_shelves(request))?,
+        events: Table::new(alloc),
         bands: Table::new(alloc),
         cells: Table::new(alloc),
     })

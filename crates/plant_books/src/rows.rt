@@ -1,10 +1,12 @@
 ghost use Rattle.std.specs.Prelude.{◌≡◌};
+ghost use Rattle.std.specs.Ordering.{nat_cmp};
 ghost use Rattle.plant_model.specs.Matrices.{band_cmp, cell_cmp};
-ghost use Rattle.plant_model.specs.RowFacts.{alarm_tag, band_key, cell_key, pair_of, shelf_tag};
+ghost use Rattle.plant_model.specs.RowFacts.{alarm_tag, band_key, cell_key, event_number, pair_of, shelf_tag};
 ghost use Rattle.plant_types.specs.Names.{name_cmp};
 ghost use Rattle.plant_types.specs.Roles.{pair_cmp};
 
 use crate::keyed::Keyed;
+use plant_alarm::Event;
 use plant_model::{AlarmRow, BandRow, CellRow, GrantRow, ShelfRow};
 use plant_types::{Person, Role};
 use std::cmp::Ordering;
@@ -30,6 +32,14 @@ impl Keyed for ShelfRow {
 
     fn key_cmp(&self, other: &ShelfRow) -> Ordering {
         self.tag.cmp(&other.tag)
+    }
+}
+
+impl Keyed for Event {
+    ghost order = { λ a b. nat_cmp (event_number a) (event_number b) };
+
+    fn key_cmp(&self, other: &Event) -> Ordering {
+        self.seq.cmp(&other.seq)
     }
 }
 

@@ -18,6 +18,8 @@ use Rattle.sqlite_value.specs.declared.value.Value.TheVariants.{Text}
 use Rattle.sqlite_value.specs.Keys.{plain, first_key}
 use Rattle.sqlite_value.specs.Order.{Row, value_cmp}
 use Rattle.sqlite_value.proofs.OrderLemmas.{value_cmp-Int, value_cmp-Text, then-Equal}
+use Rattle.plant_alarm.specs.declared.event.EventKind.{EventKind}
+use Rattle.plant_alarm.specs.declared.event.EventKind.TheVariants.{Ack, Act, Reset, Rtn, Sup, Unsup}
 use Rattle.plant_alarm.specs.declared.summary.AlarmState.{AlarmState}
 use Rattle.plant_alarm.specs.declared.summary.AlarmState.TheVariants.{Acknowledged, LatchedAck, LatchedUnack, Normal, ReturnedUnack, Unacknowledged}
 use Rattle.plant_ration.specs.declared.cell.Cell.{Cell}
@@ -32,9 +34,9 @@ use Rattle.plant_tables.proofs.Bridge.{int_cmp-pos}
 use Rattle.plant_tables.proofs.Family.{AreListed}
 use Rattle.plant_tables.proofs.Laws.{cast_int, cast_null}
 use Rattle.plant_tables.proofs.Shapes.{IsListed, IsShape}
-use Rattle.plant_columns.specs.Codes.{cell_no, cell_numbered, flag, flag_in, number, open_number, open_number_in, open_text, open_text_in, role_numbered, state_no, state_numbered}
-use Rattle.plant_columns.specs.Tables.{Kept, RowOf, KeyOf, alarm_shape, band_shape, books_schema, cell_shape, grant_shape, shape, shelf_shape, unit_shape}
-use Rattle.plant_columns.specs.Tables.Kept.{UnitKept, GrantKept, AlarmKept, ShelfKept, BandKept, CellKept}
+use Rattle.plant_columns.specs.Codes.{cell_no, cell_numbered, flag, flag_in, kind_no, kind_numbered, number, open_number, open_number_in, open_text, open_text_in, role_numbered, state_no, state_numbered}
+use Rattle.plant_columns.specs.Tables.{Kept, RowOf, KeyOf, alarm_shape, band_shape, books_schema, cell_shape, event_shape, grant_shape, shape, shelf_shape, unit_shape}
+use Rattle.plant_columns.specs.Tables.Kept.{UnitKept, GrantKept, AlarmKept, ShelfKept, BandKept, CellKept, EventKept}
 
 -- ---- what is written is read back
 
@@ -53,6 +55,14 @@ state_back Acknowledged = refl
 state_back ReturnedUnack = refl
 state_back LatchedUnack = refl
 state_back LatchedAck = refl
+
+pub kind_back : (k : EventKind) → kind_numbered (kind_no k) ≡ k
+kind_back Act = refl
+kind_back Rtn = refl
+kind_back Ack = refl
+kind_back Reset = refl
+kind_back Sup = refl
+kind_back Unsup = refl
 
 pub cell_back : (c : Cell) → cell_numbered (cell_no c) ≡ c
 cell_back N = refl
@@ -176,6 +186,16 @@ cell_good = record {
   fits = λ u x i. Text u ∷ cast_number x.matrix_no i ∷ cast_number x.severity i ∷ cast_number x.band_no i ∷ cast_number (cell_no x.cell_no) i ∷ [];
 }
 
+pub event_good : IsShape event_shape
+event_good = record {
+  total = nat_cmp_total;
+  back = λ id u x i. record { seq = x.seq; moment = x.moment; tag = x.tag; kind = kind_back x.kind i };
+  agrees = λ id jd u v x y. sym (one (numbers x.seq y.seq));
+  keyed = λ id u x. (refl, (refl, tt));
+  mends = λ u x. refl;
+  fits = λ u x i. Text u ∷ cast_number x.seq i ∷ cast_number x.moment i ∷ Text x.tag ∷ cast_number (kind_no x.kind) i ∷ [];
+}
+
 pub good : (i : Kept) → IsShape (shape i)
 good UnitKept = unit_good
 good GrantKept = grant_good
@@ -183,6 +203,7 @@ good AlarmKept = alarm_good
 good ShelfKept = shelf_good
 good BandKept = band_good
 good CellKept = cell_good
+good EventKept = event_good
 
 -- ---- the schema lists each, and only its key is unique
 
@@ -217,6 +238,10 @@ cell_alone : alone_in cell_shape
 unfolding first_key alone_in
 cell_alone cells r id free = lone (equal Binary (rowid r) id) (agree plain (1 ∷ cell_shape.keys) r (1 ∷ cell_shape.keys) (id ∷ cells)) free
 
+event_alone : alone_in event_shape
+unfolding first_key alone_in
+event_alone cells r id free = lone (equal Binary (rowid r) id) (agree plain (1 ∷ event_shape.keys) r (1 ∷ event_shape.keys) (id ∷ cells)) free
+
 pub listed : (i : Kept) → IsListed books_schema (shape i)
 unfolding alone_in
 listed UnitKept = record { at = refl; alone = unit_alone }
@@ -225,6 +250,7 @@ listed AlarmKept = record { at = refl; alone = alarm_alone }
 listed ShelfKept = record { at = refl; alone = shelf_alone }
 listed BandKept = record { at = refl; alone = band_alone }
 listed CellKept = record { at = refl; alone = cell_alone }
+listed EventKept = record { at = refl; alone = event_alone }
 
 which : ℕ → Kept
 which n =
@@ -232,7 +258,8 @@ which n =
     (Rattle.std.proofs.Common.cond (Rattle.std.specs.Prelude.nat_eq n 3) GrantKept
     (Rattle.std.proofs.Common.cond (Rattle.std.specs.Prelude.nat_eq n 5) AlarmKept
     (Rattle.std.proofs.Common.cond (Rattle.std.specs.Prelude.nat_eq n 7) ShelfKept
-    (Rattle.std.proofs.Common.cond (Rattle.std.specs.Prelude.nat_eq n 9) BandKept CellKept))))
+    (Rattle.std.proofs.Common.cond (Rattle.std.specs.Prelude.nat_eq n 9) BandKept
+    (Rattle.std.proofs.Common.cond (Rattle.std.specs.Prelude.nat_eq n 11) CellKept EventKept)))))
 
 placed : (i : Kept) → which (shape i).tree ≡ i
 unfolding which
@@ -242,6 +269,7 @@ placed AlarmKept = refl
 placed ShelfKept = refl
 placed BandKept = refl
 placed CellKept = refl
+placed EventKept = refl
 
 pub all_listed : AreListed RowOf KeyOf shape books_schema
 all_listed = record { which = which; placed = placed; at = λ i. (listed i).at }

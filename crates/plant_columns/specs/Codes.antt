@@ -4,6 +4,8 @@ use Rattle.sqlite.specs.Values.{or_null}
 use Rattle.sqlite_value.specs.declared.value.Value.{Value}
 use Rattle.sqlite_value.specs.declared.value.Value.TheVariants.{Int, Text}
 use Rattle.std.specs.Prelude.{Bool, List, None, Option, Some, if◌then◌else◌, pos, ℕ, ◌==◌}
+use Rattle.plant_alarm.specs.declared.event.EventKind.{EventKind}
+use Rattle.plant_alarm.specs.declared.event.EventKind.TheVariants.{Ack, Act, Reset, Rtn, Sup, Unsup}
 use Rattle.plant_alarm.specs.declared.summary.AlarmState.{AlarmState}
 use Rattle.plant_alarm.specs.declared.summary.AlarmState.TheVariants.{Acknowledged, LatchedAck, LatchedUnack, Normal, ReturnedUnack, Unacknowledged}
 use Rattle.plant_ration.specs.declared.cell.Cell.{Cell}
@@ -78,6 +80,29 @@ state_numbered n =
 
 abbrev pub state_in : Value → AlarmState
 state_in v = state_numbered (number_in v)
+
+-- the kinds of an event, 1 to 6
+abbrev pub kind_no : EventKind → ℕ
+kind_no Act = 1
+kind_no Rtn = 2
+kind_no Ack = 3
+kind_no Reset = 4
+kind_no Sup = 5
+kind_no Unsup = 6
+
+abbrev pub kind : EventKind → Value
+kind k = number (kind_no k)
+
+abbrev pub kind_numbered : ℕ → EventKind
+kind_numbered n =
+    if n == 1 then Act
+    else (if n == 2 then Rtn
+    else (if n == 3 then Ack
+    else (if n == 4 then Reset
+    else (if n == 5 then Sup else Unsup))))
+
+abbrev pub kind_in : Value → EventKind
+kind_in v = kind_numbered (number_in v)
 
 -- the cells of a matrix: 0 for N, and 1 to 4 for P1 to P4
 abbrev pub cell_no : Cell → ℕ

@@ -10,6 +10,7 @@ use Rattle.sqlite_value.specs.declared.value.Value.TheVariants.{Null, Text}
 use Rattle.sqlite_value.specs.Order.{Row, bytes, column}
 use Rattle.std.specs.Ordering.{nat_cmp}
 use Rattle.std.specs.Prelude.{List, Some, [], codes, false, suc, true, ℕ, ◌∷◌, ◌≡◌}
+use Rattle.plant_alarm.specs.declared.event.Event.{Event}
 use Rattle.plant_model.specs.declared.rows.AlarmRow.{AlarmRow}
 use Rattle.plant_model.specs.declared.rows.BandRow.{BandRow}
 use Rattle.plant_model.specs.declared.rows.CellRow.{CellRow}
@@ -18,8 +19,8 @@ use Rattle.plant_model.specs.declared.rows.ShelfRow.{ShelfRow}
 use Rattle.plant_model.specs.declared.rows.UnitRow.{UnitRow}
 use Rattle.plant_model.specs.declared.rows.UnitRows.{UnitRows}
 use Rattle.plant_model.specs.Matrices.{BandKey, CellKey, band_cmp, cell_cmp}
-use Rattle.plant_model.specs.RowFacts.{alarm_tag, band_key, cell_key, pair_of, shelf_tag}
-use Rattle.plant_columns.specs.Codes.{alarm_state, cell, cell_in, flag, flag_in, number, number_in, open_number, open_number_in, open_text, open_text_in, role, role_in, state_in}
+use Rattle.plant_model.specs.RowFacts.{alarm_tag, band_key, cell_key, event_number, pair_of, shelf_tag}
+use Rattle.plant_columns.specs.Codes.{alarm_state, cell, cell_in, flag, flag_in, kind, kind_in, number, number_in, open_number, open_number_in, open_text, open_text_in, role, role_in, state_in}
 use Rattle.plant_tables.specs.Shape.{AreTables, Shape, seen, table_in}
 use Rattle.plant_tables.specs.Tables.{column_of, index_of, open_column}
 use Rattle.plant_types.specs.Names.{Name, name_cmp}
@@ -33,6 +34,7 @@ pub data Kept : Type 0 where
   ShelfKept : Kept
   BandKept : Kept
   CellKept : Kept
+  EventKept : Kept
 
 abbrev pub RowOf : Kept → Type 0
 RowOf UnitKept = UnitRow
@@ -41,6 +43,7 @@ RowOf AlarmKept = AlarmRow
 RowOf ShelfKept = ShelfRow
 RowOf BandKept = BandRow
 RowOf CellKept = CellRow
+RowOf EventKept = Event
 
 abbrev pub KeyOf : Kept → Type 0
 KeyOf UnitKept = ℕ
@@ -49,6 +52,7 @@ KeyOf AlarmKept = Name
 KeyOf ShelfKept = Name
 KeyOf BandKept = BandKey
 KeyOf CellKept = CellKey
+KeyOf EventKept = ℕ
 
 abbrev pub text_column : List ℕ → Column
 text_column name = column_of name TextKind
@@ -157,6 +161,19 @@ cell_shape = record {
   read = λ r. record { matrix_no = number_in (column r 2); severity = number_in (column r 3); band_no = number_in (column r 4); cell_no = cell_in (column r 5) };
 }
 
+abbrev pub event_shape : Shape Event ℕ
+event_shape = record {
+  name = codes "events";
+  place = 7;
+  tree = 13;
+  columns = text_column (codes "unit") ∷ number_column (codes "seq") ∷ number_column (codes "moment_s") ∷ text_column (codes "tag") ∷ number_column (codes "kind_no") ∷ [];
+  keys = 2 ∷ [];
+  order = nat_cmp;
+  key = event_number;
+  cells = λ e. number e.seq ∷ number e.moment ∷ Text e.tag ∷ kind e.kind ∷ [];
+  read = λ r. record { seq = number_in (column r 2); moment = number_in (column r 3); tag = bytes (column r 4); kind = kind_in (column r 5) };
+}
+
 abbrev pub shape : (i : Kept) → Shape (RowOf i) (KeyOf i)
 shape UnitKept = unit_shape
 shape GrantKept = grant_shape
@@ -164,6 +181,7 @@ shape AlarmKept = alarm_shape
 shape ShelfKept = shelf_shape
 shape BandKept = band_shape
 shape CellKept = cell_shape
+shape EventKept = event_shape
 
 -- the rows of one table among a unit's rows
 abbrev pub rows_at : (i : Kept) → UnitRows → List (RowOf i)
@@ -173,6 +191,7 @@ rows_at AlarmKept rows = rows.alarms
 rows_at ShelfKept rows = rows.shelves
 rows_at BandKept rows = rows.bands
 rows_at CellKept rows = rows.cells
+rows_at EventKept rows = rows.events
 
 -- the office's own table, whose key is the rowid
 abbrev pub office_table : Table
@@ -202,7 +221,7 @@ abbrev pub key_index : {X K : Type 0} → List ℕ → Shape X K → Index
 key_index name s = index_of name (suc s.tree) s.tree (1 ∷ s.keys) true
 
 abbrev pub by_person : Index
-by_person = index_of (codes "grants_by_person") 13 grant_shape.tree (2 ∷ 1 ∷ []) false
+by_person = index_of (codes "grants_by_person") 15 grant_shape.tree (2 ∷ 1 ∷ []) false
 
 -- after each of the statements that make it
 abbrev pub no_schema : Schema
@@ -247,11 +266,19 @@ cells_schema = record {
   views = [];
 }
 
+abbrev pub events_schema : Schema
+events_schema = record {
+  tables = office_table ∷ table_in unit_shape ∷ table_in grant_shape ∷ table_in alarm_shape ∷ table_in shelf_shape ∷ table_in band_shape ∷ table_in cell_shape ∷ table_in event_shape ∷ [];
+  indexes = key_index (codes "sqlite_autoindex_units_1") unit_shape ∷ key_index (codes "sqlite_autoindex_grants_1") grant_shape ∷ key_index (codes "sqlite_autoindex_alarms_1") alarm_shape ∷ key_index (codes "sqlite_autoindex_shelves_1") shelf_shape
+      ∷ key_index (codes "sqlite_autoindex_bands_1") band_shape ∷ key_index (codes "sqlite_autoindex_cells_1") cell_shape ∷ key_index (codes "sqlite_autoindex_events_1") event_shape ∷ [];
+  views = [];
+}
+
 abbrev pub books_schema : Schema
 books_schema = record {
-  tables = office_table ∷ table_in unit_shape ∷ table_in grant_shape ∷ table_in alarm_shape ∷ table_in shelf_shape ∷ table_in band_shape ∷ table_in cell_shape ∷ [];
+  tables = office_table ∷ table_in unit_shape ∷ table_in grant_shape ∷ table_in alarm_shape ∷ table_in shelf_shape ∷ table_in band_shape ∷ table_in cell_shape ∷ table_in event_shape ∷ [];
   indexes = key_index (codes "sqlite_autoindex_units_1") unit_shape ∷ key_index (codes "sqlite_autoindex_grants_1") grant_shape ∷ key_index (codes "sqlite_autoindex_alarms_1") alarm_shape ∷ key_index (codes "sqlite_autoindex_shelves_1") shelf_shape
-      ∷ key_index (codes "sqlite_autoindex_bands_1") band_shape ∷ key_index (codes "sqlite_autoindex_cells_1") cell_shape ∷ by_person ∷ [];
+      ∷ key_index (codes "sqlite_autoindex_bands_1") band_shape ∷ key_index (codes "sqlite_autoindex_cells_1") cell_shape ∷ key_index (codes "sqlite_autoindex_events_1") event_shape ∷ by_person ∷ [];
   views = [];
 }
 

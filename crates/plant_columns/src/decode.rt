@@ -7,9 +7,9 @@ ghost use Rattle.plant_columns.specs.Causes.{IsNoMemory, MemoryIsOfText};
 ghost use Rattle.plant_columns.specs.Codes as codes;
 ghost use Rattle.plant_columns.specs.Shown.{columns};
 ghost use Rattle.plant_types.specs.Text.{is_text};
-ghost use Rattle.plant_columns.specs.Tables.{unit_shape, grant_shape, alarm_shape, shelf_shape, band_shape, cell_shape};
+ghost use Rattle.plant_columns.specs.Tables.{unit_shape, grant_shape, alarm_shape, shelf_shape, band_shape, cell_shape, event_shape};
 
-use plant_alarm::AlarmState;
+use plant_alarm::{AlarmState, Event, EventKind, Number};
 use plant_model::{AlarmRow, BandRow, CellRow, GrantRow, ShelfRow, UnitRow};
 use plant_ration::Cell;
 use plant_types::{Alphabet, Moment, Quota, Role, Seconds, Table, Text};
@@ -169,6 +169,31 @@ fn state(row: &Row, at: usize) -> Result<AlarmState, Error>
     }
 }
 
+fn event_number(row: &Row, at: usize) -> Result<Number, Error>
+    ensures value { IfOk result (λ n. column row.now at ≡ codes.number n) }
+    ensures cause { IfErr result IsNoMemory }
+{
+    match Number::new(wide(row, at)?) {
+        Some(number) => Ok(number),
+        None => Err(Error::IntegralValueOutOfRange(at)),
+    }
+}
+
+fn kind(row: &Row, at: usize) -> Result<EventKind, Error>
+    ensures value { IfOk result (λ k. column row.now at ≡ codes.kind k) }
+    ensures cause { IfErr result IsNoMemory }
+{
+    match number(row, at)? {
+        1 => Ok(EventKind::Act),
+        2 => Ok(EventKind::Rtn),
+        3 => Ok(EventKind::Ack),
+        4 => Ok(EventKind::Reset),
+        5 => Ok(EventKind::Sup),
+        6 => Ok(EventKind::Unsup),
+        _ => Err(Error::IntegralValueOutOfRange(at)),
+    }
+}
+
 fn cell(row: &Row, at: usize) -> Result<Cell, Error>
     ensures value { IfOk result (λ c. column row.now at ≡ codes.cell c) }
     ensures cause { IfErr result IsNoMemory }
@@ -288,6 +313,21 @@ impl Shown for CellRow {
             severity: small(row, 1)?,
             band_no: small(row, 2)?,
             cell_no: cell(row, 3)?,
+        })
+    }
+}
+
+impl Shown for Event {
+    ghost width = { 4 };
+
+    ghost cells = { event_shape.cells };
+
+    fn from_row(alloc: Global, row: &Row) -> Result<Event, Error> {
+        Ok(Event {
+            seq: event_number(row, 0)?,
+            moment: moment(row, 1)?,
+            tag: text(alloc, row, 2)?,
+            kind: kind(row, 3)?,
         })
     }
 }

@@ -5,9 +5,9 @@ ghost use Rattle.sqlite.specs.Values.{bound, bound_value};
 ghost use Rattle.sqlite_value.specs.Value.{owned};
 ghost use Rattle.sqlite_value.specs.declared.value.Value.TheVariants.{Text as TextValue};
 ghost use Rattle.plant_columns.specs.Codes as codes;
-ghost use Rattle.plant_columns.specs.Tables.{unit_shape, grant_shape, alarm_shape, shelf_shape, band_shape, cell_shape};
+ghost use Rattle.plant_columns.specs.Tables.{unit_shape, grant_shape, alarm_shape, shelf_shape, band_shape, cell_shape, event_shape};
 
-use plant_alarm::AlarmState;
+use plant_alarm::{AlarmState, Event, EventKind, Number};
 use plant_model::{AlarmRow, BandRow, CellRow, GrantRow, ShelfRow, UnitRow};
 use plant_ration::Cell;
 use plant_types::{Alphabet, Moment, Person, Quota, Role, Seconds, Text, UnitCode};
@@ -67,6 +67,25 @@ fn state(state: AlarmState) -> ValueRef<'static>
         AlarmState::ReturnedUnack => 4,
         AlarmState::LatchedUnack => 5,
         AlarmState::LatchedAck => 6,
+    })
+}
+
+fn event_number(number: Number) -> ValueRef<'static>
+    ensures { bound_value (owned result) ≡ codes.number number }
+{
+    ValueRef::Int(number.get() as i64)
+}
+
+fn kind(kind: EventKind) -> ValueRef<'static>
+    ensures { bound_value (owned result) ≡ codes.kind kind }
+{
+    number(match kind {
+        EventKind::Act => 1,
+        EventKind::Rtn => 2,
+        EventKind::Ack => 3,
+        EventKind::Reset => 4,
+        EventKind::Sup => 5,
+        EventKind::Unsup => 6,
     })
 }
 
@@ -204,6 +223,19 @@ pub fn cell_cells<'a>(unit: &'a UnitCode, row: &CellRow) -> [ValueRef<'a>; 5]
         number(u32::from(row.severity)),
         number(u32::from(row.band_no)),
         cell(row.cell_no),
+    ]
+}
+
+/// The columns of an event.
+pub fn event_cells<'a>(unit: &'a UnitCode, event: &'a Event) -> [ValueRef<'a>; 5]
+    ensures { bound result ≡ TextValue unit.now ∷ event_shape.cells event.now }
+{
+    [
+        text(unit),
+        event_number(event.seq),
+        moment(event.moment),
+        text(&event.tag),
+        kind(event.kind),
     ]
 }
 

@@ -58,6 +58,7 @@ rows_selected p s rows =
       grants = filter (λ g. same_name p g.person || s.pair (pair_of g)) rows.grants;
       alarms = filter (λ r. s.alarm r.tag) rows.alarms;
       shelves = filter (λ r. s.shelf r.tag) rows.shelves;
+      events = [];
       bands = [];
       cells = [];
     }

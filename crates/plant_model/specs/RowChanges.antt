@@ -1,6 +1,7 @@
 -- Changes of a unit's rows.
 use Rattle.std.specs.List.{list_any}
 use Rattle.std.specs.Option.{option_to_list}
+use Rattle.std.specs.Ordering.{nat_cmp}
 use Rattle.std.specs.Prelude.{Bool, List, None, Some, [], false, filter_map, map, max, true, ℕ, ◌++◌, ◌+◌, ◌∷◌}
 use Rattle.plant_model.specs.declared.call.Call.{Call}
 use Rattle.plant_model.specs.declared.call.Request.TheVariants.{Grant, OneShotShelve, OpenUnit, PlaceInService, Register, RemoveFromService, TimedShelve, Unshelve, Withdraw}
@@ -10,14 +11,14 @@ use Rattle.plant_model.specs.declared.rows.Change.TheVariants.{Put, Remove}
 use Rattle.plant_model.specs.declared.rows.Change.{Change}
 use Rattle.plant_model.specs.declared.rows.Key.TheVariants.{Grant as GrantKey, Shelf as ShelfKey}
 use Rattle.plant_model.specs.declared.rows.Key.{Key}
-use Rattle.plant_model.specs.declared.rows.Row.TheVariants.{Alarm as AlarmPut, Band as BandPut, Cell as CellPut, Grant as GrantPut, Shelf as ShelfPut, Unit as UnitPut}
+use Rattle.plant_model.specs.declared.rows.Row.TheVariants.{Alarm as AlarmPut, Band as BandPut, Cell as CellPut, Event as EventPut, Grant as GrantPut, Shelf as ShelfPut, Unit as UnitPut}
 use Rattle.plant_model.specs.declared.rows.Row.{Row}
 use Rattle.plant_model.specs.declared.rows.UnitRow.{UnitRow}
 use Rattle.plant_model.specs.declared.rows.UnitRows.{UnitRows}
 use Rattle.plant_types.specs.declared.role.Role.TheVariants.{Steward}
 use Rattle.plant_model.specs.Facts.{Facts, limit_of}
 use Rattle.plant_model.specs.Matrices.{band_at, band_cmp, band_places, cell_cmp, cell_of, cell_places}
-use Rattle.plant_model.specs.RowFacts.{alarm_tag, band_key, cell_key, pair_of, shelf_tag}
+use Rattle.plant_model.specs.RowFacts.{alarm_tag, band_key, cell_key, event_number, pair_of, shelf_tag}
 use Rattle.plant_model.specs.Rows.{alarm_as, grant_as}
 use Rattle.plant_model.specs.Shelves.{shelf_row_as}
 use Rattle.plant_ration.specs.Grid.{Grid}
@@ -30,6 +31,7 @@ put (UnitPut r) rows = record rows { units = r ∷ [] }
 put (GrantPut r) rows = record rows { grants = put_row pair_cmp pair_of r rows.grants }
 put (AlarmPut r) rows = record rows { alarms = put_row name_cmp alarm_tag r rows.alarms }
 put (ShelfPut r) rows = record rows { shelves = put_row name_cmp shelf_tag r rows.shelves }
+put (EventPut e) rows = record rows { events = put_row nat_cmp event_number e rows.events }
 put (BandPut r) rows = record rows { bands = put_row band_cmp band_key r rows.bands }
 put (CellPut r) rows = record rows { cells = put_row cell_cmp cell_key r rows.cells }
 
@@ -49,7 +51,7 @@ changed_by (c ∷ cs) rows = changed_by cs (changed c rows)
 
 -- what a unit's rows are before its opening
 abbrev pub no_rows : UnitRows
-no_rows = record { units = []; grants = []; alarms = []; shelves = []; bands = []; cells = [] }
+no_rows = record { units = []; grants = []; alarms = []; shelves = []; events = []; bands = []; cells = [] }
 
 -- some change puts the unit's own row
 abbrev pub is_unit_put : Change → Bool

@@ -1,6 +1,7 @@
 -- The facts that a verdict looks at, read from rows.
 use Rattle.std.specs.List.{list_any, slice_get}
 use Rattle.std.specs.Prelude.{count_by, false, length, option_map, unwrap_or, ℕ}
+use Rattle.plant_alarm.specs.declared.event.Event.{Event}
 use Rattle.plant_model.specs.declared.rows.AlarmRow.{AlarmRow}
 use Rattle.plant_model.specs.declared.rows.BandRow.{BandRow}
 use Rattle.plant_model.specs.declared.rows.CellRow.{CellRow}
@@ -25,6 +26,9 @@ alarm_tag r = r.tag
 
 abbrev pub shelf_tag : ShelfRow → Name
 shelf_tag r = r.tag
+
+abbrev pub event_number : Event → ℕ
+event_number e = e.seq
 
 abbrev pub band_key : BandRow → BandKey
 band_key r = (r.matrix_no, r.band_no)

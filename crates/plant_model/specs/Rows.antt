@@ -92,7 +92,7 @@ cell_rows h = filter_map (cell_row h) (in_order cell_cmp (all_named (λ c before
 abbrev pub unit_row : List Call → UnitRow
 unit_row h = record { last_s = last_moment h; matrix_no = 0; matrix_rev = 0; quota = quota h }
 
--- all rows of the unit
+-- all rows of the unit. No call here brings an event
 abbrev pub rows_of : List Call → UnitRows
 rows_of h =
     record {
@@ -100,6 +100,7 @@ rows_of h =
       grants = grant_rows h;
       alarms = alarm_rows h;
       shelves = shelf_rows h;
+      events = [];
       bands = band_rows h;
       cells = cell_rows h;
     }

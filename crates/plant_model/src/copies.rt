@@ -15,6 +15,7 @@ impl UnitRows {
             grants: Table::new(alloc),
             alarms: Table::new(alloc),
             shelves: Table::new(alloc),
+            events: Table::new(alloc),
             bands: Table::new(alloc),
             cells: Table::new(alloc),
         }
@@ -28,6 +29,7 @@ impl Duplicate for UnitRows {
             grants: self.grants.duplicate(alloc)?,
             alarms: self.alarms.duplicate(alloc)?,
             shelves: self.shelves.duplicate(alloc)?,
+            events: self.events.duplicate(alloc)?,
             bands: self.bands.duplicate(alloc)?,
             cells: self.cells.duplicate(alloc)?,
         })
@@ -100,6 +102,7 @@ impl Duplicate for Row {
             Row::Grant(row) => Row::Grant(row.duplicate(alloc)?),
             Row::Alarm(row) => Row::Alarm(row.duplicate(alloc)?),
             Row::Shelf(row) => Row::Shelf(row.duplicate(alloc)?),
+            Row::Event(row) => Row::Event(row.duplicate(alloc)?),
             Row::Band(row) => Row::Band(*row),
             Row::Cell(row) => Row::Cell(*row),
         })

@@ -1,5 +1,5 @@
 use crate::{Refused, Reply};
-use plant_alarm::AlarmState;
+use plant_alarm::{AlarmState, Event};
 use plant_ration::Cell;
 use plant_types::{Moment, Person, Quota, Role, Seconds, Table, Tag, Words};
 
@@ -71,6 +71,7 @@ pub struct UnitRows {
     pub grants: Table<GrantRow>,
     pub alarms: Table<AlarmRow>,
     pub shelves: Table<ShelfRow>,
+    pub events: Table<Event>,
     pub bands: Table<BandRow>,
     pub cells: Table<CellRow>,
 }
@@ -89,6 +90,7 @@ pub enum Row {
     Grant(GrantRow),
     Alarm(AlarmRow),
     Shelf(ShelfRow),
+    Event(Event),
     Band(BandRow),
     Cell(CellRow),
 }

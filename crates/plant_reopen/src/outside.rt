@@ -58,7 +58,7 @@ const OF_ANN: [Asked; 6] = [
 const OF_ALARMS: [Asked; 3] = [Asked::Rows, Asked::Status, Asked::Shelves];
 
 /// Each statement that puts a value outside its column's set into the tables of `opened`, with what reads that column.
-const OUTSIDE: [(&str, &[Asked]); 43] = [
+const OUTSIDE: [(&str, &[Asked]); 49] = [
     // a unit's code
     (
         "UPDATE units SET unit = 'u1'; UPDATE grants SET unit = 'u1'",
@@ -155,6 +155,16 @@ const OUTSIDE: [(&str, &[Asked]); 43] = [
         &[Asked::Rows],
     ),
     ("UPDATE cells SET cell_no = 5", &[Asked::Rows]),
+    // an event's number, moment, tag and kind
+    ("UPDATE events SET seq = 0 WHERE seq = 7", &[Asked::Rows]),
+    (
+        "UPDATE events SET seq = 1000000000000 WHERE seq = 7",
+        &[Asked::Rows],
+    ),
+    ("UPDATE events SET moment_s = 3155760000", &[Asked::Rows]),
+    ("UPDATE events SET tag = 'pt-101'", &[Asked::Rows]),
+    ("UPDATE events SET kind_no = 0", &[Asked::Rows]),
+    ("UPDATE events SET kind_no = 7", &[Asked::Rows]),
 ];
 
 /// Whether there was an answer.

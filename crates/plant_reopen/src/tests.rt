@@ -1,7 +1,7 @@
 ghost use Rattle.std.specs.Prelude.{◌≡◌, false, IfOk};
 
 use super::*;
-use plant_alarm::AlarmState;
+use plant_alarm::{AlarmState, Event, EventKind, Number};
 use plant_books::{Books, MineShelf};
 use plant_model::{AlarmRow, BandRow, CellRow, Change, GrantRow, Row, ShelfRow, UnitRow, UnitRows};
 use plant_ration::Cell;
@@ -101,6 +101,21 @@ fn shelf(alloc: Global, name: &[u8]) -> Result<Change, Fail> {
     })))
 }
 
+fn event(
+    alloc: Global,
+    number: u64,
+    second: u64,
+    name: &[u8],
+    kind: EventKind,
+) -> Result<Event, Fail> {
+    Ok(Event {
+        seq: Number::new(number).ok_or("a number")?,
+        moment: at(second)?,
+        tag: tag(alloc, name)?,
+        kind,
+    })
+}
+
 fn changes(alloc: Global) -> Result<Table<Change>, Fail> {
     let mut list = Table::new(alloc);
     list.push(own_row(80)?)?;
@@ -127,16 +142,21 @@ fn changes(alloc: Global) -> Result<Table<Change>, Fail> {
         band_no: 1,
         cell_no: Cell::N,
     })))?;
+    let returned = event(alloc, 12, 50, b"PT-101", EventKind::Rtn)?;
+    list.push(Change::Put(Row::Event(returned)))?;
+    let raised = event(alloc, 7, 40, b"LT-2", EventKind::Act)?;
+    list.push(Change::Put(Row::Event(raised)))?;
     Ok(list)
 }
 
 /// How many rows each table has.
-fn counts(rows: &UnitRows) -> [usize; 6] {
+fn counts(rows: &UnitRows) -> [usize; 7] {
     [
         rows.units.len(),
         rows.grants.len(),
         rows.alarms.len(),
         rows.shelves.len(),
+        rows.events.len(),
         rows.bands.len(),
         rows.cells.len(),
     ]
@@ -169,7 +189,7 @@ fn one(alloc: Global, change: Change) -> Result<Table<Change>, Fail> {
 fn keeps_the_rows_of_a_unit(rt: HostRuntime) -> Result<(), Fail> {
     let mut books = opened(rt.alloc())?;
     let rows = rows(&mut books, rt.alloc())?;
-    assert_eq!(rt; counts(&rows), [1, 3, 2, 1, 1, 2]);
+    assert_eq!(rt; counts(&rows), [1, 3, 2, 1, 2, 1, 2]);
     assert!(rt;
         rows.units
             .as_slice()
@@ -182,6 +202,11 @@ fn keeps_the_rows_of_a_unit(rt: HostRuntime) -> Result<(), Fail> {
             .iter()
             .all(|shelf| shelf.until_s == 3670)
     );
+    let [first, second] = rows.events.as_slice() else {
+        return Err(Fail::from("two events"));
+    };
+    assert!(rt; *first == event(rt.alloc(), 7, 40, b"LT-2", EventKind::Act)?);
+    assert!(rt; *second == event(rt.alloc(), 12, 50, b"PT-101", EventKind::Rtn)?);
     Ok(())
 }
 
@@ -269,7 +294,7 @@ fn opens_its_own_store_alone(rt: HostRuntime) -> Result<(), Fail> {
         return Err(Fail::from("the same administrator's"));
     };
     assert_eq!(rt; *books.administrator(), person(alloc, b"root")?);
-    assert_eq!(rt; counts(&rows(&mut books, alloc)?), [1, 3, 2, 1, 1, 2]);
+    assert_eq!(rt; counts(&rows(&mut books, alloc)?), [1, 3, 2, 1, 2, 1, 2]);
     Ok(())
 }
 

@@ -25,10 +25,10 @@ use Rattle.plant_tables.proofs.Changes.{KeepsOthers, creates, indexes, lone_step
 use Rattle.plant_tables.proofs.Family.{kept_at}
 use Rattle.plant_tables.proofs.Laws.{cast_int, cast_null}
 use Rattle.plant_store.specs.Making.{AreEmpty, AreNew}
-use Rattle.plant_columns.specs.Tables.{Kept, alarms_schema, alarm_shape, band_shape, bands_schema, books_schema, cell_shape, cells_schema, grant_shape, grants_schema, no_schema, office_row, office_schema, office_table, shape, shelf_shape, shelves_schema, unit_shape, units_schema}
-use Rattle.plant_columns.specs.Tables.Kept.{UnitKept, GrantKept, AlarmKept, ShelfKept, BandKept, CellKept}
-use Rattle.plant_store.specs.Texts.{alarms_text, bands_text, by_person_text, cells_text, grants_text, office_text, put_office_text, shelves_text, units_text}
-use Rattle.plant_store.proofs.Meanings.{alarms_created, alarms_is, alarms_made, alarms_plain, bands_created, bands_is, bands_made, bands_plain, by_person_created, by_person_is, by_person_made, by_person_plain, cells_created, cells_is, cells_made, cells_plain, grants_created, grants_is, grants_made, grants_plain, office_created, office_is, office_made, office_plain, put_office_is, put_office_plain, shelves_created, shelves_is, shelves_made, shelves_plain, units_created, units_is, units_made, units_plain}
+use Rattle.plant_columns.specs.Tables.{Kept, alarms_schema, alarm_shape, band_shape, bands_schema, books_schema, cell_shape, cells_schema, event_shape, events_schema, grant_shape, grants_schema, no_schema, office_row, office_schema, office_table, shape, shelf_shape, shelves_schema, unit_shape, units_schema}
+use Rattle.plant_columns.specs.Tables.Kept.{UnitKept, GrantKept, AlarmKept, ShelfKept, BandKept, CellKept, EventKept}
+use Rattle.plant_store.specs.Texts.{alarms_text, bands_text, by_person_text, cells_text, events_text, grants_text, office_text, put_office_text, shelves_text, units_text}
+use Rattle.plant_store.proofs.Meanings.{alarms_created, alarms_is, alarms_made, alarms_plain, bands_created, bands_is, bands_made, bands_plain, by_person_created, by_person_is, by_person_made, by_person_plain, cells_created, cells_is, cells_made, cells_plain, events_created, events_is, events_made, events_plain, grants_created, grants_is, grants_made, grants_plain, office_created, office_is, office_made, office_plain, put_office_is, put_office_plain, shelves_created, shelves_is, shelves_made, shelves_plain, units_created, units_is, units_made, units_plain}
 use Rattle.plant_columns.proofs.ShapeLaws.{all_listed}
 use Rattle.plant_store.proofs.Writes.{free}
 
@@ -68,10 +68,13 @@ makes_bands = makes bands_text shelves_schema bands_schema _ (table_in band_shap
 pub makes_cells : (old new : State) → AreEmpty bands_schema old.now → (count : ℕ) → Executes cells_text [] old new (Ok count) → AreEmpty cells_schema new.now
 makes_cells = makes cells_text bands_schema cells_schema _ (table_in cell_shape) 11 refl refl cells_is.0 cells_is.1 cells_plain cells_made cells_created refl refl
 
-pub makes_index : (old new : State) → AreEmpty cells_schema old.now → (count : ℕ) → Executes by_person_text [] old new (Ok count) → AreEmpty books_schema new.now
+pub makes_events : (old new : State) → AreEmpty cells_schema old.now → (count : ℕ) → Executes events_text [] old new (Ok count) → AreEmpty events_schema new.now
+makes_events = makes events_text cells_schema events_schema _ (table_in event_shape) 13 refl refl events_is.0 events_is.1 events_plain events_made events_created refl refl
+
+pub makes_index : (old new : State) → AreEmpty events_schema old.now → (count : ℕ) → Executes by_person_text [] old new (Ok count) → AreEmpty books_schema new.now
 makes_index old new has count h =
-    let it = indexes by_person_text cells_schema books_schema 2 (table_in grant_shape) _ old new has.same_schema refl by_person_is.0 by_person_is.1 by_person_plain by_person_made by_person_created count h in
-    record { same_schema = it.schema; empty = still_empty cells_schema.tables old.now.trees new.now.trees it.kept has.empty }
+    let it = indexes by_person_text events_schema books_schema 2 (table_in grant_shape) _ old new has.same_schema refl by_person_is.0 by_person_is.1 by_person_plain by_person_made by_person_created count h in
+    record { same_schema = it.schema; empty = still_empty events_schema.tables old.now.trees new.now.trees it.kept has.empty }
 
 -- ---- the office's row
 
@@ -85,6 +88,7 @@ empty_at AlarmKept db h = h.empty.1.1.1.0
 empty_at ShelfKept db h = h.empty.1.1.1.1.0
 empty_at BandKept db h = h.empty.1.1.1.1.1.0
 empty_at CellKept db h = h.empty.1.1.1.1.1.1.0
+empty_at EventKept db h = h.empty.1.1.1.1.1.1.1.0
 
 not_office : (i : Kept) → (shape i).tree ≢ 0
 not_office UnitKept e = omega arith
@@ -93,6 +97,7 @@ not_office AlarmKept e = omega arith
 not_office ShelfKept e = omega arith
 not_office BandKept e = omega arith
 not_office CellKept e = omega arith
+not_office EventKept e = omega arith
 
 pub makes_new : (admin : List ℕ) (old new : State) → AreEmpty books_schema old.now → (count : ℕ) → Executes put_office_text (Text admin ∷ []) old new (Ok count) → AreNew admin new.now
 makes_new admin old new has count h =

@@ -17,8 +17,8 @@ use Rattle.sqlite_tied.specs.Compute.{everything}
 use Rattle.sqlite_value.specs.declared.keys.Key.{Key}
 use Rattle.sqlite_value.specs.declared.value.Value.TheVariants.{Null, Int}
 use Rattle.sqlite_value.specs.Keys.{ascending}
-use Rattle.plant_store.specs.Texts.{office_text, units_text, grants_text, alarms_text, shelves_text, bands_text, cells_text, by_person_text, put_office_text, office_row_text, put_unit_text, put_grant_text, put_alarm_text, put_shelf_text, put_band_text, put_cell_text, remove_grant_text, remove_shelf_text, units_of_text, grants_of_text, alarms_of_text, shelves_of_text, bands_of_text, cells_of_text, own_grants_text, alarm_at_text, shelf_at_text, tags_of_text, mine_shelves_text, mine_text}
-use Rattle.plant_columns.specs.Tables.{office_table, unit_shape, grant_shape, alarm_shape, shelf_shape, band_shape, cell_shape, by_person, no_schema, office_schema, units_schema, grants_schema, alarms_schema, shelves_schema, bands_schema, cells_schema, books_schema}
+use Rattle.plant_store.specs.Texts.{office_text, units_text, grants_text, alarms_text, shelves_text, bands_text, cells_text, events_text, by_person_text, put_office_text, office_row_text, put_unit_text, put_grant_text, put_alarm_text, put_shelf_text, put_band_text, put_cell_text, put_event_text, remove_grant_text, remove_shelf_text, units_of_text, grants_of_text, alarms_of_text, shelves_of_text, bands_of_text, cells_of_text, events_of_text, own_grants_text, alarm_at_text, shelf_at_text, tags_of_text, mine_shelves_text, mine_text}
+use Rattle.plant_columns.specs.Tables.{office_table, unit_shape, grant_shape, alarm_shape, shelf_shape, band_shape, cell_shape, event_shape, by_person, no_schema, office_schema, units_schema, grants_schema, alarms_schema, shelves_schema, bands_schema, cells_schema, events_schema, books_schema}
 use Rattle.plant_tables.specs.Kept.{plain_query}
 use Rattle.plant_tables.specs.Shape.{table_in}
 
@@ -136,18 +136,34 @@ pub cells_plain : IsPlain (understood bands_schema cells_text)
 unfolding understood everything
 cells_plain = (refl, refl)
 
+pub events_made : table_defined_by events_text ≡ Ok (table_in (record event_shape { tree = 0 }))
+unfolding everything
+events_made = refl
+
+pub events_created : created cells_schema (table_in (record event_shape { tree = 0 })) ≡ events_schema
+unfolding digits
+events_created = refl
+
+pub events_is : (command_of (understood cells_schema events_text) ≡ CreateTable) × (statement_of events_text (understood cells_schema events_text) ≡ events_text)
+unfolding understood everything
+events_is = (refl, refl)
+
+pub events_plain : IsPlain (understood cells_schema events_text)
+unfolding understood everything
+events_plain = (refl, refl)
+
 pub by_person_made : index_defined_by (table_in grant_shape) by_person_text ≡ Ok (record by_person { tree = 0 })
 unfolding everything
 by_person_made = refl
 
-pub by_person_created : indexed cells_schema (table_in grant_shape) (record by_person { tree = 0 }) ≡ books_schema
+pub by_person_created : indexed events_schema (table_in grant_shape) (record by_person { tree = 0 }) ≡ books_schema
 by_person_created = refl
 
-pub by_person_is : (command_of (understood cells_schema by_person_text) ≡ CreateIndex 2) × (statement_of by_person_text (understood cells_schema by_person_text) ≡ by_person_text)
+pub by_person_is : (command_of (understood events_schema by_person_text) ≡ CreateIndex 2) × (statement_of by_person_text (understood events_schema by_person_text) ≡ by_person_text)
 unfolding understood everything
 by_person_is = (refl, refl)
 
-pub by_person_plain : IsPlain (understood cells_schema by_person_text)
+pub by_person_plain : IsPlain (understood events_schema by_person_text)
 unfolding understood everything
 by_person_plain = (refl, refl)
 
@@ -232,6 +248,17 @@ pub put_cell_plain : IsPlain (understood books_schema put_cell_text)
 unfolding understood everything
 put_cell_plain = (refl, refl)
 
+abbrev pub put_event_terms : List Term
+put_event_terms = lit Null ∷ col 0 0 ∷ col 0 1 ∷ col 0 2 ∷ col 0 3 ∷ col 0 4 ∷ []
+
+pub put_event_is : command_of (understood books_schema put_event_text) ≡ InsertOr 7 Replace (Values put_event_terms 6) []
+unfolding understood everything
+put_event_is = refl
+
+pub put_event_plain : IsPlain (understood books_schema put_event_text)
+unfolding understood everything
+put_event_plain = (refl, refl)
+
 -- ---- tests of the first columns against the parameters, and the orders of the keys
 abbrev pub by_unit : List Term
 by_unit = op2 (Compare Eq Binary) (col 1 1) (col 0 0) ∷ []
@@ -310,6 +337,12 @@ cell_shows = col 1 2 ∷ col 1 3 ∷ col 1 4 ∷ col 1 5 ∷ []
 abbrev pub cell_names : List (List ℕ)
 cell_names = codes "matrix_no" ∷ codes "severity" ∷ codes "band_no" ∷ codes "cell_no" ∷ []
 
+abbrev pub event_shows : List Term
+event_shows = col 1 2 ∷ col 1 3 ∷ col 1 4 ∷ col 1 5 ∷ []
+
+abbrev pub event_names : List (List ℕ)
+event_names = codes "seq" ∷ codes "moment_s" ∷ codes "tag" ∷ codes "kind_no" ∷ []
+
 pub units_of_is : (command_of (understood books_schema units_of_text) ≡ Select (record { lets = []; body = plain_query (inner 1 end) by_unit unit_shows order_1 }) unit_names) × (reads_listing books_schema units_of_text ≡ false)
 unfolding understood everything
 units_of_is = (refl, refl)
@@ -357,6 +390,14 @@ cells_of_is = (refl, refl)
 pub cells_of_plain : IsPlain (understood books_schema cells_of_text)
 unfolding understood everything
 cells_of_plain = (refl, refl)
+
+pub events_of_is : (command_of (understood books_schema events_of_text) ≡ Select (record { lets = []; body = plain_query (inner 13 end) by_unit event_shows order_2 }) event_names) × (reads_listing books_schema events_of_text ≡ false)
+unfolding understood everything
+events_of_is = (refl, refl)
+
+pub events_of_plain : IsPlain (understood books_schema events_of_text)
+unfolding understood everything
+events_of_plain = (refl, refl)
 
 pub own_grants_is : (command_of (understood books_schema own_grants_text) ≡ Select (record { lets = []; body = plain_query (inner 3 end) by_two grant_shows order_3 }) grant_names) × (reads_listing books_schema own_grants_text ≡ false)
 unfolding understood everything

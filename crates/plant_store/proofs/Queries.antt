@@ -17,10 +17,10 @@ use Rattle.plant_tables.specs.Shape.{Shape}
 use Rattle.plant_tables.proofs.Keys.{equal_is}
 use Rattle.plant_tables.proofs.Shapes.{IsShape, finds_rows, shown_kept, some_kept}
 use Rattle.plant_columns.specs.Shown.{columns}
-use Rattle.plant_columns.specs.Tables.{AreBooks, books_schema, rows_seen, unit_shape, grant_shape, alarm_shape, shelf_shape, band_shape, cell_shape}
-use Rattle.plant_columns.specs.Tables.Kept.{UnitKept, GrantKept, AlarmKept, ShelfKept, BandKept, CellKept}
-use Rattle.plant_store.specs.Texts.{units_of_text, grants_of_text, alarms_of_text, shelves_of_text, bands_of_text, cells_of_text, own_grants_text, alarm_at_text, shelf_at_text, tags_of_text}
-use Rattle.plant_store.proofs.Meanings.{by_unit, by_two, order_1, order_2, order_3, order_4, unit_shows, grant_shows, alarm_shows, shelf_shows, band_shows, cell_shows, unit_names, grant_names, alarm_names, shelf_names, band_names, cell_names, units_of_is, grants_of_is, alarms_of_is, shelves_of_is, bands_of_is, cells_of_is, own_grants_is, alarm_at_is, shelf_at_is, tags_of_is, units_of_plain, grants_of_plain, alarms_of_plain, shelves_of_plain, bands_of_plain, cells_of_plain, own_grants_plain, alarm_at_plain, shelf_at_plain, tags_of_plain}
+use Rattle.plant_columns.specs.Tables.{AreBooks, books_schema, rows_seen, unit_shape, grant_shape, alarm_shape, shelf_shape, band_shape, cell_shape, event_shape}
+use Rattle.plant_columns.specs.Tables.Kept.{UnitKept, GrantKept, AlarmKept, ShelfKept, BandKept, CellKept, EventKept}
+use Rattle.plant_store.specs.Texts.{units_of_text, grants_of_text, alarms_of_text, shelves_of_text, bands_of_text, cells_of_text, events_of_text, own_grants_text, alarm_at_text, shelf_at_text, tags_of_text}
+use Rattle.plant_store.proofs.Meanings.{by_unit, by_two, order_1, order_2, order_3, order_4, unit_shows, grant_shows, alarm_shows, shelf_shows, band_shows, cell_shows, event_shows, unit_names, grant_names, alarm_names, shelf_names, band_names, cell_names, event_names, units_of_is, grants_of_is, alarms_of_is, shelves_of_is, bands_of_is, cells_of_is, events_of_is, own_grants_is, alarm_at_is, shelf_at_is, tags_of_is, units_of_plain, grants_of_plain, alarms_of_plain, shelves_of_plain, bands_of_plain, cells_of_plain, events_of_plain, own_grants_plain, alarm_at_plain, shelf_at_plain, tags_of_plain}
 use Rattle.plant_columns.proofs.ShapeLaws.{good}
 
 -- ---- what was shown is read back
@@ -87,6 +87,11 @@ pub find_cells : (u : Name) (old new : State) → AreBooks old.now → (rows : L
 find_cells u old new books rows h =
     finds_rows cell_shape (good CellKept) books_schema cells_of_text by_unit cell_shows order_4 cell_names cells_of_is.0 cells_of_is.1 cells_of_plain (Text u ∷ []) refl (is_of u) (λ r. one_test (column r 1) u) old new books.same_schema (books.tidy CellKept).apart rows h
     ∙ shown_kept cell_shape (good CellKept) _ cell_shape.cells (λ id v x. refl) (is_of u) (old.now.trees 11) (books.tidy CellKept).each
+
+pub find_events : (u : Name) (old new : State) → AreBooks old.now → (rows : List Row) → Shown events_of_text (Text u ∷ []) old new rows → rows ≡ map event_shape.cells (rows_seen u old.now.trees EventKept)
+find_events u old new books rows h =
+    finds_rows event_shape (good EventKept) books_schema events_of_text by_unit event_shows order_2 event_names events_of_is.0 events_of_is.1 events_of_plain (Text u ∷ []) refl (is_of u) (λ r. one_test (column r 1) u) old new books.same_schema (books.tidy EventKept).apart rows h
+    ∙ shown_kept event_shape (good EventKept) _ event_shape.cells (λ id v x. refl) (is_of u) (old.now.trees 13) (books.tidy EventKept).each
 
 -- ---- those of one person, or of one tag
 

@@ -4,6 +4,7 @@ use Rattle.std.specs.Prelude.{option_map, ◌||◌}
 use Rattle.sqlite.specs.State.{State}
 use Rattle.sqlite_keyed.proofs.ListLemmas.{filter_same}
 use Rattle.plant_books.specs.Contents.{Content, part_in, rows_in}
+use Rattle.plant_alarm.specs.declared.event.Event.{Event}
 use Rattle.plant_model.specs.declared.call.Call.{Call}
 use Rattle.plant_model.specs.declared.rows.AlarmRow.{AlarmRow}
 use Rattle.plant_model.specs.declared.rows.BandRow.{BandRow}
@@ -45,16 +46,17 @@ module _ (s : State) (m : Content) (u : Name) (k : KeepsIn s m) where
       → (all : Bool) → ((p : Pair) → (selected c.request).pair p ≡ all) → (grants : List GrantRow) → grants ≡ filter (λ g. same_name c.person g.person || all) (rows_seen u s.now.trees GrantKept)
       → (scope : Scope) → IsScope (selected c.request) scope → (alarms : List AlarmRow) → alarms ≡ alarms_with scope (rows_seen u s.now.trees AlarmKept)
       → (shelves : List ShelfRow) → shelves ≡ shelves_with scope (rows_seen u s.now.trees ShelfKept)
-      → (bands : List BandRow) → bands ≡ [] → (cells : List CellRow) → cells ≡ []
+      → (events : List Event) → events ≡ [] → (bands : List BandRow) → bands ≡ [] → (cells : List CellRow) → cells ≡ []
       → (count : ℕ) → ((rows : UnitRows) → rows.alarms ≡ rows_seen u s.now.trees AlarmKept → count ≡ counted_for rows c.request)
-      → ◌≡◌ {A = Option UnitPart} (Some (record { rows = record { units = units; grants = grants; alarms = alarms; shelves = shelves; bands = bands; cells = cells }; count = count })) (part_in m c u)
-  part_found c units us any all ha grants gs scope is alarms as_ shelves ss bands bs cells ls count cs =
-      let same : ◌≡◌ {A = UnitPart} (record { rows = record { units = units; grants = grants; alarms = alarms; shelves = shelves; bands = bands; cells = cells }; count = count }) (part_of c (rows_in m u)) = λ i. record {
+      → ◌≡◌ {A = Option UnitPart} (Some (record { rows = record { units = units; grants = grants; alarms = alarms; shelves = shelves; events = events; bands = bands; cells = cells }; count = count })) (part_in m c u)
+  part_found c units us any all ha grants gs scope is alarms as_ shelves ss events es bands bs cells ls count cs =
+      let same : ◌≡◌ {A = UnitPart} (record { rows = record { units = units; grants = grants; alarms = alarms; shelves = shelves; events = events; bands = bands; cells = cells }; count = count }) (part_of c (rows_in m u)) = λ i. record {
         rows = record {
           units = (us ∙ k.seen u UnitKept) i;
           grants = (gs ∙ seen_grants c all ha) i;
           alarms = (as_ ∙ alarms_are (selected c.request) scope is _ ∙ ap (filter (λ r. (selected c.request).alarm r.tag)) (k.seen u AlarmKept)) i;
           shelves = (ss ∙ shelves_are (selected c.request) scope is _ ∙ ap (filter (λ r. (selected c.request).shelf r.tag)) (k.seen u ShelfKept)) i;
+          events = es i;
           bands = bs i;
           cells = ls i;
         };

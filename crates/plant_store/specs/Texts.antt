@@ -23,6 +23,9 @@ bands_text = codes "CREATE TABLE bands (unit TEXT NOT NULL, matrix_no INTEGER NO
 abbrev pub cells_text : List ℕ
 cells_text = codes "CREATE TABLE cells (unit TEXT NOT NULL, matrix_no INTEGER NOT NULL, severity INTEGER NOT NULL, band_no INTEGER NOT NULL, cell_no INTEGER NOT NULL, PRIMARY KEY (unit, matrix_no, severity, band_no)) STRICT"
 
+abbrev pub events_text : List ℕ
+events_text = codes "CREATE TABLE events (unit TEXT NOT NULL, seq INTEGER NOT NULL, moment_s INTEGER NOT NULL, tag TEXT NOT NULL, kind_no INTEGER NOT NULL, PRIMARY KEY (unit, seq)) STRICT"
+
 abbrev pub by_person_text : List ℕ
 by_person_text = codes "CREATE INDEX grants_by_person ON grants (person, unit)"
 
@@ -52,6 +55,9 @@ put_band_text = codes "INSERT OR REPLACE INTO bands (unit, matrix_no, band_no, l
 abbrev pub put_cell_text : List ℕ
 put_cell_text = codes "INSERT OR REPLACE INTO cells (unit, matrix_no, severity, band_no, cell_no) VALUES (?1, ?2, ?3, ?4, ?5)"
 
+abbrev pub put_event_text : List ℕ
+put_event_text = codes "INSERT OR REPLACE INTO events (unit, seq, moment_s, tag, kind_no) VALUES (?1, ?2, ?3, ?4, ?5)"
+
 -- the row of a key taken out
 abbrev pub remove_grant_text : List ℕ
 remove_grant_text = codes "DELETE FROM grants WHERE unit = ?1 AND person = ?2 AND role_no = ?3"
@@ -77,6 +83,9 @@ bands_of_text = codes "SELECT matrix_no, band_no, limit_s FROM bands WHERE unit 
 
 abbrev pub cells_of_text : List ℕ
 cells_of_text = codes "SELECT matrix_no, severity, band_no, cell_no FROM cells WHERE unit = ?1 ORDER BY unit, matrix_no, severity, band_no"
+
+abbrev pub events_of_text : List ℕ
+events_of_text = codes "SELECT seq, moment_s, tag, kind_no FROM events WHERE unit = ?1 ORDER BY unit, seq"
 
 -- those of a person or of a tag
 abbrev pub own_grants_text : List ℕ

@@ -222,6 +222,7 @@ fn unit_part<S: Alter>(
             grants,
             alarms,
             shelves,
+            events: Table::new(alloc),
             bands: Table::new(alloc),
             cells: Table::new(alloc),
         },

@@ -10,8 +10,9 @@ ghost use Rattle.sqlite.proofs.Callers.{IsPlain};
 ghost use Rattle.plant_types.specs.Names.{same_name};
 ghost use Rattle.plant_store.specs.Changes.{CanTell};
 ghost use Rattle.plant_columns.specs.Tables.{AreBooks, rows_seen};
-ghost use Rattle.plant_columns.specs.Tables.Kept.{UnitKept, GrantKept, AlarmKept, ShelfKept, BandKept, CellKept};
+ghost use Rattle.plant_columns.specs.Tables.Kept.{UnitKept, GrantKept, AlarmKept, ShelfKept, BandKept, CellKept, EventKept};
 
+use plant_alarm::Event;
 use plant_columns::decode::read_all;
 use plant_columns::encode::{pair, single};
 use plant_model::{AlarmRow, BandRow, CellRow, GrantRow, ShelfRow, UnitRow};
@@ -151,6 +152,26 @@ pub fn cells_of<S: Alter>(
     let rows = ask(
         conn,
         "SELECT matrix_no, severity, band_no, cell_no FROM cells WHERE unit = ?1 ORDER BY unit, matrix_no, severity, band_no",
+        &single(unit),
+    )?;
+    read_all(alloc, rows.as_slice())
+}
+
+/// The unit's events.
+pub fn events_of<S: Alter>(
+    alloc: Global,
+    conn: &mut Connection<S>,
+    unit: &UnitCode,
+) -> Result<Table<Event>, Error>
+    requires { conn.old.in_transaction ≡ false }
+    ensures mode { conn.new.in_transaction ≡ false }
+    ensures rows { HasCleanDisk (state S.Store conn.new) → AreBooks (state S.Store conn.old).now → IfOk result (λ rows. rows ≡ rows_seen unit.now (state S.Store conn.old).now.trees EventKept) }
+    ensures same { CanTell (state S.Store conn.new) → AreBooks (state S.Store conn.old).now → (state S.Store conn.new).now ≡ (state S.Store conn.old).now }
+    ensures told { CanTell (state S.Store conn.new) → CanTell (state S.Store conn.old) }
+{
+    let rows = ask(
+        conn,
+        "SELECT seq, moment_s, tag, kind_no FROM events WHERE unit = ?1 ORDER BY unit, seq",
         &single(unit),
     )?;
     read_all(alloc, rows.as_slice())

@@ -6,13 +6,14 @@ ghost use Rattle.sqlite.specs.State.{Executes, HasCleanDisk, KeepsCommit, Surviv
 ghost use Rattle.sqlite.specs.Values.{bound};
 ghost use Rattle.plant_model.specs.declared.rows.Change.TheVariants.{Put, Remove};
 ghost use Rattle.plant_model.specs.declared.rows.Key.TheVariants.{Grant as GrantKey, Shelf as ShelfKey};
-ghost use Rattle.plant_model.specs.declared.rows.Row.TheVariants.{Alarm as AlarmPut, Band as BandPut, Cell as CellPut, Grant as GrantPut, Shelf as ShelfPut, Unit as UnitPut};
+ghost use Rattle.plant_model.specs.declared.rows.Row.TheVariants.{Alarm as AlarmPut, Band as BandPut, Cell as CellPut, Event as EventPut, Grant as GrantPut, Shelf as ShelfPut, Unit as UnitPut};
 ghost use Rattle.plant_store.specs.Changes.{Applies, CanTell};
 ghost use Rattle.plant_columns.specs.Tables.{AreBooks};
 
+use plant_alarm::Event;
 use plant_columns::encode::{
-    alarm_cells, band_cells, cell_cells, grant_cells, grant_key, pair, shelf_cells, unit_cells,
-    wide,
+    alarm_cells, band_cells, cell_cells, event_cells, grant_cells, grant_key, pair, shelf_cells,
+    unit_cells, wide,
 };
 use plant_model::{AlarmRow, BandRow, CellRow, Change, GrantRow, Key, Row, ShelfRow, UnitRow};
 use plant_types::{Person, Role, Tag, UnitCode};
@@ -158,6 +159,26 @@ fn put_cell<S: Alter>(
     )
 }
 
+/// Puts an event.
+fn put_event<S: Alter>(
+    tx: &mut Transaction<'_, S>,
+    unit: &UnitCode,
+    event: &Event,
+) -> Result<(), Error>
+    ensures same_reference { tx.new.conn.ghost_name ≡ tx.old.conn.ghost_name }
+    ensures made { HasCleanDisk (state S.Store tx.new.conn.now) → IsTrue tx.old.conn.now.in_transaction → AreBooks (state S.Store tx.old.conn.now).now
+        → OnOk result (Applies unit.now (Put (EventPut event.now) ∷ []) (state S.Store tx.old.conn.now).now (state S.Store tx.new.conn.now).now) }
+    ensures inside { HasCleanDisk (state S.Store tx.new.conn.now) → IsTrue tx.old.conn.now.in_transaction → OnOk result (IsTrue tx.new.conn.now.in_transaction) }
+    ensures kept { HasCleanDisk (state S.Store tx.new.conn.now) → IsTrue tx.old.conn.now.in_transaction → KeepsCommit (state S.Store tx.old.conn.now) (state S.Store tx.new.conn.now) }
+    ensures survives { Survives (state S.Store tx.old.conn.now) (state S.Store tx.new.conn.now) (λ _. ⊥) }
+{
+    run(
+        tx,
+        "INSERT OR REPLACE INTO events (unit, seq, moment_s, tag, kind_no) VALUES (?1, ?2, ?3, ?4, ?5)",
+        &event_cells(unit, event),
+    )
+}
+
 /// Removes a grant.
 fn remove_grant<S: Alter>(
     tx: &mut Transaction<'_, S>,
@@ -215,6 +236,7 @@ fn put_row<S: Alter>(tx: &mut Transaction<'_, S>, unit: &UnitCode, row: &Row) ->
         Row::Shelf(row) => put_shelf(tx, unit, row),
         Row::Band(row) => put_band(tx, unit, row),
         Row::Cell(row) => put_cell(tx, unit, row),
+        Row::Event(event) => put_event(tx, unit, event),
     }
 }
 

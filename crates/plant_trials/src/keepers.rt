@@ -3,6 +3,7 @@
 use crate::examples::{BASE, SHELVED};
 use crate::exchanges::{Exchanges, Mark};
 use crate::replays::{lists, replays_on, tables, text};
+use plant_alarm::Event;
 use plant_model::{AlarmRow, BandRow, CellRow, GrantRow, ShelfRow, UnitRow, UnitRows};
 use plant_office::Books;
 use plant_types::{Table, UnitCode};
@@ -81,6 +82,12 @@ impl Same for ShelfRow {
     }
 }
 
+impl Same for Event {
+    fn is_same(&self, other: &Event) -> bool {
+        self == other
+    }
+}
+
 impl Same for BandRow {
     fn is_same(&self, other: &BandRow) -> bool {
         self == other
@@ -116,6 +123,7 @@ fn are_same_rows(ours: &Option<UnitRows>, theirs: &Option<UnitRows>) -> bool {
         grants,
         alarms,
         shelves,
+        events,
         bands,
         cells,
     } = ours;
@@ -123,6 +131,7 @@ fn are_same_rows(ours: &Option<UnitRows>, theirs: &Option<UnitRows>) -> bool {
         && are_same(grants, &theirs.grants)
         && are_same(alarms, &theirs.alarms)
         && are_same(shelves, &theirs.shelves)
+        && are_same(events, &theirs.events)
         && are_same(bands, &theirs.bands)
         && are_same(cells, &theirs.cells)
 }

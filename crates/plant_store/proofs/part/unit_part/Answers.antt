@@ -42,5 +42,5 @@ returns-clause-found g c told m k =
     c.scope_of-scope.result c.scope_of-scope.ensures
     c.in_ok-alarms.alarms (c.in_ok-alarms.ensures.rows t3.0 b2 ∙ ap (λ (d : Database). alarms_with c.scope_of-scope.result (rows_seen u d.trees AlarmKept)) e2)
     c.in_ok-shelves.shelves (c.in_ok-shelves.ensures.rows t4.0 b3 ∙ ap (λ (d : Database). shelves_with c.scope_of-scope.result (rows_seen u d.trees ShelfKept)) e3)
-    c.new.result c.new.ensures c.new-2.result c.new-2.ensures
+    c.new.result c.new.ensures c.new-2.result c.new-2.ensures c.new-3.result c.new-3.ensures
     c.in_ok-count.count (λ rows h. c.in_ok-count.ensures.rows told.0 b4 rows (h ∙ ap (λ (d : Database). rows_seen u d.trees AlarmKept) (sym e4)))

@@ -2,20 +2,21 @@ use Rattle.std.proofs.Common.{◌≡◌, List, ap, sym, ◌∙◌, subst, true, 
 use Rattle.sqlite.specs.Effect.{Database}
 use Rattle.sqlite.specs.Held.{state}
 use Rattle.plant_columns.specs.Tables.{AreBooks, AreSeen, rows_seen}
-use Rattle.plant_columns.specs.Tables.Kept.{UnitKept, GrantKept, AlarmKept, ShelfKept, BandKept, CellKept}
+use Rattle.plant_columns.specs.Tables.Kept.{UnitKept, GrantKept, AlarmKept, ShelfKept, BandKept, CellKept, EventKept}
 use Rattle.plant_model.specs.declared.rows.UnitRows.{UnitRows}
 use Rattle.plant_store.proofs.Contents.{none_found, whole_found}
 use Rattle.plant_store.proofs.unit.rows_of.Goals as goal
 
 -- each list was seen in a database that is the first one
 all_seen : (u : List Rattle.std.proofs.Common.ℕ) (db : Database) (rows : UnitRows) → rows.units ≡ rows_seen u db.trees UnitKept → rows.grants ≡ rows_seen u db.trees GrantKept → rows.alarms ≡ rows_seen u db.trees AlarmKept
-    → rows.shelves ≡ rows_seen u db.trees ShelfKept → rows.bands ≡ rows_seen u db.trees BandKept → rows.cells ≡ rows_seen u db.trees CellKept → AreSeen u db rows
-all_seen u db rows a b c d e f UnitKept = sym a
-all_seen u db rows a b c d e f GrantKept = sym b
-all_seen u db rows a b c d e f AlarmKept = sym c
-all_seen u db rows a b c d e f ShelfKept = sym d
-all_seen u db rows a b c d e f BandKept = sym e
-all_seen u db rows a b c d e f CellKept = sym f
+    → rows.shelves ≡ rows_seen u db.trees ShelfKept → rows.bands ≡ rows_seen u db.trees BandKept → rows.cells ≡ rows_seen u db.trees CellKept → rows.events ≡ rows_seen u db.trees EventKept → AreSeen u db rows
+all_seen u db rows a b c d e f h UnitKept = sym a
+all_seen u db rows a b c d e f h GrantKept = sym b
+all_seen u db rows a b c d e f h AlarmKept = sym c
+all_seen u db rows a b c d e f h ShelfKept = sym d
+all_seen u db rows a b c d e f h BandKept = sym e
+all_seen u db rows a b c d e f h CellKept = sym f
+all_seen u db rows a b c d e f h EventKept = sym h
 
 pub returns-then-not-has_row-clause-found : goal.returns-then-not-has_row-clause-found
 returns-then-not-has_row-clause-found g c told m k =
@@ -30,7 +31,9 @@ returns-clause-found g c told m k =
     let s3 = state g.S.Store c.alarms_of.new.conn in
     let s4 = state g.S.Store c.shelves_of.new.conn in
     let s5 = state g.S.Store c.bands_of.new.conn in
-    let t5 = c.cells_of.ensures.told told in
+    let s6 = state g.S.Store c.cells_of.new.conn in
+    let t6 = c.events_of.ensures.told told in
+    let t5 = c.cells_of.ensures.told t6 in
     let t4 = c.bands_of.ensures.told t5 in
     let t3 = c.shelves_of.ensures.told t4 in
     let t2 = c.alarms_of.ensures.told t3 in
@@ -45,12 +48,15 @@ returns-clause-found g c told m k =
     let b4 : AreBooks s4.now = subst AreBooks (sym e4) k.books in
     let e5 : s5.now ≡ old.now = c.bands_of.ensures.same t5 b4 ∙ e4 in
     let b5 : AreBooks s5.now = subst AreBooks (sym e5) k.books in
-    let rows : UnitRows = record { units = c.in_ok-units.units; grants = c.in_ok-grants.grants; alarms = c.in_ok-alarms.alarms; shelves = c.in_ok-shelves.shelves; bands = c.in_ok-bands.bands; cells = c.in_ok-cells.cells } in
+    let e6 : s6.now ≡ old.now = c.cells_of.ensures.same t6 b5 ∙ e5 in
+    let b6 : AreBooks s6.now = subst AreBooks (sym e6) k.books in
+    let rows : UnitRows = record { units = c.in_ok-units.units; grants = c.in_ok-grants.grants; alarms = c.in_ok-alarms.alarms; shelves = c.in_ok-shelves.shelves; events = c.in_ok-events.events; bands = c.in_ok-bands.bands; cells = c.in_ok-cells.cells } in
     whole_found old m u k rows
     (all_seen u old.now rows (c.in_ok-units.ensures.rows t1.0 k.books)
     (c.in_ok-grants.ensures.rows t2.0 b1 ∙ ap (λ (d : Database). rows_seen u d.trees GrantKept) e1)
     (c.in_ok-alarms.ensures.rows t3.0 b2 ∙ ap (λ (d : Database). rows_seen u d.trees AlarmKept) e2)
     (c.in_ok-shelves.ensures.rows t4.0 b3 ∙ ap (λ (d : Database). rows_seen u d.trees ShelfKept) e3)
     (c.in_ok-bands.ensures.rows t5.0 b4 ∙ ap (λ (d : Database). rows_seen u d.trees BandKept) e4)
-    (c.in_ok-cells.ensures.rows told.0 b5 ∙ ap (λ (d : Database). rows_seen u d.trees CellKept) e5))
+    (c.in_ok-cells.ensures.rows t6.0 b5 ∙ ap (λ (d : Database). rows_seen u d.trees CellKept) e5)
+    (c.in_ok-events.ensures.rows told.0 b6 ∙ ap (λ (d : Database). rows_seen u d.trees EventKept) e6))
     (search rules)
