@@ -1,18 +1,20 @@
 -- What a verdict looks at, of a unit.
-use Rattle.std.specs.Prelude.{Bool, List, Option, Some, count_by, false, is_some, length, not, option_and_then, option_map, unwrap_or, ℕ, ◌&&◌}
+use Rattle.plant_model.specs.Events.{events}
+use Rattle.plant_alarm.specs.Shelves.{is_unshelved, shelf_state}
+use Rattle.plant_alarm.specs.declared.event.Event.{Event}
 use Rattle.plant_alarm.specs.declared.shelf.ShelfState.{ShelfState}
+use Rattle.plant_model.specs.Grants.{held, stands}
+use Rattle.plant_model.specs.Rows.{alarm_row, alarm_rows, grant_rows, shelf_rows, unit_row}
+use Rattle.plant_model.specs.Shelves.{shelf, shelf_left}
 use Rattle.plant_model.specs.declared.call.Call.{Call}
 use Rattle.plant_model.specs.declared.rows.AlarmRow.{AlarmRow}
 use Rattle.plant_model.specs.declared.rows.GrantRow.{GrantRow}
 use Rattle.plant_model.specs.declared.rows.ShelfRow.{ShelfRow}
 use Rattle.plant_model.specs.declared.rows.UnitRow.{UnitRow}
-use Rattle.plant_types.specs.declared.role.Role.TheVariants.{Steward}
-use Rattle.plant_alarm.specs.Shelves.{is_unshelved, shelf_state}
-use Rattle.plant_model.specs.Grants.{held, stands}
-use Rattle.plant_model.specs.Rows.{alarm_row, alarm_rows, grant_rows, shelf_rows, unit_row}
-use Rattle.plant_model.specs.Shelves.{shelf, shelf_left}
 use Rattle.plant_types.specs.Names.{Name, same_name}
 use Rattle.plant_types.specs.Roles.{Pair, same_role}
+use Rattle.plant_types.specs.declared.role.Role.TheVariants.{Steward}
+use Rattle.std.specs.Prelude.{Bool, List, Option, Some, count_by, false, is_some, length, not, option_and_then, option_map, unwrap_or, ℕ, ◌&&◌}
 
 pub record Facts : Type 0 where
   pub unit : UnitRow
@@ -25,6 +27,7 @@ pub record Facts : Type 0 where
   pub alarms : List AlarmRow
   pub shelf : Name → Option ShelfRow
   pub shelves : List ShelfRow
+  pub events : List Event
 
 abbrev pub is_steward_row : GrantRow → Bool
 is_steward_row g = same_role g.role_no Steward
@@ -43,6 +46,7 @@ facts h =
       alarms = alarm_rows h;
       shelf = shelf h;
       shelves = shelf_rows h;
+      events = events h;
     }
 
 -- MaxTimeShelved in force

@@ -4,6 +4,7 @@ pub mod Alarms
 pub mod Shelves
 pub mod Service
 pub mod Matrices
+pub mod Events
 pub mod Rows
 pub mod Facts
 pub mod Refusals

@@ -1,25 +1,31 @@
 -- The refusals of a call on a unit, each with its condition, in their order. Results of shelving are named as in OPC 10000-9.
-use Rattle.std.specs.List.{list_any}
-use Rattle.std.specs.Prelude.{Bool, List, None, Option, Some, [], if◌then◌else◌, is_none, is_some, nat_le, nat_lt, not, ℕ, ◌&&◌, ◌++◌, ◌∷◌}
-use Rattle.plant_model.specs.declared.call.Call.{Call}
-use Rattle.plant_model.specs.declared.call.Request.TheVariants.{Grant, OneShotShelve, PlaceInService, Register, RemoveFromService, Status, TimedShelve, Unshelve, Withdraw}
-use Rattle.plant_model.specs.declared.call.Request.{Request}
-use Rattle.plant_model.specs.declared.reply.Full.TheVariants.{Alarms as TooManyAlarms, Grants as TooManyGrants}
-use Rattle.plant_model.specs.declared.reply.Refused.TheVariants.{AlarmTaken, AlarmUnknown, AlreadyHeld, AlreadyOutOfService, ConditionAlreadyShelved, ConditionNotShelved, EndNotAhead, LastSteward, MomentBehind, NotGranted, NotHeld, NotOutOfService, RoleLacking, ShelfQuota, ShelvingTimeOutOfRange, UnitFull}
-use Rattle.plant_model.specs.declared.reply.Refused.{Refused}
-use Rattle.plant_types.specs.declared.role.Role.TheVariants.{Engineer, Maintainer, Operator, Steward}
-use Rattle.plant_types.specs.declared.role.Role.{Role}
 use Rattle.plant_alarm.specs.Shelves.{is_one_shot, is_timed, is_unshelved}
+use Rattle.plant_alarm.specs.declared.event.Event.{Event}
+use Rattle.plant_import.specs.Merging.{first_fault}
+use Rattle.plant_import.specs.declared.bad_file.BadFile.{BadFile}
+use Rattle.plant_model.specs.Events.{is_aligned, new_numbers}
 use Rattle.plant_model.specs.Facts.{Facts, is_out, limit_of, others_shelved, shelf_now}
 use Rattle.plant_model.specs.Grants.{is_before}
+use Rattle.plant_model.specs.RowFacts.{alarm_tag}
+use Rattle.plant_model.specs.declared.call.Call.{Call}
+use Rattle.plant_model.specs.declared.call.Request.{Request}
+use Rattle.plant_model.specs.declared.call.Request.TheVariants.{Floods, Grant, Import, OneShotShelve, PlaceInService, Register, RemoveFromService, Status, TimedShelve, Unshelve, Withdraw}
+use Rattle.plant_model.specs.declared.reply.Full.TheVariants.{Alarms as TooManyAlarms, Events as TooManyEvents, Grants as TooManyGrants}
+use Rattle.plant_model.specs.declared.reply.Refused.{Refused}
+use Rattle.plant_model.specs.declared.reply.Refused.TheVariants.{AlarmTaken, AlarmUnknown, AlreadyHeld, AlreadyOutOfService, BadFile as FileRefused, ConditionAlreadyShelved, ConditionNotShelved, EndNotAhead, LastSteward, MomentBehind, NotGranted, NotHeld, NotOutOfService, RangeNotAligned, RoleLacking, ShelfQuota, ShelvingTimeOutOfRange, UnitFull}
 use Rattle.plant_types.specs.Names.{Name}
 use Rattle.plant_types.specs.Roles.{all_roles, same_role}
+use Rattle.plant_types.specs.declared.role.Role.{Role}
+use Rattle.plant_types.specs.declared.role.Role.TheVariants.{Engineer, Maintainer, Operator, Steward}
+use Rattle.std.specs.List.{list_any}
+use Rattle.std.specs.Prelude.{Bool, Err, List, None, Ok, Option, Result, Some, [], if◌then◌else◌, is_none, is_some, length, map, nat_le, nat_lt, not, true, ℕ, ◌&&◌, ◌++◌, ◌+◌, ◌∷◌}
 
 -- the role that a request needs, where it needs one in particular
 abbrev pub role_needed : Request → Option Role
 role_needed (Grant u p t) = Some Steward
 role_needed (Withdraw u p r) = Some Steward
 role_needed (Register u a l m) = Some Engineer
+role_needed (Import u file) = Some Operator
 role_needed (TimedShelve u a d w) = Some Operator
 role_needed (OneShotShelve u a w) = Some Operator
 role_needed (Unshelve u a) = Some Operator
@@ -35,17 +41,31 @@ unknown f a = (is_none (f.alarm a), AlarmUnknown)
 abbrev pub over_quota : Facts → Name → ℕ → Bool × Refused
 over_quota f a t = (nat_le f.unit.quota (others_shelved f a t), ShelfQuota f.unit.quota)
 
+-- a file: its fault of reading; else no room for its numbers, or its first fault of merging
+abbrev pub tags_of : Facts → List Name
+tags_of f = map alarm_tag f.alarms
+
+abbrev pub fault_entries : Option BadFile → List (Bool × Refused)
+fault_entries None = []
+fault_entries (Some fault) = (true, FileRefused fault) ∷ []
+
+abbrev pub file_refusals : Facts → ℕ → Result (List Event) BadFile → List (Bool × Refused)
+file_refusals f t (Err fault) = (true, FileRefused fault) ∷ []
+file_refusals f t (Ok rows) = (nat_lt 100000 (length f.events + length (new_numbers f.events rows)), UnitFull TooManyEvents) ∷ fault_entries (first_fault (tags_of f) t 2 f.events rows)
+
 -- the refusals of a request at this moment
 abbrev pub own_refusals : Facts → ℕ → Request → List (Bool × Refused)
 own_refusals f t (Grant u q r) = (nat_le 500 f.pairs, UnitFull TooManyGrants) ∷ (f.held t (q, r.0), AlreadyHeld) ∷ (not (is_before t r.1), EndNotAhead) ∷ []
 own_refusals f t (Withdraw u q r) = (not (f.stands (q, r)), NotHeld) ∷ (same_role r Steward && nat_le f.stewards 1, LastSteward) ∷ []
 own_refusals f t (Register u a l m) = (nat_le 2000 f.alarm_count, UnitFull TooManyAlarms) ∷ (is_some (f.alarm a), AlarmTaken) ∷ []
+own_refusals f t (Import u file) = file_refusals f t file
 own_refusals f t (TimedShelve u a d w) = unknown f a ∷ (nat_lt (limit_of f a) d, ShelvingTimeOutOfRange (limit_of f a)) ∷ (is_timed (shelf_now f a t), ConditionAlreadyShelved) ∷ over_quota f a t ∷ []
 own_refusals f t (OneShotShelve u a w) = unknown f a ∷ (is_one_shot (shelf_now f a t), ConditionAlreadyShelved) ∷ over_quota f a t ∷ []
 own_refusals f t (Unshelve u a) = unknown f a ∷ (is_unshelved (shelf_now f a t), ConditionNotShelved) ∷ []
 own_refusals f t (RemoveFromService u a w) = unknown f a ∷ (is_out f a, AlreadyOutOfService) ∷ []
 own_refusals f t (PlaceInService u a) = unknown f a ∷ (not (is_out f a), NotOutOfService) ∷ []
 own_refusals f t (Status u a) = unknown f a ∷ []
+own_refusals f t (Floods u begin until) = (not (is_aligned begin until), RangeNotAligned) ∷ []
 own_refusals f t _ = []
 
 abbrev pub lacks_role : Facts → ℕ → Name → Option Role → List (Bool × Refused)

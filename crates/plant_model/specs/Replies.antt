@@ -1,20 +1,23 @@
 -- The replies to accepted calls.
-use Rattle.std.specs.Prelude.{List, None, Option, Some, false, filter_map, is_some, map, not, option_map, true, ℕ, ◌||◌}
-use Rattle.plant_alarm.specs.declared.shelf.ShelfState.TheVariants.{OneShotShelved, TimedShelved, Unshelved}
+use Rattle.plant_alarm.specs.Shelves.{is_unshelved, shelf_state}
+use Rattle.plant_alarm.specs.declared.event.Event.{Event}
 use Rattle.plant_alarm.specs.declared.shelf.ShelfState.{ShelfState}
-use Rattle.plant_model.specs.declared.call.Request.TheVariants.{Alarms, Shelves, Standing, Status}
+use Rattle.plant_alarm.specs.declared.shelf.ShelfState.TheVariants.{OneShotShelved, TimedShelved, Unshelved}
+use Rattle.plant_import.specs.Merging.{fresh}
+use Rattle.plant_model.specs.Events.{flood_lines, rows_of_file}
+use Rattle.plant_model.specs.Facts.{Facts, returned, shelf_now}
+use Rattle.plant_model.specs.Shelves.{shelf_left}
 use Rattle.plant_model.specs.declared.call.Request.{Request}
+use Rattle.plant_model.specs.declared.call.Request.TheVariants.{Alarms, Floods, Import, Shelves, Standing, Status}
 use Rattle.plant_model.specs.declared.reply.AlarmLine.{AlarmLine}
-use Rattle.plant_model.specs.declared.reply.Reply.TheVariants.{Alarms as AlarmsOf, Done, Shelves as ShelvesOf, Standing as StandingOf, Status as StatusOf}
 use Rattle.plant_model.specs.declared.reply.Reply.{Reply}
+use Rattle.plant_model.specs.declared.reply.Reply.TheVariants.{Alarms as AlarmsOf, Done, Floods as FloodsOf, Imported, Shelves as ShelvesOf, Standing as StandingOf, Status as StatusOf}
 use Rattle.plant_model.specs.declared.reply.ShelfLine.{ShelfLine}
 use Rattle.plant_model.specs.declared.reply.StandingLine.{StandingLine}
 use Rattle.plant_model.specs.declared.reply.StatusRow.{StatusRow}
 use Rattle.plant_model.specs.declared.rows.AlarmRow.{AlarmRow}
 use Rattle.plant_model.specs.declared.rows.ShelfRow.{ShelfRow}
-use Rattle.plant_alarm.specs.Shelves.{is_unshelved, shelf_state}
-use Rattle.plant_model.specs.Facts.{Facts, returned, shelf_now}
-use Rattle.plant_model.specs.Shelves.{shelf, shelf_left}
+use Rattle.std.specs.Prelude.{List, None, Option, Some, false, filter_map, is_some, length, map, not, option_map, true, ℕ, ◌-◌, ◌||◌}
 
 -- an alarm's state (ISA-18.2, IEC 62682): SuppressedOrShelved holds where it is shelved, suppressed by design or out of service
 abbrev pub status_of : AlarmRow → ShelfState → StatusRow
@@ -69,9 +72,15 @@ abbrev pub status_reply : Option AlarmRow → ShelfState → Reply
 status_reply None shelf = Done
 status_reply (Some r) shelf = StatusOf (status_of r shelf)
 
+-- the rows of a file that are new, and those that are repeated
+abbrev pub import_reply : List Event → List Event → Reply
+import_reply kept rows = Imported (length (fresh kept rows)) (length rows - length (fresh kept rows))
+
 abbrev pub reply : Facts → ℕ → Request → Reply
+reply f t (Import u file) = import_reply f.events (rows_of_file file)
 reply f t (Status u a) = status_reply (f.alarm a) (shelf_now f a t)
 reply f t (Shelves u) = ShelvesOf u t (shelf_lines f t)
 reply f t (Alarms u) = AlarmsOf u t (alarm_lines f t)
 reply f t (Standing u) = StandingOf u t (standing_lines f t)
+reply f t (Floods u begin until) = FloodsOf u begin until (flood_lines f.events begin until)
 reply f t _ = Done

@@ -1,30 +1,36 @@
 -- Changes of a unit's rows.
-use Rattle.std.specs.List.{list_any}
-use Rattle.std.specs.Option.{option_to_list}
-use Rattle.std.specs.Ordering.{nat_cmp}
-use Rattle.std.specs.Prelude.{Bool, List, None, Some, [], false, filter_map, map, max, true, ℕ, ◌++◌, ◌+◌, ◌∷◌}
-use Rattle.plant_model.specs.declared.call.Call.{Call}
-use Rattle.plant_model.specs.declared.call.Request.TheVariants.{Grant, OneShotShelve, OpenUnit, PlaceInService, Register, RemoveFromService, TimedShelve, Unshelve, Withdraw}
-use Rattle.plant_model.specs.declared.call.Request.{Request}
-use Rattle.plant_model.specs.declared.rows.AlarmRow.{AlarmRow}
-use Rattle.plant_model.specs.declared.rows.Change.TheVariants.{Put, Remove}
-use Rattle.plant_model.specs.declared.rows.Change.{Change}
-use Rattle.plant_model.specs.declared.rows.Key.TheVariants.{Grant as GrantKey, Shelf as ShelfKey}
-use Rattle.plant_model.specs.declared.rows.Key.{Key}
-use Rattle.plant_model.specs.declared.rows.Row.TheVariants.{Alarm as AlarmPut, Band as BandPut, Cell as CellPut, Event as EventPut, Grant as GrantPut, Shelf as ShelfPut, Unit as UnitPut}
-use Rattle.plant_model.specs.declared.rows.Row.{Row}
-use Rattle.plant_model.specs.declared.rows.UnitRow.{UnitRow}
-use Rattle.plant_model.specs.declared.rows.UnitRows.{UnitRows}
-use Rattle.plant_types.specs.declared.role.Role.TheVariants.{Steward}
+use Rattle.plant_alarm.specs.States.{active_since, is_suppressed, last_return, state_of}
+use Rattle.plant_alarm.specs.declared.event.Event.{Event}
+use Rattle.plant_floods.specs.Activations.{of_alarm}
+use Rattle.plant_import.specs.Merging.{fresh}
+use Rattle.plant_model.specs.Alarms.{quota}
+use Rattle.plant_model.specs.Events.{events, rows_of_file}
 use Rattle.plant_model.specs.Facts.{Facts, limit_of}
 use Rattle.plant_model.specs.Matrices.{band_at, band_cmp, band_places, cell_cmp, cell_of, cell_places}
 use Rattle.plant_model.specs.RowFacts.{alarm_tag, band_key, cell_key, event_number, pair_of, shelf_tag}
 use Rattle.plant_model.specs.Rows.{alarm_as, grant_as}
 use Rattle.plant_model.specs.Shelves.{shelf_row_as}
+use Rattle.plant_model.specs.declared.call.Call.{Call}
+use Rattle.plant_model.specs.declared.call.Request.{Request}
+use Rattle.plant_model.specs.declared.call.Request.TheVariants.{Grant, Import, OneShotShelve, OpenUnit, PlaceInService, Register, RemoveFromService, TimedShelve, Unshelve, Withdraw}
+use Rattle.plant_model.specs.declared.rows.AlarmRow.{AlarmRow}
+use Rattle.plant_model.specs.declared.rows.Change.{Change}
+use Rattle.plant_model.specs.declared.rows.Change.TheVariants.{Put, Remove}
+use Rattle.plant_model.specs.declared.rows.Key.{Key}
+use Rattle.plant_model.specs.declared.rows.Key.TheVariants.{Grant as GrantKey, Shelf as ShelfKey}
+use Rattle.plant_model.specs.declared.rows.Row.{Row}
+use Rattle.plant_model.specs.declared.rows.Row.TheVariants.{Alarm as AlarmPut, Band as BandPut, Cell as CellPut, Event as EventPut, Grant as GrantPut, Shelf as ShelfPut, Unit as UnitPut}
+use Rattle.plant_model.specs.declared.rows.UnitRow.{UnitRow}
+use Rattle.plant_model.specs.declared.rows.UnitRows.{UnitRows}
 use Rattle.plant_ration.specs.Grid.{Grid}
-use Rattle.plant_types.specs.Names.{Name, name_cmp}
+use Rattle.plant_types.specs.Names.{Name, name_cmp, same_name}
 use Rattle.plant_types.specs.Roles.{pair_cmp}
 use Rattle.plant_types.specs.Tables.{put_row, remove_row}
+use Rattle.plant_types.specs.declared.role.Role.TheVariants.{Steward}
+use Rattle.std.specs.List.{list_any}
+use Rattle.std.specs.Option.{option_to_list}
+use Rattle.std.specs.Ordering.{nat_cmp}
+use Rattle.std.specs.Prelude.{Bool, List, None, Some, [], false, filter, filter_map, fold, map, max, true, ℕ, ◌++◌, ◌+◌, ◌∷◌}
 
 abbrev pub put : Row → UnitRows → UnitRows
 put (UnitPut r) rows = record rows { units = r ∷ [] }
@@ -82,12 +88,32 @@ taken_out p t words r = record r { out_s = Some t; out_by = Some p; out_words = 
 abbrev pub placed_in : AlarmRow → AlarmRow
 placed_in r = record r { out_s = None; out_by = None; out_words = None }
 
+-- all events with the new ones of a file
+abbrev pub all_events : List Event → List Event → List Event
+all_events kept rows = fold (λ es e. put_row nat_cmp event_number e es) kept (fresh kept rows)
+
+-- a new row of the file names the alarm: its state is told anew from all its events
+abbrev pub is_touched : List Event → List Event → AlarmRow → Bool
+is_touched kept rows r = list_any (λ e. same_name r.tag e.tag) (fresh kept rows)
+
+abbrev pub with_state : List Event → AlarmRow → AlarmRow
+with_state es r = record r { state_no = state_of r.latching es; suppressed = is_suppressed es; active_s = active_since es; return_s = last_return es }
+
+abbrev pub state_put : List Event → AlarmRow → Change
+state_put es r = Put (AlarmPut (with_state (of_alarm r.tag es) r))
+
+abbrev pub import_changes : Facts → List Event → List Change
+import_changes f rows =
+    map (λ e. Put (EventPut e)) (fresh f.events rows)
+    ++ map (state_put (all_events f.events rows)) (filter (is_touched f.events rows) f.alarms)
+
 -- the changes that an accepted call makes beside that of the unit's row
 abbrev pub own_changes : Facts → Name → ℕ → Request → List Change
 own_changes f p t (OpenUnit u s m q) = Put (GrantPut (grant_as (s, Steward) None)) ∷ matrix_changes 0 m
 own_changes f p t (Grant u q r) = Put (GrantPut (grant_as (q, r.0) r.1)) ∷ []
 own_changes f p t (Withdraw u q r) = Remove (GrantKey q r) ∷ []
-own_changes f p t (Register u a l max) = Put (AlarmPut (alarm_as a max None l)) ∷ []
+own_changes f p t (Register u a l max) = Put (AlarmPut (alarm_as a max [] None l)) ∷ []
+own_changes f p t (Import u file) = import_changes f (rows_of_file file)
 own_changes f p t (TimedShelve u a d w) = Put (ShelfPut (shelf_row_as false t (t + d) p w a)) ∷ []
 own_changes f p t (OneShotShelve u a w) = Put (ShelfPut (shelf_row_as true t (t + limit_of f a) p w a)) ∷ []
 own_changes f p t (Unshelve u a) = Remove (ShelfKey a) ∷ []

@@ -1,7 +1,11 @@
 -- The facts that a verdict looks at, read from rows.
-use Rattle.std.specs.List.{list_any, slice_get}
-use Rattle.std.specs.Prelude.{count_by, false, length, option_map, unwrap_or, ℕ}
 use Rattle.plant_alarm.specs.declared.event.Event.{Event}
+use Rattle.plant_model.specs.Alarms.{quota}
+use Rattle.plant_model.specs.Events.{events}
+use Rattle.plant_model.specs.Facts.{Facts, is_steward_row}
+use Rattle.plant_model.specs.Grants.{held, is_before, stands}
+use Rattle.plant_model.specs.Matrices.{BandKey, CellKey}
+use Rattle.plant_model.specs.Shelves.{shelf}
 use Rattle.plant_model.specs.declared.rows.AlarmRow.{AlarmRow}
 use Rattle.plant_model.specs.declared.rows.BandRow.{BandRow}
 use Rattle.plant_model.specs.declared.rows.CellRow.{CellRow}
@@ -10,12 +14,11 @@ use Rattle.plant_model.specs.declared.rows.ShelfRow.{ShelfRow}
 use Rattle.plant_model.specs.declared.rows.UnitPart.{UnitPart}
 use Rattle.plant_model.specs.declared.rows.UnitRow.{UnitRow}
 use Rattle.plant_model.specs.declared.rows.UnitRows.{UnitRows}
-use Rattle.plant_model.specs.Facts.{Facts, is_steward_row}
-use Rattle.plant_model.specs.Grants.{is_before}
-use Rattle.plant_model.specs.Matrices.{BandKey, CellKey}
 use Rattle.plant_types.specs.Names.{Name, name_cmp}
 use Rattle.plant_types.specs.Roles.{Pair, pair_cmp, same_pair}
 use Rattle.plant_types.specs.Tables.{row_at}
+use Rattle.std.specs.List.{list_any, slice_get}
+use Rattle.std.specs.Prelude.{count_by, false, length, option_map, unwrap_or, ℕ}
 
 -- the keys of rows
 abbrev pub pair_of : GrantRow → Pair
@@ -56,6 +59,7 @@ facts_from rows alarm_count =
       alarms = rows.alarms;
       shelf = λ a. row_at name_cmp shelf_tag a rows.shelves;
       shelves = rows.shelves;
+      events = rows.events;
     }
 
 -- from all rows of a unit, and from the part that a call looks at

@@ -1,13 +1,13 @@
 -- What a unit answers to a call: the first refusal whose condition holds, else the reply.
-use Rattle.std.specs.Prelude.{Bool, Err, List, None, Ok, Option, Result, Some, false, if◌then◌else◌, is_ok, not, true, ◌&&◌, ◌∷◌}
-use Rattle.plant_model.specs.declared.call.Call.{Call}
-use Rattle.plant_model.specs.declared.call.Request.TheVariants.{Alarms, MyShelves, MyUnits, OpenUnit, Shelves, Standing, Status}
-use Rattle.plant_model.specs.declared.call.Request.{Request}
-use Rattle.plant_model.specs.declared.reply.Refused.{Refused}
-use Rattle.plant_model.specs.declared.reply.Reply.{Reply}
 use Rattle.plant_model.specs.Facts.{Facts, facts}
 use Rattle.plant_model.specs.Refusals.{first_refusal, refusals}
 use Rattle.plant_model.specs.Replies.{reply}
+use Rattle.plant_model.specs.declared.call.Call.{Call}
+use Rattle.plant_model.specs.declared.call.Request.{Request}
+use Rattle.plant_model.specs.declared.call.Request.TheVariants.{Alarms, Floods, MyShelves, MyUnits, OpenUnit, Shelves, Standing, Status}
+use Rattle.plant_model.specs.declared.reply.Refused.{Refused}
+use Rattle.plant_model.specs.declared.reply.Reply.{Reply}
+use Rattle.std.specs.Prelude.{Bool, Err, List, None, Ok, Option, Result, Some, false, if◌then◌else◌, is_ok, not, true, ◌&&◌, ◌∷◌}
 
 abbrev pub refused_or : Option Refused → Reply → Result Reply Refused
 refused_or None reply = Ok reply
@@ -25,6 +25,7 @@ is_read (Status u a) = true
 is_read (Shelves u) = true
 is_read (Alarms u) = true
 is_read (Standing u) = true
+is_read (Floods u begin until) = true
 is_read MyUnits = true
 is_read MyShelves = true
 is_read _ = false

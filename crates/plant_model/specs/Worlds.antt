@@ -1,25 +1,25 @@
 -- The office: an administrator, and for each opened unit its history.
-use Rattle.std.specs.FinMap.{FinMap, contains_key, empty, get, insert, keys}
-use Rattle.std.specs.List.{flat_map}
-use Rattle.std.specs.Prelude.{Bool, Err, List, None, Ok, Option, Result, Some, [], filter_map, fold, if◌then◌else◌, map, max, nat_lt, not, unwrap_or, ℕ, ◌∷◌, ◌≡◌}
-use Rattle.plant_model.specs.declared.call.Call.{Call}
-use Rattle.plant_model.specs.declared.call.Request.TheVariants.{Alarms, Grant, MyShelves, MyUnits, OneShotShelve, OpenUnit, PlaceInService, Register, RemoveFromService, Shelves, Standing, Status, TimedShelve, Unshelve, Withdraw}
-use Rattle.plant_model.specs.declared.call.Request.{Request}
-use Rattle.plant_model.specs.declared.reply.MineLine.{MineLine}
-use Rattle.plant_model.specs.declared.reply.Refused.TheVariants.{MomentBehind, NotAdministrator, UnitTaken}
-use Rattle.plant_model.specs.declared.reply.Refused.{Refused}
-use Rattle.plant_model.specs.declared.reply.Reply.TheVariants.{Done, Mine, Units}
-use Rattle.plant_model.specs.declared.reply.Reply.{Reply}
-use Rattle.plant_model.specs.declared.reply.ShelfLine.{ShelfLine}
-use Rattle.plant_model.specs.declared.reply.UnitLine.{UnitLine}
 use Rattle.plant_model.specs.Facts.{facts}
 use Rattle.plant_model.specs.Grants.{holds_any, roles_held}
 use Rattle.plant_model.specs.Histories.{last_moment}
 use Rattle.plant_model.specs.Legality.{IsLegal}
 use Rattle.plant_model.specs.Replies.{shelf_lines}
 use Rattle.plant_model.specs.Verdicts.{changes_history, is_opening, verdict}
+use Rattle.plant_model.specs.declared.call.Call.{Call}
+use Rattle.plant_model.specs.declared.call.Request.{Request}
+use Rattle.plant_model.specs.declared.call.Request.TheVariants.{Alarms, Floods, Grant, Import, MyShelves, MyUnits, OneShotShelve, OpenUnit, PlaceInService, Register, RemoveFromService, Shelves, Standing, Status, TimedShelve, Unshelve, Withdraw}
+use Rattle.plant_model.specs.declared.reply.MineLine.{MineLine}
+use Rattle.plant_model.specs.declared.reply.Refused.{Refused}
+use Rattle.plant_model.specs.declared.reply.Refused.TheVariants.{MomentBehind, NotAdministrator, UnitTaken}
+use Rattle.plant_model.specs.declared.reply.Reply.{Reply}
+use Rattle.plant_model.specs.declared.reply.Reply.TheVariants.{Done, Mine, Units}
+use Rattle.plant_model.specs.declared.reply.ShelfLine.{ShelfLine}
+use Rattle.plant_model.specs.declared.reply.UnitLine.{UnitLine}
 use Rattle.plant_types.specs.Names.{Name, name_cmp, same_name}
 use Rattle.plant_types.specs.Options.{when}
+use Rattle.std.specs.FinMap.{FinMap, contains_key, empty, get, insert, keys}
+use Rattle.std.specs.List.{flat_map}
+use Rattle.std.specs.Prelude.{Bool, Err, List, None, Ok, Option, Result, Some, [], filter_map, fold, if◌then◌else◌, map, max, nat_lt, not, unwrap_or, ℕ, ◌∷◌, ◌≡◌}
 
 pub record World : Type 0 where
   pub admin : Name
@@ -35,6 +35,7 @@ unit_named (OpenUnit u s m q) = Some u
 unit_named (Grant u p t) = Some u
 unit_named (Withdraw u p r) = Some u
 unit_named (Register u a l max) = Some u
+unit_named (Import u file) = Some u
 unit_named (TimedShelve u a d words) = Some u
 unit_named (OneShotShelve u a words) = Some u
 unit_named (Unshelve u a) = Some u
@@ -44,6 +45,7 @@ unit_named (Status u a) = Some u
 unit_named (Shelves u) = Some u
 unit_named (Alarms u) = Some u
 unit_named (Standing u) = Some u
+unit_named (Floods u begin until) = Some u
 unit_named MyUnits = None
 unit_named MyShelves = None
 

@@ -1,3 +1,4 @@
+use plant_import::FileRead;
 use plant_ration::Matrix;
 use plant_types::{Moment, Person, Quota, Role, Seconds, Tag, Tenure, UnitCode, Words};
 
@@ -29,6 +30,11 @@ pub enum Request {
         tag: Tag,
         latching: bool,
         max: Seconds,
+    },
+    /// Brings the events of a file, or the fault that it was read with.
+    Import {
+        unit: UnitCode,
+        file: FileRead,
     },
     /// Shelves an alarm for a time.
     TimedShelve {
@@ -75,6 +81,12 @@ pub enum Request {
     /// Asks for the alarms that are active.
     Standing {
         unit: UnitCode,
+    },
+    /// Asks for the floods of alarms from a moment to before another.
+    Floods {
+        unit: UnitCode,
+        begin: Moment,
+        until: Moment,
     },
     /// Asks for the units in which the caller holds a role.
     MyUnits,

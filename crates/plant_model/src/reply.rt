@@ -1,4 +1,5 @@
 use plant_alarm::{AlarmState, ShelfState};
+use plant_import::BadFile;
 use plant_ration::Cell;
 use plant_types::{Fault, Moment, Person, Quota, Role, Seconds, Table, Tag, UnitCode, Words};
 
@@ -7,6 +8,7 @@ use plant_types::{Fault, Moment, Person, Quota, Role, Seconds, Table, Tag, UnitC
 pub enum Full {
     Alarms,
     Grants,
+    Events,
 }
 
 /// Why a call is refused, with the value that shows it. Results of shelving have their names of OPC 10000-9.
@@ -31,6 +33,10 @@ pub enum Refused {
     AlreadyHeld,
     NotHeld,
     LastSteward,
+    /// The range is not of whole periods of ten minutes, from 1 to 1,008 of them.
+    RangeNotAligned,
+    /// The line and the cause of the file's first fault.
+    BadFile(BadFile),
     /// The unit's quota.
     ShelfQuota(Quota),
     EndNotAhead,
@@ -89,6 +95,16 @@ pub struct AlarmLine {
     pub limit: Seconds,
 }
 
+/// A flood of alarms: from the start of its first period to the end of its last, the sum of their activations and the
+/// greatest number in one.
+#[derive(Drop)]
+pub struct FloodLine {
+    pub start: Moment,
+    pub until: Moment,
+    pub total: u128,
+    pub peak: u32,
+}
+
 /// A shelf that holds, with the unit of its alarm.
 #[derive(Drop)]
 pub struct MineLine {
@@ -107,6 +123,11 @@ pub struct UnitLine {
 #[derive(Drop)]
 pub enum Reply {
     Done,
+    /// How many rows of a file are new, and how many are repeated.
+    Imported {
+        fresh: u32,
+        repeated: u64,
+    },
     Status(StatusRow),
     Units(Table<UnitLine>),
     Shelves {
@@ -123,6 +144,12 @@ pub enum Reply {
         unit: UnitCode,
         at: Moment,
         lines: Table<AlarmLine>,
+    },
+    Floods {
+        unit: UnitCode,
+        begin: Moment,
+        until: Moment,
+        lines: Table<FloodLine>,
     },
     Mine {
         person: Person,
