@@ -87,11 +87,7 @@ fn push_bad_file(out: &mut Vec<u8>, fault: &BadFile) -> Result<(), Fault>
     ensures value { OnOk result (out.new.items ≡ out.old.items ++ value_member (Some (bad_file_object fault.now))) }
     ensures err { IfErr result (λ e. e ≡ Memory) }
 {
-    push_string(
-        out,
-        b",\"value\":{\"cause\":",
-        file_cause_name(fault.cause),
-    )?;
+    push_string(out, b",\"value\":{\"cause\":", file_cause_name(fault.cause))?;
     push_number(out, b",\"line\":", fault.line)?;
     Ok(out.push(b'}')?)
 }
