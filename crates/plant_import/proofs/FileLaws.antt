@@ -22,44 +22,44 @@ use Rattle.plant_types.proofs.Orders.{name_total}
 use Rattle.plant_types.specs.Names.{Name, same_name}
 use Rattle.plant_types.specs.Options.{or_else}
 
-or_left : (a b : Bool) → a ≡ true → (a || b) ≡ true
+pub or_left : (a b : Bool) → a ≡ true → (a || b) ≡ true
 or_left true b e = refl
 or_left false b e = cc
 
-or_right : (a b : Bool) → b ≡ true → (a || b) ≡ true
+pub or_right : (a b : Bool) → b ≡ true → (a || b) ≡ true
 or_right true b e = refl
 or_right false b e = e
 
-or_false : (a : Bool) → (a || false) ≡ a
+pub or_false : (a : Bool) → (a || false) ≡ a
 or_false true = refl
 or_false false = refl
 
-and_parts : (a b : Bool) → (a && b) ≡ true → (a ≡ true) × (b ≡ true)
+pub and_parts : (a b : Bool) → (a && b) ≡ true → (a ≡ true) × (b ≡ true)
 and_parts true b e = (refl, e)
 and_parts false b e = cc
 
-not_so : (b : Bool) → not b ≡ true → b ≡ false
+pub not_so : (b : Bool) → not b ≡ true → b ≡ false
 not_so true e = cc
 not_so false e = refl
 
-not_true : (b : Bool) → (b ≡ true → ⊥) → b ≡ false
+pub not_true : (b : Bool) → (b ≡ true → ⊥) → b ≡ false
 not_true true h = absurd (h refl)
 not_true false h = refl
 
-both_ways : (a b : Bool) → (a ≡ true → b ≡ true) → (b ≡ true → a ≡ true) → a ≡ b
+pub both_ways : (a b : Bool) → (a ≡ true → b ≡ true) → (b ≡ true → a ≡ true) → a ≡ b
 both_ways true b f g = sym (f refl)
 both_ways false true f g = g refl
 both_ways false false f g = refl
 
-clash_of : (b : Bool) → b ≡ true → b ≡ false → ⊥
+pub clash_of : (b : Bool) → b ≡ true → b ≡ false → ⊥
 clash_of true t f = cc
 clash_of false t f = cc
 
 -- members
-abbrev member : Event → List Event → Bool
+abbrev pub member : Event → List Event → Bool
 member e xs = list_any (same_event e) xs
 
-abbrev Within : List Event → List Event → Type 0
+abbrev pub Within : List Event → List Event → Type 0
 Within xs ys = (e : Event) → member e xs ≡ true → member e ys ≡ true
 
 itself_kind : (k : EventKind) → (kind_no k == kind_no k) ≡ true
@@ -70,17 +70,17 @@ itself_kind Reset = refl
 itself_kind Sup = refl
 itself_kind Unsup = refl
 
-same_tag : (a : Name) → same_name a a ≡ true
+pub same_tag : (a : Name) → same_name a a ≡ true
 same_tag a = (eq_by_cmp_equiv name_total).refl a
 
-itself : (e : Event) → same_event e e ≡ true
+pub itself : (e : Event) → same_event e e ≡ true
 itself e = λ i. eq-eqb e.seq e.seq refl i && eq-eqb e.moment e.moment refl i && same_tag e.tag i && itself_kind e.kind i
 
-first_member : (e : Event) (xs : List Event) → member e (e ∷ xs) ≡ true
+pub first_member : (e : Event) (xs : List Event) → member e (e ∷ xs) ≡ true
 first_member e xs = or_left (same_event e e) (member e xs) (itself e)
 
 -- what a test finds is a member that passes
-finds : (p : Event → Bool) (xs : List Event) → list_any p xs ≡ true → (e : Event) × (p e ≡ true) × (member e xs ≡ true)
+pub finds : (p : Event → Bool) (xs : List Event) → list_any p xs ≡ true → (e : Event) × (p e ≡ true) × (member e xs ≡ true)
 finds p [] h = cc
 finds p (x ∷ xs) h =
     elim (p x) as (λ b. p x ≡ b → (b || list_any p xs) ≡ true → (e : Event) × (p e ≡ true) × (member e (x ∷ xs) ≡ true)) [
@@ -88,13 +88,13 @@ finds p (x ∷ xs) h =
       | false ↦ λ _ rest. let more = finds p xs rest in (more.0, more.1, or_right (same_event more.0 x) (member more.0 xs) more.2)
     ] refl h
 
-any_within : (p : Event → Bool) (xs ys : List Event) → Within xs ys → list_any p xs ≡ true → list_any p ys ≡ true
+pub any_within : (p : Event → Bool) (xs ys : List Event) → Within xs ys → list_any p xs ≡ true → list_any p ys ≡ true
 any_within p xs ys within h = let found = finds p xs h in same_any p found.0 ys (within found.0 found.2) found.1
 
-none_within : (p : Event → Bool) (xs ys : List Event) → Within xs ys → list_any p ys ≡ false → list_any p xs ≡ false
+pub none_within : (p : Event → Bool) (xs ys : List Event) → Within xs ys → list_any p ys ≡ false → list_any p xs ≡ false
 none_within p xs ys within none = not_true (list_any p xs) (λ h. clash_of (list_any p ys) (any_within p xs ys within h) none)
 
-all_member : (p : Event → Bool) (xs : List Event) (e : Event) → list_all p xs ≡ true → member e xs ≡ true → p e ≡ true
+pub all_member : (p : Event → Bool) (xs : List Event) (e : Event) → list_all p xs ≡ true → member e xs ≡ true → p e ≡ true
 all_member p [] e all h = cc
 all_member p (x ∷ xs) e all h =
     let parts = and_parts (p x) (list_all p xs) all in
@@ -103,22 +103,22 @@ all_member p (x ∷ xs) e all h =
       | false ↦ λ _ rest. all_member p xs e parts.1 rest
     ] refl h
 
-all_within : (p : Event → Bool) (ys xs : List Event) → list_all p ys ≡ true → Within xs ys → list_all p xs ≡ true
+pub all_within : (p : Event → Bool) (ys xs : List Event) → list_all p ys ≡ true → Within xs ys → list_all p xs ≡ true
 all_within p ys [] all within = refl
 all_within p ys (x ∷ xs) all within =
     let here : p x ≡ true = all_member p ys x all (within x (first_member x xs)) in
     let rest : list_all p xs ≡ true = all_within p ys xs all (λ e h. within e (or_right (same_event e x) (member e xs) h)) in
     λ i. here i && rest i
 
-within_both : (xs ys zs : List Event) → Within xs zs → Within ys zs → Within (xs ++ ys) zs
+pub within_both : (xs ys zs : List Event) → Within xs zs → Within ys zs → Within (xs ++ ys) zs
 within_both xs ys zs first second e h =
     elim (member e xs) as (λ b. member e xs ≡ b → (b || member e ys) ≡ true → member e zs ≡ true) [ true ↦ λ is _. first e is | false ↦ λ _ rest. second e rest ] refl
     (sym (list_any-append (same_event e) xs ys) ∙ h)
 
-front_within : (xs ys zs : List Event) → Within (xs ++ ys) zs → Within xs zs
+pub front_within : (xs ys zs : List Event) → Within (xs ++ ys) zs → Within xs zs
 front_within xs ys zs within e h = within e (list_any-append (same_event e) xs ys ∙ or_left (member e xs) (member e ys) h)
 
-back_within : (xs ys zs : List Event) → Within (xs ++ ys) zs → Within ys zs
+pub back_within : (xs ys zs : List Event) → Within (xs ++ ys) zs → Within ys zs
 back_within xs ys zs within e h = within e (list_any-append (same_event e) xs ys ∙ or_right (member e xs) (member e ys) h)
 
 one_within : (e : Event) (zs : List Event) → member e zs ≡ true → Within (e ∷ []) zs
@@ -135,10 +135,10 @@ passing-append test before (x ∷ xs) ys =
     ∙ sym (append_assoc here (passing test (before ++ x ∷ []) xs) (passing test ((before ++ x ∷ []) ++ xs) ys))
     ∙ ap (λ l. (here ++ passing test (before ++ x ∷ []) xs) ++ passing test l ys) (append_assoc before (x ∷ []) xs)
 
-same_more : (xs ys zs : List Event) → SameMembers xs ys → SameMembers (xs ++ zs) (ys ++ zs)
+pub same_more : (xs ys zs : List Event) → SameMembers xs ys → SameMembers (xs ++ zs) (ys ++ zs)
 same_more xs ys zs same q = list_any-append (same_event q) xs zs ∙ ap (λ b. b || member q zs) (same q) ∙ sym (list_any-append (same_event q) ys zs)
 
-fresh_alike : (xs ys file : List Event) → SameMembers xs ys → fresh xs file ≡ fresh ys file
+pub fresh_alike : (xs ys file : List Event) → SameMembers xs ys → fresh xs file ≡ fresh ys file
 fresh_alike xs ys [] same = refl
 fresh_alike xs ys (e ∷ file) same =
     λ i. (if not (same e i) then e ∷ [] else []) ++ fresh_alike (xs ++ e ∷ []) (ys ++ e ∷ []) file (same_more xs ys (e ∷ []) same) i
@@ -151,7 +151,7 @@ known_adds kept e q known =
       | false ↦ λ _. or_false (member q kept)
     ] refl
 
-kept_fresh : (kept file : List Event) → SameMembers (kept ++ fresh kept file) (kept ++ file)
+pub kept_fresh : (kept file : List Event) → SameMembers (kept ++ fresh kept file) (kept ++ file)
 kept_fresh kept [] q = refl
 kept_fresh kept (e ∷ file) q =
     let more : List Event = fresh (kept ++ e ∷ []) file in
@@ -165,14 +165,14 @@ kept_fresh kept (e ∷ file) q =
     ] refl
 
 -- the members of what is kept after files, and the count of new rows
-kept_members : (kept : List Event) (files : List Brought) → SameMembers (kept_after kept files) (kept ++ rows_brought files)
+pub kept_members : (kept : List Event) (files : List Brought) → SameMembers (kept_after kept files) (kept ++ rows_brought files)
 kept_members kept [] q = ap (member q) (sym (append-nil kept))
 kept_members kept (b ∷ files) q =
     kept_members (kept ++ fresh kept b.1) files q
     ∙ same_more (kept ++ fresh kept b.1) (kept ++ b.1) (rows_brought files) (kept_fresh kept b.1) q
     ∙ ap (member q) (append_assoc kept b.1 (rows_brought files))
 
-new_rows_are : (kept : List Event) (files : List Brought) → new_rows kept files ≡ length (fresh kept (rows_brought files))
+pub new_rows_are : (kept : List Event) (files : List Brought) → new_rows kept files ≡ length (fresh kept (rows_brought files))
 new_rows_are kept [] = refl
 new_rows_are kept (b ∷ files) =
     ap (λ n. length (fresh kept b.1) + n) (new_rows_are (kept ++ fresh kept b.1) files ∙ ap (λ l. length l) (fresh_alike (kept ++ fresh kept b.1) (kept ++ b.1) (rows_brought files) (kept_fresh kept b.1)))
@@ -187,7 +187,7 @@ fault_none tags now others all e tag ahead within clash order =
     let no_order : list_any (out_of_order e) others ≡ false = none_within (out_of_order e) others all within order in
     λ i. first_cause ((not (tag i), TagUnknown) ∷ (ahead i, MomentAhead) ∷ (no_clash i, SequenceClash) ∷ (no_order i, MomentOutOfOrder) ∷ [])
 
-no_fault : (tags : List Name) (now line : ℕ) (all others rows : List Event) → are_known tags rows ≡ true → list_all (λ e. not (nat_lt now e.moment)) rows ≡ true → is_fit all ≡ true → Within others all → Within rows all → first_fault tags now line others rows ≡ None
+pub no_fault : (tags : List Name) (now line : ℕ) (all others rows : List Event) → are_known tags rows ≡ true → list_all (λ e. not (nat_lt now e.moment)) rows ≡ true → is_fit all ≡ true → Within others all → Within rows all → first_fault tags now line others rows ≡ None
 no_fault tags now line all others [] known ahead fit o w = refl
 no_fault tags now line all others (e ∷ rows) known ahead fit o w =
     let k = and_parts (list_any (same_name e.tag) tags) (are_known tags rows) known in
@@ -211,7 +211,7 @@ taken tags rows all kept (b ∷ files) known ahead fit inside k w =
     λ i. is_none (here i) && rest i
 
 -- Counting: distinct events that are all among others are no more than these
-abbrev AreDistinct : List Event → Type 0
+abbrev pub AreDistinct : List Event → Type 0
 AreDistinct [] = Unit {0}
 AreDistinct (x ∷ xs) = (member x xs ≡ false) × AreDistinct xs
 
@@ -246,7 +246,7 @@ stays_in x q (y ∷ ys) other e =
 not_the : (x q : Event) (xs : List Event) → member x xs ≡ false → member q xs ≡ true → same_event x q ≡ false
 not_the x q xs away there = not_true (same_event x q) (λ is. clash_of (member q xs) there (ap (λ y. member y xs) (sym (same_is x q is)) ∙ away))
 
-no_more : (xs ys : List Event) → AreDistinct xs → Within xs ys → length xs ≤ length ys
+pub no_more : (xs ys : List Event) → AreDistinct xs → Within xs ys → length xs ≤ length ys
 no_more [] ys distinct among = omega arith
 no_more (x ∷ xs) ys distinct among =
     let less = one_less x ys (among x (first_member x xs)) in
@@ -254,7 +254,7 @@ no_more (x ∷ xs) ys distinct among =
     omega (arith, less, rest)
 
 -- new rows are distinct, and none of them is kept
-away : (q : Event) (kept file : List Event) → member q kept ≡ true → member q (fresh kept file) ≡ false
+pub away : (q : Event) (kept file : List Event) → member q kept ≡ true → member q (fresh kept file) ≡ false
 away q kept [] there = refl
 away q kept (e ∷ file) there =
     let more : member q (kept ++ e ∷ []) ≡ true = list_any-append (same_event q) kept (e ∷ []) ∙ or_left (member q kept) (member q (e ∷ [])) there in
@@ -266,7 +266,7 @@ away q kept (e ∷ file) there =
           λ i. other i || rest i
     ] refl
 
-distinct_fresh : (kept file : List Event) → AreDistinct (fresh kept file)
+pub distinct_fresh : (kept file : List Event) → AreDistinct (fresh kept file)
 distinct_fresh kept [] = tt
 distinct_fresh kept (e ∷ file) =
     let there : member e (kept ++ e ∷ []) ≡ true = list_any-append (same_event e) kept (e ∷ []) ∙ or_right (member e kept) (member e (e ∷ [])) (first_member e []) in
@@ -276,14 +276,14 @@ distinct_fresh kept (e ∷ file) =
     ]
 
 -- rows with the same members bring the same new ones
-fresh_within : (kept xs ys : List Event) → Within xs ys → Within (fresh kept xs) (fresh kept ys)
+pub fresh_within : (kept xs ys : List Event) → Within xs ys → Within (fresh kept xs) (fresh kept ys)
 fresh_within kept xs ys within q there =
     let not_kept : member q kept ≡ false = not_true (member q kept) (λ h. clash_of (member q (fresh kept xs)) there (away q kept xs h)) in
     let kept_or : (zs : List Event) → member q (kept ++ zs) ≡ member q zs = λ zs. list_any-append (same_event q) kept zs ∙ ap (λ b. b || member q zs) not_kept in
     let brought : member q xs ≡ true = sym (kept_or xs) ∙ sym (kept_fresh kept xs q) ∙ kept_or (fresh kept xs) ∙ there in
     sym (kept_or (fresh kept ys)) ∙ kept_fresh kept ys q ∙ kept_or ys ∙ within q brought
 
-same_number_new : (kept xs ys : List Event) → SameMembers xs ys → length (fresh kept xs) ≡ length (fresh kept ys)
+pub same_number_new : (kept xs ys : List Event) → SameMembers xs ys → length (fresh kept xs) ≡ length (fresh kept ys)
 same_number_new kept xs ys same =
     let few = no_more (fresh kept xs) (fresh kept ys) (distinct_fresh kept xs) (fresh_within kept xs ys (λ q h. sym (same q) ∙ h)) in
     let many = no_more (fresh kept ys) (fresh kept xs) (distinct_fresh kept ys) (fresh_within kept ys xs (λ q h. same q ∙ h)) in
@@ -306,20 +306,20 @@ files_agree tags kept xs ys known first_ahead second_ahead fit same =
     }
 
 -- Files that are taken leave events that fit
-all_from : (p : Event → Bool) (xs : List Event) → ((e : Event) → member e xs ≡ true → p e ≡ true) → list_all p xs ≡ true
+pub all_from : (p : Event → Bool) (xs : List Event) → ((e : Event) → member e xs ≡ true → p e ≡ true) → list_all p xs ≡ true
 all_from p [] each = refl
 all_from p (x ∷ xs) each =
     let rest = all_from p xs (λ e h. each e (or_right (same_event e x) (member e xs) h)) in
     λ i. each x (first_member x xs) i && rest i
 
-none_member : (p : Event → Bool) (xs : List Event) (e : Event) → list_any p xs ≡ false → member e xs ≡ true → p e ≡ false
+pub none_member : (p : Event → Bool) (xs : List Event) (e : Event) → list_any p xs ≡ false → member e xs ≡ true → p e ≡ false
 none_member p xs e none there = not_true (p e) (λ h. clash_of (list_any p xs) (same_any p e xs there h) none)
 
 -- a row that fits among events
-abbrev fits_in : List Event → Event → Bool
+abbrev pub fits_in : List Event → Event → Bool
 fits_in es e = not (list_any (clashes e) es) && not (list_any (out_of_order e) es)
 
-fit_parts : (es : List Event) (e : Event) → fits_in es e ≡ true → (list_any (clashes e) es ≡ false) × (list_any (out_of_order e) es ≡ false)
+pub fit_parts : (es : List Event) (e : Event) → fits_in es e ≡ true → (list_any (clashes e) es ≡ false) × (list_any (out_of_order e) es ≡ false)
 fit_parts es e h =
     let parts = and_parts (not (list_any (clashes e) es)) (not (list_any (out_of_order e) es)) h in
     (not_so (list_any (clashes e) es) parts.0, not_so (list_any (out_of_order e) es) parts.1)
@@ -327,7 +327,7 @@ fit_parts es e h =
 fit_from : (es : List Event) (e : Event) → list_any (clashes e) es ≡ false → list_any (out_of_order e) es ≡ false → fits_in es e ≡ true
 fit_from es e clash order = λ i. not (clash i) && not (order i)
 
-fit_within : (xs ys : List Event) → is_fit xs ≡ true → Within ys xs → is_fit ys ≡ true
+pub fit_within : (xs ys : List Event) → is_fit xs ≡ true → Within ys xs → is_fit ys ≡ true
 fit_within xs ys fit within =
     all_from (fits_in ys) ys
     (λ e there.
@@ -400,18 +400,18 @@ row_fits : (tags : List Name) (now : ℕ) (others : List Event) (e : Event) → 
 unfolding merge_fault
 row_fits tags now others e h = no_cause (not (list_any (same_name e.tag) tags)) (nat_lt now e.moment) (list_any (clashes e) others) (list_any (out_of_order e) others) h
 
-no_first : (line : ℕ) (o : Option Cause) (rest : Option BadFile) → or_else (option_map (bad line) o) rest ≡ None → (o ≡ None) × (rest ≡ None)
+pub no_first : (line : ℕ) (o : Option Cause) (rest : Option BadFile) → or_else (option_map (bad line) o) rest ≡ None → (o ≡ None) × (rest ≡ None)
 no_first line None rest e = (refl, e)
 no_first line (Some c) rest e = cc
 
-file_fits : (tags : List Name) (now line : ℕ) (others rows : List Event) → is_fit others ≡ true → first_fault tags now line others rows ≡ None → is_fit (others ++ rows) ≡ true
+pub file_fits : (tags : List Name) (now line : ℕ) (others rows : List Event) → is_fit others ≡ true → first_fault tags now line others rows ≡ None → is_fit (others ++ rows) ≡ true
 file_fits tags now line others [] fit h = ap is_fit (append-nil others) ∙ fit
 file_fits tags now line others (e ∷ rows) fit h =
     let parts = no_first line (merge_fault tags now others e) (first_fault tags now (line + 1) (others ++ e ∷ []) rows) h in
     let here = row_fits tags now others e parts.0 in
     ap is_fit (sym (append_assoc others (e ∷ []) rows)) ∙ file_fits tags now (line + 1) (others ++ e ∷ []) rows (fit_more others e fit here.0 here.1) parts.1
 
-none_of : {A : Type 0} (o : Option A) → is_none o ≡ true → o ≡ None
+pub none_of : {A : Type 0} (o : Option A) → is_none o ≡ true → o ≡ None
 none_of None e = refl
 none_of (Some x) e = cc
 

@@ -71,7 +71,7 @@ or_none false = refl
 order_below : (e x : Event) → x.seq < e.seq → out_of_order e x ≡ nat_lt e.moment x.moment
 order_below e x lt = rw (le-ltb e.seq x.seq (omega arith), lt-ltb x.seq e.seq lt) refl
 
-order_above : (e x : Event) → e.seq < x.seq → out_of_order e x ≡ nat_lt x.moment e.moment
+pub order_above : (e x : Event) → e.seq < x.seq → out_of_order e x ≡ nat_lt x.moment e.moment
 order_above e x lt = rw (lt-ltb e.seq x.seq lt, le-ltb x.seq e.seq (omega arith)) (or_none (nat_lt x.moment e.moment))
 
 order_same : (e x : Event) → e.seq ≡ x.seq → out_of_order e x ≡ false

@@ -1,27 +1,10 @@
 -- The changes that a call makes turn the rows of the history into those of the history with the call.
-use Rattle.std.proofs.Common.{ap, refl, ◌∙◌}
-use Rattle.std.specs.Option.{option_to_list}
-use Rattle.std.specs.Ordering.{eq_by_cmp}
-use Rattle.std.specs.Prelude.{Bool, List, None, Option, Some, [], cond, false, filter_map, map, max, option_map, true, unwrap_or, ℕ, ◌+◌, ◌∷◌, ◌≡◌}
-use Rattle.std.specs.declared.cmp.Ordering.TheVariants.{Equal}
-use Rattle.std.specs.declared.cmp.Ordering.{Ordering}
-use Rattle.plant_model.specs.declared.call.Call.{Call}
-use Rattle.plant_model.specs.declared.call.Request.TheVariants.{Grant, OneShotShelve, OpenUnit, PlaceInService, Register, RemoveFromService, TimedShelve, Unshelve, Withdraw}
-use Rattle.plant_model.specs.declared.call.Request.{Request}
-use Rattle.plant_model.specs.declared.rows.AlarmRow.{AlarmRow}
-use Rattle.plant_model.specs.declared.rows.BandRow.{BandRow}
-use Rattle.plant_model.specs.declared.rows.CellRow.{CellRow}
-use Rattle.plant_model.specs.declared.rows.Change.TheVariants.{Put}
-use Rattle.plant_model.specs.declared.rows.Row.TheVariants.{Alarm as AlarmPut, Grant as GrantPut, Shelf as ShelfPut, Unit as UnitPut}
-use Rattle.plant_model.specs.declared.rows.ShelfRow.{ShelfRow}
-use Rattle.plant_model.specs.declared.rows.UnitRows.{UnitRows}
-use Rattle.plant_types.specs.declared.role.Role.TheVariants.{Steward}
-use Rattle.plant_types.specs.declared.role.Role.{Role}
-use Rattle.plant_model.proofs.Base.{base, cells}
+use Rattle.plant_model.proofs.Base.{base}
 use Rattle.plant_model.proofs.HistoryLaws.{alarm_of, alarms_told, grants_told, pairs_of, shelves_told, tags_of_alarms, tags_of_shelves}
 use Rattle.plant_model.proofs.MatrixLaws.{band_keys, bands_anew, bands_told, cell_keys, cells_anew, cells_told}
 use Rattle.plant_model.proofs.PutLaws.{put_bands, put_cells, puts, puts-rows}
 use Rattle.plant_model.specs.Alarms.{latching, limit}
+use Rattle.plant_model.specs.Events.{events_of}
 use Rattle.plant_model.specs.Facts.{facts, limit_of}
 use Rattle.plant_model.specs.Histories.{latest}
 use Rattle.plant_model.specs.Matrices.{band_at, band_cmp, band_places, cell_of, cell_places}
@@ -30,12 +13,30 @@ use Rattle.plant_model.specs.RowFacts.{band_key}
 use Rattle.plant_model.specs.Rows.{alarm_as, alarm_row, band_row, band_rows, cell_row, grant_as, grant_row, rows_of, unit_row}
 use Rattle.plant_model.specs.Service.{Outage, outage, said_of_service}
 use Rattle.plant_model.specs.Shelves.{shelf, shelf_row_as}
+use Rattle.plant_model.specs.declared.call.Call.{Call}
+use Rattle.plant_model.specs.declared.call.Request.{Request}
+use Rattle.plant_model.specs.declared.call.Request.TheVariants.{Grant, OneShotShelve, OpenUnit, PlaceInService, Register, RemoveFromService, TimedShelve, Unshelve, Withdraw}
+use Rattle.plant_model.specs.declared.rows.AlarmRow.{AlarmRow}
+use Rattle.plant_model.specs.declared.rows.BandRow.{BandRow}
+use Rattle.plant_model.specs.declared.rows.CellRow.{CellRow}
+use Rattle.plant_model.specs.declared.rows.Change.TheVariants.{Put}
+use Rattle.plant_model.specs.declared.rows.Row.TheVariants.{Alarm as AlarmPut, Grant as GrantPut, Shelf as ShelfPut, Unit as UnitPut}
+use Rattle.plant_model.specs.declared.rows.ShelfRow.{ShelfRow}
+use Rattle.plant_model.specs.declared.rows.UnitRows.{UnitRows}
 use Rattle.plant_ration.specs.Grid.{Grid}
 use Rattle.plant_types.proofs.Orders.{same_names, same_pairs}
 use Rattle.plant_types.proofs.TableLaws.{put-rows, remove-rows, tied}
 use Rattle.plant_types.specs.Names.{Name, name_cmp, same_name}
 use Rattle.plant_types.specs.Options.{flatten, or_else, when}
 use Rattle.plant_types.specs.Roles.{Pair, same_pair}
+use Rattle.plant_types.specs.declared.role.Role.{Role}
+use Rattle.plant_types.specs.declared.role.Role.TheVariants.{Steward}
+use Rattle.std.proofs.Common.{ap, refl, ◌∙◌}
+use Rattle.std.specs.Option.{option_to_list}
+use Rattle.std.specs.Ordering.{eq_by_cmp}
+use Rattle.std.specs.Prelude.{Bool, List, None, Option, Some, [], cond, false, filter_map, map, max, option_map, true, unwrap_or, ℕ, ◌+◌, ◌∷◌, ◌≡◌}
+use Rattle.std.specs.declared.cmp.Ordering.{Ordering}
+use Rattle.std.specs.declared.cmp.Ordering.TheVariants.{Equal}
 
 -- pairs
 now_stands : (k x : Pair) (until : Option ℕ) (rest : Option (Option (Option ℕ))) → option_map (grant_as k) (flatten (or_else (when (same_pair k x) (Some until)) rest)) ≡ cond (same_pair k x) (Some (grant_as x until)) (option_map (grant_as k) (flatten rest))
@@ -72,6 +73,11 @@ said_anew R same row value base a b v known k =
 flatten_when : {A : Type 0} (b : Bool) (v : Option A) (rest : Option (Option A)) → flatten (or_else (when b v) rest) ≡ cond b v (flatten rest)
 flatten_when true v rest = refl
 flatten_when false v rest = refl
+
+-- an alarm that has no event, and of which no removal from service stands
+pub record IsUnspoken (h : List Call) (a : Name) : Type 0 where
+  pub no_event : events_of h a ≡ []
+  pub no_outage : outage h a ≡ None
 
 module _ (h : List Call) (p : Name) (t : ℕ) where
   abbrev pub with_request : Request → List Call
@@ -112,7 +118,7 @@ module _ (h : List Call) (p : Name) (t : ℕ) where
 
   -- Service
   abbrev row_by_outage : (a : Name) → Option Outage → Bool → AlarmRow
-  row_by_outage a out = alarm_as a (unwrap_or (limit h a) 0) out
+  row_by_outage a out = alarm_as a (unwrap_or (limit h a) 0) (events_of h a) out
 
   outage_anew : (a k : Name) (l : Bool) (v : Option Outage) → latching h a ≡ Some l → option_map (row_by_outage k (flatten (or_else (when (same_name k a) v) (latest (λ c before. said_of_service k c.person c.moment c.request) h)))) (latching h k) ≡ cond (same_name k a) (Some (row_by_outage a v l)) (alarm_row h k)
   outage_anew a k l v known =
@@ -140,19 +146,19 @@ module _ (h : List Call) (p : Name) (t : ℕ) where
         alarms = put-rows (alarm_row h) (alarm_row c) (tags_of_alarms h) (tags_of_alarms c) (row_by_outage a None l) (alarms_told h) (alarms_told c) (λ k. outage_anew a k l None known) i;
       })
 
-  -- Registration of an alarm of which no removal from service stands
-  alarm_anew : (a k : Name) (l : Bool) (max : ℕ) → outage h a ≡ None → option_map (alarm_as k (unwrap_or (or_else (when (same_name k a) max) (limit h k)) 0) (outage h k)) (or_else (when (same_name k a) l) (latching h k)) ≡ cond (same_name k a) (Some (alarm_as a max None l)) (alarm_row h k)
+  -- Registration of an alarm of which nothing was said before
+  alarm_anew : (a k : Name) (l : Bool) (max : ℕ) → IsUnspoken h a → option_map (alarm_as k (unwrap_or (or_else (when (same_name k a) max) (limit h k)) 0) (events_of h k) (outage h k)) (or_else (when (same_name k a) l) (latching h k)) ≡ cond (same_name k a) (Some (alarm_as a max [] None l)) (alarm_row h k)
   alarm_anew a k l max new =
-      elim (same_name k a) as (λ s. same_name k a ≡ s → option_map (alarm_as k (unwrap_or (or_else (when s max) (limit h k)) 0) (outage h k)) (or_else (when s l) (latching h k)) ≡ cond s (Some (alarm_as a max None l)) (alarm_row h k)) [
-        | true ↦ λ e. ap (λ y. Some (alarm_as y max (outage h y) l)) (same_names k a (tied _ true e refl)) ∙ (λ i. Some (alarm_as a max (new i) l))
+      elim (same_name k a) as (λ s. same_name k a ≡ s → option_map (alarm_as k (unwrap_or (or_else (when s max) (limit h k)) 0) (events_of h k) (outage h k)) (or_else (when s l) (latching h k)) ≡ cond s (Some (alarm_as a max [] None l)) (alarm_row h k)) [
+        | true ↦ λ e. ap (λ y. Some (alarm_as y max (events_of h y) (outage h y) l)) (same_names k a (tied _ true e refl)) ∙ (λ i. Some (alarm_as a max (new.no_event i) (new.no_outage i) l))
         | false ↦ λ e. refl
       ] refl
 
-  pub register_turns : (u a : Name) (l : Bool) (max : ℕ) → outage h a ≡ None → Turns (Register u a l max)
+  pub register_turns : (u a : Name) (l : Bool) (max : ℕ) → IsUnspoken h a → Turns (Register u a l max)
   register_turns u a l max new =
       let c = with_request (Register u a l max) in
       λ i. record (rows_of c) {
-        alarms = put-rows (alarm_row h) (alarm_row c) (tags_of_alarms h) (tags_of_alarms c) (alarm_as a max None l) (alarms_told h) (alarms_told c) (λ k. alarm_anew a k l max new) i;
+        alarms = put-rows (alarm_row h) (alarm_row c) (tags_of_alarms h) (tags_of_alarms c) (alarm_as a max [] None l) (alarms_told h) (alarms_told c) (λ k. alarm_anew a k l max new) i;
       }
 
 -- An opening: no rows become those of the one entry

@@ -1,29 +1,30 @@
 -- Each table of a history is told by its function: its rows are at keys that the history names, and have their keys.
-use Rattle.std.proofs.Common.{ap, inl, inr, refl, subst, sym, ◌∙◌}
-use Rattle.std.specs.List.{list_any}
-use Rattle.std.specs.Ordering.{eq_by_cmp}
-use Rattle.std.specs.Prelude.{Bool, List, None, Option, Some, [], false, option_and_then, option_map, true, unwrap_or, ℕ, ◌++◌, ◌||◌, ◌∷◌, ◌≡◌, ◌⊎◌}
-use Rattle.std.specs.declared.cmp.Ordering.{Ordering}
-use Rattle.plant_model.specs.declared.call.Call.{Call}
-use Rattle.plant_model.specs.declared.call.Request.TheVariants.{Grant, OneShotShelve, OpenUnit, Register, TimedShelve, Unshelve, Withdraw}
-use Rattle.plant_model.specs.declared.call.Request.{Request}
-use Rattle.plant_model.specs.declared.rows.AlarmRow.{AlarmRow}
-use Rattle.plant_model.specs.declared.rows.ShelfRow.{ShelfRow}
-use Rattle.plant_types.specs.declared.role.Role.TheVariants.{Steward}
-use Rattle.plant_model.proofs.PutLaws.{said}
+use Rattle.plant_alarm.specs.declared.event.Event.{Event}
 use Rattle.plant_model.specs.Alarms.{latching, limit, said_of_latching}
+use Rattle.plant_model.specs.Events.{event_numbered, events_of, has_number, imported, numbers_of}
 use Rattle.plant_model.specs.Grants.{said_of_pair, standing}
-use Rattle.plant_model.specs.Histories.{all_named, latest}
+use Rattle.plant_model.specs.Histories.{all_named, latest, same_number}
 use Rattle.plant_model.specs.Parts.{none, nothing}
-use Rattle.plant_model.specs.RowFacts.{alarm_tag, pair_of, shelf_tag}
+use Rattle.plant_model.specs.RowFacts.{alarm_tag, event_number, pair_of, shelf_tag}
 use Rattle.plant_model.specs.Rows.{alarm_as, alarm_row, grant_as, grant_row, pairs_named, tags_registered, tags_shelved}
 use Rattle.plant_model.specs.Service.{outage}
 use Rattle.plant_model.specs.Shelves.{said_of_shelf, shelf}
-use Rattle.plant_types.proofs.Orders.{name_total, pair_total, same_names, same_pairs}
-use Rattle.plant_types.proofs.TableLaws.{Tells}
+use Rattle.plant_model.specs.declared.call.Call.{Call}
+use Rattle.plant_model.specs.declared.call.Request.{Request}
+use Rattle.plant_model.specs.declared.call.Request.TheVariants.{Grant, OneShotShelve, OpenUnit, Register, TimedShelve, Unshelve, Withdraw}
+use Rattle.plant_model.specs.declared.rows.AlarmRow.{AlarmRow}
+use Rattle.plant_model.specs.declared.rows.ShelfRow.{ShelfRow}
+use Rattle.plant_types.proofs.Orders.{name_total, number_total, pair_total, same_names, same_numbers, same_pairs}
+use Rattle.plant_types.proofs.TableLaws.{Tells, tied}
 use Rattle.plant_types.specs.Names.{Name, name_cmp, same_name}
 use Rattle.plant_types.specs.Options.{flatten, or_else, when}
 use Rattle.plant_types.specs.Roles.{Pair, pair_cmp}
+use Rattle.plant_types.specs.declared.role.Role.TheVariants.{Steward}
+use Rattle.std.proofs.Common.{ap, cond, inl, inr, refl, subst, sym, ◌∙◌}
+use Rattle.std.specs.List.{find, list_any}
+use Rattle.std.specs.Ordering.{eq_by_cmp, nat_cmp}
+use Rattle.std.specs.Prelude.{Bool, List, None, Option, Some, [], false, option_and_then, option_map, true, unwrap_or, ℕ, ◌++◌, ◌||◌, ◌∷◌, ◌≡◌, ◌⊎◌}
+use Rattle.std.specs.declared.cmp.Ordering.{Ordering}
 
 pub when_or : {A : Type 0} (b : Bool) (x : A) → (when b x ≡ None) ⊎ (b ≡ true)
 when_or true x = inr refl
@@ -118,7 +119,7 @@ abbrev pub tags_of_alarms : List Call → List Name
 tags_of_alarms h = all_named (λ c before. tags_registered c.request) h
 
 abbrev pub alarm_of : List Call → Name → Bool → AlarmRow
-alarm_of h a = alarm_as a (unwrap_or (limit h a) 0) (outage h a)
+alarm_of h a = alarm_as a (unwrap_or (limit h a) 0) (events_of h a) (outage h a)
 
 pub alarms_told : (h : List Call) → Tells name_cmp alarm_tag (alarm_row h) (tags_of_alarms h)
 alarms_told h =
@@ -175,6 +176,39 @@ shelves_told h =
       at_key = λ a r e. shelf_row_tag a _ r (latest-holds (λ c before. said_of_shelf a c.person c.moment before c.request) (HasTag a) (λ c before x said. shelf_has_tag a c.person c.moment before c.request x said) h) e;
       among = λ a. elim (latest-named name_cmp (λ c before. said_of_shelf a c.person c.moment before c.request) same_shelf (λ c before. tags_shelved c.request) a (λ c before x. tag_is_shelved a c.person c.moment before c.request x) h) [
         | inl none ↦ inl (flat_same (latest (λ c before. said_of_shelf a c.person c.moment before c.request) h) none)
+        | inr there ↦ inr there
+      ];
+    }
+
+-- Events
+find_holds : (n : ℕ) (es : List Event) (e : Event) → find (has_number n) es ≡ Some e → same_number n e.seq ≡ true
+find_holds n [] e is = cc
+find_holds n (x ∷ es) e is =
+    elim (same_number n x.seq) as (λ b. same_number n x.seq ≡ b → cond b (Some x) (find (has_number n) es) ≡ Some e → same_number n e.seq ≡ true) [
+      | true ↦ λ t here. let same : x ≡ e = cc in ap (λ y. same_number n y.seq) (sym same) ∙ t
+      | false ↦ λ t rest. find_holds n es e rest
+    ] refl is
+
+find_any : (n : ℕ) (es : List Event) (e : Event) → find (has_number n) es ≡ Some e → list_any (eq_by_cmp nat_cmp n) (numbers_of es) ≡ true
+find_any n [] e is = cc
+find_any n (x ∷ es) e is =
+    elim (same_number n x.seq) as (λ b. cond b (Some x) (find (has_number n) es) ≡ Some e → (b || list_any (eq_by_cmp nat_cmp n) (numbers_of es)) ≡ true) [ true ↦ λ _. refl | false ↦ λ rest. find_any n es e rest ] is
+
+abbrev pub numbers_of_events : List Call → List ℕ
+numbers_of_events h = all_named (λ c before. numbers_of (imported c.request)) h
+
+itself : {X : Type 0} (o : Option X) → option_and_then (λ x. Some x) o ≡ None → o ≡ None
+itself None e = refl
+itself (Some x) e = cc
+
+pub events_told : (h : List Call) → Tells nat_cmp event_number (event_numbered h) (numbers_of_events h)
+events_told h =
+    record {
+      order = number_total;
+      same = same_numbers;
+      at_key = λ n r e. sym (same_numbers n r.seq (tied _ _ (latest-holds (λ c before. find (has_number n) (imported c.request)) (λ x. same_number n x.seq ≡ true) (λ c before x. find_holds n (imported c.request) x) h r e) refl));
+      among = λ n. elim (latest-named nat_cmp (λ c before. find (has_number n) (imported c.request)) (λ x. Some x) (λ c before. numbers_of (imported c.request)) n (λ c before x is. inr (find_any n (imported c.request) x is)) h) [
+        | inl none ↦ inl (itself _ none)
         | inr there ↦ inr there
       ];
     }

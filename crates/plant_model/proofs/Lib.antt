@@ -6,6 +6,9 @@ pub mod HeldLaws
 pub mod MatrixLaws
 pub mod ChangeLaws
 pub mod ServiceLaws
+pub mod EventLists
+pub mod EventLaws
+pub mod ImportLaws
 pub mod AcceptLaws
 pub mod PartLaws
 pub mod WorldLaws

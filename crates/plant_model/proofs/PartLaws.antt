@@ -1,40 +1,43 @@
 -- The part that a call looks at gives the verdict, the reply and the changes of all rows.
-use Rattle.std.proofs.Common.{ap, refl, sym, ◌∙◌}
-use Rattle.std.specs.Option.{option_to_list}
-use Rattle.std.specs.Ordering.{eq_by_cmp, is_eq, nat_cmp}
-use Rattle.std.specs.Prelude.{Bool, List, None, Option, Some, [], cond, false, filter, is_none, is_some, length, map, max, nat_le, nat_lt, not, option_and_then, option_map, true, unwrap_or, ℕ, ◌++◌, ◌+◌, ◌||◌, ◌∷◌, ◌≡◌}
-use Rattle.std.specs.declared.cmp.Ordering.{Ordering}
-use Rattle.plant_alarm.specs.declared.shelf.ShelfState.{ShelfState}
-use Rattle.plant_model.specs.declared.call.Call.{Call}
-use Rattle.plant_model.specs.declared.call.Request.TheVariants.{Alarms, Grant, MyShelves, MyUnits, OneShotShelve, OpenUnit, PlaceInService, Register, RemoveFromService, Shelves, Standing, Status, TimedShelve, Unshelve, Withdraw}
-use Rattle.plant_model.specs.declared.call.Request.{Request}
-use Rattle.plant_model.specs.declared.reply.Full.TheVariants.{Alarms as TooManyAlarms}
-use Rattle.plant_model.specs.declared.reply.Refused.TheVariants.{AlarmTaken, AlarmUnknown, AlreadyOutOfService, ConditionNotShelved, MomentBehind, NotGranted, NotOutOfService, RoleLacking, UnitFull}
-use Rattle.plant_model.specs.declared.rows.AlarmRow.{AlarmRow}
-use Rattle.plant_model.specs.declared.rows.Change.TheVariants.{Put}
-use Rattle.plant_model.specs.declared.rows.Change.{Change}
-use Rattle.plant_model.specs.declared.rows.GrantRow.{GrantRow}
-use Rattle.plant_model.specs.declared.rows.Row.TheVariants.{Alarm as AlarmPut, Shelf as ShelfPut, Unit as UnitPut}
-use Rattle.plant_model.specs.declared.rows.ShelfRow.{ShelfRow}
-use Rattle.plant_model.specs.declared.rows.UnitRows.{UnitRows}
-use Rattle.plant_types.specs.declared.role.Role.TheVariants.{Approver, Engineer, Maintainer, Operator, Steward, Viewer}
-use Rattle.plant_types.specs.declared.role.Role.{Role}
+use Rattle.plant_model.specs.declared.reply.Reply.TheVariants.{Floods as FloodsOf}
 use Rattle.plant_alarm.specs.Shelves.{is_unshelved, shelf_state}
+use Rattle.plant_alarm.specs.declared.event.Event.{Event}
+use Rattle.plant_alarm.specs.declared.shelf.ShelfState.{ShelfState}
 use Rattle.plant_model.proofs.FactLaws.{not_true}
+use Rattle.plant_model.specs.Events.{events, flood_lines, rows_of_file}
 use Rattle.plant_model.specs.Facts.{Facts, limit_of}
 use Rattle.plant_model.specs.Grants.{is_before}
 use Rattle.plant_model.specs.Parts.{Selection, part_of, selected}
 use Rattle.plant_model.specs.Refusals.{first_refusal, holds_some, lacks_role, own_refusals, role_needed}
-use Rattle.plant_model.specs.Replies.{reply, status_reply}
+use Rattle.plant_model.specs.Replies.{import_reply, reply, status_reply}
 use Rattle.plant_model.specs.RowChanges.{changes_for, placed_in, taken_out}
 use Rattle.plant_model.specs.RowFacts.{alarm_tag, facts_from, facts_in, facts_of, pair_of, shelf_tag, unit_read}
 use Rattle.plant_model.specs.Shelves.{shelf, shelf_left, shelf_row_as}
 use Rattle.plant_model.specs.Verdicts.{refused_or, verdict_of}
+use Rattle.plant_model.specs.declared.call.Call.{Call}
+use Rattle.plant_model.specs.declared.call.Request.{Request}
+use Rattle.plant_model.specs.declared.call.Request.TheVariants.{Alarms, Floods, Grant, Import, MyShelves, MyUnits, OneShotShelve, OpenUnit, PlaceInService, Register, RemoveFromService, Shelves, Standing, Status, TimedShelve, Unshelve, Withdraw}
+use Rattle.plant_model.specs.declared.reply.Full.TheVariants.{Alarms as TooManyAlarms}
+use Rattle.plant_model.specs.declared.reply.Refused.TheVariants.{AlarmTaken, AlarmUnknown, AlreadyOutOfService, ConditionNotShelved, MomentBehind, NotGranted, NotOutOfService, RoleLacking, UnitFull}
+use Rattle.plant_model.specs.declared.rows.AlarmRow.{AlarmRow}
+use Rattle.plant_model.specs.declared.rows.Change.{Change}
+use Rattle.plant_model.specs.declared.rows.Change.TheVariants.{Put}
+use Rattle.plant_model.specs.declared.rows.GrantRow.{GrantRow}
+use Rattle.plant_model.specs.declared.rows.Row.TheVariants.{Alarm as AlarmPut, Shelf as ShelfPut, Unit as UnitPut}
+use Rattle.plant_model.specs.declared.rows.ShelfRow.{ShelfRow}
+use Rattle.plant_model.specs.declared.rows.UnitRows.{UnitRows}
 use Rattle.plant_types.proofs.Orders.{then_Equal}
 use Rattle.plant_types.proofs.TableLaws.{tied}
 use Rattle.plant_types.specs.Names.{Name, name_cmp, same_name}
 use Rattle.plant_types.specs.Roles.{pair_cmp, role_no}
 use Rattle.plant_types.specs.Tables.{row_at}
+use Rattle.plant_types.specs.declared.role.Role.{Role}
+use Rattle.plant_types.specs.declared.role.Role.TheVariants.{Approver, Engineer, Maintainer, Operator, Steward, Viewer}
+use Rattle.std.proofs.Common.{ap, refl, sym, ◌∙◌}
+use Rattle.std.specs.Option.{option_to_list}
+use Rattle.std.specs.Ordering.{eq_by_cmp, is_eq, nat_cmp}
+use Rattle.std.specs.Prelude.{Bool, List, None, Option, Some, [], cond, false, filter, is_none, is_some, length, map, max, nat_le, nat_lt, not, option_and_then, option_map, true, unwrap_or, ℕ, ◌++◌, ◌+◌, ◌||◌, ◌∷◌, ◌≡◌}
+use Rattle.std.specs.declared.cmp.Ordering.{Ordering}
 
 -- a row stays where its key's rows pass
 row_at-filter : {K X : Type 0} (R : K → K → Ordering) (key : X → K) (k : K) (test : X → Bool) → ((r : X) → eq_by_cmp R k (key r) ≡ true → test r ≡ true) → (rows : List X) → row_at R key k (filter test rows) ≡ row_at R key k rows
@@ -108,11 +111,16 @@ module _ (rows : UnitRows) (p : Name) (t : ℕ) where
   abbrev with_shelves : List AlarmRow → List ShelfRow → Facts
   with_shelves alarms shelves = facts_from (record rows { alarms = alarms; shelves = shelves }) 0
 
+  abbrev with_events : List AlarmRow → List Event → Facts
+  with_events alarms events = facts_from (record rows { alarms = alarms; events = events }) 0
+
   own_same : (q : Request) → own_refusals (of_part q) t q ≡ own_refusals (facts_of rows) t q
   own_same (OpenUnit u s m k) = refl
   own_same (Grant u q r) = ap (λ gs. own_refusals (with_grants gs) t (Grant u q r)) (all_grants p rows.grants)
   own_same (Withdraw u q r) = ap (λ gs. own_refusals (with_grants gs) t (Withdraw u q r)) (all_grants p rows.grants)
   own_same (Register u a l max) = ap (λ o. (nat_le 2000 (length rows.alarms), UnitFull TooManyAlarms) ∷ (is_some o, AlarmTaken) ∷ []) (alarm_there a)
+  own_same (Import u file) = λ i. own_refusals (with_events (filter-true rows.alarms i) (filter-true rows.events i)) t (Import u file)
+  own_same (Floods u begin until) = refl
   own_same (TimedShelve u a d w) = λ i. own_refusals (with_shelves (filter-true rows.alarms i) (filter-true rows.shelves i)) t (TimedShelve u a d w)
   own_same (OneShotShelve u a w) = λ i. own_refusals (with_shelves (filter-true rows.alarms i) (filter-true rows.shelves i)) t (OneShotShelve u a w)
   own_same (Unshelve u a) = λ i. (is_none (alarm_there a i), AlarmUnknown) ∷ (is_unshelved (state_now (alarm_there a i) (shelf_there a i)), ConditionNotShelved) ∷ []
@@ -130,6 +138,8 @@ module _ (rows : UnitRows) (p : Name) (t : ℕ) where
   reply_same (Grant u q r) = refl
   reply_same (Withdraw u q r) = refl
   reply_same (Register u a l max) = refl
+  reply_same (Import u file) = ap (λ es. import_reply es (rows_of_file file)) (filter-true rows.events)
+  reply_same (Floods u begin until) = ap (λ es. FloodsOf u begin until (flood_lines es begin until)) (filter-true rows.events)
   reply_same (TimedShelve u a d w) = refl
   reply_same (OneShotShelve u a w) = refl
   reply_same (Unshelve u a) = refl
@@ -159,6 +169,8 @@ module _ (rows : UnitRows) (p : Name) (t : ℕ) where
   part_changes (Grant u q r) = refl
   part_changes (Withdraw u q r) = refl
   part_changes (Register u a l max) = refl
+  part_changes (Import u file) = λ i. changes_for (with_events (filter-true rows.alarms i) (filter-true rows.events i)) (asked (Import u file))
+  part_changes (Floods u begin until) = refl
   part_changes (TimedShelve u a d w) = refl
   part_changes (OneShotShelve u a w) = ap (λ max. Put (UnitPut (record (unit_read rows) { last_s = t })) ∷ Put (ShelfPut (shelf_row_as true t (t + max) p w a)) ∷ []) (limit_same a)
   part_changes (Unshelve u a) = refl

@@ -1,23 +1,26 @@
 -- Rows that are put one after another.
-use Rattle.std.proofs.Common.{ap, refl, sym, ◌∙◌}
-use Rattle.std.specs.Cmp.{IsTotalOrder}
-use Rattle.std.specs.List.{cons_option}
-use Rattle.std.specs.Ordering.{eq_by_cmp}
-use Rattle.std.specs.Prelude.{Bool, List, None, Option, Some, [], cond, false, filter_map, fold, is_some, map, true, ◌++◌, ◌∷◌, ◌≡◌}
-use Rattle.std.specs.declared.cmp.Ordering.{Ordering}
-use Rattle.std.specs.declared.cmp.Ordering.TheVariants.{Equal}
+use Rattle.plant_alarm.specs.declared.event.Event.{Event}
+use Rattle.plant_model.specs.Matrices.{band_cmp, cell_cmp}
+use Rattle.plant_model.specs.RowChanges.{changed_by, put}
+use Rattle.plant_model.specs.RowFacts.{alarm_tag, band_key, cell_key, event_number}
+use Rattle.plant_model.specs.declared.rows.AlarmRow.{AlarmRow}
 use Rattle.plant_model.specs.declared.rows.BandRow.{BandRow}
 use Rattle.plant_model.specs.declared.rows.CellRow.{CellRow}
 use Rattle.plant_model.specs.declared.rows.Change.{Change}
 use Rattle.plant_model.specs.declared.rows.Change.TheVariants.{Put}
-use Rattle.plant_model.specs.declared.rows.Row.TheVariants.{Band as BandPut, Cell as CellPut}
+use Rattle.plant_model.specs.declared.rows.Row.TheVariants.{Alarm as AlarmPut, Band as BandPut, Cell as CellPut, Event as EventPut}
 use Rattle.plant_model.specs.declared.rows.UnitRows.{UnitRows}
-use Rattle.plant_model.specs.Matrices.{band_cmp, cell_cmp}
-use Rattle.plant_model.specs.RowChanges.{changed_by, put}
-use Rattle.plant_model.specs.RowFacts.{band_key, cell_key}
 use Rattle.plant_types.proofs.TableLaws.{IsInOrder-put_row, IsInOrder-rows, Tells, row_at-in_order, row_at-put_row, row_at-rows, same_rows, settled, tied}
+use Rattle.plant_types.specs.Names.{name_cmp}
 use Rattle.plant_types.specs.Options.{or_else, when}
 use Rattle.plant_types.specs.Tables.{IsInOrder, in_order, put_row, row_at}
+use Rattle.std.proofs.Common.{ap, refl, sym, ◌∙◌}
+use Rattle.std.specs.Cmp.{IsTotalOrder}
+use Rattle.std.specs.List.{cons_option}
+use Rattle.std.specs.Ordering.{eq_by_cmp, nat_cmp}
+use Rattle.std.specs.Prelude.{Bool, List, None, Option, Some, [], cond, false, filter_map, fold, is_some, map, true, ◌++◌, ◌∷◌, ◌≡◌}
+use Rattle.std.specs.declared.cmp.Ordering.{Ordering}
+use Rattle.std.specs.declared.cmp.Ordering.TheVariants.{Equal}
 
 pub else_none : {A : Type 0} (o : Option A) → or_else o None ≡ o
 else_none None = refl
@@ -86,3 +89,11 @@ put_bands (r ∷ rs) rest rows = put_bands rs rest (put (BandPut r) rows)
 pub put_cells : (rs : List CellRow) (rows : UnitRows) → changed_by (map (λ r. Put (CellPut r)) rs) rows ≡ record rows { cells = puts cell_cmp cell_key rs rows.cells }
 put_cells [] rows = refl
 put_cells (r ∷ rs) rows = put_cells rs (put (CellPut r) rows)
+
+pub put_events : (es : List Event) (rest : List Change) (rows : UnitRows) → changed_by (map (λ e. Put (EventPut e)) es ++ rest) rows ≡ changed_by rest (record rows { events = puts nat_cmp event_number es rows.events })
+put_events [] rest rows = refl
+put_events (e ∷ es) rest rows = put_events es rest (put (EventPut e) rows)
+
+pub put_alarms : (f : AlarmRow → AlarmRow) (rs : List AlarmRow) (rows : UnitRows) → changed_by (map (λ r. Put (AlarmPut (f r))) rs) rows ≡ record rows { alarms = puts name_cmp alarm_tag (map f rs) rows.alarms }
+put_alarms f [] rows = refl
+put_alarms f (r ∷ rs) rows = put_alarms f rs (put (AlarmPut (f r)) rows)

@@ -1,28 +1,7 @@
 -- A quota of 2,000 refuses nothing in a legal history: there are at most 2,000 alarms, and each shelf is of one of them.
-use Rattle.std.proofs.Common.{ap, arith, refl, subst, sym, ◌++◌, ◌∙◌}
-use Rattle.std.proofs.lemmas.Bool.Decides.{nat_tests}
-use Rattle.std.proofs.lemmas.List.Sums.{length-filter}
-use Rattle.std.specs.Cmp.{eq_by_cmp_equiv}
-use Rattle.std.specs.FinMap.Entries.{below_all, by_order}
-use Rattle.std.specs.List.{cons_option, list_any}
-use Rattle.std.specs.Ordering.{is_eq, is_lt}
-use Rattle.std.specs.Prelude.{Bool, List, None, Option, Some, T, [], cond, count_by, false, filter, filter_map, is_none, is_ok, is_some, length, map, max, nat_le, nat_lt, not, option_map, suc, true, ℕ, ◌&&◌, ◌+◌, ◌<◌, ◌||◌, ◌∷◌, ◌≡◌, ◌≤◌}
-use Rattle.std.specs.declared.cmp.Ordering.TheVariants.{Equal, Greater, Less}
-use Rattle.std.specs.declared.cmp.Ordering.{Ordering}
-use Rattle.plant_model.specs.declared.call.Call.{Call}
-use Rattle.plant_model.specs.declared.call.Request.TheVariants.{OneShotShelve, OpenUnit, PlaceInService, Register, RemoveFromService, TimedShelve, Unshelve}
-use Rattle.plant_model.specs.declared.call.Request.{Request}
-use Rattle.plant_model.specs.declared.reply.Full.TheVariants.{Alarms as TooManyAlarms}
-use Rattle.plant_model.specs.declared.reply.Refused.TheVariants.{AlarmTaken, AlarmUnknown, ConditionAlreadyShelved, MomentBehind, NotGranted, RoleLacking, ShelvingTimeOutOfRange, UnitFull}
-use Rattle.plant_model.specs.declared.reply.Refused.{Refused}
-use Rattle.plant_model.specs.declared.reply.Reply.TheVariants.{Done}
-use Rattle.plant_model.specs.declared.reply.Reply.{Reply}
-use Rattle.plant_model.specs.declared.rows.AlarmRow.{AlarmRow}
-use Rattle.plant_model.specs.declared.rows.ShelfRow.{ShelfRow}
-use Rattle.plant_model.specs.declared.rows.UnitRows.{UnitRows}
-use Rattle.plant_types.specs.declared.role.Role.TheVariants.{Engineer, Operator}
 use Rattle.plant_alarm.specs.Shelves.{is_one_shot, is_timed, is_unshelved, shelf_state}
 use Rattle.plant_model.proofs.ChangeLaws.{register_turns}
+use Rattle.plant_model.proofs.EventLaws.{unspoken}
 use Rattle.plant_model.proofs.FactLaws.{not_true}
 use Rattle.plant_model.proofs.HistoryLaws.{alarm_of, alarms_told, shelves_told, tags_of_alarms, tags_of_shelves}
 use Rattle.plant_model.proofs.PutLaws.{said}
@@ -34,16 +13,37 @@ use Rattle.plant_model.specs.Histories.{last_moment, latest}
 use Rattle.plant_model.specs.Laws.{QuotaOf2000RefusesNothing}
 use Rattle.plant_model.specs.Legality.{IsLegal, may_follow}
 use Rattle.plant_model.specs.Refusals.{first_refusal, holds_some, over_quota}
-use Rattle.plant_model.specs.RowChanges.{put}
 use Rattle.plant_model.specs.RowFacts.{alarm_tag, shelf_tag}
 use Rattle.plant_model.specs.Rows.{alarm_as, alarm_row, alarm_rows, shelf_rows, tags_registered}
 use Rattle.plant_model.specs.Shelves.{said_of_shelf, shelf, shelf_left}
 use Rattle.plant_model.specs.Verdicts.{is_opening, refused_or, verdict}
+use Rattle.plant_model.specs.declared.call.Call.{Call}
+use Rattle.plant_model.specs.declared.call.Request.{Request}
+use Rattle.plant_model.specs.declared.call.Request.TheVariants.{Import, OneShotShelve, OpenUnit, PlaceInService, Register, RemoveFromService, TimedShelve, Unshelve}
+use Rattle.plant_model.specs.declared.reply.Full.TheVariants.{Alarms as TooManyAlarms}
+use Rattle.plant_model.specs.declared.reply.Refused.{Refused}
+use Rattle.plant_model.specs.declared.reply.Refused.TheVariants.{AlarmTaken, AlarmUnknown, ConditionAlreadyShelved, MomentBehind, NotGranted, RoleLacking, ShelvingTimeOutOfRange, UnitFull}
+use Rattle.plant_model.specs.declared.reply.Reply.{Reply}
+use Rattle.plant_model.specs.declared.reply.Reply.TheVariants.{Done}
+use Rattle.plant_model.specs.declared.rows.AlarmRow.{AlarmRow}
+use Rattle.plant_model.specs.declared.rows.ShelfRow.{ShelfRow}
+use Rattle.plant_model.specs.declared.rows.UnitRows.{UnitRows}
 use Rattle.plant_types.proofs.Orders.{name_total, same_names}
 use Rattle.plant_types.proofs.TableLaws.{IsInOrder-rows, row_at-rows, tied}
 use Rattle.plant_types.specs.Names.{Name, name_cmp, same_name}
 use Rattle.plant_types.specs.Options.{flatten, or_else, when}
 use Rattle.plant_types.specs.Tables.{IsInOrder, in_order, put_row, row_at}
+use Rattle.plant_types.specs.declared.role.Role.TheVariants.{Engineer, Operator}
+use Rattle.std.proofs.Common.{ap, arith, refl, subst, sym, ◌++◌, ◌∙◌}
+use Rattle.std.proofs.lemmas.Bool.Decides.{nat_tests}
+use Rattle.std.proofs.lemmas.List.Sums.{length-filter}
+use Rattle.std.specs.Cmp.{eq_by_cmp_equiv}
+use Rattle.std.specs.FinMap.Entries.{below_all, by_order}
+use Rattle.std.specs.List.{cons_option, list_any}
+use Rattle.std.specs.Ordering.{is_eq, is_lt}
+use Rattle.std.specs.Prelude.{Bool, List, None, Option, Some, T, [], cond, count_by, false, filter, filter_map, is_none, is_ok, is_some, length, map, max, nat_le, nat_lt, not, option_map, suc, true, ℕ, ◌&&◌, ◌+◌, ◌<◌, ◌||◌, ◌∷◌, ◌≡◌, ◌≤◌}
+use Rattle.std.specs.declared.cmp.Ordering.{Ordering}
+use Rattle.std.specs.declared.cmp.Ordering.TheVariants.{Equal, Greater, Less}
 
 -- a call that isn't refused passed each condition
 passed : (a b c d : Bool) (x y z v : Refused) (rest : List (Bool × Refused)) (r : Reply) → is_ok (refused_or (first_refusal ((a, x) ∷ (b, y) ∷ (c, z) ∷ (d, v) ∷ rest)) r) ≡ true → d ≡ false
@@ -96,12 +96,13 @@ as_many_alarms h c unsaid unnamed =
 more_alarms : (h : List Call) → IsLegal h → (p : Name) (t : ℕ) (q : Request) → may_follow h (record { person = p; moment = t; request = q }) ≡ true → length (alarm_rows h) ≤ 2000 → length (alarm_rows (record { person = p; moment = t; request = q } ∷ h)) ≤ 2000
 more_alarms h legal p t (Register u a l max) may le =
     let c : Call = record { person = p; moment = t; request = Register u a l max } in
-    let put : put_row name_cmp alarm_tag (alarm_as a max None l) (alarm_rows h) ≡ alarm_rows (c ∷ h) = ap (λ (rows : UnitRows). rows.alarms) (register_turns h p t u a l max (registered_anew h legal p t u a l max (both_true true _ may).1)) in
+    let put : put_row name_cmp alarm_tag (alarm_as a max [] None l) (alarm_rows h) ≡ alarm_rows (c ∷ h) = ap (λ (rows : UnitRows). rows.alarms) (register_turns h p t u a l max (unspoken h legal a (registered_anew h p t u a l max (both_true true _ may).1))) in
     let few = few_before h p t u a l max may in
-    let long = length-put (alarm_as a max None l) (alarm_rows h) in
+    let long = length-put (alarm_as a max [] None l) (alarm_rows h) in
     subst (λ rows. length rows ≤ 2000) put (omega (arith, few, long))
 more_alarms h legal p t (RemoveFromService u a w) may le = subst (λ n. n ≤ 2000) (as_many_alarms h (record { person = p; moment = t; request = RemoveFromService u a w }) (λ b. refl) refl) le
 more_alarms h legal p t (PlaceInService u a) may le = subst (λ n. n ≤ 2000) (as_many_alarms h (record { person = p; moment = t; request = PlaceInService u a }) (λ b. refl) refl) le
+more_alarms h legal p t (Import u file) may le = subst (λ n. n ≤ 2000) (as_many_alarms h (record { person = p; moment = t; request = Import u file }) (λ b. refl) refl) le
 more_alarms h legal p t _ may le = le
 
 no_alarms : (p : Name) (t : ℕ) (q : Request) → is_opening q ≡ true → length (alarm_rows (record { person = p; moment = t; request = q } ∷ [])) ≤ 2000

@@ -1,31 +1,30 @@
 -- In a legal history an alarm that is not registered is not out of service.
-use Rattle.std.proofs.Common.{ap, length, refl, sym, ◌∙◌, ◌≡◌}
-use Rattle.std.specs.Prelude.{Bool, List, None, Option, Some, [], false, is_none, is_ok, is_some, max, nat_le, nat_lt, not, option_map, true, ℕ, ◌&&◌, ◌∷◌}
-use Rattle.plant_model.specs.declared.call.Call.{Call}
-use Rattle.plant_model.specs.declared.call.Request.TheVariants.{OpenUnit, PlaceInService, Register, RemoveFromService}
-use Rattle.plant_model.specs.declared.call.Request.{Request}
-use Rattle.plant_model.specs.declared.reply.Full.TheVariants.{Alarms as TooManyAlarms}
-use Rattle.plant_model.specs.declared.reply.Refused.TheVariants.{AlarmTaken, AlarmUnknown, AlreadyOutOfService, MomentBehind, NotGranted, RoleLacking, UnitFull}
-use Rattle.plant_model.specs.declared.reply.Refused.{Refused}
-use Rattle.plant_model.specs.declared.reply.Reply.TheVariants.{Done}
-use Rattle.plant_model.specs.declared.reply.Reply.{Reply}
-use Rattle.plant_model.specs.declared.rows.AlarmRow.{AlarmRow}
-use Rattle.plant_types.specs.declared.role.Role.TheVariants.{Engineer, Maintainer}
 use Rattle.plant_model.proofs.HistoryLaws.{alarm_of}
 use Rattle.plant_model.specs.Alarms.{latching, said_of_latching}
 use Rattle.plant_model.specs.Facts.{facts, is_out}
 use Rattle.plant_model.specs.Grants.{held}
 use Rattle.plant_model.specs.Histories.{last_moment, latest}
 use Rattle.plant_model.specs.Legality.{IsLegal}
-use Rattle.plant_model.specs.Parts.{none}
 use Rattle.plant_model.specs.Refusals.{first_refusal, holds_some}
 use Rattle.plant_model.specs.Rows.{alarm_row, alarm_rows}
 use Rattle.plant_model.specs.Service.{Outage, outage, said_of_service}
 use Rattle.plant_model.specs.Verdicts.{changes_history, is_opening, refused_or, verdict}
+use Rattle.plant_model.specs.declared.call.Call.{Call}
+use Rattle.plant_model.specs.declared.call.Request.{Request}
+use Rattle.plant_model.specs.declared.call.Request.TheVariants.{OpenUnit, PlaceInService, Register, RemoveFromService}
+use Rattle.plant_model.specs.declared.reply.Full.TheVariants.{Alarms as TooManyAlarms}
+use Rattle.plant_model.specs.declared.reply.Refused.{Refused}
+use Rattle.plant_model.specs.declared.reply.Refused.TheVariants.{AlarmTaken, AlarmUnknown, AlreadyOutOfService, MomentBehind, NotGranted, RoleLacking, UnitFull}
+use Rattle.plant_model.specs.declared.reply.Reply.{Reply}
+use Rattle.plant_model.specs.declared.reply.Reply.TheVariants.{Done}
+use Rattle.plant_model.specs.declared.rows.AlarmRow.{AlarmRow}
 use Rattle.plant_types.proofs.Orders.{same_names}
 use Rattle.plant_types.proofs.TableLaws.{tied}
 use Rattle.plant_types.specs.Names.{Name, same_name}
 use Rattle.plant_types.specs.Options.{flatten, or_else, when}
+use Rattle.plant_types.specs.declared.role.Role.TheVariants.{Engineer, Maintainer}
+use Rattle.std.proofs.Common.{ap, length, refl, sym, ◌∙◌, ◌≡◌}
+use Rattle.std.specs.Prelude.{Bool, List, None, Option, Some, [], false, is_none, is_ok, is_some, max, nat_le, nat_lt, not, option_map, true, ℕ, ◌&&◌, ◌∷◌}
 
 pub both_true : (a b : Bool) → (a && b) ≡ true → (a ≡ true) × (b ≡ true)
 both_true true b e = (refl, e)
@@ -43,7 +42,7 @@ pub registered : (h : List Call) (a : Name) (o : Option Bool) → latching h a �
 registered h a None e there = absurd (let no : false ≡ true = there in cc)
 registered h a (Some l) e there = (l, e)
 
-is_some-map : {A B : Type 0} (f : A → B) (o : Option A) → is_some (option_map f o) ≡ is_some o
+pub is_some-map : {A B : Type 0} (f : A → B) (o : Option A) → is_some (option_map f o) ≡ is_some o
 is_some-map f None = refl
 is_some-map f (Some x) = refl
 
@@ -100,8 +99,8 @@ none_of : {A : Type 0} (o : Option A) → is_some o ≡ false → o ≡ None
 none_of None e = refl
 none_of (Some x) e = cc
 
--- so in a legal history no removal of it stands
-pub registered_anew : (h : List Call) → IsLegal h → (p : Name) (t : ℕ) (u a : Name) (l : Bool) (max : ℕ) → changes_history (verdict h (record { person = p; moment = t; request = Register u a l max })) (record { person = p; moment = t; request = Register u a l max }) ≡ true → outage h a ≡ None
-registered_anew h legal p t u a l max accepted =
+-- so it is registered anew
+pub registered_anew : (h : List Call) (p : Name) (t : ℕ) (u a : Name) (l : Bool) (max : ℕ) → changes_history (verdict h (record { person = p; moment = t; request = Register u a l max })) (record { person = p; moment = t; request = Register u a l max }) ≡ true → latching h a ≡ None
+registered_anew h p t u a l max accepted =
     let fresh = fresh_alarm (not (holds_some (facts h) t p)) (not (held h t (p, Engineer))) (nat_lt t (last_moment h)) (nat_le 2000 (length (alarm_rows h))) NotGranted (RoleLacking Engineer) (MomentBehind (last_moment h)) (UnitFull TooManyAlarms) (alarm_row h a) Done (both_true (is_ok (verdict h (record { person = p; moment = t; request = Register u a l max }))) true accepted).0 in
-    no_outage h legal a (none_of (latching h a) (sym (is_some-map (alarm_of h a) (latching h a)) ∙ fresh))
+    none_of (latching h a) (sym (is_some-map (alarm_of h a) (latching h a)) ∙ fresh)

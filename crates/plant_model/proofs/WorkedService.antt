@@ -9,7 +9,6 @@ use Rattle.plant_model.specs.declared.reply.Refused.TheVariants.{AlarmUnknown, A
 use Rattle.plant_model.specs.declared.reply.Reply.TheVariants.{Alarms as AlarmsOf, Standing as StandingOf, Status as StatusOf}
 use Rattle.plant_types.specs.declared.role.Role.TheVariants.{Maintainer}
 use Rattle.plant_model.proofs.Base.{IsAnswered, IsDone, ann, at, base, call, lt, moe, pt, status, u1, vic, x}
-use Rattle.plant_model.specs.Alarms.{latching}
 use Rattle.plant_model.specs.Refusals.{holds_some}
 use Rattle.plant_model.specs.Rows.{alarm_row}
 use Rattle.plant_model.specs.Verdicts.{verdict}

@@ -1,5 +1,4 @@
 -- The part of a unit's rows that a call looks at: the unit's row, the caller's grants, and what its request selects.
-use Rattle.plant_model.specs.Events.{events}
 use Rattle.plant_model.specs.RowFacts.{pair_of}
 use Rattle.plant_model.specs.declared.call.Call.{Call}
 use Rattle.plant_model.specs.declared.call.Request.{Request}

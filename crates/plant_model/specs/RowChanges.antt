@@ -3,8 +3,7 @@ use Rattle.plant_alarm.specs.States.{active_since, is_suppressed, last_return, s
 use Rattle.plant_alarm.specs.declared.event.Event.{Event}
 use Rattle.plant_floods.specs.Activations.{of_alarm}
 use Rattle.plant_import.specs.Merging.{fresh}
-use Rattle.plant_model.specs.Alarms.{quota}
-use Rattle.plant_model.specs.Events.{events, rows_of_file}
+use Rattle.plant_model.specs.Events.{rows_of_file}
 use Rattle.plant_model.specs.Facts.{Facts, limit_of}
 use Rattle.plant_model.specs.Matrices.{band_at, band_cmp, band_places, cell_cmp, cell_of, cell_places}
 use Rattle.plant_model.specs.RowFacts.{alarm_tag, band_key, cell_key, event_number, pair_of, shelf_tag}

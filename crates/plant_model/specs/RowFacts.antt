@@ -1,11 +1,8 @@
 -- The facts that a verdict looks at, read from rows.
 use Rattle.plant_alarm.specs.declared.event.Event.{Event}
-use Rattle.plant_model.specs.Alarms.{quota}
-use Rattle.plant_model.specs.Events.{events}
 use Rattle.plant_model.specs.Facts.{Facts, is_steward_row}
-use Rattle.plant_model.specs.Grants.{held, is_before, stands}
+use Rattle.plant_model.specs.Grants.{is_before}
 use Rattle.plant_model.specs.Matrices.{BandKey, CellKey}
-use Rattle.plant_model.specs.Shelves.{shelf}
 use Rattle.plant_model.specs.declared.rows.AlarmRow.{AlarmRow}
 use Rattle.plant_model.specs.declared.rows.BandRow.{BandRow}
 use Rattle.plant_model.specs.declared.rows.CellRow.{CellRow}

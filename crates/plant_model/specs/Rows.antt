@@ -1,7 +1,6 @@
 -- The rows of a unit, told from its history: each table has the rows of the keys that the history names, in their order.
 use Rattle.plant_alarm.specs.States.{active_since, is_suppressed, last_return, state_of}
 use Rattle.plant_alarm.specs.declared.event.Event.{Event}
-use Rattle.plant_alarm.specs.declared.summary.AlarmState.TheVariants.{Normal}
 use Rattle.plant_model.specs.Alarms.{latching, limit, quota}
 use Rattle.plant_model.specs.Events.{events, events_of}
 use Rattle.plant_model.specs.Grants.{standing}
@@ -20,10 +19,10 @@ use Rattle.plant_model.specs.declared.rows.ShelfRow.{ShelfRow}
 use Rattle.plant_model.specs.declared.rows.UnitRow.{UnitRow}
 use Rattle.plant_model.specs.declared.rows.UnitRows.{UnitRows}
 use Rattle.plant_types.specs.Names.{Name, name_cmp}
-use Rattle.plant_types.specs.Roles.{Pair, pair_cmp, role_no}
+use Rattle.plant_types.specs.Roles.{Pair, pair_cmp}
 use Rattle.plant_types.specs.Tables.{in_order}
 use Rattle.plant_types.specs.declared.role.Role.TheVariants.{Steward}
-use Rattle.std.specs.Prelude.{Bool, List, None, Option, [], false, filter_map, max, option_and_then, option_map, unwrap_or, ℕ, ◌∷◌}
+use Rattle.std.specs.Prelude.{Bool, List, Option, [], filter_map, max, option_and_then, option_map, unwrap_or, ℕ, ◌∷◌}
 
 -- Grants: the pairs that stand, also those whose end has come
 abbrev pub pairs_named : Request → List Pair

@@ -10,7 +10,8 @@ mod rows;
 
 pub use call::{Call, Request};
 pub use reply::{
-    AlarmLine, Answer, FloodLine, Full, MineLine, Refused, Reply, ShelfLine, StandingLine, StatusRow, UnitLine,
+    AlarmLine, Answer, FloodLine, Full, MineLine, Refused, Reply, ShelfLine, StandingLine,
+    StatusRow, UnitLine,
 };
 pub use rows::{
     AlarmRow, BandRow, CellRow, Change, GrantRow, Key, Row, ShelfRow, UnitPart, UnitRow, UnitRows,

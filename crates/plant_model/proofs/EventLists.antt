@@ -1,0 +1,177 @@
+-- Events by their numbers: what a list of events has at each number, and what a file without a fault adds to those that are kept.
+use Rattle.plant_alarm.specs.declared.event.Event.{Event}
+use Rattle.plant_floods.specs.Activations.{of_alarm}
+use Rattle.plant_import.proofs.FileLaws.{all_member, clash_of, file_fits, first_member, fit_parts, fit_within, fits_in, kept_fresh, member, no_first, none_member, none_within, or_left, or_right}
+use Rattle.plant_import.proofs.Nearest.{order_above, same_any, same_is}
+use Rattle.plant_import.proofs.Risings.{Before, Each, Rising, is_rising}
+use Rattle.plant_import.specs.Fields.{first_cause}
+use Rattle.plant_import.specs.Files.{SameMembers, are_known, is_fit}
+use Rattle.plant_import.specs.Merging.{IsRising, clashes, first_fault, fresh, merge_fault, out_of_order, same_event}
+use Rattle.plant_import.specs.declared.bad_file.Cause.TheVariants.{MomentAhead, MomentOutOfOrder, SequenceClash, TagUnknown}
+use Rattle.plant_model.proofs.FactLaws.{same_number_of}
+use Rattle.plant_model.proofs.PutLaws.{said}
+use Rattle.plant_model.specs.Events.{has_number}
+use Rattle.plant_model.specs.RowFacts.{event_number}
+use Rattle.plant_types.specs.Names.{Name, same_name}
+use Rattle.plant_types.specs.Options.{or_else, when}
+use Rattle.plant_types.specs.Tables.{IsInOrder}
+use Rattle.std.proofs.Common.{Equal, Greater, Less, T, ap, cond, refl, subst, sym, true, ◌++◌, ◌+◌, ◌<◌, ◌∙◌, ◌≡◌}
+use Rattle.std.proofs.lemmas.Bool.{eq-eqb, ltb-false}
+use Rattle.std.proofs.lemmas.List.Folds.{list_any-append}
+use Rattle.std.specs.Cmp.{ranked}
+use Rattle.std.specs.FinMap.Entries.{below_all, is_sorted}
+use Rattle.std.specs.List.{cons_option, find, list_any}
+use Rattle.std.specs.Ordering.{is_lt, nat_cmp}
+use Rattle.std.specs.Prelude.{Bool, List, None, Option, Some, [], false, filter_map, map, nat_lt, not, option_and_then, ℕ, ◌&&◌, ◌==◌, ◌||◌, ◌∷◌}
+use Rattle.std.specs.declared.cmp.Ordering.{Ordering}
+
+-- what a list has at a number: one of its events, or none
+abbrev pub IsOf : List Event → ℕ → Option Event → Type 0
+IsOf es n None = list_any (has_number n) es ≡ false
+IsOf es n (Some x) = (member x es ≡ true) × (has_number n x ≡ true)
+
+pub of_find : (n : ℕ) (es : List Event) → IsOf es n (find (has_number n) es)
+of_find n [] = refl
+of_find n (y ∷ es) =
+    elim (has_number n y) as (λ b. has_number n y ≡ b → IsOf (y ∷ es) n (cond b (Some y) (find (has_number n) es))) [
+      | true ↦ λ is. (first_member y es, is)
+      | false ↦ λ no. elim (find (has_number n) es) as (λ o. IsOf es n o → IsOf (y ∷ es) n o) [
+        | None ↦ λ rest. ap (λ b. b || list_any (has_number n) es) no ∙ rest
+        | Some x ↦ λ rest. (or_right (same_event x y) (member x es) rest.0, rest.1)
+      ] (of_find n es)
+    ] refl
+
+of_when : (n : ℕ) (r : Event) (rs : List Event) (b : Bool) → has_number n r ≡ b → list_any (has_number n) rs ≡ false → IsOf (r ∷ rs) n (when b r)
+of_when n r rs true is none = (first_member r rs, is)
+of_when n r rs false other none = λ i. other i || none i
+
+pub of_said : (n : ℕ) (rs : List Event) → IsOf rs n (said nat_cmp event_number rs n)
+of_said n [] = refl
+of_said n (r ∷ rs) =
+    elim (said nat_cmp event_number rs n) as (λ o. IsOf rs n o → IsOf (r ∷ rs) n (or_else o (when (has_number n r) r))) [
+      | None ↦ λ rest. of_when n r rs (has_number n r) refl rest
+      | Some x ↦ λ rest. (or_right (same_event x r) (member x rs) rest.0, rest.1)
+    ] (of_said n rs)
+
+pub of_both : (n : ℕ) (xs ys : List Event) (o p : Option Event) → IsOf ys n o → IsOf xs n p → IsOf (xs ++ ys) n (or_else o p)
+of_both n xs ys (Some x) p h k = (list_any-append (same_event x) xs ys ∙ or_right (member x xs) (member x ys) h.0, h.1)
+of_both n xs ys None (Some x) h k = (list_any-append (same_event x) xs ys ∙ or_left (member x xs) (member x ys) k.0, k.1)
+of_both n xs ys None None h k = list_any-append (has_number n) xs ys ∙ (λ i. k i || h i)
+
+pub of_same : (n : ℕ) (xs ys : List Event) (o : Option Event) → SameMembers xs ys → IsOf xs n o → IsOf ys n o
+of_same n xs ys None same h = none_within (has_number n) ys xs (λ e there. same e ∙ there) h
+of_same n xs ys (Some x) same h = (sym (same x) ∙ h.0, h.1)
+
+-- events that fit have one content at a number
+not_both : (a b : Bool) → (a && not b) ≡ false → a ≡ true → b ≡ true
+not_both true true e t = refl
+not_both true false e t = cc
+not_both false b e t = cc
+
+pub one_content : (es : List Event) (x y : Event) → is_fit es ≡ true → member x es ≡ true → member y es ≡ true → x.seq ≡ y.seq → x ≡ y
+one_content es x y fit hx hy same =
+    let parts = fit_parts es x (all_member (fits_in es) es x fit hx) in
+    same_is x y (not_both (x.seq == y.seq) (same_event x y) (none_member (clashes x) es y parts.0 hy) (eq-eqb x.seq y.seq same))
+
+pub one_said : (es : List Event) (n : ℕ) → is_fit es ≡ true → (o p : Option Event) → IsOf es n o → IsOf es n p → o ≡ p
+one_said es n fit None None h k = refl
+one_said es n fit None (Some y) h k = absurd (clash_of (list_any (has_number n) es) (same_any (has_number n) y es k.0 k.1) h)
+one_said es n fit (Some x) None h k = absurd (clash_of (list_any (has_number n) es) (same_any (has_number n) x es h.0 h.1) k)
+one_said es n fit (Some x) (Some y) h k = ap (λ z. Some z) (one_content es x y fit h.0 k.0 (sym (same_number_of n x.seq h.1) ∙ same_number_of n y.seq k.1))
+
+-- a file without a fault
+module _ (tags : List Name) (now : ℕ) (kept rows : List Event) (fit : is_fit kept ≡ true) (clean : first_fault tags now 2 kept rows ≡ None) where
+  pub whole_fits : is_fit (kept ++ rows) ≡ true
+  whole_fits = file_fits tags now 2 kept rows fit clean
+
+  -- its new rows say what all its rows say
+  pub new_rows_say : (n : ℕ) → or_else (find (has_number n) rows) (find (has_number n) kept) ≡ or_else (said nat_cmp event_number (fresh kept rows) n) (find (has_number n) kept)
+  new_rows_say n =
+      one_said (kept ++ rows) n whole_fits _ _
+      (of_both n kept rows _ _ (of_find n rows) (of_find n kept))
+      (of_same n (kept ++ fresh kept rows) (kept ++ rows) (or_else (said nat_cmp event_number (fresh kept rows) n) (find (has_number n) kept)) (kept_fresh kept rows) (of_both n kept (fresh kept rows) _ _ (of_said n (fresh kept rows)) (of_find n kept)))
+
+  -- where a new row has a number, no other event is kept under it
+  pub new_alone : (n : ℕ) (y : Event) → said nat_cmp event_number (fresh kept rows) n ≡ Some y → (x : Event) → find (has_number n) kept ≡ Some x → x ≡ y
+  new_alone n y is x found =
+      let new = subst (IsOf (fresh kept rows) n) is (of_said n (fresh kept rows)) in
+      let old = subst (IsOf kept n) found (of_find n kept) in
+      one_content (kept ++ rows) x y whole_fits
+      (list_any-append (same_event x) kept rows ∙ or_left (member x kept) (member x rows) old.0)
+      (sym (kept_fresh kept rows y) ∙ list_any-append (same_event y) kept (fresh kept rows) ∙ or_right (member y kept) (member y (fresh kept rows)) new.0)
+      (sym (same_number_of n x.seq old.1) ∙ same_number_of n y.seq new.1)
+
+-- what is told from numbers
+pub member_told : (f : ℕ → Option Event) (ns : List ℕ) (e : Event) → member e (filter_map f ns) ≡ true → (n : ℕ) × (f n ≡ Some e)
+member_told f [] e there = cc
+member_told f (n ∷ ns) e there =
+    elim (f n) as (λ o. f n ≡ o → member e (cons_option o (filter_map f ns)) ≡ true → (n : ℕ) × (f n ≡ Some e)) [
+      | None ↦ λ _ rest. member_told f ns e rest
+      | Some x ↦ λ is here. elim (same_event e x) as (λ b. same_event e x ≡ b → (b || member e (filter_map f ns)) ≡ true → (n : ℕ) × (f n ≡ Some e)) [
+        | true ↦ λ same _. (n, is ∙ ap (λ y. Some y) (sym (same_is e x same)))
+        | false ↦ λ _ rest. member_told f ns e rest
+      ] refl here
+    ] refl there
+
+-- the events of one alarm among those told
+abbrev pub only : Name → Option Event → Option Event
+only a o = option_and_then (λ e. when (same_name a e.tag) e) o
+
+only_cons : (a : Name) (o : Option Event) (es : List Event) → of_alarm a (cons_option o es) ≡ cons_option (only a o) (of_alarm a es)
+only_cons a None es = refl
+only_cons a (Some e) es = elim (same_name a e.tag) as (λ b. cond b (e ∷ of_alarm a es) (of_alarm a es) ≡ cons_option (when b e) (of_alarm a es)) [ true ↦ refl | false ↦ refl ]
+
+pub only_told : (a : Name) (f : ℕ → Option Event) (ns : List ℕ) → of_alarm a (filter_map f ns) ≡ filter_map (λ n. only a (f n)) ns
+only_told a f [] = refl
+only_told a f (n ∷ ns) = only_cons a (f n) (filter_map f ns) ∙ ap (cons_option (only a (f n))) (only_told a f ns)
+
+-- a row of the file is of an alarm that is there
+tag_known : (a b c d : Bool) → first_cause ((not a, TagUnknown) ∷ (b, MomentAhead) ∷ (c, SequenceClash) ∷ (d, MomentOutOfOrder) ∷ []) ≡ None → a ≡ true
+tag_known true b c d e = refl
+tag_known false b c d e = cc
+
+row_known : (tags : List Name) (now : ℕ) (others : List Event) (e : Event) → merge_fault tags now others e ≡ None → list_any (same_name e.tag) tags ≡ true
+unfolding merge_fault
+row_known tags now others e h = tag_known (list_any (same_name e.tag) tags) (nat_lt now e.moment) (list_any (clashes e) others) (list_any (out_of_order e) others) h
+
+pub rows_known : (tags : List Name) (now line : ℕ) (others rows : List Event) → first_fault tags now line others rows ≡ None → are_known tags rows ≡ true
+rows_known tags now line others [] h = refl
+rows_known tags now line others (e ∷ rows) h =
+    let parts = no_first line (merge_fault tags now others e) (first_fault tags now (line + 1) (others ++ e ∷ []) rows) h in
+    let here = row_known tags now others e parts.0 in
+    let rest = rows_known tags now (line + 1) (others ++ e ∷ []) rows parts.1 in
+    λ i. here i && rest i
+
+-- fit events in the order of their numbers rise: no moment falls
+two_true : (a b : Bool) → T (a && b) → T a × T b
+two_true true b h = (tt, h)
+two_true false b h = absurd h
+
+less_of : (m n : ℕ) (o : Ordering) → o ≡ nat_cmp m n → T (is_lt o) → m < n
+less_of m n Less e h = ranked m n Less e
+less_of m n Equal e h = absurd h
+less_of m n Greater e h = absurd h
+
+two_false : (a b : Bool) → (a || b) ≡ false → (a ≡ false) × (b ≡ false)
+two_false true b e = cc
+two_false false b e = (refl, e)
+
+below_each : (e : Event) (es : List Event) → T (below_all nat_cmp e.seq (map (λ x. (event_number x, x)) es)) → list_any (out_of_order e) es ≡ false → Each (Before e) es
+below_each e [] below order = tt
+below_each e (x ∷ es) below order =
+    let b = two_true (is_lt (nat_cmp e.seq x.seq)) (below_all nat_cmp e.seq (map (λ x. (event_number x, x)) es)) below in
+    let o = two_false (out_of_order e x) (list_any (out_of_order e) es) order in
+    let less : e.seq < x.seq = less_of e.seq x.seq (nat_cmp e.seq x.seq) refl b.0 in
+    ((less, ltb-false x.moment e.moment (sym (order_above e x less) ∙ o.0)), below_each e es b.1 o.1)
+
+rises : (es : List Event) → is_fit es ≡ true → IsInOrder nat_cmp event_number es → Rising es
+rises [] fit order = tt
+rises (e ∷ es) fit order =
+    let o = two_true (below_all nat_cmp e.seq (map (λ x. (event_number x, x)) es)) (is_sorted nat_cmp (map (λ x. (event_number x, x)) es)) order in
+    let here = fit_parts (e ∷ es) e (all_member (fits_in (e ∷ es)) (e ∷ es) e fit (first_member e es)) in (
+      below_each e es o.0 (two_false (out_of_order e e) (list_any (out_of_order e) es) here.1).1,
+      rises es (fit_within (e ∷ es) es fit (λ q there. or_right (same_event q e) (member q es) there)) o.1,
+    )
+
+pub rising : (es : List Event) → is_fit es ≡ true → IsInOrder nat_cmp event_number es → IsRising es
+rising es fit order = is_rising es (rises es fit order)
