@@ -6,11 +6,11 @@ use Rattle.plant_model.specs.declared.reply.Reply.{Reply}
 use Rattle.plant_model.specs.declared.reply.Reply.TheVariants as reply
 use Rattle.plant_model.specs.declared.reply.Refused.{Refused}
 use Rattle.plant_model.specs.declared.reply.Refused.TheVariants.{NotAdministrator, NotGranted, RoleLacking}
-use Rattle.plant_report.specs.Texts.{shelf_text, standing_text, alarm_text, mine_text}
+use Rattle.plant_report.specs.Texts.{shelf_text, standing_text, alarm_text, flood_text, mine_text}
 use Rattle.plant_answer.specs.declared.responses.Media.{Media}
 use Rattle.plant_answer.specs.declared.responses.Media.TheVariants.{Json, Plain}
 use Rattle.plant_answer.specs.Response.{response}
-use Rattle.plant_answer.specs.Bodies.{done_body, status_body, units_body, refusal_body, fault_body}
+use Rattle.plant_answer.specs.Bodies.{done_body, imported_body, status_body, units_body, refusal_body, fault_body}
 
 -- who may not call at all is answered 403, any other refusal 409
 abbrev pub refusal_status : Refused → ℕ
@@ -24,16 +24,19 @@ abbrev pub reply_media : Reply → Media
 reply_media (reply.Shelves unit at lines) = Plain
 reply_media (reply.Standing unit at lines) = Plain
 reply_media (reply.Alarms unit at lines) = Plain
+reply_media (reply.Floods unit begin until lines) = Plain
 reply_media (reply.Mine person at lines) = Plain
 reply_media _ = Json
 
 abbrev pub reply_body : Reply → List ℕ
 reply_body reply.Done = done_body
+reply_body (reply.Imported fresh repeated) = imported_body fresh repeated
 reply_body (reply.Status row) = status_body row
 reply_body (reply.Units lines) = units_body lines
 reply_body (reply.Shelves unit at lines) = shelf_text unit at lines
 reply_body (reply.Standing unit at lines) = standing_text unit at lines
 reply_body (reply.Alarms unit at lines) = alarm_text unit at lines
+reply_body (reply.Floods unit begin until lines) = flood_text unit begin until lines
 reply_body (reply.Mine person at lines) = mine_text person at lines
 
 -- the bytes of an answer

@@ -1,16 +1,21 @@
 -- The bodies of answers.
 use Rattle.std.specs.Prelude.{ℕ, List, [], ◌++◌, map, Option, Some, None, codes, decimal}
 use Rattle.plant_types.specs.declared.fault.Fault.{Fault}
+use Rattle.plant_import.specs.declared.bad_file.BadFile.{BadFile}
 use Rattle.plant_model.specs.declared.reply.Refused.{Refused}
-use Rattle.plant_model.specs.declared.reply.Refused.TheVariants.{RoleLacking, MomentBehind, UnitFull, ShelvingTimeOutOfRange, ShelfQuota}
+use Rattle.plant_model.specs.declared.reply.Refused.TheVariants.{RoleLacking, MomentBehind, UnitFull, ShelvingTimeOutOfRange, BadFile as FileRefused, ShelfQuota}
 use Rattle.plant_model.specs.declared.reply.StatusRow.{StatusRow}
 use Rattle.plant_model.specs.declared.reply.UnitLine.{UnitLine}
 use Rattle.plant_report.specs.Moments.{moment_text}
 use Rattle.plant_answer.specs.Json.{quoted, truth, listed}
-use Rattle.plant_answer.specs.Names.{role_name, state_name, shelf_name, shelf_left, full_name, fault_name, refusal_name, refusal_no}
+use Rattle.plant_answer.specs.Names.{role_name, state_name, shelf_name, shelf_left, full_name, file_cause_name, fault_name, refusal_name, refusal_no}
 
 abbrev pub done_body : List ℕ
 done_body = codes "{\"done\":true}"
+
+-- how many rows of a file are new, and how many are repeated
+unfoldable pub imported_body : ℕ → ℕ → List ℕ
+imported_body fresh repeated = codes "{\"new\":" ++ decimal fresh ++ codes ",\"repeated\":" ++ decimal repeated ++ codes "}"
 
 unfoldable pub status_body : StatusRow → List ℕ
 status_body s =
@@ -35,12 +40,17 @@ unit_object l =
 unfoldable pub units_body : List UnitLine → List ℕ
 units_body lines = codes "{\"units\":" ++ listed (map unit_object lines) ++ codes "}"
 
+-- a file's first fault
+abbrev pub bad_file_object : BadFile → List ℕ
+bad_file_object fault = codes "{\"cause\":" ++ quoted (file_cause_name fault.cause) ++ codes ",\"line\":" ++ decimal fault.line ++ codes "}"
+
 -- the value that shows why a call is refused, where the refusal carries one
 abbrev pub refusal_value : Refused → Option (List ℕ)
 refusal_value (RoleLacking role) = Some (quoted (role_name role))
 refusal_value (MomentBehind last) = Some (quoted (moment_text last))
 refusal_value (UnitFull what) = Some (quoted (full_name what))
 refusal_value (ShelvingTimeOutOfRange max) = Some (decimal max)
+refusal_value (FileRefused fault) = Some (bad_file_object fault)
 refusal_value (ShelfQuota quota) = Some (decimal quota)
 refusal_value _ = None
 

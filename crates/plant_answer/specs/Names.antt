@@ -8,10 +8,12 @@ use Rattle.plant_alarm.specs.declared.summary.AlarmState.{AlarmState}
 use Rattle.plant_alarm.specs.declared.summary.AlarmState.TheVariants.{Normal, Unacknowledged, Acknowledged, ReturnedUnack, LatchedUnack, LatchedAck}
 use Rattle.plant_alarm.specs.declared.shelf.ShelfState.{ShelfState}
 use Rattle.plant_alarm.specs.declared.shelf.ShelfState.TheVariants.{Unshelved, TimedShelved, OneShotShelved}
+use Rattle.plant_import.specs.declared.bad_file.Cause.{Cause}
+use Rattle.plant_import.specs.declared.bad_file.Cause.TheVariants.{Header, FieldCount, NotUtf8, BadNumber, BadMoment, BadTag, BadEvent, TooLong, TagUnknown, MomentAhead, SequenceClash, MomentOutOfOrder}
 use Rattle.plant_model.specs.declared.reply.Full.{Full}
 use Rattle.plant_model.specs.declared.reply.Full.TheVariants as full
 use Rattle.plant_model.specs.declared.reply.Refused.{Refused}
-use Rattle.plant_model.specs.declared.reply.Refused.TheVariants.{NotAdministrator, UnitTaken, NotGranted, RoleLacking, MomentBehind, UnitFull, AlarmTaken, AlarmUnknown, ShelvingTimeOutOfRange, ConditionAlreadyShelved, ConditionNotShelved, AlreadyOutOfService, NotOutOfService, AlreadyHeld, NotHeld, LastSteward, ShelfQuota, EndNotAhead}
+use Rattle.plant_model.specs.declared.reply.Refused.TheVariants.{NotAdministrator, UnitTaken, NotGranted, RoleLacking, MomentBehind, UnitFull, AlarmTaken, AlarmUnknown, ShelvingTimeOutOfRange, ConditionAlreadyShelved, ConditionNotShelved, AlreadyOutOfService, NotOutOfService, AlreadyHeld, NotHeld, LastSteward, RangeNotAligned, BadFile, ShelfQuota, EndNotAhead}
 
 abbrev pub role_name : Role → List ℕ
 role_name Viewer = codes "Viewer"
@@ -45,6 +47,22 @@ shelf_left (OneShotShelved seconds) = seconds
 abbrev pub full_name : Full → List ℕ
 full_name full.Alarms = codes "Alarms"
 full_name full.Grants = codes "Grants"
+full_name full.Events = codes "Events"
+
+-- why a row of a file is faulty
+abbrev pub file_cause_name : Cause → List ℕ
+file_cause_name Header = codes "Header"
+file_cause_name FieldCount = codes "FieldCount"
+file_cause_name NotUtf8 = codes "NotUtf8"
+file_cause_name BadNumber = codes "BadNumber"
+file_cause_name BadMoment = codes "BadMoment"
+file_cause_name BadTag = codes "BadTag"
+file_cause_name BadEvent = codes "BadEvent"
+file_cause_name TooLong = codes "TooLong"
+file_cause_name TagUnknown = codes "TagUnknown"
+file_cause_name MomentAhead = codes "MomentAhead"
+file_cause_name SequenceClash = codes "SequenceClash"
+file_cause_name MomentOutOfOrder = codes "MomentOutOfOrder"
 
 abbrev pub fault_name : Fault → List ℕ
 fault_name fault.Memory = codes "Memory"
@@ -67,6 +85,8 @@ refusal_name NotOutOfService = codes "NotOutOfService"
 refusal_name AlreadyHeld = codes "AlreadyHeld"
 refusal_name NotHeld = codes "NotHeld"
 refusal_name LastSteward = codes "LastSteward"
+refusal_name RangeNotAligned = codes "RangeNotAligned"
+refusal_name (BadFile fault) = codes "BadFile"
 refusal_name (ShelfQuota quota) = codes "ShelfQuota"
 refusal_name EndNotAhead = codes "EndNotAhead"
 
@@ -87,5 +107,7 @@ refusal_no NotOutOfService = 13
 refusal_no AlreadyHeld = 14
 refusal_no NotHeld = 15
 refusal_no LastSteward = 16
+refusal_no RangeNotAligned = 25
+refusal_no (BadFile fault) = 26
 refusal_no (ShelfQuota quota) = 27
 refusal_no EndNotAhead = 28

@@ -12,6 +12,19 @@ use plant_model::{StatusRow, UnitLine};
 use plant_types::{Fault, Role};
 use std::alloc::Global;
 
+/// The body of a reply to Import.
+#[tactic(auto, unfolding(crate::specs::Bodies::imported_body))]
+pub fn imported_body(alloc: Global, fresh: u32, repeated: u64) -> Result<Vec<u8>, Fault>
+    ensures value { IfOk result (λ out. out.items ≡ spec.imported_body fresh repeated) }
+    ensures err { IfErr result (λ e. e ≡ Memory) }
+{
+    let mut out = Vec::new(alloc);
+    push_number(&mut out, b"{\"new\":", u64::from(fresh))?;
+    push_number(&mut out, b",\"repeated\":", repeated)?;
+    out.push(b'}')?;
+    Ok(out)
+}
+
 /// The body of a reply to Status.
 #[tactic(auto, unfolding(crate::specs::Bodies::status_body))]
 pub fn status_body(alloc: Global, row: &StatusRow) -> Result<Vec<u8>, Fault>

@@ -2,6 +2,7 @@ ghost use Rattle.std.specs.Prelude.{◌≡◌};
 ghost use Rattle.plant_answer.specs.Names as spec;
 
 use plant_alarm::{AlarmState, ShelfState};
+use plant_import::Cause;
 use plant_model::Full;
 use plant_types::{Fault, Role};
 
@@ -62,6 +63,27 @@ pub fn full_name(full: Full) -> &'static [u8]
     match full {
         Full::Alarms => b"Alarms",
         Full::Grants => b"Grants",
+        Full::Events => b"Events",
+    }
+}
+
+/// The name of why a row of a file is faulty.
+pub fn file_cause_name(cause: Cause) -> &'static [u8]
+    ensures { result.now ≡ spec.file_cause_name cause }
+{
+    match cause {
+        Cause::Header => b"Header",
+        Cause::FieldCount => b"FieldCount",
+        Cause::NotUtf8 => b"NotUtf8",
+        Cause::BadNumber => b"BadNumber",
+        Cause::BadMoment => b"BadMoment",
+        Cause::BadTag => b"BadTag",
+        Cause::BadEvent => b"BadEvent",
+        Cause::TooLong => b"TooLong",
+        Cause::TagUnknown => b"TagUnknown",
+        Cause::MomentAhead => b"MomentAhead",
+        Cause::SequenceClash => b"SequenceClash",
+        Cause::MomentOutOfOrder => b"MomentOutOfOrder",
     }
 }
 

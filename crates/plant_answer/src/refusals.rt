@@ -1,13 +1,14 @@
-ghost use Rattle.std.specs.Prelude.{◌≡◌, ◌++◌, IfOk, IfErr, OnOk};
+ghost use Rattle.std.specs.Prelude.{◌≡◌, ◌++◌, Some, IfOk, IfErr, OnOk};
 ghost use Rattle.plant_types.specs.declared.fault.Fault.TheVariants.{Memory};
 ghost use Rattle.plant_answer.specs.Names as spec;
 ghost use Rattle.plant_answer.specs.Answers as answers;
 ghost use Rattle.plant_answer.specs.Bodies as bodies;
-ghost use Rattle.plant_answer.specs.Bodies.{refusal_value, value_member};
+ghost use Rattle.plant_answer.specs.Bodies.{bad_file_object, refusal_value, value_member};
 
 use crate::json::{push_number, push_string};
-use crate::names::{full_name, role_name};
+use crate::names::{file_cause_name, full_name, role_name};
 use http::StatusCode;
+use plant_import::BadFile;
 use plant_model::Refused;
 use plant_report::write_moment;
 use plant_types::Fault;
@@ -34,6 +35,8 @@ fn name_of(refused: &Refused) -> &'static [u8]
         Refused::AlreadyHeld => b"AlreadyHeld",
         Refused::NotHeld => b"NotHeld",
         Refused::LastSteward => b"LastSteward",
+        Refused::RangeNotAligned => b"RangeNotAligned",
+        Refused::BadFile(_) => b"BadFile",
         Refused::ShelfQuota(_) => b"ShelfQuota",
         Refused::EndNotAhead => b"EndNotAhead",
     }
@@ -60,6 +63,8 @@ fn number_of(refused: &Refused) -> u64
         Refused::AlreadyHeld => 14,
         Refused::NotHeld => 15,
         Refused::LastSteward => 16,
+        Refused::RangeNotAligned => 25,
+        Refused::BadFile(_) => 26,
         Refused::ShelfQuota(_) => 27,
         Refused::EndNotAhead => 28,
     }
@@ -77,6 +82,16 @@ pub fn status_of(refused: &Refused) -> StatusCode
     }
 }
 
+/// Adds the member `value` of a file's fault: its cause and its line.
+fn push_bad_file(out: &mut Vec<u8>, fault: &BadFile) -> Result<(), Fault>
+    ensures value { OnOk result (out.new.items ≡ out.old.items ++ value_member (Some (bad_file_object fault.now))) }
+    ensures err { IfErr result (λ e. e ≡ Memory) }
+{
+    push_string(out, b",\"value\":{\"cause\":", file_cause_name(fault.cause))?;
+    push_number(out, b",\"line\":", fault.line)?;
+    Ok(out.push(b'}')?)
+}
+
 /// Adds the member `value`, where the refusal carries a value.
 fn push_value(out: &mut Vec<u8>, refused: &Refused) -> Result<(), Fault>
     ensures value { OnOk result (out.new.items ≡ out.old.items ++ value_member (refusal_value refused.now)) }
@@ -87,6 +102,7 @@ fn push_value(out: &mut Vec<u8>, refused: &Refused) -> Result<(), Fault>
         Refused::MomentBehind(last) => push_string(out, b",\"value\":", &write_moment(*last)),
         Refused::UnitFull(what) => push_string(out, b",\"value\":", full_name(*what)),
         Refused::ShelvingTimeOutOfRange(max) => push_number(out, b",\"value\":", max.get()),
+        Refused::BadFile(fault) => push_bad_file(out, fault),
         Refused::ShelfQuota(quota) => push_number(out, b",\"value\":", quota.get()),
         _ => Ok(()),
     }

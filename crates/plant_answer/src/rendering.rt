@@ -3,12 +3,12 @@ ghost use Rattle.plant_types.specs.declared.fault.Fault.TheVariants.{Memory};
 ghost use Rattle.plant_answer.specs.Response as spec;
 ghost use Rattle.plant_answer.specs.Answers.{text_of, reply_media, reply_body};
 
-use crate::bodies::{fault_body, status_body, units_body};
+use crate::bodies::{fault_body, imported_body, status_body, units_body};
 use crate::refusals::{refusal_body, status_of};
 use crate::responses::{Media, response};
 use http::StatusCode;
 use plant_model::{Answer, Reply};
-use plant_report::{alarm_text, mine_text, shelf_text, standing_text};
+use plant_report::{alarm_text, flood_text, mine_text, shelf_text, standing_text};
 use plant_types::Fault;
 use std::alloc::Global;
 
@@ -19,6 +19,7 @@ fn media_of(reply: &Reply) -> Media
         Reply::Shelves { .. }
         | Reply::Standing { .. }
         | Reply::Alarms { .. }
+        | Reply::Floods { .. }
         | Reply::Mine { .. } => Media::Plain,
         _ => Media::Json,
     }
@@ -30,11 +31,18 @@ fn reply_body(alloc: Global, reply: &Reply) -> Result<Vec<u8>, Fault>
 {
     match reply {
         Reply::Done => Ok(Vec::from_slice(alloc, b"{\"done\":true}")?),
+        Reply::Imported { fresh, repeated } => imported_body(alloc, *fresh, *repeated),
         Reply::Status(row) => status_body(alloc, row),
         Reply::Units(lines) => units_body(alloc, lines.as_slice()),
         Reply::Shelves { unit, at, lines } => shelf_text(alloc, unit, *at, lines.as_slice()),
         Reply::Standing { unit, at, lines } => standing_text(alloc, unit, *at, lines.as_slice()),
         Reply::Alarms { unit, at, lines } => alarm_text(alloc, unit, *at, lines.as_slice()),
+        Reply::Floods {
+            unit,
+            begin,
+            until,
+            lines,
+        } => flood_text(alloc, unit, *begin, *until, lines.as_slice()),
         Reply::Mine { person, at, lines } => mine_text(alloc, person, *at, lines.as_slice()),
     }
 }

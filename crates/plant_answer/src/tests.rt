@@ -1,6 +1,7 @@
 use super::*;
 use plant_alarm::{AlarmState, ShelfState};
-use plant_model::{Answer, Full, Refused, Reply, ShelfLine, StatusRow, UnitLine};
+use plant_import::{BadFile, Cause};
+use plant_model::{Answer, FloodLine, Full, Refused, Reply, ShelfLine, StatusRow, UnitLine};
 use plant_types::{Fault, Moment, Person, Quota, Role, Seconds, Table, Tag, UnitCode, Words};
 use std::alloc::Global;
 use std::process::Abort;
@@ -155,6 +156,13 @@ fn renders_refusals(rt: HostRuntime) -> Result<(), Fail> {
     is_refused(
         &rt,
         alloc,
+        Refused::RangeNotAligned,
+        b"409 Conflict",
+        b"{\"name\":\"RangeNotAligned\",\"refused\":25}",
+    )?;
+    is_refused(
+        &rt,
+        alloc,
         Refused::ShelfQuota(quota),
         b"409 Conflict",
         b"{\"name\":\"ShelfQuota\",\"refused\":27,\"value\":2}",
@@ -165,6 +173,55 @@ fn renders_refusals(rt: HostRuntime) -> Result<(), Fail> {
         Refused::EndNotAhead,
         b"409 Conflict",
         b"{\"name\":\"EndNotAhead\",\"refused\":28}",
+    )
+}
+
+#[test]
+fn renders_refused_files(rt: HostRuntime) -> Result<(), Fail> {
+    let alloc = rt.alloc();
+    is_refused(
+        &rt,
+        alloc,
+        Refused::UnitFull(Full::Events),
+        b"409 Conflict",
+        b"{\"name\":\"UnitFull\",\"refused\":6,\"value\":\"Events\"}",
+    )?;
+    let clash = BadFile {
+        line: 3,
+        cause: Cause::SequenceClash,
+    };
+    is_refused(
+        &rt,
+        alloc,
+        Refused::BadFile(clash),
+        b"409 Conflict",
+        b"{\"name\":\"BadFile\",\"refused\":26,\"value\":{\"cause\":\"SequenceClash\",\"line\":3}}",
+    )?;
+    let long = BadFile {
+        line: 10002,
+        cause: Cause::TooLong,
+    };
+    is_refused(
+        &rt,
+        alloc,
+        Refused::BadFile(long),
+        b"409 Conflict",
+        b"{\"name\":\"BadFile\",\"refused\":26,\"value\":{\"cause\":\"TooLong\",\"line\":10002}}",
+    )
+}
+
+#[test]
+fn renders_an_import(rt: HostRuntime) -> Result<(), Fail> {
+    let reply = Reply::Imported {
+        fresh: 3,
+        repeated: 0,
+    };
+    is_json(
+        &rt,
+        rt.alloc(),
+        &Answer::Reply(reply),
+        b"200 OK",
+        b"{\"new\":3,\"repeated\":0}",
     )
 }
 
@@ -259,6 +316,30 @@ fn renders_shelves_as_text(rt: HostRuntime) -> Result<(), Fail> {
     assert_eq!(rt;
         text.as_slice(),
         b"HTTP/1.1 200 OK\r\nContent-Type: text/plain\r\nContent-Length: 148\r\n\r\nSHELVES U1 AT 2026-03-01T10:59:59Z COUNT 1\nPT-101                   timed    2026-03-01T10:00:00Z      1 ann                              pump test\n".as_slice()
+    );
+    Ok(())
+}
+
+#[test]
+fn renders_floods_as_text(rt: HostRuntime) -> Result<(), Fail> {
+    let alloc = rt.alloc();
+    let mut lines = Table::new(alloc);
+    lines.push(FloodLine {
+        start: moment(b"2026-03-01T10:00:00Z")?,
+        until: moment(b"2026-03-01T10:20:00Z")?,
+        total: 16,
+        peak: 11,
+    })?;
+    let answer = Answer::Reply(Reply::Floods {
+        unit: unit(alloc)?,
+        begin: moment(b"2026-03-01T10:00:00Z")?,
+        until: moment(b"2026-03-01T10:50:00Z")?,
+        lines,
+    });
+    let text = render(alloc, &answer)?;
+    assert_eq!(rt;
+        text.as_slice(),
+        b"HTTP/1.1 200 OK\r\nContent-Type: text/plain\r\nContent-Length: 124\r\n\r\nFLOODS U1 FROM 2026-03-01T10:00:00Z TO 2026-03-01T10:50:00Z COUNT 1\n2026-03-01T10:00:00Z 2026-03-01T10:20:00Z     16     11\n".as_slice()
     );
     Ok(())
 }

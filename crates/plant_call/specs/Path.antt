@@ -2,6 +2,7 @@
 use Rattle.std.specs.Prelude.{ℕ, zero, suc, List, [], ◌∷◌, ◌==◌, if◌then◌else◌, Result}
 use Rattle.std.specs.Option.{ok_or}
 use Rattle.plant_types.specs.Text.{unit_code_of, tag_of}
+use Rattle.plant_types.specs.Moment.{moment_of}
 use Rattle.plant_call.specs.declared.causes.Cause.{Cause}
 use Rattle.plant_call.specs.declared.causes.Cause.TheVariants.{BadPath}
 
@@ -31,3 +32,13 @@ unit_in path = ok_or (unit_code_of (segment 2 path)) BadPath
 -- /units/{unit}/alarms/{tag}
 abbrev pub tag_in : List ℕ → Result (List ℕ) Cause
 tag_in path = ok_or (tag_of (segment 4 path)) BadPath
+
+-- /units/{unit}/floods/{begin}/{until}
+abbrev pub moment_at : ℕ → List ℕ → Result ℕ Cause
+moment_at n path = ok_or (moment_of (segment n path)) BadPath
+
+abbrev pub begin_in : List ℕ → Result ℕ Cause
+begin_in path = moment_at 4 path
+
+abbrev pub until_in : List ℕ → Result ℕ Cause
+until_in path = moment_at 5 path

@@ -3,6 +3,7 @@ use Rattle.std.specs.Prelude.{ℕ, List, [], ◌∷◌, codes, Result, Ok, Err}
 use Rattle.std.specs.Option.{ok_or}
 use Rattle.plant_types.specs.Text.{person_of}
 use Rattle.plant_types.specs.Moment.{moment_of}
+use Rattle.plant_import.specs.Reading.{file_read}
 use Rattle.plant_model.specs.declared.call.Request.{Request}
 use Rattle.plant_model.specs.declared.call.Request.TheVariants as request
 use Rattle.plant_model.specs.declared.call.Call.{Call}
@@ -12,7 +13,7 @@ use Rattle.plant_route.specs.Routes.{route_of}
 use Rattle.plant_body.specs.Bodies.{read_by, opening_in, granting_in, withdrawal_in, registration_in, timed_shelving_in, reason_in}
 use Rattle.plant_head.specs.Fields.{NameValue, values_named}
 use Rattle.plant_call.specs.Causes.{of_body, ◌>>=◌}
-use Rattle.plant_call.specs.Path.{unit_in, tag_in}
+use Rattle.plant_call.specs.Path.{unit_in, tag_in, begin_in, until_in}
 use Rattle.plant_call.specs.declared.causes.Cause.{Cause}
 use Rattle.plant_call.specs.declared.causes.Cause.TheVariants.{NoRoute, BadPerson, BadMoment}
 
@@ -46,6 +47,9 @@ request_in route.Register path body = do
   unit ← unit_in path
   registration ← of_body (read_by registration_in body)
   Ok (request.Register unit registration.tag registration.latching registration.max)
+request_in route.Import path body = do
+  unit ← unit_in path
+  Ok (request.Import unit (file_read body))
 request_in route.TimedShelve path body = do
   unit ← unit_in path
   tag ← tag_in path
@@ -73,15 +77,20 @@ request_in route.Status path body = do
   unit ← unit_in path
   tag ← tag_in path
   Ok (request.Status unit tag)
-request_in route.Shelves path body = do
-  unit ← unit_in path
-  Ok (request.Shelves unit)
 request_in route.Alarms path body = do
   unit ← unit_in path
   Ok (request.Alarms unit)
+request_in route.Shelves path body = do
+  unit ← unit_in path
+  Ok (request.Shelves unit)
 request_in route.Standing path body = do
   unit ← unit_in path
   Ok (request.Standing unit)
+request_in route.Floods path body = do
+  unit ← unit_in path
+  begin ← begin_in path
+  until ← until_in path
+  Ok (request.Floods unit begin until)
 request_in route.MyUnits path body = Ok request.MyUnits
 request_in route.MyShelves path body = Ok request.MyShelves
 

@@ -1,9 +1,9 @@
 ghost use Rattle.std.specs.Prelude.{◌≡◌};
 ghost use Rattle.plant_call.specs.Causes.{Gives};
-ghost use Rattle.plant_call.specs.Path.{until_slash, after_slash, after_slashes, segment, unit_in, tag_in};
+ghost use Rattle.plant_call.specs.Path.{until_slash, after_slash, after_slashes, segment, unit_in, tag_in, moment_at, begin_in, until_in};
 
 use crate::causes::{CallError, Cause};
-use plant_types::{Tag, UnitCode};
+use plant_types::{Moment, Tag, UnitCode};
 use std::alloc::Global;
 
 /// The bytes before the first slash, and those after it.
@@ -47,4 +47,27 @@ pub(crate) fn tag_in(alloc: Global, path: &[u8]) -> Result<Tag, CallError>
         Some(tag) => Ok(tag),
         None => Err(CallError::Because(Cause::BadPath)),
     }
+}
+
+fn moment_at(path: &[u8], n: usize) -> Result<Moment, CallError>
+    ensures { Gives result (moment_at n path.now) }
+{
+    match Moment::read(segment(path, n)) {
+        Some(moment) => Ok(moment),
+        None => Err(CallError::Because(Cause::BadPath)),
+    }
+}
+
+/// The moment with which the range begins that the path names.
+pub(crate) fn begin_in(path: &[u8]) -> Result<Moment, CallError>
+    ensures { Gives result (begin_in path.now) }
+{
+    moment_at(path, 4)
+}
+
+/// The moment before which the range ends that the path names.
+pub(crate) fn until_in(path: &[u8]) -> Result<Moment, CallError>
+    ensures { Gives result (until_in path.now) }
+{
+    moment_at(path, 5)
 }

@@ -12,13 +12,14 @@ ghost use Rattle.plant_call.specs.Reading.{person_said, moment_said, request_in,
 ghost use Rattle.std.specs.Prelude.{Result};
 
 use crate::causes::{CallError, Cause, body_error};
-use crate::path::{tag_in, unit_in};
+use crate::path::{begin_in, tag_in, unit_in, until_in};
 use httparse::spans::HeaderSpan;
 use plant_body::{
     BodyError, Granting, Opening, Registration, TimedShelving, Withdrawal, read_granting,
     read_opening, read_reason, read_registration, read_timed_shelving, read_withdrawal,
 };
 use plant_head::{Lookup, field};
+use plant_import::read_file;
 use plant_model::{Call, Request};
 use plant_route::{Route, Routes};
 use plant_types::{Moment, Person};
@@ -114,6 +115,16 @@ fn register(alloc: Global, path: &[u8], body: &[u8]) -> Result<Request, CallErro
     })
 }
 
+/// The body is a file; one with a fault is brought as well, and the office tells the fault.
+#[tactic(auto, unfolding(crate::specs::Reading::request_in))]
+fn import(alloc: Global, path: &[u8], body: &[u8]) -> Result<Request, CallError>
+    ensures { Gives result (request_in route.Import path.now body.now) }
+{
+    let unit = unit_in(alloc, path)?;
+    let file = read_file(alloc, body)?;
+    Ok(Request::Import { unit, file })
+}
+
 #[tactic(auto, unfolding(crate::specs::Reading::request_in))]
 fn timed_shelve(alloc: Global, path: &[u8], body: &[u8]) -> Result<Request, CallError>
     ensures { Gives result (request_in route.TimedShelve path.now body.now) }
@@ -158,6 +169,7 @@ fn request_in(alloc: Global, route: Route, path: &[u8], body: &[u8]) -> Result<R
         Route::Grant => grant(alloc, path, body),
         Route::Withdraw => withdraw(alloc, path, body),
         Route::Register => register(alloc, path, body),
+        Route::Import => import(alloc, path, body),
         Route::TimedShelve => timed_shelve(alloc, path, body),
         Route::OneShotShelve => one_shot_shelve(alloc, path, body),
         Route::Unshelve => Ok(Request::Unshelve {
@@ -173,14 +185,19 @@ fn request_in(alloc: Global, route: Route, path: &[u8], body: &[u8]) -> Result<R
             unit: unit_in(alloc, path)?,
             tag: tag_in(alloc, path)?,
         }),
-        Route::Shelves => Ok(Request::Shelves {
+        Route::Alarms => Ok(Request::Alarms {
             unit: unit_in(alloc, path)?,
         }),
-        Route::Alarms => Ok(Request::Alarms {
+        Route::Shelves => Ok(Request::Shelves {
             unit: unit_in(alloc, path)?,
         }),
         Route::Standing => Ok(Request::Standing {
             unit: unit_in(alloc, path)?,
+        }),
+        Route::Floods => Ok(Request::Floods {
+            unit: unit_in(alloc, path)?,
+            begin: begin_in(path)?,
+            until: until_in(path)?,
         }),
         Route::MyUnits => Ok(Request::MyUnits),
         Route::MyShelves => Ok(Request::MyShelves),

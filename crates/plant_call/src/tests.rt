@@ -1,4 +1,5 @@
 use super::*;
+use plant_import::{BadFile, Cause as FileCause};
 use plant_model::{Call, Request};
 use std::alloc::Global;
 use std::test::Fail;
@@ -145,6 +146,69 @@ fn reads_each_request(rt: HostRuntime) -> Result<(), Fail> {
     assert!(rt;
         matches!(next_call(alloc, bytes), Cut::Call(call, _) if matches!(&call.request, Request::MyUnits))
     );
+    Ok(())
+}
+
+/// The request of these bytes, where they are one call.
+fn asked(alloc: Global, bytes: &[u8]) -> Result<Request, Fail> {
+    match next_call(alloc, bytes) {
+        Cut::Call(call, n) if n == bytes.len() => Ok(call.request),
+        _ => Err(Fail::new("no call")),
+    }
+}
+
+/// A file with a fault is a call too.
+#[test]
+fn reads_imports(rt: HostRuntime) -> Result<(), Fail> {
+    let alloc = rt.alloc();
+    let no_kind = BadFile {
+        line: 2,
+        cause: FileCause::BadEvent,
+    };
+    let no_header = BadFile {
+        line: 1,
+        cause: FileCause::Header,
+    };
+    let files: [(&[u8], Result<usize, BadFile>); 4] = [
+        (
+            b"seq,moment,tag,event\n1,2026-03-01T09:00:00Z,PT-101,ACT\n",
+            Ok(1),
+        ),
+        (b"seq,moment,tag,event", Ok(0)),
+        (
+            b"seq,moment,tag,event\n1,2026-03-01T09:00:00Z,PT-101,act\n",
+            Err(no_kind),
+        ),
+        (b"", Err(no_header)),
+    ];
+    for (body, wanted) in files.iter() {
+        let bytes = posted(alloc, b"/units/U1/imports", body)?;
+        let Request::Import { unit, file } = asked(alloc, &bytes)? else {
+            return Err(Fail::new("no import"));
+        };
+        assert_eq!(rt; unit.as_bytes(), b"U1".as_slice());
+        assert_eq!(rt; file.map(|rows| rows.len()), *wanted);
+    }
+    Ok(())
+}
+
+#[test]
+fn reads_floods(rt: HostRuntime) -> Result<(), Fail> {
+    let alloc = rt.alloc();
+    let bytes =
+        b"GET /units/U1/floods/2026-03-01T10:00:00Z/2026-03-01T10:50:00Z HTTP/1.0\nX-Person:ann\nX-Moment:2026-03-01T08:00:00Z\n\n";
+    let Request::Floods { unit, begin, until } = asked(alloc, bytes)? else {
+        return Err(Fail::new("no floods"));
+    };
+    assert_eq!(rt; unit.as_bytes(), b"U1".as_slice());
+    assert_eq!(rt; begin.seconds(), 825_674_400);
+    assert_eq!(rt; until.seconds(), 825_677_400);
+    let begins =
+        b"GET /units/U1/floods/2026-03-01/2026-03-01T10:50:00Z HTTP/1.0\nX-Person:ann\nX-Moment:2026-03-01T08:00:00Z\n\n";
+    assert!(rt; malformed(alloc, begins) == Some(Cause::BadPath));
+    let ends =
+        b"GET /units/U1/floods/2026-03-01T10:00:00Z/2100-01-01T00:00:00Z HTTP/1.0\nX-Person:ann\nX-Moment:2026-03-01T08:00:00Z\n\n";
+    assert!(rt; malformed(alloc, ends) == Some(Cause::BadPath));
     Ok(())
 }
 

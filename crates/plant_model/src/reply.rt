@@ -97,7 +97,7 @@ pub struct AlarmLine {
 
 /// A flood of alarms: from the start of its first period to the end of its last, the sum of their activations and the
 /// greatest number in one.
-#[derive(Drop)]
+#[derive(Clone, Copy, Debug, PartialEq, Eq)]
 pub struct FloodLine {
     pub start: Moment,
     pub until: Moment,

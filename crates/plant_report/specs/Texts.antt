@@ -9,7 +9,7 @@ use Rattle.plant_ration.specs.declared.cell.Cell.TheVariants.{P1, P2, P3, P4, N}
 use Rattle.plant_model.specs.declared.reply.ShelfLine.{ShelfLine}
 use Rattle.plant_model.specs.declared.reply.StandingLine.{StandingLine}
 use Rattle.plant_model.specs.declared.reply.AlarmLine.{AlarmLine}
-use Rattle.plant_report.specs.declared.lines.FloodLine.{FloodLine}
+use Rattle.plant_model.specs.declared.reply.FloodLine.{FloodLine}
 use Rattle.plant_model.specs.declared.reply.MineLine.{MineLine}
 use Rattle.plant_report.specs.Columns.{left, right, line}
 use Rattle.plant_report.specs.Moments.{moment_text}

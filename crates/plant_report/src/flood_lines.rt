@@ -4,9 +4,9 @@ ghost use Rattle.plant_report.specs.Columns.{line as line_of};
 ghost use Rattle.plant_report.specs.Texts as texts;
 ghost use Rattle.plant_report.specs.Texts.{flood_columns, flood_heading};
 
-use crate::FloodLine;
 use crate::columns::{push_column, push_last, push_last_right, push_moment, push_right};
 use itoa::Buffer;
+use plant_model::FloodLine;
 use plant_types::{Fault, Moment, UnitCode};
 use std::alloc::Global;
 

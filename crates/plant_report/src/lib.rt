@@ -5,13 +5,11 @@ mod alarms;
 mod columns;
 mod flood_lines;
 mod heading;
-mod lines;
 mod moments;
 mod shelves;
 
 pub use alarms::{alarm_text, standing_text};
 pub use flood_lines::flood_text;
-pub use lines::FloodLine;
 pub use moments::write as write_moment;
 pub use plant_floods::{Run, floods};
 pub use shelves::{mine_text, shelf_text};

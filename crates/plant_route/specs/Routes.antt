@@ -10,7 +10,7 @@ use Rattle.matchit.specs.Route.{Scan, parse_route}
 use Rattle.matchit.specs.Router.{RouteOf, route_from}
 use Rattle.matchit.specs.declared.error.InsertError.{InsertError}
 use Rattle.plant_route.specs.declared.routes.Route.{Route}
-use Rattle.plant_route.specs.declared.routes.Route.TheVariants.{OpenUnit, Grant, Withdraw, Register, TimedShelve, OneShotShelve, Unshelve, RemoveFromService, PlaceInService, Status, Shelves, Alarms, Standing, MyUnits, MyShelves}
+use Rattle.plant_route.specs.declared.routes.Route.TheVariants.{OpenUnit, Grant, Withdraw, Register, Import, TimedShelve, OneShotShelve, Unshelve, RemoveFromService, PlaceInService, Status, Alarms, Shelves, Standing, Floods, MyUnits, MyShelves}
 
 abbrev pub Rows : Type 0
 Rows = RowsOf (RouteOf Route)
@@ -28,13 +28,14 @@ abbrev pub with_routes : List (List ℕ × Route) → Rows → Rows
 with_routes [] rows = rows
 with_routes (r ∷ rs) rows = with_routes rs (insert rows r.0 r.1)
 
--- POST: a unit, its grants and its alarms
+-- POST: a unit, its grants, its alarms and its events
 unfoldable pub unit_posts : List (List ℕ × Route)
 unit_posts =
     (codes "/units/{unit}", OpenUnit)
     ∷ (codes "/units/{unit}/grants", Grant)
     ∷ (codes "/units/{unit}/withdrawals", Withdraw)
     ∷ (codes "/units/{unit}/alarms", Register)
+    ∷ (codes "/units/{unit}/imports", Import)
     ∷ []
 
 -- POST: an alarm's shelf
@@ -52,19 +53,20 @@ service_posts =
     ∷ (codes "/units/{unit}/alarms/{tag}/place-in-service", PlaceInService)
     ∷ []
 
--- GET: an alarm, a unit's shelves, and the caller's units
-unfoldable pub gets : List (List ℕ × Route)
-gets =
+-- GET: an alarm, and what a unit lists
+unfoldable pub unit_gets : List (List ℕ × Route)
+unit_gets =
     (codes "/units/{unit}/alarms/{tag}", Status)
+    ∷ (codes "/units/{unit}/alarms", Alarms)
     ∷ (codes "/units/{unit}/shelves", Shelves)
-    ∷ (codes "/units", MyUnits)
+    ∷ (codes "/units/{unit}/standing", Standing)
+    ∷ (codes "/units/{unit}/floods/{begin}/{until}", Floods)
     ∷ []
 
--- GET: a unit's alarms, and the shelves of the caller's units
-unfoldable pub lists : List (List ℕ × Route)
-lists =
-    (codes "/units/{unit}/alarms", Alarms)
-    ∷ (codes "/units/{unit}/standing", Standing)
+-- GET: the caller's units, and their shelves
+unfoldable pub own_gets : List (List ℕ × Route)
+own_gets =
+    (codes "/units", MyUnits)
     ∷ (codes "/shelves", MyShelves)
     ∷ []
 
@@ -74,7 +76,7 @@ post_rows = with_routes service_posts (with_routes alarm_posts (with_routes unit
 
 -- the routes of GET
 unfoldable pub get_rows : Rows
-get_rows = with_routes lists (with_routes gets [])
+get_rows = with_routes own_gets (with_routes unit_gets [])
 
 abbrev pub route_in : Rows → List ℕ → Option Route
 route_in rows path = option_map (λ found. found.value) (first rows path)

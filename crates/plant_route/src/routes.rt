@@ -1,7 +1,7 @@
 ghost use Rattle.std.specs.Prelude.{◌≡◌, IfOk, IfErr, OnOk, IsTrue};
 ghost use Rattle.std.specs.List.{list_all};
 ghost use Rattle.plant_types.specs.declared.fault.Fault.TheVariants.{Memory};
-ghost use Rattle.plant_route.specs.Routes.{insert, unit_posts, alarm_posts, service_posts, gets, lists, post_rows, get_rows, with_routes, route_in, route_of, is_path_byte, is_path};
+ghost use Rattle.plant_route.specs.Routes.{insert, unit_posts, alarm_posts, service_posts, unit_gets, own_gets, post_rows, get_rows, with_routes, route_in, route_of, is_path_byte, is_path};
 
 use matchit::Router;
 use plant_types::Fault;
@@ -14,15 +14,17 @@ pub enum Route {
     Grant,
     Withdraw,
     Register,
+    Import,
     TimedShelve,
     OneShotShelve,
     Unshelve,
     RemoveFromService,
     PlaceInService,
     Status,
-    Shelves,
     Alarms,
+    Shelves,
     Standing,
+    Floods,
     MyUnits,
     MyShelves,
 }
@@ -47,6 +49,7 @@ fn add_unit_posts(router: &mut Router<Route>) -> Result<(), Fault>
     add(router, "/units/{unit}/grants", Route::Grant)?;
     add(router, "/units/{unit}/withdrawals", Route::Withdraw)?;
     add(router, "/units/{unit}/alarms", Route::Register)?;
+    add(router, "/units/{unit}/imports", Route::Import)?;
     Ok(())
 }
 
@@ -91,25 +94,30 @@ fn add_service_posts(router: &mut Router<Route>) -> Result<(), Fault>
     Ok(())
 }
 
-#[tactic(auto, unfolding(crate::specs::Routes::lists))]
-fn add_lists(router: &mut Router<Route>) -> Result<(), Fault>
-    ensures ok { OnOk result (router.new ≡ with_routes lists router.old) }
-    ensures err { IfErr result (λ e. e ≡ Memory) }
-{
-    add(router, "/units/{unit}/alarms", Route::Alarms)?;
-    add(router, "/units/{unit}/standing", Route::Standing)?;
-    add(router, "/shelves", Route::MyShelves)?;
-    Ok(())
-}
-
-#[tactic(auto, unfolding(crate::specs::Routes::gets))]
-fn add_gets(router: &mut Router<Route>) -> Result<(), Fault>
-    ensures ok { OnOk result (router.new ≡ with_routes gets router.old) }
+#[tactic(auto, unfolding(crate::specs::Routes::unit_gets))]
+fn add_unit_gets(router: &mut Router<Route>) -> Result<(), Fault>
+    ensures ok { OnOk result (router.new ≡ with_routes unit_gets router.old) }
     ensures err { IfErr result (λ e. e ≡ Memory) }
 {
     add(router, "/units/{unit}/alarms/{tag}", Route::Status)?;
+    add(router, "/units/{unit}/alarms", Route::Alarms)?;
     add(router, "/units/{unit}/shelves", Route::Shelves)?;
+    add(router, "/units/{unit}/standing", Route::Standing)?;
+    add(
+        router,
+        "/units/{unit}/floods/{begin}/{until}",
+        Route::Floods,
+    )?;
+    Ok(())
+}
+
+#[tactic(auto, unfolding(crate::specs::Routes::own_gets))]
+fn add_own_gets(router: &mut Router<Route>) -> Result<(), Fault>
+    ensures ok { OnOk result (router.new ≡ with_routes own_gets router.old) }
+    ensures err { IfErr result (λ e. e ≡ Memory) }
+{
     add(router, "/units", Route::MyUnits)?;
+    add(router, "/shelves", Route::MyShelves)?;
     Ok(())
 }
 
@@ -131,8 +139,8 @@ fn get_routes(alloc: Global) -> Result<Router<Route>, Fault>
     ensures err { IfErr result (λ e. e ≡ Memory) }
 {
     let mut router = Router::new(alloc);
-    add_gets(&mut router)?;
-    add_lists(&mut router)?;
+    add_unit_gets(&mut router)?;
+    add_own_gets(&mut router)?;
     Ok(router)
 }
 

@@ -1,11 +1,12 @@
 use super::*;
 use std::test::Fail;
 
-const TABLE: [(&[u8], &[u8], Route); 15] = [
+const TABLE: [(&[u8], &[u8], Route); 17] = [
     (b"POST", b"/units/U1", Route::OpenUnit),
     (b"POST", b"/units/U1/grants", Route::Grant),
     (b"POST", b"/units/U1/withdrawals", Route::Withdraw),
     (b"POST", b"/units/U1/alarms", Route::Register),
+    (b"POST", b"/units/U1/imports", Route::Import),
     (
         b"POST",
         b"/units/U1/alarms/PT-101/timed-shelve",
@@ -36,10 +37,15 @@ const TABLE: [(&[u8], &[u8], Route); 15] = [
     ),
     (b"GET", b"/units/U1/alarms", Route::Alarms),
     (b"GET", b"/units/U1/standing", Route::Standing),
+    (
+        b"GET",
+        b"/units/U1/floods/2026-03-01T10:00:00Z/2026-03-01T10:50:00Z",
+        Route::Floods,
+    ),
     (b"GET", b"/shelves", Route::MyShelves),
 ];
 
-const NONE: [(&[u8], &[u8]); 12] = [
+const NONE: [(&[u8], &[u8]); 16] = [
     (b"GET", b"/units/U1/grants"),
     (b"POST", b"/units"),
     (b"get", b"/units"),
@@ -52,6 +58,10 @@ const NONE: [(&[u8], &[u8]); 12] = [
     (b"GET", b"/units//shelves"),
     (b"GET", b"/units/U\x7f/shelves"),
     (b"GET", b"/nothing"),
+    (b"GET", b"/units/U1/imports"),
+    (b"POST", b"/units/U1/floods/a/b"),
+    (b"GET", b"/units/U1/floods/a"),
+    (b"GET", b"/units/U1/floods/a/b/"),
 ];
 
 #[test]

@@ -46,7 +46,7 @@ ann 11:00:00 GET /units/U1/shelves
 200 SHELVES U1 AT 2026-03-01T11:00:00Z COUNT 0"#;
 
 /// A unit in which two alarms may be shelved at once, its operator and engineer, and three alarms.
-const QUOTA: &str =
+pub(crate) const QUOTA: &str =
     r#"root 08:00:00 POST /units/U3 {"steward":"ste","bands":[300],"cells":[["P3","P4"],["P1","P2"]],"quota":2}
 200 {"done":true}
 

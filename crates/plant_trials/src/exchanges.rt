@@ -1,6 +1,6 @@
 //! The notation of the examples. Exchanges are parted by an empty line; each is a line for the request, which is the
 //! caller, the moment (on 2026-03-01 where no day is given), the method, the target and the body, and then the answer,
-//! which is the status and the body.
+//! which is the status and the body. Where the body is a file, its lines stand between the two, each after `> `.
 
 use plant_types::UnitCode;
 use std::alloc::Global;
@@ -45,12 +45,28 @@ fn add_moment(out: &mut String, moment: &str) -> Result<(), Fail> {
     Ok(())
 }
 
-/// Adds the request of one line.
-pub(crate) fn add_request(out: &mut String, line: &str) -> Result<(), Fail> {
+/// The file that a text begins with, whose lines each stand after `> `, and the text after it.
+fn file_before(alloc: Global, text: &str) -> Result<(String, &str), Fail> {
+    let mut file = String::new(alloc);
+    let mut length = 0usize;
+    for line in text.split('\n') {
+        let Some(row) = line.strip_prefix("> ") else {
+            break;
+        };
+        file.push_str(row)?;
+        file.push_str("\n")?;
+        length = length.saturating_add(line.len()).saturating_add(1);
+    }
+    Ok((file, text.get(length..).ok_or("no answer")?))
+}
+
+/// Adds the request of one line, whose body is the file, if there is one.
+fn add_request(out: &mut String, line: &str, file: &str) -> Result<(), Fail> {
     let (person, rest) = line.split_once(' ').ok_or("no person")?;
     let (moment, rest) = rest.split_once(' ').ok_or("no moment")?;
     let (method, rest) = rest.split_once(' ').ok_or("no method")?;
-    let (target, body) = rest.split_once(' ').unwrap_or((rest, ""));
+    let (target, words) = rest.split_once(' ').unwrap_or((rest, ""));
+    let body = if file.is_empty() { words } else { file };
     write!(
         out,
         "{method} {target} HTTP/1.1\r\nX-Person: {person}\r\nX-Moment: "
@@ -112,8 +128,9 @@ impl Exchanges {
 
     /// Adds one exchange.
     pub(crate) fn add(&mut self, exchange: &str) -> Result<(), Fail> {
-        let (request, answer) = exchange.split_once('\n').ok_or("no answer")?;
-        add_request(&mut self.requests, request)?;
+        let (request, rest) = exchange.split_once('\n').ok_or("no answer")?;
+        let (file, answer) = file_before(self.alloc, rest)?;
+        add_request(&mut self.requests, request, &file)?;
         add_answer(&mut self.answers, answer)?;
         self.marks.push(Mark {
             asked: self.requests.len(),

@@ -200,7 +200,7 @@ pub(crate) fn are_kept_alike<A: Books + Drop, B: Books + Drop>(
 }
 
 /// Whether both keepers hold the same rows, one after these exchanges and the other after those.
-fn are_left_alike<A: Books + Drop, B: Books + Drop>(
+pub(crate) fn are_left_alike<A: Books + Drop, B: Books + Drop>(
     alloc: Global,
     ours: A,
     theirs: B,

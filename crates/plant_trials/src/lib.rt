@@ -7,6 +7,8 @@ mod commands;
 #[cfg(test)]
 mod cuts;
 #[cfg(test)]
+mod events;
+#[cfg(test)]
 mod examples;
 #[cfg(test)]
 mod exchanges;
