@@ -1,4 +1,5 @@
 -- Imports that bring the same rows leave the same rows.
+use Rattle.plant_import.proofs.Counted.{fresh_count}
 use Rattle.plant_model.specs.declared.reply.Full.TheVariants.{Events as TooManyEvents}
 use Rattle.plant_alarm.specs.declared.event.Event.{Event}
 use Rattle.plant_floods.specs.Activations.{of_alarm}
@@ -11,7 +12,8 @@ use Rattle.plant_model.proofs.EventLists.{IsOf, distinct_rising, of_both, of_fin
 use Rattle.plant_model.proofs.HistoryLaws.{tags_of_alarms}
 use Rattle.plant_model.proofs.LegalLaws.{followed}
 use Rattle.plant_model.specs.Alarms.{latching, limit}
-use Rattle.plant_model.specs.Events.{events, has_number, new_numbers}
+use Rattle.plant_import.specs.Numbers.{has_number, new_numbers}
+use Rattle.plant_model.specs.Events.{events}
 use Rattle.plant_model.specs.Facts.{facts}
 use Rattle.plant_model.specs.Grants.{held}
 use Rattle.plant_model.specs.Histories.{last_moment}
@@ -116,8 +118,8 @@ module _ (h : List Call) (u : Name) (all : List Event) (fit : is_fit all ≡ tru
   at_least m n le = grind (arith, nat_tests)
 
   module _ (g : List Call) (reached : IsReached g) (p : Name) (t : ℕ) (v : Name) (rows : List Event)
-    (operator : held h t (p, Operator) ≡ true) (known : list_all (λ e. is_some (latching h e.tag)) rows ≡ true) (not_ahead : list_all (λ e. nat_le e.moment t) all ≡ true)
-    (behind : last_moment g ≤ t) (within : Within rows all) (room : length (events g) + length (fresh (events g) rows) ≤ 100000) where
+      (operator : held h t (p, Operator) ≡ true) (known : list_all (λ e. is_some (latching h e.tag)) rows ≡ true) (not_ahead : list_all (λ e. nat_le e.moment t) all ≡ true)
+      (behind : last_moment g ≤ t) (within : Within rows all) (room : length (events g) + length (fresh (events g) rows) ≤ 100000) where
     abbrev next_one : Call
     next_one = record { person = p; moment = t; request = Import v (Ok rows) }
 
@@ -130,7 +132,7 @@ module _ (h : List Call) (u : Name) (all : List Event) (fit : is_fit all ≡ tru
         no_refusal (not (holds_some (facts g) t p)) (not (held g t (p, Operator))) (nat_lt t (last_moment g)) (nat_lt 100000 (length (events g) + length (new_numbers (events g) rows)))
         NotGranted (RoleLacking Operator) (MomentBehind (last_moment g)) (UnitFull TooManyEvents) (first_fault (tags_of (facts g)) t 2 (events g) rows) (import_reply (events g) rows)
         (turned_off (holds_some (facts g) t p) (some_role g t p role)) (turned_off (held g t (p, Operator)) role) (at_least (last_moment g) t behind)
-        (ap (λ n. nat_lt 100000 (length (events g) + n)) (sym (as_many_numbers (tags_of (facts g)) t (events g) rows clean)) ∙ at_least (length (events g) + length (fresh (events g) rows)) 100000 room) clean
+        (ap (λ n. nat_lt 100000 (length (events g) + n)) (sym (fresh_count (tags_of (facts g)) t 2 (events g) rows clean)) ∙ at_least (length (events g) + length (fresh (events g) rows)) 100000 room) clean
 
     legal_next : IsLegal (next_one ∷ g)
     legal_next = followed g next_one reached.legal accepted refl

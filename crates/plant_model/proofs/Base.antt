@@ -1,5 +1,4 @@
 -- The unit of the worked examples: opened, staffed, and with two alarms.
-use Rattle.plant_alarm.proofs.Examples.{suppressed}
 use Rattle.plant_alarm.specs.Shelves.{is_unshelved}
 use Rattle.plant_alarm.specs.declared.event.Event.{Event}
 use Rattle.plant_alarm.specs.declared.event.EventKind.{EventKind}

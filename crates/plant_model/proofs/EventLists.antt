@@ -10,7 +10,7 @@ use Rattle.plant_import.specs.Merging.{IsRising, clashes, first_fault, fresh, me
 use Rattle.plant_import.specs.declared.bad_file.Cause.TheVariants.{MomentAhead, MomentOutOfOrder, SequenceClash, TagUnknown}
 use Rattle.plant_model.proofs.FactLaws.{not_true, same_number_of}
 use Rattle.plant_model.proofs.PutLaws.{said}
-use Rattle.plant_model.specs.Events.{has_number}
+use Rattle.plant_import.specs.Numbers.{has_number}
 use Rattle.plant_model.specs.RowFacts.{event_number}
 use Rattle.plant_types.specs.Names.{Name, same_name}
 use Rattle.plant_types.specs.Options.{or_else, when}

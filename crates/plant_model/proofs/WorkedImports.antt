@@ -1,5 +1,4 @@
 -- Worked examples: imports, alarm states, and how a return ends a one-shot shelf.
-use Rattle.plant_alarm.proofs.Examples.{suppressed}
 use Rattle.plant_alarm.specs.declared.event.Event.{Event}
 use Rattle.plant_alarm.specs.declared.event.EventKind.{EventKind}
 use Rattle.plant_alarm.specs.declared.event.EventKind.TheVariants.{Ack, Act, Reset, Rtn, Sup, Unsup}
@@ -9,10 +8,8 @@ use Rattle.plant_alarm.specs.declared.summary.AlarmState.TheVariants.{Acknowledg
 use Rattle.plant_import.specs.Merging.{merge_fault}
 use Rattle.plant_import.specs.declared.bad_file.Cause.TheVariants.{Header, MomentAhead, MomentOutOfOrder, SequenceClash, TagUnknown}
 use Rattle.plant_model.proofs.Base.{IsAnswered, ann, at, base, call, event, lt, plain, pt, status, u1, vic, x}
-use Rattle.plant_model.specs.Alarms.{limit}
 use Rattle.plant_model.specs.Refusals.{holds_some}
 use Rattle.plant_model.specs.Rows.{rows_of}
-use Rattle.plant_model.specs.Shelves.{shelf}
 use Rattle.plant_model.specs.Verdicts.{verdict}
 use Rattle.plant_model.specs.declared.call.Call.{Call}
 use Rattle.plant_model.specs.declared.call.Request.TheVariants.{Import, OneShotShelve, Status}

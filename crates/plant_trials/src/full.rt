@@ -124,7 +124,11 @@ fn imports_when_full<B: Books + Drop>(
     for (first, last, answer) in [
         (90_001, 100_000, r#"200 {"new":0,"repeated":10000}"#),
         (7, 7, r#"200 {"new":0,"repeated":1}"#),
-        (100_001, 100_001, r#"409 {"name":"UnitFull","refused":6,"value":"Events"}"#),
+        (
+            100_001,
+            100_001,
+            r#"409 {"name":"UnitFull","refused":6,"value":"Events"}"#,
+        ),
         (
             1,
             10_001,
@@ -137,7 +141,8 @@ fn imports_when_full<B: Books + Drop>(
     Ok(books)
 }
 
-const STATUS: &str = r#"200 {"limit":3600,"limit_revision":0,"out_of_service":false,"shelf":"Unshelved","shelf_left":0,"state":"ReturnedUnack","suppressed":false,"suppressed_or_shelved":false,"tag":"PT-101"}"#;
+const STATUS: &str =
+    r#"200 {"limit":3600,"limit_revision":0,"out_of_service":false,"shelf":"Unshelved","shelf_left":0,"state":"ReturnedUnack","suppressed":false,"suppressed_or_shelved":false,"tag":"PT-101"}"#;
 
 const FLOODS: &str = r#"200 FLOODS U1 FROM 2026-03-01T09:00:00Z TO 2026-03-01T09:10:00Z COUNT 1
 2026-03-01T09:00:00Z 2026-03-01T09:10:00Z  50000  50000"#;
@@ -178,7 +183,10 @@ fn lists_all_alarms<B: Books + Drop>(rt: &(impl Abort + AllocGlobal), books: B) 
     add_request(&mut request, "vic 10:00:00 GET /units/U1/alarms")?;
     let (answers, end, books) = replays_on(rt.alloc(), books, request.as_bytes(), b"");
     let (_, list) = text(&answers).split_once("\r\n\r\n").ok_or("no body")?;
-    assert_eq!(rt; list.lines().next(), Some("ALARMS U1 AT 2026-03-01T10:00:00Z COUNT 2000"));
+    assert_eq!(rt;
+        list.lines().next(),
+        Some("ALARMS U1 AT 2026-03-01T10:00:00Z COUNT 2000")
+    );
     assert_eq!(rt; list.lines().count(), 2001);
     assert_eq!(rt; end, End::Closed);
     Ok(books)
