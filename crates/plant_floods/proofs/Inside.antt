@@ -1,9 +1,9 @@
 -- Each run of floods lies among the periods that are counted.
-use Rattle.std.proofs.Common.{ap, arith, cond, get_or, refl, subst, sym, ◌∙◌}
+use Rattle.std.proofs.Common.{arith, cond, get_or, refl, subst, sym, ◌∙◌}
 use Rattle.std.proofs.lemmas.List.{length-map}
 use Rattle.std.proofs.lemmas.List.FromFn.{length-range_with_len}
-use Rattle.std.specs.List.{cons_option, onto_first, range_with_len, slice_split}
-use Rattle.std.specs.Prelude.{Bool, List, None, Option, Some, [], false, filter_map, length, map, not, suc, true, zero, ℕ, ◌*◌, ◌++◌, ◌+◌, ◌-◌, ◌/◌, ◌<◌, ◌∷◌, ◌≡◌, ◌≤◌}
+use Rattle.std.specs.List.{onto_first, range_with_len, slice_split}
+use Rattle.std.specs.Prelude.{Bool, List, [], false, filter_map, length, not, suc, true, zero, ℕ, ◌*◌, ◌++◌, ◌+◌, ◌-◌, ◌/◌, ◌<◌, ◌∷◌, ◌≡◌, ◌≤◌}
 use Rattle.std.proofs.lemmas.List.{length-append}
 use Rattle.plant_alarm.specs.declared.event.Event.{Event}
 use Rattle.plant_floods.specs.Activations.{activations_from, period_counts}
@@ -73,7 +73,7 @@ all_inside k n (q ∷ qs) h = (begun k n q h.0, h.1)
 
 floods_within : (counts : List ℕ) → RunsWithin (length counts) (floods counts)
 unfolding floods
-floods_within counts = runs_within (length counts) _ (all_inside 0 (length counts) _ (parted [] counts 0 (length counts) refl refl))
+floods_within counts = runs_within (length counts) _ (all_inside 0 (length counts) _ (parted [] counts 0 (length counts) refl (omega arith)))
 
 within_at : (n : ℕ) (runs : List Run) → RunsWithin n runs → (i : ℕ) (d : Run) → i < length runs → IsWithin n (get_or runs i d)
 within_at n [] h i d lt = absurd (omega arith)
