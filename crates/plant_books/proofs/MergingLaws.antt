@@ -1,7 +1,7 @@
 -- Events put one after another, and all at once in rising number.
-use Rattle.std.proofs.Common.{◌≡◌, ℕ, ◌+◌, ◌<◌, ◌≤◌, List, [], ◌∷◌, ◌++◌, append_assoc, arith, drop, get_or, length, refl, sym, ap, subst, ◌∙◌, suc, zero}
+use Rattle.std.proofs.Common.{◌≡◌, ℕ, ◌+◌, ◌<◌, ◌≤◌, List, [], ◌∷◌, ◌++◌, append_assoc, arith, drop, get_or, length, refl, sym, ap, subst, ◌∙◌, suc, take, zero}
 use Rattle.std.proofs.Math.Nat.{lt_trans}
-use Rattle.std.proofs.Math.Seq.{drop-cons, drop-length}
+use Rattle.std.proofs.Math.Seq.{drop-cons, drop-length, take-suc}
 use Rattle.std.proofs.lemmas.Cmp.{ranked}
 use Rattle.std.specs.Cmp.{nat_cmp_is, ranks}
 use Rattle.std.specs.FinMap.Entries.{by_order}
@@ -42,7 +42,7 @@ put_again r p (e ∷ es) h =
     (λ less. ap (put_in r) (put_less p e es less) ∙ put_same r p (e ∷ es) h ∙ sym (put_less r e es (subst (λ n. n < e.seq) (sym h) less)))
     (λ same. ap (put_in r) (put_same p e es same) ∙ put_same r p es h ∙ sym (put_same r e es (h ∙ same)))
     (λ more. let above = subst (λ n. e.seq < n) (sym h) more in
-        ap (put_in r) (put_more p e es more) ∙ put_more r e (put_in p es) above ∙ ap (λ xs. e ∷ xs) (put_again r p es h) ∙ sym (put_more r e es above))
+    ap (put_in r) (put_more p e es more) ∙ put_more r e (put_in p es) above ∙ ap (λ xs. e ∷ xs) (put_again r p es h) ∙ sym (put_more r e es above))
 
 -- events of two numbers are put in either order
 put_either : (r q : Event) (rows : List Event) → r.seq < q.seq → put_in r (put_in q rows) ≡ put_in q (put_in r rows)
@@ -50,18 +50,18 @@ put_either r q [] h = put_less r q [] h ∙ sym (put_more q r [] h)
 put_either r q (e ∷ es) h =
     by_number (put_in r (put_in q (e ∷ es)) ≡ put_in q (put_in r (e ∷ es))) q e
     (λ less. let below : r.seq < e.seq = lt_trans h less in
-        ap (put_in r) (put_less q e es less) ∙ put_less r q (e ∷ es) h
-        ∙ sym (ap (put_in q) (put_less r e es below) ∙ put_more q r (e ∷ es) h ∙ ap (λ xs. r ∷ xs) (put_less q e es less)))
+    ap (put_in r) (put_less q e es less) ∙ put_less r q (e ∷ es) h
+    ∙ sym (ap (put_in q) (put_less r e es below) ∙ put_more q r (e ∷ es) h ∙ ap (λ xs. r ∷ xs) (put_less q e es less)))
     (λ same. let below : r.seq < e.seq = subst (λ n. r.seq < n) same h in
-        ap (put_in r) (put_same q e es same) ∙ put_less r q es h
-        ∙ sym (ap (put_in q) (put_less r e es below) ∙ put_more q r (e ∷ es) h ∙ ap (λ xs. r ∷ xs) (put_same q e es same)))
+    ap (put_in r) (put_same q e es same) ∙ put_less r q es h
+    ∙ sym (ap (put_in q) (put_less r e es below) ∙ put_more q r (e ∷ es) h ∙ ap (λ xs. r ∷ xs) (put_same q e es same)))
     (λ more. ap (put_in r) (put_more q e es more)
-        ∙ by_number (put_in r (e ∷ put_in q es) ≡ put_in q (put_in r (e ∷ es))) r e
-        (λ below. put_less r e (put_in q es) below
-            ∙ sym (ap (put_in q) (put_less r e es below) ∙ put_more q r (e ∷ es) h ∙ ap (λ xs. r ∷ xs) (put_more q e es more)))
-        (λ at. put_same r e (put_in q es) at ∙ sym (ap (put_in q) (put_same r e es at) ∙ put_more q r es h))
-        (λ above. put_more r e (put_in q es) above ∙ ap (λ xs. e ∷ xs) (put_either r q es h)
-            ∙ sym (ap (put_in q) (put_more r e es above) ∙ put_more q e (put_in r es) more)))
+    ∙ by_number (put_in r (e ∷ put_in q es) ≡ put_in q (put_in r (e ∷ es))) r e
+    (λ below. put_less r e (put_in q es) below
+    ∙ sym (ap (put_in q) (put_less r e es below) ∙ put_more q r (e ∷ es) h ∙ ap (λ xs. r ∷ xs) (put_more q e es more)))
+    (λ at. put_same r e (put_in q es) at ∙ sym (ap (put_in q) (put_same r e es at) ∙ put_more q r es h))
+    (λ above. put_more r e (put_in q es) above ∙ ap (λ xs. e ∷ xs) (put_either r q es h)
+    ∙ sym (ap (put_in q) (put_more r e es above) ∙ put_more q e (put_in r es) more)))
 
 above_less : (m n : ℕ) (es : List Event) → m < n → IsAbove n es → IsAbove m es
 above_less m n [] h above = tt
@@ -83,7 +83,7 @@ put_waiting r (p ∷ ps) rows h =
     by_number (put_in r (with_events (p ∷ ps) rows) ≡ with_events (put_in r (p ∷ ps)) rows) r p
     (λ less. put_before r (p ∷ ps) rows (less, h) ∙ sym (ap (λ xs. with_events xs rows) (put_less r p ps less)))
     (λ same. put_before r ps (put_in p rows) (subst (λ n. IsAbove n ps) (sym same) h) ∙ ap (with_events ps) (put_again r p rows same)
-        ∙ sym (ap (λ xs. with_events xs rows) (put_same r p ps same)))
+    ∙ sym (ap (λ xs. with_events xs rows) (put_same r p ps same)))
     (λ more. put_waiting r ps (put_in p rows) (rising_above p.seq ps h) ∙ sym (ap (λ xs. with_events xs rows) (put_more r p ps more)))
 
 -- what is put among rising events leaves them rising
@@ -151,6 +151,13 @@ with_more e x es rows h above = ap (with_events es) (put_more e x rows h) ∙ wi
 with_first : (e : Event) (es : List Event) → IsAbove e.seq es → with_events (e ∷ es) [] ≡ e ∷ with_events es []
 with_first e es above = with_passed e.seq e es [] (same_bound e.seq) above
 
+-- one event after another
+pub rises_on : (events rows new : List Event) (e : Event) (i : ℕ) → i < length events → e ≡ get_or events i e → rows ≡ with_events (take i events) [] → new ≡ put_in e rows → new ≡ with_events (take (i + 1) events) []
+rises_on events rows new e i h is before put =
+    let next : suc i ≡ i + 1 = omega arith in
+    let more : take (i + 1) events ≡ take i events ++ e ∷ [] = ap (λ n. take n events) (sym next) ∙ take-suc events i e h ∙ ap (λ x. take i events ++ x ∷ []) (sym is) in
+    put ∙ ap (put_in e) before ∙ sym (with_push (take i events) [] e) ∙ sym (ap (λ xs. with_events xs []) more)
+
 -- copies of the first kept events stand in front, and the event and the later ones are still to be put among the others
 abbrev pub GoesOn : List Event → List Event → Event → List Event → ℕ → Type 0
 GoesOn all old r kept i = (later : List Event) → IsAbove r.seq later → all ++ with_events (r ∷ later) (drop i kept) ≡ old ++ with_events (r ∷ later) kept
@@ -165,7 +172,7 @@ pub stops_below : (all old kept : List Event) (r e : Event) (i : ℕ) → i < le
 stops_below all old kept r e i h is less before later above =
     let rest = at_place e kept i h is in
     let front : r ∷ with_events later (drop i kept) ≡ with_events (r ∷ later) (drop i kept) =
-        ap (λ xs. r ∷ with_events later xs) rest ∙ sym (with_less r e later (drop (i + 1) kept) (ranked r.seq e.seq Less less) above) ∙ sym (ap (with_events (r ∷ later)) rest) in
+    ap (λ xs. r ∷ with_events later xs) rest ∙ sym (with_less r e later (drop (i + 1) kept) (ranked r.seq e.seq Less less) above) ∙ sym (ap (with_events (r ∷ later)) rest) in
     ap (λ xs. all ++ xs) front ∙ before later above
 
 pub stops_at : (all old kept : List Event) (r e : Event) (i : ℕ) → i < length kept → e ≡ get_or kept i e → Equal ≡ nat_cmp r.seq e.seq → GoesOn all old r kept i
@@ -173,7 +180,7 @@ pub stops_at : (all old kept : List Event) (r e : Event) (i : ℕ) → i < lengt
 stops_at all old kept r e i h is same before later above =
     let rest = at_place e kept i h is in
     let front : r ∷ with_events later (drop (i + 1) kept) ≡ with_events (r ∷ later) (drop i kept) =
-        sym (with_same r e later (drop (i + 1) kept) (ranked r.seq e.seq Equal same) above) ∙ sym (ap (with_events (r ∷ later)) rest) in
+    sym (with_same r e later (drop (i + 1) kept) (ranked r.seq e.seq Equal same) above) ∙ sym (ap (with_events (r ∷ later)) rest) in
     ap (λ xs. all ++ xs) front ∙ before later above
 
 pub passes : (all new old kept : List Event) (r e : Event) (i : ℕ) → i < length kept → e ≡ get_or kept i e → Greater ≡ nat_cmp r.seq e.seq → new ≡ all ++ e ∷ [] → GoesOn all old r kept i → GoesOn new old r kept (i + 1)
@@ -181,7 +188,7 @@ passes all new old kept r e i h is more push before later above =
     let rest = at_place e kept i h is in
     let after = drop (i + 1) kept in
     let front : e ∷ with_events (r ∷ later) after ≡ with_events (r ∷ later) (drop i kept) =
-        sym (with_more r e later after (ranked r.seq e.seq Greater more) above) ∙ sym (ap (with_events (r ∷ later)) rest) in
+    sym (with_more r e later after (ranked r.seq e.seq Greater more) above) ∙ sym (ap (with_events (r ∷ later)) rest) in
     ap (λ xs. xs ++ with_events (r ∷ later) after) push ∙ append_assoc all (e ∷ []) (with_events (r ∷ later) after) ∙ ap (λ xs. all ++ xs) front ∙ before later above
 
 pub stops_behind : (all old kept : List Event) (r : Event) (i : ℕ) → i ≡ length kept → GoesOn all old r kept i
@@ -189,7 +196,7 @@ pub stops_behind : (all old kept : List Event) (r : Event) (i : ℕ) → i ≡ l
 stops_behind all old kept r i end before later above =
     let none = drop-length kept in
     let front : r ∷ with_events later (drop (length kept) kept) ≡ with_events (r ∷ later) (drop i kept) =
-        ap (λ xs. r ∷ with_events later xs) none ∙ sym (with_first r later above) ∙ sym (ap (with_events (r ∷ later)) (ap (λ n. drop n kept) end ∙ none)) in
+    ap (λ xs. r ∷ with_events later xs) none ∙ sym (with_first r later above) ∙ sym (ap (with_events (r ∷ later)) (ap (λ n. drop n kept) end ∙ none)) in
     ap (λ xs. all ++ xs) front ∙ before later above
 
 -- what is left of rising events rises
@@ -199,16 +206,16 @@ rising_drop (suc i) [] h = tt
 rising_drop (suc i) (e ∷ es) h = rising_drop i es (rising_above e.seq es h)
 
 -- one of the rising events is put after another
-pub merges_on : (all copied new fresh kept rest : List Event) (e : Event) (i place : ℕ) → i < length fresh → e ≡ get_or fresh i e
+pub merges_on : (all copied new fresh kept rest after : List Event) (e : Event) (i place : ℕ) → i < length fresh → e ≡ get_or fresh i e
     → ((later : List Event) → IsAbove e.seq later → copied ++ e ∷ with_events later (drop place rest) ≡ all ++ with_events (e ∷ later) rest)
-    → new ≡ copied ++ e ∷ []
+    → new ≡ copied ++ e ∷ [] → after ≡ drop place rest
     → (IsRising fresh → all ++ with_events (drop i fresh) rest ≡ with_events fresh kept)
-    → IsRising fresh → new ++ with_events (drop (i + 1) fresh) (drop place rest) ≡ with_events fresh kept
-merges_on all copied new fresh kept rest e i place h is below push before rises =
+    → IsRising fresh → new ++ with_events (drop (i + 1) fresh) after ≡ with_events fresh kept
+merges_on all copied new fresh kept rest after e i place h is below push left before rises =
     let from = at_place e fresh i h is in
     let later = drop (i + 1) fresh in
     let above : IsAbove e.seq later = subst IsRising from (rising_drop i fresh rises) in
-    ap (λ xs. xs ++ with_events later (drop place rest)) push ∙ append_assoc copied (e ∷ []) (with_events later (drop place rest)) ∙ below later above
+    ap (λ xs. new ++ with_events later xs) left ∙ ap (λ xs. xs ++ with_events later (drop place rest)) push ∙ append_assoc copied (e ∷ []) (with_events later (drop place rest)) ∙ below later above
     ∙ ap (λ xs. all ++ with_events xs rest) (sym from) ∙ before rises
 
 pub merges_all : (all copied fresh kept rest : List Event) (i : ℕ) → i ≡ length fresh → (IsRising fresh → all ++ with_events (drop i fresh) rest ≡ with_events fresh kept) → copied ≡ all ++ rest

@@ -10,3 +10,7 @@ pub passing_none : {A : Type 0} (b : Bool) (xs : List A) → b ≡ false → fil
 passing_none false [] h = refl
 passing_none false (x ∷ xs) h = passing_none false xs h
 passing_none true xs h = absurd (true≢false h)
+
+-- the same passes by two tests that answer alike
+pub passing_as : {A : Type 0} {f g : A → Bool} → ((x : A) → f x ≡ g x) → (xs : List A) → filter f xs ≡ filter g xs
+passing_as same xs = λ i. filter (λ x. same x i) xs

@@ -88,11 +88,7 @@ fn without(rows: UnitRows, key: &Key) -> UnitRows
 }
 
 /// The rows after one change.
-fn after_change(
-    alloc: Global,
-    mut changing: Changing,
-    change: &Change,
-) -> Result<Changing, Fault>
+fn after_change(alloc: Global, mut changing: Changing, change: &Change) -> Result<Changing, Fault>
     ensures value { IfOk result (λ after. whole after ≡ changed change.now (whole changing)) }
     ensures memory { IfErr result (λ e. e ≡ Memory) }
 {

@@ -13,7 +13,6 @@ use std::alloc::Global;
 use std::cmp::Ordering;
 
 /// The events in rising number, of each number the last.
-#[tactic(auto, using(crate::proofs::MergingLaws::with_push))]
 fn rising(alloc: Global, events: &[Event]) -> Result<Table<Event>, Fault>
     ensures value { IfOk result (λ rows. rows ≡ changing.with_events events.now []) }
     ensures memory { IfErr result (λ e. e ≡ Memory) }
@@ -69,7 +68,7 @@ fn merged(alloc: Global, kept: &[Event], fresh: &[Event]) -> Result<Table<Event>
     for event in fresh {
         let place = copy_below(alloc, &mut all, rest, event)?;
         all.push(event.duplicate(alloc)?)?;
-        rest = &rest[place..];
+        (_, rest) = rest.split_at(place);
     }
     copy_all(alloc, &mut all, rest)?;
     Ok(all)
@@ -77,11 +76,7 @@ fn merged(alloc: Global, kept: &[Event], fresh: &[Event]) -> Result<Table<Event>
 
 /// The kept events with these put among them, one after another. Its time is that of going over the kept events once.
 #[tactic(auto, using(crate::proofs::MergingLaws::with_alone, crate::proofs::MergingLaws::rising_alone))]
-pub fn with_events(
-    alloc: Global,
-    kept: &[Event],
-    fresh: &[Event],
-) -> Result<Table<Event>, Fault>
+pub fn with_events(alloc: Global, kept: &[Event], fresh: &[Event]) -> Result<Table<Event>, Fault>
     ensures value { IfOk result (λ all. all ≡ changing.with_events fresh.now kept.now) }
     ensures memory { IfErr result (λ e. e ≡ Memory) }
 {

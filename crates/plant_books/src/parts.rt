@@ -69,7 +69,6 @@ fn shelves_asked(
 }
 
 /// The events, where they are wanted.
-#[tactic(auto, using(crate::proofs::PassingLaws::passing_every, crate::proofs::PassingLaws::passing_none))]
 fn events_asked(alloc: Global, events: &Table<Event>, wanted: bool) -> Result<Table<Event>, Fault>
     ensures value { IfOk result (λ rows. rows ≡ filter (λ _. wanted) events.now) }
     ensures memory { IfErr result (λ e. e ≡ Memory) }
