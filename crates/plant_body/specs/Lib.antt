@@ -1,3 +1,4 @@
 pub mod Members
 pub mod Lists
 pub mod Bodies
+pub mod Proposals

@@ -1,5 +1,5 @@
 -- What a body's members say. `read` is serde_json's reader of a `Value`, which takes text.
-use Rattle.std.specs.Prelude.{◌≡◌, ℕ, List, Option, Some, None, option_and_then, option_map, is_some, Result, Ok, Err, Bool, codes, if◌then◌else◌}
+use Rattle.std.specs.Prelude.{◌≡◌, ℕ, List, Option, Some, None, option_and_then, option_map, is_some, Result, Ok, Err, Bool, ◌&&◌, nat_le, codes, if◌then◌else◌}
 use Rattle.std.specs.Option.{ok_or}
 use Rattle.std.specs.Str.{is_utf8, bytes_eq}
 use Rattle.serde_json.specs.Data.{Data}
@@ -50,6 +50,14 @@ words_at name d = option_and_then words_of (string_at name d)
 -- a length of time, in seconds
 abbrev pub seconds_at : List ℕ → Data → Option ℕ
 seconds_at name d = option_and_then (λ n. number_if (is_seconds n) n) (number_at name d)
+
+-- the revision that a proposal is drawn up for: as many changes as a unit has at most
+abbrev pub base_at : List ℕ → Data → Option ℕ
+base_at name d = option_and_then (λ n. number_if (nat_le n 20000) n) (number_at name d)
+
+-- the severity of a consequence, from 1, the least, to 5
+abbrev pub severity_at : List ℕ → Data → Option ℕ
+severity_at name d = option_and_then (λ n. number_if (nat_le 1 n && nat_le n 5) n) (number_at name d)
 
 -- the role of a name
 abbrev pub role_of : List ℕ → Option Role

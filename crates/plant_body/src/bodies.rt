@@ -51,7 +51,11 @@ pub struct TimedShelving {
     pub words: Words,
 }
 
-fn matrix_from(alloc: Global, limits: &[u64], rows: &[Vec<Cell>]) -> Result<Matrix, BodyError>
+pub(crate) fn matrix_from(
+    alloc: Global,
+    limits: &[u64],
+    rows: &[Vec<Cell>],
+) -> Result<Matrix, BodyError>
     ensures { Gives result (matrix_from limits.now (map (λ row. row.items) rows.now)) }
 {
     match Matrix::new(alloc, limits, rows)? {

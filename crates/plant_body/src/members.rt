@@ -1,6 +1,6 @@
 ghost use Rattle.std.specs.Prelude.{◌≡◌, option_map};
 ghost use Rattle.serde_json.specs.View.{view};
-ghost use Rattle.plant_body.specs.Members.{Gives, GivesBy, told, value_of, number_of, number_at, string_at, truth_at, text_at, seconds_at, role_at, quota_at, end_at, tenure_of};
+ghost use Rattle.plant_body.specs.Members.{Gives, GivesBy, told, value_of, number_of, number_at, string_at, truth_at, text_at, seconds_at, base_at, severity_at, role_at, quota_at, end_at, tenure_of};
 ghost use Rattle.plant_body.specs.Members as spec;
 
 use plant_ration::MatrixFault;
@@ -89,7 +89,7 @@ fn number_in(value: &Value, name: &str) -> Option<u64>
     value.get(name).and_then(Value::as_u64)
 }
 
-fn string_in<'v>(value: &'v Value, name: &str) -> Option<&'v str>
+pub(crate) fn string_in<'v>(value: &'v Value, name: &str) -> Option<&'v str>
     ensures { option_map (λ t. t.now) result ≡ string_at name.now (view value.now) }
 {
     value.get(name).and_then(Value::as_str)
@@ -126,6 +126,26 @@ pub(crate) fn seconds_in(value: &Value, name: &str) -> Result<Seconds, BodyError
     match number_in(value, name).and_then(Seconds::new) {
         Some(seconds) => Ok(seconds),
         None => Err(BAD),
+    }
+}
+
+/// The revision that a proposal is drawn up for: 0 to 20,000.
+pub(crate) fn base_in(value: &Value, name: &str) -> Result<u32, BodyError>
+    ensures { Gives result (told (base_at name.now (view value.now))) }
+{
+    match number_in(value, name) {
+        Some(base) if base <= 20_000 => Ok(base as u32),
+        _ => Err(BAD),
+    }
+}
+
+/// The severity of a consequence: 1 to 5.
+pub(crate) fn severity_in(value: &Value, name: &str) -> Result<u8, BodyError>
+    ensures { Gives result (told (severity_at name.now (view value.now))) }
+{
+    match number_in(value, name) {
+        Some(severity) if severity >= 1 && severity <= 5 => Ok(severity as u8),
+        _ => Err(BAD),
     }
 }
 

@@ -1,5 +1,5 @@
 use super::*;
-use plant_ration::{Cell, MatrixFault};
+use plant_ration::{Cell, ChangeKind, MatrixFault, Proposal, Sheet};
 use plant_types::{Moment, Role};
 use std::alloc::Global;
 use std::test::Fail;
@@ -13,6 +13,18 @@ fn opening_fault(alloc: Global, body: &[u8]) -> Option<BodyError> {
 
 fn granting_fault(alloc: Global, body: &[u8]) -> Option<BodyError> {
     read_granting(alloc, body).err()
+}
+
+fn proposal_fault(alloc: Global, body: &[u8]) -> Option<BodyError> {
+    read_proposal(alloc, body).err()
+}
+
+/// The sheet of a proposed record, if it is one.
+fn sheet_of(proposal: &Proposal) -> Option<&Sheet> {
+    match &proposal.kind {
+        ChangeKind::Rationale(_tag, sheet) => Some(sheet),
+        _ => None,
+    }
 }
 
 #[test]
@@ -190,5 +202,159 @@ fn reads_registrations_and_shelvings(rt: HostRuntime) -> Result<(), Fail> {
     let words = read_reason(alloc, b"{\"words\":\"a\\u0020b\"}")?;
     assert_eq!(rt; words.as_bytes(), b"a b".as_slice());
     assert!(rt; read_reason(alloc, b"{\"words\":\"\"}").is_err());
+    Ok(())
+}
+
+#[test]
+fn reads_a_proposed_record(rt: HostRuntime) -> Result<(), Fail> {
+    let proposal = read_proposal(
+        rt.alloc(),
+        b"{\"kind\":\"record\",\"base\":0,\"tag\":\"PT-101\",\"cause\":\"seal leak\",\"consequence\":\"loss of pressure\",\"action\":\"close XV-7\",\"severity\":2,\"response\":120}",
+    )?;
+    assert_eq!(rt; proposal.base, 0);
+    let ChangeKind::Rationale(tag, sheet) = &proposal.kind else {
+        return Err(Fail::new("no record"));
+    };
+    assert_eq!(rt; tag.as_bytes(), b"PT-101".as_slice());
+    assert_eq!(rt; sheet.cause.as_bytes(), b"seal leak".as_slice());
+    assert_eq!(rt;
+        sheet.consequence.as_bytes(),
+        b"loss of pressure".as_slice()
+    );
+    assert_eq!(rt; sheet.action.as_bytes(), b"close XV-7".as_slice());
+    assert_eq!(rt; sheet.severity, 2);
+    assert_eq!(rt; sheet.response.get(), 120);
+    Ok(())
+}
+
+#[test]
+fn reads_a_proposed_matrix(rt: HostRuntime) -> Result<(), Fail> {
+    let proposal = read_proposal(
+        rt.alloc(),
+        b"{\"kind\":\"matrix\",\"base\":1,\"bands\":[60],\"cells\":[[\"P3\",\"P4\"],[\"P1\",\"P2\"]]}",
+    )?;
+    assert_eq!(rt; proposal.base, 1);
+    let ChangeKind::Matrix(matrix) = &proposal.kind else {
+        return Err(Fail::new("no matrix"));
+    };
+    assert_eq!(rt; matrix.limits(), [60].as_slice());
+    let rows = matrix.cells();
+    assert_eq!(rt; rows.len(), 2);
+    assert_eq!(rt; rows[0].as_slice(), [Cell::P3, Cell::P4].as_slice());
+    assert_eq!(rt; rows[1].as_slice(), [Cell::P1, Cell::P2].as_slice());
+    Ok(())
+}
+
+#[test]
+fn reads_a_proposed_limit(rt: HostRuntime) -> Result<(), Fail> {
+    let proposal = read_proposal(
+        rt.alloc(),
+        b"{\"max\":\"x\",\"severity\":0,\"max\":600,\"tag\":\"PT-101\",\"base\":0,\"kind\":\"limit\"}",
+    )?;
+    assert_eq!(rt; proposal.base, 0);
+    let ChangeKind::Limit(tag, max) = &proposal.kind else {
+        return Err(Fail::new("no limit"));
+    };
+    assert_eq!(rt; tag.as_bytes(), b"PT-101".as_slice());
+    assert_eq!(rt; max.get(), 600);
+    Ok(())
+}
+
+#[test]
+fn bounds_the_numbers_of_a_proposal(rt: HostRuntime) -> Result<(), Fail> {
+    let alloc = rt.alloc();
+    let last = read_proposal(
+        alloc,
+        b"{\"kind\":\"limit\",\"base\":20000,\"tag\":\"T\",\"max\":604800}",
+    )?;
+    assert_eq!(rt; last.base, 20_000);
+    let least = read_proposal(
+        alloc,
+        b"{\"kind\":\"record\",\"base\":0,\"tag\":\"T\",\"cause\":\"a\",\"consequence\":\"b\",\"action\":\"c\",\"severity\":1,\"response\":1}",
+    )?;
+    let greatest = read_proposal(
+        alloc,
+        b"{\"kind\":\"record\",\"base\":0,\"tag\":\"T\",\"cause\":\"a\",\"consequence\":\"b\",\"action\":\"c\",\"severity\":5,\"response\":604800}",
+    )?;
+    let (Some(least), Some(greatest)) = (sheet_of(&least), sheet_of(&greatest)) else {
+        return Err(Fail::new("no record"));
+    };
+    assert_eq!(rt; least.severity, 1);
+    assert_eq!(rt; least.response.get(), 1);
+    assert_eq!(rt; greatest.severity, 5);
+    assert_eq!(rt; greatest.response.get(), 604_800);
+    assert!(rt;
+        proposal_fault(
+            alloc,
+            b"{\"kind\":\"limit\",\"base\":20001,\"tag\":\"T\",\"max\":600}"
+        ) == Some(BODY)
+    );
+    assert!(rt;
+        proposal_fault(
+            alloc,
+            b"{\"kind\":\"limit\",\"base\":4294967296,\"tag\":\"T\",\"max\":600}"
+        ) == Some(BODY)
+    );
+    assert!(rt;
+        proposal_fault(
+            alloc,
+            b"{\"kind\":\"limit\",\"base\":-1,\"tag\":\"T\",\"max\":600}"
+        ) == Some(BODY)
+    );
+    assert!(rt;
+        proposal_fault(
+            alloc,
+            b"{\"kind\":\"limit\",\"base\":0,\"tag\":\"T\",\"max\":604801}"
+        ) == Some(BODY)
+    );
+    for body in [
+        b"{\"kind\":\"record\",\"base\":0,\"tag\":\"T\",\"cause\":\"a\",\"consequence\":\"b\",\"action\":\"c\",\"severity\":0,\"response\":1}".as_slice(),
+        b"{\"kind\":\"record\",\"base\":0,\"tag\":\"T\",\"cause\":\"a\",\"consequence\":\"b\",\"action\":\"c\",\"severity\":6,\"response\":1}".as_slice(),
+        b"{\"kind\":\"record\",\"base\":0,\"tag\":\"T\",\"cause\":\"a\",\"consequence\":\"b\",\"action\":\"c\",\"severity\":257,\"response\":1}".as_slice(),
+        b"{\"kind\":\"record\",\"base\":0,\"tag\":\"T\",\"cause\":\"a\",\"consequence\":\"b\",\"action\":\"c\",\"severity\":1,\"response\":0}".as_slice(),
+        b"{\"kind\":\"record\",\"base\":0,\"tag\":\"T\",\"cause\":\"a\",\"consequence\":\"b\",\"action\":\"c\",\"severity\":1,\"response\":604801}".as_slice(),
+        b"{\"kind\":\"record\",\"base\":0,\"tag\":\"T\",\"cause\":\"a\",\"consequence\":\"\",\"action\":\"c\",\"severity\":1,\"response\":1}".as_slice(),
+    ] {
+        assert!(rt; proposal_fault(alloc, body) == Some(BODY));
+    }
+    Ok(())
+}
+
+#[test]
+fn tells_what_is_wrong_with_a_proposal(rt: HostRuntime) -> Result<(), Fail> {
+    let alloc = rt.alloc();
+    let shape = Some(BodyError::Because(Unfit::Matrix(MatrixFault::Shape)));
+    let ordered = Some(BodyError::Because(Unfit::Matrix(MatrixFault::NotOrdered)));
+    assert!(rt;
+        proposal_fault(
+            alloc,
+            b"{\"kind\":\"matrix\",\"base\":0,\"bands\":[604801],\"cells\":[[\"P1\",\"P2\"]]}"
+        ) == shape
+    );
+    assert!(rt;
+        proposal_fault(
+            alloc,
+            b"{\"kind\":\"matrix\",\"base\":0,\"bands\":[],\"cells\":[[\"P1\"],[\"P2\"]]}"
+        ) == ordered
+    );
+    assert!(rt;
+        proposal_fault(
+            alloc,
+            b"{\"kind\":\"matrix\",\"base\":20001,\"bands\":[],\"cells\":[[\"P1\"],[\"P2\"]]}"
+        ) == Some(BODY)
+    );
+    assert!(rt;
+        proposal_fault(
+            alloc,
+            b"{\"kind\":\"Matrix\",\"base\":0,\"bands\":[],\"cells\":[[\"P1\"]]}"
+        ) == Some(BODY)
+    );
+    assert!(rt; proposal_fault(alloc, b"{\"base\":0,\"tag\":\"T\",\"max\":600}") == Some(BODY));
+    assert!(rt;
+        proposal_fault(alloc, b"{\"kind\":\"limit\",\"tag\":\"T\",\"max\":600}") == Some(BODY)
+    );
+    assert!(rt;
+        proposal_fault(alloc, b"{\"kind\":\"limit\",\"base\":0,\"max\":600}") == Some(BODY)
+    );
     Ok(())
 }

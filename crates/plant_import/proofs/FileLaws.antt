@@ -127,7 +127,7 @@ one_within e zs there q h =
     ap (λ x. member x zs) same ∙ there
 
 -- what is new depends on the members of what is kept alone
-passing-append : (test : List Event → Event → Bool) (before xs ys : List Event) → passing test before (xs ++ ys) ≡ passing test before xs ++ passing test (before ++ xs) ys
+pub passing-append : (test : List Event → Event → Bool) (before xs ys : List Event) → passing test before (xs ++ ys) ≡ passing test before xs ++ passing test (before ++ xs) ys
 passing-append test before [] ys = ap (λ l. passing test l ys) (sym (append-nil before))
 passing-append test before (x ∷ xs) ys =
     let here : List Event = if test before x then x ∷ [] else [] in

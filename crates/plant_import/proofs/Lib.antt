@@ -4,6 +4,8 @@ pub mod Places
 pub mod ReadsRecords
 pub mod Rows
 pub mod Merges
+pub mod Placed
+pub mod Counted
 pub mod Risings
 pub mod Nearest
 pub mod Examples

@@ -6,7 +6,7 @@ use Rattle.plant_alarm.specs.declared.event.Event.{Event}
 use Rattle.plant_import.specs.declared.bad_file.BadFile.{BadFile}
 use Rattle.plant_import.specs.declared.bad_file.Cause.{Cause}
 use Rattle.plant_import.specs.declared.bad_file.Cause.TheVariants.{Header}
-use Rattle.plant_import.specs.Reading.{bad, row_read, rows_read, is_header, file_read}
+use Rattle.plant_import.specs.Reading.{bad, row_read, is_header, file_read}
 use Rattle.plant_import.proofs.Rows.{AreReadRows, rows_none, rows_push, rows_stop, rows_whole, file_rows, file_no_header, file_empty}
 use Rattle.csv.specs.Reading.{ReadRecord, default_config, strip_bom, records, took_first}
 use Rattle.csv.specs.declared.parser.State.TheVariants as st

@@ -1,15 +1,17 @@
 -- Events in rising number, whose moments don't fall: as a list that is gone through, its parts, and what they are next to one more.
-use Rattle.std.proofs.Common.{◌≡◌, ℕ, zero, suc, ◌+◌, ◌-◌, ◌<◌, ◌≤◌, refl, sym, ap, ◌∙◌, subst, arith, List, [], ◌∷◌, ◌++◌, length, take, drop, get_or, Bool, true, false, ◌||◌, ◌⊎◌, inl, inr, Some, None}
+use Rattle.std.proofs.Common.{◌≡◌, ℕ, zero, suc, ◌+◌, ◌-◌, ◌<◌, ◌≤◌, refl, sym, ap, ◌∙◌, subst, arith, List, [], ◌∷◌, ◌++◌, length, take, drop, get_or, Bool, true, false, ◌||◌, Some, None}
 use Rattle.std.specs.Prelude.{nat_lt, slice_get}
-use Rattle.std.specs.List.Sorted.{IsPartitionedBy}
-use Rattle.std.proofs.lemmas.List.Sorted.{IsPartitionedBy-ltb}
 use Rattle.std.proofs.lemmas.List.{take_more, take_all}
 use Rattle.std.proofs.lemmas.Option.{get_or_from_slice_get, slice_get-get_or}
 use Rattle.std.specs.List.{list_any}
-use Rattle.std.proofs.lemmas.Bool.{le-ltb, ltb-false, cases_lt}
+use Rattle.std.proofs.lemmas.Bool.{le-ltb, ltb-false}
 use Rattle.std.proofs.lemmas.List.Kept.{AllPairs-cons}
 use Rattle.plant_alarm.specs.declared.event.Event.{Event}
 use Rattle.plant_import.specs.Merging.{IsRising}
+use Rattle.plant_import.specs.Numbers.{event_number}
+use Rattle.plant_import.proofs.Placed.{AllAbove, Rises, in_order_of}
+use Rattle.plant_types.specs.Tables.{IsInOrder}
+use Rattle.std.specs.Ordering.{nat_cmp}
 
 -- P holds of each
 abbrev pub Each : (Event → Type 0) → List Event → Type 0
@@ -166,10 +168,14 @@ last_none (y ∷ ys) e =
     let there = slice_get-get_or (y ∷ ys) (length ys) y (omega arith) in
     absurd (cc (e ∙ ap (slice_get (y ∷ ys)) at ∙ there))
 
--- the numbers before a place are smaller, and the others aren't
-pub partitioned : (xs : List Event) (seq : ℕ) → IsRising xs → IsPartitionedBy (λ e. nat_lt e.seq seq) xs
-partitioned xs seq h = IsPartitionedBy-ltb (λ (e : Event). e.seq) xs seq (λ i j d le lt. by i j d lt (cases_lt i j) le)
-  where
-    by : (i j : ℕ) (d : Event) → j < length xs → (i < j) ⊎ (j ≤ i) → i ≤ j → (get_or xs i d).seq ≤ (get_or xs j d).seq
-    by i j d lt (inl less) le = omega (arith, (h i j d less lt).0)
-    by i j d lt (inr more) le = let same : i ≡ j = omega arith in let at : (get_or xs i d).seq ≡ (get_or xs j d).seq = ap (λ k. (get_or xs k d).seq) same in omega arith
+-- events in rising number whose moments don't fall are in the order of their numbers
+numbers_above : (n : ℕ) (xs : List Event) → Each (λ y. n < y.seq) xs → AllAbove event_number n xs
+numbers_above n [] h = tt
+numbers_above n (x ∷ xs) h = (h.0, numbers_above n xs h.1)
+
+numbers_rise : (xs : List Event) → Rising xs → Rises event_number xs
+numbers_rise [] h = tt
+numbers_rise (x ∷ xs) h = (numbers_above x.seq xs (each_weaker (Before x) (λ y. x.seq < y.seq) (λ y b. b.0) xs h.0), numbers_rise xs h.1)
+
+pub in_number_order : (xs : List Event) → IsRising xs → IsInOrder nat_cmp event_number xs
+in_number_order xs h = in_order_of event_number xs (numbers_rise xs (rising_of xs h))

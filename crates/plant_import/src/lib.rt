@@ -5,10 +5,12 @@ mod bad_file;
 mod fields;
 pub mod laws;
 mod merging;
+mod numbers;
 mod reading;
 mod records;
 mod standing;
 
 pub use bad_file::{BadFile, Cause};
 pub use merging::{Merged, merge};
+pub use numbers::{count_new, events_after};
 pub use reading::{FileRead, read_file};

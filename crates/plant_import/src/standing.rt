@@ -1,7 +1,10 @@
 ghost use Rattle.std.specs.Prelude.{◌≡◌, ◌≤◌, ◌<◌, ℕ, length, nat_lt};
 ghost use Rattle.std.specs.List.{list_any};
 ghost use Rattle.std.specs.List.Sorted.{IsPartitionPoint};
+ghost use Rattle.std.specs.Ordering.{nat_cmp};
+ghost use Rattle.plant_types.specs.Tables.{IsInOrder};
 ghost use Rattle.plant_import.specs.Merging.{IsRising, same_event};
+ghost use Rattle.plant_import.specs.Numbers.{event_number};
 ghost use Rattle.plant_import.specs.Standing.{Stands};
 
 use plant_alarm::{Event, Number};
@@ -44,10 +47,10 @@ pub fn stands(events: &[Event], event: &Event) -> Standing
     Standing::New(below.len())
 }
 
-/// How many of the events have a smaller number.
-fn place_of(events: &[Event], seq: Number) -> usize
+/// How many of the events, which stand in rising number, have a smaller number.
+pub fn place_of(events: &[Event], seq: Number) -> usize
     ensures bound { result ≤ length events.now }
-    ensures place { IsRising events.now → IsPartitionPoint (λ e. e.seq < seq) (λ e. seq ≤ e.seq) events.now result }
+    ensures place { IsInOrder nat_cmp event_number events.now → IsPartitionPoint (λ e. e.seq < seq) (λ e. seq ≤ e.seq) events.now result }
 {
     events.partition_point(|event| event.seq < seq)
 }

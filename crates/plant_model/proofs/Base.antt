@@ -1,23 +1,25 @@
 -- The unit of the worked examples: opened, staffed, and with two alarms.
-use Rattle.std.specs.Prelude.{Err, List, None, Ok, Result, [], codes, false, max, not, true, ℕ, ◌*◌, ◌+◌, ◌∷◌, ◌≡◌}
+use Rattle.plant_alarm.specs.Shelves.{is_unshelved}
+use Rattle.plant_alarm.specs.declared.event.Event.{Event}
+use Rattle.plant_alarm.specs.declared.event.EventKind.{EventKind}
 use Rattle.plant_alarm.specs.declared.shelf.ShelfState.{ShelfState}
 use Rattle.plant_alarm.specs.declared.summary.AlarmState.{AlarmState}
+use Rattle.plant_model.specs.Alarms.{limit}
+use Rattle.plant_model.specs.Shelves.{shelf}
+use Rattle.plant_model.specs.Verdicts.{verdict}
 use Rattle.plant_model.specs.declared.call.Call.{Call}
 use Rattle.plant_model.specs.declared.call.Request.{Request}
 use Rattle.plant_model.specs.declared.call.Request.TheVariants.{Grant, OpenUnit, Register, Status}
 use Rattle.plant_model.specs.declared.reply.Refused.{Refused}
 use Rattle.plant_model.specs.declared.reply.Reply.{Reply}
 use Rattle.plant_model.specs.declared.reply.Reply.TheVariants.{Done, Status as StatusOf}
+use Rattle.plant_ration.specs.Grid.{Grid}
 use Rattle.plant_ration.specs.declared.cell.Cell.{Cell}
 use Rattle.plant_ration.specs.declared.cell.Cell.TheVariants.{P1, P2, P3, P4}
+use Rattle.plant_types.specs.Names.{Name}
 use Rattle.plant_types.specs.declared.role.Role.{Role}
 use Rattle.plant_types.specs.declared.role.Role.TheVariants.{Approver, Engineer, Maintainer, Operator, Viewer}
-use Rattle.plant_alarm.specs.Shelves.{is_unshelved}
-use Rattle.plant_model.specs.Alarms.{limit}
-use Rattle.plant_model.specs.Shelves.{shelf}
-use Rattle.plant_model.specs.Verdicts.{verdict}
-use Rattle.plant_ration.specs.Grid.{Grid}
-use Rattle.plant_types.specs.Names.{Name}
+use Rattle.std.specs.Prelude.{Err, List, None, Ok, Result, [], codes, false, max, not, true, ℕ, ◌*◌, ◌+◌, ◌∷◌, ◌≡◌}
 
 abbrev pub u1 : Name
 u1 = codes "U1"
@@ -64,6 +66,9 @@ at h m s = 825638400 + 3600 * h + 60 * m + s
 
 abbrev pub call : Name → ℕ → Request → Call
 call p t q = record { person = p; moment = t; request = q }
+
+abbrev pub event : ℕ → EventKind → ℕ → Name → Event
+event n k t a = record { seq = n; moment = t; tag = a; kind = k }
 
 -- the call is accepted after the history, with Done
 abbrev pub IsDone : List Call → Call → Type 0

@@ -12,7 +12,8 @@ use Rattle.plant_model.proofs.FactLaws.{alarm_in, not_true}
 use Rattle.plant_model.proofs.HistoryLaws.{alarm_of, events_told, numbers_of_events}
 use Rattle.plant_model.proofs.ServiceLaws.{both_true, is_some-map, no_outage}
 use Rattle.plant_model.specs.Alarms.{latching, said_of_latching}
-use Rattle.plant_model.specs.Events.{event_numbered, events, has_number, imported, new_numbers, numbers_of, rows_of_file}
+use Rattle.plant_import.specs.Numbers.{has_number, new_numbers, numbers_of}
+use Rattle.plant_model.specs.Events.{event_numbered, events, imported, rows_of_file}
 use Rattle.plant_model.specs.Facts.{facts}
 use Rattle.plant_model.specs.Grants.{held}
 use Rattle.plant_model.specs.Histories.{last_moment}

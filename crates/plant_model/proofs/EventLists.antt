@@ -1,21 +1,21 @@
 -- Events by their numbers: what a list of events has at each number, and what a file without a fault adds to those that are kept.
 use Rattle.plant_alarm.specs.declared.event.Event.{Event}
 use Rattle.plant_floods.specs.Activations.{of_alarm}
-use Rattle.plant_import.proofs.FileLaws.{all_member, clash_of, file_fits, first_member, fit_parts, fit_within, fits_in, kept_fresh, member, no_first, none_member, none_within, or_left, or_right}
+use Rattle.plant_import.proofs.FileLaws.{AreDistinct, all_member, clash_of, file_fits, first_member, fit_parts, fit_within, fits_in, kept_fresh, member, no_first, none_member, none_within, or_left, or_right}
 use Rattle.plant_import.proofs.Nearest.{order_above, same_any, same_is}
 use Rattle.plant_import.proofs.Risings.{Before, Each, Rising, is_rising}
 use Rattle.plant_import.specs.Fields.{first_cause}
 use Rattle.plant_import.specs.Files.{SameMembers, are_known, is_fit}
 use Rattle.plant_import.specs.Merging.{IsRising, clashes, first_fault, fresh, merge_fault, out_of_order, same_event}
 use Rattle.plant_import.specs.declared.bad_file.Cause.TheVariants.{MomentAhead, MomentOutOfOrder, SequenceClash, TagUnknown}
-use Rattle.plant_model.proofs.FactLaws.{same_number_of}
+use Rattle.plant_model.proofs.FactLaws.{not_true, same_number_of}
 use Rattle.plant_model.proofs.PutLaws.{said}
-use Rattle.plant_model.specs.Events.{has_number}
+use Rattle.plant_import.specs.Numbers.{has_number}
 use Rattle.plant_model.specs.RowFacts.{event_number}
 use Rattle.plant_types.specs.Names.{Name, same_name}
 use Rattle.plant_types.specs.Options.{or_else, when}
 use Rattle.plant_types.specs.Tables.{IsInOrder}
-use Rattle.std.proofs.Common.{Equal, Greater, Less, T, ap, cond, refl, subst, sym, true, ◌++◌, ◌+◌, ◌<◌, ◌∙◌, ◌≡◌}
+use Rattle.std.proofs.Common.{Equal, Greater, Less, T, ap, arith, cond, refl, subst, sym, true, ◌++◌, ◌+◌, ◌<◌, ◌∙◌, ◌≡◌}
 use Rattle.std.proofs.lemmas.Bool.{eq-eqb, ltb-false}
 use Rattle.std.proofs.lemmas.List.Folds.{list_any-append}
 use Rattle.std.specs.Cmp.{ranked}
@@ -164,7 +164,7 @@ below_each e (x ∷ es) below order =
     let less : e.seq < x.seq = less_of e.seq x.seq (nat_cmp e.seq x.seq) refl b.0 in
     ((less, ltb-false x.moment e.moment (sym (order_above e x less) ∙ o.0)), below_each e es b.1 o.1)
 
-rises : (es : List Event) → is_fit es ≡ true → IsInOrder nat_cmp event_number es → Rising es
+pub rises : (es : List Event) → is_fit es ≡ true → IsInOrder nat_cmp event_number es → Rising es
 rises [] fit order = tt
 rises (e ∷ es) fit order =
     let o = two_true (below_all nat_cmp e.seq (map (λ x. (event_number x, x)) es)) (is_sorted nat_cmp (map (λ x. (event_number x, x)) es)) order in
@@ -175,3 +175,15 @@ rises (e ∷ es) fit order =
 
 pub rising : (es : List Event) → is_fit es ≡ true → IsInOrder nat_cmp event_number es → IsRising es
 rising es fit order = is_rising es (rises es fit order)
+
+-- so none comes twice
+not_among : (e : Event) (es : List Event) → Each (Before e) es → member e es ≡ false
+not_among e [] h = refl
+not_among e (x ∷ es) h =
+    let other : same_event e x ≡ false = not_true (same_event e x) (λ is. let same : e.seq ≡ x.seq = ap event_number (same_is e x is) in let less = h.0.0 in omega (arith, same, less)) in
+    let rest = not_among e es h.1 in
+    λ i. other i || rest i
+
+pub distinct_rising : (es : List Event) → Rising es → AreDistinct es
+distinct_rising [] h = tt
+distinct_rising (e ∷ es) h = (not_among e es h.0, distinct_rising es h.1)

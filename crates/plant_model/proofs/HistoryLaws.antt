@@ -1,7 +1,8 @@
 -- Each table of a history is told by its function: its rows are at keys that the history names, and have their keys.
 use Rattle.plant_alarm.specs.declared.event.Event.{Event}
 use Rattle.plant_model.specs.Alarms.{latching, limit, said_of_latching}
-use Rattle.plant_model.specs.Events.{event_numbered, events_of, has_number, imported, numbers_of}
+use Rattle.plant_import.specs.Numbers.{has_number, numbers_of}
+use Rattle.plant_model.specs.Events.{event_numbered, events_of, imported}
 use Rattle.plant_model.specs.Grants.{said_of_pair, standing}
 use Rattle.plant_model.specs.Histories.{all_named, latest, same_number}
 use Rattle.plant_model.specs.Parts.{none, nothing}

@@ -11,7 +11,8 @@ use Rattle.plant_model.proofs.EventLists.{IsOf, new_alone, new_rows_say, of_said
 use Rattle.plant_model.proofs.HistoryLaws.{alarm_of, alarms_told, events_told, numbers_of_events, tags_of_alarms, when_Some}
 use Rattle.plant_model.proofs.PutLaws.{put_alarms, put_events, puts, puts-rows, said, said-rows}
 use Rattle.plant_model.specs.Alarms.{latching, limit}
-use Rattle.plant_model.specs.Events.{event_numbered, events, events_of, has_number}
+use Rattle.plant_import.specs.Numbers.{has_number}
+use Rattle.plant_model.specs.Events.{event_numbered, events, events_of}
 use Rattle.plant_model.specs.Facts.{facts}
 use Rattle.plant_model.specs.Refusals.{tags_of}
 use Rattle.plant_model.specs.RowChanges.{all_events, is_touched, put, state_put, with_state}

@@ -33,7 +33,7 @@ later_entry : (by_admin opens : Bool) (h : List Call) (c : Call) → is_opening 
 later_entry by_admin true h c is e = absurd (let no : true ≡ false = opening_of by_admin true c e in cc)
 later_entry by_admin false h c is e = ap (λ b. not b && changes_history (verdict h c) c) is ∙ e
 
-followed : (h : List Call) (c : Call) → IsLegal h → may_follow h c ≡ true → has_matrix c.request ≡ true → IsLegal (c ∷ h)
+pub followed : (h : List Call) (c : Call) → IsLegal h → may_follow h c ≡ true → has_matrix c.request ≡ true → IsLegal (c ∷ h)
 followed [] c legal may m = absurd legal
 followed (d ∷ before) c legal may m = (may, m, legal)
 

@@ -14,12 +14,15 @@ pub mod PartLaws
 pub mod WorldLaws
 pub mod PurgeLaws
 pub mod LegalLaws
+pub mod AgreeLaws
 pub mod EndLaws
 pub mod QuotaLaws
 pub mod Base
 mod WorkedShelves
 mod WorkedGrants
 mod WorkedService
+mod WorkedImports
+mod WorkedFloods
 mod WorkedWorld
 mod WorkedQuota
 mod WorkedRows

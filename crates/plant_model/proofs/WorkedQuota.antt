@@ -1,13 +1,20 @@
 -- Worked examples: the quota of shelves.
-use Rattle.std.proofs.Common.{refl}
-use Rattle.std.specs.Prelude.{List, None, [], codes, false, ℕ, ◌∷◌}
-use Rattle.plant_model.specs.declared.call.Call.{Call}
-use Rattle.plant_model.specs.declared.call.Request.TheVariants.{Grant, OneShotShelve, OpenUnit, Register, TimedShelve}
-use Rattle.plant_model.specs.declared.reply.Refused.TheVariants.{ShelfQuota, ShelvingTimeOutOfRange}
-use Rattle.plant_types.specs.declared.role.Role.TheVariants.{Engineer, Operator}
-use Rattle.plant_model.proofs.Base.{IsAnswered, IsDone, ann, at, call, eve, grid, root, ste, x}
+use Rattle.plant_alarm.specs.declared.event.Event.{Event}
+use Rattle.plant_alarm.specs.declared.event.EventKind.TheVariants.{Act, Rtn}
+use Rattle.plant_import.specs.Merging.{merge_fault}
+use Rattle.plant_model.proofs.Base.{IsAnswered, IsDone, ann, at, call, eve, event, grid, root, ste, x}
+use Rattle.plant_model.specs.Facts.{facts}
 use Rattle.plant_model.specs.Refusals.{holds_some}
+use Rattle.plant_model.specs.Replies.{shelf_lines}
+use Rattle.plant_model.specs.Verdicts.{verdict}
+use Rattle.plant_model.specs.declared.call.Call.{Call}
+use Rattle.plant_model.specs.declared.call.Request.TheVariants.{Grant, Import, OneShotShelve, OpenUnit, Register, TimedShelve, Unshelve}
+use Rattle.plant_model.specs.declared.reply.Refused.TheVariants.{ShelfQuota, ShelvingTimeOutOfRange}
+use Rattle.plant_model.specs.declared.reply.Reply.TheVariants.{Imported}
 use Rattle.plant_types.specs.Names.{Name}
+use Rattle.plant_types.specs.declared.role.Role.TheVariants.{Engineer, Operator}
+use Rattle.std.proofs.Common.{drop, refl, ◌≡◌}
+use Rattle.std.specs.Prelude.{List, None, Ok, [], codes, false, length, ℕ, ◌∷◌}
 
 -- a quota of two shelved alarms
 abbrev u3 : Name
@@ -55,3 +62,24 @@ moved = timed (at 10 1 0) a3 60 ∷ full
 full_again : IsAnswered moved (shot (at 10 1 30) a1) (ShelfQuota 2) × IsAnswered moved (timed (at 10 1 30) a1 3601) (ShelvingTimeOutOfRange 3600) × IsDone moved (shot (at 10 1 30) a3)
 unfolding holds_some
 full_again = (refl, refl, refl)
+
+-- a filled gap makes a one-shot shelf hold again, above the quota
+abbrev rows_at : ℕ → List Event → Call
+rows_at t rows = call ann t (Import u3 (Ok rows))
+
+abbrev above : List Call
+above = rows_at (at 10 2 0) (event 2 Rtn (at 9 55 0) a2 ∷ []) ∷ timed (at 10 1 30) a3 3600 ∷ timed (at 10 1 30) a1 3600 ∷ rows_at (at 10 1 0) (event 1 Act (at 9 50 0) a2 ∷ event 3 Rtn (at 10 0 5) a2 ∷ []) ∷ shot (at 10 0 0) a2 ∷ small
+
+steps_above : IsDone (drop 3 above) (timed (at 10 1 30) a1 3600) × IsDone (drop 2 above) (timed (at 10 1 30) a3 3600) × (verdict (drop 1 above) (rows_at (at 10 2 0) (event 2 Rtn (at 9 55 0) a2 ∷ [])) ≡ Ok (Imported 1 0))
+unfolding holds_some merge_fault
+steps_above = (refl, refl, refl)
+
+three_shelved : length (shelf_lines (facts above) (at 10 2 0)) ≡ 3
+three_shelved = refl
+
+abbrev off : Call
+off = call ann (at 10 2 0) (Unshelve u3 a1)
+
+above_the_quota : IsDone above off × IsAnswered (off ∷ above) (timed (at 10 2 0) a1 60) (ShelfQuota 2) × IsDone (off ∷ above) (timed (at 10 2 0) a2 60)
+unfolding holds_some merge_fault
+above_the_quota = (refl, refl, refl)

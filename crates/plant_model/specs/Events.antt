@@ -1,19 +1,20 @@
 -- The events of a unit: the rows of all its imports, each number once, as the numbers rise. Arrival plays no part.
+use Rattle.plant_import.specs.Numbers.{has_number, numbers_of}
 use Rattle.plant_alarm.specs.declared.event.Event.{Event}
 use Rattle.plant_floods.specs.Activations.{of_alarm, period_counts}
 use Rattle.plant_floods.specs.Floods.{floods}
 use Rattle.plant_floods.specs.declared.run.Run.{Run}
 use Rattle.plant_import.specs.declared.bad_file.BadFile.{BadFile}
-use Rattle.plant_model.specs.Histories.{all_named, latest, same_number}
+use Rattle.plant_model.specs.Histories.{all_named, latest}
 use Rattle.plant_model.specs.declared.call.Call.{Call}
 use Rattle.plant_model.specs.declared.call.Request.{Request}
 use Rattle.plant_model.specs.declared.call.Request.TheVariants.{Import}
 use Rattle.plant_model.specs.declared.reply.FloodLine.{FloodLine}
 use Rattle.plant_types.specs.Names.{Name}
 use Rattle.plant_types.specs.Tables.{in_order}
-use Rattle.std.specs.List.{find, list_any}
+use Rattle.std.specs.List.{find}
 use Rattle.std.specs.Ordering.{nat_cmp}
-use Rattle.std.specs.Prelude.{Bool, Err, List, Ok, Option, Result, [], filter, filter_map, map, nat_le, nat_lt, not, ℕ, ◌%◌, ◌&&◌, ◌*◌, ◌+◌, ◌-◌, ◌==◌}
+use Rattle.std.specs.Prelude.{Bool, Err, List, Ok, Option, Result, [], filter_map, map, nat_le, nat_lt, ℕ, ◌%◌, ◌&&◌, ◌*◌, ◌+◌, ◌-◌, ◌==◌}
 
 -- the rows of a file that was read without fault
 abbrev pub rows_of_file : Result (List Event) BadFile → List Event
@@ -24,15 +25,9 @@ abbrev pub imported : Request → List Event
 imported (Import u file) = rows_of_file file
 imported _ = []
 
-abbrev pub has_number : ℕ → Event → Bool
-has_number n e = same_number n e.seq
-
 -- the event of a number, where some import has it
 abbrev pub event_numbered : List Call → ℕ → Option Event
 event_numbered h n = latest (λ c before. find (has_number n) (imported c.request)) h
-
-abbrev pub numbers_of : List Event → List ℕ
-numbers_of es = map (λ e. e.seq) es
 
 abbrev pub events : List Call → List Event
 events h = filter_map (event_numbered h) (in_order nat_cmp (all_named (λ c before. numbers_of (imported c.request)) h))
@@ -40,10 +35,6 @@ events h = filter_map (event_numbered h) (in_order nat_cmp (all_named (λ c befo
 -- those of one alarm
 abbrev pub events_of : List Call → Name → List Event
 events_of h a = of_alarm a (events h)
-
--- the numbers of a file that no kept event has, each once
-abbrev pub new_numbers : List Event → List Event → List ℕ
-new_numbers kept rows = in_order nat_cmp (numbers_of (filter (λ e. not (list_any (has_number e.seq) kept)) rows))
 
 -- a range of whole periods of ten minutes, from 1 to 1,008 of them: a week
 abbrev pub is_aligned : ℕ → ℕ → Bool

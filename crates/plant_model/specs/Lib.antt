@@ -16,4 +16,5 @@ pub mod Parts
 pub mod RowChanges
 pub mod Worlds
 pub mod Views
+pub mod ImportLaw
 pub mod Laws

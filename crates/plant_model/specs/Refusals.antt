@@ -3,7 +3,8 @@ use Rattle.plant_alarm.specs.Shelves.{is_one_shot, is_timed, is_unshelved}
 use Rattle.plant_alarm.specs.declared.event.Event.{Event}
 use Rattle.plant_import.specs.Merging.{first_fault}
 use Rattle.plant_import.specs.declared.bad_file.BadFile.{BadFile}
-use Rattle.plant_model.specs.Events.{is_aligned, new_numbers}
+use Rattle.plant_import.specs.Numbers.{new_numbers}
+use Rattle.plant_model.specs.Events.{is_aligned}
 use Rattle.plant_model.specs.Facts.{Facts, is_out, limit_of, others_shelved, shelf_now}
 use Rattle.plant_model.specs.Grants.{is_before}
 use Rattle.plant_model.specs.RowFacts.{alarm_tag}

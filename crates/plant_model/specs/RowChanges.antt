@@ -1,4 +1,5 @@
 -- Changes of a unit's rows.
+use Rattle.plant_import.specs.Numbers.{with_events}
 use Rattle.plant_alarm.specs.States.{active_since, is_suppressed, last_return, state_of}
 use Rattle.plant_alarm.specs.declared.event.Event.{Event}
 use Rattle.plant_floods.specs.Activations.{of_alarm}
@@ -29,7 +30,7 @@ use Rattle.plant_types.specs.declared.role.Role.TheVariants.{Steward}
 use Rattle.std.specs.List.{list_any}
 use Rattle.std.specs.Option.{option_to_list}
 use Rattle.std.specs.Ordering.{nat_cmp}
-use Rattle.std.specs.Prelude.{Bool, List, None, Some, [], false, filter, filter_map, fold, map, max, true, ℕ, ◌++◌, ◌+◌, ◌∷◌}
+use Rattle.std.specs.Prelude.{Bool, List, None, Some, [], false, filter, filter_map, map, max, true, ℕ, ◌++◌, ◌+◌, ◌∷◌}
 
 abbrev pub put : Row → UnitRows → UnitRows
 put (UnitPut r) rows = record rows { units = r ∷ [] }
@@ -89,7 +90,7 @@ placed_in r = record r { out_s = None; out_by = None; out_words = None }
 
 -- all events with the new ones of a file
 abbrev pub all_events : List Event → List Event → List Event
-all_events kept rows = fold (λ es e. put_row nat_cmp event_number e es) kept (fresh kept rows)
+all_events kept rows = with_events kept (fresh kept rows)
 
 -- a new row of the file names the alarm: its state is told anew from all its events
 abbrev pub is_touched : List Event → List Event → AlarmRow → Bool

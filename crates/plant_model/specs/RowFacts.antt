@@ -1,5 +1,5 @@
 -- The facts that a verdict looks at, read from rows.
-use Rattle.plant_alarm.specs.declared.event.Event.{Event}
+pub use Rattle.plant_import.specs.Numbers.{event_number}
 use Rattle.plant_model.specs.Facts.{Facts, is_steward_row}
 use Rattle.plant_model.specs.Grants.{is_before}
 use Rattle.plant_model.specs.Matrices.{BandKey, CellKey}
@@ -26,9 +26,6 @@ alarm_tag r = r.tag
 
 abbrev pub shelf_tag : ShelfRow → Name
 shelf_tag r = r.tag
-
-abbrev pub event_number : Event → ℕ
-event_number e = e.seq
 
 abbrev pub band_key : BandRow → BandKey
 band_key r = (r.matrix_no, r.band_no)

@@ -1,5 +1,6 @@
 //! What holds of the definitions alone: contracts that stand on empty bodies.
 
+ghost use Rattle.plant_model.specs.ImportLaw.{ImportsAgree};
 ghost use Rattle.plant_model.specs.Laws.{UnseenCallsChangeNothing, CodesAreTheAdministrators, EqualViewsEqualAnswers, CallsToSeenUnits, OthersCallsCanGo, NextWorldsAreLegal, WithoutEndsStandingIsHolding, QuotaOf2000RefusesNothing};
 
 /// Isolation: what one person sees of two worlds.
@@ -28,4 +29,9 @@ pub fn standing_without_ends()
 /// A quota of 2,000 refuses no shelving in a legal history.
 pub fn largest_quota()
     ensures { QuotaOf2000RefusesNothing }
+{}
+
+/// Imports agree: which files bring the rows, and in which order, plays no part.
+pub fn imports_agree()
+    ensures { ImportsAgree }
 {}

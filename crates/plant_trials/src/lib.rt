@@ -13,6 +13,8 @@ mod examples;
 #[cfg(test)]
 mod exchanges;
 #[cfg(test)]
+mod full;
+#[cfg(test)]
 mod keepers;
 #[cfg(test)]
 mod malformed;

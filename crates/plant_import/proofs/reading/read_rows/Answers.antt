@@ -1,4 +1,4 @@
-use Rattle.std.proofs.Common.{◌≡◌, ◌≤◌, ◌∙◌, ◌++◌, ◌∷◌, [], sym, rules, arith, Ok, Err}
+use Rattle.std.proofs.Common.{◌≡◌, ◌≤◌, ◌∙◌, ◌++◌, ◌∷◌, [], sym, rules, arith, Ok}
 use Rattle.csv.specs.Records.{fields_of}
 use Rattle.plant_import.specs.Reading.{row_read}
 use Rattle.plant_import.proofs.Rows.{in_limit}

@@ -1,4 +1,4 @@
-use Rattle.std.proofs.Common.{◌≡◌, ◌≤◌, ◌-◌, ◌+◌, ℕ, List, ◌∷◌, [], length}
+use Rattle.std.proofs.Common.{◌≤◌, ◌-◌, ℕ, List, ◌∷◌, []}
 use Rattle.plant_import.specs.Records.{HasRead}
 use Rattle.plant_import.proofs.ReadsRecords.{ReadsRows}
 use Rattle.plant_import.proofs.reading.read_rows.Given as goal

@@ -1,0 +1,61 @@
+-- What the body of a proposal says: what is to be changed, to what, and the revision that it was drawn up for.
+use Rattle.std.specs.Prelude.{ℕ, List, Result, Ok, Err, codes, if◌then◌else◌}
+use Rattle.std.specs.Str.{bytes_eq}
+use Rattle.serde_json.specs.Data.{Data}
+use Rattle.plant_ration.specs.declared.change.Sheet.{Sheet}
+use Rattle.plant_ration.specs.declared.change.ChangeKind.{ChangeKind}
+use Rattle.plant_ration.specs.declared.change.ChangeKind.TheVariants.{Rationale, Matrix, Limit}
+use Rattle.plant_ration.specs.declared.change.Proposal.{Proposal}
+use Rattle.plant_body.specs.declared.members.Unfit.{Unfit}
+use Rattle.plant_body.specs.declared.members.Unfit.TheVariants.{Body}
+use Rattle.plant_body.specs.Members.{told, ◌>>=◌, string_at, tag_at, words_at, seconds_at, base_at, severity_at}
+use Rattle.plant_body.specs.Lists.{numbers_at, rows_at}
+use Rattle.plant_body.specs.Bodies.{matrix_from}
+
+-- what is recorded of an alarm
+unfoldable pub sheet_in : Data → Result Sheet Unfit
+sheet_in d = do
+  cause ← told (words_at (codes "cause") d)
+  consequence ← told (words_at (codes "consequence") d)
+  action ← told (words_at (codes "action") d)
+  severity ← told (severity_at (codes "severity") d)
+  response ← told (seconds_at (codes "response") d)
+  Ok (record { cause = cause; consequence = consequence; action = action; severity = severity; response = response })
+
+-- of the record of an alarm
+unfoldable pub record_in : Data → Result ChangeKind Unfit
+record_in d = do
+  tag ← told (tag_at (codes "tag") d)
+  sheet ← sheet_in d
+  Ok (Rationale tag sheet)
+
+-- of the unit's matrix; whether its table is one is looked at last
+unfoldable pub matrix_in : Data → Result ChangeKind Unfit
+matrix_in d = do
+  limits ← told (numbers_at (codes "bands") d)
+  rows ← told (rows_at (codes "cells") d)
+  matrix ← matrix_from limits rows
+  Ok (Matrix matrix)
+
+-- of the limit of an alarm's shelves
+unfoldable pub limit_in : Data → Result ChangeKind Unfit
+limit_in d = do
+  tag ← told (tag_at (codes "tag") d)
+  max ← told (seconds_at (codes "max") d)
+  Ok (Limit tag max)
+
+-- of a change of the named kind
+abbrev pub change_in : List ℕ → Data → Result ChangeKind Unfit
+change_in kind d =
+    if bytes_eq kind (codes "record") then record_in d
+    else if bytes_eq kind (codes "matrix") then matrix_in d
+    else if bytes_eq kind (codes "limit") then limit_in d
+    else Err Body
+
+-- of a proposal: the base stands before the change, so that the faults of a matrix come after all else
+unfoldable pub proposal_in : Data → Result Proposal Unfit
+proposal_in d = do
+  name ← told (string_at (codes "kind") d)
+  base ← told (base_at (codes "base") d)
+  kind ← change_in name d
+  Ok (record { kind = kind; base = base })

@@ -1,0 +1,266 @@
+-- Rows in the order of their numbers: the place of a number among them, and rows put among them.
+use Rattle.std.proofs.lemmas.Bool.{false≢true}
+use Rattle.std.proofs.Common.{ap, append_assoc, arith, drop, get_or, nat_lt, refl, set, subst, sym, take, ◌∙◌}
+use Rattle.std.specs.Cmp.{nat_cmp_is, ranked}
+use Rattle.std.specs.FinMap.Entries.{below_all, by_order}
+use Rattle.std.specs.List.{insert, list_any}
+use Rattle.std.specs.Ordering.{eq_by_cmp, is_eq, is_lt, nat_cmp}
+use Rattle.std.specs.Prelude.{Bool, List, T, [], false, fold, if◌then◌else◌, length, map, option_map, slice_get, suc, true, unwrap_or, zero, ℕ, ◌&&◌, ◌++◌, ◌+◌, ◌<◌, ◌∷◌, ◌≡◌, ◌≤◌, ◌||◌}
+use Rattle.std.specs.declared.cmp.Ordering.TheVariants.{Equal, Greater, Less}
+use Rattle.std.specs.List.Sorted.{IsNonDecreasingBy, IsPartitionPoint, IsPartitionedBy}
+use Rattle.std.proofs.lemmas.List.Sorted.{IsPartitionedBy-ltb}
+use Rattle.std.proofs.lemmas.List.{drop_more}
+use Rattle.plant_types.specs.Tables.{IsInOrder, put_row}
+
+both : (a b : Bool) → T a → T b → T (a && b)
+both true b p q = q
+both false b p q = p
+
+first : (a b : Bool) → T (a && b) → T a
+first true b p = tt
+first false b p = p
+
+second : (a b : Bool) → T (a && b) → T b
+second true b p = p
+second false b p = absurd p
+
+less_of : (m n : ℕ) → T (is_lt (nat_cmp m n)) → m < n
+less_of m n h =
+    elim (nat_cmp m n) as (λ r. r ≡ nat_cmp m n → T (is_lt r) → m < n) [
+      | Less ↦ λ is _. ranked m n Less is
+      | Equal ↦ λ is t. absurd t
+      | Greater ↦ λ is t. absurd t
+    ] refl h
+
+is_less : (m n : ℕ) → m < n → T (is_lt (nat_cmp m n))
+is_less m n lt = subst (λ r. T (is_lt r)) (nat_cmp_is m n Less lt) tt
+
+other : (m n : ℕ) → n < m → eq_by_cmp nat_cmp m n ≡ false
+other m n lt = sym (ap is_eq (nat_cmp_is m n Greater lt))
+
+pub other_above : (m n : ℕ) → m < n → eq_by_cmp nat_cmp m n ≡ false
+other_above m n lt = sym (ap is_eq (nat_cmp_is m n Less lt))
+
+pub above_it : (m n : ℕ) → m ≤ n → eq_by_cmp nat_cmp m n ≡ false → m < n
+above_it m n le differs =
+    elim (nat_cmp m n) as (λ r. r ≡ nat_cmp m n → is_eq r ≡ false → m < n) [
+      | Less ↦ λ is _. ranked m n Less is
+      | Equal ↦ λ is e. cc
+      | Greater ↦ λ is _. let gt : n < m = ranked m n Greater is in absurd (omega (arith, gt, le))
+    ] refl differs
+
+same_it : (m n : ℕ) → eq_by_cmp nat_cmp m n ≡ true → m ≡ n
+same_it m n ties =
+    elim (nat_cmp m n) as (λ r. r ≡ nat_cmp m n → is_eq r ≡ true → m ≡ n) [
+      | Less ↦ λ is e. cc
+      | Equal ↦ λ is _. ranked m n Equal is
+      | Greater ↦ λ is e. cc
+    ] refl ties
+
+module _ {X : Type 0} (key : X → ℕ) where
+  abbrev pub AllAbove : ℕ → List X → Type 0
+  AllAbove n [] = Unit {0}
+  AllAbove n (x ∷ xs) = (n < key x) × AllAbove n xs
+
+  abbrev pub AllFrom : ℕ → List X → Type 0
+  AllFrom n [] = Unit {0}
+  AllFrom n (x ∷ xs) = (n ≤ key x) × AllFrom n xs
+
+  abbrev pub AllBelow : ℕ → List X → Type 0
+  AllBelow n [] = Unit {0}
+  AllBelow n (x ∷ xs) = (key x < n) × AllBelow n xs
+
+  abbrev pub Rises : List X → Type 0
+  Rises [] = Unit {0}
+  Rises (x ∷ xs) = AllAbove (key x) xs × Rises xs
+
+  above_of : (n : ℕ) (xs : List X) → T (below_all nat_cmp n (map (λ r. (key r, r)) xs)) → AllAbove n xs
+  above_of n [] h = tt
+  above_of n (x ∷ xs) h = (less_of n (key x) (first _ _ h), above_of n xs (second _ _ h))
+
+  of_above : (n : ℕ) (xs : List X) → AllAbove n xs → T (below_all nat_cmp n (map (λ r. (key r, r)) xs))
+  of_above n [] h = tt
+  of_above n (x ∷ xs) h = both _ _ (is_less n (key x) h.0) (of_above n xs h.1)
+
+  pub rises_of : (xs : List X) → IsInOrder nat_cmp key xs → Rises xs
+  rises_of [] h = tt
+  rises_of (x ∷ xs) h = (above_of (key x) xs (first _ _ h), rises_of xs (second _ _ h))
+
+  pub in_order_of : (xs : List X) → Rises xs → IsInOrder nat_cmp key xs
+  in_order_of [] h = tt
+  in_order_of (x ∷ xs) h = both _ _ (of_above (key x) xs h.0) (in_order_of xs h.1)
+
+  above_at : (n : ℕ) (xs : List X) → AllAbove n xs → (k : ℕ) (d : X) → k < length xs → n < key (get_or xs k d)
+  above_at n [] h k d lt = absurd (omega arith)
+  above_at n (x ∷ xs) h zero d lt = h.0
+  above_at n (x ∷ xs) h (suc k) d lt = above_at n xs h.1 k d (omega arith)
+
+  not_falling : (xs : List X) → Rises xs → IsNonDecreasingBy key xs
+  not_falling [] h i j d le lt = absurd (omega arith)
+  not_falling (x ∷ xs) h zero zero d le lt = omega arith
+  not_falling (x ∷ xs) h zero (suc j) d le lt = let above = above_at (key x) xs h.0 j d (omega arith) in omega (arith, above)
+  not_falling (x ∷ xs) h (suc i) zero d le lt = absurd (omega arith)
+  not_falling (x ∷ xs) h (suc i) (suc j) d le lt = not_falling xs h.1 i j d (omega arith) (omega arith)
+
+  -- the numbers before a place are smaller, and the others aren't
+  pub parted : (xs : List X) (n : ℕ) → IsInOrder nat_cmp key xs → IsPartitionedBy (λ x. nat_lt (key x) n) xs
+  parted xs n h = IsPartitionedBy-ltb key xs n (not_falling xs (rises_of xs h))
+
+  abbrev pub Parts : ℕ → List X → ℕ → Type 0
+  Parts n xs p = IsPartitionPoint (λ x. key x < n) (λ x. n ≤ key x) xs p
+
+  later : (n : ℕ) (x : X) (xs : List X) (p : ℕ) → Parts n (x ∷ xs) (suc p) → Parts n xs p
+  later n x xs p h = (λ k d low high. h.0 (suc k) d (omega arith) (omega arith), λ k d low high. h.1 (suc k) d (omega arith) (omega arith))
+
+  abbrev pub put : X → List X → List X
+  put = put_row nat_cmp key
+
+  pub put_before : (r x : X) (xs : List X) → key r < key x → put r (x ∷ xs) ≡ r ∷ x ∷ xs
+  put_before r x xs lt = sym (ap (λ o. by_order o (r ∷ x ∷ xs) (r ∷ xs) (x ∷ put r xs)) (nat_cmp_is (key r) (key x) Less lt))
+
+  pub put_over : (r x : X) (xs : List X) → key r ≡ key x → put r (x ∷ xs) ≡ r ∷ xs
+  put_over r x xs same = sym (ap (λ o. by_order o (r ∷ x ∷ xs) (r ∷ xs) (x ∷ put r xs)) (nat_cmp_is (key r) (key x) Equal same))
+
+  pub put_behind : (r x : X) (xs : List X) → key x < key r → put r (x ∷ xs) ≡ x ∷ put r xs
+  put_behind r x xs lt = sym (ap (λ o. by_order o (r ∷ x ∷ xs) (r ∷ xs) (x ∷ put r xs)) (nat_cmp_is (key r) (key x) Greater lt))
+
+  -- whether the row at a place, if there is one, has a number
+  abbrev pub is_at : List X → ℕ → ℕ → Bool
+  is_at xs p n = unwrap_or (option_map (λ x. eq_by_cmp nat_cmp n (key x)) (slice_get xs p)) false
+
+  -- a row of a number that isn't there is put at the place of its number, and another over the row that is there
+  pub put_new : (r : X) (xs : List X) (p : ℕ) → Parts (key r) xs p → p ≤ length xs → is_at xs p (key r) ≡ false → put r xs ≡ insert xs p r
+  put_new r [] zero h le absent = refl
+  put_new r [] (suc p) h le absent = absurd (omega arith)
+  put_new r (x ∷ xs) zero h le absent = put_before r x xs (above_it (key r) (key x) (h.1 0 x (omega arith) (omega arith)) absent)
+  put_new r (x ∷ xs) (suc p) h le absent =
+      put_behind r x xs (h.0 0 x (omega arith) (omega arith)) ∙ ap (λ l. x ∷ l) (put_new r xs p (later (key r) x xs p h) (omega arith) absent)
+
+  pub put_there : (r : X) (xs : List X) (p : ℕ) → Parts (key r) xs p → is_at xs p (key r) ≡ true → put r xs ≡ set xs p r
+  put_there r [] p h ties = absurd (false≢true ties)
+  put_there r (x ∷ xs) zero h ties = put_over r x xs (same_it (key r) (key x) ties)
+  put_there r (x ∷ xs) (suc p) h ties =
+      put_behind r x xs (h.0 0 x (omega arith) (omega arith)) ∙ ap (λ l. x ∷ l) (put_there r xs p (later (key r) x xs p h) ties)
+
+  -- a number is there exactly where it is at its place
+  none_above : (n : ℕ) (xs : List X) → AllAbove n xs → list_any (λ x. eq_by_cmp nat_cmp n (key x)) xs ≡ false
+  none_above n [] h = refl
+  none_above n (x ∷ xs) h = λ i. other_above n (key x) h.0 i || none_above n xs h.1 i
+
+  higher : (m n : ℕ) (xs : List X) → m ≤ n → AllAbove n xs → AllAbove m xs
+  higher m n [] le h = tt
+  higher m n (x ∷ xs) le h = (omega (arith, le, h.0), higher m n xs le h.1)
+
+  or_false : (b : Bool) → (b || false) ≡ b
+  or_false true = refl
+  or_false false = refl
+
+  pub there : (n : ℕ) (xs : List X) (p : ℕ) → Rises xs → Parts n xs p → p ≤ length xs → list_any (λ x. eq_by_cmp nat_cmp n (key x)) xs ≡ is_at xs p n
+  there n [] zero rises h le = refl
+  there n [] (suc p) rises h le = absurd (omega arith)
+  there n (x ∷ xs) zero rises h le =
+      ap (λ b. eq_by_cmp nat_cmp n (key x) || b) (none_above n xs (higher n (key x) xs (h.1 0 x (omega arith) (omega arith)) rises.0)) ∙ or_false _
+  there n (x ∷ xs) (suc p) rises h le =
+      ap (λ b. b || list_any (λ y. eq_by_cmp nat_cmp n (key y)) xs) (other n (key x) (h.0 0 x (omega arith) (omega arith))) ∙ there n xs p rises.1 (later n x xs p h) (omega arith)
+
+  -- rows put behind others
+  pub put_after : (r : X) (xs ys : List X) → AllBelow (key r) xs → put r (xs ++ ys) ≡ xs ++ put r ys
+  put_after r [] ys h = refl
+  put_after r (x ∷ xs) ys h = put_behind r x (xs ++ ys) h.0 ∙ ap (λ l. x ∷ l) (put_after r xs ys h.1)
+
+  abbrev pub puts : List X → List X → List X
+  puts xs rs = fold (λ es r. put r es) xs rs
+
+  abbrev pub EachBehind : List X → List X → Type 0
+  EachBehind xs [] = Unit {0}
+  EachBehind xs (r ∷ rs) = AllBelow (key r) xs × EachBehind xs rs
+
+  puts_after : (rs xs ys : List X) → EachBehind xs rs → puts (xs ++ ys) rs ≡ xs ++ puts ys rs
+  puts_after [] xs ys h = refl
+  puts_after (r ∷ rs) xs ys h = ap (λ l. puts l rs) (put_after r xs ys h.0) ∙ puts_after rs xs (put r ys) h.1
+
+  below_higher : (m n : ℕ) (xs : List X) → m ≤ n → AllBelow m xs → AllBelow n xs
+  below_higher m n [] le h = tt
+  below_higher m n (x ∷ xs) le h = (omega (arith, le, h.0), below_higher m n xs le h.1)
+
+  below_end : (n : ℕ) (xs : List X) (r : X) → AllBelow n xs → key r < n → AllBelow n (xs ++ r ∷ [])
+  below_end n [] r h lt = (lt, tt)
+  below_end n (x ∷ xs) r h lt = (h.0, below_end n xs r h.1 lt)
+
+  behind_end : (r : X) (xs rs : List X) → AllBelow (key r) xs → AllAbove (key r) rs → EachBehind (xs ++ r ∷ []) rs
+  behind_end r xs [] h k = tt
+  behind_end r xs (s ∷ rs) h k = (below_end (key s) xs r (below_higher (key r) (key s) xs (omega (arith, k.0)) h) k.0, behind_end r xs rs h k.1)
+
+  -- the rows without the first, where it has a number
+  abbrev pub without_first : ℕ → List X → List X
+  without_first n xs = if is_at xs 0 n then drop 1 xs else xs
+
+  put_first : (r : X) (xs : List X) → AllFrom (key r) xs → put r xs ≡ r ∷ without_first (key r) xs
+  put_first r [] h = refl
+  put_first r (x ∷ xs) h =
+      elim (eq_by_cmp nat_cmp (key r) (key x)) as (λ b. eq_by_cmp nat_cmp (key r) (key x) ≡ b → put r (x ∷ xs) ≡ r ∷ (if b then xs else x ∷ xs)) [
+        | true ↦ λ ties. put_over r x xs (same_it (key r) (key x) ties)
+        | false ↦ λ differs. put_before r x xs (above_it (key r) (key x) h.0 differs)
+      ] refl
+
+  -- the first of rising rows is put between those below it and those from it on, and the rest behind it
+  pub puts_first : (r : X) (below above rs : List X) → AllBelow (key r) below → AllFrom (key r) above → AllAbove (key r) rs
+      → puts (below ++ above) (r ∷ rs) ≡ (below ++ r ∷ []) ++ puts (without_first (key r) above) rs
+  puts_first r below above rs low high more =
+      ap (λ l. puts l rs) (put_after r below above low ∙ ap (λ l. below ++ l) (put_first r above high) ∙ sym (append_assoc below (r ∷ []) (without_first (key r) above)))
+      ∙ puts_after rs (below ++ r ∷ []) (without_first (key r) above) (behind_end r below rs low more)
+
+  -- the two parts of rising rows at the place of a number
+  pub record AreCut (n : ℕ) (xs below above : List X) : Type 0 where
+    pub whole : xs ≡ below ++ above
+    pub low : AllBelow n below
+    pub high : AllFrom n above
+
+  from_higher : (m n : ℕ) (xs : List X) → m ≤ n → AllAbove n xs → AllFrom m xs
+  from_higher m n [] le h = tt
+  from_higher m n (x ∷ xs) le h = (omega (arith, le, h.0), from_higher m n xs le h.1)
+
+  pub cut : (n : ℕ) (xs : List X) (p : ℕ) → Rises xs → Parts n xs p → p ≤ length xs → AreCut n xs (take p xs) (drop p xs)
+  cut n [] zero rises h le = record { whole = refl; low = tt; high = tt }
+  cut n [] (suc p) rises h le = absurd (omega arith)
+  cut n (x ∷ xs) zero rises h le =
+      let from : n ≤ key x = h.1 0 x (omega arith) (omega arith) in
+      record { whole = refl; low = tt; high = (from, from_higher n (key x) xs from rises.0) }
+  cut n (x ∷ xs) (suc p) rises h le =
+      let rest = cut n xs p rises.1 (later n x xs p h) (omega arith) in
+      record { whole = ap (λ l. x ∷ l) rest.whole; low = (h.0 0 x (omega arith) (omega arith), rest.low); high = rest.high }
+
+  -- parts of rising rows rise
+  pub rises_drop : (k : ℕ) (xs : List X) → Rises xs → Rises (drop k xs)
+  rises_drop zero xs h = h
+  rises_drop (suc k) [] h = tt
+  rises_drop (suc k) (x ∷ xs) h = rises_drop k xs h.1
+
+  pub rises_without : (n : ℕ) (xs : List X) → Rises xs → Rises (without_first n xs)
+  rises_without n xs h = elim (is_at xs 0 n) as (λ b. Rises (if b then drop 1 xs else xs)) [ true ↦ rises_drop 1 xs h | false ↦ h ]
+
+  -- one more of two rising lists that are joined
+  pub puts_next : (all rest more below above whole : List X) (p i : ℕ) (r : X) → all ++ puts rest (drop i more) ≡ whole → Rises rest → Rises more → i < length more → r ≡ get_or more i r
+      → Parts (key r) rest p → p ≤ length rest → below ≡ take p rest → above ≡ drop p rest
+      → ((all ++ below) ++ r ∷ []) ++ puts (without_first (key r) above) (drop (i + 1) more) ≡ whole
+  puts_next all rest more below above whole p i r so rises goes lt is parts le eb ea =
+      let here : drop i more ≡ r ∷ drop (i + 1) more = drop_more more i r lt ∙ ap (λ x. x ∷ drop (i + 1) more) (sym is) in
+      let parted_so : AreCut (key r) rest (take p rest) (drop p rest) = cut (key r) rest p rises parts le in
+      let tail : Rises (r ∷ drop (i + 1) more) = subst (λ (l : List X). Rises l) here (rises_drop i more goes) in
+      let step : puts rest (drop i more) ≡ (take p rest ++ r ∷ []) ++ puts (without_first (key r) (drop p rest)) (drop (i + 1) more) =
+      ap (puts rest) here ∙ ap (λ l. puts l (r ∷ drop (i + 1) more)) parted_so.whole ∙ puts_first r (take p rest) (drop p rest) (drop (i + 1) more) parted_so.low parted_so.high tail.0 in
+      ap (λ l. l ++ puts (without_first (key r) above) (drop (i + 1) more)) (append_assoc all below (r ∷ [])) ∙ append_assoc all (below ++ r ∷ []) (puts (without_first (key r) above) (drop (i + 1) more))
+      ∙ (λ j. all ++ ((eb j ++ r ∷ []) ++ puts (without_first (key r) (ea j)) (drop (i + 1) more))) ∙ ap (λ l. all ++ l) (sym step) ∙ so
+
+  -- the same where the rows are seen through two slices
+  pub put_new_at : (r : X) (xs ys zs : List X) (p : ℕ) (b : Bool) → IsInOrder nat_cmp key xs → ys ≡ xs → zs ≡ xs → (IsInOrder nat_cmp key ys → Parts (key r) ys p) → p ≤ length ys → b ≡ is_at zs p (key r) → b ≡ false → put r xs ≡ insert xs p r
+  put_new_at r xs ys zs p b order ey ez parts le eb absent =
+      put_new r xs p (subst (λ (l : List X). Parts (key r) l p) ey (parts (subst (λ (l : List X). IsInOrder nat_cmp key l) (sym ey) order))) (subst (λ (l : List X). p ≤ length l) ey le) (ap (λ l. is_at l p (key r)) (sym ez) ∙ sym eb ∙ absent)
+
+  pub put_there_at : (r : X) (xs ys zs : List X) (p : ℕ) (b : Bool) → IsInOrder nat_cmp key xs → ys ≡ xs → zs ≡ xs → (IsInOrder nat_cmp key ys → Parts (key r) ys p) → b ≡ is_at zs p (key r) → b ≡ true → put r xs ≡ set xs p r
+  put_there_at r xs ys zs p b order ey ez parts eb ties =
+      put_there r xs p (subst (λ (l : List X). Parts (key r) l p) ey (parts (subst (λ (l : List X). IsInOrder nat_cmp key l) (sym ey) order))) (ap (λ l. is_at l p (key r)) (sym ez) ∙ sym eb ∙ ties)
+
+  pub rises_left : (n : ℕ) (rest above left : List X) (p : ℕ) → Rises rest → above ≡ drop p rest → left ≡ without_first n above → Rises left
+  rises_left n rest above left p rises ea el =
+      subst (λ (l : List X). Rises l) (sym el) (rises_without n above (subst (λ (l : List X). Rises l) (sym ea) (rises_drop p rest rises)))

@@ -1,0 +1,23 @@
+-- Events by their numbers.
+use Rattle.plant_alarm.specs.declared.event.Event.{Event}
+use Rattle.plant_types.specs.Tables.{in_order, put_row}
+use Rattle.std.specs.List.{list_any}
+use Rattle.std.specs.Ordering.{eq_by_cmp, nat_cmp}
+use Rattle.std.specs.Prelude.{Bool, List, filter, fold, map, not, ℕ}
+
+abbrev pub event_number : Event → ℕ
+event_number e = e.seq
+
+abbrev pub has_number : ℕ → Event → Bool
+has_number n e = eq_by_cmp nat_cmp n e.seq
+
+abbrev pub numbers_of : List Event → List ℕ
+numbers_of es = map (λ e. e.seq) es
+
+-- the numbers of a file that no kept event has, each once
+abbrev pub new_numbers : List Event → List Event → List ℕ
+new_numbers kept rows = in_order nat_cmp (numbers_of (filter (λ e. not (list_any (has_number e.seq) kept)) rows))
+
+-- events with more of them, each put where its number belongs
+abbrev pub with_events : List Event → List Event → List Event
+with_events kept more = fold (λ es e. put_row nat_cmp event_number e es) kept more
