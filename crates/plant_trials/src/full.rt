@@ -73,6 +73,7 @@ fn file(alloc: Global, first: u32, last: u32) -> Result<String, Fail> {
 }
 
 /// A request and the answer that is wanted.
+#[derive(Drop)]
 struct Wanted {
     request: String,
     answer: String,
