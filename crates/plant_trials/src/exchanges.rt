@@ -61,7 +61,7 @@ fn file_before(alloc: Global, text: &str) -> Result<(String, &str), Fail> {
 }
 
 /// Adds the request of one line, whose body is the file, if there is one.
-fn add_request(out: &mut String, line: &str, file: &str) -> Result<(), Fail> {
+pub(crate) fn add_request(out: &mut String, line: &str, file: &str) -> Result<(), Fail> {
     let (person, rest) = line.split_once(' ').ok_or("no person")?;
     let (moment, rest) = rest.split_once(' ').ok_or("no moment")?;
     let (method, rest) = rest.split_once(' ').ok_or("no method")?;

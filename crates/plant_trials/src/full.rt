@@ -85,12 +85,8 @@ fn imported(alloc: Global, first: u32, last: u32, answer: &str) -> Result<Wanted
         request: String::new(alloc),
         answer: String::new(alloc),
     };
-    let length = file.len();
-    write!(
-        wanted.request,
-        "POST /units/U1/imports HTTP/1.1\r\nX-Person: ann\r\nX-Moment: 2026-03-01T10:00:00Z\r\nContent-Length: {length}\r\n\r\n"
-    )?;
-    wanted.request.push_str(file.as_str())?;
+    let request = "ann 10:00:00 POST /units/U1/imports";
+    add_request(&mut wanted.request, request, file.as_str())?;
     add_answer(&mut wanted.answer, answer)?;
     Ok(wanted)
 }
@@ -101,7 +97,7 @@ fn asked(alloc: Global, request: &str, answer: &str) -> Result<Wanted, Fail> {
         request: String::new(alloc),
         answer: String::new(alloc),
     };
-    add_request(&mut wanted.request, request)?;
+    add_request(&mut wanted.request, request, "")?;
     add_answer(&mut wanted.answer, answer)?;
     Ok(wanted)
 }
@@ -180,7 +176,7 @@ fn asked_when_full<B: Books + Drop>(
 /// The list of all alarms has 2,000 lines below its heading.
 fn lists_all_alarms<B: Books + Drop>(rt: &(impl Abort + AllocGlobal), books: B) -> Result<B, Fail> {
     let mut request = String::new(rt.alloc());
-    add_request(&mut request, "vic 10:00:00 GET /units/U1/alarms")?;
+    add_request(&mut request, "vic 10:00:00 GET /units/U1/alarms", "")?;
     let (answers, end, books) = replays_on(rt.alloc(), books, request.as_bytes(), b"");
     let (_, list) = text(&answers).split_once("\r\n\r\n").ok_or("no body")?;
     assert_eq!(rt;
