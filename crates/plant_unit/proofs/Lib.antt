@@ -1,3 +1,6 @@
 pub mod Matrices
+pub mod AlarmLists
+pub mod EventBounds
+pub mod ImportsJudged
 pub mod JudgedLaws
 pub mod Loops
