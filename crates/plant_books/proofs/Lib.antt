@@ -1,2 +1,4 @@
 pub mod KeyedLaws
 pub mod ListedLaws
+pub mod MergingLaws
+pub mod PassingLaws

@@ -2,3 +2,4 @@ pub mod Contents
 pub mod Counting
 pub mod Asking
 pub mod Listed
+pub mod Changing

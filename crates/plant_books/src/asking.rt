@@ -40,6 +40,7 @@ pub fn unit_of(request: &Request) -> Option<&UnitCode>
         | Request::Grant { unit, .. }
         | Request::Withdraw { unit, .. }
         | Request::Register { unit, .. }
+        | Request::Import { unit, .. }
         | Request::TimedShelve { unit, .. }
         | Request::OneShotShelve { unit, .. }
         | Request::Unshelve { unit, .. }
@@ -48,7 +49,8 @@ pub fn unit_of(request: &Request) -> Option<&UnitCode>
         | Request::Status { unit, .. }
         | Request::Shelves { unit }
         | Request::Alarms { unit }
-        | Request::Standing { unit } => Some(unit),
+        | Request::Standing { unit }
+        | Request::Floods { unit, .. } => Some(unit),
         Request::MyUnits | Request::MyShelves => None,
     }
 }
@@ -70,7 +72,8 @@ pub fn wanted_alarms(request: &Request) -> Wanted<'_>
         | Request::RemoveFromService { tag, .. }
         | Request::PlaceInService { tag, .. }
         | Request::Status { tag, .. } => Wanted::One(tag),
-        Request::TimedShelve { .. }
+        Request::Import { .. }
+        | Request::TimedShelve { .. }
         | Request::OneShotShelve { .. }
         | Request::Shelves { .. }
         | Request::Alarms { .. }
@@ -78,6 +81,7 @@ pub fn wanted_alarms(request: &Request) -> Wanted<'_>
         Request::OpenUnit { .. }
         | Request::Grant { .. }
         | Request::Withdraw { .. }
+        | Request::Floods { .. }
         | Request::MyUnits
         | Request::MyShelves => Wanted::Nothing,
     }
@@ -87,7 +91,17 @@ pub fn wanted_alarms(request: &Request) -> Wanted<'_>
 pub fn wanted_shelves(request: &Request) -> Wanted<'_>
     ensures { (a : Name) → (selected request.now).shelf a ≡ is_wanted result a }
 {
-    wanted_alarms(request)
+    match request {
+        Request::Import { .. } => Wanted::Nothing,
+        _ => wanted_alarms(request),
+    }
+}
+
+/// Whether the request looks at the unit's events.
+pub fn wants_events(request: &Request) -> bool
+    ensures { (selected request.now).event ≡ result }
+{
+    matches!(request, Request::Import { .. } | Request::Floods { .. })
 }
 
 /// Whether the request needs the number of the unit's alarms.

@@ -1,16 +1,26 @@
 ghost use Rattle.std.specs.Prelude.{◌≡◌, ◌∷◌, [], IfErr, IfOk, OnErr, OnOk};
 ghost use Rattle.plant_model.specs.RowChanges.{changed, changed_by, put as row_put, removed};
 ghost use Rattle.plant_model.specs.RowFacts.{pair_of, shelf_tag};
+ghost use Rattle.plant_books.specs.Changing.{whole};
 ghost use Rattle.plant_types.specs.Names.{name_cmp};
 ghost use Rattle.plant_types.specs.Roles.{pair_cmp};
 ghost use Rattle.plant_types.specs.Tables.{remove_row};
 ghost use Rattle.plant_types.specs.declared.fault.Fault.TheVariants.{Memory};
 
 use crate::keyed::put;
+use crate::merging::with_events;
 use crate::rows::compare_pair;
+use plant_alarm::Event;
 use plant_model::{Change, GrantRow, Key, Row, ShelfRow, UnitRow, UnitRows};
 use plant_types::{Duplicate, Fault, Person, Role, Table, Tag};
 use std::alloc::Global;
+
+/// A unit's rows while they change. Events that are put wait beside the others, to be merged into them at the end.
+#[derive(Drop)]
+pub struct Changing {
+    pub rows: UnitRows,
+    pub fresh: Table<Event>,
+}
 
 /// The table of the one row.
 fn one_row(alloc: Global, row: UnitRow) -> Result<Table<UnitRow>, Fault>
@@ -22,12 +32,13 @@ fn one_row(alloc: Global, row: UnitRow) -> Result<Table<UnitRow>, Fault>
     Ok(rows)
 }
 
-/// Puts a row of a unit. Where memory is wanted, the rows are as before.
-fn put_row(alloc: Global, rows: &mut UnitRows, row: Row) -> Result<(), Fault>
-    ensures ok { OnOk result (rows.new ≡ row_put row rows.old) }
-    ensures err { OnErr result (rows.new ≡ rows.old) }
+/// Puts a row of a unit.
+#[tactic(auto, using(crate::proofs::MergingLaws::with_push))]
+fn put_row(alloc: Global, changing: &mut Changing, row: Row) -> Result<(), Fault>
+    ensures ok { OnOk result (whole changing.new ≡ row_put row (whole changing.old)) }
     ensures memory { IfErr result (λ e. e ≡ Memory) }
 {
+    let rows = &mut changing.rows;
     match row {
         Row::Unit(row) => {
             rows.units = one_row(alloc, row)?;
@@ -36,7 +47,7 @@ fn put_row(alloc: Global, rows: &mut UnitRows, row: Row) -> Result<(), Fault>
         Row::Grant(row) => put(&mut rows.grants, row),
         Row::Alarm(row) => put(&mut rows.alarms, row),
         Row::Shelf(row) => put(&mut rows.shelves, row),
-        Row::Event(row) => put(&mut rows.events, row),
+        Row::Event(row) => changing.fresh.push(row),
         Row::Band(row) => put(&mut rows.bands, row),
         Row::Cell(row) => put(&mut rows.cells, row),
     }
@@ -77,17 +88,33 @@ fn without(rows: UnitRows, key: &Key) -> UnitRows
 }
 
 /// The rows after one change.
-fn after_change(alloc: Global, mut rows: UnitRows, change: &Change) -> Result<UnitRows, Fault>
-    ensures value { IfOk result (λ after. after ≡ changed change.now rows) }
+fn after_change(alloc: Global, mut changing: Changing, change: &Change) -> Result<Changing, Fault>
+    ensures value { IfOk result (λ after. whole after ≡ changed change.now (whole changing)) }
     ensures memory { IfErr result (λ e. e ≡ Memory) }
 {
     match change {
         Change::Put(row) => {
-            put_row(alloc, &mut rows, row.duplicate(alloc)?)?;
-            Ok(rows)
+            put_row(alloc, &mut changing, row.duplicate(alloc)?)?;
+            Ok(changing)
         }
-        Change::Remove(key) => Ok(without(rows, key)),
+        Change::Remove(key) => Ok(Changing {
+            rows: without(changing.rows, key),
+            fresh: changing.fresh,
+        }),
     }
+}
+
+/// The rows with the events that wait beside them.
+fn settled(alloc: Global, changing: Changing) -> Result<UnitRows, Fault>
+    ensures value { IfOk result (λ rows. rows ≡ whole changing) }
+    ensures memory { IfErr result (λ e. e ≡ Memory) }
+{
+    let Changing { rows, fresh } = changing;
+    if fresh.is_empty() {
+        return Ok(rows);
+    }
+    let events = with_events(alloc, rows.events.as_slice(), fresh.as_slice())?;
+    Ok(UnitRows { events, ..rows })
 }
 
 /// The rows after the changes, in their order.
@@ -99,9 +126,12 @@ pub fn after_changes(
     ensures value { IfOk result (λ after. after ≡ changed_by changes.now rows) }
     ensures memory { IfErr result (λ e. e ≡ Memory) }
 {
-    let mut after = rows;
+    let mut after = Changing {
+        rows,
+        fresh: Table::new(alloc),
+    };
     for change in changes.as_slice() {
         after = after_change(alloc, after, change)?;
     }
-    Ok(after)
+    settled(alloc, after)
 }

@@ -6,12 +6,15 @@ mod books;
 mod changes;
 mod grants;
 mod keyed;
+mod merging;
 mod opened;
 mod parts;
 mod plain;
 mod rows;
 
-pub use asking::{Wanted, unit_of, wanted_alarms, wanted_shelves, wants_all_grants, wants_count};
+pub use asking::{
+    Wanted, unit_of, wanted_alarms, wanted_shelves, wants_all_grants, wants_count, wants_events,
+};
 pub use books::{Books, MineShelf, MineUnit};
 pub use opened::{alarm_of, last_return};
 pub use plain::Plain;

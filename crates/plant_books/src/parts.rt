@@ -5,7 +5,10 @@ ghost use Rattle.plant_model.specs.RowFacts.{pair_of};
 ghost use Rattle.plant_types.specs.Names.{same_name};
 ghost use Rattle.plant_types.specs.declared.fault.Fault.TheVariants.{Memory};
 
-use crate::asking::{Wanted, wanted_alarms, wanted_shelves, wants_all_grants, wants_count};
+use crate::asking::{
+    Wanted, wanted_alarms, wanted_shelves, wants_all_grants, wants_count, wants_events,
+};
+use plant_alarm::Event;
 use plant_model::{AlarmRow, Call, GrantRow, ShelfRow, UnitPart, UnitRows};
 use plant_types::{Duplicate, Fault, Table};
 use std::alloc::Global;
@@ -65,6 +68,18 @@ fn shelves_asked(
     Ok(rows)
 }
 
+/// The events, where they are wanted.
+fn events_asked(alloc: Global, events: &Table<Event>, wanted: bool) -> Result<Table<Event>, Fault>
+    ensures value { IfOk result (λ rows. rows ≡ filter (λ _. wanted) events.now) }
+    ensures memory { IfErr result (λ e. e ≡ Memory) }
+{
+    if wanted {
+        events.duplicate(alloc)
+    } else {
+        Ok(Table::new(alloc))
+    }
+}
+
 /// The rows that the call looks at.
 fn rows_asked(alloc: Global, rows: &UnitRows, call: &Call) -> Result<UnitRows, Fault>
     ensures value { IfOk result (λ asked. asked ≡ rows_selected call.now.person (selected call.now.request) rows.now) }
@@ -76,7 +91,7 @@ fn rows_asked(alloc: Global, rows: &UnitRows, call: &Call) -> Result<UnitRows, F
         grants: grants_asked(alloc, &rows.grants, call)?,
         alarms: alarms_asked(alloc, &rows.alarms, &wanted_alarms(request))?,
         shelves: shelves_asked(alloc, &rows.shelves, &wanted_shelves(request))?,
-        events: Table::new(alloc),
+        events: events_asked(alloc, &rows.events, wants_events(request))?,
         bands: Table::new(alloc),
         cells: Table::new(alloc),
     })

@@ -1,0 +1,85 @@
+//! Events put among those that are kept, all at once.
+
+ghost use Rattle.std.specs.Prelude.{◌≡◌, [], ◌∷◌, ◌++◌, ◌≤◌, List, drop, length, IfErr, IfOk, OnOk};
+ghost use Rattle.plant_alarm.specs.declared.event.Event.{Event as EventOf};
+ghost use Rattle.plant_books.specs.Changing as changing;
+ghost use Rattle.plant_books.specs.Changing.{IsAbove, IsRising};
+ghost use Rattle.plant_types.specs.declared.fault.Fault.TheVariants.{Memory};
+
+use crate::keyed::put;
+use plant_alarm::Event;
+use plant_types::{Duplicate, Fault, Table};
+use std::alloc::Global;
+use std::cmp::Ordering;
+
+/// The events in rising number, of each number the last.
+fn rising(alloc: Global, events: &[Event]) -> Result<Table<Event>, Fault>
+    ensures value { IfOk result (λ rows. rows ≡ changing.with_events events.now []) }
+    ensures memory { IfErr result (λ e. e ≡ Memory) }
+{
+    let mut rows = Table::new(alloc);
+    for event in events {
+        put(&mut rows, event.duplicate(alloc)?)?;
+    }
+    Ok(rows)
+}
+
+/// Puts copies of the first kept events at the end, up to the event's place among them. Answers how many the event leaves
+/// behind: an event of its number too.
+fn copy_below(
+    alloc: Global,
+    all: &mut Table<Event>,
+    kept: &[Event],
+    event: &Event,
+) -> Result<usize, Fault>
+    ensures value { IfOk result (λ place. (later : List EventOf) → IsAbove event.now.seq later
+        → all.new ++ event.now ∷ changing.with_events later (drop place kept.now) ≡ all.old ++ changing.with_events (event.now ∷ later) kept.now) }
+    ensures bound { IfOk result (λ place. place ≤ length kept.now) }
+    ensures memory { IfErr result (λ e. e ≡ Memory) }
+{
+    for (place, other) in kept.iter().enumerate() {
+        match event.seq.cmp(&other.seq) {
+            Ordering::Less => return Ok(place),
+            Ordering::Equal => return Ok(place + 1),
+            Ordering::Greater => all.push(other.duplicate(alloc)?)?,
+        }
+    }
+    Ok(kept.len())
+}
+
+/// Puts copies of the events at the end.
+fn copy_all(alloc: Global, all: &mut Table<Event>, kept: &[Event]) -> Result<(), Fault>
+    ensures value { OnOk result (all.new ≡ all.old ++ kept.now) }
+    ensures memory { IfErr result (λ e. e ≡ Memory) }
+{
+    for other in kept {
+        all.push(other.duplicate(alloc)?)?;
+    }
+    Ok(())
+}
+
+/// The kept events with those that rise in number put among them.
+fn merged(alloc: Global, kept: &[Event], fresh: &[Event]) -> Result<Table<Event>, Fault>
+    ensures value { IfOk result (λ all. IsRising fresh.now → all ≡ changing.with_events fresh.now kept.now) }
+    ensures memory { IfErr result (λ e. e ≡ Memory) }
+{
+    let mut all = Table::new(alloc);
+    let mut rest = kept;
+    for event in fresh {
+        let place = copy_below(alloc, &mut all, rest, event)?;
+        all.push(event.duplicate(alloc)?)?;
+        (_, rest) = rest.split_at(place);
+    }
+    copy_all(alloc, &mut all, rest)?;
+    Ok(all)
+}
+
+/// The kept events with these put among them, one after another. Its time is that of going over the kept events once.
+#[tactic(auto, using(crate::proofs::MergingLaws::with_alone, crate::proofs::MergingLaws::rising_alone))]
+pub fn with_events(alloc: Global, kept: &[Event], fresh: &[Event]) -> Result<Table<Event>, Fault>
+    ensures value { IfOk result (λ all. all ≡ changing.with_events fresh.now kept.now) }
+    ensures memory { IfErr result (λ e. e ≡ Memory) }
+{
+    let rising = rising(alloc, fresh)?;
+    merged(alloc, kept, rising.as_slice())
+}
