@@ -1,11 +1,12 @@
 -- The summaries of alarms in the order of their tags, with one more event.
 use Rattle.std.proofs.Common.{ap, arith, cond, get_or, refl, set, subst, sym, ◌∙◌}
-use Rattle.std.specs.Cmp.{eq_by_cmp_equiv}
+use Rattle.std.proofs.lemmas.Bool.{ltb-false, ltb-true}
+use Rattle.std.proofs.lemmas.Option.{slice_get-get_or, slice_get_past}
 use Rattle.std.specs.FinMap.Entries.{below_all}
 use Rattle.std.specs.List.{list_any}
 use Rattle.std.specs.List.Sorted.{IsPartitionPoint, IsPartitionedBy}
 use Rattle.std.specs.Ordering.{eq_by_cmp, is_eq, is_lt, ordering_reverse}
-use Rattle.std.specs.Prelude.{Bool, List, None, Option, Some, T, [], false, filter, if◌then◌else◌, length, map, option_map, slice_get, suc, true, zero, ℕ, ◌&&◌, ◌++◌, ◌+◌, ◌<◌, ◌∷◌, ◌≡◌, ◌≤◌}
+use Rattle.std.specs.Prelude.{Bool, List, None, Option, Some, T, [], false, filter, if◌then◌else◌, length, map, nat_lt, option_map, slice_get, suc, true, zero, ℕ, ◌&&◌, ◌++◌, ◌+◌, ◌<◌, ◌∷◌, ◌≡◌, ◌≤◌}
 use Rattle.std.specs.declared.cmp.Ordering.{Ordering}
 use Rattle.std.specs.declared.cmp.Ordering.TheVariants.{Equal, Greater, Less}
 use Rattle.plant_alarm.specs.States.{summary}
@@ -154,3 +155,43 @@ summary_at es (x ∷ rows) (suc p) r is = summary_at es rows p r is
 pub told : (es : List Event) (r : AlarmRow) → with_summary r (summary_of es r) ≡ with_state (of_alarm r.tag es) r
 unfolding summary
 told es r = refl
+
+-- the loops over alarms
+pub summarized : (es : List Event) (alarms : List AlarmRow) (told_so : List Summary) (i : ℕ) (r d : AlarmRow) (s e : Summary) → told_so ≡ summaries alarms es → i < length alarms → r ≡ get_or alarms i d → s ≡ get_or told_so i e → s ≡ summary_of es r
+summarized es alarms told_so i r d s e is lt er es' =
+    es' ∙ ap (λ l. get_or l i e) is ∙ at alarms i lt d e ∙ ap (summary_of es) (sym er)
+  where
+    at : (rows : List AlarmRow) (i : ℕ) → i < length rows → (d : AlarmRow) (e : Summary) → get_or (summaries rows es) i e ≡ summary_of es (get_or rows i d)
+    at [] i lt d e = absurd (omega arith)
+    at (x ∷ rows) zero lt d e = refl
+    at (x ∷ rows) (suc i) lt d e = at rows i (omega arith) d e
+
+-- what one more event does to the summaries
+pub added_own : (alarms : List AlarmRow) (es : List Event) (e : Event) (old new : List Summary) (p : ℕ) (r : AlarmRow) → IsInOrder name_cmp alarm_tag alarms → (IsInOrder name_cmp alarm_tag alarms → Parts e.tag alarms p)
+    → Some r ≡ slice_get alarms p → same_name r.tag e.tag ≡ true → old ≡ summaries alarms es
+    → ((fs : List Event) → slice_get old p ≡ Some (summary r.latching fs) → new ≡ set old p (summary r.latching (fs ++ e ∷ []))) → new ≡ summaries alarms (es ++ e ∷ [])
+added_own alarms es e old new p r order parts is t so adds =
+    adds (of_alarm r.tag es) (ap (λ l. slice_get l p) so ∙ summary_at es alarms p r is)
+    ∙ ap (λ l. set l p (summary r.latching (of_alarm r.tag es ++ e ∷ []))) so ∙ set_own es e alarms p r (ordered alarms order) (parts order) is t
+
+pub added_other : (alarms : List AlarmRow) (es : List Event) (e : Event) (old : List Summary) (p : ℕ) (r : AlarmRow) → IsInOrder name_cmp alarm_tag alarms → (IsInOrder name_cmp alarm_tag alarms → Parts e.tag alarms p)
+    → Some r ≡ slice_get alarms p → same_name r.tag e.tag ≡ false → old ≡ summaries alarms es → old ≡ summaries alarms (es ++ e ∷ [])
+added_other alarms es e old p r order parts is f so =
+    so ∙ none_own es e alarms p (ordered alarms order) (parts order) (λ x there. let same : x ≡ r = some_same x r (there ∙ sym is) in ap (λ (y : AlarmRow). same_name y.tag e.tag) same ∙ f)
+  where
+    some_same : (x y : AlarmRow) → Some x ≡ Some y → x ≡ y
+    some_same x y e = cc
+
+pub added_none : (alarms : List AlarmRow) (es : List Event) (e : Event) (old : List Summary) (p : ℕ) → IsInOrder name_cmp alarm_tag alarms → (IsInOrder name_cmp alarm_tag alarms → Parts e.tag alarms p)
+    → None ≡ slice_get alarms p → old ≡ summaries alarms es → old ≡ summaries alarms (es ++ e ∷ [])
+added_none alarms es e old p order parts is so =
+    so ∙ none_own es e alarms p (ordered alarms order) (parts order) (λ x there. absurd (none_some x (is ∙ sym there)))
+  where
+    none_some : (x : AlarmRow) → None ≡ Some x → ⊥
+    none_some x e = cc
+
+pub get_some : (xs : List AlarmRow) (p : ℕ) (x : AlarmRow) → true ≡ nat_lt p (length xs) → x ≡ get_or xs p x → Some x ≡ slice_get xs p
+get_some xs p x within is = ap (λ (y : AlarmRow). let o : Option AlarmRow = Some y in o) is ∙ sym (slice_get-get_or xs p x (ltb-true p (length xs) (sym within)))
+
+pub get_none : (xs : List AlarmRow) (p : ℕ) → false ≡ nat_lt p (length xs) → None ≡ slice_get xs p
+get_none xs p past = sym (slice_get_past xs p (ltb-false p (length xs) (sym past)))

@@ -1,5 +1,5 @@
 -- The events that a legal history keeps are at most 100,000.
-use Rattle.std.proofs.Common.{ap, arith, refl, subst, sym, ◌∙◌}
+use Rattle.std.proofs.Common.{ap, arith, inl, inr, ◌⊎◌, refl, subst, sym, ◌∙◌}
 use Rattle.std.proofs.lemmas.Bool.{ltb-false}
 use Rattle.std.specs.FinMap.Entries.{by_order}
 use Rattle.std.specs.Ordering.{nat_cmp}
@@ -60,9 +60,18 @@ few_other : (h : List Call) (p : Name) (t : ℕ) (q : Request) → imported q �
 few_other h p t q none few =
     subst (λ (rows : List Event). length (filter_map (λ n. or_else (find (has_number n) rows) (event_numbered h n)) (in_order nat_cmp (numbers_of rows ++ numbers_of_events h))) ≤ 100000) (sym none) few
 
+-- a request that brings no event, or an import
+brings : (q : Request) → (imported q ≡ []) ⊎ ((u : Name) × (file : Result (List Event) BadFile) × (q ≡ Import u file))
+brings (Import u file) = inr (u, (file, refl))
+brings _ = inl refl
+
 few_next : (h : List Call) (p : Name) (t : ℕ) (q : Request) → IsLegal h → changes_history (verdict h (record { person = p; moment = t; request = q })) (record { person = p; moment = t; request = q }) ≡ true → length (events h) ≤ 100000 → length (events (record { person = p; moment = t; request = q } ∷ h)) ≤ 100000
-few_next h p t (Import u file) legal accepted few = few_import h p t u file legal accepted
-few_next h p t _ legal accepted few = few_other h p t _ refl few
+few_next h p t q legal accepted few =
+    elim (brings q) [
+      | inl none ↦ few_other h p t q none few
+      | inr import ↦
+          subst (λ (x : Request). changes_history (verdict h (record { person = p; moment = t; request = x })) (record { person = p; moment = t; request = x }) ≡ true → length (events (record { person = p; moment = t; request = x } ∷ h)) ≤ 100000) (sym import.1.1) (few_import h p t import.0 import.1.0 legal) accepted
+    ]
 
 few_first : (c : Call) → is_opening c.request ≡ true → length (events (c ∷ [])) ≤ 100000
 few_first c opens = by c.request opens where

@@ -9,7 +9,7 @@ use Rattle.plant_import.specs.Numbers.{new_numbers}
 use Rattle.plant_import.specs.declared.bad_file.BadFile.{BadFile}
 use Rattle.plant_import.specs.declared.merging.Merged.{Merged}
 use Rattle.plant_model.specs.Facts.{Facts}
-use Rattle.plant_model.specs.Refusals.{fault_entries, file_refusals, first_refusal, own_refusals, refusals, tags_of}
+use Rattle.plant_model.specs.Refusals.{fault_entries, file_refusals, first_refusal, holds_some, lacks_role, own_refusals, refusals, role_needed, tags_of}
 use Rattle.plant_model.specs.Replies.{reply}
 use Rattle.plant_model.specs.RowChanges.{changes_for, import_changes, unit_after}
 use Rattle.plant_model.specs.Verdicts.{changes_history, is_read, refused_or, verdict_of}
@@ -17,7 +17,7 @@ use Rattle.plant_model.specs.declared.call.Call.{Call}
 use Rattle.plant_model.specs.declared.call.Request.TheVariants.{Import}
 use Rattle.plant_model.specs.declared.call.Request.{Request}
 use Rattle.plant_model.specs.declared.reply.Full.TheVariants.{Events as TooManyEvents}
-use Rattle.plant_model.specs.declared.reply.Refused.TheVariants.{BadFile as FileRefused, UnitFull}
+use Rattle.plant_model.specs.declared.reply.Refused.TheVariants.{BadFile as FileRefused, MomentBehind, NotGranted, UnitFull}
 use Rattle.plant_model.specs.declared.reply.Refused.{Refused}
 use Rattle.plant_model.specs.declared.reply.Reply.TheVariants.{Imported}
 use Rattle.plant_model.specs.declared.reply.Reply.{Reply}
@@ -41,7 +41,10 @@ all_refusals : (f : Facts) (c : Call) → first_refusal (refusals f c) ≡ or_el
 all_refusals f c = ap first_refusal (sym (cut f c)) ∙ first_of (holder_refusals f c) (own_refusals f c.moment c.request)
   where
     cut : (f : Facts) (c : Call) → holder_refusals f c ++ own_refusals f c.moment c.request ≡ refusals f c
-    cut f c = ap (λ l. _ ∷ l) (append_assoc _ _ (own_refusals f c.moment c.request))
+    cut f c =
+        let own : List (Bool × Refused) = own_refusals f c.moment c.request in
+        let behind : List (Bool × Refused) = (nat_lt c.moment f.unit.last_s, MomentBehind f.unit.last_s) ∷ [] in
+        ap (λ (l : List (Bool × Refused)). (not (holds_some f c.moment c.person), NotGranted) ∷ l) (append_assoc (lacks_role f c.moment c.person (role_needed c.request)) behind own)
 
 pub refused_judged : (f : Facts) (c : Call) (r : Refused) → first_refusal (holder_refusals f c) ≡ Some r → IsJudged f c (IsRefused r)
 refused_judged f c r is =
@@ -139,3 +142,12 @@ import_judged f c u rows m r cs e is er ec =
     let q : Request = Import u (Ok rows) in
     subst (λ (x : Call). IsJudgedOwn f x (IsAccepted r cs)) (asked c q e)
     (own_accepted f (record { person = c.person; moment = c.moment; request = q }) r cs so.none (er few ∙ ap (λ (x : Merged). Imported (length x.fresh) x.repeated) so.is) ec)
+
+-- what the code finds of a file
+pub merged_at : (f : Facts) (t : ℕ) (rows kept : List Event) (tags : List Name) (n : ℕ) (b : Bool) (m x : Result Merged BadFile) → IsRising f.events → kept ≡ f.events → (IsRising kept → n ≡ length (new_numbers kept rows))
+    → b ≡ nat_lt 100000 (length kept + n) → b ≡ false → tags ≡ tags_of f → (IsRising kept → m ≡ merge kept rows tags t) → m ≡ x → refused_by x ≡ addition f t rows
+merged_at f t rows kept tags n b m x rises ek en eb room et em ex =
+    let rising : IsRising kept = subst (λ (l : List Event). IsRising l) (sym ek) rises in
+    let count : n ≡ length (new_numbers f.events rows) = en rising ∙ ap (λ l. length (new_numbers l rows)) ek in
+    let free : nat_lt 100000 (length f.events + length (new_numbers f.events rows)) ≡ false = sym (eb ∙ (λ i. nat_lt 100000 (length (ek i) + count i))) ∙ room in
+    merge_added f t rows x free (sym ex ∙ em rising ∙ (λ i. merge (ek i) rows (et i) t))

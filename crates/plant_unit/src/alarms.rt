@@ -12,7 +12,7 @@ ghost use Rattle.plant_import.specs.Merging.{IsRising};
 ghost use Rattle.plant_import.specs.Numbers.{with_events};
 ghost use Rattle.plant_model.specs.RowChanges.{state_put};
 ghost use Rattle.plant_model.specs.RowFacts.{alarm_tag};
-ghost use Rattle.plant_unit.specs.Summaries as summaries;
+ghost use Rattle.plant_unit.specs.Summaries as told;
 ghost use Rattle.plant_unit.specs.Summaries.{is_named, summary_of};
 
 use plant_alarm::{Event, Summary};
@@ -43,7 +43,7 @@ fn add_at(summaries: &mut Table<Summary>, place: usize, event: &Event, latching:
 /// Brings the summaries of alarms, which stand in the order of their tags, forward by one more event.
 fn add_event(summaries: &mut Table<Summary>, alarms: &[AlarmRow], event: &Event)
     ensures length { length summaries.new ≡ length summaries.old }
-    ensures value { IsInOrder name_cmp alarm_tag alarms.now → (es : List TheEvent) → summaries.old ≡ summaries.summaries alarms.now es → summaries.new ≡ summaries.summaries alarms.now (es ++ event.now ∷ []) }
+    ensures value { IsInOrder name_cmp alarm_tag alarms.now → (es : List TheEvent) → summaries.old ≡ told.summaries alarms.now es → summaries.new ≡ told.summaries alarms.now (es ++ event.now ∷ []) }
 {
     let place = place_of(alarms, &event.tag);
     if let Some(alarm) = alarms.get(place) {
@@ -55,7 +55,7 @@ fn add_event(summaries: &mut Table<Summary>, alarms: &[AlarmRow], event: &Event)
 
 /// The summaries of alarms without events.
 fn no_summaries(alloc: Global, alarms: &[AlarmRow]) -> Result<Table<Summary>, Fault>
-    ensures value { IfOk result (λ s. s ≡ summaries.summaries alarms.now []) }
+    ensures value { IfOk result (λ s. s ≡ told.summaries alarms.now []) }
     ensures err { IfErr result (λ e. e ≡ Memory) }
 {
     let mut summaries = Table::new(alloc);
@@ -72,7 +72,7 @@ fn summaries_of(
     events: &[Event],
 ) -> Result<Table<Summary>, Fault>
     ensures length { IfOk result (λ s. length s ≡ length alarms.now) }
-    ensures value { IsInOrder name_cmp alarm_tag alarms.now → IfOk result (λ s. s ≡ summaries.summaries alarms.now events.now) }
+    ensures value { IsInOrder name_cmp alarm_tag alarms.now → IfOk result (λ s. s ≡ told.summaries alarms.now events.now) }
     ensures err { IfErr result (λ e. e ≡ Memory) }
 {
     let mut summaries = no_summaries(alloc, alarms)?;
@@ -84,7 +84,7 @@ fn summaries_of(
 
 /// The alarm's row with its state told anew.
 fn with_summary(alloc: Global, alarm: &AlarmRow, summary: &Summary) -> Result<AlarmRow, Fault>
-    ensures value { IfOk result (λ row. row ≡ summaries.with_summary alarm.now summary.now) }
+    ensures value { IfOk result (λ row. row ≡ told.with_summary alarm.now summary.now) }
     ensures err { IfErr result (λ e. e ≡ Memory) }
 {
     let mut row = alarm.duplicate(alloc)?;
@@ -127,7 +127,7 @@ fn push_named(
     fresh: &[Event],
 ) -> Result<(), Fault>
     requires { length summaries.now ≡ length alarms.now }
-    ensures value { (es : List TheEvent) → summaries.now ≡ summaries.summaries alarms.now es → OnOk result (changes.new ≡ changes.old ++ map (state_put es) (filter (is_named fresh.now) alarms.now)) }
+    ensures value { (es : List TheEvent) → summaries.now ≡ told.summaries alarms.now es → OnOk result (changes.new ≡ changes.old ++ map (state_put es) (filter (is_named fresh.now) alarms.now)) }
     ensures err { IfErr result (λ e. e ≡ Memory) }
 {
     for (i, alarm) in alarms.iter().enumerate() {

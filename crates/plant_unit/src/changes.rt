@@ -35,7 +35,7 @@ fn limit_of(part: &UnitPart, tag: &Tag) -> u64
 }
 
 fn new_alarm(alloc: Global, tag: &Tag, latching: bool, max: Seconds) -> Result<AlarmRow, Fault>
-    ensures value { IfOk result (λ row. row ≡ alarm_as tag.now max None latching) }
+    ensures value { IfOk result (λ row. row ≡ alarm_as tag.now max [] None latching) }
     ensures err { IfErr result (λ e. e ≡ Memory) }
 {
     Ok(AlarmRow {

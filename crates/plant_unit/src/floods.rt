@@ -3,7 +3,7 @@
 ghost use Rattle.std.specs.Prelude.{◌≡◌, ◌≤◌, ◌+◌, ◌*◌, All, IfErr, IfOk, IsTrue, length, map, ℕ};
 ghost use Rattle.plant_types.specs.Moment.{is_moment};
 ghost use Rattle.plant_types.specs.declared.fault.Fault.TheVariants.{Memory};
-ghost use Rattle.plant_model.specs.Events as events;
+ghost use Rattle.plant_model.specs.Events as told;
 
 use plant_alarm::Event;
 use plant_floods::{Run, floods, period_counts};
@@ -13,7 +13,7 @@ use std::alloc::Global;
 
 /// Whether a range is of whole periods of ten minutes, from 1 to 1,008 of them: a week.
 pub fn is_aligned(begin: Moment, until: Moment) -> bool
-    ensures { result ≡ events.is_aligned begin until }
+    ensures { result ≡ told.is_aligned begin until }
 {
     let (start, end) = (begin.seconds(), until.seconds());
     start % 600 == 0 && end % 600 == 0 && start < end && end - start <= 604_800
@@ -28,7 +28,7 @@ fn later(begin: Moment, periods: usize) -> Moment
 }
 
 fn flood_line(begin: Moment, run: &Run) -> FloodLine
-    ensures { IsTrue (is_moment (begin + 600 * run.now.first)) → IsTrue (is_moment (begin + 600 * run.now.last + 600)) → result ≡ events.flood_line begin run.now }
+    ensures { IsTrue (is_moment (begin + 600 * run.now.first)) → IsTrue (is_moment (begin + 600 * run.now.last + 600)) → result ≡ told.flood_line begin run.now }
 {
     FloodLine {
         start: later(begin, run.first),
@@ -40,7 +40,7 @@ fn flood_line(begin: Moment, run: &Run) -> FloodLine
 
 /// The lines of runs, of which each ends before a moment.
 fn lines_of(alloc: Global, begin: Moment, runs: &[Run]) -> Result<Table<FloodLine>, Fault>
-    ensures value { (until : ℕ) → IsTrue (is_moment until) → All (λ r. (r.first ≤ r.last) × (begin + 600 * r.last + 600 ≤ until)) runs.now → IfOk result (λ lines. lines ≡ map (events.flood_line begin) runs.now) }
+    ensures value { (until : ℕ) → IsTrue (is_moment until) → All (λ r. (r.first ≤ r.last) × (begin + 600 * r.last + 600 ≤ until)) runs.now → IfOk result (λ lines. lines ≡ map (told.flood_line begin) runs.now) }
     ensures err { IfErr result (λ e. e ≡ Memory) }
 {
     let mut lines = Table::new(alloc);
@@ -57,7 +57,7 @@ pub fn flood_lines(
     begin: Moment,
     until: Moment,
 ) -> Result<Table<FloodLine>, Fault>
-    ensures value { length events.now ≤ 4294967295 → IfOk result (λ lines. lines ≡ events.flood_lines events.now begin until) }
+    ensures value { length events.now ≤ 4294967295 → IfOk result (λ lines. lines ≡ told.flood_lines events.now begin until) }
     ensures err { IfErr result (λ e. e ≡ Memory) }
 {
     let counts = period_counts(alloc, events, begin, until)?;
