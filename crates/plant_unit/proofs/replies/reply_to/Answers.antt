@@ -1,4 +1,4 @@
 use Rattle.plant_unit.proofs.replies.reply_to.Goals as goal
 
 pub returns-in-Status-clause-value : goal.returns-in-Status-clause-value
-returns-in-Status-clause-value c = rw c.in-Status.is (c.status_reply.ensures.value c.in-Status.unit)
+returns-in-Status-clause-value c few = rw c.in-Status.is (c.status_reply.ensures.value c.in-Status.unit)
