@@ -44,7 +44,6 @@ length_with es (e ∷ more) =
     let here = one_more e es in
     omega (arith, rest, here)
 
-
 few_import : (h : List Call) (p : Name) (t : ℕ) (u : Name) (file : Result (List Event) BadFile) → IsLegal h
     → changes_history (verdict h (record { person = p; moment = t; request = Import u file })) (record { person = p; moment = t; request = Import u file }) ≡ true → length (events (record { person = p; moment = t; request = Import u file } ∷ h)) ≤ 100000
 few_import h p t u (Err fault) legal accepted = absurd (import_accepted h p t u (Err fault) accepted)
@@ -62,7 +61,7 @@ few_other h p t q none few =
 
 -- a request that brings no event, or an import
 brings : (q : Request) → (imported q ≡ []) ⊎ ((u : Name) × (file : Result (List Event) BadFile) × (q ≡ Import u file))
-brings (Import u file) = inr (u, (file, refl))
+brings (Import u file) = inr (u, file, refl)
 brings _ = inl refl
 
 few_next : (h : List Call) (p : Name) (t : ℕ) (q : Request) → IsLegal h → changes_history (verdict h (record { person = p; moment = t; request = q })) (record { person = p; moment = t; request = q }) ≡ true → length (events h) ≤ 100000 → length (events (record { person = p; moment = t; request = q } ∷ h)) ≤ 100000
@@ -70,7 +69,7 @@ few_next h p t q legal accepted few =
     elim (brings q) [
       | inl none ↦ few_other h p t q none few
       | inr import ↦
-          subst (λ (x : Request). changes_history (verdict h (record { person = p; moment = t; request = x })) (record { person = p; moment = t; request = x }) ≡ true → length (events (record { person = p; moment = t; request = x } ∷ h)) ≤ 100000) (sym import.1.1) (few_import h p t import.0 import.1.0 legal) accepted
+          subst (λ (x : Request). changes_history (verdict h (record { person = p; moment = t; request = x })) (record { person = p; moment = t; request = x }) ≡ true → length (events (record { person = p; moment = t; request = x } ∷ h)) ≤ 100000) (sym import.2) (few_import h p t import.0 import.1 legal) accepted
     ]
 
 few_first : (c : Call) → is_opening c.request ≡ true → length (events (c ∷ [])) ≤ 100000

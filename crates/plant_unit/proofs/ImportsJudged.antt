@@ -151,3 +151,7 @@ merged_at f t rows kept tags n b m x rises ek en eb room et em ex =
     let count : n ≡ length (new_numbers f.events rows) = en rising ∙ ap (λ l. length (new_numbers l rows)) ek in
     let free : nat_lt 100000 (length f.events + length (new_numbers f.events rows)) ≡ false = sym (eb ∙ (λ i. nat_lt 100000 (length (ek i) + count i))) ∙ room in
     merge_added f t rows x free (sym ex ∙ em rising ∙ (λ i. merge (ek i) rows (et i) t))
+
+pub own_result : {E : Type 0} (f : Facts) (c : Call) (r : Result Verdict E) (o : Option Refused) → o ≡ first_refusal (holder_refusals f c) → o ≡ None → IfOk r (IsJudgedOwn f c) → IfOk r (IsJudged f c)
+own_result f c (Ok v) o is none j = own_judged f c v (sym is ∙ none) j
+own_result f c (Err e) o is none j = tt

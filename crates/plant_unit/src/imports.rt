@@ -18,9 +18,7 @@ ghost use Rattle.plant_unit.specs.Judged.{IsJudgedOwn};
 use crate::alarms::push_alarms;
 use plant_alarm::Event;
 use plant_import::{FileRead, Merged, count_new, merge};
-use plant_model::{
-    AlarmRow, Call, Change, Full, Refused, Reply, Row, UnitPart, UnitRow, Verdict,
-};
+use plant_model::{AlarmRow, Call, Change, Full, Refused, Reply, Row, UnitPart, UnitRow, Verdict};
 use plant_types::{Fault, Moment, Table, Tag};
 use std::alloc::Global;
 
@@ -74,11 +72,7 @@ fn imported(merged: &Merged) -> Reply
     }
 }
 
-fn push_events(
-    alloc: Global,
-    changes: &mut Table<Change>,
-    events: &[Event],
-) -> Result<(), Fault>
+fn push_events(alloc: Global, changes: &mut Table<Change>, events: &[Event]) -> Result<(), Fault>
     ensures value { OnOk result (changes.new ≡ changes.old ++ map (λ e. Put (EventPut e)) events.now) }
     ensures err { IfErr result (λ e. e ≡ Memory) }
 {
@@ -106,7 +100,13 @@ fn import_changes(
     changes.push(Change::Put(Row::Unit(row)))?;
     push_events(alloc, &mut changes, added)?;
     let kept = part.rows.events.as_slice();
-    push_alarms(alloc, &mut changes, part.rows.alarms.as_slice(), kept, added)?;
+    push_alarms(
+        alloc,
+        &mut changes,
+        part.rows.alarms.as_slice(),
+        kept,
+        added,
+    )?;
     Ok(changes)
 }
 

@@ -16,7 +16,12 @@ use plant_types::{Fault, Person};
 use std::alloc::Global;
 
 /// What is answered to a call that is no import, whose caller may make it.
-fn judge_plain(alloc: Global, unit: &UnitRow, part: &UnitPart, call: &Call) -> Result<Verdict, Fault>
+fn judge_plain(
+    alloc: Global,
+    unit: &UnitRow,
+    part: &UnitPart,
+    call: &Call,
+) -> Result<Verdict, Fault>
     requires row { unit_read part.now.rows ≡ unit.now }
     requires plain { is_opening call.now.request ≡ false }
     requires no_import { is_import call.now.request ≡ false }

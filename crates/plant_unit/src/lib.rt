@@ -14,8 +14,8 @@ pub use changes::is_read;
 pub use judgement::{judge, judge_open};
 pub use plant_books::{Books, MineShelf, MineUnit};
 pub use plant_model::{
-    AlarmLine, AlarmRow, Answer, BandRow, Call, CellRow, Change, FloodLine, Full, GrantRow, Key, MineLine,
-    Refused, Reply, Request, Row, ShelfLine, ShelfRow, StandingLine, StatusRow, UnitLine, UnitPart,
-    UnitRow, UnitRows, Verdict, laws,
+    AlarmLine, AlarmRow, Answer, BandRow, Call, CellRow, Change, FloodLine, Full, GrantRow, Key,
+    MineLine, Refused, Reply, Request, Row, ShelfLine, ShelfRow, StandingLine, StatusRow, UnitLine,
+    UnitPart, UnitRow, UnitRows, Verdict, laws,
 };
 pub use replies::shelf_line;

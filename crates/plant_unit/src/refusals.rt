@@ -7,8 +7,8 @@ ghost use Rattle.plant_model.specs.Refusals.{first_refusal, over_quota, own_refu
 ghost use Rattle.plant_unit.specs.Judged.{holder_refusals, is_import};
 ghost use Rattle.plant_model.specs.declared.call.Request.TheVariants.{Grant, OneShotShelve, PlaceInService, Register, RemoveFromService, TimedShelve, Unshelve, Withdraw};
 
-use crate::floods::is_aligned;
 use crate::facts::{holds_any, is_before, is_held, others_shelved, stands, state_now, stewards};
+use crate::floods::is_aligned;
 use plant_alarm::ShelfState;
 use plant_books::alarm_of;
 use plant_model::{Call, Full, Refused, Request, UnitPart, UnitRow};

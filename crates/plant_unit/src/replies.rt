@@ -12,8 +12,8 @@ ghost use Rattle.plant_model.specs.Shelves as shelves;
 ghost use Rattle.plant_unit.specs.Judged.{is_import};
 ghost use Rattle.plant_model.specs.declared.call.Request.TheVariants.{Alarms as AlarmsCall, Floods as FloodsCall, Shelves as ShelvesCall, Standing as StandingCall, Status as StatusCall};
 
-use crate::floods::flood_lines;
 use crate::facts::{shelf_of, state_now, state_of};
+use crate::floods::flood_lines;
 use plant_alarm::ShelfState;
 use plant_books::{alarm_of, last_return};
 use plant_model::{
