@@ -1,5 +1,5 @@
 use super::*;
-use plant_ration::{Cell, ChangeKind, MatrixFault, Proposal, Sheet};
+use plant_ration::{Cell, ChangeKind, MatrixFault, Proposal};
 use plant_types::{Moment, Role};
 use std::alloc::Global;
 use std::test::Fail;
@@ -19,10 +19,34 @@ fn proposal_fault(alloc: Global, body: &[u8]) -> Option<BodyError> {
     read_proposal(alloc, body).err()
 }
 
-/// The sheet of a proposed record, if it is one.
-fn sheet_of(proposal: &Proposal) -> Option<&Sheet> {
+/// The base that is read of a proposal, if it is fit.
+fn base_read(alloc: Global, base: u64) -> Result<Option<u32>, Fail> {
+    let body = format!(in alloc;
+        "{{\"kind\":\"limit\",\"base\":{base},\"tag\":\"T\",\"max\":600}}"
+    )?;
+    match read_proposal(alloc, body.as_bytes()) {
+        Ok(proposal) => Ok(Some(proposal.base)),
+        Err(BodyError::Because(_why)) => Ok(None),
+        Err(BodyError::Memory) => Err(Fail::new("memory ran out")),
+    }
+}
+
+/// The severity and the response that are read of a proposed record, if it is fit.
+fn sheet_read(alloc: Global, severity: u64, response: u64) -> Result<Option<(u8, u64)>, Fail> {
+    let body = format!(in alloc;
+        "{{\"kind\":\"record\",\"base\":0,\"tag\":\"T\",\"cause\":\"a\",\"consequence\":\"b\",\"action\":\"c\",\"severity\":{severity},\"response\":{response}}}"
+    )?;
+    match read_proposal(alloc, body.as_bytes()) {
+        Ok(proposal) => Ok(numbers_of(&proposal)),
+        Err(BodyError::Because(_why)) => Ok(None),
+        Err(BodyError::Memory) => Err(Fail::new("memory ran out")),
+    }
+}
+
+/// The severity and the response of a proposed record.
+fn numbers_of(proposal: &Proposal) -> Option<(u8, u64)> {
     match &proposal.kind {
-        ChangeKind::Rationale(_tag, sheet) => Some(sheet),
+        ChangeKind::Rationale(_tag, sheet) => Some((sheet.severity, sheet.response.get())),
         _ => None,
     }
 }
@@ -261,62 +285,25 @@ fn reads_a_proposed_limit(rt: HostRuntime) -> Result<(), Fail> {
 }
 
 #[test]
-fn bounds_the_numbers_of_a_proposal(rt: HostRuntime) -> Result<(), Fail> {
+fn bounds_the_base_of_a_proposal(rt: HostRuntime) -> Result<(), Fail> {
     let alloc = rt.alloc();
-    let last = read_proposal(
-        alloc,
-        b"{\"kind\":\"limit\",\"base\":20000,\"tag\":\"T\",\"max\":604800}",
-    )?;
-    assert_eq!(rt; last.base, 20_000);
-    let least = read_proposal(
-        alloc,
-        b"{\"kind\":\"record\",\"base\":0,\"tag\":\"T\",\"cause\":\"a\",\"consequence\":\"b\",\"action\":\"c\",\"severity\":1,\"response\":1}",
-    )?;
-    let greatest = read_proposal(
-        alloc,
-        b"{\"kind\":\"record\",\"base\":0,\"tag\":\"T\",\"cause\":\"a\",\"consequence\":\"b\",\"action\":\"c\",\"severity\":5,\"response\":604800}",
-    )?;
-    let (Some(least), Some(greatest)) = (sheet_of(&least), sheet_of(&greatest)) else {
-        return Err(Fail::new("no record"));
-    };
-    assert_eq!(rt; least.severity, 1);
-    assert_eq!(rt; least.response.get(), 1);
-    assert_eq!(rt; greatest.severity, 5);
-    assert_eq!(rt; greatest.response.get(), 604_800);
-    assert!(rt;
-        proposal_fault(
-            alloc,
-            b"{\"kind\":\"limit\",\"base\":20001,\"tag\":\"T\",\"max\":600}"
-        ) == Some(BODY)
-    );
-    assert!(rt;
-        proposal_fault(
-            alloc,
-            b"{\"kind\":\"limit\",\"base\":4294967296,\"tag\":\"T\",\"max\":600}"
-        ) == Some(BODY)
-    );
-    assert!(rt;
-        proposal_fault(
-            alloc,
-            b"{\"kind\":\"limit\",\"base\":-1,\"tag\":\"T\",\"max\":600}"
-        ) == Some(BODY)
-    );
-    assert!(rt;
-        proposal_fault(
-            alloc,
-            b"{\"kind\":\"limit\",\"base\":0,\"tag\":\"T\",\"max\":604801}"
-        ) == Some(BODY)
-    );
-    for body in [
-        b"{\"kind\":\"record\",\"base\":0,\"tag\":\"T\",\"cause\":\"a\",\"consequence\":\"b\",\"action\":\"c\",\"severity\":0,\"response\":1}".as_slice(),
-        b"{\"kind\":\"record\",\"base\":0,\"tag\":\"T\",\"cause\":\"a\",\"consequence\":\"b\",\"action\":\"c\",\"severity\":6,\"response\":1}".as_slice(),
-        b"{\"kind\":\"record\",\"base\":0,\"tag\":\"T\",\"cause\":\"a\",\"consequence\":\"b\",\"action\":\"c\",\"severity\":257,\"response\":1}".as_slice(),
-        b"{\"kind\":\"record\",\"base\":0,\"tag\":\"T\",\"cause\":\"a\",\"consequence\":\"b\",\"action\":\"c\",\"severity\":1,\"response\":0}".as_slice(),
-        b"{\"kind\":\"record\",\"base\":0,\"tag\":\"T\",\"cause\":\"a\",\"consequence\":\"b\",\"action\":\"c\",\"severity\":1,\"response\":604801}".as_slice(),
-        b"{\"kind\":\"record\",\"base\":0,\"tag\":\"T\",\"cause\":\"a\",\"consequence\":\"\",\"action\":\"c\",\"severity\":1,\"response\":1}".as_slice(),
-    ] {
-        assert!(rt; proposal_fault(alloc, body) == Some(BODY));
-    }
+    assert_eq!(rt; base_read(alloc, 0)?, Some(0));
+    assert_eq!(rt; base_read(alloc, 20_000)?, Some(20_000));
+    assert_eq!(rt; base_read(alloc, 20_001)?, None);
+    assert_eq!(rt; base_read(alloc, 4_294_967_296)?, None);
+    Ok(())
+}
+
+#[test]
+fn bounds_the_numbers_of_a_sheet(rt: HostRuntime) -> Result<(), Fail> {
+    let alloc = rt.alloc();
+    assert_eq!(rt; sheet_read(alloc, 0, 1)?, None);
+    assert_eq!(rt; sheet_read(alloc, 1, 1)?, Some((1, 1)));
+    assert_eq!(rt; sheet_read(alloc, 5, 604_800)?, Some((5, 604_800)));
+    assert_eq!(rt; sheet_read(alloc, 6, 1)?, None);
+    assert_eq!(rt; sheet_read(alloc, 257, 1)?, None);
+    assert_eq!(rt; sheet_read(alloc, 1, 0)?, None);
+    assert_eq!(rt; sheet_read(alloc, 1, 604_801)?, None);
     Ok(())
 }
 
@@ -355,6 +342,18 @@ fn tells_what_is_wrong_with_a_proposal(rt: HostRuntime) -> Result<(), Fail> {
     );
     assert!(rt;
         proposal_fault(alloc, b"{\"kind\":\"limit\",\"base\":0,\"max\":600}") == Some(BODY)
+    );
+    assert!(rt;
+        proposal_fault(
+            alloc,
+            b"{\"kind\":\"limit\",\"base\":-1,\"tag\":\"T\",\"max\":600}"
+        ) == Some(BODY)
+    );
+    assert!(rt;
+        proposal_fault(
+            alloc,
+            b"{\"kind\":\"limit\",\"base\":0,\"tag\":\"T\",\"max\":604801}"
+        ) == Some(BODY)
     );
     Ok(())
 }

@@ -1,3 +1,7 @@
 pub mod Matrices
+pub mod AlarmLists
+pub mod EventBounds
+pub mod ImportsJudged
+pub mod FloodLines
 pub mod JudgedLaws
 pub mod Loops

@@ -1,6 +1,6 @@
 -- Lists that a loop makes, one element after another.
 use Rattle.std.proofs.Common.{subst, ◌≡◌, ℕ, ◌+◌, ◌<◌, ◌≤◌, List, [], ◌∷◌, ◌++◌, Some, None, refl, ap, sym, ◌∙◌, length, get_or, take, arith, append_assoc}
-use Rattle.std.specs.Prelude.{Option, filter_map, option_to_list, map, flat_map}
+use Rattle.std.specs.Prelude.{Bool, Option, false, filter, filter_map, if◌then◌else◌, option_to_list, map, flat_map, true}
 use Rattle.std.specs.List.{enumerate_from, take-map}
 use Rattle.std.proofs.lemmas.List.{take_more, map-append, length-take-le, length-map}
 use Rattle.std.proofs.Math.ListN.{get_or-map}
@@ -58,3 +58,13 @@ next_cells {A = A} put make view xs i x seen lt is sees =
     ∙ next_flat_mapped put make (map view xs) i (view x) long
     ∙ ap (λ ys. map put (flat_map make (enumerate_from 1 ys)) ++ map put (make (i + 1, get_or (map view xs) i (view x)))) (take-map view i xs)
     ∙ ap (λ y. let e : ℕ × A = (i + 1, y) in map put (flat_map make (enumerate_from 1 (map view (take i xs)))) ++ map put (make e)) at
+
+-- one more element of a list of those that pass a test, mapped
+pub passing_next : {A B : Type 0} (p : A → Bool) (f : A → B) (xs : List A) (i : ℕ) (d : A) → i < length xs → map f (filter p (take (i + 1) xs)) ≡ map f (filter p (take i xs)) ++ (if p (get_or xs i d) then f (get_or xs i d) ∷ [] else [])
+passing_next {A = A} p f xs i d lt = ap (λ l. map f (filter p l)) (take_more xs i d lt) ∙ one_more (take i xs) (get_or xs i d)
+  where
+    one_more : (ys : List A) (x : A) → map f (filter p (ys ++ x ∷ [])) ≡ map f (filter p ys) ++ (if p x then f x ∷ [] else [])
+    one_more [] x = elim (p x) as (λ b. map f (if b then x ∷ [] else []) ≡ (if b then f x ∷ [] else [])) [ true ↦ refl | false ↦ refl ]
+    one_more (y ∷ ys) x =
+        let rest = one_more ys x in
+        elim (p y) as (λ b. map f (if b then y ∷ filter p (ys ++ x ∷ []) else filter p (ys ++ x ∷ [])) ≡ map f (if b then y ∷ filter p ys else filter p ys) ++ (if p x then f x ∷ [] else [])) [ true ↦ ap (λ l. f y ∷ l) rest | false ↦ rest ]

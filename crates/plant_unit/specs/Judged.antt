@@ -1,6 +1,8 @@
 -- What a judgement says.
-use Rattle.std.specs.Prelude.{Bool, Err, List, None, Ok, Option, Result, Some, [], false, if◌then◌else◌, is_ok, true, ◌∷◌, ◌≡◌}
+use Rattle.std.specs.Prelude.{Bool, Err, List, None, Ok, Option, Result, Some, [], false, if◌then◌else◌, is_ok, nat_lt, not, true, ◌++◌, ◌∷◌, ◌≡◌}
 use Rattle.plant_model.specs.declared.call.Call.{Call}
+use Rattle.plant_model.specs.declared.call.Request.{Request}
+use Rattle.plant_model.specs.declared.call.Request.TheVariants.{Import}
 use Rattle.plant_model.specs.declared.reply.Refused.{Refused}
 use Rattle.plant_model.specs.declared.reply.Reply.{Reply}
 use Rattle.plant_model.specs.declared.rows.Change.{Change}
@@ -10,11 +12,17 @@ use Rattle.plant_model.specs.declared.rows.Verdict.TheVariants.{Accepted as IsAc
 use Rattle.plant_model.specs.Facts.{Facts}
 use Rattle.plant_model.specs.Legality.{IsLegal}
 use Rattle.plant_model.specs.Parts.{part_of}
+use Rattle.plant_model.specs.Refusals.{first_refusal, holds_some, lacks_role, own_refusals, role_needed}
 use Rattle.plant_model.specs.Replies.{reply}
+use Rattle.plant_model.specs.declared.reply.Refused.TheVariants.{MomentBehind, NotGranted}
 use Rattle.plant_model.specs.RowChanges.{changed_by, changes_for, no_rows, puts_unit}
 use Rattle.plant_model.specs.Rows.{rows_of}
-use Rattle.plant_model.specs.Verdicts.{after, changes_history, verdict, verdict_of}
+use Rattle.plant_model.specs.Verdicts.{after, changes_history, refused_or, verdict, verdict_of}
 use Rattle.plant_model.specs.Worlds.{opening}
+
+abbrev pub is_import : Request → Bool
+is_import (Import u file) = true
+is_import _ = false
 
 abbrev pub answer_in : Verdict → Result Reply Refused
 answer_in (IsRefused r) = Err r
@@ -33,6 +41,17 @@ IsPartOf (Some part) h c = (part ≡ part_of c (rows_of h)) × IsLegal h
 pub record IsJudged (f : Facts) (c : Call) (v : Verdict) : Type 0 where
   pub answer : answer_in v ≡ verdict_of f c
   pub changes : changes_in v ≡ (if changes_history (verdict_of f c) c then changes_for f c else [])
+
+-- the verdict that the facts give to one who may make the call: by the request's own refusals
+pub record IsJudgedOwn (f : Facts) (c : Call) (v : Verdict) : Type 0 where
+  pub answer : answer_in v ≡ refused_or (first_refusal (own_refusals f c.moment c.request)) (reply f c.moment c.request)
+  pub changes : changes_in v ≡ (if changes_history (refused_or (first_refusal (own_refusals f c.moment c.request)) (reply f c.moment c.request)) c then changes_for f c else [])
+
+-- the refusals of one who may not make the call, or not any more at its moment
+abbrev pub holder_refusals : Facts → Call → List (Bool × Refused)
+holder_refusals f c =
+    (not (holds_some f c.moment c.person), NotGranted)
+    ∷ (lacks_role f c.moment c.person (role_needed c.request) ++ (nat_lt c.moment f.unit.last_s, MomentBehind f.unit.last_s) ∷ [])
 
 -- the verdict on a unit of this history; the changes turn its rows into those of the history with the call, and put the unit's row
 pub record IsVerdictOn (h : List Call) (c : Call) (v : Verdict) : Type 0 where

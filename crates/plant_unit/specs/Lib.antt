@@ -1,2 +1,4 @@
 pub mod MatrixRows
+pub mod Summaries
+pub mod Additions
 pub mod Judged

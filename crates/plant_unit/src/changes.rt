@@ -11,6 +11,7 @@ ghost use Rattle.plant_model.specs.RowFacts.{facts_in, unit_read};
 ghost use Rattle.plant_model.specs.Verdicts.{is_opening, is_read};
 ghost use Rattle.plant_model.specs.declared.rows.Change.TheVariants.{Put};
 ghost use Rattle.plant_model.specs.declared.rows.Row.TheVariants.{Band as BandPut, Cell as CellPut};
+ghost use Rattle.plant_unit.specs.Judged.{is_import};
 ghost use Rattle.plant_unit.specs.MatrixRows.{band_row_of, cell_row_of, row_of_cells};
 
 use plant_alarm::AlarmState;
@@ -34,7 +35,7 @@ fn limit_of(part: &UnitPart, tag: &Tag) -> u64
 }
 
 fn new_alarm(alloc: Global, tag: &Tag, latching: bool, max: Seconds) -> Result<AlarmRow, Fault>
-    ensures value { IfOk result (λ row. row ≡ alarm_as tag.now max None latching) }
+    ensures value { IfOk result (λ row. row ≡ alarm_as tag.now max [] None latching) }
     ensures err { IfErr result (λ e. e ≡ Memory) }
 {
     Ok(AlarmRow {
@@ -102,9 +103,10 @@ fn placement(alloc: Global, part: &UnitPart, tag: &Tag) -> Result<Option<Change>
     }
 }
 
-/// The change that the request makes beside that of the unit's row, where it makes one.
+/// The change that a request makes beside that of the unit's row, where it makes one. An import makes more.
 fn own_change(alloc: Global, part: &UnitPart, call: &Call) -> Result<Option<Change>, Fault>
-    requires { is_opening call.now.request ≡ false }
+    requires plain { is_opening call.now.request ≡ false }
+    requires no_import { is_import call.now.request ≡ false }
     ensures value { IfOk result (λ change. option_to_list change ≡ own_changes (facts_in part.now) call.now.person call.now.moment call.now.request) }
     ensures err { IfErr result (λ e. e ≡ Memory) }
 {
@@ -155,7 +157,7 @@ fn own_change(alloc: Global, part: &UnitPart, call: &Call) -> Result<Option<Chan
     Ok(Some(change))
 }
 
-/// The changes of an accepted call: none for a read.
+/// The changes of an accepted call that is no import: none for a read.
 pub fn changes_of(
     alloc: Global,
     unit: &UnitRow,
@@ -164,6 +166,7 @@ pub fn changes_of(
 ) -> Result<Table<Change>, Fault>
     requires row { unit_read part.now.rows ≡ unit.now }
     requires plain { is_opening call.now.request ≡ false }
+    requires no_import { is_import call.now.request ≡ false }
     ensures value { IfOk result (λ cs. cs ≡ (if is_read call.now.request then [] else changes_for (facts_in part.now) call.now)) }
     ensures err { IfErr result (λ e. e ≡ Memory) }
 {
@@ -190,6 +193,7 @@ pub fn is_read(request: &Request) -> bool
             | Request::Shelves { .. }
             | Request::Alarms { .. }
             | Request::Standing { .. }
+            | Request::Floods { .. }
             | Request::MyUnits
             | Request::MyShelves
     )

@@ -4,27 +4,51 @@ ghost use Rattle.plant_types.specs.declared.fault.Fault.TheVariants.{Memory};
 ghost use Rattle.plant_model.specs.RowFacts.{facts_in, unit_read};
 ghost use Rattle.plant_model.specs.Verdicts.{is_opening};
 ghost use Rattle.plant_model.specs.declared.call.Call.{Call};
-ghost use Rattle.plant_unit.specs.Judged.{IsJudged, IsOpening, IsPartOf, IsVerdictOn};
+ghost use Rattle.plant_unit.specs.Additions.{AreKept};
+ghost use Rattle.plant_unit.specs.Judged.{IsJudged, IsJudgedOwn, IsOpening, IsPartOf, IsVerdictOn, is_import};
 
 use crate::changes::{changes_of, opening_changes};
-use crate::refusals::refusal;
+use crate::imports::judge_import;
+use crate::refusals::{holder_refusal, own_refusal};
 use crate::replies::reply_to;
-use plant_model::{Call, Refused, Reply, UnitPart, UnitRow, Verdict};
+use plant_model::{Call, Refused, Reply, Request, UnitPart, UnitRow, Verdict};
 use plant_types::{Fault, Person};
 use std::alloc::Global;
 
-fn judge_part(alloc: Global, unit: &UnitRow, part: &UnitPart, call: &Call) -> Result<Verdict, Fault>
+/// What is answered to a call that is no import, whose caller may make it.
+fn judge_plain(
+    alloc: Global,
+    unit: &UnitRow,
+    part: &UnitPart,
+    call: &Call,
+) -> Result<Verdict, Fault>
     requires row { unit_read part.now.rows ≡ unit.now }
     requires plain { is_opening call.now.request ≡ false }
-    ensures value { IfOk result (IsJudged (facts_in part.now) call.now) }
+    requires no_import { is_import call.now.request ≡ false }
+    ensures value { AreKept part.now → IfOk result (IsJudgedOwn (facts_in part.now) call.now) }
     ensures err { IfErr result (λ e. e ≡ Memory) }
 {
-    if let Some(refused) = refusal(unit, part, call) {
+    if let Some(refused) = own_refusal(unit, part, call.moment, &call.request) {
         return Ok(Verdict::Refused(refused));
     }
     let reply = reply_to(alloc, part, call.moment, &call.request)?;
     let changes = changes_of(alloc, unit, part, call)?;
     Ok(Verdict::Accepted(reply, changes))
+}
+
+fn judge_part(alloc: Global, unit: &UnitRow, part: &UnitPart, call: &Call) -> Result<Verdict, Fault>
+    requires row { unit_read part.now.rows ≡ unit.now }
+    requires plain { is_opening call.now.request ≡ false }
+    ensures value { AreKept part.now → IfOk result (IsJudged (facts_in part.now) call.now) }
+    ensures err { IfErr result (λ e. e ≡ Memory) }
+{
+    if let Some(refused) = holder_refusal(unit, part, call) {
+        return Ok(Verdict::Refused(refused));
+    }
+    match &call.request {
+        Request::Import { file, .. } => judge_import(alloc, unit, part, call, file),
+        _ => judge_plain(alloc, unit, part, call),
+    }
 }
 
 /// What a unit answers to a call, from the part of its rows that the call looks at; none is a code that was never

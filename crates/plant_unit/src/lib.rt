@@ -1,8 +1,11 @@
 //! What a unit answers to a call, from the part of its rows that the call looks at, and what that changes.
 #![tactic(auto)]
 
+mod alarms;
 mod changes;
 mod facts;
+mod floods;
+mod imports;
 mod judgement;
 mod refusals;
 mod replies;
@@ -11,8 +14,8 @@ pub use changes::is_read;
 pub use judgement::{judge, judge_open};
 pub use plant_books::{Books, MineShelf, MineUnit};
 pub use plant_model::{
-    AlarmLine, AlarmRow, Answer, BandRow, Call, CellRow, Change, Full, GrantRow, Key, MineLine,
-    Refused, Reply, Request, Row, ShelfLine, ShelfRow, StandingLine, StatusRow, UnitLine, UnitPart,
-    UnitRow, UnitRows, Verdict, laws,
+    AlarmLine, AlarmRow, Answer, BandRow, Call, CellRow, Change, FloodLine, Full, GrantRow, Key,
+    MineLine, Refused, Reply, Request, Row, ShelfLine, ShelfRow, StandingLine, StatusRow, UnitLine,
+    UnitPart, UnitRow, UnitRows, Verdict, laws,
 };
 pub use replies::shelf_line;

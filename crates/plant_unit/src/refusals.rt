@@ -1,12 +1,14 @@
 //! The first refusal of a call, by its own conditions in their order.
 
-ghost use Rattle.std.specs.Prelude.{◌≡◌, ℕ, Bool, [], ◌∷◌};
+ghost use Rattle.std.specs.Prelude.{◌≡◌, ℕ, Bool, [], ◌∷◌, false};
 ghost use Rattle.plant_types.specs.Names.{Name};
 ghost use Rattle.plant_model.specs.RowFacts.{facts_in, unit_read};
-ghost use Rattle.plant_model.specs.Refusals.{first_refusal, over_quota, own_refusals, refusals, role_needed};
+ghost use Rattle.plant_model.specs.Refusals.{first_refusal, over_quota, own_refusals, role_needed};
+ghost use Rattle.plant_unit.specs.Judged.{holder_refusals, is_import};
 ghost use Rattle.plant_model.specs.declared.call.Request.TheVariants.{Grant, OneShotShelve, PlaceInService, Register, RemoveFromService, TimedShelve, Unshelve, Withdraw};
 
 use crate::facts::{holds_any, is_before, is_held, others_shelved, stands, state_now, stewards};
+use crate::floods::is_aligned;
 use plant_alarm::ShelfState;
 use plant_books::alarm_of;
 use plant_model::{Call, Full, Refused, Request, UnitPart, UnitRow};
@@ -21,6 +23,7 @@ fn needed(request: &Request) -> Option<Role>
         Request::TimedShelve { .. } | Request::OneShotShelve { .. } | Request::Unshelve { .. } => {
             Some(Role::Operator)
         }
+        Request::Import { .. } => Some(Role::Operator),
         Request::RemoveFromService { .. } | Request::PlaceInService { .. } => {
             Some(Role::Maintainer)
         }
@@ -146,8 +149,15 @@ fn placement_refusal(part: &UnitPart, tag: &Tag) -> Option<Refused>
     }
 }
 
-fn own_refusal(unit: &UnitRow, part: &UnitPart, now: Moment, request: &Request) -> Option<Refused>
-    requires { unit_read part.now.rows ≡ unit.now }
+/// The first refusal of a request that is no import, made by one who may make it, where there is one.
+pub fn own_refusal(
+    unit: &UnitRow,
+    part: &UnitPart,
+    now: Moment,
+    request: &Request,
+) -> Option<Refused>
+    requires row { unit_read part.now.rows ≡ unit.now }
+    requires plain { is_import request.now ≡ false }
     ensures { result ≡ first_refusal (own_refusals (facts_in part.now) now request.now) }
 {
     match request {
@@ -166,14 +176,21 @@ fn own_refusal(unit: &UnitRow, part: &UnitPart, now: Moment, request: &Request) 
                 Some(Refused::AlarmUnknown)
             }
         }
+        Request::Floods { begin, until, .. } => {
+            if is_aligned(*begin, *until) {
+                None
+            } else {
+                Some(Refused::RangeNotAligned)
+            }
+        }
         _ => None,
     }
 }
 
-/// The first refusal whose condition holds, where there is one.
-pub fn refusal(unit: &UnitRow, part: &UnitPart, call: &Call) -> Option<Refused>
+/// The refusal of a caller who may not make the call, or not any more at its moment, where there is one.
+pub fn holder_refusal(unit: &UnitRow, part: &UnitPart, call: &Call) -> Option<Refused>
     requires { unit_read part.now.rows ≡ unit.now }
-    ensures { result ≡ first_refusal (refusals (facts_in part.now) call.now) }
+    ensures { result ≡ first_refusal (holder_refusals (facts_in part.now) call.now) }
 {
     let person = &call.person;
     let now = call.moment;
@@ -189,5 +206,5 @@ pub fn refusal(unit: &UnitRow, part: &UnitPart, call: &Call) -> Option<Refused>
     if now.seconds() < last.seconds() {
         return Some(Refused::MomentBehind(last));
     }
-    own_refusal(unit, part, now, &call.request)
+    None
 }

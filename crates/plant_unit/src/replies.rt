@@ -1,6 +1,6 @@
 //! The replies to accepted calls.
 
-ghost use Rattle.std.specs.Prelude.{◌≡◌, Some, IfOk, IfErr, filter_map, map, not, option_copied};
+ghost use Rattle.std.specs.Prelude.{◌≡◌, ◌≤◌, ℕ, Some, IfOk, IfErr, false, filter_map, length, map, not, option_copied};
 ghost use Rattle.plant_types.specs.Names.{Name};
 ghost use Rattle.plant_types.specs.declared.fault.Fault.TheVariants.{Memory};
 ghost use Rattle.plant_alarm.specs.Shelves.{is_unshelved, shelf_state};
@@ -9,9 +9,11 @@ ghost use Rattle.plant_model.specs.Replies as replies;
 ghost use Rattle.plant_model.specs.Replies.{line_of, reply, shelf_lines};
 ghost use Rattle.plant_model.specs.RowFacts.{facts_in};
 ghost use Rattle.plant_model.specs.Shelves as shelves;
-ghost use Rattle.plant_model.specs.declared.call.Request.TheVariants.{Alarms as AlarmsCall, Shelves as ShelvesCall, Standing as StandingCall, Status as StatusCall};
+ghost use Rattle.plant_unit.specs.Judged.{is_import};
+ghost use Rattle.plant_model.specs.declared.call.Request.TheVariants.{Alarms as AlarmsCall, Floods as FloodsCall, Shelves as ShelvesCall, Standing as StandingCall, Status as StatusCall};
 
 use crate::facts::{shelf_of, state_now, state_of};
+use crate::floods::flood_lines;
 use plant_alarm::ShelfState;
 use plant_books::{alarm_of, last_return};
 use plant_model::{
@@ -220,17 +222,38 @@ fn standing_reply(
     })
 }
 
-/// The reply to an accepted request.
+fn floods_reply(
+    alloc: Global,
+    part: &UnitPart,
+    unit: &UnitCode,
+    begin: Moment,
+    until: Moment,
+) -> Result<Reply, Fault>
+    ensures value { length part.now.rows.events ≤ 4294967295 → (t : ℕ) → IfOk result (λ r. r ≡ reply (facts_in part.now) t (FloodsCall unit.now begin until)) }
+    ensures err { IfErr result (λ e. e ≡ Memory) }
+{
+    let events = part.rows.events.as_slice();
+    Ok(Reply::Floods {
+        unit: unit.copy(alloc)?,
+        begin,
+        until,
+        lines: flood_lines(alloc, events, begin, until)?,
+    })
+}
+
+/// The reply to an accepted request that is no import.
 pub fn reply_to(
     alloc: Global,
     part: &UnitPart,
     now: Moment,
     request: &Request,
 ) -> Result<Reply, Fault>
-    ensures value { IfOk result (λ r. r ≡ reply (facts_in part.now) now request.now) }
+    requires { is_import request.now ≡ false }
+    ensures value { length part.now.rows.events ≤ 4294967295 → IfOk result (λ r. r ≡ reply (facts_in part.now) now request.now) }
     ensures err { IfErr result (λ e. e ≡ Memory) }
 {
     match request {
+        Request::Floods { unit, begin, until } => floods_reply(alloc, part, unit, *begin, *until),
         Request::Status { tag, .. } => status_reply(alloc, part, tag, now),
         Request::Shelves { unit } => shelves_reply(alloc, part, unit, now),
         Request::Alarms { unit } => alarms_reply(alloc, part, unit, now),

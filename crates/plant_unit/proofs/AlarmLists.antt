@@ -1,0 +1,197 @@
+-- The summaries of alarms in the order of their tags, with one more event.
+use Rattle.std.proofs.Common.{ap, arith, cond, get_or, refl, set, subst, sym, ◌∙◌}
+use Rattle.std.proofs.lemmas.Bool.{ltb-false, ltb-true}
+use Rattle.std.proofs.lemmas.Option.{slice_get-get_or, slice_get_past}
+use Rattle.std.specs.FinMap.Entries.{below_all}
+use Rattle.std.specs.List.{list_any}
+use Rattle.std.specs.List.Sorted.{IsPartitionPoint, IsPartitionedBy}
+use Rattle.std.specs.Ordering.{eq_by_cmp, is_eq, is_lt, ordering_reverse}
+use Rattle.std.specs.Prelude.{Bool, List, None, Option, Some, T, [], false, filter, if◌then◌else◌, length, map, nat_lt, option_map, slice_get, suc, true, zero, ℕ, ◌&&◌, ◌++◌, ◌+◌, ◌<◌, ◌∷◌, ◌≡◌, ◌≤◌}
+use Rattle.std.specs.declared.cmp.Ordering.{Ordering}
+use Rattle.std.specs.declared.cmp.Ordering.TheVariants.{Equal, Greater, Less}
+use Rattle.plant_alarm.specs.States.{summary}
+use Rattle.plant_alarm.specs.declared.event.Event.{Event}
+use Rattle.plant_alarm.specs.declared.summary.Summary.{Summary}
+use Rattle.plant_floods.specs.Activations.{of_alarm}
+use Rattle.plant_model.specs.RowChanges.{with_state}
+use Rattle.plant_model.specs.RowFacts.{alarm_tag}
+use Rattle.plant_model.specs.declared.rows.AlarmRow.{AlarmRow}
+use Rattle.plant_types.proofs.Orders.{name_total, same_names}
+use Rattle.plant_types.proofs.TableLaws.{tied}
+use Rattle.plant_types.specs.Names.{Name, name_cmp, same_name}
+use Rattle.plant_types.specs.Tables.{IsInOrder}
+use Rattle.plant_unit.specs.Summaries.{summaries, summary_of, with_summary}
+
+first : (a b : Bool) → T (a && b) → T a
+first true b p = tt
+first false b p = p
+
+second : (a b : Bool) → T (a && b) → T b
+second true b p = p
+second false b p = absurd p
+
+less : (r : Ordering) → T (is_lt r) → r ≡ Less
+less Less p = refl
+less Equal p = absurd p
+less Greater p = absurd p
+
+lesser : (r : Ordering) → is_lt r ≡ true → r ≡ Less
+lesser Less e = refl
+lesser Equal e = cc
+lesser Greater e = cc
+
+greater : (r : Ordering) → is_lt r ≡ false → is_eq r ≡ false → r ≡ Greater
+greater Less e f = cc
+greater Equal e f = cc
+greater Greater e f = refl
+
+-- tags after another
+abbrev After : Name → List AlarmRow → Type 0
+After a [] = Unit {0}
+After a (r ∷ rows) = (name_cmp a r.tag ≡ Less) × After a rows
+
+abbrev pub Ordered : List AlarmRow → Type 0
+Ordered [] = Unit {0}
+Ordered (r ∷ rows) = After r.tag rows × Ordered rows
+
+after_of : (a : Name) (rows : List AlarmRow) → T (below_all name_cmp a (map (λ r. (alarm_tag r, r)) rows)) → After a rows
+after_of a [] h = tt
+after_of a (r ∷ rows) h = (less (name_cmp a r.tag) (first _ _ h), after_of a rows (second _ _ h))
+
+pub ordered : (rows : List AlarmRow) → IsInOrder name_cmp alarm_tag rows → Ordered rows
+ordered [] h = tt
+ordered (r ∷ rows) h = (after_of r.tag rows (first _ _ h), ordered rows (second _ _ h))
+
+turned : (a b : Name) → name_cmp a b ≡ Less → name_cmp b a ≡ Greater
+turned a b e = name_total.antisymm b a ∙ ap ordering_reverse e
+
+back : (a b : Name) → name_cmp a b ≡ Greater → name_cmp b a ≡ Less
+back a b e = name_total.antisymm b a ∙ ap ordering_reverse e
+
+after_at : (a : Name) (rows : List AlarmRow) → After a rows → (k : ℕ) (d : AlarmRow) → k < length rows → name_cmp a (get_or rows k d).tag ≡ Less
+after_at a [] h k d lt = absurd (omega arith)
+after_at a (r ∷ rows) h zero d lt = h.0
+after_at a (r ∷ rows) h (suc k) d lt = after_at a rows h.1 k d (omega arith)
+
+-- the tags before a place are smaller, and the others aren't
+pub parted : (rows : List AlarmRow) (t : Name) → IsInOrder name_cmp alarm_tag rows → IsPartitionedBy (λ r. is_lt (name_cmp r.tag t)) rows
+parted rows t order = by rows (ordered rows order)
+  where
+    by : (xs : List AlarmRow) → Ordered xs → (i j : ℕ) (d : AlarmRow) → i ≤ j → j < length xs → is_lt (name_cmp (get_or xs j d).tag t) ≡ true → is_lt (name_cmp (get_or xs i d).tag t) ≡ true
+    by [] h i j d le lt e = absurd (omega arith)
+    by (x ∷ xs) h zero zero d le lt e = e
+    by (x ∷ xs) h zero (suc j) d le lt e = ap is_lt (name_total.trans x.tag (get_or xs j d).tag t (after_at x.tag xs h.0 j d (omega arith)) (lesser (name_cmp (get_or xs j d).tag t) e))
+    by (x ∷ xs) h (suc i) zero d le lt e = absurd (omega arith)
+    by (x ∷ xs) h (suc i) (suc j) d le lt e = by xs h.1 i j d (omega arith) (omega arith) e
+
+abbrev pub Parts : Name → List AlarmRow → ℕ → Type 0
+Parts t rows p = IsPartitionPoint (λ r. is_lt (name_cmp r.tag t) ≡ true) (λ r. is_lt (name_cmp r.tag t) ≡ false) rows p
+
+later : (t : Name) (r : AlarmRow) (rows : List AlarmRow) (p : ℕ) → Parts t (r ∷ rows) (suc p) → Parts t rows p
+later t r rows p h = (λ k d low high. h.0 (suc k) d (omega arith) (omega arith), λ k d low high. h.1 (suc k) d (omega arith) (omega arith))
+
+-- the events of an alarm, with one more
+of_alarm-append : (a : Name) (xs ys : List Event) → of_alarm a (xs ++ ys) ≡ of_alarm a xs ++ of_alarm a ys
+of_alarm-append a [] ys = refl
+of_alarm-append a (x ∷ xs) ys =
+    elim (same_name a x.tag) as (λ b. cond b (x ∷ of_alarm a (xs ++ ys)) (of_alarm a (xs ++ ys)) ≡ cond b (x ∷ of_alarm a xs) (of_alarm a xs) ++ of_alarm a ys) [ true ↦ ap (λ l. x ∷ l) (of_alarm-append a xs ys) | false ↦ of_alarm-append a xs ys ]
+
+append-[] : {A : Type 0} (xs : List A) → xs ++ [] ≡ xs
+append-[] [] = refl
+append-[] (x ∷ xs) = ap (λ l. x ∷ l) (append-[] xs)
+
+own : (es : List Event) (e : Event) (r : AlarmRow) → same_name r.tag e.tag ≡ true → summary_of (es ++ e ∷ []) r ≡ summary r.latching (of_alarm r.tag es ++ e ∷ [])
+own es e r t = ap (summary r.latching) (of_alarm-append r.tag es (e ∷ []) ∙ ap (λ b. of_alarm r.tag es ++ cond b (e ∷ []) []) t)
+
+others : (es : List Event) (e : Event) (r : AlarmRow) → same_name r.tag e.tag ≡ false → summary_of (es ++ e ∷ []) r ≡ summary_of es r
+others es e r f = ap (summary r.latching) (of_alarm-append r.tag es (e ∷ []) ∙ ap (λ b. of_alarm r.tag es ++ cond b (e ∷ []) []) f ∙ append-[] (of_alarm r.tag es))
+
+module _ (es : List Event) (e : Event) where
+  before_it : (r : AlarmRow) → is_lt (name_cmp r.tag e.tag) ≡ true → same_name r.tag e.tag ≡ false
+  before_it r lt = ap is_eq (lesser (name_cmp r.tag e.tag) lt)
+
+  -- alarms after its tag keep their summaries
+  all_after : (rows : List AlarmRow) → After e.tag rows → summaries rows (es ++ e ∷ []) ≡ summaries rows es
+  all_after [] h = refl
+  all_after (r ∷ rows) h = λ i. others es e r (ap is_eq (turned e.tag r.tag h.0)) i ∷ all_after rows h.1 i
+
+  after_more : (a : Name) (rows : List AlarmRow) → name_cmp e.tag a ≡ Less → After a rows → After e.tag rows
+  after_more a [] lt h = tt
+  after_more a (r ∷ rows) lt h = (name_total.trans e.tag a r.tag lt h.0, after_more a rows lt h.1)
+
+  -- the alarm of its tag stands at the place
+  pub set_own : (rows : List AlarmRow) (p : ℕ) (r : AlarmRow) → Ordered rows → Parts e.tag rows p → Some r ≡ slice_get rows p → same_name r.tag e.tag ≡ true
+      → set (summaries rows es) p (summary r.latching (of_alarm r.tag es ++ e ∷ [])) ≡ summaries rows (es ++ e ∷ [])
+  set_own [] p r order h is t = cc
+  set_own (x ∷ rows) zero r order h is t =
+      let same : r ≡ x = cc in
+      let tag : x.tag ≡ e.tag = ap alarm_tag (sym same) ∙ same_names r.tag e.tag (tied (name_cmp r.tag e.tag) true t refl) in
+      let here : summary r.latching (of_alarm r.tag es ++ e ∷ []) ≡ summary_of (es ++ e ∷ []) x = sym (own es e r t) ∙ ap (summary_of (es ++ e ∷ [])) same in
+      let rest : summaries rows es ≡ summaries rows (es ++ e ∷ []) = sym (all_after rows (subst (λ (a : Name). After a rows) tag order.0)) in
+      λ i. here i ∷ rest i
+  set_own (x ∷ rows) (suc p) r order h is t =
+      let here : summary_of es x ≡ summary_of (es ++ e ∷ []) x = sym (others es e x (before_it x (h.0 0 x (omega arith) (omega arith)))) in
+      let rest = set_own rows p r order.1 (later e.tag x rows p h) is t in
+      λ i. here i ∷ rest i
+
+  -- no alarm has its tag
+  pub none_own : (rows : List AlarmRow) (p : ℕ) → Ordered rows → Parts e.tag rows p → ((r : AlarmRow) → Some r ≡ slice_get rows p → same_name r.tag e.tag ≡ false) → summaries rows es ≡ summaries rows (es ++ e ∷ [])
+  none_own [] p order h away = refl
+  none_own (x ∷ rows) zero order h away =
+      let other : same_name x.tag e.tag ≡ false = away x refl in
+      let below : name_cmp e.tag x.tag ≡ Less = back x.tag e.tag (greater (name_cmp x.tag e.tag) (h.1 0 x (omega arith) (omega arith)) other) in
+      λ i. sym (others es e x other) i ∷ sym (all_after rows (after_more x.tag rows below order.0)) i
+  none_own (x ∷ rows) (suc p) order h away =
+      let here : summary_of es x ≡ summary_of (es ++ e ∷ []) x = sym (others es e x (before_it x (h.0 0 x (omega arith) (omega arith)))) in
+      let rest = none_own rows p order.1 (later e.tag x rows p h) away in
+      λ i. here i ∷ rest i
+
+pub summary_at : (es : List Event) (rows : List AlarmRow) (p : ℕ) (r : AlarmRow) → Some r ≡ slice_get rows p → slice_get (summaries rows es) p ≡ Some (summary_of es r)
+summary_at es [] p r is = cc
+summary_at es (x ∷ rows) zero r is = ap (λ (o : Option AlarmRow). option_map (summary_of es) o) (sym is)
+summary_at es (x ∷ rows) (suc p) r is = summary_at es rows p r is
+
+-- the row with the summary of its events
+pub told : (es : List Event) (r : AlarmRow) → with_summary r (summary_of es r) ≡ with_state (of_alarm r.tag es) r
+unfolding summary
+told es r = refl
+
+-- the loops over alarms
+pub summarized : (es : List Event) (alarms : List AlarmRow) (told_so : List Summary) (i : ℕ) (r d : AlarmRow) (s e : Summary) → told_so ≡ summaries alarms es → i < length alarms → r ≡ get_or alarms i d → s ≡ get_or told_so i e → s ≡ summary_of es r
+summarized es alarms told_so i r d s e is lt er es' =
+    es' ∙ ap (λ l. get_or l i e) is ∙ at alarms i lt d e ∙ ap (summary_of es) (sym er)
+  where
+    at : (rows : List AlarmRow) (i : ℕ) → i < length rows → (d : AlarmRow) (e : Summary) → get_or (summaries rows es) i e ≡ summary_of es (get_or rows i d)
+    at [] i lt d e = absurd (omega arith)
+    at (x ∷ rows) zero lt d e = refl
+    at (x ∷ rows) (suc i) lt d e = at rows i (omega arith) d e
+
+-- what one more event does to the summaries
+pub added_own : (alarms : List AlarmRow) (es : List Event) (e : Event) (old new : List Summary) (p : ℕ) (r : AlarmRow) → IsInOrder name_cmp alarm_tag alarms → (IsInOrder name_cmp alarm_tag alarms → Parts e.tag alarms p)
+    → Some r ≡ slice_get alarms p → same_name r.tag e.tag ≡ true → old ≡ summaries alarms es
+    → ((fs : List Event) → slice_get old p ≡ Some (summary r.latching fs) → new ≡ set old p (summary r.latching (fs ++ e ∷ []))) → new ≡ summaries alarms (es ++ e ∷ [])
+added_own alarms es e old new p r order parts is t so adds =
+    adds (of_alarm r.tag es) (ap (λ l. slice_get l p) so ∙ summary_at es alarms p r is)
+    ∙ ap (λ l. set l p (summary r.latching (of_alarm r.tag es ++ e ∷ []))) so ∙ set_own es e alarms p r (ordered alarms order) (parts order) is t
+
+pub added_other : (alarms : List AlarmRow) (es : List Event) (e : Event) (old : List Summary) (p : ℕ) (r : AlarmRow) → IsInOrder name_cmp alarm_tag alarms → (IsInOrder name_cmp alarm_tag alarms → Parts e.tag alarms p)
+    → Some r ≡ slice_get alarms p → same_name r.tag e.tag ≡ false → old ≡ summaries alarms es → old ≡ summaries alarms (es ++ e ∷ [])
+added_other alarms es e old p r order parts is f so =
+    so ∙ none_own es e alarms p (ordered alarms order) (parts order) (λ x there. let same : x ≡ r = some_same x r (there ∙ sym is) in ap (λ (y : AlarmRow). same_name y.tag e.tag) same ∙ f)
+  where
+    some_same : (x y : AlarmRow) → Some x ≡ Some y → x ≡ y
+    some_same x y e = cc
+
+pub added_none : (alarms : List AlarmRow) (es : List Event) (e : Event) (old : List Summary) (p : ℕ) → IsInOrder name_cmp alarm_tag alarms → (IsInOrder name_cmp alarm_tag alarms → Parts e.tag alarms p)
+    → None ≡ slice_get alarms p → old ≡ summaries alarms es → old ≡ summaries alarms (es ++ e ∷ [])
+added_none alarms es e old p order parts is so =
+    so ∙ none_own es e alarms p (ordered alarms order) (parts order) (λ x there. absurd (none_some x (is ∙ sym there)))
+  where
+    none_some : (x : AlarmRow) → None ≡ Some x → ⊥
+    none_some x e = cc
+
+pub get_some : (xs : List AlarmRow) (p : ℕ) (x : AlarmRow) → true ≡ nat_lt p (length xs) → x ≡ get_or xs p x → Some x ≡ slice_get xs p
+get_some xs p x within is = ap (λ (y : AlarmRow). let o : Option AlarmRow = Some y in o) is ∙ sym (slice_get-get_or xs p x (ltb-true p (length xs) (sym within)))
+
+pub get_none : (xs : List AlarmRow) (p : ℕ) → false ≡ nat_lt p (length xs) → None ≡ slice_get xs p
+get_none xs p past = sym (slice_get_past xs p (ltb-false p (length xs) (sym past)))

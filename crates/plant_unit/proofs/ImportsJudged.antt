@@ -1,0 +1,157 @@
+-- The judgement of an import.
+use Rattle.std.proofs.Common.{ap, append_assoc, arith, refl, subst, sym, ◌∙◌}
+use Rattle.std.proofs.lemmas.Bool.{ltb-false}
+use Rattle.std.specs.Prelude.{Bool, Err, IfOk, List, None, Ok, Option, Result, Some, [], false, if◌then◌else◌, length, map, nat_lt, not, true, ℕ, ◌++◌, ◌+◌, ◌∷◌, ◌≡◌, ◌≤◌}
+use Rattle.plant_alarm.specs.declared.event.Event.{Event}
+use Rattle.plant_import.proofs.Counted.{fresh_count}
+use Rattle.plant_import.specs.Merging.{IsRising, first_fault, fresh, merge, merged_or}
+use Rattle.plant_import.specs.Numbers.{new_numbers}
+use Rattle.plant_import.specs.declared.bad_file.BadFile.{BadFile}
+use Rattle.plant_import.specs.declared.merging.Merged.{Merged}
+use Rattle.plant_model.specs.Facts.{Facts}
+use Rattle.plant_model.specs.Refusals.{fault_entries, file_refusals, first_refusal, holds_some, lacks_role, own_refusals, refusals, role_needed, tags_of}
+use Rattle.plant_model.specs.Replies.{reply}
+use Rattle.plant_model.specs.RowChanges.{changes_for, import_changes, unit_after}
+use Rattle.plant_model.specs.Verdicts.{changes_history, is_read, refused_or, verdict_of}
+use Rattle.plant_model.specs.declared.call.Call.{Call}
+use Rattle.plant_model.specs.declared.call.Request.TheVariants.{Import}
+use Rattle.plant_model.specs.declared.call.Request.{Request}
+use Rattle.plant_model.specs.declared.reply.Full.TheVariants.{Events as TooManyEvents}
+use Rattle.plant_model.specs.declared.reply.Refused.TheVariants.{BadFile as FileRefused, MomentBehind, NotGranted, UnitFull}
+use Rattle.plant_model.specs.declared.reply.Refused.{Refused}
+use Rattle.plant_model.specs.declared.reply.Reply.TheVariants.{Imported}
+use Rattle.plant_model.specs.declared.reply.Reply.{Reply}
+use Rattle.plant_model.specs.declared.rows.Change.TheVariants.{Put}
+use Rattle.plant_model.specs.declared.rows.Change.{Change}
+use Rattle.plant_model.specs.declared.rows.Row.TheVariants.{Unit as UnitPut}
+use Rattle.plant_model.specs.declared.rows.Verdict.TheVariants.{Accepted as IsAccepted, Refused as IsRefused}
+use Rattle.plant_model.specs.declared.rows.Verdict.{Verdict}
+use Rattle.plant_types.specs.Names.{Name}
+use Rattle.plant_types.specs.Options.{or_else}
+use Rattle.plant_unit.specs.Additions.{addition, addition_or, rows_added}
+use Rattle.plant_unit.specs.Judged.{IsJudged, IsJudgedOwn, answer_in, changes_in, holder_refusals}
+
+-- the refusals of a call: those of its caller, and then its own
+first_of : (xs ys : List (Bool × Refused)) → first_refusal (xs ++ ys) ≡ or_else (first_refusal xs) (first_refusal ys)
+first_of [] ys = refl
+first_of ((true, r) ∷ xs) ys = refl
+first_of ((false, r) ∷ xs) ys = first_of xs ys
+
+all_refusals : (f : Facts) (c : Call) → first_refusal (refusals f c) ≡ or_else (first_refusal (holder_refusals f c)) (first_refusal (own_refusals f c.moment c.request))
+all_refusals f c = ap first_refusal (sym (cut f c)) ∙ first_of (holder_refusals f c) (own_refusals f c.moment c.request)
+  where
+    cut : (f : Facts) (c : Call) → holder_refusals f c ++ own_refusals f c.moment c.request ≡ refusals f c
+    cut f c =
+        let own : List (Bool × Refused) = own_refusals f c.moment c.request in
+        let behind : List (Bool × Refused) = (nat_lt c.moment f.unit.last_s, MomentBehind f.unit.last_s) ∷ [] in
+        ap (λ (l : List (Bool × Refused)). (not (holds_some f c.moment c.person), NotGranted) ∷ l) (append_assoc (lacks_role f c.moment c.person (role_needed c.request)) behind own)
+
+pub refused_judged : (f : Facts) (c : Call) (r : Refused) → first_refusal (holder_refusals f c) ≡ Some r → IsJudged f c (IsRefused r)
+refused_judged f c r is =
+    let verdict : verdict_of f c ≡ Err r = ap (λ o. refused_or o (reply f c.moment c.request)) (all_refusals f c ∙ ap (λ o. or_else o (first_refusal (own_refusals f c.moment c.request))) is) in
+    record { answer = sym verdict; changes = sym (ap (λ v. if changes_history v c then changes_for f c else []) verdict) }
+
+pub own_judged : (f : Facts) (c : Call) (v : Verdict) → first_refusal (holder_refusals f c) ≡ None → IsJudgedOwn f c v → IsJudged f c v
+own_judged f c v none j =
+    let verdict : refused_or (first_refusal (own_refusals f c.moment c.request)) (reply f c.moment c.request) ≡ verdict_of f c = sym (ap (λ o. refused_or o (reply f c.moment c.request)) (all_refusals f c ∙ ap (λ o. or_else o (first_refusal (own_refusals f c.moment c.request))) none)) in
+    record { answer = j.answer ∙ verdict; changes = j.changes ∙ ap (λ v. if changes_history v c then changes_for f c else []) verdict }
+
+pub own_refused : (f : Facts) (c : Call) (r : Refused) → first_refusal (own_refusals f c.moment c.request) ≡ Some r → IsJudgedOwn f c (IsRefused r)
+own_refused f c r is =
+    record {
+      answer = sym (ap (λ o. refused_or o (reply f c.moment c.request)) is);
+      changes = sym (ap (λ o. if changes_history (refused_or o (reply f c.moment c.request)) c then changes_for f c else []) is);
+    }
+
+if_not : {A : Type 0} (b : Bool) (x y : A) → (if not b then x else y) ≡ (if b then y else x)
+if_not true x y = refl
+if_not false x y = refl
+
+pub own_accepted : (f : Facts) (c : Call) (r : Reply) (cs : List Change) → first_refusal (own_refusals f c.moment c.request) ≡ None → r ≡ reply f c.moment c.request → cs ≡ (if is_read c.request then [] else changes_for f c) → IsJudgedOwn f c (IsAccepted r cs)
+own_accepted f c r cs none er ec =
+    record {
+      answer = ap Ok er ∙ sym (ap (λ o. refused_or o (reply f c.moment c.request)) none);
+      changes = ec ∙ sym (if_not (is_read c.request) (changes_for f c) []) ∙ sym (ap (λ o. if changes_history (refused_or o (reply f c.moment c.request)) c then changes_for f c else []) none);
+    }
+
+-- what a file adds
+abbrev refused_by : Result Merged BadFile → Result Merged Refused
+refused_by (Ok m) = Ok m
+refused_by (Err fault) = Err (FileRefused fault)
+
+pub full_added : (f : Facts) (t : ℕ) (rows : List Event) → nat_lt 100000 (length f.events + length (new_numbers f.events rows)) ≡ true → addition f t rows ≡ Err (UnitFull TooManyEvents)
+full_added f t rows full = ap (λ b. addition_or (first_refusal ((b, UnitFull TooManyEvents) ∷ fault_entries (first_fault (tags_of f) t 2 f.events rows))) (rows_added f.events rows)) full
+
+pub merge_added : (f : Facts) (t : ℕ) (rows : List Event) (m : Result Merged BadFile) → nat_lt 100000 (length f.events + length (new_numbers f.events rows)) ≡ false → m ≡ merge f.events rows (tags_of f) t → refused_by m ≡ addition f t rows
+unfolding merge
+merge_added f t rows m room is =
+    ap refused_by is ∙ by (first_fault (tags_of f) t 2 f.events rows)
+    ∙ sym (ap (λ b. addition_or (first_refusal ((b, UnitFull TooManyEvents) ∷ fault_entries (first_fault (tags_of f) t 2 f.events rows))) (rows_added f.events rows)) room)
+  where
+    by : (o : Option BadFile) → refused_by (merged_or o f.events rows) ≡ addition_or (first_refusal (fault_entries o)) (rows_added f.events rows)
+    by None = refl
+    by (Some fault) = refl
+
+-- a file that adds rows has no fault, and there is room for its numbers
+record Adds (f : Facts) (t : ℕ) (rows : List Event) (m : Merged) : Type 0 where
+  pub none : first_refusal (file_refusals f t (Ok rows)) ≡ None
+  pub few : length (fresh f.events rows) ≤ 100000
+  pub is : m ≡ rows_added f.events rows
+
+adds_by : (f : Facts) (t : ℕ) (rows : List Event) (m : Merged) (full : Bool) (fault : Option BadFile) → nat_lt 100000 (length f.events + length (new_numbers f.events rows)) ≡ full → first_fault (tags_of f) t 2 f.events rows ≡ fault
+    → addition_or (first_refusal ((full, UnitFull TooManyEvents) ∷ fault_entries fault)) (rows_added f.events rows) ≡ Ok m → Adds f t rows m
+adds_by f t rows m true fault ef eo e = cc
+adds_by f t rows m false (Some fault) ef eo e = cc
+adds_by f t rows m false None ef eo e =
+    let room = ltb-false 100000 (length f.events + length (new_numbers f.events rows)) ef in
+    let count = fresh_count (tags_of f) t 2 f.events rows eo in
+    record {
+      none = (λ i. first_refusal ((ef i, UnitFull TooManyEvents) ∷ fault_entries (eo i)));
+      few = omega (arith, room, count);
+      is = cc;
+    }
+
+adds : (f : Facts) (t : ℕ) (rows : List Event) (m : Merged) → addition f t rows ≡ Ok m → Adds f t rows m
+adds f t rows m e = adds_by f t rows m _ _ refl refl e
+
+not_added : (f : Facts) (t : ℕ) (rows : List Event) (r : Refused) → addition f t rows ≡ Err r → first_refusal (file_refusals f t (Ok rows)) ≡ Some r
+not_added f t rows r e = by (first_refusal (file_refusals f t (Ok rows))) e
+  where
+    by : (o : Option Refused) → addition_or o (rows_added f.events rows) ≡ Err r → o ≡ Some r
+    by None e = cc
+    by (Some x) e = cc
+
+-- a call with its request
+asked : (c : Call) (q : Request) → c.request ≡ q → record { person = c.person; moment = c.moment; request = q } ≡ c
+asked c q e = λ i. record { person = c.person; moment = c.moment; request = sym e i }
+
+pub file_refused : (f : Facts) (c : Call) (u : Name) (fault : BadFile) → c.request ≡ Import u (Err fault) → IsJudgedOwn f c (IsRefused (FileRefused fault))
+file_refused f c u fault e = own_refused f c (FileRefused fault) (ap (λ q. first_refusal (own_refusals f c.moment q)) e)
+
+pub import_refused : (f : Facts) (c : Call) (u : Name) (rows : List Event) (r : Refused) → c.request ≡ Import u (Ok rows) → Err r ≡ addition f c.moment rows → IsJudgedOwn f c (IsRefused r)
+import_refused f c u rows r e is = own_refused f c r (ap (λ q. first_refusal (own_refusals f c.moment q)) e ∙ not_added f c.moment rows r (sym is))
+
+pub import_fresh : (f : Facts) (t : ℕ) (rows : List Event) (m : Merged) → Ok m ≡ addition f t rows → m.fresh ≡ fresh f.events rows
+import_fresh f t rows m is = ap (λ (x : Merged). x.fresh) ((adds f t rows m (sym is)).is)
+
+pub import_judged : (f : Facts) (c : Call) (u : Name) (rows : List Event) (m : Merged) (r : Reply) (cs : List Change) → c.request ≡ Import u (Ok rows) → Ok m ≡ addition f c.moment rows
+    → (length m.fresh ≤ 4294967295 → r ≡ Imported (length m.fresh) m.repeated) → cs ≡ Put (UnitPut (unit_after f c.moment (Import u (Ok rows)))) ∷ import_changes f rows → IsJudgedOwn f c (IsAccepted r cs)
+import_judged f c u rows m r cs e is er ec =
+    let so = adds f c.moment rows m (sym is) in
+    let few : length m.fresh ≤ 4294967295 = subst (λ (x : Merged). length x.fresh ≤ 4294967295) (sym so.is) (let n = so.few in omega (arith, n)) in
+    let q : Request = Import u (Ok rows) in
+    subst (λ (x : Call). IsJudgedOwn f x (IsAccepted r cs)) (asked c q e)
+    (own_accepted f (record { person = c.person; moment = c.moment; request = q }) r cs so.none (er few ∙ ap (λ (x : Merged). Imported (length x.fresh) x.repeated) so.is) ec)
+
+-- what the code finds of a file
+pub merged_at : (f : Facts) (t : ℕ) (rows kept : List Event) (tags : List Name) (n : ℕ) (b : Bool) (m x : Result Merged BadFile) → IsRising f.events → kept ≡ f.events → (IsRising kept → n ≡ length (new_numbers kept rows))
+    → b ≡ nat_lt 100000 (length kept + n) → b ≡ false → tags ≡ tags_of f → (IsRising kept → m ≡ merge kept rows tags t) → m ≡ x → refused_by x ≡ addition f t rows
+merged_at f t rows kept tags n b m x rises ek en eb room et em ex =
+    let rising : IsRising kept = subst (λ (l : List Event). IsRising l) (sym ek) rises in
+    let count : n ≡ length (new_numbers f.events rows) = en rising ∙ ap (λ l. length (new_numbers l rows)) ek in
+    let free : nat_lt 100000 (length f.events + length (new_numbers f.events rows)) ≡ false = sym (eb ∙ (λ i. nat_lt 100000 (length (ek i) + count i))) ∙ room in
+    merge_added f t rows x free (sym ex ∙ em rising ∙ (λ i. merge (ek i) rows (et i) t))
+
+pub own_result : {E : Type 0} (f : Facts) (c : Call) (r : Result Verdict E) (o : Option Refused) → o ≡ first_refusal (holder_refusals f c) → o ≡ None → IfOk r (IsJudgedOwn f c) → IfOk r (IsJudged f c)
+own_result f c (Ok v) o is none j = own_judged f c v (sym is ∙ none) j
+own_result f c (Err e) o is none j = tt

@@ -1,0 +1,15 @@
+use Rattle.std.proofs.Common.{rules, sym, ◌∙◌}
+use Rattle.plant_unit.proofs.AlarmLists.{added_none, added_other, added_own, get_none, get_some}
+use Rattle.plant_unit.proofs.alarms.add_event.Goals as goal
+
+pub returns-then-eq-clause-value : goal.returns-then-eq-clause-value
+returns-then-eq-clause-value c order es so =
+    added_own c.args.alarms.now es c.args.event.now c.args.summaries.now c.add_at.new.summaries c.place_of-place.result c.in-Some.alarm.now order c.place_of-place.ensures (get_some c.args.alarms.now c.place_of-place.result c.in-Some.alarm.now c.in-Some.ensures.lookup.0 c.in-Some.ensures.lookup.1) (search rules) so c.add_at.ensures.value
+
+pub returns-else-eq-clause-value : goal.returns-else-eq-clause-value
+returns-else-eq-clause-value c order es so =
+    added_other c.args.alarms.now es c.args.event.now c.args.summaries.now c.place_of-place.result c.in-Some.alarm.now order c.place_of-place.ensures (get_some c.args.alarms.now c.place_of-place.result c.in-Some.alarm.now c.in-Some.ensures.lookup.0 c.in-Some.ensures.lookup.1) (search rules) so
+
+pub returns-in_default-clause-value : goal.returns-in_default-clause-value
+returns-in_default-clause-value c order es so =
+    added_none c.args.alarms.now es c.args.event.now c.args.summaries.now c.place_of-place.result order c.place_of-place.ensures (get_none c.args.alarms.now c.place_of-place.result c.in_default.ensures.lookup.0) so

@@ -1,0 +1,17 @@
+use Rattle.std.proofs.Common.{ap, rules, sym, true, ◌∙◌, ◌∷◌, ◌≡◌, []}
+use Rattle.std.specs.Prelude.{List, if◌then◌else◌}
+use Rattle.plant_model.specs.RowChanges.{state_put}
+use Rattle.plant_model.specs.declared.rows.AlarmRow.{AlarmRow}
+use Rattle.plant_model.specs.declared.rows.Change.TheVariants.{Put}
+use Rattle.plant_model.specs.declared.rows.Change.{Change}
+use Rattle.plant_model.specs.declared.rows.Row.TheVariants.{Alarm as AlarmPut}
+use Rattle.plant_unit.proofs.AlarmLists.{told}
+use Rattle.plant_unit.specs.Summaries as summed
+use Rattle.plant_unit.proofs.alarms.alarm_change.Goals as goal
+
+pub returns-clause-value : goal.returns-clause-value
+returns-clause-value c es is =
+    let r : AlarmRow = c.args.alarm.now in
+    let row : c.in_ok-with_summary.field-0 ≡ summed.with_summary r (summed.summary_of es r) = c.in_ok-with_summary.ensures.value ∙ ap (summed.with_summary r) is in
+    let named : summed.is_named c.args.fresh.now r ≡ true = search rules in
+    ap (λ (x : AlarmRow). let y : Change = Put (AlarmPut x) in y ∷ []) (row ∙ told es r) ∙ sym (ap (λ b. if b then state_put es r ∷ [] else []) named)

@@ -1,0 +1,25 @@
+-- The state of each alarm, told from the events of all.
+use Rattle.plant_alarm.specs.States.{summary}
+use Rattle.plant_alarm.specs.declared.event.Event.{Event}
+use Rattle.plant_alarm.specs.declared.summary.Summary.{Summary}
+use Rattle.plant_floods.specs.Activations.{of_alarm}
+use Rattle.plant_model.specs.declared.rows.AlarmRow.{AlarmRow}
+use Rattle.plant_types.specs.Names.{same_name}
+use Rattle.std.specs.List.{list_any}
+use Rattle.std.specs.Prelude.{Bool, List, map}
+
+-- what an alarm's own events come to
+abbrev pub summary_of : List Event → AlarmRow → Summary
+summary_of es r = summary r.latching (of_alarm r.tag es)
+
+-- the same of all alarms, in their order
+abbrev pub summaries : List AlarmRow → List Event → List Summary
+summaries alarms es = map (summary_of es) alarms
+
+-- the row with a summary in its columns
+abbrev pub with_summary : AlarmRow → Summary → AlarmRow
+with_summary r s = record r { state_no = s.state; suppressed = s.suppressed; active_s = s.active_since; return_s = s.last_return }
+
+-- one of the events is the alarm's
+abbrev pub is_named : List Event → AlarmRow → Bool
+is_named es r = list_any (λ e. same_name r.tag e.tag) es

@@ -1,0 +1,138 @@
+//! The judgement of an import whose caller may make it.
+
+ghost use Rattle.std.specs.Prelude.{◌≡◌, ◌≤◌, ◌+◌, ◌++◌, ◌∷◌, IfErr, IfOk, List, Ok, OnOk, length, map, nat_lt};
+ghost use Rattle.plant_types.specs.Names.{Name};
+ghost use Rattle.plant_types.specs.declared.fault.Fault.TheVariants.{Memory};
+ghost use Rattle.plant_alarm.specs.declared.event.Event.{Event as TheEvent};
+ghost use Rattle.plant_import.specs.Merging.{IsRising, fresh};
+ghost use Rattle.plant_model.specs.RowChanges as changes;
+ghost use Rattle.plant_model.specs.RowChanges.{unit_after};
+ghost use Rattle.plant_model.specs.RowFacts.{alarm_tag, facts_in, unit_read};
+ghost use Rattle.plant_model.specs.declared.call.Request.TheVariants.{Import};
+ghost use Rattle.plant_model.specs.declared.reply.Reply.TheVariants.{Imported};
+ghost use Rattle.plant_model.specs.declared.rows.Change.TheVariants.{Put};
+ghost use Rattle.plant_model.specs.declared.rows.Row.TheVariants.{Event as EventPut, Unit as UnitPut};
+ghost use Rattle.plant_unit.specs.Additions.{AreKept, addition};
+ghost use Rattle.plant_unit.specs.Judged.{IsJudgedOwn};
+
+use crate::alarms::push_alarms;
+use plant_alarm::Event;
+use plant_import::{FileRead, Merged, count_new, merge};
+use plant_model::{AlarmRow, Call, Change, Full, Refused, Reply, Row, UnitPart, UnitRow, Verdict};
+use plant_types::{Fault, Moment, Table, Tag};
+use std::alloc::Global;
+
+fn tags_of(alloc: Global, alarms: &[AlarmRow]) -> Result<Table<Tag>, Fault>
+    ensures value { IfOk result (λ tags. tags ≡ map alarm_tag alarms.now) }
+    ensures err { IfErr result (λ e. e ≡ Memory) }
+{
+    let mut tags = Table::new(alloc);
+    for alarm in alarms {
+        tags.push(alarm.tag.copy(alloc)?)?;
+    }
+    Ok(tags)
+}
+
+/// Whether so many events are too many for a unit.
+fn is_full(kept: usize, new: usize) -> bool
+    ensures { result ≡ nat_lt 100000 (kept + new) }
+{
+    kept > 100_000 || new > 100_000 - kept
+}
+
+/// The new rows of a file and the number of its repeated ones. Refused, in this order: a file whose new numbers are too
+/// many, and the first faulty row.
+fn added(
+    alloc: Global,
+    part: &UnitPart,
+    now: Moment,
+    rows: &[Event],
+) -> Result<Result<Merged, Refused>, Fault>
+    ensures value { AreKept part.now → IfOk result (λ added. added ≡ addition (facts_in part.now) now rows.now) }
+    ensures err { IfErr result (λ e. e ≡ Memory) }
+{
+    let kept = part.rows.events.as_slice();
+    if is_full(kept.len(), count_new(alloc, kept, rows)?) {
+        return Ok(Err(Refused::UnitFull(Full::Events)));
+    }
+    let tags = tags_of(alloc, part.rows.alarms.as_slice())?;
+    match merge(alloc, kept, rows, tags.as_slice(), now)? {
+        Ok(merged) => Ok(Ok(merged)),
+        Err(fault) => Ok(Err(Refused::BadFile(fault))),
+    }
+}
+
+/// The reply to an import that added these rows; 4,294,967,295 new ones where there are more.
+fn imported(merged: &Merged) -> Reply
+    ensures { length merged.now.fresh ≤ 4294967295 → result ≡ Imported (length merged.now.fresh) merged.now.repeated }
+{
+    Reply::Imported {
+        fresh: u32::try_from(merged.fresh.len()).unwrap_or(u32::MAX),
+        repeated: merged.repeated,
+    }
+}
+
+fn push_events(alloc: Global, changes: &mut Table<Change>, events: &[Event]) -> Result<(), Fault>
+    ensures value { OnOk result (changes.new ≡ changes.old ++ map (λ e. Put (EventPut e)) events.now) }
+    ensures err { IfErr result (λ e. e ≡ Memory) }
+{
+    for event in events {
+        changes.push(Change::Put(Row::Event(event.copy(alloc)?)))?;
+    }
+    Ok(())
+}
+
+/// The changes of an import that adds these rows.
+fn import_changes(
+    alloc: Global,
+    unit: &UnitRow,
+    part: &UnitPart,
+    now: Moment,
+    added: &[Event],
+) -> Result<Table<Change>, Fault>
+    requires { unit_read part.now.rows ≡ unit.now }
+    ensures value { AreKept part.now → (u : Name) (rows : List TheEvent) → added.now ≡ fresh part.now.rows.events rows → IfOk result (λ cs. cs ≡ Put (UnitPut (unit_after (facts_in part.now) now (Import u (Ok rows)))) ∷ changes.import_changes (facts_in part.now) rows) }
+    ensures err { IfErr result (λ e. e ≡ Memory) }
+{
+    let mut changes = Table::new(alloc);
+    let mut row = *unit;
+    row.last_s = now;
+    changes.push(Change::Put(Row::Unit(row)))?;
+    push_events(alloc, &mut changes, added)?;
+    let kept = part.rows.events.as_slice();
+    push_alarms(
+        alloc,
+        &mut changes,
+        part.rows.alarms.as_slice(),
+        kept,
+        added,
+    )?;
+    Ok(changes)
+}
+
+/// What the unit answers to an import whose caller may make it.
+pub fn judge_import(
+    alloc: Global,
+    unit: &UnitRow,
+    part: &UnitPart,
+    call: &Call,
+    file: &FileRead,
+) -> Result<Verdict, Fault>
+    requires { unit_read part.now.rows ≡ unit.now }
+    ensures value { AreKept part.now → (u : Name) → call.now.request ≡ Import u file.now → IfOk result (IsJudgedOwn (facts_in part.now) call.now) }
+    ensures err { IfErr result (λ e. e ≡ Memory) }
+{
+    let rows = match file {
+        Ok(rows) => rows.as_slice(),
+        Err(fault) => return Ok(Verdict::Refused(Refused::BadFile(*fault))),
+    };
+    match added(alloc, part, call.moment, rows)? {
+        Err(refused) => Ok(Verdict::Refused(refused)),
+        Ok(merged) => {
+            let reply = imported(&merged);
+            let fresh = merged.fresh.as_slice();
+            let changes = import_changes(alloc, unit, part, call.moment, fresh)?;
+            Ok(Verdict::Accepted(reply, changes))
+        }
+    }
+}
