@@ -3,10 +3,9 @@ use Rattle.std.proofs.Common.{ap, arith, cond, get_or, refl, set, subst, sym, �
 use Rattle.std.proofs.lemmas.Bool.{ltb-false, ltb-true}
 use Rattle.std.proofs.lemmas.Option.{slice_get-get_or, slice_get_past}
 use Rattle.std.specs.FinMap.Entries.{below_all}
-use Rattle.std.specs.List.{list_any}
 use Rattle.std.specs.List.Sorted.{IsPartitionPoint, IsPartitionedBy}
-use Rattle.std.specs.Ordering.{eq_by_cmp, is_eq, is_lt, ordering_reverse}
-use Rattle.std.specs.Prelude.{Bool, List, None, Option, Some, T, [], false, filter, if◌then◌else◌, length, map, nat_lt, option_map, slice_get, suc, true, zero, ℕ, ◌&&◌, ◌++◌, ◌+◌, ◌<◌, ◌∷◌, ◌≡◌, ◌≤◌}
+use Rattle.std.specs.Ordering.{is_eq, is_lt, ordering_reverse}
+use Rattle.std.specs.Prelude.{Bool, List, None, Option, Some, T, [], false, length, map, nat_lt, option_map, slice_get, suc, true, zero, ℕ, ◌&&◌, ◌++◌, ◌<◌, ◌∷◌, ◌≡◌, ◌≤◌}
 use Rattle.std.specs.declared.cmp.Ordering.{Ordering}
 use Rattle.std.specs.declared.cmp.Ordering.TheVariants.{Equal, Greater, Less}
 use Rattle.plant_alarm.specs.States.{summary}

@@ -1,13 +1,13 @@
 -- The events that a legal history keeps are at most 100,000.
-use Rattle.std.proofs.Common.{ap, arith, inl, inr, ◌⊎◌, refl, subst, sym, ◌∙◌}
+use Rattle.std.proofs.Common.{arith, inl, inr, ◌⊎◌, refl, subst, sym}
 use Rattle.std.proofs.lemmas.Bool.{ltb-false}
 use Rattle.std.specs.FinMap.Entries.{by_order}
 use Rattle.std.specs.Ordering.{nat_cmp}
-use Rattle.std.specs.Prelude.{Err, List, Ok, Result, [], filter_map, length, nat_lt, not, true, ℕ, ◌++◌, ◌+◌, ◌∷◌, ◌≡◌, ◌≤◌}
+use Rattle.std.specs.Prelude.{Err, List, Ok, Result, [], filter_map, length, not, true, ℕ, ◌++◌, ◌+◌, ◌∷◌, ◌≡◌, ◌≤◌}
 use Rattle.std.specs.declared.cmp.Ordering.TheVariants.{Equal, Greater, Less}
 use Rattle.plant_alarm.specs.declared.event.Event.{Event}
 use Rattle.plant_import.proofs.Counted.{fresh_count}
-use Rattle.plant_import.specs.Merging.{first_fault, fresh}
+use Rattle.plant_import.specs.Merging.{fresh}
 use Rattle.plant_import.specs.Numbers.{event_number, has_number, new_numbers, numbers_of, with_events}
 use Rattle.plant_import.specs.declared.bad_file.BadFile.{BadFile}
 use Rattle.plant_model.proofs.EventLaws.{import_accepted, legal_kept}

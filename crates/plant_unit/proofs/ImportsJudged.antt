@@ -1,7 +1,7 @@
 -- The judgement of an import.
 use Rattle.std.proofs.Common.{ap, append_assoc, arith, refl, subst, sym, ◌∙◌}
 use Rattle.std.proofs.lemmas.Bool.{ltb-false}
-use Rattle.std.specs.Prelude.{Bool, Err, IfOk, List, None, Ok, Option, Result, Some, [], false, if◌then◌else◌, length, map, nat_lt, not, true, ℕ, ◌++◌, ◌+◌, ◌∷◌, ◌≡◌, ◌≤◌}
+use Rattle.std.specs.Prelude.{Bool, Err, IfOk, List, None, Ok, Option, Result, Some, [], false, if◌then◌else◌, length, nat_lt, not, true, ℕ, ◌++◌, ◌+◌, ◌∷◌, ◌≡◌, ◌≤◌}
 use Rattle.plant_alarm.specs.declared.event.Event.{Event}
 use Rattle.plant_import.proofs.Counted.{fresh_count}
 use Rattle.plant_import.specs.Merging.{IsRising, first_fault, fresh, merge, merged_or}
@@ -29,7 +29,7 @@ use Rattle.plant_model.specs.declared.rows.Verdict.{Verdict}
 use Rattle.plant_types.specs.Names.{Name}
 use Rattle.plant_types.specs.Options.{or_else}
 use Rattle.plant_unit.specs.Additions.{addition, addition_or, rows_added}
-use Rattle.plant_unit.specs.Judged.{IsJudged, IsJudgedOwn, answer_in, changes_in, holder_refusals}
+use Rattle.plant_unit.specs.Judged.{IsJudged, IsJudgedOwn, holder_refusals}
 
 -- the refusals of a call: those of its caller, and then its own
 first_of : (xs ys : List (Bool × Refused)) → first_refusal (xs ++ ys) ≡ or_else (first_refusal xs) (first_refusal ys)

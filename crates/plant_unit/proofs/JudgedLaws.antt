@@ -17,7 +17,6 @@ use Rattle.plant_model.proofs.AcceptLaws.{accepted_turns}
 use Rattle.plant_model.proofs.ChangeLaws.{opening_turns}
 use Rattle.plant_model.proofs.FactLaws.{facts-rows, not_true}
 use Rattle.plant_model.proofs.PartLaws.{part_changes, part_verdict}
-use Rattle.plant_model.proofs.PutLaws.{puts}
 use Rattle.plant_model.proofs.WorldLaws.{not_granted, refused_changes}
 use Rattle.plant_alarm.specs.declared.event.Event.{Event}
 use Rattle.plant_import.specs.Merging.{IsRising}
@@ -37,7 +36,6 @@ use Rattle.plant_model.specs.RowChanges.{changed_by, changes_for, no_rows, puts_
 use Rattle.plant_model.specs.RowFacts.{facts_in}
 use Rattle.plant_model.specs.Rows.{alarm_row, alarm_rows, rows_of, unit_row}
 use Rattle.plant_model.specs.Verdicts.{changes_history, is_opening, verdict, verdict_of}
-use Rattle.plant_model.specs.Worlds.{answer}
 use Rattle.plant_types.specs.Names.{Name, name_cmp}
 use Rattle.plant_unit.specs.Judged.{IsJudged, IsOpening, IsPartOf, IsVerdictOn}
 

@@ -1,4 +1,4 @@
-use Rattle.std.proofs.Common.{rules, sym, ◌∙◌}
+use Rattle.std.proofs.Common.{rules}
 use Rattle.plant_unit.proofs.AlarmLists.{added_none, added_other, added_own, get_none, get_some}
 use Rattle.plant_unit.proofs.alarms.add_event.Goals as goal
 

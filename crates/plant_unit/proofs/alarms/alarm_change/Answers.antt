@@ -1,5 +1,5 @@
 use Rattle.std.proofs.Common.{ap, rules, sym, true, ◌∙◌, ◌∷◌, ◌≡◌, []}
-use Rattle.std.specs.Prelude.{List, if◌then◌else◌}
+use Rattle.std.specs.Prelude.{if◌then◌else◌}
 use Rattle.plant_model.specs.RowChanges.{state_put}
 use Rattle.plant_model.specs.declared.rows.AlarmRow.{AlarmRow}
 use Rattle.plant_model.specs.declared.rows.Change.TheVariants.{Put}

@@ -1,6 +1,5 @@
-use Rattle.std.proofs.Common.{rules, sym, ◌∙◌, ◌≡◌}
+use Rattle.std.proofs.Common.{rules}
 use Rattle.std.specs.Prelude.{Err, Ok}
-use Rattle.plant_model.specs.Refusals.{tags_of}
 use Rattle.plant_model.specs.RowFacts.{facts_in}
 use Rattle.plant_unit.proofs.ImportsJudged.{merged_at}
 use Rattle.plant_unit.proofs.imports.added.Goals as goal
