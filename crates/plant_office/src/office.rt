@@ -164,6 +164,7 @@ impl<B: Books> Office<B> {
             Request::Grant { unit, .. }
             | Request::Withdraw { unit, .. }
             | Request::Register { unit, .. }
+            | Request::Import { unit, .. }
             | Request::TimedShelve { unit, .. }
             | Request::OneShotShelve { unit, .. }
             | Request::Unshelve { unit, .. }
@@ -172,7 +173,8 @@ impl<B: Books> Office<B> {
             | Request::Status { unit, .. }
             | Request::Shelves { unit }
             | Request::Alarms { unit }
-            | Request::Standing { unit } => self.serve_unit(unit, call),
+            | Request::Standing { unit }
+            | Request::Floods { unit, .. } => self.serve_unit(unit, call),
             Request::MyUnits => self.my_units(call),
             Request::MyShelves => self.my_shelves(call),
         }
