@@ -1,5 +1,5 @@
 use super::*;
-use plant_alarm::{AlarmState, Event, EventKind, Number};
+use plant_alarm::AlarmState;
 use plant_model::{
     AlarmRow, BandRow, Call, CellRow, Change, GrantRow, Key, Request, Row, ShelfRow, UnitPart,
     UnitRow, UnitRows,
@@ -251,55 +251,6 @@ fn changed(rt: &impl Abort, alloc: Global) -> Result<Plain, Fault> {
     open_both(rt, alloc, &mut books)?;
     books.apply(&code(rt, alloc, b"U1")?, &later(rt, alloc)?)?;
     Ok(books)
-}
-
-/// An event with this number.
-fn event(rt: &impl Abort, alloc: Global, number: u64) -> Result<Change, Fault> {
-    Ok(Change::Put(Row::Event(Event {
-        seq: Number::new(number).expect(rt, "a number"),
-        moment: at(rt, 100),
-        tag: tag(rt, alloc, b"PT-101")?,
-        kind: EventKind::Act,
-    })))
-}
-
-/// Ten thousand events in falling number, in steps of this, down from the last.
-fn events(rt: &impl Abort, alloc: Global, last: u64, step: u64) -> Result<Table<Change>, Fault> {
-    let mut changes = Table::new(alloc);
-    for i in 0..10_000u64 {
-        changes.push(event(rt, alloc, last.saturating_sub(step.saturating_mul(i)))?)?;
-    }
-    Ok(changes)
-}
-
-/// Books with a unit of 90,000 events, numbered by tens.
-fn eventful(rt: &impl Abort, alloc: Global, unit: &UnitCode) -> Result<Plain, Fault> {
-    let mut books = plain(rt, alloc)?;
-    for i in 1..=9u64 {
-        books.apply(unit, &events(rt, alloc, i.saturating_mul(100_000), 10)?)?;
-    }
-    Ok(books)
-}
-
-fn is_rising(events: &[Event]) -> bool {
-    events
-        .iter()
-        .zip(events.iter().skip(1))
-        .all(|(one, next)| one.seq < next.seq)
-}
-
-/// Ten thousand events into the gaps between 90,000, in falling number: a search for each among all that are kept would
-/// take minutes.
-#[test]
-fn puts_many_events_among_many(rt: HostRuntime) -> Result<(), Fail> {
-    let alloc = rt.alloc();
-    let unit = code(&rt, alloc, b"U1")?;
-    let mut books = eventful(&rt, alloc, &unit)?;
-    books.apply(&unit, &events(&rt, alloc, 899_995, 80)?)?;
-    let rows = rows_in(&rt, alloc, &mut books, b"U1")?;
-    assert_eq!(rt; rows.events.len(), 100_000);
-    assert!(rt; is_rising(rows.events.as_slice()));
-    Ok(())
 }
 
 /// How many grants, alarms and shelves the part has, and the number of alarms in it.

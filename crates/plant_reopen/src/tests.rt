@@ -210,44 +210,6 @@ fn keeps_the_rows_of_a_unit(rt: HostRuntime) -> Result<(), Fail> {
     Ok(())
 }
 
-/// Ten thousand events in falling number, in steps of this, down from the last.
-fn events(alloc: Global, last: u64, step: u64) -> Result<Table<Change>, Fail> {
-    let mut list = Table::new(alloc);
-    for i in 0..10_000u64 {
-        let number = last.saturating_sub(step.saturating_mul(i));
-        let raised = event(alloc, number, 40, b"LT-2", EventKind::Act)?;
-        list.push(Change::Put(Row::Event(raised)))?;
-    }
-    Ok(list)
-}
-
-/// Puts 90,000 events, numbered by tens.
-fn with_events(alloc: Global, mut books: Tables<MemStore>) -> Result<Tables<MemStore>, Fail> {
-    let code = unit(alloc, b"U1")?;
-    for i in 1..=9u64 {
-        books.apply(&code, &events(alloc, i.saturating_mul(100_000), 10)?)?;
-    }
-    Ok(books)
-}
-
-fn is_rising(events: &[Event]) -> bool {
-    events
-        .iter()
-        .zip(events.iter().skip(1))
-        .all(|(one, next)| one.seq < next.seq)
-}
-
-#[test]
-fn puts_many_events_among_many(rt: HostRuntime) -> Result<(), Fail> {
-    let alloc = rt.alloc();
-    let mut books = with_events(alloc, opened(alloc)?)?;
-    books.apply(&unit(alloc, b"U1")?, &events(alloc, 899_995, 80)?)?;
-    let rows = rows(&mut books, alloc)?;
-    assert_eq!(rt; rows.events.len(), 100_002);
-    assert!(rt; is_rising(rows.events.as_slice()));
-    Ok(())
-}
-
 #[test]
 fn finds_what_a_person_holds(rt: HostRuntime) -> Result<(), Fail> {
     let alloc = rt.alloc();
