@@ -19,6 +19,3 @@ pub use plant_model::{
     UnitPart, UnitRow, UnitRows, Verdict, laws,
 };
 pub use replies::shelf_line;
-
-#[cfg(test)]
-mod tests;
