@@ -1,4 +1,5 @@
 -- Alarms: their registration, the limit MaxTimeShelved of OPC 10000-9 that is in force, and the unit's quota of shelves.
+use Rattle.plant_model.specs.Changes.{approved_limit}
 use Rattle.std.specs.Prelude.{Bool, List, None, Option, Some, max, unwrap_or, ℕ}
 use Rattle.plant_model.specs.declared.call.Call.{Call}
 use Rattle.plant_model.specs.declared.call.Request.{Request}
@@ -7,14 +8,14 @@ use Rattle.plant_model.specs.Histories.{latest}
 use Rattle.plant_types.specs.Names.{Name, same_name}
 use Rattle.plant_types.specs.Options.{when}
 
--- what an entry says of an alarm's limit
-abbrev pub said_of_limit : Name → Request → Option ℕ
-said_of_limit a (Register u b latching max) = when (same_name a b) max
-said_of_limit a _ = None
+-- what an entry says of an alarm's limit: a registration, or the approval of a change of it
+abbrev pub said_of_limit : Name → List Call → Request → Option ℕ
+said_of_limit a before (Register u b latching max) = when (same_name a b) max
+said_of_limit a before r = approved_limit a before r
 
--- MaxTimeShelved in force: that of the registration. None where there is no such alarm
+-- MaxTimeShelved in force: that of the last approved change, else that of the registration. None where there is no such alarm
 abbrev pub limit : List Call → Name → Option ℕ
-limit h a = latest (λ c before. said_of_limit a c.request) h
+limit h a = latest (λ c before. said_of_limit a before c.request) h
 
 abbrev pub said_of_latching : Name → Request → Option Bool
 said_of_latching a (Register u b latching max) = when (same_name a b) latching

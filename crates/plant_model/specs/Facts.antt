@@ -1,4 +1,10 @@
 -- What a verdict looks at, of a unit.
+use Rattle.plant_model.specs.Changes.{proposals, record_of, record_revision, matrix}
+use Rattle.plant_model.specs.Rows.{records_of}
+use Rattle.plant_model.specs.declared.reply.ChangeRow.{ChangeRow}
+use Rattle.plant_model.specs.declared.reply.RecordRow.{RecordRow}
+use Rattle.plant_ration.specs.Grid.{Grid}
+use Rattle.plant_ration.specs.declared.cell.Cell.{Cell}
 use Rattle.plant_model.specs.Events.{events}
 use Rattle.plant_alarm.specs.Shelves.{is_unshelved, shelf_state}
 use Rattle.plant_alarm.specs.declared.event.Event.{Event}
@@ -28,6 +34,13 @@ pub record Facts : Type 0 where
   pub shelf : Name → Option ShelfRow
   pub shelves : List ShelfRow
   pub events : List Event
+  pub matrix : Grid
+  pub priority : Name → Option Cell
+  pub revision : Name → ℕ
+  pub rationale : Name → Option RecordRow
+  pub rationales : List RecordRow
+  pub change_count : ℕ
+  pub change : ℕ → Option ChangeRow
 
 abbrev pub is_steward_row : GrantRow → Bool
 is_steward_row g = same_role g.role_no Steward
@@ -47,11 +60,22 @@ facts h =
       shelf = shelf h;
       shelves = shelf_rows h;
       events = events h;
+      matrix = (matrix h).1;
+      priority = λ a. option_map (λ r. r.priority) (record_of h a);
+      revision = record_revision h;
+      rationale = record_of h;
+      rationales = records_of h;
+      change_count = proposals h;
+      change = change h;
     }
 
 -- MaxTimeShelved in force
 abbrev pub limit_of : Facts → Name → ℕ
 limit_of f a = unwrap_or (option_map (λ r. r.max_s) (f.alarm a)) 0
+
+-- how many changes of it were approved
+abbrev pub limit_revision_of : Facts → Name → ℕ
+limit_revision_of f a = unwrap_or (option_map (λ r. r.max_rev) (f.alarm a)) 0
 
 -- the alarm is out of service
 abbrev pub is_out : Facts → Name → Bool

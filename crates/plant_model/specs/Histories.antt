@@ -1,4 +1,5 @@
 -- A unit's history: the list of its accepted changing calls, the newest first.
+use Rattle.std.specs.Prelude.{if◌then◌else◌, ◌+◌}
 use Rattle.std.specs.Ordering.{eq_by_cmp, nat_cmp}
 use Rattle.std.specs.Prelude.{Bool, List, None, Option, [], ℕ, ◌++◌, ◌∷◌}
 use Rattle.plant_model.specs.declared.call.Call.{Call}
@@ -8,6 +9,11 @@ use Rattle.plant_types.specs.Options.{or_else}
 abbrev pub latest : {A : Type 0} → (Call → List Call → Option A) → List Call → Option A
 latest says [] = None
 latest says (c ∷ before) = or_else (says c before) (latest says before)
+
+-- how many entries pass
+abbrev pub counted : (Call → List Call → Bool) → List Call → ℕ
+counted test [] = 0
+counted test (c ∷ before) = if test c before then counted test before + 1 else counted test before
 
 -- what all entries name, the newest first
 abbrev pub all_named : {K : Type 0} → (Call → List Call → List K) → List Call → List K

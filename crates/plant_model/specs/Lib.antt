@@ -1,5 +1,6 @@
 pub mod Histories
 pub mod Grants
+pub mod Changes
 pub mod Alarms
 pub mod Shelves
 pub mod Service

@@ -1,4 +1,7 @@
 -- The priority matrices of a unit (ISA-18.2: rationalisation), by number, and the places of their bands and cells.
+use Rattle.plant_model.specs.Changes.{matrix_in, proposals}
+use Rattle.plant_model.specs.declared.call.Request.TheVariants.{Propose}
+use Rattle.std.specs.Prelude.{◌+◌}
 use Rattle.std.specs.List.{enumerate_from, range_with_len, slice_get}
 use Rattle.std.specs.Ordering.{nat_cmp, ordering_then}
 use Rattle.std.specs.Prelude.{List, None, Option, Some, [], flat_map, length, map, option_and_then, option_map, suc, zero, ℕ}
@@ -13,10 +16,11 @@ use Rattle.plant_model.specs.Histories.{latest, same_number}
 use Rattle.plant_ration.specs.Grid.{Grid}
 use Rattle.plant_types.specs.Options.{when}
 
--- the matrix that an entry brings, with its number: that of the opening has number 0
-abbrev pub numbered_matrix : Request → Option (ℕ × Grid)
-numbered_matrix (OpenUnit u s m q) = Some (0, m)
-numbered_matrix _ = None
+-- the matrix that an entry brings, with its number: that of the opening has number 0, a proposed one that of its change
+abbrev pub numbered_matrix : List Call → Request → Option (ℕ × Grid)
+numbered_matrix before (OpenUnit u s m q) = Some (0, m)
+numbered_matrix before (Propose u x) = matrix_in (proposals before + 1) (Some x.kind)
+numbered_matrix before _ = None
 
 abbrev pub when_number : {A : Type 0} → ℕ → Option (ℕ × A) → Option A
 when_number n None = None
@@ -24,7 +28,7 @@ when_number n (Some e) = when (same_number n e.0) e.1
 
 -- the matrix of a number
 abbrev pub matrix_numbered : List Call → ℕ → Option Grid
-matrix_numbered h n = latest (λ c before. when_number n (numbered_matrix c.request)) h
+matrix_numbered h n = latest (λ c before. when_number n (numbered_matrix before c.request)) h
 
 -- the place of a finite limit: its matrix and its band; the place of a cell: its matrix, severity and band; each from 1
 abbrev pub BandKey : Type 0

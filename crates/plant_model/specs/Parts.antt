@@ -1,4 +1,11 @@
 -- The part of a unit's rows that a call looks at: the unit's row, the caller's grants, and what its request selects.
+use Rattle.plant_model.specs.Histories.{same_number}
+use Rattle.plant_model.specs.RowFacts.{unit_read}
+use Rattle.plant_model.specs.declared.call.Request.TheVariants.{Approve, ChangeOf, Propose, RecordOf, Reject, WithdrawChange}
+use Rattle.plant_ration.specs.declared.change.ChangeKind.{ChangeKind}
+use Rattle.plant_ration.specs.declared.change.ChangeKind.TheVariants.{Limit, Matrix, Rationale}
+use Rattle.std.specs.List.{list_any}
+use Rattle.std.specs.Prelude.{max, ◌&&◌}
 use Rattle.plant_model.specs.RowFacts.{pair_of}
 use Rattle.plant_model.specs.declared.call.Call.{Call}
 use Rattle.plant_model.specs.declared.call.Request.{Request}
@@ -14,6 +21,9 @@ pub record Selection : Type 0 where
   pub alarm : Name → Bool
   pub shelf : Name → Bool
   pub event : Bool
+  pub matrix : ℕ → Bool
+  pub rationale : Name → Bool
+  pub change : ℕ → Bool
 
 abbrev pub none : {A : Type 0} → A → Bool
 none k = false
@@ -22,36 +32,69 @@ abbrev pub every : {A : Type 0} → A → Bool
 every k = true
 
 abbrev pub nothing : Selection
-nothing = record { pair = none; alarm = none; shelf = none; event = false }
+nothing = record { pair = none; alarm = none; shelf = none; event = false; matrix = none; rationale = none; change = none }
 
 -- the alarm and the shelf of a tag
 abbrev pub of_tag : Name → Selection
 of_tag a = record nothing { alarm = same_name a; shelf = same_name a }
 
--- all alarms and all shelves: a quota counts the other alarms
+-- a change with its matrix
+abbrev pub of_number : ℕ → Selection
+of_number n = record nothing { matrix = same_number n; change = same_number n }
+
+-- a record or limit that is proposed: its alarm and record, and the matrix in force
+abbrev pub of_content : UnitRows → Name → Selection
+of_content rows a = record nothing { alarm = same_name a; rationale = same_name a; matrix = same_number (unit_read rows).matrix_no }
+
+-- the changes that records came from
+abbrev pub is_source : UnitRows → (Name → Bool) → ℕ → Bool
+is_source rows tags n = list_any (λ r. tags r.tag && same_number n r.change_no) rows.records
+
+-- all alarms and records with their changes, and the matrix in force
+abbrev pub of_records : UnitRows → Selection
+of_records rows = record nothing { alarm = every; rationale = every; matrix = same_number (unit_read rows).matrix_no; change = is_source rows every }
+
+abbrev pub of_approval : UnitRows → ℕ → Selection
+of_approval rows n = record nothing { alarm = every; rationale = every; matrix = λ m. same_number m (unit_read rows).matrix_no || same_number m n; change = λ m. is_source rows every m || same_number m n }
+
+abbrev pub of_proposal : UnitRows → ChangeKind → Selection
+of_proposal rows (Rationale a s) = of_content rows a
+of_proposal rows (Matrix m) = of_records rows
+of_proposal rows (Limit a max) = of_content rows a
+
 abbrev pub all_shelves : Selection
 all_shelves = record nothing { alarm = every; shelf = every }
 
-abbrev pub selected : Request → Selection
-selected (Grant u p t) = record nothing { pair = every }
-selected (Withdraw u p r) = record nothing { pair = every }
-selected (Register u a l m) = of_tag a
-selected (Import u file) = record nothing { alarm = every; event = true }
-selected (TimedShelve u a d w) = all_shelves
-selected (OneShotShelve u a w) = all_shelves
-selected (Unshelve u a) = of_tag a
-selected (Status u a) = of_tag a
-selected (RemoveFromService u a w) = of_tag a
-selected (PlaceInService u a) = of_tag a
-selected (Shelves u) = all_shelves
-selected (Alarms u) = all_shelves
-selected (Standing u) = all_shelves
-selected (Floods u begin until) = record nothing { event = true }
-selected _ = nothing
+abbrev pub all_alarms : Selection
+all_alarms = record nothing { alarm = every; shelf = every; rationale = every }
 
--- how many alarms there are, for the call that needs the number
+abbrev pub selected : UnitRows → Request → Selection
+selected rows (Grant u p t) = record nothing { pair = every }
+selected rows (Withdraw u p r) = record nothing { pair = every }
+selected rows (Register u a l m) = of_tag a
+selected rows (Import u file) = record nothing { alarm = every; event = true }
+selected rows (TimedShelve u a d w) = all_shelves
+selected rows (OneShotShelve u a w) = all_shelves
+selected rows (Unshelve u a) = of_tag a
+selected rows (RemoveFromService u a w) = of_tag a
+selected rows (PlaceInService u a) = of_tag a
+selected rows (Propose u x) = of_proposal rows x.kind
+selected rows (WithdrawChange u n) = of_number n
+selected rows (Approve u n) = of_approval rows n
+selected rows (Reject u n) = of_number n
+selected rows (Status u a) = of_tag a
+selected rows (RecordOf u a) = record nothing { alarm = same_name a; rationale = same_name a; change = is_source rows (same_name a) }
+selected rows (ChangeOf u n) = of_number n
+selected rows (Alarms u) = all_alarms
+selected rows (Shelves u) = all_shelves
+selected rows (Standing u) = all_alarms
+selected rows (Floods u begin until) = record nothing { event = true }
+selected rows _ = nothing
+
+-- how many alarms or changes there are, for the calls that need the number
 abbrev pub counted_for : UnitRows → Request → ℕ
 counted_for rows (Register u a l m) = length rows.alarms
+counted_for rows (Propose u x) = length rows.changes
 counted_for rows _ = 0
 
 abbrev pub rows_selected : Name → Selection → UnitRows → UnitRows
@@ -61,10 +104,12 @@ rows_selected p s rows =
       grants = filter (λ g. same_name p g.person || s.pair (pair_of g)) rows.grants;
       alarms = filter (λ r. s.alarm r.tag) rows.alarms;
       shelves = filter (λ r. s.shelf r.tag) rows.shelves;
-      events = filter (λ e. s.event) rows.events;
-      bands = [];
-      cells = [];
+      events = filter (λ r. s.event) rows.events;
+      bands = filter (λ r. s.matrix r.matrix_no) rows.bands;
+      cells = filter (λ r. s.matrix r.matrix_no) rows.cells;
+      records = filter (λ r. s.rationale r.tag) rows.records;
+      changes = filter (λ r. s.change r.number) rows.changes;
     }
 
 abbrev pub part_of : Call → UnitRows → UnitPart
-part_of c rows = record { rows = rows_selected c.person (selected c.request) rows; count = counted_for rows c.request }
+part_of c rows = record { rows = rows_selected c.person (selected rows c.request) rows; count = counted_for rows c.request }

@@ -1,4 +1,21 @@
 -- The refusals of a call on a unit, each with its condition, in their order. Results of shelving are named as in OPC 10000-9.
+use Rattle.plant_model.specs.Facts.{limit_revision_of}
+use Rattle.plant_model.specs.Histories.{same_number}
+use Rattle.plant_model.specs.declared.call.Request.TheVariants.{Approve, ChangeOf, Propose, RecordOf, Reject, WithdrawChange}
+use Rattle.plant_model.specs.declared.reply.ChangeRow.{ChangeRow}
+use Rattle.plant_model.specs.declared.reply.Full.TheVariants.{Changes as TooManyChanges}
+use Rattle.plant_model.specs.declared.reply.Refused.TheVariants.{BaseChanged, ChangeUnknown, NotAnAlarm, NotProposed, NotProposer, OutsideMatrix, RecordUnknown, SamePerson}
+use Rattle.plant_ration.specs.Grid.{Grid}
+use Rattle.plant_ration.specs.Matrix.{priority_of, row_of}
+use Rattle.plant_ration.specs.declared.cell.Cell.{Cell}
+use Rattle.plant_ration.specs.declared.cell.Cell.TheVariants.{N}
+use Rattle.plant_ration.specs.declared.change.ChangeKind.{ChangeKind}
+use Rattle.plant_ration.specs.declared.change.ChangeKind.TheVariants.{Limit, Matrix, Rationale}
+use Rattle.plant_ration.specs.declared.change.ChangeState.{ChangeState}
+use Rattle.plant_ration.specs.declared.change.ChangeState.TheVariants.{Proposed}
+use Rattle.plant_types.specs.Names.{same_name}
+use Rattle.plant_types.specs.declared.role.Role.TheVariants.{Approver}
+use Rattle.std.specs.Prelude.{false, max}
 use Rattle.plant_alarm.specs.Shelves.{is_one_shot, is_timed, is_unshelved}
 use Rattle.plant_alarm.specs.declared.event.Event.{Event}
 use Rattle.plant_import.specs.Merging.{first_fault}
@@ -32,6 +49,10 @@ role_needed (OneShotShelve u a w) = Some Operator
 role_needed (Unshelve u a) = Some Operator
 role_needed (RemoveFromService u a w) = Some Maintainer
 role_needed (PlaceInService u a) = Some Maintainer
+role_needed (Propose u x) = Some Engineer
+role_needed (WithdrawChange u n) = Some Engineer
+role_needed (Approve u n) = Some Approver
+role_needed (Reject u n) = Some Approver
 role_needed _ = None
 
 -- no alarm has this tag
@@ -54,20 +75,58 @@ abbrev pub file_refusals : Facts → ℕ → Result (List Event) BadFile → Lis
 file_refusals f t (Err fault) = (true, FileRefused fault) ∷ []
 file_refusals f t (Ok rows) = (nat_lt 100000 (length f.events + length (new_numbers f.events rows)), UnitFull TooManyEvents) ∷ fault_entries (first_fault (tags_of f) t 2 f.events rows)
 
--- the refusals of a request at this moment
-abbrev pub own_refusals : Facts → ℕ → Request → List (Bool × Refused)
-own_refusals f t (Grant u q r) = (nat_le 500 f.pairs, UnitFull TooManyGrants) ∷ (f.held t (q, r.0), AlreadyHeld) ∷ (not (is_before t r.1), EndNotAhead) ∷ []
-own_refusals f t (Withdraw u q r) = (not (f.stands (q, r)), NotHeld) ∷ (same_role r Steward && nat_le f.stewards 1, LastSteward) ∷ []
-own_refusals f t (Register u a l m) = (nat_le 2000 f.alarm_count, UnitFull TooManyAlarms) ∷ (is_some (f.alarm a), AlarmTaken) ∷ []
-own_refusals f t (Import u file) = file_refusals f t file
-own_refusals f t (TimedShelve u a d w) = unknown f a ∷ (nat_lt (limit_of f a) d, ShelvingTimeOutOfRange (limit_of f a)) ∷ (is_timed (shelf_now f a t), ConditionAlreadyShelved) ∷ over_quota f a t ∷ []
-own_refusals f t (OneShotShelve u a w) = unknown f a ∷ (is_one_shot (shelf_now f a t), ConditionAlreadyShelved) ∷ over_quota f a t ∷ []
-own_refusals f t (Unshelve u a) = unknown f a ∷ (is_unshelved (shelf_now f a t), ConditionNotShelved) ∷ []
-own_refusals f t (RemoveFromService u a w) = unknown f a ∷ (is_out f a, AlreadyOutOfService) ∷ []
-own_refusals f t (PlaceInService u a) = unknown f a ∷ (not (is_out f a), NotOutOfService) ∷ []
-own_refusals f t (Status u a) = unknown f a ∷ []
-own_refusals f t (Floods u begin until) = (not (is_aligned begin until), RangeNotAligned) ∷ []
-own_refusals f t _ = []
+-- a change of an alarm's record or limit: whether the alarm is there
+abbrev pub kind_unknown : Facts → ChangeKind → List (Bool × Refused)
+kind_unknown f (Rationale a s) = unknown f a ∷ []
+kind_unknown f (Matrix m) = []
+kind_unknown f (Limit a max) = unknown f a ∷ []
+
+-- its base is not the revision in force
+abbrev pub base_changed : ℕ → ℕ → Bool × Refused
+base_changed base revision = (not (same_number base revision), BaseChanged revision)
+
+abbrev pub is_not_needed : Option Cell → Bool
+is_not_needed (Some N) = true
+is_not_needed _ = false
+
+abbrev pub has_row : Grid → ℕ → Bool
+has_row m severity = is_some (row_of m severity)
+
+-- a record has its severity in the matrix in force, and a priority there; a matrix has the severities of all records in force
+abbrev pub kind_refusals : Facts → ℕ → ChangeKind → List (Bool × Refused)
+kind_refusals f base (Rationale a s) = base_changed base (f.revision a) ∷ (not (has_row f.matrix s.severity), OutsideMatrix) ∷ (is_not_needed (priority_of f.matrix s.severity s.response), NotAnAlarm) ∷ []
+kind_refusals f base (Matrix m) = base_changed base f.unit.matrix_rev ∷ (list_any (λ r. not (has_row m r.severity)) f.rationales, OutsideMatrix) ∷ []
+kind_refusals f base (Limit a max) = base_changed base (limit_revision_of f a) ∷ []
+
+-- a decision is about a change that is there and not decided yet
+abbrev pub is_open : ChangeState → Bool
+is_open Proposed = true
+is_open _ = false
+
+abbrev pub of_change : Option ChangeRow → (ChangeRow → List (Bool × Refused)) → List (Bool × Refused)
+of_change None refusals = (true, ChangeUnknown) ∷ []
+of_change (Some c) refusals = (not (is_open c.state), NotProposed c.state) ∷ refusals c
+
+-- the refusals of a request of this person at this moment
+abbrev pub own_refusals : Facts → Name → ℕ → Request → List (Bool × Refused)
+own_refusals f p t (Grant u q r) = (nat_le 500 f.pairs, UnitFull TooManyGrants) ∷ (f.held t (q, r.0), AlreadyHeld) ∷ (not (is_before t r.1), EndNotAhead) ∷ []
+own_refusals f p t (Withdraw u q r) = (not (f.stands (q, r)), NotHeld) ∷ (same_role r Steward && nat_le f.stewards 1, LastSteward) ∷ []
+own_refusals f p t (Register u a l m) = (nat_le 2000 f.alarm_count, UnitFull TooManyAlarms) ∷ (is_some (f.alarm a), AlarmTaken) ∷ []
+own_refusals f p t (Import u file) = file_refusals f t file
+own_refusals f p t (TimedShelve u a d w) = unknown f a ∷ (nat_lt (limit_of f a) d, ShelvingTimeOutOfRange (limit_of f a)) ∷ (is_timed (shelf_now f a t), ConditionAlreadyShelved) ∷ over_quota f a t ∷ []
+own_refusals f p t (OneShotShelve u a w) = unknown f a ∷ (is_one_shot (shelf_now f a t), ConditionAlreadyShelved) ∷ over_quota f a t ∷ []
+own_refusals f p t (Unshelve u a) = unknown f a ∷ (is_unshelved (shelf_now f a t), ConditionNotShelved) ∷ []
+own_refusals f p t (RemoveFromService u a w) = unknown f a ∷ (is_out f a, AlreadyOutOfService) ∷ []
+own_refusals f p t (PlaceInService u a) = unknown f a ∷ (not (is_out f a), NotOutOfService) ∷ []
+own_refusals f p t (Propose u x) = (nat_le 20000 f.change_count, UnitFull TooManyChanges) ∷ kind_unknown f x.kind ++ kind_refusals f x.base x.kind
+own_refusals f p t (WithdrawChange u n) = of_change (f.change n) (λ c. (not (same_name p c.proposer), NotProposer) ∷ [])
+own_refusals f p t (Approve u n) = of_change (f.change n) (λ c. (same_name p c.proposer, SamePerson) ∷ kind_refusals f c.base c.kind)
+own_refusals f p t (Reject u n) = of_change (f.change n) (λ c. (same_name p c.proposer, SamePerson) ∷ [])
+own_refusals f p t (Status u a) = unknown f a ∷ []
+own_refusals f p t (RecordOf u a) = unknown f a ∷ (is_none (f.rationale a), RecordUnknown) ∷ []
+own_refusals f p t (ChangeOf u n) = (is_none (f.change n), ChangeUnknown) ∷ []
+own_refusals f p t (Floods u begin until) = (not (is_aligned begin until), RangeNotAligned) ∷ []
+own_refusals f p t _ = []
 
 abbrev pub lacks_role : Facts → ℕ → Name → Option Role → List (Bool × Refused)
 lacks_role f t p None = []
@@ -79,7 +138,7 @@ holds_some f t p = list_any (λ r. f.held t (p, r)) all_roles
 
 -- the refusals of a call by a person who holds some role in the unit
 abbrev pub refusals_of_holder : Facts → Call → List (Bool × Refused)
-refusals_of_holder f c = lacks_role f c.moment c.person (role_needed c.request) ++ (nat_lt c.moment f.unit.last_s, MomentBehind f.unit.last_s) ∷ own_refusals f c.moment c.request
+refusals_of_holder f c = lacks_role f c.moment c.person (role_needed c.request) ++ (nat_lt c.moment f.unit.last_s, MomentBehind f.unit.last_s) ∷ own_refusals f c.person c.moment c.request
 
 -- the refusals of a call on a unit
 abbrev pub refusals : Facts → Call → List (Bool × Refused)

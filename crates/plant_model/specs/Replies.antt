@@ -1,4 +1,10 @@
 -- The replies to accepted calls.
+use Rattle.plant_model.specs.Shelves.{shelf}
+use Rattle.plant_model.specs.declared.call.Request.TheVariants.{ChangeOf, Propose, RecordOf}
+use Rattle.plant_model.specs.declared.reply.ChangeRow.{ChangeRow}
+use Rattle.plant_model.specs.declared.reply.RecordRow.{RecordRow}
+use Rattle.plant_model.specs.declared.reply.Reply.TheVariants.{ChangeOf as ChangeReply, Number, RecordOf as RecordReply}
+use Rattle.std.specs.Prelude.{◌+◌}
 use Rattle.plant_alarm.specs.Shelves.{is_unshelved, shelf_state}
 use Rattle.plant_alarm.specs.declared.event.Event.{Event}
 use Rattle.plant_alarm.specs.declared.shelf.ShelfState.{ShelfState}
@@ -42,13 +48,13 @@ line_of s (OneShotShelved left) = Some (record { tag = s.tag; one_shot = true; s
 abbrev pub shelf_lines : Facts → ℕ → List ShelfLine
 shelf_lines f t = filter_map (λ s. line_of s (shelf_state (shelf_left (Some s)) (returned f s.tag) t)) f.shelves
 
--- the line of an alarm: its suppression is told by kind. No call here approves a record, so no alarm has a priority
+-- the line of an alarm: its suppression is told by kind, its priority where it has a record
 abbrev pub alarm_line : Facts → ℕ → AlarmRow → AlarmLine
 alarm_line f t r =
     record {
       tag = r.tag;
       state = r.state_no;
-      priority = None;
+      priority = f.priority r.tag;
       shelved = not (is_unshelved (shelf_state (shelf_left (f.shelf r.tag)) r.return_s t));
       by_design = r.suppressed;
       out_of_service = is_some r.out_s;
@@ -72,12 +78,23 @@ abbrev pub status_reply : Option AlarmRow → ShelfState → Reply
 status_reply None shelf = Done
 status_reply (Some r) shelf = StatusOf (status_of r shelf)
 
+abbrev pub record_reply : Option RecordRow → Reply
+record_reply None = Done
+record_reply (Some r) = RecordReply r
+
+abbrev pub change_reply : Option ChangeRow → Reply
+change_reply None = Done
+change_reply (Some c) = ChangeReply c
+
 -- the rows of a file that are new, and those that are repeated
 abbrev pub import_reply : List Event → List Event → Reply
 import_reply kept rows = Imported (length (fresh kept rows)) (length rows - length (fresh kept rows))
 
 abbrev pub reply : Facts → ℕ → Request → Reply
 reply f t (Import u file) = import_reply f.events (rows_of_file file)
+reply f t (Propose u x) = Number (f.change_count + 1)
+reply f t (RecordOf u a) = record_reply (f.rationale a)
+reply f t (ChangeOf u n) = change_reply (f.change n)
 reply f t (Status u a) = status_reply (f.alarm a) (shelf_now f a t)
 reply f t (Shelves u) = ShelvesOf u t (shelf_lines f t)
 reply f t (Alarms u) = AlarmsOf u t (alarm_lines f t)

@@ -1,4 +1,17 @@
 -- Changes of a unit's rows.
+use Rattle.plant_model.specs.Changes.{change_as, priority_by}
+use Rattle.plant_model.specs.RowFacts.{change_number, record_tag}
+use Rattle.plant_model.specs.Rows.{change_entry}
+use Rattle.plant_model.specs.declared.call.Request.TheVariants.{Approve, Propose, Reject, WithdrawChange}
+use Rattle.plant_model.specs.declared.reply.ChangeRow.{ChangeRow}
+use Rattle.plant_model.specs.declared.reply.RecordRow.{RecordRow}
+use Rattle.plant_model.specs.declared.rows.RecordEntry.{RecordEntry}
+use Rattle.plant_model.specs.declared.rows.Row.TheVariants.{Change as ChangePut, Record as RecordPut}
+use Rattle.plant_ration.specs.declared.change.ChangeKind.{ChangeKind}
+use Rattle.plant_ration.specs.declared.change.ChangeKind.TheVariants.{Limit, Matrix, Rationale}
+use Rattle.plant_ration.specs.declared.change.ChangeState.{ChangeState}
+use Rattle.plant_ration.specs.declared.change.ChangeState.TheVariants.{Approved, Rejected, Withdrawn}
+use Rattle.std.specs.Prelude.{Option}
 use Rattle.plant_import.specs.Numbers.{with_events}
 use Rattle.plant_alarm.specs.States.{active_since, is_suppressed, last_return, state_of}
 use Rattle.plant_alarm.specs.declared.event.Event.{Event}
@@ -40,6 +53,8 @@ put (ShelfPut r) rows = record rows { shelves = put_row name_cmp shelf_tag r row
 put (EventPut e) rows = record rows { events = put_row nat_cmp event_number e rows.events }
 put (BandPut r) rows = record rows { bands = put_row band_cmp band_key r rows.bands }
 put (CellPut r) rows = record rows { cells = put_row cell_cmp cell_key r rows.cells }
+put (RecordPut r) rows = record rows { records = put_row name_cmp record_tag r rows.records }
+put (ChangePut r) rows = record rows { changes = put_row nat_cmp change_number r rows.changes }
 
 abbrev pub removed : Key → UnitRows → UnitRows
 removed (GrantKey p r) rows = record rows { grants = remove_row pair_cmp pair_of (p, r) rows.grants }
@@ -57,7 +72,7 @@ changed_by (c ∷ cs) rows = changed_by cs (changed c rows)
 
 -- what a unit's rows are before its opening
 abbrev pub no_rows : UnitRows
-no_rows = record { units = []; grants = []; alarms = []; shelves = []; events = []; bands = []; cells = [] }
+no_rows = record { units = []; grants = []; alarms = []; shelves = []; events = []; bands = []; cells = []; records = []; changes = [] }
 
 -- some change puts the unit's own row
 abbrev pub is_unit_put : Change → Bool
@@ -76,6 +91,10 @@ cells_of n m = map (λ r. Put (CellPut r)) (filter_map (λ k. cell_of k m) (cell
 
 abbrev pub matrix_changes : ℕ → Grid → List Change
 matrix_changes n m = bands_of n m ++ cells_of n m
+
+abbrev pub kind_changes : ℕ → ChangeKind → List Change
+kind_changes n (Matrix m) = matrix_changes n m
+kind_changes n _ = []
 
 -- the alarm's row, changed
 abbrev pub with_alarm : Facts → Name → (AlarmRow → AlarmRow) → List Change
@@ -107,23 +126,59 @@ import_changes f rows =
     map (λ e. Put (EventPut e)) (fresh f.events rows)
     ++ map (state_put (all_events f.events rows)) (filter (is_touched f.events rows) f.alarms)
 
+-- a change that is decided
+abbrev pub decided_as : ChangeState → Name → ℕ → ChangeRow → ChangeRow
+decided_as state p t c = record c { state = state; decider = Some p; decided = Some t }
+
+abbrev pub decision_change : ChangeState → Name → ℕ → ChangeRow → Change
+decision_change state p t c = Put (ChangePut (change_entry (decided_as state p t c)))
+
+-- what an approved change brings into force; a matrix gives all records their priorities anew
+abbrev pub rerated : Grid → RecordRow → RecordEntry
+rerated m r = record { tag = r.tag; change_no = r.change; rev = r.revision; cell_no = priority_by m r.severity r.response }
+
+abbrev pub in_force : Facts → ℕ → ChangeKind → List Change
+in_force f n (Rationale a s) = Put (RecordPut (record { tag = a; change_no = n; rev = f.revision a + 1; cell_no = priority_by f.matrix s.severity s.response })) ∷ []
+in_force f n (Matrix m) = map (λ r. Put (RecordPut (rerated m r))) f.rationales
+in_force f n (Limit a max) = with_alarm f a (λ r. record r { max_s = max; max_rev = r.max_rev + 1 })
+
+abbrev pub approval_changes : Facts → Name → ℕ → ChangeRow → List Change
+approval_changes f p t c = decision_change Approved p t c ∷ in_force f c.number c.kind
+
+abbrev pub for_change : Option ChangeRow → (ChangeRow → List Change) → List Change
+for_change None changes = []
+for_change (Some c) changes = changes c
+
 -- the changes that an accepted call makes beside that of the unit's row
 abbrev pub own_changes : Facts → Name → ℕ → Request → List Change
 own_changes f p t (OpenUnit u s m q) = Put (GrantPut (grant_as (s, Steward) None)) ∷ matrix_changes 0 m
 own_changes f p t (Grant u q r) = Put (GrantPut (grant_as (q, r.0) r.1)) ∷ []
 own_changes f p t (Withdraw u q r) = Remove (GrantKey q r) ∷ []
-own_changes f p t (Register u a l max) = Put (AlarmPut (alarm_as a max [] None l)) ∷ []
+own_changes f p t (Register u a l max) = Put (AlarmPut (alarm_as a max 0 [] None l)) ∷ []
 own_changes f p t (Import u file) = import_changes f (rows_of_file file)
 own_changes f p t (TimedShelve u a d w) = Put (ShelfPut (shelf_row_as false t (t + d) p w a)) ∷ []
 own_changes f p t (OneShotShelve u a w) = Put (ShelfPut (shelf_row_as true t (t + limit_of f a) p w a)) ∷ []
 own_changes f p t (Unshelve u a) = Remove (ShelfKey a) ∷ []
 own_changes f p t (RemoveFromService u a w) = with_alarm f a (taken_out p t w)
 own_changes f p t (PlaceInService u a) = with_alarm f a placed_in
+own_changes f p t (Propose u x) = Put (ChangePut (change_entry (change_as (f.change_count + 1) None (record { proposer = p; proposed = t; kind = x.kind; base = x.base })))) ∷ kind_changes (f.change_count + 1) x.kind
+own_changes f p t (WithdrawChange u n) = for_change (f.change n) (λ c. decision_change Withdrawn p t c ∷ [])
+own_changes f p t (Approve u n) = for_change (f.change n) (approval_changes f p t)
+own_changes f p t (Reject u n) = for_change (f.change n) (λ c. decision_change Rejected p t c ∷ [])
 own_changes f p t _ = []
 
--- the unit's row after the call
+-- the unit's row after the call: its last moment, and the matrix in force
+abbrev pub kind_row : ℕ → UnitRow → ℕ → ChangeKind → UnitRow
+kind_row t r n (Matrix m) = record { last_s = t; matrix_no = n; matrix_rev = r.matrix_rev + 1; quota = r.quota }
+kind_row t r n _ = record r { last_s = t }
+
+abbrev pub approved_row : ℕ → UnitRow → Option ChangeRow → UnitRow
+approved_row t r None = record r { last_s = t }
+approved_row t r (Some c) = kind_row t r c.number c.kind
+
 abbrev pub unit_after : Facts → ℕ → Request → UnitRow
 unit_after f t (OpenUnit u s m q) = record { last_s = t; matrix_no = 0; matrix_rev = 0; quota = q }
+unit_after f t (Approve u n) = approved_row t f.unit (f.change n)
 unit_after f t _ = record f.unit { last_s = t }
 
 abbrev pub changes_for : Facts → Call → List Change

@@ -1,4 +1,17 @@
 -- The rows of a unit, told from its history: each table has the rows of the keys that the history names, in their order.
+use Rattle.plant_model.specs.Changes.{change, kind_of_change, limit_revision, matrix, matrix_revision, proposals, record_of}
+use Rattle.plant_model.specs.declared.call.Request.TheVariants.{Approve, Propose}
+use Rattle.plant_model.specs.declared.reply.ChangeRow.{ChangeRow}
+use Rattle.plant_model.specs.declared.reply.RecordRow.{RecordRow}
+use Rattle.plant_model.specs.declared.rows.ChangeEntry.{ChangeEntry}
+use Rattle.plant_model.specs.declared.rows.ChangeTopic.{ChangeTopic}
+use Rattle.plant_model.specs.declared.rows.ChangeTopic.TheVariants.{Limit as LimitTopic, Matrix as MatrixTopic, Record as RecordTopic}
+use Rattle.plant_model.specs.declared.rows.RecordEntry.{RecordEntry}
+use Rattle.plant_ration.specs.declared.change.ChangeKind.{ChangeKind}
+use Rattle.plant_ration.specs.declared.change.ChangeKind.TheVariants.{Limit, Matrix, Rationale}
+use Rattle.plant_ration.specs.declared.change.Sheet.{Sheet}
+use Rattle.std.specs.Ordering.{nat_cmp}
+use Rattle.std.specs.Prelude.{None, Some, map, ◌+◌}
 use Rattle.plant_alarm.specs.States.{active_since, is_suppressed, last_return, state_of}
 use Rattle.plant_alarm.specs.declared.event.Event.{Event}
 use Rattle.plant_model.specs.Alarms.{latching, limit, quota}
@@ -46,13 +59,13 @@ abbrev pub tags_registered : Request → List Name
 tags_registered (Register u a l m) = a ∷ []
 tags_registered _ = []
 
-abbrev pub alarm_as : Name → ℕ → List Event → Option Outage → Bool → AlarmRow
-alarm_as a max es out latches =
+abbrev pub alarm_as : Name → ℕ → ℕ → List Event → Option Outage → Bool → AlarmRow
+alarm_as a max revision es out latches =
     record {
       tag = a;
       latching = latches;
       max_s = max;
-      max_rev = 0;
+      max_rev = revision;
       state_no = state_of latches es;
       suppressed = is_suppressed es;
       active_s = active_since es;
@@ -63,7 +76,7 @@ alarm_as a max es out latches =
     }
 
 abbrev pub alarm_row : List Call → Name → Option AlarmRow
-alarm_row h a = option_map (alarm_as a (unwrap_or (limit h a) 0) (events_of h a) (outage h a)) (latching h a)
+alarm_row h a = option_map (alarm_as a (unwrap_or (limit h a) 0) (limit_revision h a) (events_of h a) (outage h a)) (latching h a)
 
 abbrev pub alarm_rows : List Call → List AlarmRow
 alarm_rows h = filter_map (alarm_row h) (in_order name_cmp (all_named (λ c before. tags_registered c.request) h))
@@ -86,14 +99,81 @@ abbrev pub cell_row : List Call → CellKey → Option CellRow
 cell_row h k = option_and_then (cell_of k) (matrix_numbered h k.0)
 
 abbrev pub band_rows : List Call → List BandRow
-band_rows h = filter_map (band_row h) (in_order band_cmp (all_named (λ c before. places_in band_places (numbered_matrix c.request)) h))
+band_rows h = filter_map (band_row h) (in_order band_cmp (all_named (λ c before. places_in band_places (numbered_matrix before c.request)) h))
 
 abbrev pub cell_rows : List Call → List CellRow
-cell_rows h = filter_map (cell_row h) (in_order cell_cmp (all_named (λ c before. places_in cell_places (numbered_matrix c.request)) h))
+cell_rows h = filter_map (cell_row h) (in_order cell_cmp (all_named (λ c before. places_in cell_places (numbered_matrix before c.request)) h))
 
--- the unit's own row: the opening's matrix is in force
+-- Rationalisation records (ISA-18.2), one for each alarm of which a change was approved
+abbrev pub tag_rationalised : Option ChangeKind → List Name
+tag_rationalised (Some (Rationale a s)) = a ∷ []
+tag_rationalised _ = []
+
+abbrev pub tags_approved : List Call → Request → List Name
+tags_approved before (Approve u n) = tag_rationalised (kind_of_change before n)
+tags_approved before _ = []
+
+abbrev pub record_entry : RecordRow → RecordEntry
+record_entry r = record { tag = r.tag; change_no = r.change; rev = r.revision; cell_no = r.priority }
+
+abbrev pub records_of : List Call → List RecordRow
+records_of h = filter_map (record_of h) (in_order name_cmp (all_named (λ c before. tags_approved before c.request) h))
+
+abbrev pub record_rows : List Call → List RecordEntry
+record_rows h = map record_entry (records_of h)
+
+-- Changes, one for each proposal. What its kind does not have is not there
+abbrev pub topic : ChangeKind → ChangeTopic
+topic (Rationale a s) = RecordTopic
+topic (Matrix m) = MatrixTopic
+topic (Limit a max) = LimitTopic
+
+abbrev pub tag_of_kind : ChangeKind → Option Name
+tag_of_kind (Rationale a s) = Some a
+tag_of_kind (Matrix m) = None
+tag_of_kind (Limit a max) = Some a
+
+abbrev pub sheet_of_kind : ChangeKind → Option Sheet
+sheet_of_kind (Rationale a s) = Some s
+sheet_of_kind _ = None
+
+abbrev pub max_of_kind : ChangeKind → Option ℕ
+max_of_kind (Limit a max) = Some max
+max_of_kind _ = None
+
+abbrev pub change_entry : ChangeRow → ChangeEntry
+change_entry c =
+    record {
+      number = c.number;
+      proposer = c.proposer;
+      proposed_s = c.proposed;
+      kind_no = topic c.kind;
+      tag = tag_of_kind c.kind;
+      base = c.base;
+      cause = option_map (λ s. s.cause) (sheet_of_kind c.kind);
+      consequence = option_map (λ s. s.consequence) (sheet_of_kind c.kind);
+      remedy = option_map (λ s. s.action) (sheet_of_kind c.kind);
+      severity = option_map (λ s. s.severity) (sheet_of_kind c.kind);
+      response_s = option_map (λ s. s.response) (sheet_of_kind c.kind);
+      max_s = max_of_kind c.kind;
+      state_no = c.state;
+      decider = c.decider;
+      decided_s = c.decided;
+    }
+
+abbrev pub numbers_proposed : List Call → Request → List ℕ
+numbers_proposed before (Propose u x) = (proposals before + 1) ∷ []
+numbers_proposed before _ = []
+
+abbrev pub changes_of : List Call → List ChangeRow
+changes_of h = filter_map (change h) (in_order nat_cmp (all_named (λ c before. numbers_proposed before c.request) h))
+
+abbrev pub change_rows : List Call → List ChangeEntry
+change_rows h = map change_entry (changes_of h)
+
+-- the unit's own row, with the number and the revision of the matrix in force
 abbrev pub unit_row : List Call → UnitRow
-unit_row h = record { last_s = last_moment h; matrix_no = 0; matrix_rev = 0; quota = quota h }
+unit_row h = record { last_s = last_moment h; matrix_no = (matrix h).0; matrix_rev = matrix_revision h; quota = quota h }
 
 -- all rows of the unit
 abbrev pub rows_of : List Call → UnitRows
@@ -106,4 +186,6 @@ rows_of h =
       events = events h;
       bands = band_rows h;
       cells = cell_rows h;
+      records = record_rows h;
+      changes = change_rows h;
     }

@@ -1,4 +1,5 @@
 -- What a unit answers to a call: the first refusal whose condition holds, else the reply.
+use Rattle.plant_model.specs.declared.call.Request.TheVariants.{ChangeOf, RecordOf}
 use Rattle.plant_model.specs.Facts.{Facts, facts}
 use Rattle.plant_model.specs.Refusals.{first_refusal, refusals}
 use Rattle.plant_model.specs.Replies.{reply}
@@ -22,6 +23,8 @@ verdict h c = verdict_of (facts h) c
 
 abbrev pub is_read : Request → Bool
 is_read (Status u a) = true
+is_read (RecordOf u a) = true
+is_read (ChangeOf u n) = true
 is_read (Shelves u) = true
 is_read (Alarms u) = true
 is_read (Standing u) = true

@@ -1,4 +1,5 @@
 -- The office: an administrator, and for each opened unit its history.
+use Rattle.plant_model.specs.declared.call.Request.TheVariants.{Approve, ChangeOf, Propose, RecordOf, Reject, WithdrawChange}
 use Rattle.plant_model.specs.Facts.{facts}
 use Rattle.plant_model.specs.Grants.{holds_any, roles_held}
 use Rattle.plant_model.specs.Histories.{last_moment}
@@ -41,7 +42,13 @@ unit_named (OneShotShelve u a words) = Some u
 unit_named (Unshelve u a) = Some u
 unit_named (RemoveFromService u a words) = Some u
 unit_named (PlaceInService u a) = Some u
+unit_named (Propose u x) = Some u
+unit_named (WithdrawChange u n) = Some u
+unit_named (Approve u n) = Some u
+unit_named (Reject u n) = Some u
 unit_named (Status u a) = Some u
+unit_named (RecordOf u a) = Some u
+unit_named (ChangeOf u n) = Some u
 unit_named (Shelves u) = Some u
 unit_named (Alarms u) = Some u
 unit_named (Standing u) = Some u

@@ -1,5 +1,5 @@
 use plant_import::FileRead;
-use plant_ration::Matrix;
+use plant_ration::{Matrix, Proposal};
 use plant_types::{Moment, Person, Quota, Role, Seconds, Tag, Tenure, UnitCode, Words};
 
 /// What a person asks for.
@@ -65,10 +65,40 @@ pub enum Request {
         unit: UnitCode,
         tag: Tag,
     },
+    /// Proposes a change of an alarm's record, of the unit's matrix or of an alarm's limit.
+    Propose {
+        unit: UnitCode,
+        proposal: Proposal,
+    },
+    /// Takes a proposed change back.
+    WithdrawChange {
+        unit: UnitCode,
+        number: u32,
+    },
+    /// Approves a proposed change, which brings it into force.
+    Approve {
+        unit: UnitCode,
+        number: u32,
+    },
+    /// Rejects a proposed change.
+    Reject {
+        unit: UnitCode,
+        number: u32,
+    },
     /// Asks for an alarm's state and shelf.
     Status {
         unit: UnitCode,
         tag: Tag,
+    },
+    /// Asks for an alarm's rationalisation record.
+    RecordOf {
+        unit: UnitCode,
+        tag: Tag,
+    },
+    /// Asks for a change, whatever its state.
+    ChangeOf {
+        unit: UnitCode,
+        number: u32,
     },
     /// Asks for the alarms that are shelved.
     Shelves {

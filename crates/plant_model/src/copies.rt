@@ -1,7 +1,10 @@
 ghost use Rattle.std.specs.Prelude.{◌≡◌};
 ghost use Rattle.plant_model.specs.RowChanges.{no_rows};
 
-use crate::{AlarmRow, BandRow, CellRow, Change, GrantRow, Key, Row, ShelfRow, UnitRow, UnitRows};
+use crate::{
+    AlarmRow, BandRow, CellRow, Change, ChangeEntry, GrantRow, Key, RecordEntry, Row, ShelfRow,
+    UnitRow, UnitRows,
+};
 use plant_types::{Duplicate, Fault, Table};
 use std::alloc::Global;
 
@@ -18,6 +21,8 @@ impl UnitRows {
             events: Table::new(alloc),
             bands: Table::new(alloc),
             cells: Table::new(alloc),
+            records: Table::new(alloc),
+            changes: Table::new(alloc),
         }
     }
 }
@@ -32,6 +37,8 @@ impl Duplicate for UnitRows {
             events: self.events.duplicate(alloc)?,
             bands: self.bands.duplicate(alloc)?,
             cells: self.cells.duplicate(alloc)?,
+            records: self.records.duplicate(alloc)?,
+            changes: self.changes.duplicate(alloc)?,
         })
     }
 }
@@ -95,6 +102,39 @@ impl Duplicate for CellRow {
     }
 }
 
+impl Duplicate for RecordEntry {
+    fn duplicate(&self, alloc: Global) -> Result<RecordEntry, Fault> {
+        Ok(RecordEntry {
+            tag: self.tag.duplicate(alloc)?,
+            change_no: self.change_no,
+            rev: self.rev,
+            cell_no: self.cell_no,
+        })
+    }
+}
+
+impl Duplicate for ChangeEntry {
+    fn duplicate(&self, alloc: Global) -> Result<ChangeEntry, Fault> {
+        Ok(ChangeEntry {
+            number: self.number,
+            proposer: self.proposer.duplicate(alloc)?,
+            proposed_s: self.proposed_s,
+            kind_no: self.kind_no,
+            tag: self.tag.duplicate(alloc)?,
+            base: self.base,
+            cause: self.cause.duplicate(alloc)?,
+            consequence: self.consequence.duplicate(alloc)?,
+            remedy: self.remedy.duplicate(alloc)?,
+            severity: self.severity,
+            response_s: self.response_s,
+            max_s: self.max_s,
+            state_no: self.state_no,
+            decider: self.decider.duplicate(alloc)?,
+            decided_s: self.decided_s,
+        })
+    }
+}
+
 impl Duplicate for Row {
     fn duplicate(&self, alloc: Global) -> Result<Row, Fault> {
         Ok(match self {
@@ -105,6 +145,8 @@ impl Duplicate for Row {
             Row::Event(row) => Row::Event(row.duplicate(alloc)?),
             Row::Band(row) => Row::Band(*row),
             Row::Cell(row) => Row::Cell(*row),
+            Row::Record(row) => Row::Record(row.duplicate(alloc)?),
+            Row::Change(row) => Row::Change(row.duplicate(alloc)?),
         })
     }
 }

@@ -10,10 +10,10 @@ mod rows;
 
 pub use call::{Call, Request};
 pub use reply::{
-    AlarmLine, Answer, FloodLine, Full, MineLine, Refused, Reply, ShelfLine, StandingLine,
-    StatusRow, UnitLine,
+    AlarmLine, Answer, ChangeRow, FloodLine, Full, MineLine, RecordRow, Refused, Reply, ShelfLine,
+    StandingLine, StatusRow, UnitLine,
 };
 pub use rows::{
-    AlarmRow, BandRow, CellRow, Change, GrantRow, Key, Row, ShelfRow, UnitPart, UnitRow, UnitRows,
-    Verdict,
+    AlarmRow, BandRow, CellRow, Change, ChangeEntry, ChangeTopic, GrantRow, Key, RecordEntry, Row,
+    ShelfRow, UnitPart, UnitRow, UnitRows, Verdict,
 };

@@ -1,6 +1,6 @@
 use plant_alarm::{AlarmState, ShelfState};
 use plant_import::BadFile;
-use plant_ration::Cell;
+use plant_ration::{Cell, ChangeKind, ChangeState};
 use plant_types::{Fault, Moment, Person, Quota, Role, Seconds, Table, Tag, UnitCode, Words};
 
 /// What a unit has no room for.
@@ -9,6 +9,7 @@ pub enum Full {
     Alarms,
     Grants,
     Events,
+    Changes,
 }
 
 /// Why a call is refused, with the value that shows it. Results of shelving have their names of OPC 10000-9.
@@ -33,6 +34,19 @@ pub enum Refused {
     AlreadyHeld,
     NotHeld,
     LastSteward,
+    ChangeUnknown,
+    /// The state of the change, which is decided.
+    NotProposed(ChangeState),
+    /// The caller is the change's proposer.
+    SamePerson,
+    NotProposer,
+    /// The revision in force.
+    BaseChanged(u32),
+    /// A severity is no row of the matrix.
+    OutsideMatrix,
+    /// The matrix says that no alarm is needed.
+    NotAnAlarm,
+    RecordUnknown,
     /// The range is not of whole periods of ten minutes, from 1 to 1,008 of them.
     RangeNotAligned,
     /// The line and the cause of the file's first fault.
@@ -112,6 +126,37 @@ pub struct MineLine {
     pub line: ShelfLine,
 }
 
+/// The rationalisation record of an alarm that is in force: what the last approved change of it said, with that change's
+/// number, how many changes of it were approved, and the priority by the matrix in force.
+#[derive(Drop)]
+pub struct RecordRow {
+    pub tag: Tag,
+    pub change: u32,
+    pub revision: u32,
+    pub cause: Words,
+    pub consequence: Words,
+    /// The operator's corrective action.
+    pub action: Words,
+    pub severity: u8,
+    /// The time to respond, in seconds.
+    pub response: Seconds,
+    pub priority: Cell,
+}
+
+/// A change, as it was proposed and as far as it has come.
+#[derive(Drop)]
+pub struct ChangeRow {
+    pub number: u32,
+    pub kind: ChangeKind,
+    pub base: u32,
+    pub proposer: Person,
+    pub proposed: Moment,
+    pub state: ChangeState,
+    /// Who decided it and when. A change that was taken back has its proposer here.
+    pub decider: Option<Person>,
+    pub decided: Option<Moment>,
+}
+
 /// A unit with the roles that the caller holds in it.
 #[derive(Drop)]
 pub struct UnitLine {
@@ -128,7 +173,11 @@ pub enum Reply {
         fresh: u32,
         repeated: u64,
     },
+    /// The number of the change that was proposed.
+    Number(u32),
     Status(StatusRow),
+    RecordOf(RecordRow),
+    ChangeOf(ChangeRow),
     Units(Table<UnitLine>),
     Shelves {
         unit: UnitCode,

@@ -1,6 +1,6 @@
 use crate::{Refused, Reply};
 use plant_alarm::{AlarmState, Event};
-use plant_ration::Cell;
+use plant_ration::{Cell, ChangeState};
 use plant_types::{Moment, Person, Quota, Role, Seconds, Table, Tag, Words};
 
 /// The unit's own row: its last moment, the number and the revision of the matrix in force, and its quota of shelves.
@@ -64,6 +64,44 @@ pub struct CellRow {
     pub cell_no: Cell,
 }
 
+/// An alarm's record in force: the change that it came from, its revision, and its priority by the matrix in force.
+#[derive(Drop)]
+pub struct RecordEntry {
+    pub tag: Tag,
+    pub change_no: u32,
+    pub rev: u32,
+    pub cell_no: Cell,
+}
+
+/// What a change is of.
+#[derive(Clone, Copy, Debug, PartialEq, Eq)]
+pub enum ChangeTopic {
+    Record,
+    Matrix,
+    Limit,
+}
+
+/// A change: what was proposed, but for the bands and cells of a matrix, and how it was decided.
+#[derive(Drop)]
+pub struct ChangeEntry {
+    pub number: u32,
+    pub proposer: Person,
+    pub proposed_s: Moment,
+    pub kind_no: ChangeTopic,
+    pub tag: Option<Tag>,
+    pub base: u32,
+    pub cause: Option<Words>,
+    pub consequence: Option<Words>,
+    /// The operator's corrective action.
+    pub remedy: Option<Words>,
+    pub severity: Option<u8>,
+    pub response_s: Option<Seconds>,
+    pub max_s: Option<Seconds>,
+    pub state_no: ChangeState,
+    pub decider: Option<Person>,
+    pub decided_s: Option<Moment>,
+}
+
 /// The rows of one unit, each table in the order of its keys.
 #[derive(Drop)]
 pub struct UnitRows {
@@ -74,9 +112,11 @@ pub struct UnitRows {
     pub events: Table<Event>,
     pub bands: Table<BandRow>,
     pub cells: Table<CellRow>,
+    pub records: Table<RecordEntry>,
+    pub changes: Table<ChangeEntry>,
 }
 
-/// The rows that one call looks at, and the number of the unit's alarms where the call needs it.
+/// The rows that one call looks at, and the number of the unit's alarms or of its changes where the call needs it.
 #[derive(Drop)]
 pub struct UnitPart {
     pub rows: UnitRows,
@@ -93,6 +133,8 @@ pub enum Row {
     Event(Event),
     Band(BandRow),
     Cell(CellRow),
+    Record(RecordEntry),
+    Change(ChangeEntry),
 }
 
 /// The key of a row that may go.

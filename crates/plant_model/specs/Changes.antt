@@ -1,0 +1,134 @@
+-- Management of change (ISA-18.2, IEC 62682): proposals, their decisions, and what is in force.
+use Rattle.plant_model.specs.Histories.{counted}
+use Rattle.plant_model.specs.Histories.{latest, same_number}
+use Rattle.plant_model.specs.declared.call.Call.{Call}
+use Rattle.plant_model.specs.declared.call.Request.{Request}
+use Rattle.plant_model.specs.declared.call.Request.TheVariants.{Approve, OpenUnit, Propose, Reject, WithdrawChange}
+use Rattle.plant_model.specs.declared.reply.ChangeRow.{ChangeRow}
+use Rattle.plant_model.specs.declared.reply.RecordRow.{RecordRow}
+use Rattle.plant_ration.specs.Grid.{Grid}
+use Rattle.plant_ration.specs.Matrix.{priority_of}
+use Rattle.plant_ration.specs.declared.cell.Cell.{Cell}
+use Rattle.plant_ration.specs.declared.cell.Cell.TheVariants.{N}
+use Rattle.plant_ration.specs.declared.change.ChangeKind.{ChangeKind}
+use Rattle.plant_ration.specs.declared.change.ChangeKind.TheVariants.{Limit, Matrix, Rationale}
+use Rattle.plant_ration.specs.declared.change.ChangeState.{ChangeState}
+use Rattle.plant_ration.specs.declared.change.ChangeState.TheVariants.{Approved, Proposed, Rejected, Withdrawn}
+use Rattle.plant_ration.specs.declared.change.Sheet.{Sheet}
+use Rattle.plant_types.specs.Names.{Name, same_name}
+use Rattle.plant_types.specs.Options.{when}
+use Rattle.std.specs.Prelude.{Bool, List, None, Option, Some, [], false, is_some, max, option_map, true, unwrap_or, ℕ, ◌+◌}
+
+-- a change as it was proposed
+pub record Draft : Type 0 where
+  pub proposer : Name
+  pub proposed : ℕ
+  pub kind : ChangeKind
+  pub base : ℕ
+
+-- how a change was decided, by whom and when
+pub record Decision : Type 0 where
+  pub state : ChangeState
+  pub decider : Name
+  pub decided : ℕ
+
+abbrev pub is_proposal : Request → Bool
+is_proposal (Propose u x) = true
+is_proposal _ = false
+
+-- changes are numbered from 1 in the order of their proposals
+abbrev pub proposals : List Call → ℕ
+proposals h = counted (λ c before. is_proposal c.request) h
+
+abbrev pub said_of_draft : ℕ → Name → ℕ → List Call → Request → Option Draft
+said_of_draft n p t before (Propose u x) = when (same_number n (proposals before + 1)) (record { proposer = p; proposed = t; kind = x.kind; base = x.base })
+said_of_draft n p t before _ = None
+
+abbrev pub draft : List Call → ℕ → Option Draft
+draft h n = latest (λ c before. said_of_draft n c.person c.moment before c.request) h
+
+-- a change is withdrawn, approved or rejected
+abbrev pub said_of_decision : ℕ → Name → ℕ → Request → Option Decision
+said_of_decision n p t (WithdrawChange u m) = when (same_number n m) (record { state = Withdrawn; decider = p; decided = t })
+said_of_decision n p t (Approve u m) = when (same_number n m) (record { state = Approved; decider = p; decided = t })
+said_of_decision n p t (Reject u m) = when (same_number n m) (record { state = Rejected; decider = p; decided = t })
+said_of_decision n p t _ = None
+
+abbrev pub decision : List Call → ℕ → Option Decision
+decision h n = latest (λ c before. said_of_decision n c.person c.moment c.request) h
+
+abbrev pub state_after : Option Decision → ChangeState
+state_after None = Proposed
+state_after (Some d) = d.state
+
+-- the change of a number, with its state
+abbrev pub change_as : ℕ → Option Decision → Draft → ChangeRow
+change_as n decided d = record { number = n; kind = d.kind; base = d.base; proposer = d.proposer; proposed = d.proposed; state = state_after decided; decider = option_map (λ x. x.decider) decided; decided = option_map (λ x. x.decided) decided }
+
+abbrev pub change : List Call → ℕ → Option ChangeRow
+change h n = option_map (change_as n (decision h n)) (draft h n)
+
+-- what the change of a number is of
+abbrev pub kind_of_change : List Call → ℕ → Option ChangeKind
+kind_of_change h n = option_map (λ d. d.kind) (draft h n)
+
+abbrev pub matrix_in : ℕ → Option ChangeKind → Option (ℕ × Grid)
+matrix_in n (Some (Matrix m)) = Some (n, m)
+matrix_in n _ = None
+
+abbrev pub sheet_in : Name → ℕ → Option ChangeKind → Option (ℕ × Sheet)
+sheet_in a n (Some (Rationale b s)) = when (same_name a b) (n, s)
+sheet_in a n _ = None
+
+abbrev pub limit_in : Name → Option ChangeKind → Option ℕ
+limit_in a (Some (Limit b max)) = when (same_name a b) max
+limit_in a _ = None
+
+-- what an approval brings into force: a matrix or a record, with the change's number, or a limit
+abbrev pub approved_matrix : List Call → Request → Option (ℕ × Grid)
+approved_matrix before (Approve u n) = matrix_in n (kind_of_change before n)
+approved_matrix before _ = None
+
+abbrev pub approved_sheet : Name → List Call → Request → Option (ℕ × Sheet)
+approved_sheet a before (Approve u n) = sheet_in a n (kind_of_change before n)
+approved_sheet a before _ = None
+
+abbrev pub approved_limit : Name → List Call → Request → Option ℕ
+approved_limit a before (Approve u n) = limit_in a (kind_of_change before n)
+approved_limit a before _ = None
+
+-- the matrix in force, with the number of its change; that of the opening has number 0
+abbrev pub said_of_matrix : List Call → Request → Option (ℕ × Grid)
+said_of_matrix before (OpenUnit u s m q) = Some (0, m)
+said_of_matrix before r = approved_matrix before r
+
+abbrev pub no_matrix : ℕ × Grid
+no_matrix = (0, record { limits = []; cells = [] })
+
+abbrev pub matrix : List Call → ℕ × Grid
+matrix h = unwrap_or (latest (λ c before. said_of_matrix before c.request) h) no_matrix
+
+-- the sheet in force, with the number of its change
+abbrev pub sheet : List Call → Name → Option (ℕ × Sheet)
+sheet h a = latest (λ c before. approved_sheet a before c.request) h
+
+-- revisions: how many changes of the thing were approved
+abbrev pub matrix_revision : List Call → ℕ
+matrix_revision h = counted (λ c before. is_some (approved_matrix before c.request)) h
+
+abbrev pub record_revision : List Call → Name → ℕ
+record_revision h a = counted (λ c before. is_some (approved_sheet a before c.request)) h
+
+abbrev pub limit_revision : List Call → Name → ℕ
+limit_revision h a = counted (λ c before. is_some (approved_limit a before c.request)) h
+
+-- the priority by a matrix: the cell of the severity and the time to respond
+abbrev pub priority_by : Grid → ℕ → ℕ → Cell
+priority_by m severity response = unwrap_or (priority_of m severity response) N
+
+-- the rationalisation record of an alarm, with its priority by the matrix in force now
+abbrev pub record_as : Grid → ℕ → Name → ℕ × Sheet → RecordRow
+record_as m revision a e = record { tag = a; change = e.0; revision = revision; cause = e.1.cause; consequence = e.1.consequence; action = e.1.action; severity = e.1.severity; response = e.1.response; priority = priority_by m e.1.severity e.1.response }
+
+abbrev pub record_of : List Call → Name → Option RecordRow
+record_of h a = option_map (record_as (matrix h).1 (record_revision h a) a) (sheet h a)
