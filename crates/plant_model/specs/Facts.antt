@@ -1,5 +1,5 @@
 -- What a verdict looks at, of a unit.
-use Rattle.plant_model.specs.Changes.{proposals, record_of, record_revision, matrix}
+use Rattle.plant_model.specs.Changes.{proposals, record_of, record_revision, matrix, change}
 use Rattle.plant_model.specs.Rows.{records_of}
 use Rattle.plant_model.specs.declared.reply.ChangeRow.{ChangeRow}
 use Rattle.plant_model.specs.declared.reply.RecordRow.{RecordRow}
