@@ -1,4 +1,11 @@
 -- Imports that bring the same rows leave the same rows.
+use Rattle.plant_import.proofs.Nearest.{parts}
+use Rattle.plant_import.proofs.Placed.{there}
+use Rattle.plant_model.proofs.Base.{x}
+use Rattle.plant_model.specs.Changes.{limit_revision}
+use Rattle.plant_model.specs.Parts.{none}
+use Rattle.plant_model.specs.Verdicts.{after}
+use Rattle.std.specs.FinMap.Entries.{find as found}
 use Rattle.plant_import.proofs.Counted.{fresh_count}
 use Rattle.plant_model.specs.declared.reply.Full.TheVariants.{Events as TooManyEvents}
 use Rattle.plant_alarm.specs.declared.event.Event.{Event}
@@ -70,7 +77,7 @@ same_events xs ys fit first second same =
 -- what an import leaves as it is
 abbrev rows_with : List Call → List Event → UnitRows
 rows_with g es = record (but_last (rows_of g)) {
-  alarms = filter_map (λ a. option_map (alarm_as a (unwrap_or (limit g a) 0) (of_alarm a es) (outage g a)) (latching g a)) (in_order name_cmp (tags_of_alarms g));
+  alarms = filter_map (λ a. option_map (alarm_as a (unwrap_or (limit g a) 0) (limit_revision g a) (of_alarm a es) (outage g a)) (latching g a)) (in_order name_cmp (tags_of_alarms g));
   events = es;
 }
 

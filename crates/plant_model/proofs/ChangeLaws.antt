@@ -1,4 +1,11 @@
 -- The changes that a call makes turn the rows of the history into those of the history with the call.
+use Rattle.plant_types.proofs.TableLaws.{IsInOrder-rows, Tells, row_at-rows, same_rows}
+use Rattle.plant_model.proofs.Base.{cells, x}
+use Rattle.plant_model.specs.Changes.{limit_revision}
+use Rattle.plant_types.specs.Tables.{in_order, put_row}
+use Rattle.std.proofs.Common.{sym}
+use Rattle.std.specs.FinMap.Entries.{by_order}
+use Rattle.std.specs.declared.cmp.Ordering.TheVariants.{Greater, Less}
 use Rattle.plant_model.proofs.Base.{base}
 use Rattle.plant_model.proofs.HistoryLaws.{alarm_of, alarms_told, grants_told, pairs_of, shelves_told, tags_of_alarms, tags_of_shelves}
 use Rattle.plant_model.proofs.MatrixLaws.{band_keys, bands_anew, bands_told, cell_keys, cells_anew, cells_told}
@@ -38,6 +45,23 @@ use Rattle.std.specs.Prelude.{Bool, List, None, Option, Some, [], cond, false, f
 use Rattle.std.specs.declared.cmp.Ordering.{Ordering}
 use Rattle.std.specs.declared.cmp.Ordering.TheVariants.{Equal}
 
+-- rows that are made of told ones
+pub put_row-map : {A X K : Type 0} (R : K → K → Ordering) (key : X → K) (f : A → X) (r : A) (xs : List A) → put_row R key (f r) (map f xs) ≡ map f (put_row R (λ x. key (f x)) r xs)
+put_row-map R key f r [] = refl
+put_row-map R key f r (x ∷ xs) =
+    elim (R (key (f r)) (key (f x))) as (λ v. by_order v (f r ∷ f x ∷ map f xs) (f r ∷ map f xs) (f x ∷ put_row R key (f r) (map f xs)) ≡ map f (by_order v (r ∷ x ∷ xs) (r ∷ xs) (x ∷ put_row R (λ y. key (f y)) r xs))) [
+      | Less ↦ refl
+      | Equal ↦ refl
+      | Greater ↦ ap (λ ys. f x ∷ ys) (put_row-map R key f r xs)
+    ]
+
+-- tables with the same row at each key are the same
+module _ {K X : Type 0} {R : K → K → Ordering} {key : X → K} where
+  pub rows-same : (old new : K → Option X) (ks ks' : List K) → Tells R key old ks → Tells R key new ks' → ((q : K) → old q ≡ new q) → filter_map old (in_order R ks) ≡ filter_map new (in_order R ks')
+  rows-same old new ks ks' t u is =
+      same_rows R key t.order t.same _ _ (IsInOrder-rows old ks t) (IsInOrder-rows new ks' u)
+      (λ q. row_at-rows old ks t q ∙ is q ∙ sym (row_at-rows new ks' u q))
+
 -- pairs
 now_stands : (k x : Pair) (until : Option ℕ) (rest : Option (Option (Option ℕ))) → option_map (grant_as k) (flatten (or_else (when (same_pair k x) (Some until)) rest)) ≡ cond (same_pair k x) (Some (grant_as x until)) (option_map (grant_as k) (flatten rest))
 now_stands k x until rest =
@@ -63,7 +87,7 @@ now_unshelved a b rest =
     elim (same_name a b) as (λ t. flatten (or_else (when t None) rest) ≡ cond t None (flatten rest)) [ true ↦ refl | false ↦ refl ]
 
 -- a row that is made from what is said of its key, and of which one thing is said anew
-said_anew : {K V B X : Type 0} (R : K → K → Ordering) (same : (x y : K) → R x y ≡ Equal → x ≡ y) (row : K → V → B → X) (value : K → V) (base : K → Option B) (a : K) (b : B) (v : V) → base a ≡ Some b → (k : K) → option_map (row k (cond (eq_by_cmp R k a) v (value k))) (base k) ≡ cond (eq_by_cmp R k a) (Some (row a v b)) (option_map (row k (value k)) (base k))
+pub said_anew : {K V B X : Type 0} (R : K → K → Ordering) (same : (x y : K) → R x y ≡ Equal → x ≡ y) (row : K → V → B → X) (value : K → V) (base : K → Option B) (a : K) (b : B) (v : V) → base a ≡ Some b → (k : K) → option_map (row k (cond (eq_by_cmp R k a) v (value k))) (base k) ≡ cond (eq_by_cmp R k a) (Some (row a v b)) (option_map (row k (value k)) (base k))
 said_anew R same row value base a b v known k =
     elim (eq_by_cmp R k a) as (λ t. eq_by_cmp R k a ≡ t → option_map (row k (cond t v (value k))) (base k) ≡ cond t (Some (row a v b)) (option_map (row k (value k)) (base k))) [
       | true ↦ λ e. ap (λ y. option_map (row y v) (base y)) (same k a (tied _ true e refl)) ∙ ap (option_map (row a v)) known
@@ -74,8 +98,9 @@ flatten_when : {A : Type 0} (b : Bool) (v : Option A) (rest : Option (Option A))
 flatten_when true v rest = refl
 flatten_when false v rest = refl
 
--- an alarm that has no event, and of which no removal from service stands
+-- an alarm of which no change of its limit was approved, that has no event, and of which no removal from service stands
 pub record IsUnspoken (h : List Call) (a : Name) : Type 0 where
+  pub no_revision : limit_revision h a ≡ 0
   pub no_event : events_of h a ≡ []
   pub no_outage : outage h a ≡ None
 
@@ -118,7 +143,7 @@ module _ (h : List Call) (p : Name) (t : ℕ) where
 
   -- Service
   abbrev row_by_outage : (a : Name) → Option Outage → Bool → AlarmRow
-  row_by_outage a out = alarm_as a (unwrap_or (limit h a) 0) (events_of h a) out
+  row_by_outage a out = alarm_as a (unwrap_or (limit h a) 0) (limit_revision h a) (events_of h a) out
 
   outage_anew : (a k : Name) (l : Bool) (v : Option Outage) → latching h a ≡ Some l → option_map (row_by_outage k (flatten (or_else (when (same_name k a) v) (latest (λ c before. said_of_service k c.person c.moment c.request) h)))) (latching h k) ≡ cond (same_name k a) (Some (row_by_outage a v l)) (alarm_row h k)
   outage_anew a k l v known =
@@ -147,10 +172,10 @@ module _ (h : List Call) (p : Name) (t : ℕ) where
       })
 
   -- Registration of an alarm of which nothing was said before
-  alarm_anew : (a k : Name) (l : Bool) (max : ℕ) → IsUnspoken h a → option_map (alarm_as k (unwrap_or (or_else (when (same_name k a) max) (limit h k)) 0) (events_of h k) (outage h k)) (or_else (when (same_name k a) l) (latching h k)) ≡ cond (same_name k a) (Some (alarm_as a max [] None l)) (alarm_row h k)
+  alarm_anew : (a k : Name) (l : Bool) (max : ℕ) → IsUnspoken h a → option_map (alarm_as k (unwrap_or (or_else (when (same_name k a) max) (limit h k)) 0) (limit_revision h k) (events_of h k) (outage h k)) (or_else (when (same_name k a) l) (latching h k)) ≡ cond (same_name k a) (Some (alarm_as a max 0 [] None l)) (alarm_row h k)
   alarm_anew a k l max new =
-      elim (same_name k a) as (λ s. same_name k a ≡ s → option_map (alarm_as k (unwrap_or (or_else (when s max) (limit h k)) 0) (events_of h k) (outage h k)) (or_else (when s l) (latching h k)) ≡ cond s (Some (alarm_as a max [] None l)) (alarm_row h k)) [
-        | true ↦ λ e. ap (λ y. Some (alarm_as y max (events_of h y) (outage h y) l)) (same_names k a (tied _ true e refl)) ∙ (λ i. Some (alarm_as a max (new.no_event i) (new.no_outage i) l))
+      elim (same_name k a) as (λ s. same_name k a ≡ s → option_map (alarm_as k (unwrap_or (or_else (when s max) (limit h k)) 0) (limit_revision h k) (events_of h k) (outage h k)) (or_else (when s l) (latching h k)) ≡ cond s (Some (alarm_as a max 0 [] None l)) (alarm_row h k)) [
+        | true ↦ λ e. ap (λ y. Some (alarm_as y max (limit_revision h y) (events_of h y) (outage h y) l)) (same_names k a (tied _ true e refl)) ∙ (λ i. Some (alarm_as a max (new.no_revision i) (new.no_event i) (new.no_outage i) l))
         | false ↦ λ e. refl
       ] refl
 
@@ -158,7 +183,7 @@ module _ (h : List Call) (p : Name) (t : ℕ) where
   register_turns u a l max new =
       let c = with_request (Register u a l max) in
       λ i. record (rows_of c) {
-        alarms = put-rows (alarm_row h) (alarm_row c) (tags_of_alarms h) (tags_of_alarms c) (alarm_as a max [] None l) (alarms_told h) (alarms_told c) (λ k. alarm_anew a k l max new) i;
+        alarms = put-rows (alarm_row h) (alarm_row c) (tags_of_alarms h) (tags_of_alarms c) (alarm_as a max 0 [] None l) (alarms_told h) (alarms_told c) (λ k. alarm_anew a k l max new) i;
       }
 
 -- An opening: no rows become those of the one entry

@@ -1,4 +1,10 @@
 -- In a legal history the kept events fit, rise, and are of alarms that are registered.
+use Rattle.plant_import.proofs.Nearest.{parts}
+use Rattle.plant_import.proofs.Placed.{there}
+use Rattle.plant_model.proofs.Base.{x}
+use Rattle.plant_model.proofs.ProposalLaws.{no_revision}
+use Rattle.plant_model.specs.Parts.{none}
+use Rattle.plant_model.specs.Worlds.{answer}
 use Rattle.plant_model.specs.declared.reply.Full.TheVariants.{Events as TooManyEvents}
 use Rattle.plant_alarm.specs.declared.event.Event.{Event}
 use Rattle.plant_floods.specs.Activations.{of_alarm}
@@ -164,4 +170,4 @@ no_event_of a (e ∷ es) none =
     elim (same_name a e.tag) as (λ b. (b || list_any (is_of a) es) ≡ false → cond b (e ∷ of_alarm a es) (of_alarm a es) ≡ []) [ true ↦ λ no. cc | false ↦ λ rest. no_event_of a es rest ] none
 
 pub unspoken : (h : List Call) → IsLegal h → (a : Name) → latching h a ≡ None → IsUnspoken h a
-unspoken h legal a none = record { no_event = no_event_of a (events h) ((legal_kept h legal).known a none); no_outage = no_outage h legal a none }
+unspoken h legal a none = record { no_revision = no_revision h legal a none; no_event = no_event_of a (events h) ((legal_kept h legal).known a none); no_outage = no_outage h legal a none }

@@ -1,4 +1,16 @@
 -- Each table of a history is told by its function: its rows are at keys that the history names, and have their keys.
+use Rattle.plant_import.proofs.Placed.{there}
+use Rattle.plant_model.proofs.Base.{x}
+use Rattle.plant_model.proofs.PutLaws.{said}
+use Rattle.plant_model.specs.Changes.{Draft, approved_sheet, change, change_as, decision, draft, kind_of_change, limit_revision, matrix, proposals, record_as, record_of, record_revision, said_of_draft, sheet, sheet_in}
+use Rattle.plant_model.specs.Rows.{numbers_proposed, tag_rationalised, tags_approved}
+use Rattle.plant_model.specs.declared.call.Request.TheVariants.{Approve, Propose}
+use Rattle.plant_model.specs.declared.reply.ChangeRow.{ChangeRow}
+use Rattle.plant_model.specs.declared.reply.RecordRow.{RecordRow}
+use Rattle.plant_ration.specs.declared.change.ChangeKind.{ChangeKind}
+use Rattle.plant_ration.specs.declared.change.ChangeKind.TheVariants.{Limit, Matrix, Rationale}
+use Rattle.plant_ration.specs.declared.change.Sheet.{Sheet}
+use Rattle.std.specs.Prelude.{max, ◌+◌}
 use Rattle.plant_alarm.specs.declared.event.Event.{Event}
 use Rattle.plant_model.specs.Alarms.{latching, limit, said_of_latching}
 use Rattle.plant_import.specs.Numbers.{has_number, numbers_of}
@@ -120,7 +132,7 @@ abbrev pub tags_of_alarms : List Call → List Name
 tags_of_alarms h = all_named (λ c before. tags_registered c.request) h
 
 abbrev pub alarm_of : List Call → Name → Bool → AlarmRow
-alarm_of h a = alarm_as a (unwrap_or (limit h a) 0) (events_of h a) (outage h a)
+alarm_of h a = alarm_as a (unwrap_or (limit h a) 0) (limit_revision h a) (events_of h a) (outage h a)
 
 pub alarms_told : (h : List Call) → Tells name_cmp alarm_tag (alarm_row h) (tags_of_alarms h)
 alarms_told h =
@@ -210,6 +222,64 @@ events_told h =
       at_key = λ n r e. sym (same_numbers n r.seq (tied _ _ (latest-holds (λ c before. find (has_number n) (imported c.request)) (λ x. same_number n x.seq ≡ true) (λ c before x. find_holds n (imported c.request) x) h r e) refl));
       among = λ n. elim (latest-named nat_cmp (λ c before. find (has_number n) (imported c.request)) (λ x. Some x) (λ c before. numbers_of (imported c.request)) n (λ c before x is. inr (find_any n (imported c.request) x is)) h) [
         | inl none ↦ inl (itself _ none)
+        | inr there ↦ inr there
+      ];
+    }
+
+-- Records
+sheet_is_named : (a : Name) (n : ℕ) (g : ℕ × Sheet → Option RecordRow) (k : Option ChangeKind) (x : ℕ × Sheet) → sheet_in a n k ≡ Some x → (g x ≡ None) ⊎ (list_any (eq_by_cmp name_cmp a) (tag_rationalised k) ≡ true)
+sheet_is_named a n g None x e = cc
+sheet_is_named a n g (Some (Rationale b s)) x e = one_named name_cmp g a b (n, s) x e
+sheet_is_named a n g (Some (Matrix m)) x e = cc
+sheet_is_named a n g (Some (Limit b max)) x e = cc
+
+sheet_is_approved : (a : Name) (g : ℕ × Sheet → Option RecordRow) (before : List Call) (q : Request) (x : ℕ × Sheet) → approved_sheet a before q ≡ Some x → (g x ≡ None) ⊎ (list_any (eq_by_cmp name_cmp a) (tags_approved before q) ≡ true)
+sheet_is_approved a g before (Approve u n) x e = sheet_is_named a n g (kind_of_change before n) x e
+sheet_is_approved a g before _ x e = cc
+
+abbrev pub tags_of_records : List Call → List Name
+tags_of_records h = all_named (λ c before. tags_approved before c.request) h
+
+abbrev pub record_with : List Call → Name → ℕ × Sheet → RecordRow
+record_with h a = record_as (matrix h).1 (record_revision h a) a
+
+abbrev pub tag_of_record : RecordRow → Name
+tag_of_record r = r.tag
+
+pub records_told : (h : List Call) → Tells name_cmp tag_of_record (record_of h) (tags_of_records h)
+records_told h =
+    record {
+      order = name_total;
+      same = same_names;
+      at_key = λ a r e. mapped_key tag_of_record (record_with h a) a (sheet h a) r (λ x. refl) e;
+      among = λ a. elim (latest-named name_cmp (λ c before. approved_sheet a before c.request) (λ x. Some (record_with h a x)) (λ c before. tags_approved before c.request) a (λ c before x. sheet_is_approved a (λ y. Some (record_with h a y)) before c.request x) h) [
+        | inl none ↦ inl (mapped_none (record_with h a) (sheet h a) none)
+        | inr there ↦ inr there
+      ];
+    }
+
+-- Changes
+draft_is_named : (n : ℕ) (p : Name) (t : ℕ) (g : Draft → Option ChangeRow) (before : List Call) (q : Request) (x : Draft) → said_of_draft n p t before q ≡ Some x → (g x ≡ None) ⊎ (list_any (eq_by_cmp nat_cmp n) (numbers_proposed before q) ≡ true)
+draft_is_named n p t g before (Propose u y) x e = one_named nat_cmp g n (proposals before + 1) _ x e
+draft_is_named n p t g before _ x e = cc
+
+abbrev pub numbers_of_changes : List Call → List ℕ
+numbers_of_changes h = all_named (λ c before. numbers_proposed before c.request) h
+
+abbrev pub change_with : List Call → ℕ → Draft → ChangeRow
+change_with h n = change_as n (decision h n)
+
+abbrev pub number_of_change : ChangeRow → ℕ
+number_of_change c = c.number
+
+pub changes_told : (h : List Call) → Tells nat_cmp number_of_change (change h) (numbers_of_changes h)
+changes_told h =
+    record {
+      order = number_total;
+      same = same_numbers;
+      at_key = λ n r e. mapped_key number_of_change (change_with h n) n (draft h n) r (λ x. refl) e;
+      among = λ n. elim (latest-named nat_cmp (λ c before. said_of_draft n c.person c.moment before c.request) (λ x. Some (change_with h n x)) (λ c before. numbers_proposed before c.request) n (λ c before x. draft_is_named n c.person c.moment (λ y. Some (change_with h n y)) before c.request x) h) [
+        | inl none ↦ inl (mapped_none (change_with h n) (draft h n) none)
         | inr there ↦ inr there
       ];
     }

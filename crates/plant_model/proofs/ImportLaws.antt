@@ -1,4 +1,9 @@
 -- An import turns the rows into those of the history with it.
+use Rattle.plant_import.proofs.Placed.{there}
+use Rattle.plant_model.proofs.Base.{x}
+use Rattle.plant_model.specs.Changes.{limit_revision}
+use Rattle.plant_model.specs.Parts.{none}
+use Rattle.std.specs.FinMap.Entries.{find as found}
 use Rattle.plant_model.specs.declared.rows.Row.TheVariants.{Unit as UnitPut}
 use Rattle.plant_model.proofs.EventLaws.{now}
 use Rattle.plant_alarm.specs.declared.event.Event.{Event}
@@ -126,7 +131,7 @@ module _ (h : List Call) (p : Name) (t : ℕ) (u : Name) (rows : List Event) (ke
       }
 
   abbrev alarm_with : Name → List Event → Bool → AlarmRow
-  alarm_with a es l = alarm_as a (unwrap_or (limit h a) 0) es (outage h a) l
+  alarm_with a es l = alarm_as a (unwrap_or (limit h a) 0) (limit_revision h a) es (outage h a) l
 
   by_alarm : (a : Name) (o : Option Bool) → option_map (λ l. alarm_with a (events_of after a) l) o ≡ or_else (option_and_then named_row (option_map (alarm_of h a) o)) (option_map (alarm_of h a) o)
   by_alarm a None = refl

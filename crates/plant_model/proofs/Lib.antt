@@ -5,7 +5,9 @@ pub mod FactLaws
 pub mod HeldLaws
 pub mod MatrixLaws
 pub mod ChangeLaws
+pub mod DecisionLaws
 pub mod ServiceLaws
+pub mod ProposalLaws
 pub mod EventLists
 pub mod EventLaws
 pub mod ImportLaws

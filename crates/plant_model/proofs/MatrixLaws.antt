@@ -1,4 +1,13 @@
 -- The rows of matrices: at the places that the history names, and put anew by an entry that brings a matrix.
+use Rattle.plant_import.proofs.Placed.{there}
+use Rattle.plant_model.proofs.Base.{x}
+use Rattle.plant_model.specs.Changes.{is_proposal, matrix_in, proposals}
+use Rattle.plant_model.specs.Parts.{nothing}
+use Rattle.plant_model.specs.declared.call.Request.{Request}
+use Rattle.plant_model.specs.declared.call.Request.TheVariants.{OpenUnit, Propose}
+use Rattle.plant_ration.specs.declared.change.ChangeKind.{ChangeKind}
+use Rattle.plant_ration.specs.declared.change.ChangeKind.TheVariants.{Limit, Matrix, Rationale}
+use Rattle.std.specs.Prelude.{if◌then◌else◌, ◌≤◌}
 use Rattle.std.proofs.Common.{ap, arith, inl, inr, refl, subst, sym, ◌∙◌}
 use Rattle.std.specs.Cmp.{eq_by_cmp_equiv}
 use Rattle.std.specs.List.{enumerate_from, list_any, range_with_len, slice_get}
@@ -79,7 +88,7 @@ band_row_key k None r e = cc
 band_row_key k (Some m) r e = mapped_key band_key (band_as k) k (at_place m.limits k.1) r (λ x. refl) e
 
 abbrev pub band_keys : List Call → List BandKey
-band_keys h = all_named (λ c before. places_in band_places (numbered_matrix c.request)) h
+band_keys h = all_named (λ c before. places_in band_places (numbered_matrix before c.request)) h
 
 pub bands_told : (h : List Call) → Tells band_cmp band_key (band_row h) (band_keys h)
 bands_told h =
@@ -87,8 +96,38 @@ bands_told h =
       order = band_total;
       same = same_bands;
       at_key = λ k r e. band_row_key k (matrix_numbered h k.0) r e;
-      among = λ k. latest-named band_cmp (λ c before. when_number k.0 (numbered_matrix c.request)) (band_at k) (λ c before. places_in band_places (numbered_matrix c.request)) k (λ c before m is. band_named k (numbered_matrix c.request) m is) h;
+      among = λ k. latest-named band_cmp (λ c before. when_number k.0 (numbered_matrix before c.request)) (band_at k) (λ c before. places_in band_places (numbered_matrix before c.request)) k (λ c before m is. band_named k (numbered_matrix before c.request) m is) h;
     }
+
+-- no matrix has the next number
+kind_bound : (h : List Call) (n : ℕ) (k : ChangeKind) (m : Grid) (rest : Option Grid) → (rest ≡ Some m → n ≤ proposals h) → or_else (when_number n (matrix_in (proposals h + 1) (Some k))) rest ≡ Some m → n ≤ proposals h + 1
+kind_bound h n (Matrix x) m rest before e =
+    elim (same_number n (proposals h + 1)) as (λ b. same_number n (proposals h + 1) ≡ b → or_else (when b x) rest ≡ Some m → n ≤ proposals h + 1) [
+      | true ↦ λ s _. let is : n ≡ proposals h + 1 = same_number_of n (proposals h + 1) s in omega (arith, is)
+      | false ↦ λ _ r. let less : n ≤ proposals h = before r in omega (arith, less)
+    ] refl e
+kind_bound h n (Rationale a s) m rest before e = let less : n ≤ proposals h = before e in omega (arith, less)
+kind_bound h n (Limit a x) m rest before e = let less : n ≤ proposals h = before e in omega (arith, less)
+
+number_step : (h : List Call) (n : ℕ) (q : Request) (m : Grid) (rest : Option Grid) → (rest ≡ Some m → n ≤ proposals h) → or_else (when_number n (numbered_matrix h q)) rest ≡ Some m → n ≤ (if is_proposal q then proposals h + 1 else proposals h)
+number_step h n (OpenUnit u s x qu) m rest before e =
+    elim (same_number n 0) as (λ b. same_number n 0 ≡ b → or_else (when b x) rest ≡ Some m → n ≤ proposals h) [
+      | true ↦ λ s _. let is : n ≡ 0 = same_number_of n 0 s in omega (arith, is)
+      | false ↦ λ _ r. before r
+    ] refl e
+number_step h n (Propose u y) m rest before e = kind_bound h n y.kind m rest before e
+number_step h n _ m rest before e = before e
+
+number_bound : (h : List Call) (n : ℕ) (m : Grid) → matrix_numbered h n ≡ Some m → n ≤ proposals h
+number_bound [] n m e = cc
+number_bound (c ∷ h) n m e = number_step h n c.request m (matrix_numbered h n) (number_bound h n m) e
+
+pub no_next : (h : List Call) → matrix_numbered h (proposals h + 1) ≡ None
+no_next h =
+    elim (matrix_numbered h (proposals h + 1)) as (λ o. matrix_numbered h (proposals h + 1) ≡ o → o ≡ None) [
+      | None ↦ λ _. refl
+      | Some m ↦ λ e. let less : proposals h + 1 ≤ proposals h = number_bound h (proposals h + 1) m e in absurd (omega (arith, less))
+    ] refl
 
 found_any : {K : Type 0} (R : K → K → Ordering) (q : K) (ks : List K) → is_some (row_at R (λ k. k) q ks) ≡ list_any (eq_by_cmp R q) ks
 found_any R q [] = refl
@@ -194,7 +233,7 @@ cell_row_key k None r e = cc
 cell_row_key k (Some m) r e = mapped_key cell_key (cell_as k) k (option_and_then (λ row. at_place row k.2) (at_place m.cells k.1)) r (λ x. refl) e
 
 abbrev pub cell_keys : List Call → List CellKey
-cell_keys h = all_named (λ c before. places_in cell_places (numbered_matrix c.request)) h
+cell_keys h = all_named (λ c before. places_in cell_places (numbered_matrix before c.request)) h
 
 pub cells_told : (h : List Call) → Tells cell_cmp cell_key (cell_row h) (cell_keys h)
 cells_told h =
@@ -202,7 +241,7 @@ cells_told h =
       order = cell_total;
       same = same_cells;
       at_key = λ k r e. cell_row_key k (matrix_numbered h k.0) r e;
-      among = λ k. latest-named cell_cmp (λ c before. when_number k.0 (numbered_matrix c.request)) (cell_of k) (λ c before. places_in cell_places (numbered_matrix c.request)) k (λ c before m is. cell_named k (numbered_matrix c.request) m is) h;
+      among = λ k. latest-named cell_cmp (λ c before. when_number k.0 (numbered_matrix before c.request)) (cell_of k) (λ c before. places_in cell_places (numbered_matrix before c.request)) k (λ c before m is. cell_named k (numbered_matrix before c.request) m is) h;
     }
 
 not_cell : (q : CellKey) (n s b : ℕ) → same_number q.0 n ≡ false → eq_by_cmp cell_cmp q (cell_key_of n s b) ≡ false

@@ -1,4 +1,11 @@
 -- Rows that are put one after another.
+use Rattle.plant_model.proofs.Base.{x}
+use Rattle.plant_model.specs.Parts.{none}
+use Rattle.plant_model.specs.RowFacts.{record_tag}
+use Rattle.plant_model.specs.declared.reply.RecordRow.{RecordRow}
+use Rattle.plant_model.specs.declared.rows.RecordEntry.{RecordEntry}
+use Rattle.plant_model.specs.declared.rows.Row.TheVariants.{Record as RecordPut}
+use Rattle.std.specs.Prelude.{◌+◌}
 use Rattle.plant_alarm.specs.declared.event.Event.{Event}
 use Rattle.plant_model.specs.Matrices.{band_cmp, cell_cmp}
 use Rattle.plant_model.specs.RowChanges.{changed_by, put}
@@ -97,3 +104,7 @@ put_events (e ∷ es) rest rows = put_events es rest (put (EventPut e) rows)
 pub put_alarms : (f : AlarmRow → AlarmRow) (rs : List AlarmRow) (rows : UnitRows) → changed_by (map (λ r. Put (AlarmPut (f r))) rs) rows ≡ record rows { alarms = puts name_cmp alarm_tag (map f rs) rows.alarms }
 put_alarms f [] rows = refl
 put_alarms f (r ∷ rs) rows = put_alarms f rs (put (AlarmPut (f r)) rows)
+
+pub put_records : (f : RecordRow → RecordEntry) (rs : List RecordRow) (rows : UnitRows) → changed_by (map (λ r. Put (RecordPut (f r))) rs) rows ≡ record rows { records = puts name_cmp record_tag (map f rs) rows.records }
+put_records f [] rows = refl
+put_records f (r ∷ rs) rows = put_records f rs (put (RecordPut (f r)) rows)

@@ -1,4 +1,9 @@
 -- A quota of 2,000 refuses nothing in a legal history: there are at most 2,000 alarms, and each shelf is of one of them.
+use Rattle.plant_import.proofs.Placed.{there}
+use Rattle.plant_model.proofs.Base.{x}
+use Rattle.plant_model.specs.Histories.{counted}
+use Rattle.plant_model.specs.RowChanges.{put}
+use Rattle.plant_model.specs.declared.call.Request.TheVariants.{Approve}
 use Rattle.plant_alarm.specs.Shelves.{is_one_shot, is_timed, is_unshelved, shelf_state}
 use Rattle.plant_model.proofs.ChangeLaws.{register_turns}
 use Rattle.plant_model.proofs.EventLaws.{unspoken}
@@ -96,13 +101,14 @@ as_many_alarms h c unsaid unnamed =
 more_alarms : (h : List Call) → IsLegal h → (p : Name) (t : ℕ) (q : Request) → may_follow h (record { person = p; moment = t; request = q }) ≡ true → length (alarm_rows h) ≤ 2000 → length (alarm_rows (record { person = p; moment = t; request = q } ∷ h)) ≤ 2000
 more_alarms h legal p t (Register u a l max) may le =
     let c : Call = record { person = p; moment = t; request = Register u a l max } in
-    let put : put_row name_cmp alarm_tag (alarm_as a max [] None l) (alarm_rows h) ≡ alarm_rows (c ∷ h) = ap (λ (rows : UnitRows). rows.alarms) (register_turns h p t u a l max (unspoken h legal a (registered_anew h p t u a l max (both_true true _ may).1))) in
+    let put : put_row name_cmp alarm_tag (alarm_as a max 0 [] None l) (alarm_rows h) ≡ alarm_rows (c ∷ h) = ap (λ (rows : UnitRows). rows.alarms) (register_turns h p t u a l max (unspoken h legal a (registered_anew h p t u a l max (both_true true _ may).1))) in
     let few = few_before h p t u a l max may in
-    let long = length-put (alarm_as a max [] None l) (alarm_rows h) in
+    let long = length-put (alarm_as a max 0 [] None l) (alarm_rows h) in
     subst (λ rows. length rows ≤ 2000) put (omega (arith, few, long))
 more_alarms h legal p t (RemoveFromService u a w) may le = subst (λ n. n ≤ 2000) (as_many_alarms h (record { person = p; moment = t; request = RemoveFromService u a w }) (λ b. refl) refl) le
 more_alarms h legal p t (PlaceInService u a) may le = subst (λ n. n ≤ 2000) (as_many_alarms h (record { person = p; moment = t; request = PlaceInService u a }) (λ b. refl) refl) le
 more_alarms h legal p t (Import u file) may le = subst (λ n. n ≤ 2000) (as_many_alarms h (record { person = p; moment = t; request = Import u file }) (λ b. refl) refl) le
+more_alarms h legal p t (Approve u n) may le = subst (λ n. n ≤ 2000) (as_many_alarms h (record { person = p; moment = t; request = Approve u n }) (λ b. refl) refl) le
 more_alarms h legal p t _ may le = le
 
 no_alarms : (p : Name) (t : ℕ) (q : Request) → is_opening q ≡ true → length (alarm_rows (record { person = p; moment = t; request = q } ∷ [])) ≤ 2000
