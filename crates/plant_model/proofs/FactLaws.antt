@@ -83,14 +83,14 @@ shelf_in h a = row_at-rows (shelf h) (tags_of_shelves h) (shelves_told h) a
 pub same_number_of : (m n : ℕ) → same_number m n ≡ true → m ≡ n
 same_number_of m n e = same_numbers m n (tied _ true e refl)
 
-is_same_number : (n : ℕ) → same_number n n ≡ true
+pub is_same_number : (n : ℕ) → same_number n n ≡ true
 is_same_number n = (eq_by_cmp_equiv number_total).refl n
 
 pub not_true : (b : Bool) → (b ≡ true → ⊥) → b ≡ false
 not_true true h = absurd (h refl)
 not_true false h = refl
 
-other_number : (m n : ℕ) → m < n → same_number m n ≡ false
+pub other_number : (m n : ℕ) → m < n → same_number m n ≡ false
 other_number m n less = not_true (same_number m n) (λ e. let is : m ≡ n = same_number_of m n e in omega (arith, less, is))
 
 -- Records and changes: rows that are made of told ones

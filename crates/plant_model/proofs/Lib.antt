@@ -8,6 +8,7 @@ pub mod ChangeLaws
 pub mod DecisionLaws
 pub mod ServiceLaws
 pub mod ProposalLaws
+pub mod ReadLaws
 pub mod EventLists
 pub mod EventLaws
 pub mod ImportLaws

@@ -33,7 +33,7 @@ use Rattle.plant_types.proofs.TableLaws.{Tells, settled, tied}
 use Rattle.plant_types.specs.Options.{or_else, when}
 use Rattle.plant_types.specs.Tables.{row_at}
 
-abbrev band_key_of : ℕ → ℕ → BandKey
+abbrev pub band_key_of : ℕ → ℕ → BandKey
 band_key_of n b = (n, b)
 
 itself_band : (k : BandKey) → eq_by_cmp band_cmp k k ≡ true
@@ -58,7 +58,7 @@ in_range n (x ∷ xs) s (suc i) =
 abbrev band_as : BandKey → ℕ → BandRow
 band_as k l = record { matrix_no = k.0; band_no = k.1; limit_s = l }
 
-band_here : (n b : ℕ) (m : Grid) → (band_at (band_key_of n b) m ≡ None) ⊎ (list_any (eq_by_cmp band_cmp (band_key_of n b)) (band_places n m) ≡ true)
+pub band_here : (n b : ℕ) (m : Grid) → (band_at (band_key_of n b) m ≡ None) ⊎ (list_any (eq_by_cmp band_cmp (band_key_of n b)) (band_places n m) ≡ true)
 band_here n zero m = inl refl
 band_here n (suc i) m =
     elim (in_range n m.limits 1 i) [
@@ -118,7 +118,7 @@ number_step h n (OpenUnit u s x qu) m rest before e =
 number_step h n (Propose u y) m rest before e = kind_bound h n y.kind m rest before e
 number_step h n _ m rest before e = before e
 
-number_bound : (h : List Call) (n : ℕ) (m : Grid) → matrix_numbered h n ≡ Some m → n ≤ proposals h
+pub number_bound : (h : List Call) (n : ℕ) (m : Grid) → matrix_numbered h n ≡ Some m → n ≤ proposals h
 number_bound [] n m e = cc
 number_bound (c ∷ h) n m e = number_step h n c.request m (matrix_numbered h n) (number_bound h n m) e
 
@@ -129,7 +129,7 @@ no_next h =
       | Some m ↦ λ e. let less : proposals h + 1 ≤ proposals h = number_bound h (proposals h + 1) m e in absurd (omega (arith, less))
     ] refl
 
-found_any : {K : Type 0} (R : K → K → Ordering) (q : K) (ks : List K) → is_some (row_at R (λ k. k) q ks) ≡ list_any (eq_by_cmp R q) ks
+pub found_any : {K : Type 0} (R : K → K → Ordering) (q : K) (ks : List K) → is_some (row_at R (λ k. k) q ks) ≡ list_any (eq_by_cmp R q) ks
 found_any R q [] = refl
 found_any R q (k ∷ ks) = elim (eq_by_cmp R q k) as (λ b. is_some (cond b (Some k) (row_at R (λ k. k) q ks)) ≡ (b || list_any (eq_by_cmp R q) ks)) [ true ↦ refl | false ↦ found_any R q ks ]
 
@@ -166,7 +166,7 @@ bands_anew h n no_such m q =
     ∙ ap (λ o. or_else o (band_row h q)) (sym (band_said n m q))
 
 -- Cells, in the same way
-abbrev cell_key_of : ℕ → ℕ → ℕ → CellKey
+abbrev pub cell_key_of : ℕ → ℕ → ℕ → CellKey
 cell_key_of n s b = (n, s, b)
 
 itself_cell : (k : CellKey) → eq_by_cmp cell_cmp k k ≡ true
@@ -182,7 +182,7 @@ in_row n s (x ∷ xs) from (suc i) =
       | inr there ↦ inr (any-later (eq_by_cmp cell_cmp (cell_key_of n s (from + suc i))) (cell_key_of n s from) (map (cell_key_of n s) (range_with_len (from + 1) (length xs))) (ap (λ z. list_any (eq_by_cmp cell_cmp (cell_key_of n s z)) (map (cell_key_of n s) (range_with_len (from + 1) (length xs)))) (let e : from + suc i ≡ from + 1 + i = omega arith in e) ∙ there))
     ]
 
-row_here : (n s b : ℕ) (row : List Cell) → (at_place row b ≡ None) ⊎ (list_any (eq_by_cmp cell_cmp (cell_key_of n s b)) (map (cell_key_of n s) (range_with_len 1 (length row))) ≡ true)
+pub row_here : (n s b : ℕ) (row : List Cell) → (at_place row b ≡ None) ⊎ (list_any (eq_by_cmp cell_cmp (cell_key_of n s b)) (map (cell_key_of n s) (range_with_len 1 (length row))) ≡ true)
 row_here n s zero row = inl refl
 row_here n s (suc i) row =
     elim (in_row n s row 1 i) [

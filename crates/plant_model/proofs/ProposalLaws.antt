@@ -52,7 +52,7 @@ some_draft : (h : List Call) (n : ℕ) (o : Option Draft) → draft h n ≡ o �
 some_draft h n None e is = cc
 some_draft h n (Some d) e is = draft_bound h n d e
 
-accepted_change : (h : List Call) (p : Name) (t m : ℕ) (r : Role) (more : ChangeRow → List (Bool × Refused)) → is_ok (refused_or (first_refusal ((not (holds_some (facts h) t p), NotGranted) ∷ (not (held h t (p, r)), RoleLacking r) ∷ (nat_lt t (last_moment h), MomentBehind (last_moment h)) ∷ of_change (change h m) more)) Done) ≡ true → is_some (change h m) ≡ true
+pub accepted_change : (h : List Call) (p : Name) (t m : ℕ) (r : Role) (more : ChangeRow → List (Bool × Refused)) → is_ok (refused_or (first_refusal ((not (holds_some (facts h) t p), NotGranted) ∷ (not (held h t (p, r)), RoleLacking r) ∷ (nat_lt t (last_moment h), MomentBehind (last_moment h)) ∷ of_change (change h m) more)) Done) ≡ true → is_some (change h m) ≡ true
 accepted_change h p t m r more = known_change (not (holds_some (facts h) t p)) (not (held h t (p, r))) (nat_lt t (last_moment h)) NotGranted (RoleLacking r) (MomentBehind (last_moment h)) (change h m) more Done
 
 said_same : (n m : ℕ) (v d : Decision) → when (same_number n m) v ≡ Some d → n ≡ m
@@ -197,3 +197,8 @@ no_revision h legal a unregistered =
 -- the alarm of a proposed limit is there
 pub limit_there : (h : List Call) → IsLegal h → (n : ℕ) (d : Draft) (b : Name) (max : ℕ) → draft h n ≡ Some d → d.kind ≡ Limit b max → (l : Bool) × (latching h b ≡ Some l)
 limit_there h legal n d b max e is = registered h b (latching h b) refl (latched_of h b ∙ limited_known h legal n d b e (ap (λ k. limited (Some k)) is))
+
+-- a change that is there has its draft
+pub drafted : (h : List Call) (n : ℕ) (o : Option Draft) → draft h n ≡ o → is_some (option_map (change_with h n) o) ≡ true → (d : Draft) × (draft h n ≡ Some d)
+drafted h n None e there = absurd (let no : false ≡ true = there in cc)
+drafted h n (Some d) e there = (d, e)
