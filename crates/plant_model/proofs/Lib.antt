@@ -13,6 +13,7 @@ pub mod EventLists
 pub mod EventLaws
 pub mod ImportLaws
 pub mod AcceptLaws
+pub mod PartLists
 pub mod PartLaws
 pub mod WorldLaws
 pub mod PurgeLaws

@@ -1,31 +1,42 @@
 -- The part that a call looks at gives the verdict, the reply and the changes of all rows.
-use Rattle.plant_model.specs.declared.reply.Reply.TheVariants.{Floods as FloodsOf}
 use Rattle.plant_alarm.specs.Shelves.{is_unshelved, shelf_state}
 use Rattle.plant_alarm.specs.declared.event.Event.{Event}
 use Rattle.plant_alarm.specs.declared.shelf.ShelfState.{ShelfState}
-use Rattle.plant_model.proofs.FactLaws.{not_true}
-use Rattle.plant_model.specs.Events.{events, flood_lines, rows_of_file}
+use Rattle.plant_model.proofs.PartLists.{cells_within, filter-true, itself_number, limits_within, map-same, or_later, or_true, passes_number, row_at-filter, row_at-key, source_found, then-same}
+use Rattle.plant_model.specs.Events.{flood_lines, rows_of_file}
 use Rattle.plant_model.specs.Facts.{Facts, limit_of}
 use Rattle.plant_model.specs.Grants.{is_before}
-use Rattle.plant_model.specs.Parts.{Selection, part_of, selected}
+use Rattle.plant_model.specs.Histories.{same_number}
+use Rattle.plant_model.specs.Parts.{Selection, every, is_source, of_approval, of_content, of_number, of_records, part_of, rows_selected, selected}
 use Rattle.plant_model.specs.Refusals.{first_refusal, holds_some, lacks_role, own_refusals, role_needed}
-use Rattle.plant_model.specs.Replies.{import_reply, reply, status_reply}
+use Rattle.plant_model.specs.Replies.{change_reply, import_reply, record_reply, reply, status_reply}
 use Rattle.plant_model.specs.RowChanges.{changes_for, placed_in, taken_out}
-use Rattle.plant_model.specs.RowFacts.{alarm_tag, facts_from, facts_in, facts_of, pair_of, shelf_tag, unit_read}
-use Rattle.plant_model.specs.Shelves.{shelf, shelf_left, shelf_row_as}
+use Rattle.plant_model.specs.RowFacts.{alarm_tag, change_found, change_number, change_read, facts_in, facts_of, has_cells, kind_read, matrix_read, pair_of, record_found, record_from, record_read, record_tag, sheet_read, shelf_tag, unit_read}
+use Rattle.plant_model.specs.Shelves.{shelf_left, shelf_row_as}
 use Rattle.plant_model.specs.Verdicts.{refused_or, verdict_of}
 use Rattle.plant_model.specs.declared.call.Call.{Call}
 use Rattle.plant_model.specs.declared.call.Request.{Request}
-use Rattle.plant_model.specs.declared.call.Request.TheVariants.{Alarms, Floods, Grant, Import, MyShelves, MyUnits, OneShotShelve, OpenUnit, PlaceInService, Register, RemoveFromService, Shelves, Standing, Status, TimedShelve, Unshelve, Withdraw}
+use Rattle.plant_model.specs.declared.call.Request.TheVariants.{Alarms, Approve, ChangeOf, Floods, Grant, Import, MyShelves, MyUnits, OneShotShelve, OpenUnit, PlaceInService, Propose, RecordOf, Register, Reject, RemoveFromService, Shelves, Standing, Status, TimedShelve, Unshelve, Withdraw, WithdrawChange}
+use Rattle.plant_model.specs.declared.reply.ChangeRow.{ChangeRow}
 use Rattle.plant_model.specs.declared.reply.Full.TheVariants.{Alarms as TooManyAlarms}
-use Rattle.plant_model.specs.declared.reply.Refused.TheVariants.{AlarmTaken, AlarmUnknown, AlreadyOutOfService, ConditionNotShelved, MomentBehind, NotGranted, NotOutOfService, RoleLacking, UnitFull}
+use Rattle.plant_model.specs.declared.reply.RecordRow.{RecordRow}
+use Rattle.plant_model.specs.declared.reply.Refused.TheVariants.{AlarmTaken, AlarmUnknown, AlreadyOutOfService, ConditionNotShelved, MomentBehind, NotGranted, NotOutOfService, RecordUnknown, RoleLacking, UnitFull}
+use Rattle.plant_model.specs.declared.reply.Reply.TheVariants.{Floods as FloodsOf}
 use Rattle.plant_model.specs.declared.rows.AlarmRow.{AlarmRow}
 use Rattle.plant_model.specs.declared.rows.Change.{Change}
 use Rattle.plant_model.specs.declared.rows.Change.TheVariants.{Put}
+use Rattle.plant_model.specs.declared.rows.ChangeEntry.{ChangeEntry}
+use Rattle.plant_model.specs.declared.rows.ChangeTopic.{ChangeTopic}
+use Rattle.plant_model.specs.declared.rows.ChangeTopic.TheVariants.{Limit as LimitTopic, Matrix as MatrixTopic, Record as RecordTopic}
 use Rattle.plant_model.specs.declared.rows.GrantRow.{GrantRow}
+use Rattle.plant_model.specs.declared.rows.RecordEntry.{RecordEntry}
 use Rattle.plant_model.specs.declared.rows.Row.TheVariants.{Alarm as AlarmPut, Shelf as ShelfPut, Unit as UnitPut}
 use Rattle.plant_model.specs.declared.rows.ShelfRow.{ShelfRow}
 use Rattle.plant_model.specs.declared.rows.UnitRows.{UnitRows}
+use Rattle.plant_ration.specs.Grid.{Grid}
+use Rattle.plant_ration.specs.declared.change.ChangeKind.{ChangeKind}
+use Rattle.plant_ration.specs.declared.change.ChangeKind.TheVariants.{Limit, Matrix, Rationale}
+use Rattle.plant_ration.specs.declared.change.Proposal.{Proposal}
 use Rattle.plant_types.proofs.Orders.{then_Equal}
 use Rattle.plant_types.proofs.TableLaws.{tied}
 use Rattle.plant_types.specs.Names.{Name, name_cmp, same_name}
@@ -33,28 +44,11 @@ use Rattle.plant_types.specs.Roles.{pair_cmp, role_no}
 use Rattle.plant_types.specs.Tables.{row_at}
 use Rattle.plant_types.specs.declared.role.Role.{Role}
 use Rattle.plant_types.specs.declared.role.Role.TheVariants.{Approver, Engineer, Maintainer, Operator, Steward, Viewer}
-use Rattle.std.proofs.Common.{ap, refl, sym, ◌∙◌}
+use Rattle.std.proofs.Common.{ap, refl, ◌∙◌}
+use Rattle.std.specs.List.{cons_option, list_any, range_with_len}
 use Rattle.std.specs.Option.{option_to_list}
-use Rattle.std.specs.Ordering.{eq_by_cmp, is_eq, nat_cmp}
-use Rattle.std.specs.Prelude.{Bool, List, None, Option, Some, [], cond, false, filter, is_none, is_some, length, map, max, nat_le, nat_lt, not, option_and_then, option_map, true, unwrap_or, ℕ, ◌++◌, ◌+◌, ◌||◌, ◌∷◌, ◌≡◌}
-use Rattle.std.specs.declared.cmp.Ordering.{Ordering}
-
--- a row stays where its key's rows pass
-row_at-filter : {K X : Type 0} (R : K → K → Ordering) (key : X → K) (k : K) (test : X → Bool) → ((r : X) → eq_by_cmp R k (key r) ≡ true → test r ≡ true) → (rows : List X) → row_at R key k (filter test rows) ≡ row_at R key k rows
-row_at-filter R key k test passes [] = refl
-row_at-filter R key k test passes (r ∷ rows) =
-    elim (test r) as (λ b. test r ≡ b → row_at R key k (cond b (r ∷ filter test rows) (filter test rows)) ≡ cond (eq_by_cmp R k (key r)) (Some r) (row_at R key k rows)) [
-      | true ↦ λ _. ap (cond (eq_by_cmp R k (key r)) (Some r)) (row_at-filter R key k test passes rows)
-      | false ↦ λ no. row_at-filter R key k test passes rows ∙ sym (ap (λ b. cond b (Some r) (row_at R key k rows)) (not_true (eq_by_cmp R k (key r)) (λ e. let t : true ≡ false = sym (passes r e) ∙ no in cc)))
-    ] refl
-
-filter-true : {X : Type 0} (xs : List X) → filter (λ x. true) xs ≡ xs
-filter-true [] = refl
-filter-true (x ∷ xs) = ap (λ ys. x ∷ ys) (filter-true xs)
-
-or_true : (a b : Bool) → a ≡ true → (a || b) ≡ true
-or_true true b e = refl
-or_true false b e = cc
+use Rattle.std.specs.Ordering.{is_eq, nat_cmp}
+use Rattle.std.specs.Prelude.{Bool, List, None, Option, Some, [], cond, false, filter, filter_map, is_none, is_some, length, map, nat_le, nat_lt, not, option_and_then, option_map, true, unwrap_or, ℕ, ◌++◌, ◌+◌, ◌||◌, ◌∷◌, ◌≡◌}
 
 or_every : (a : Bool) → (a || true) ≡ true
 or_every true = refl
@@ -74,6 +68,9 @@ own_grant p s r grants =
 abbrev held_by_row : ℕ → Option GrantRow → Bool
 held_by_row t o = unwrap_or (option_map (λ (g : GrantRow). is_before t g.end_s) o) false
 
+abbrev rev_in : Option RecordEntry → ℕ
+rev_in o = unwrap_or (option_map (λ (r : RecordEntry). r.rev) o) 0
+
 module _ (rows : UnitRows) (p : Name) (t : ℕ) where
   abbrev asked : Request → Call
   asked q = record { person = p; moment = t; request = q }
@@ -82,7 +79,7 @@ module _ (rows : UnitRows) (p : Name) (t : ℕ) where
   of_part q = facts_in (part_of (asked q) rows)
 
   own_held : (q : Request) (r : Role) → (of_part q).held t (p, r) ≡ (facts_of rows).held t (p, r)
-  own_held q r = ap (held_by_row t) (own_grant p (selected q) r rows.grants)
+  own_held q r = ap (held_by_row t) (own_grant p (selected rows q) r rows.grants)
 
   own_roles : (q : Request) → holds_some (of_part q) t p ≡ holds_some (facts_of rows) t p
   unfolding holds_some
@@ -98,35 +95,140 @@ module _ (rows : UnitRows) (p : Name) (t : ℕ) where
   shelf_there : (a : Name) → row_at name_cmp shelf_tag a (filter (λ (r : ShelfRow). same_name a r.tag) rows.shelves) ≡ row_at name_cmp shelf_tag a rows.shelves
   shelf_there a = row_at-filter name_cmp shelf_tag a (λ r. same_name a r.tag) (λ r e. e) rows.shelves
 
+  entry_there : (a : Name) → row_at name_cmp record_tag a (filter (λ (r : RecordEntry). same_name a r.tag) rows.records) ≡ record_found rows a
+  entry_there a = row_at-filter name_cmp record_tag a (λ r. same_name a r.tag) (λ r e. e) rows.records
+
   abbrev state_now : Option AlarmRow → Option ShelfRow → ShelfState
   state_now alarm shelf = shelf_state (shelf_left shelf) (option_and_then (λ r. r.return_s) alarm) t
 
   abbrev removed : Option AlarmRow → Bool
   removed o = unwrap_or (option_map (λ r. is_some r.out_s) o) false
 
-  -- the facts of these grants, or of these alarms and shelves, among the rows
+  -- Matrices, changes and records of the numbers that are selected
+  module _ (s : Selection) where
+    abbrev within : UnitRows
+    within = rows_selected p s rows
+
+    matrix_there : (n : ℕ) → s.matrix n ≡ true → matrix_read within n ≡ matrix_read rows n
+    matrix_there n holds = λ i. record {
+      limits = map (λ b. b.limit_s) (limits_within s.matrix n holds rows.bands i);
+      cells = filter has_cells (map (λ severity. cells_within s.matrix n holds rows.cells severity i) (range_with_len 1 5));
+    }
+
+    content_there : (c : ChangeEntry) (k : ChangeTopic) → s.matrix c.number ≡ true → kind_read within c k ≡ kind_read rows c k
+    content_there c RecordTopic holds = refl
+    content_there c MatrixTopic holds = ap (λ m. Matrix m) (matrix_there c.number holds)
+    content_there c LimitTopic holds = refl
+
+    found_there : (n : ℕ) → s.change n ≡ true → change_found within n ≡ change_found rows n
+    found_there n holds = row_at-filter nat_cmp change_number n (λ r. s.change r.number) (λ r e. passes_number s.change n r.number holds e) rows.changes
+
+    change_there : (n : ℕ) → s.change n ≡ true → s.matrix n ≡ true → option_map (change_read within) (change_found within n) ≡ option_map (change_read rows) (change_found rows n)
+    change_there n chosen holds =
+        ap (option_map (change_read within)) (found_there n chosen)
+        ∙ map-same (change_read within) (change_read rows) (change_found rows n)
+        (λ c e i. record (change_read rows c) { kind = content_there c c.kind_no (passes_number s.matrix n c.number holds (row_at-key nat_cmp change_number n rows.changes c e)) i })
+
+    record_there : (r : RecordEntry) → s.change r.change_no ≡ true → record_read within r ≡ record_read rows r
+    record_there r chosen = ap (option_map (λ c. record_from r (sheet_read c))) (found_there r.change_no chosen)
+
+    -- all records, where their sources are selected
+    records_read : (records : List RecordEntry) → ((n : ℕ) → list_any (λ (r : RecordEntry). same_number n r.change_no) records ≡ true → s.change n ≡ true) → filter_map (record_read within) records ≡ filter_map (record_read rows) records
+    records_read [] chosen = refl
+    records_read (r ∷ records) chosen =
+        ap (λ o. cons_option o (filter_map (record_read within) records)) (record_there r (chosen r.change_no (or_true _ _ (itself_number r.change_no))))
+        ∙ ap (cons_option (record_read rows r)) (records_read records (λ n e. chosen n (or_later _ _ e)))
+
+    records_there : ((n : ℕ) → is_source rows every n ≡ true → s.change n ≡ true) → filter_map (record_read within) (filter (λ (r : RecordEntry). true) rows.records) ≡ filter_map (record_read rows) rows.records
+    records_there chosen = ap (filter_map (record_read within)) (filter-true rows.records) ∙ records_read rows.records chosen
+
+  -- the record of one alarm
+  rationale_there : (a : Name) (s : Selection) → ((n : ℕ) → is_source rows (same_name a) n ≡ true → s.change n ≡ true) → option_and_then (record_read (within s)) (row_at name_cmp record_tag a (filter (λ (r : RecordEntry). same_name a r.tag) rows.records)) ≡ option_and_then (record_read rows) (record_found rows a)
+  rationale_there a s chosen =
+      ap (option_and_then (record_read (within s))) (entry_there a)
+      ∙ then-same (record_read (within s)) (record_read rows) (record_found rows a) (λ r e. record_there s r (chosen r.change_no (source_found a rows.records r e)))
+
+  -- the facts of these grants, alarms, shelves, events and records among the rows
   abbrev with_grants : List GrantRow → Facts
-  with_grants grants = facts_from (record rows { grants = grants }) 0
+  with_grants grants = facts_of (record rows { grants = grants })
 
   abbrev with_shelves : List AlarmRow → List ShelfRow → Facts
-  with_shelves alarms shelves = facts_from (record rows { alarms = alarms; shelves = shelves }) 0
+  with_shelves alarms shelves = facts_of (record rows { alarms = alarms; shelves = shelves })
 
   abbrev with_events : List AlarmRow → List Event → Facts
-  with_events alarms events = facts_from (record rows { alarms = alarms; events = events }) 0
+  with_events alarms es = facts_of (record rows { alarms = alarms; events = es })
 
-  own_same : (q : Request) → own_refusals (of_part q) t q ≡ own_refusals (facts_of rows) t q
+  abbrev with_records : List AlarmRow → List ShelfRow → List RecordEntry → Facts
+  with_records alarms shelves records = facts_of (record rows { alarms = alarms; shelves = shelves; records = records })
+
+  -- the facts with what is read of one alarm, of one change, of all records or for an approval
+  abbrev with_content : Option AlarmRow → Option RecordEntry → Grid → Facts
+  with_content alarm entry m = record (facts_of rows) { alarm = λ a. alarm; revision = λ a. rev_in entry; matrix = m }
+
+  abbrev with_change : Option ChangeRow → Facts
+  with_change c = record (facts_of rows) { change = λ n. c }
+
+  abbrev with_rationales : List RecordRow → Facts
+  with_rationales records = record (facts_of rows) { rationales = records }
+
+  abbrev with_approval : Option ChangeRow → List AlarmRow → List RecordEntry → List RecordRow → Grid → Facts
+  with_approval c alarms entries records m =
+      record (facts_of (record rows { alarms = alarms; records = entries })) { rationales = records; matrix = m; change = λ n. c }
+
+  -- a change of a number, and what an approval of it looks at
+  numbered_there : (n : ℕ) → option_map (change_read (within (of_number n))) (change_found (within (of_number n)) n) ≡ option_map (change_read rows) (change_found rows n)
+  numbered_there n = change_there (of_number n) n (itself_number n) (itself_number n)
+
+  approved_there : (n : ℕ) → option_map (change_read (within (of_approval rows n))) (change_found (within (of_approval rows n)) n) ≡ option_map (change_read rows) (change_found rows n)
+  approved_there n = change_there (of_approval rows n) n (or_later _ _ (itself_number n)) (or_later _ _ (itself_number n))
+
+  abbrev approval_facts : ℕ → Facts
+  approval_facts n = with_approval
+      (option_map (change_read (within (of_approval rows n))) (change_found (within (of_approval rows n)) n))
+      (filter (λ r. true) rows.alarms)
+      (filter (λ r. true) rows.records)
+      (filter_map (record_read (within (of_approval rows n))) (filter (λ r. true) rows.records))
+      (matrix_read (within (of_approval rows n)) (unit_read rows).matrix_no)
+
+  approval_same : (n : ℕ) → approval_facts n ≡ with_change (option_map (change_read rows) (change_found rows n))
+  approval_same n = λ i. with_approval
+      (approved_there n i)
+      (filter-true rows.alarms i)
+      (filter-true rows.records i)
+      (records_there (of_approval rows n) (λ m e. or_true _ _ e) i)
+      (matrix_there (of_approval rows n) (unit_read rows).matrix_no (or_true _ _ (itself_number (unit_read rows).matrix_no)) i)
+
+  -- what a proposal looks at, by its kind
+  abbrev proposal : ChangeKind → ℕ → Proposal
+  proposal k base = record { kind = k; base = base }
+
+  content_matrix : (a : Name) → matrix_read (within (of_content rows a)) (unit_read rows).matrix_no ≡ matrix_read rows (unit_read rows).matrix_no
+  content_matrix a = matrix_there (of_content rows a) (unit_read rows).matrix_no (itself_number (unit_read rows).matrix_no)
+
+  proposal_same : (u : Name) (k : ChangeKind) (base : ℕ) → own_refusals (of_part (Propose u (proposal k base))) p t (Propose u (proposal k base)) ≡ own_refusals (facts_of rows) p t (Propose u (proposal k base))
+  proposal_same u (Rationale a s) base = λ i. own_refusals (with_content (alarm_there a i) (entry_there a i) (content_matrix a i)) p t (Propose u (proposal (Rationale a s) base))
+  proposal_same u (Matrix m) base = ap (λ records. own_refusals (with_rationales records) p t (Propose u (proposal (Matrix m) base))) (records_there (of_records rows) (λ n e. e))
+  proposal_same u (Limit a max) base = λ i. own_refusals (with_content (alarm_there a i) (entry_there a i) (content_matrix a i)) p t (Propose u (proposal (Limit a max) base))
+
+  own_same : (q : Request) → own_refusals (of_part q) p t q ≡ own_refusals (facts_of rows) p t q
   own_same (OpenUnit u s m k) = refl
-  own_same (Grant u q r) = ap (λ gs. own_refusals (with_grants gs) t (Grant u q r)) (all_grants p rows.grants)
-  own_same (Withdraw u q r) = ap (λ gs. own_refusals (with_grants gs) t (Withdraw u q r)) (all_grants p rows.grants)
+  own_same (Grant u q r) = ap (λ gs. own_refusals (with_grants gs) p t (Grant u q r)) (all_grants p rows.grants)
+  own_same (Withdraw u q r) = ap (λ gs. own_refusals (with_grants gs) p t (Withdraw u q r)) (all_grants p rows.grants)
   own_same (Register u a l max) = ap (λ o. (nat_le 2000 (length rows.alarms), UnitFull TooManyAlarms) ∷ (is_some o, AlarmTaken) ∷ []) (alarm_there a)
-  own_same (Import u file) = λ i. own_refusals (with_events (filter-true rows.alarms i) (filter-true rows.events i)) t (Import u file)
+  own_same (Import u file) = λ i. own_refusals (with_events (filter-true rows.alarms i) (filter-true rows.events i)) p t (Import u file)
   own_same (Floods u begin until) = refl
-  own_same (TimedShelve u a d w) = λ i. own_refusals (with_shelves (filter-true rows.alarms i) (filter-true rows.shelves i)) t (TimedShelve u a d w)
-  own_same (OneShotShelve u a w) = λ i. own_refusals (with_shelves (filter-true rows.alarms i) (filter-true rows.shelves i)) t (OneShotShelve u a w)
+  own_same (TimedShelve u a d w) = λ i. own_refusals (with_shelves (filter-true rows.alarms i) (filter-true rows.shelves i)) p t (TimedShelve u a d w)
+  own_same (OneShotShelve u a w) = λ i. own_refusals (with_shelves (filter-true rows.alarms i) (filter-true rows.shelves i)) p t (OneShotShelve u a w)
   own_same (Unshelve u a) = λ i. (is_none (alarm_there a i), AlarmUnknown) ∷ (is_unshelved (state_now (alarm_there a i) (shelf_there a i)), ConditionNotShelved) ∷ []
   own_same (RemoveFromService u a w) = ap (λ o. (is_none o, AlarmUnknown) ∷ (removed o, AlreadyOutOfService) ∷ []) (alarm_there a)
   own_same (PlaceInService u a) = ap (λ o. (is_none o, AlarmUnknown) ∷ (not (removed o), NotOutOfService) ∷ []) (alarm_there a)
+  own_same (Propose u x) = proposal_same u x.kind x.base
+  own_same (WithdrawChange u n) = ap (λ c. own_refusals (with_change c) p t (WithdrawChange u n)) (numbered_there n)
+  own_same (Approve u n) = ap (λ f. own_refusals f p t (Approve u n)) (approval_same n)
+  own_same (Reject u n) = ap (λ c. own_refusals (with_change c) p t (Reject u n)) (numbered_there n)
   own_same (Status u a) = ap (λ o. (is_none o, AlarmUnknown) ∷ []) (alarm_there a)
+  own_same (RecordOf u a) = λ i. (is_none (alarm_there a i), AlarmUnknown) ∷ (is_none (rationale_there a (selected rows (RecordOf u a)) (λ n e. e) i), RecordUnknown) ∷ []
+  own_same (ChangeOf u n) = ap (λ c. own_refusals (with_change c) p t (ChangeOf u n)) (numbered_there n)
   own_same (Shelves u) = refl
   own_same (Alarms u) = refl
   own_same (Standing u) = refl
@@ -145,10 +247,16 @@ module _ (rows : UnitRows) (p : Name) (t : ℕ) where
   reply_same (Unshelve u a) = refl
   reply_same (RemoveFromService u a w) = refl
   reply_same (PlaceInService u a) = refl
+  reply_same (Propose u x) = refl
+  reply_same (WithdrawChange u n) = refl
+  reply_same (Approve u n) = refl
+  reply_same (Reject u n) = refl
   reply_same (Status u a) = λ i. status_reply (alarm_there a i) (state_now (alarm_there a i) (shelf_there a i))
+  reply_same (RecordOf u a) = ap record_reply (rationale_there a (selected rows (RecordOf u a)) (λ n e. e))
+  reply_same (ChangeOf u n) = ap change_reply (numbered_there n)
   reply_same (Shelves u) = λ i. reply (with_shelves (filter-true rows.alarms i) (filter-true rows.shelves i)) t (Shelves u)
-  reply_same (Alarms u) = λ i. reply (with_shelves (filter-true rows.alarms i) (filter-true rows.shelves i)) t (Alarms u)
-  reply_same (Standing u) = λ i. reply (with_shelves (filter-true rows.alarms i) (filter-true rows.shelves i)) t (Standing u)
+  reply_same (Alarms u) = λ i. reply (with_records (filter-true rows.alarms i) (filter-true rows.shelves i) (filter-true rows.records i)) t (Alarms u)
+  reply_same (Standing u) = λ i. reply (with_records (filter-true rows.alarms i) (filter-true rows.shelves i) (filter-true rows.records i)) t (Standing u)
   reply_same MyUnits = refl
   reply_same MyShelves = refl
 
@@ -176,7 +284,13 @@ module _ (rows : UnitRows) (p : Name) (t : ℕ) where
   part_changes (Unshelve u a) = refl
   part_changes (RemoveFromService u a w) = ap (alarm_changed (taken_out p t w)) (alarm_there a)
   part_changes (PlaceInService u a) = ap (alarm_changed placed_in) (alarm_there a)
+  part_changes (Propose u x) = refl
+  part_changes (WithdrawChange u n) = ap (λ c. changes_for (with_change c) (asked (WithdrawChange u n))) (numbered_there n)
+  part_changes (Approve u n) = ap (λ f. changes_for f (asked (Approve u n))) (approval_same n)
+  part_changes (Reject u n) = ap (λ c. changes_for (with_change c) (asked (Reject u n))) (numbered_there n)
   part_changes (Status u a) = refl
+  part_changes (RecordOf u a) = refl
+  part_changes (ChangeOf u n) = refl
   part_changes (Shelves u) = refl
   part_changes (Alarms u) = refl
   part_changes (Standing u) = refl
