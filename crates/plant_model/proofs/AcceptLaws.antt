@@ -1,5 +1,4 @@
 -- What the acceptance of a call says, and that an accepted call's changes turn the rows of the history.
-use Rattle.plant_import.proofs.Placed.{there}
 use Rattle.plant_model.proofs.Base.{base, x}
 use Rattle.plant_model.proofs.DecisionLaws.{approve_limit_turns, approve_matrix_turns, approve_sheet_turns, propose_limit_turns, propose_matrix_turns, propose_sheet_turns, reject_turns, withdraw_change_turns}
 use Rattle.plant_model.proofs.ProposalLaws.{accepted_change, drafted, limit_there, next_undecided}

@@ -1,11 +1,8 @@
 -- Imports that bring the same rows leave the same rows.
-use Rattle.plant_import.proofs.Nearest.{parts}
 use Rattle.plant_import.proofs.Placed.{there}
 use Rattle.plant_model.proofs.Base.{x}
 use Rattle.plant_model.specs.Changes.{limit_revision}
 use Rattle.plant_model.specs.Parts.{none}
-use Rattle.plant_model.specs.Verdicts.{after}
-use Rattle.std.specs.FinMap.Entries.{find as found}
 use Rattle.plant_import.proofs.Counted.{fresh_count}
 use Rattle.plant_model.specs.declared.reply.Full.TheVariants.{Events as TooManyEvents}
 use Rattle.plant_alarm.specs.declared.event.Event.{Event}

@@ -1,6 +1,6 @@
 -- The changes that a call makes turn the rows of the history into those of the history with the call.
 use Rattle.plant_types.proofs.TableLaws.{IsInOrder-rows, Tells, row_at-rows, same_rows}
-use Rattle.plant_model.proofs.Base.{cells, x}
+use Rattle.plant_model.proofs.Base.{x}
 use Rattle.plant_model.specs.Changes.{limit_revision}
 use Rattle.plant_types.specs.Tables.{in_order, put_row}
 use Rattle.std.proofs.Common.{sym}

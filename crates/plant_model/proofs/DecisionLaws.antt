@@ -3,7 +3,7 @@ use Rattle.plant_import.proofs.Placed.{there}
 use Rattle.plant_model.proofs.ChangeLaws.{rows-same, with_request}
 use Rattle.plant_types.proofs.Orders.{same_names, same_numbers}
 use Rattle.plant_types.proofs.TableLaws.{put-rows, tied}
-use Rattle.plant_model.proofs.Base.{base, cells, x}
+use Rattle.plant_model.proofs.Base.{base, x}
 use Rattle.plant_model.proofs.ChangeLaws.{Turns, put_row-map, said_anew}
 use Rattle.plant_model.proofs.HistoryLaws.{alarm_of, alarms_told, change_with, changes_told, numbers_of_changes, record_with, records_told, tag_of_record, tags_of_alarms, tags_of_records}
 use Rattle.plant_model.proofs.MatrixLaws.{band_keys, bands_anew, bands_told, cell_keys, cells_anew, cells_told, no_next}

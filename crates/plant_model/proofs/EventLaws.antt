@@ -1,10 +1,8 @@
 -- In a legal history the kept events fit, rise, and are of alarms that are registered.
-use Rattle.plant_import.proofs.Nearest.{parts}
 use Rattle.plant_import.proofs.Placed.{there}
 use Rattle.plant_model.proofs.Base.{x}
 use Rattle.plant_model.proofs.ProposalLaws.{no_revision}
 use Rattle.plant_model.specs.Parts.{none}
-use Rattle.plant_model.specs.Worlds.{answer}
 use Rattle.plant_model.specs.declared.reply.Full.TheVariants.{Events as TooManyEvents}
 use Rattle.plant_alarm.specs.declared.event.Event.{Event}
 use Rattle.plant_floods.specs.Activations.{of_alarm}

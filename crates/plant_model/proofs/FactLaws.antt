@@ -34,7 +34,7 @@ use Rattle.plant_model.proofs.HistoryLaws.{alarms_told, grants_told, pairs_of, s
 use Rattle.plant_model.specs.Facts.{facts}
 use Rattle.plant_model.specs.Grants.{held, is_before, standing, stands}
 use Rattle.plant_model.specs.Histories.{same_number}
-use Rattle.plant_model.specs.RowFacts.{alarm_tag, facts_of, pair_of, shelf_tag}
+use Rattle.plant_model.specs.RowFacts.{alarm_tag, pair_of, shelf_tag}
 use Rattle.plant_model.specs.Rows.{alarm_row, alarm_rows, grant_as, grant_row, grant_rows, rows_of, shelf_rows}
 use Rattle.plant_model.specs.Shelves.{shelf}
 use Rattle.plant_types.proofs.Orders.{number_total, same_numbers}

@@ -3,7 +3,6 @@ use Rattle.plant_import.proofs.Placed.{there}
 use Rattle.plant_model.proofs.Base.{x}
 use Rattle.plant_model.specs.Changes.{limit_revision}
 use Rattle.plant_model.specs.Parts.{none}
-use Rattle.std.specs.FinMap.Entries.{find as found}
 use Rattle.plant_model.specs.declared.rows.Row.TheVariants.{Unit as UnitPut}
 use Rattle.plant_model.proofs.EventLaws.{now}
 use Rattle.plant_alarm.specs.declared.event.Event.{Event}

@@ -9,6 +9,7 @@ pub mod DecisionLaws
 pub mod ServiceLaws
 pub mod ProposalLaws
 pub mod ReadLaws
+pub mod CountLaws
 pub mod EventLists
 pub mod EventLaws
 pub mod ImportLaws

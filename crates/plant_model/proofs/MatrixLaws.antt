@@ -2,7 +2,6 @@
 use Rattle.plant_import.proofs.Placed.{there}
 use Rattle.plant_model.proofs.Base.{x}
 use Rattle.plant_model.specs.Changes.{is_proposal, matrix_in, proposals}
-use Rattle.plant_model.specs.Parts.{nothing}
 use Rattle.plant_model.specs.declared.call.Request.{Request}
 use Rattle.plant_model.specs.declared.call.Request.TheVariants.{OpenUnit, Propose}
 use Rattle.plant_ration.specs.declared.change.ChangeKind.{ChangeKind}

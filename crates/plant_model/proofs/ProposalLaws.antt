@@ -1,7 +1,7 @@
 -- In a legal history only what was proposed is decided, each limit that was proposed is of a registered alarm, and there are as many rows
 -- of changes as proposals.
 use Rattle.plant_import.proofs.Placed.{there}
-use Rattle.plant_model.proofs.Base.{base, plain, x}
+use Rattle.plant_model.proofs.Base.{base, x}
 use Rattle.plant_model.proofs.FactLaws.{draft_bound, none_counted, same_number_of}
 use Rattle.plant_model.proofs.HistoryLaws.{alarm_of, change_with, when_Some}
 use Rattle.plant_model.proofs.ServiceLaws.{both_true, is_some-map, registered}
@@ -11,7 +11,6 @@ use Rattle.plant_model.specs.Facts.{facts, limit_revision_of}
 use Rattle.plant_model.specs.Grants.{held}
 use Rattle.plant_model.specs.Histories.{last_moment, latest, same_number}
 use Rattle.plant_model.specs.Legality.{IsLegal}
-use Rattle.plant_model.specs.Parts.{none}
 use Rattle.plant_model.specs.Refusals.{base_changed, first_refusal, holds_some, kind_refusals, of_change}
 use Rattle.plant_model.specs.Rows.{alarm_row}
 use Rattle.plant_model.specs.Verdicts.{changes_history, is_opening, refused_or, verdict}

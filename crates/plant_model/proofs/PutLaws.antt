@@ -1,11 +1,9 @@
 -- Rows that are put one after another.
 use Rattle.plant_model.proofs.Base.{x}
-use Rattle.plant_model.specs.Parts.{none}
 use Rattle.plant_model.specs.RowFacts.{record_tag}
 use Rattle.plant_model.specs.declared.reply.RecordRow.{RecordRow}
 use Rattle.plant_model.specs.declared.rows.RecordEntry.{RecordEntry}
 use Rattle.plant_model.specs.declared.rows.Row.TheVariants.{Record as RecordPut}
-use Rattle.std.specs.Prelude.{◌+◌}
 use Rattle.plant_alarm.specs.declared.event.Event.{Event}
 use Rattle.plant_model.specs.Matrices.{band_cmp, cell_cmp}
 use Rattle.plant_model.specs.RowChanges.{changed_by, put}

@@ -1,8 +1,6 @@
 -- A quota of 2,000 refuses nothing in a legal history: there are at most 2,000 alarms, and each shelf is of one of them.
 use Rattle.plant_import.proofs.Placed.{there}
 use Rattle.plant_model.proofs.Base.{x}
-use Rattle.plant_model.specs.Histories.{counted}
-use Rattle.plant_model.specs.RowChanges.{put}
 use Rattle.plant_model.specs.declared.call.Request.TheVariants.{Approve}
 use Rattle.plant_alarm.specs.Shelves.{is_one_shot, is_timed, is_unshelved, shelf_state}
 use Rattle.plant_model.proofs.ChangeLaws.{register_turns}

@@ -9,7 +9,6 @@ use Rattle.plant_model.specs.Facts.{facts}
 use Rattle.plant_model.specs.Histories.{latest}
 use Rattle.plant_model.specs.Legality.{IsLegal, has_matrix, is_matrix_kind, may_follow}
 use Rattle.plant_model.specs.Matrices.{numbered_matrix, when_number}
-use Rattle.plant_model.specs.RowChanges.{put}
 use Rattle.plant_model.specs.RowFacts.{facts_from, facts_of}
 use Rattle.plant_model.specs.Rows.{alarm_rows, change_entry, change_rows, changes_of}
 use Rattle.plant_model.specs.Verdicts.{is_opening}
@@ -23,8 +22,7 @@ use Rattle.plant_types.specs.Options.{or_else, when}
 use Rattle.plant_types.specs.Tables.{put_row}
 use Rattle.std.specs.FinMap.Entries.{by_order}
 use Rattle.std.specs.Ordering.{is_eq}
-use Rattle.std.specs.Prelude.{is_some, max, not, pos}
-use Rattle.plant_import.proofs.Nearest.{parts}
+use Rattle.std.specs.Prelude.{is_some, max, not}
 use Rattle.plant_import.proofs.Placed.{there}
 use Rattle.plant_model.proofs.Base.{at, x}
 use Rattle.plant_model.proofs.FactLaws.{is_same_number, same_number_of}
@@ -44,10 +42,10 @@ use Rattle.plant_ration.specs.Matrix.{is_matrix}
 use Rattle.plant_ration.specs.declared.cell.Cell.{Cell}
 use Rattle.plant_types.proofs.TableLaws.{IsInOrder-rows, IsInOrder-told, Tells, row_at-rows, row_at-told, same_rows, settled, tied}
 use Rattle.plant_types.specs.Tables.{IsInOrder, in_order, row_at}
-use Rattle.std.proofs.Common.{eqb→eq, T, ap, append_assoc, arith, cond, eqb, inl, inr, length-append, refl, subst, sym, ◌∙◌, ◌⊎◌}
+use Rattle.std.proofs.Common.{eqb→eq, T, ap, append_assoc, arith, cond, inl, inr, length-append, refl, subst, sym, ◌∙◌, ◌⊎◌}
 use Rattle.std.proofs.lemmas.Bool.Decides.{nat_tests}
 use Rattle.std.specs.Cmp.{IsTotalOrder}
-use Rattle.std.specs.FinMap.{get, keys}
+use Rattle.std.specs.FinMap.{get}
 use Rattle.std.specs.FinMap.Entries.{below_all}
 use Rattle.std.specs.List.{cons_option, enumerate_from, list_all, list_any, range_with_len, slice_get}
 use Rattle.std.specs.Ordering.{eq_by_cmp, is_lt, nat_cmp, ordering_then}
@@ -107,7 +105,7 @@ module _ {K X : Type 0} (R : K → K → Ordering) (key : X → K) where
     left_rows told ks t row places at_key rise among is =
         same_rows R key o same _ _ (left_in_order (λ r. test (key r)) _ (IsInOrder-rows told ks t)) (IsInOrder-told R key o same row at_key places rise)
         (λ q. row_at-left q _ ∙ ap (λ x. cond (test q) x None) (row_at-rows told ks t q) ∙ is q
-            ∙ sym (row_at-told R key o same row at_key q places ∙ ap (λ b. cond b (row q) None) (found_any R q places) ∙ settled _ _ (among q)))
+        ∙ sym (row_at-told R key o same row at_key q places ∙ ap (λ b. cond b (row q) None) (found_any R q places) ∙ settled _ _ (among q)))
 
 -- The elements of a list, one for each of its places
 get-after : {A : Type 0} (pre : List A) (x : A) (post : List A) → slice_get (pre ++ x ∷ post) (length pre) ≡ Some x
@@ -168,30 +166,30 @@ module _ (h : List Call) (n : ℕ) (m : Grid) (numbered : matrix_numbered h n �
 
   band_kept : (q : BandKey) (r : BandRow) → at_band q ≡ Some r → band_key r ≡ q
   band_kept q r e = elim (same_number n q.0) as (λ b. cond b (band_at q m) None ≡ Some r → band_key r ≡ q) [
-      | true ↦ λ is. mapped_key band_key (λ l. record { matrix_no = q.0; band_no = q.1; limit_s = l }) q (at_place m.limits q.1) r (λ x. refl) is
-      | false ↦ λ no. cc
-    ] e
+    | true ↦ λ is. mapped_key band_key (λ l. record { matrix_no = q.0; band_no = q.1; limit_s = l }) q (at_place m.limits q.1) r (λ x. refl) is
+    | false ↦ λ no. cc
+  ] e
 
   band_among : (q : BandKey) → (at_band q ≡ None) ⊎ (list_any (eq_by_cmp band_cmp q) (band_places n m) ≡ true)
   band_among q = elim (same_number n q.0) as (λ b. same_number n q.0 ≡ b → (cond b (band_at q m) None ≡ None) ⊎ (list_any (eq_by_cmp band_cmp q) (band_places n m) ≡ true)) [
-      | true ↦ λ s. subst (λ k. (band_at q m ≡ None) ⊎ (list_any (eq_by_cmp band_cmp q) (band_places k m) ≡ true)) (sym (same_number_of n q.0 s)) (band_here q.0 q.1 m)
-      | false ↦ λ _. inl refl
-    ] refl
+    | true ↦ λ s. subst (λ k. (band_at q m ≡ None) ⊎ (list_any (eq_by_cmp band_cmp q) (band_places k m) ≡ true)) (sym (same_number_of n q.0 s)) (band_here q.0 q.1 m)
+    | false ↦ λ _. inl refl
+  ] refl
 
   band_told : (q : BandKey) → cond (same_number n q.0) (band_row h q) None ≡ at_band q
   band_told q = elim (same_number n q.0) as (λ b. same_number n q.0 ≡ b → cond b (band_row h q) None ≡ cond b (band_at q m) None) [
-      | true ↦ λ s. ap (λ k. option_and_then (band_at q) (matrix_numbered h k)) (sym (same_number_of n q.0 s)) ∙ ap (option_and_then (band_at q)) numbered
-      | false ↦ λ _. refl
-    ] refl
+    | true ↦ λ s. ap (λ k. option_and_then (band_at q) (matrix_numbered h k)) (sym (same_number_of n q.0 s)) ∙ ap (option_and_then (band_at q)) numbered
+    | false ↦ λ _. refl
+  ] refl
 
   limits_back : map (λ (b : BandRow). b.limit_s) (filter (λ (b : BandRow). same_number n b.matrix_no) (band_rows h)) ≡ m.limits
   unfolding band_make
   limits_back =
       ap (map (λ (b : BandRow). b.limit_s)) (
-        left_rows band_cmp band_key band_total same_bands (λ k. same_number n k.0) (band_row h) (band_keys h) (bands_told h) at_band (band_places n m) band_kept (places_rise band_cmp (band_key_of n) (band_below n) 1 (length m.limits)) band_among band_told
-        ∙ filter_map-map at_band (band_key_of n) (range_with_len 1 (length m.limits))
-        ∙ (λ i. filter_map (λ b. cond (is_same_number n i) (option_map (band_make b) (at_place m.limits b)) None) (range_with_len 1 (length m.limits)))
-        ∙ listed band_make m.limits [] m.limits 1 refl refl)
+      left_rows band_cmp band_key band_total same_bands (λ k. same_number n k.0) (band_row h) (band_keys h) (bands_told h) at_band (band_places n m) band_kept (places_rise band_cmp (band_key_of n) (band_below n) 1 (length m.limits)) band_among band_told
+      ∙ filter_map-map at_band (band_key_of n) (range_with_len 1 (length m.limits))
+      ∙ (λ i. filter_map (λ b. cond (is_same_number n i) (option_map (band_make b) (at_place m.limits b)) None) (range_with_len 1 (length m.limits)))
+      ∙ listed band_make m.limits [] m.limits 1 refl refl)
       ∙ told_back band_make (λ (b : BandRow). b.limit_s) (λ b x. refl) m.limits 1
 
   module _ (s : ℕ) where
@@ -209,9 +207,9 @@ module _ (h : List Call) (n : ℕ) (m : Grid) (numbered : matrix_numbered h n �
 
     cell_kept : (q : CellKey) (r : CellRow) → at_cell q ≡ Some r → cell_key r ≡ q
     cell_kept q r e = elim (is_cell q) as (λ b. cond b (option_map (λ c. record { matrix_no = q.0; severity = q.1; band_no = q.2; cell_no = c }) (at_place row_there q.2)) None ≡ Some r → cell_key r ≡ q) [
-        | true ↦ λ is. mapped_key cell_key (λ c. record { matrix_no = q.0; severity = q.1; band_no = q.2; cell_no = c }) q (at_place row_there q.2) r (λ x. refl) is
-        | false ↦ λ no. cc
-      ] e
+      | true ↦ λ is. mapped_key cell_key (λ c. record { matrix_no = q.0; severity = q.1; band_no = q.2; cell_no = c }) q (at_place row_there q.2) r (λ x. refl) is
+      | false ↦ λ no. cc
+    ] e
 
     cell_keyed : (q : CellKey) → is_cell q ≡ true → (n ≡ q.0) × (s ≡ q.1)
     cell_keyed q e = let parts = both_true (same_number n q.0) (same_number s q.1) e in (same_number_of n q.0 parts.0, same_number_of s q.1 parts.1)
@@ -228,9 +226,9 @@ module _ (h : List Call) (n : ℕ) (m : Grid) (numbered : matrix_numbered h n �
 
     cell_among : (q : CellKey) → (at_cell q ≡ None) ⊎ (list_any (eq_by_cmp cell_cmp q) cell_range ≡ true)
     cell_among q = elim (is_cell q) as (λ b. is_cell q ≡ b → (cond b (cell_made q) None ≡ None) ⊎ (list_any (eq_by_cmp cell_cmp q) cell_range ≡ true)) [
-        | true ↦ λ t. among_of q (cell_keyed q t).0 (cell_keyed q t).1 (row_here n s q.2 row_there)
-        | false ↦ λ _. inl refl
-      ] refl
+      | true ↦ λ t. among_of q (cell_keyed q t).0 (cell_keyed q t).1 (row_here n s q.2 row_there)
+      | false ↦ λ _. inl refl
+    ] refl
 
     row_of_place : (o : Option (List Cell)) (b : ℕ) → option_and_then (λ row. at_place row b) o ≡ at_place (unwrap_or o []) b
     row_of_place (Some row) b = refl
@@ -239,12 +237,12 @@ module _ (h : List Call) (n : ℕ) (m : Grid) (numbered : matrix_numbered h n �
 
     cell_told : (q : CellKey) → cond (is_cell q) (cell_row h q) None ≡ at_cell q
     cell_told q = elim (is_cell q) as (λ b. is_cell q ≡ b → cond b (cell_row h q) None ≡ cond b (option_map (λ c. record { matrix_no = q.0; severity = q.1; band_no = q.2; cell_no = c }) (at_place row_there q.2)) None) [
-        | true ↦ λ t.
-            let keys = cell_keyed q t in
-            ap (λ k. option_and_then (cell_of q) (matrix_numbered h k)) (sym keys.0) ∙ ap (option_and_then (cell_of q)) numbered
-            ∙ ap (option_map (λ c. record { matrix_no = q.0; severity = q.1; band_no = q.2; cell_no = c })) (row_of_place (at_place m.cells q.1) q.2 ∙ ap (λ k. at_place (unwrap_or (at_place m.cells k) []) q.2) (sym keys.1))
-        | false ↦ λ _. refl
-      ] refl
+      | true ↦ λ t.
+          let keys = cell_keyed q t in
+          ap (λ k. option_and_then (cell_of q) (matrix_numbered h k)) (sym keys.0) ∙ ap (option_and_then (cell_of q)) numbered
+          ∙ ap (option_map (λ c. record { matrix_no = q.0; severity = q.1; band_no = q.2; cell_no = c })) (row_of_place (at_place m.cells q.1) q.2 ∙ ap (λ k. at_place (unwrap_or (at_place m.cells k) []) q.2) (sym keys.1))
+      | false ↦ λ _. refl
+    ] refl
 
     both_same : (same_number n n && same_number s s) ≡ true
     both_same = λ i. is_same_number n i && is_same_number s i
@@ -253,10 +251,10 @@ module _ (h : List Call) (n : ℕ) (m : Grid) (numbered : matrix_numbered h n �
     unfolding cell_make
     cells_back =
         ap (map (λ (c : CellRow). c.cell_no)) (
-          left_rows cell_cmp cell_key cell_total same_cells is_cell (cell_row h) (cell_keys h) (cells_told h) at_cell (map (cell_key_of n s) (range_with_len 1 (length row_there))) cell_kept (places_rise cell_cmp (cell_key_of n s) (cell_below n s) 1 (length row_there)) cell_among cell_told
-          ∙ filter_map-map at_cell (cell_key_of n s) (range_with_len 1 (length row_there))
-          ∙ (λ i. filter_map (λ b. cond (both_same i) (option_map (cell_make b) (at_place row_there b)) None) (range_with_len 1 (length row_there)))
-          ∙ listed cell_make row_there [] row_there 1 refl refl)
+        left_rows cell_cmp cell_key cell_total same_cells is_cell (cell_row h) (cell_keys h) (cells_told h) at_cell (map (cell_key_of n s) (range_with_len 1 (length row_there))) cell_kept (places_rise cell_cmp (cell_key_of n s) (cell_below n s) 1 (length row_there)) cell_among cell_told
+        ∙ filter_map-map at_cell (cell_key_of n s) (range_with_len 1 (length row_there))
+        ∙ (λ i. filter_map (λ b. cond (both_same i) (option_map (cell_make b) (at_place row_there b)) None) (range_with_len 1 (length row_there)))
+        ∙ listed cell_make row_there [] row_there 1 refl refl)
         ∙ told_back cell_make (λ (c : CellRow). c.cell_no) (λ b x. refl) row_there 1
 
 -- The rows that have cells are all rows of a matrix
@@ -318,7 +316,7 @@ positive_step h n d p t (Propose u x) before e =
     ] refl e
 positive_step h n d p t _ before e = before e
 
-draft_positive : (h : List Call) (n : ℕ) (d : Draft) → draft h n ≡ Some d → 1 ≤ n
+pub draft_positive : (h : List Call) (n : ℕ) (d : Draft) → draft h n ≡ Some d → 1 ≤ n
 draft_positive [] n d e = cc
 draft_positive (c ∷ h) n d e = positive_step h n d c.person c.moment c.request (draft_positive h n d) e
 

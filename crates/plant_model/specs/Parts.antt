@@ -14,7 +14,7 @@ use Rattle.plant_model.specs.declared.rows.UnitPart.{UnitPart}
 use Rattle.plant_model.specs.declared.rows.UnitRows.{UnitRows}
 use Rattle.plant_types.specs.Names.{Name, same_name}
 use Rattle.plant_types.specs.Roles.{Pair}
-use Rattle.std.specs.Prelude.{Bool, [], false, filter, length, true, ℕ, ◌||◌}
+use Rattle.std.specs.Prelude.{Bool, false, filter, length, true, ℕ, ◌||◌}
 
 pub record Selection : Type 0 where
   pub pair : Pair → Bool
