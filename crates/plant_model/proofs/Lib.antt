@@ -31,3 +31,4 @@ mod WorkedFloods
 mod WorkedWorld
 mod WorkedQuota
 mod WorkedRows
+mod WorkedChanges
