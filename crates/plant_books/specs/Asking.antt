@@ -1,7 +1,13 @@
 -- Which rows a request asks for.
-use Rattle.std.specs.Prelude.{Bool, false, true}
+use Rattle.std.specs.Prelude.{Bool, None, Option, Some, false, length, true, ℕ}
+use Rattle.plant_books.specs.declared.asking.Counted.{Counted}
+use Rattle.plant_books.specs.declared.asking.Counted.TheVariants.{Alarms, Changes, Nothing as CountsNothing}
 use Rattle.plant_books.specs.declared.asking.Wanted.{Wanted}
 use Rattle.plant_books.specs.declared.asking.Wanted.TheVariants.{Every, Nothing, One}
+use Rattle.plant_model.specs.Histories.{same_number}
+use Rattle.plant_model.specs.declared.call.Request.{Request}
+use Rattle.plant_model.specs.declared.call.Request.TheVariants.{Approve, ChangeOf, Reject, WithdrawChange}
+use Rattle.plant_model.specs.declared.rows.UnitRows.{UnitRows}
 use Rattle.plant_types.specs.Names.{Name, same_name}
 
 -- the tag is among those that are wanted
@@ -9,3 +15,22 @@ abbrev pub is_wanted : Wanted → Name → Bool
 is_wanted Nothing a = false
 is_wanted (One b) a = same_name b.now a
 is_wanted Every a = true
+
+-- the number of the change that a request names
+abbrev pub change_named : Request → Option ℕ
+change_named (WithdrawChange u n) = Some n
+change_named (Approve u n) = Some n
+change_named (Reject u n) = Some n
+change_named (ChangeOf u n) = Some n
+change_named _ = None
+
+-- the number is the one, where there is one
+abbrev pub is_number : Option ℕ → ℕ → Bool
+is_number None n = false
+is_number (Some m) n = same_number m n
+
+-- how many rows there are of what is counted
+abbrev pub counted_in : Counted → UnitRows → ℕ
+counted_in CountsNothing rows = 0
+counted_in Alarms rows = length rows.alarms
+counted_in Changes rows = length rows.changes

@@ -1,21 +1,33 @@
-ghost use Rattle.std.specs.Prelude.{◌≡◌, if◌then◌else◌, length, option_map};
-ghost use Rattle.plant_books.specs.Asking.{is_wanted};
-ghost use Rattle.plant_model.specs.Parts.{counted_for, selected};
+ghost use Rattle.std.specs.Prelude.{◌≡◌, ◌&&◌, ◌||◌, ℕ, option_map};
+ghost use Rattle.plant_books.specs.Asking as asked;
+ghost use Rattle.plant_books.specs.Asking.{change_named, counted_in, is_wanted};
+ghost use Rattle.plant_model.specs.Histories.{same_number};
+ghost use Rattle.plant_model.specs.Parts.{counted_for, is_source, of_proposal, selected};
+ghost use Rattle.plant_model.specs.RowFacts.{unit_read};
 ghost use Rattle.plant_model.specs.Worlds.{unit_named};
 ghost use Rattle.plant_model.specs.declared.rows.UnitRows.{UnitRows};
 ghost use Rattle.plant_types.specs.Names.{Name};
 ghost use Rattle.plant_types.specs.Roles.{Pair};
 
 use plant_model::Request;
+use plant_ration::ChangeKind;
 use plant_types::{Tag, UnitCode};
 
-/// Which of a unit's alarms, or of its shelves, a request looks at.
+/// Which of a unit's alarms, of its shelves or of its records a request looks at.
 #[derive(Clone, Copy)]
 pub enum Wanted<'a> {
     Nothing,
     /// That of the tag.
     One(&'a Tag),
     Every,
+}
+
+/// What of a unit is counted for a request.
+#[derive(Clone, Copy, Debug, PartialEq, Eq)]
+pub enum Counted {
+    Nothing,
+    Alarms,
+    Changes,
 }
 
 impl Wanted<'_> {
@@ -46,7 +58,13 @@ pub fn unit_of(request: &Request) -> Option<&UnitCode>
         | Request::Unshelve { unit, .. }
         | Request::RemoveFromService { unit, .. }
         | Request::PlaceInService { unit, .. }
+        | Request::Propose { unit, .. }
+        | Request::WithdrawChange { unit, .. }
+        | Request::Approve { unit, .. }
+        | Request::Reject { unit, .. }
         | Request::Status { unit, .. }
+        | Request::RecordOf { unit, .. }
+        | Request::ChangeOf { unit, .. }
         | Request::Shelves { unit }
         | Request::Alarms { unit }
         | Request::Standing { unit }
@@ -57,30 +75,47 @@ pub fn unit_of(request: &Request) -> Option<&UnitCode>
 
 /// Whether the request looks at the grants of all persons, and not of its caller alone.
 pub fn wants_all_grants(request: &Request) -> bool
-    ensures { (k : Pair) → (selected request.now).pair k ≡ result }
+    ensures { (rows : UnitRows) (k : Pair) → (selected rows request.now).pair k ≡ result }
 {
     matches!(request, Request::Grant { .. } | Request::Withdraw { .. })
 }
 
+/// The alarm of a change that is proposed, or every alarm where it is of the matrix.
+fn wanted_by(kind: &ChangeKind) -> Wanted<'_>
+    ensures alarms { (rows : UnitRows) (a : Name) → (of_proposal rows kind.now).alarm a ≡ is_wanted result a }
+    ensures records { (rows : UnitRows) (a : Name) → (of_proposal rows kind.now).rationale a ≡ is_wanted result a }
+{
+    match kind {
+        ChangeKind::Rationale(tag, _) | ChangeKind::Limit(tag, _) => Wanted::One(tag),
+        ChangeKind::Matrix(_) => Wanted::Every,
+    }
+}
+
 /// The alarms that the request looks at.
 pub fn wanted_alarms(request: &Request) -> Wanted<'_>
-    ensures { (a : Name) → (selected request.now).alarm a ≡ is_wanted result a }
+    ensures { (rows : UnitRows) (a : Name) → (selected rows request.now).alarm a ≡ is_wanted result a }
 {
     match request {
         Request::Register { tag, .. }
         | Request::Unshelve { tag, .. }
         | Request::RemoveFromService { tag, .. }
         | Request::PlaceInService { tag, .. }
-        | Request::Status { tag, .. } => Wanted::One(tag),
+        | Request::Status { tag, .. }
+        | Request::RecordOf { tag, .. } => Wanted::One(tag),
+        Request::Propose { proposal, .. } => wanted_by(&proposal.kind),
         Request::Import { .. }
         | Request::TimedShelve { .. }
         | Request::OneShotShelve { .. }
+        | Request::Approve { .. }
         | Request::Shelves { .. }
         | Request::Alarms { .. }
         | Request::Standing { .. } => Wanted::Every,
         Request::OpenUnit { .. }
         | Request::Grant { .. }
         | Request::Withdraw { .. }
+        | Request::WithdrawChange { .. }
+        | Request::Reject { .. }
+        | Request::ChangeOf { .. }
         | Request::Floods { .. }
         | Request::MyUnits
         | Request::MyShelves => Wanted::Nothing,
@@ -89,24 +124,91 @@ pub fn wanted_alarms(request: &Request) -> Wanted<'_>
 
 /// The shelves that the request looks at.
 pub fn wanted_shelves(request: &Request) -> Wanted<'_>
-    ensures { (a : Name) → (selected request.now).shelf a ≡ is_wanted result a }
+    ensures { (rows : UnitRows) (a : Name) → (selected rows request.now).shelf a ≡ is_wanted result a }
 {
     match request {
-        Request::Import { .. } => Wanted::Nothing,
-        _ => wanted_alarms(request),
+        Request::Register { tag, .. }
+        | Request::Unshelve { tag, .. }
+        | Request::RemoveFromService { tag, .. }
+        | Request::PlaceInService { tag, .. }
+        | Request::Status { tag, .. } => Wanted::One(tag),
+        Request::TimedShelve { .. }
+        | Request::OneShotShelve { .. }
+        | Request::Shelves { .. }
+        | Request::Alarms { .. }
+        | Request::Standing { .. } => Wanted::Every,
+        _ => Wanted::Nothing,
+    }
+}
+
+/// The records that the request looks at.
+pub fn wanted_records(request: &Request) -> Wanted<'_>
+    ensures { (rows : UnitRows) (a : Name) → (selected rows request.now).rationale a ≡ is_wanted result a }
+{
+    match request {
+        Request::RecordOf { tag, .. } => Wanted::One(tag),
+        Request::Propose { proposal, .. } => wanted_by(&proposal.kind),
+        Request::Approve { .. } | Request::Alarms { .. } | Request::Standing { .. } =>
+            Wanted::Every,
+        _ => Wanted::Nothing,
     }
 }
 
 /// Whether the request looks at the unit's events.
 pub fn wants_events(request: &Request) -> bool
-    ensures { (selected request.now).event ≡ result }
+    ensures { (rows : UnitRows) → (selected rows request.now).event ≡ result }
 {
     matches!(request, Request::Import { .. } | Request::Floods { .. })
 }
 
-/// Whether the request needs the number of the unit's alarms.
-pub fn wants_count(request: &Request) -> bool
-    ensures { (rows : UnitRows) → counted_for rows request.now ≡ (if result then length rows.alarms else 0) }
+/// The number of the change that the request looks at, with its matrix where it is of one.
+pub fn wanted_change(request: &Request) -> Option<u32>
+    ensures { result ≡ change_named request.now }
 {
-    matches!(request, Request::Register { .. })
+    match request {
+        Request::WithdrawChange { number, .. }
+        | Request::Approve { number, .. }
+        | Request::Reject { number, .. }
+        | Request::ChangeOf { number, .. } => Some(*number),
+        _ => None,
+    }
+}
+
+/// Whether the request looks at the matrix in force.
+pub fn wants_matrix(request: &Request) -> bool
+    ensures { (rows : UnitRows) (n : ℕ) → (selected rows request.now).matrix n ≡ ((result && same_number (unit_read rows).matrix_no n) || asked.is_number (change_named request.now) n) }
+{
+    matches!(request, Request::Propose { .. } | Request::Approve { .. })
+}
+
+/// Whether the request looks at the changes that the records it looks at came from.
+pub fn wants_sources(request: &Request) -> bool
+    ensures { (rows : UnitRows) (n : ℕ) → (selected rows request.now).change n ≡ ((result && is_source rows (selected rows request.now).rationale n) || asked.is_number (change_named request.now) n) }
+{
+    match request {
+        Request::Propose { proposal, .. } => matches!(proposal.kind, ChangeKind::Matrix(_)),
+        Request::Approve { .. } | Request::RecordOf { .. } => true,
+        _ => false,
+    }
+}
+
+/// What is counted for the request.
+pub fn wanted_count(request: &Request) -> Counted
+    ensures { (rows : UnitRows) → counted_for rows request.now ≡ counted_in result rows }
+{
+    match request {
+        Request::Register { .. } => Counted::Alarms,
+        Request::Propose { .. } => Counted::Changes,
+        _ => Counted::Nothing,
+    }
+}
+
+/// Whether the number is the one, where there is one.
+pub fn is_number(one: Option<u32>, number: u32) -> bool
+    ensures { result ≡ asked.is_number one number }
+{
+    match one {
+        None => false,
+        Some(one) => one == number,
+    }
 }

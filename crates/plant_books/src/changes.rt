@@ -50,6 +50,8 @@ fn put_row(alloc: Global, changing: &mut Changing, row: Row) -> Result<(), Fault
         Row::Event(row) => changing.fresh.push(row),
         Row::Band(row) => put(&mut rows.bands, row),
         Row::Cell(row) => put(&mut rows.cells, row),
+        Row::Record(row) => put(&mut rows.records, row),
+        Row::Change(row) => put(&mut rows.changes, row),
     }
 }
 

@@ -13,7 +13,8 @@ mod plain;
 mod rows;
 
 pub use asking::{
-    Wanted, unit_of, wanted_alarms, wanted_shelves, wants_all_grants, wants_count, wants_events,
+    Counted, Wanted, is_number, unit_of, wanted_alarms, wanted_change, wanted_count,
+    wanted_records, wanted_shelves, wants_all_grants, wants_events, wants_matrix, wants_sources,
 };
 pub use books::{Books, MineShelf, MineUnit};
 pub use opened::{alarm_of, last_return};

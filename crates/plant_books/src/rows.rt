@@ -1,13 +1,13 @@
 ghost use Rattle.std.specs.Prelude.{◌≡◌};
 ghost use Rattle.std.specs.Ordering.{nat_cmp};
 ghost use Rattle.plant_model.specs.Matrices.{band_cmp, cell_cmp};
-ghost use Rattle.plant_model.specs.RowFacts.{alarm_tag, band_key, cell_key, event_number, pair_of, shelf_tag};
+ghost use Rattle.plant_model.specs.RowFacts.{alarm_tag, band_key, cell_key, change_number, event_number, pair_of, record_tag, shelf_tag};
 ghost use Rattle.plant_types.specs.Names.{name_cmp};
 ghost use Rattle.plant_types.specs.Roles.{pair_cmp};
 
 use crate::keyed::Keyed;
 use plant_alarm::Event;
-use plant_model::{AlarmRow, BandRow, CellRow, GrantRow, ShelfRow};
+use plant_model::{AlarmRow, BandRow, CellRow, ChangeEntry, GrantRow, RecordEntry, ShelfRow};
 use plant_types::{Person, Role};
 use std::cmp::Ordering;
 
@@ -57,6 +57,22 @@ impl Keyed for CellRow {
     fn key_cmp(&self, other: &CellRow) -> Ordering {
         let key = (other.matrix_no, other.severity, other.band_no);
         (self.matrix_no, self.severity, self.band_no).cmp(&key)
+    }
+}
+
+impl Keyed for RecordEntry {
+    ghost order = { λ a b. name_cmp (record_tag a) (record_tag b) };
+
+    fn key_cmp(&self, other: &RecordEntry) -> Ordering {
+        self.tag.cmp(&other.tag)
+    }
+}
+
+impl Keyed for ChangeEntry {
+    ghost order = { λ a b. nat_cmp (change_number a) (change_number b) };
+
+    fn key_cmp(&self, other: &ChangeEntry) -> Ordering {
+        self.number.cmp(&other.number)
     }
 }
 

@@ -1,10 +1,10 @@
 use super::*;
 use plant_alarm::AlarmState;
 use plant_model::{
-    AlarmRow, BandRow, Call, CellRow, Change, GrantRow, Key, Request, Row, ShelfRow, UnitPart,
-    UnitRow, UnitRows,
+    AlarmRow, BandRow, Call, CellRow, Change, ChangeEntry, ChangeTopic, GrantRow, Key, RecordEntry,
+    Request, Row, ShelfRow, UnitPart, UnitRow, UnitRows,
 };
-use plant_ration::Cell;
+use plant_ration::{Cell, ChangeKind, ChangeState, Proposal};
 use plant_types::{
     Duplicate, Fault, Moment, Person, Quota, Role, Seconds, Table, Tag, UnitCode, Words,
 };
@@ -91,6 +91,59 @@ fn opening(rt: &impl Abort, alloc: Global) -> Result<Table<Change>, Fault> {
     changes.push(alarm(rt, alloc, b"PT-101", 3600)?)?;
     changes.push(alarm(rt, alloc, b"LT-2", 86400)?)?;
     push_cells(&mut changes)?;
+    Ok(changes)
+}
+
+/// A change that ann proposed.
+fn entry(
+    rt: &impl Abort,
+    alloc: Global,
+    number: u32,
+    kind_no: ChangeTopic,
+) -> Result<Change, Fault> {
+    Ok(Change::Put(Row::Change(ChangeEntry {
+        number,
+        proposer: person(rt, alloc, b"ann")?,
+        proposed_s: at(rt, 100),
+        kind_no,
+        tag: None,
+        base: 0,
+        cause: None,
+        consequence: None,
+        remedy: None,
+        severity: None,
+        response_s: None,
+        max_s: None,
+        state_no: ChangeState::Proposed,
+        decider: None,
+        decided_s: None,
+    })))
+}
+
+/// The record of an alarm, from a change.
+fn record(rt: &impl Abort, alloc: Global, name: &[u8], change_no: u32) -> Result<Change, Fault> {
+    Ok(Change::Put(Row::Record(RecordEntry {
+        tag: tag(rt, alloc, name)?,
+        change_no,
+        rev: 1,
+        cell_no: Cell::P2,
+    })))
+}
+
+/// Changes 1 to 4, of which 3 is of the matrix with a limit, and records from 1 and 4.
+fn rationale(rt: &impl Abort, alloc: Global) -> Result<Table<Change>, Fault> {
+    let mut changes = Table::new(alloc);
+    changes.push(entry(rt, alloc, 4, ChangeTopic::Record)?)?;
+    changes.push(entry(rt, alloc, 3, ChangeTopic::Matrix)?)?;
+    changes.push(entry(rt, alloc, 2, ChangeTopic::Limit)?)?;
+    changes.push(entry(rt, alloc, 1, ChangeTopic::Record)?)?;
+    changes.push(record(rt, alloc, b"PT-101", 4)?)?;
+    changes.push(record(rt, alloc, b"LT-2", 1)?)?;
+    changes.push(Change::Put(Row::Band(BandRow {
+        matrix_no: 3,
+        band_no: 1,
+        limit_s: 600,
+    })))?;
     Ok(changes)
 }
 
@@ -336,6 +389,77 @@ fn gives_all_grants_to_a_withdrawal(rt: HostRuntime) -> Result<(), Fail> {
     Ok(())
 }
 
+/// Books with U1, which has changes and records too.
+fn rationalised(rt: &impl Abort, alloc: Global) -> Result<Plain, Fault> {
+    let mut books = plain(rt, alloc)?;
+    let unit = code(rt, alloc, b"U1")?;
+    books.apply(&unit, &opening(rt, alloc)?)?;
+    books.apply(&unit, &rationale(rt, alloc)?)?;
+    Ok(books)
+}
+
+/// How many alarms, bands, records and changes the part has, and the number of changes in it.
+fn records_in(part: &Option<UnitPart>) -> Option<[u64; 5]> {
+    match part {
+        None => None,
+        Some(part) => Some([
+            part.rows.alarms.len() as u64,
+            part.rows.bands.len() as u64,
+            part.rows.records.len() as u64,
+            part.rows.changes.len() as u64,
+            part.count,
+        ]),
+    }
+}
+
+fn proposing(rt: &impl Abort, alloc: Global) -> Result<Request, Fault> {
+    let tag = tag(rt, alloc, b"LT-2")?;
+    let max = Seconds::new(60).expect(rt, "a length of time");
+    let kind = ChangeKind::Limit(tag, max);
+    Ok(Request::Propose {
+        unit: code(rt, alloc, b"U1")?,
+        proposal: Proposal { kind, base: 0 },
+    })
+}
+
+#[test]
+fn keeps_changes_and_records_by_their_keys(rt: HostRuntime) -> Result<(), Fail> {
+    let alloc = rt.alloc();
+    let mut books = rationalised(&rt, alloc)?;
+    let rows = rows_in(&rt, alloc, &mut books, b"U1")?;
+    let changes = rows.changes.as_slice();
+    assert!(rt; changes.iter().map(|change| change.number).eq([1, 2, 3, 4]));
+    let records = rows.records.as_slice();
+    assert!(rt; records.iter().map(|record| record.change_no).eq([1, 4]));
+    Ok(())
+}
+
+#[test]
+fn gives_changes_with_what_they_are_of(rt: HostRuntime) -> Result<(), Fail> {
+    let alloc = rt.alloc();
+    let mut books = rationalised(&rt, alloc)?;
+    let unit = code(&rt, alloc, b"U1")?;
+    let one = call(&rt, alloc, b"ann", Request::ChangeOf { unit, number: 3 })?;
+    assert_eq!(rt; records_in(&books.part(&one)?), Some([0, 1, 0, 1, 0]));
+    let unit = code(&rt, alloc, b"U1")?;
+    let all = call(&rt, alloc, b"ann", Request::Approve { unit, number: 3 })?;
+    assert_eq!(rt; records_in(&books.part(&all)?), Some([2, 2, 2, 3, 0]));
+    Ok(())
+}
+
+#[test]
+fn gives_a_record_with_its_change(rt: HostRuntime) -> Result<(), Fail> {
+    let alloc = rt.alloc();
+    let mut books = rationalised(&rt, alloc)?;
+    let unit = code(&rt, alloc, b"U1")?;
+    let tag = tag(&rt, alloc, b"LT-2")?;
+    let one = call(&rt, alloc, b"ann", Request::RecordOf { unit, tag })?;
+    assert_eq!(rt; records_in(&books.part(&one)?), Some([1, 0, 1, 1, 0]));
+    let number = call(&rt, alloc, b"ann", proposing(&rt, alloc)?)?;
+    assert_eq!(rt; records_in(&books.part(&number)?), Some([1, 1, 1, 0, 4]));
+    Ok(())
+}
+
 fn same_grants(some: &[GrantRow], other: &[GrantRow]) -> bool {
     some.len() == other.len()
         && some.iter().zip(other).all(|(a, b)| {
@@ -357,6 +481,22 @@ fn same_shelves(some: &[ShelfRow], other: &[ShelfRow]) -> bool {
         })
 }
 
+fn same_records(some: &[RecordEntry], other: &[RecordEntry]) -> bool {
+    some.len() == other.len()
+        && some
+            .iter()
+            .zip(other)
+            .all(|(a, b)| a.tag == b.tag && a.change_no == b.change_no)
+}
+
+fn same_changes(some: &[ChangeEntry], other: &[ChangeEntry]) -> bool {
+    some.len() == other.len()
+        && some
+            .iter()
+            .zip(other)
+            .all(|(a, b)| a.number == b.number && a.proposer == b.proposer)
+}
+
 fn same_rows(some: &Option<UnitRows>, other: &Option<UnitRows>) -> bool {
     match (some, other) {
         (None, None) => true,
@@ -367,6 +507,8 @@ fn same_rows(some: &Option<UnitRows>, other: &Option<UnitRows>) -> bool {
                 && same_shelves(a.shelves.as_slice(), b.shelves.as_slice())
                 && a.bands.as_slice() == b.bands.as_slice()
                 && a.cells.as_slice() == b.cells.as_slice()
+                && same_records(a.records.as_slice(), b.records.as_slice())
+                && same_changes(a.changes.as_slice(), b.changes.as_slice())
         }
         _ => false,
     }
@@ -394,6 +536,7 @@ fn change_through_faults(rt: &(impl Abort + Eprint), alloc: Global) -> Result<()
     let unit = code(rt, alloc, b"U1")?;
     apply_through_faults(rt, &mut books, &unit, &opening(rt, alloc)?)?;
     apply_through_faults(rt, &mut books, &unit, &later(rt, alloc)?)?;
+    apply_through_faults(rt, &mut books, &unit, &rationale(rt, alloc)?)?;
     let rows = rows_in(rt, alloc, &mut books, b"U1")?;
     assert_eq!(rt; (rows.grants.len(), rows.shelves.len()), (1, 2));
     Ok(())
