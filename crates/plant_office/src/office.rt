@@ -1,7 +1,7 @@
 ghost use Rattle.std.specs.Prelude.{◌≡◌, ◌<◌, ◌^◌, ◌-◌, ◌+◌, ◌≤◌, ℕ, Some, None, true, false, IsTrue, IfOk, IfErr, OnOk, OnErr, List, [], ◌∷◌, ◌++◌, filter_map, map, max, fold, length, vec_len, vec_capacity};
 ghost use Rattle.plant_types.specs.declared.fault.Fault.TheVariants.{Memory};
 ghost use Rattle.plant_model.specs.declared.call.Request.TheVariants.{MyShelves, MyUnits};
-ghost use Rattle.plant_model.specs.Legality.{has_matrix};
+ghost use Rattle.plant_model.specs.Legality.{has_matrix, is_matrix_kind};
 ghost use Rattle.plant_model.specs.Verdicts.{is_opening};
 ghost use Rattle.plant_model.specs.Views.{view};
 ghost use Rattle.plant_model.specs.Worlds.{World, IsLegalWorld, unit_named};
@@ -15,6 +15,7 @@ ghost use Rattle.plant_office.specs.Lines.{line_of_mine, line_of_shelf};
 
 use plant_books::{Books, MineShelf, MineUnit};
 use plant_model::{Answer, Call, MineLine, Refused, Reply, Request, UnitLine, Verdict};
+use plant_ration::ChangeKind;
 use plant_types::{Fault, Moment, Table, UnitCode};
 use plant_unit::{is_read, judge, judge_open, shelf_line};
 use std::alloc::Global;
@@ -23,7 +24,20 @@ use std::alloc::Global;
 fn note_matrix(request: &Request)
     ensures { has_matrix request.now ≡ true }
 {
-    if let Request::OpenUnit { matrix, .. } = request {
+    match request {
+        Request::OpenUnit { matrix, .. } => {
+            let _cells = matrix.cells();
+        }
+        Request::Propose { proposal, .. } => note_proposed(&proposal.kind),
+        _ => {}
+    }
+}
+
+/// Nor does that of a proposal.
+fn note_proposed(kind: &ChangeKind)
+    ensures { is_matrix_kind kind.now ≡ true }
+{
+    if let ChangeKind::Matrix(matrix) = kind {
         let _cells = matrix.cells();
     }
 }
@@ -170,7 +184,13 @@ impl<B: Books> Office<B> {
             | Request::Unshelve { unit, .. }
             | Request::RemoveFromService { unit, .. }
             | Request::PlaceInService { unit, .. }
+            | Request::Propose { unit, .. }
+            | Request::WithdrawChange { unit, .. }
+            | Request::Approve { unit, .. }
+            | Request::Reject { unit, .. }
             | Request::Status { unit, .. }
+            | Request::RecordOf { unit, .. }
+            | Request::ChangeOf { unit, .. }
             | Request::Shelves { unit }
             | Request::Alarms { unit }
             | Request::Standing { unit }
