@@ -1,12 +1,13 @@
-//! A full unit: 500 pairs, 2,000 alarms and 100,000 events, on which no call is answered by a fault.
+//! A full unit: 500 pairs, 2,000 alarms, 20,000 changes and 100,000 events, on which no call is answered by a fault.
 
 use crate::examples::BASE;
 use crate::exchanges::{Exchanges, add_answer, add_request};
 use crate::replays::{lists, replays_on, tables, text};
 use plant_alarm::AlarmState;
-use plant_model::{AlarmRow, Change, GrantRow, Row};
+use plant_model::{AlarmRow, Change, ChangeEntry, ChangeTopic, GrantRow, Row};
 use plant_office::Books;
-use plant_types::{Person, Role, Seconds, Table, Tag, UnitCode};
+use plant_ration::ChangeState;
+use plant_types::{Moment, Person, Role, Seconds, Table, Tag, UnitCode};
 use plant_wire::End;
 use std::alloc::Global;
 use std::process::Abort;
@@ -40,7 +41,28 @@ fn grant(alloc: Global, number: u32) -> Result<Change, Fail> {
     })))
 }
 
-/// The rows that the base office has not: 494 pairs and 1,998 alarms.
+/// A proposal of ten minutes for the limit of PT-101.
+fn proposal(alloc: Global, number: u32) -> Result<Change, Fail> {
+    Ok(Change::Put(Row::Change(ChangeEntry {
+        number,
+        proposer: Person::read(alloc, b"eve")?.ok_or("a person")?,
+        proposed_s: Moment::read(b"2026-03-01T08:00:00Z").ok_or("a moment")?,
+        kind_no: ChangeTopic::Limit,
+        tag: Some(Tag::read(alloc, b"PT-101")?.ok_or("a tag")?),
+        base: 0,
+        cause: None,
+        consequence: None,
+        remedy: None,
+        severity: None,
+        response_s: None,
+        max_s: Some(Seconds::new(600).ok_or("a length of time")?),
+        state_no: ChangeState::Proposed,
+        decider: None,
+        decided_s: None,
+    })))
+}
+
+/// The rows that the base office has not: 494 pairs, 1,998 alarms and 20,000 changes.
 fn more_rows(alloc: Global) -> Result<Table<Change>, Fail> {
     let mut changes = Table::new(alloc);
     for number in 6..500 {
@@ -49,10 +71,13 @@ fn more_rows(alloc: Global) -> Result<Table<Change>, Fail> {
     for number in 2..2000 {
         changes.push(alarm(alloc, number)?)?;
     }
+    for number in 1..=20_000 {
+        changes.push(proposal(alloc, number)?)?;
+    }
     Ok(changes)
 }
 
-/// The base office with 500 pairs and 2,000 alarms.
+/// The base office with 500 pairs, 2,000 alarms and 20,000 changes.
 fn crowded<B: Books + Drop>(alloc: Global, books: B) -> Result<B, Fail> {
     let base = Exchanges::of(alloc, &[BASE])?;
     let (_, _, mut books) = replays_on(alloc, books, base.requests.as_bytes(), b"");
@@ -189,6 +214,35 @@ fn lists_all_alarms<B: Books + Drop>(rt: &(impl Abort + AllocGlobal), books: B) 
     Ok(books)
 }
 
+const LIMITED: &str =
+    r#"200 {"limit":600,"limit_revision":1,"out_of_service":false,"shelf":"Unshelved","shelf_left":0,"state":"ReturnedUnack","suppressed":false,"suppressed_or_shelved":false,"tag":"PT-101"}"#;
+
+/// What is answered to proposals and decisions once there are 20,000 changes.
+fn changes_when_full<B: Books + Drop>(
+    rt: &(impl Abort + AllocGlobal),
+    mut books: B,
+) -> Result<B, Fail> {
+    for (request, answer) in [
+        (
+            r#"eve 10:00:00 POST /units/U1/changes {"kind":"limit","base":0,"tag":"PT-101","max":60}"#,
+            r#"409 {"name":"UnitFull","refused":6,"value":"Changes"}"#,
+        ),
+        (
+            "abe 10:00:00 POST /units/U1/changes/20000/approve",
+            r#"200 {"done":true}"#,
+        ),
+        (
+            "abe 10:00:00 POST /units/U1/changes/1/approve",
+            r#"409 {"name":"BaseChanged","refused":21,"value":1}"#,
+        ),
+        ("vic 10:00:00 GET /units/U1/alarms/PT-101", LIMITED),
+    ] {
+        let wanted = asked(rt.alloc(), request, answer)?;
+        books = after(rt, books, &wanted);
+    }
+    Ok(books)
+}
+
 fn fills<B: Books + Drop>(rt: &(impl Abort + AllocGlobal), books: B) -> Result<(), Fail> {
     let mut books = crowded(rt.alloc(), books)?;
     for tenth in 0..10u32 {
@@ -199,6 +253,7 @@ fn fills<B: Books + Drop>(rt: &(impl Abort + AllocGlobal), books: B) -> Result<(
     books = imports_when_full(rt, books)?;
     books = asked_when_full(rt, books)?;
     books = lists_all_alarms(rt, books)?;
+    books = changes_when_full(rt, books)?;
     drop(books);
     Ok(())
 }

@@ -4,7 +4,9 @@ use crate::examples::{BASE, SHELVED};
 use crate::exchanges::{Exchanges, Mark};
 use crate::replays::{lists, replays_on, tables, text};
 use plant_alarm::Event;
-use plant_model::{AlarmRow, BandRow, CellRow, GrantRow, ShelfRow, UnitRow, UnitRows};
+use plant_model::{
+    AlarmRow, BandRow, CellRow, ChangeEntry, GrantRow, RecordEntry, ShelfRow, UnitRow, UnitRows,
+};
 use plant_office::Books;
 use plant_types::{Table, UnitCode};
 use plant_wire::End;
@@ -100,6 +102,58 @@ impl Same for CellRow {
     }
 }
 
+impl Same for RecordEntry {
+    fn is_same(&self, other: &RecordEntry) -> bool {
+        let RecordEntry {
+            tag,
+            change_no,
+            rev,
+            cell_no,
+        } = self;
+        *tag == other.tag
+            && *change_no == other.change_no
+            && *rev == other.rev
+            && *cell_no == other.cell_no
+    }
+}
+
+impl Same for ChangeEntry {
+    fn is_same(&self, other: &ChangeEntry) -> bool {
+        let ChangeEntry {
+            number,
+            proposer,
+            proposed_s,
+            kind_no,
+            tag,
+            base,
+            cause,
+            consequence,
+            remedy,
+            severity,
+            response_s,
+            max_s,
+            state_no,
+            decider,
+            decided_s,
+        } = self;
+        *number == other.number
+            && *proposer == other.proposer
+            && *proposed_s == other.proposed_s
+            && *kind_no == other.kind_no
+            && *tag == other.tag
+            && *base == other.base
+            && *cause == other.cause
+            && *consequence == other.consequence
+            && *remedy == other.remedy
+            && *severity == other.severity
+            && *response_s == other.response_s
+            && *max_s == other.max_s
+            && *state_no == other.state_no
+            && *decider == other.decider
+            && *decided_s == other.decided_s
+    }
+}
+
 fn are_same<T: Same>(ours: &Table<T>, theirs: &Table<T>) -> bool {
     let (ours, theirs) = (ours.as_slice(), theirs.as_slice());
     if ours.len() != theirs.len() {
@@ -126,6 +180,8 @@ fn are_same_rows(ours: &Option<UnitRows>, theirs: &Option<UnitRows>) -> bool {
         events,
         bands,
         cells,
+        records,
+        changes,
     } = ours;
     are_same(units, &theirs.units)
         && are_same(grants, &theirs.grants)
@@ -134,6 +190,8 @@ fn are_same_rows(ours: &Option<UnitRows>, theirs: &Option<UnitRows>) -> bool {
         && are_same(events, &theirs.events)
         && are_same(bands, &theirs.bands)
         && are_same(cells, &theirs.cells)
+        && are_same(records, &theirs.records)
+        && are_same(changes, &theirs.changes)
 }
 
 /// Whether both keepers hold the same rows of each of the units.

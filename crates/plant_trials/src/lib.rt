@@ -23,4 +23,6 @@ mod purges;
 #[cfg(test)]
 mod replays;
 #[cfg(test)]
+mod reviews;
+#[cfg(test)]
 mod worked;

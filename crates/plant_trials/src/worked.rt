@@ -5,6 +5,7 @@ use crate::examples::{ALARMS_FULL, BASE, GRANTS_FULL, WORKED};
 use crate::exchanges::Exchanges;
 use crate::keepers::{are_kept_alike, are_left_alike};
 use crate::replays::{is_answered, lists, tables};
+use crate::reviews::CHANGED;
 use std::alloc::Global;
 use std::process::Abort;
 use std::test::Fail;
@@ -33,6 +34,14 @@ fn worked_examples(rt: HostRuntime) -> Result<(), Fail> {
 #[test]
 fn imported_examples(rt: HostRuntime) -> Result<(), Fail> {
     for (title, setting, example) in IMPORTED {
+        is_worked(&rt, title, &exchanges(&rt, setting, example)?)?;
+    }
+    Ok(())
+}
+
+#[test]
+fn changed_examples(rt: HostRuntime) -> Result<(), Fail> {
+    for (title, setting, example) in CHANGED {
         is_worked(&rt, title, &exchanges(&rt, setting, example)?)?;
     }
     Ok(())
