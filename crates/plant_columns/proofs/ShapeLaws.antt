@@ -24,19 +24,23 @@ use Rattle.plant_alarm.specs.declared.summary.AlarmState.{AlarmState}
 use Rattle.plant_alarm.specs.declared.summary.AlarmState.TheVariants.{Acknowledged, LatchedAck, LatchedUnack, Normal, ReturnedUnack, Unacknowledged}
 use Rattle.plant_ration.specs.declared.cell.Cell.{Cell}
 use Rattle.plant_ration.specs.declared.cell.Cell.TheVariants.{N, P1, P2, P3, P4}
+use Rattle.plant_ration.specs.declared.change.ChangeState.{ChangeState}
+use Rattle.plant_ration.specs.declared.change.ChangeState.TheVariants.{Approved, Proposed, Rejected, Withdrawn}
 use Rattle.plant_types.specs.declared.role.Role.{Role}
 use Rattle.plant_types.specs.declared.role.Role.TheVariants.{Approver, Engineer, Maintainer, Operator, Steward, Viewer}
 use Rattle.plant_types.specs.Roles.{role_no}
 use Rattle.plant_types.proofs.Orders.{pair_total}
+use Rattle.plant_model.specs.declared.rows.ChangeTopic.{ChangeTopic}
+use Rattle.plant_model.specs.declared.rows.ChangeTopic.TheVariants.{Limit as LimitTopic, Matrix as MatrixTopic, Record as RecordTopic}
 use Rattle.plant_model.specs.Matrices.{BandKey, CellKey, band_cmp, cell_cmp}
 use Rattle.plant_tables.specs.Shape.{Shape, table_in}
 use Rattle.plant_tables.proofs.Bridge.{int_cmp-pos}
 use Rattle.plant_tables.proofs.Family.{AreListed}
 use Rattle.plant_tables.proofs.Laws.{cast_int, cast_null}
 use Rattle.plant_tables.proofs.Shapes.{IsListed, IsShape}
-use Rattle.plant_columns.specs.Codes.{cell_no, cell_numbered, flag, flag_in, kind_no, kind_numbered, number, open_number, open_number_in, open_text, open_text_in, role_numbered, state_no, state_numbered}
-use Rattle.plant_columns.specs.Tables.{Kept, RowOf, KeyOf, alarm_shape, band_shape, books_schema, cell_shape, event_shape, grant_shape, shape, shelf_shape, unit_shape}
-use Rattle.plant_columns.specs.Tables.Kept.{UnitKept, GrantKept, AlarmKept, ShelfKept, BandKept, CellKept, EventKept}
+use Rattle.plant_columns.specs.Codes.{cell_no, cell_numbered, decision_no, decision_numbered, flag, flag_in, kind_no, kind_numbered, number, open_number, open_number_in, open_text, open_text_in, role_numbered, state_no, state_numbered, topic_no, topic_numbered}
+use Rattle.plant_columns.specs.Tables.{Kept, RowOf, KeyOf, alarm_shape, band_shape, books_schema, cell_shape, change_shape, event_shape, grant_shape, record_shape, shape, shelf_shape, unit_shape}
+use Rattle.plant_columns.specs.Tables.Kept.{UnitKept, GrantKept, AlarmKept, ShelfKept, BandKept, CellKept, EventKept, RecordKept, ChangeKept}
 
 -- ---- what is written is read back
 
@@ -63,6 +67,17 @@ kind_back Ack = refl
 kind_back Reset = refl
 kind_back Sup = refl
 kind_back Unsup = refl
+
+pub topic_back : (t : ChangeTopic) → topic_numbered (topic_no t) ≡ t
+topic_back RecordTopic = refl
+topic_back MatrixTopic = refl
+topic_back LimitTopic = refl
+
+pub decision_back : (s : ChangeState) → decision_numbered (decision_no s) ≡ s
+decision_back Proposed = refl
+decision_back Approved = refl
+decision_back Rejected = refl
+decision_back Withdrawn = refl
 
 pub cell_back : (c : Cell) → cell_numbered (cell_no c) ≡ c
 cell_back N = refl
@@ -196,6 +211,44 @@ event_good = record {
   fits = λ u x i. Text u ∷ cast_number x.seq i ∷ cast_number x.moment i ∷ Text x.tag ∷ cast_number (kind_no x.kind) i ∷ [];
 }
 
+pub record_good : IsShape record_shape
+record_good = record {
+  total = nat_list_cmp_total;
+  back = λ id u x i. record { tag = x.tag; change_no = x.change_no; rev = x.rev; cell_no = cell_back x.cell_no i };
+  agrees = λ id jd u v x y. sym (one (value_cmp-Text x.tag y.tag));
+  keyed = λ id u x. (refl, (refl, tt));
+  mends = λ u x. refl;
+  fits = λ u x i. Text u ∷ Text x.tag ∷ cast_number x.change_no i ∷ cast_number x.rev i ∷ cast_number (cell_no x.cell_no) i ∷ [];
+}
+
+pub change_good : IsShape change_shape
+change_good = record {
+  total = nat_cmp_total;
+  back = λ id u x i. record {
+    number = x.number;
+    proposer = x.proposer;
+    proposed_s = x.proposed_s;
+    kind_no = topic_back x.kind_no i;
+    tag = open_text_back x.tag i;
+    base = x.base;
+    cause = open_text_back x.cause i;
+    consequence = open_text_back x.consequence i;
+    remedy = open_text_back x.remedy i;
+    severity = open_number_back x.severity i;
+    response_s = open_number_back x.response_s i;
+    max_s = open_number_back x.max_s i;
+    state_no = decision_back x.state_no i;
+    decider = open_text_back x.decider i;
+    decided_s = open_number_back x.decided_s i;
+  };
+  agrees = λ id jd u v x y. sym (one (numbers x.number y.number));
+  keyed = λ id u x. (refl, (refl, tt));
+  mends = λ u x. refl;
+  fits = λ u x i. Text u ∷ cast_number x.number i ∷ Text x.proposer ∷ cast_number x.proposed_s i ∷ cast_number (topic_no x.kind_no) i ∷ cast_open_text x.tag i ∷ cast_number x.base i
+      ∷ cast_open_text x.cause i ∷ cast_open_text x.consequence i ∷ cast_open_text x.remedy i ∷ cast_open_number x.severity i ∷ cast_open_number x.response_s i ∷ cast_open_number x.max_s i
+      ∷ cast_number (decision_no x.state_no) i ∷ cast_open_text x.decider i ∷ cast_open_number x.decided_s i ∷ [];
+}
+
 pub good : (i : Kept) → IsShape (shape i)
 good UnitKept = unit_good
 good GrantKept = grant_good
@@ -204,6 +257,8 @@ good ShelfKept = shelf_good
 good BandKept = band_good
 good CellKept = cell_good
 good EventKept = event_good
+good RecordKept = record_good
+good ChangeKept = change_good
 
 -- ---- the schema lists each, and only its key is unique
 
@@ -242,6 +297,14 @@ event_alone : alone_in event_shape
 unfolding first_key alone_in
 event_alone cells r id free = lone (equal Binary (rowid r) id) (agree plain (1 ∷ event_shape.keys) r (1 ∷ event_shape.keys) (id ∷ cells)) free
 
+record_alone : alone_in record_shape
+unfolding first_key alone_in
+record_alone cells r id free = lone (equal Binary (rowid r) id) (agree plain (1 ∷ record_shape.keys) r (1 ∷ record_shape.keys) (id ∷ cells)) free
+
+change_alone : alone_in change_shape
+unfolding first_key alone_in
+change_alone cells r id free = lone (equal Binary (rowid r) id) (agree plain (1 ∷ change_shape.keys) r (1 ∷ change_shape.keys) (id ∷ cells)) free
+
 pub listed : (i : Kept) → IsListed books_schema (shape i)
 unfolding alone_in
 listed UnitKept = record { at = refl; alone = unit_alone }
@@ -251,6 +314,8 @@ listed ShelfKept = record { at = refl; alone = shelf_alone }
 listed BandKept = record { at = refl; alone = band_alone }
 listed CellKept = record { at = refl; alone = cell_alone }
 listed EventKept = record { at = refl; alone = event_alone }
+listed RecordKept = record { at = refl; alone = record_alone }
+listed ChangeKept = record { at = refl; alone = change_alone }
 
 which : ℕ → Kept
 which n =
@@ -259,7 +324,9 @@ which n =
     (Rattle.std.proofs.Common.cond (Rattle.std.specs.Prelude.nat_eq n 5) AlarmKept
     (Rattle.std.proofs.Common.cond (Rattle.std.specs.Prelude.nat_eq n 7) ShelfKept
     (Rattle.std.proofs.Common.cond (Rattle.std.specs.Prelude.nat_eq n 9) BandKept
-    (Rattle.std.proofs.Common.cond (Rattle.std.specs.Prelude.nat_eq n 11) CellKept EventKept)))))
+    (Rattle.std.proofs.Common.cond (Rattle.std.specs.Prelude.nat_eq n 11) CellKept
+    (Rattle.std.proofs.Common.cond (Rattle.std.specs.Prelude.nat_eq n 13) EventKept
+    (Rattle.std.proofs.Common.cond (Rattle.std.specs.Prelude.nat_eq n 15) RecordKept ChangeKept)))))))
 
 placed : (i : Kept) → which (shape i).tree ≡ i
 unfolding which
@@ -270,6 +337,8 @@ placed ShelfKept = refl
 placed BandKept = refl
 placed CellKept = refl
 placed EventKept = refl
+placed RecordKept = refl
+placed ChangeKept = refl
 
 pub all_listed : AreListed RowOf KeyOf shape books_schema
 all_listed = record { which = which; placed = placed; at = λ i. (listed i).at }

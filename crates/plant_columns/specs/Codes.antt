@@ -8,8 +8,12 @@ use Rattle.plant_alarm.specs.declared.event.EventKind.{EventKind}
 use Rattle.plant_alarm.specs.declared.event.EventKind.TheVariants.{Ack, Act, Reset, Rtn, Sup, Unsup}
 use Rattle.plant_alarm.specs.declared.summary.AlarmState.{AlarmState}
 use Rattle.plant_alarm.specs.declared.summary.AlarmState.TheVariants.{Acknowledged, LatchedAck, LatchedUnack, Normal, ReturnedUnack, Unacknowledged}
+use Rattle.plant_model.specs.declared.rows.ChangeTopic.{ChangeTopic}
+use Rattle.plant_model.specs.declared.rows.ChangeTopic.TheVariants.{Limit as LimitTopic, Matrix as MatrixTopic, Record as RecordTopic}
 use Rattle.plant_ration.specs.declared.cell.Cell.{Cell}
 use Rattle.plant_ration.specs.declared.cell.Cell.TheVariants.{N, P1, P2, P3, P4}
+use Rattle.plant_ration.specs.declared.change.ChangeState.{ChangeState}
+use Rattle.plant_ration.specs.declared.change.ChangeState.TheVariants.{Approved, Proposed, Rejected, Withdrawn}
 use Rattle.plant_types.specs.declared.role.Role.{Role}
 use Rattle.plant_types.specs.declared.role.Role.TheVariants.{Approver, Engineer, Maintainer, Operator, Steward, Viewer}
 use Rattle.plant_types.specs.Roles.{role_no}
@@ -103,6 +107,42 @@ kind_numbered n =
 
 abbrev pub kind_in : Value → EventKind
 kind_in v = kind_numbered (number_in v)
+
+-- what a change is of, 1 to 3
+abbrev pub topic_no : ChangeTopic → ℕ
+topic_no RecordTopic = 1
+topic_no MatrixTopic = 2
+topic_no LimitTopic = 3
+
+abbrev pub topic : ChangeTopic → Value
+topic t = number (topic_no t)
+
+abbrev pub topic_numbered : ℕ → ChangeTopic
+topic_numbered n =
+    if n == 1 then RecordTopic
+    else (if n == 2 then MatrixTopic else LimitTopic)
+
+abbrev pub topic_in : Value → ChangeTopic
+topic_in v = topic_numbered (number_in v)
+
+-- the states of a change, 1 to 4
+abbrev pub decision_no : ChangeState → ℕ
+decision_no Proposed = 1
+decision_no Approved = 2
+decision_no Rejected = 3
+decision_no Withdrawn = 4
+
+abbrev pub change_state : ChangeState → Value
+change_state s = number (decision_no s)
+
+abbrev pub decision_numbered : ℕ → ChangeState
+decision_numbered n =
+    if n == 1 then Proposed
+    else (if n == 2 then Approved
+    else (if n == 3 then Rejected else Withdrawn))
+
+abbrev pub change_state_in : Value → ChangeState
+change_state_in v = decision_numbered (number_in v)
 
 -- the cells of a matrix: 0 for N, and 1 to 4 for P1 to P4
 abbrev pub cell_no : Cell → ℕ

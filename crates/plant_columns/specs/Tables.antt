@@ -14,13 +14,15 @@ use Rattle.plant_alarm.specs.declared.event.Event.{Event}
 use Rattle.plant_model.specs.declared.rows.AlarmRow.{AlarmRow}
 use Rattle.plant_model.specs.declared.rows.BandRow.{BandRow}
 use Rattle.plant_model.specs.declared.rows.CellRow.{CellRow}
+use Rattle.plant_model.specs.declared.rows.ChangeEntry.{ChangeEntry}
 use Rattle.plant_model.specs.declared.rows.GrantRow.{GrantRow}
+use Rattle.plant_model.specs.declared.rows.RecordEntry.{RecordEntry}
 use Rattle.plant_model.specs.declared.rows.ShelfRow.{ShelfRow}
 use Rattle.plant_model.specs.declared.rows.UnitRow.{UnitRow}
 use Rattle.plant_model.specs.declared.rows.UnitRows.{UnitRows}
 use Rattle.plant_model.specs.Matrices.{BandKey, CellKey, band_cmp, cell_cmp}
-use Rattle.plant_model.specs.RowFacts.{alarm_tag, band_key, cell_key, event_number, pair_of, shelf_tag}
-use Rattle.plant_columns.specs.Codes.{alarm_state, cell, cell_in, flag, flag_in, kind, kind_in, number, number_in, open_number, open_number_in, open_text, open_text_in, role, role_in, state_in}
+use Rattle.plant_model.specs.RowFacts.{alarm_tag, band_key, cell_key, change_number, event_number, pair_of, record_tag, shelf_tag}
+use Rattle.plant_columns.specs.Codes.{alarm_state, cell, cell_in, change_state, change_state_in, flag, flag_in, kind, kind_in, number, number_in, open_number, open_number_in, open_text, open_text_in, role, role_in, state_in, topic, topic_in}
 use Rattle.plant_tables.specs.Shape.{AreTables, Shape, seen, table_in}
 use Rattle.plant_tables.specs.Tables.{column_of, index_of, open_column}
 use Rattle.plant_types.specs.Names.{Name, name_cmp}
@@ -35,6 +37,8 @@ pub data Kept : Type 0 where
   BandKept : Kept
   CellKept : Kept
   EventKept : Kept
+  RecordKept : Kept
+  ChangeKept : Kept
 
 abbrev pub RowOf : Kept → Type 0
 RowOf UnitKept = UnitRow
@@ -44,6 +48,8 @@ RowOf ShelfKept = ShelfRow
 RowOf BandKept = BandRow
 RowOf CellKept = CellRow
 RowOf EventKept = Event
+RowOf RecordKept = RecordEntry
+RowOf ChangeKept = ChangeEntry
 
 abbrev pub KeyOf : Kept → Type 0
 KeyOf UnitKept = ℕ
@@ -53,6 +59,8 @@ KeyOf ShelfKept = Name
 KeyOf BandKept = BandKey
 KeyOf CellKept = CellKey
 KeyOf EventKept = ℕ
+KeyOf RecordKept = Name
+KeyOf ChangeKept = ℕ
 
 abbrev pub text_column : List ℕ → Column
 text_column name = column_of name TextKind
@@ -174,6 +182,50 @@ event_shape = record {
   read = λ r. record { seq = number_in (column r 2); moment = number_in (column r 3); tag = bytes (column r 4); kind = kind_in (column r 5) };
 }
 
+abbrev pub record_shape : Shape RecordEntry Name
+record_shape = record {
+  name = codes "records";
+  place = 8;
+  tree = 15;
+  columns = text_column (codes "unit") ∷ text_column (codes "tag") ∷ number_column (codes "change_no") ∷ number_column (codes "rev") ∷ number_column (codes "cell_no") ∷ [];
+  keys = 2 ∷ [];
+  order = name_cmp;
+  key = record_tag;
+  cells = λ r. Text r.tag ∷ number r.change_no ∷ number r.rev ∷ cell r.cell_no ∷ [];
+  read = λ r. record { tag = bytes (column r 2); change_no = number_in (column r 3); rev = number_in (column r 4); cell_no = cell_in (column r 5) };
+}
+
+abbrev pub change_shape : Shape ChangeEntry ℕ
+change_shape = record {
+  name = codes "changes";
+  place = 9;
+  tree = 17;
+  columns = text_column (codes "unit") ∷ number_column (codes "number") ∷ text_column (codes "proposer") ∷ number_column (codes "proposed_s") ∷ number_column (codes "kind_no") ∷ open_text_column (codes "tag") ∷ number_column (codes "base")
+      ∷ open_text_column (codes "cause") ∷ open_text_column (codes "consequence") ∷ open_text_column (codes "remedy") ∷ open_number_column (codes "severity") ∷ open_number_column (codes "response_s") ∷ open_number_column (codes "max_s")
+      ∷ number_column (codes "state_no") ∷ open_text_column (codes "decider") ∷ open_number_column (codes "decided_s") ∷ [];
+  keys = 2 ∷ [];
+  order = nat_cmp;
+  key = change_number;
+  cells = λ c. number c.number ∷ Text c.proposer ∷ number c.proposed_s ∷ topic c.kind_no ∷ open_text c.tag ∷ number c.base ∷ open_text c.cause ∷ open_text c.consequence ∷ open_text c.remedy ∷ open_number c.severity ∷ open_number c.response_s ∷ open_number c.max_s ∷ change_state c.state_no ∷ open_text c.decider ∷ open_number c.decided_s ∷ [];
+  read = λ r. record {
+    number = number_in (column r 2);
+    proposer = bytes (column r 3);
+    proposed_s = number_in (column r 4);
+    kind_no = topic_in (column r 5);
+    tag = open_text_in (column r 6);
+    base = number_in (column r 7);
+    cause = open_text_in (column r 8);
+    consequence = open_text_in (column r 9);
+    remedy = open_text_in (column r 10);
+    severity = open_number_in (column r 11);
+    response_s = open_number_in (column r 12);
+    max_s = open_number_in (column r 13);
+    state_no = change_state_in (column r 14);
+    decider = open_text_in (column r 15);
+    decided_s = open_number_in (column r 16);
+  };
+}
+
 abbrev pub shape : (i : Kept) → Shape (RowOf i) (KeyOf i)
 shape UnitKept = unit_shape
 shape GrantKept = grant_shape
@@ -182,6 +234,8 @@ shape ShelfKept = shelf_shape
 shape BandKept = band_shape
 shape CellKept = cell_shape
 shape EventKept = event_shape
+shape RecordKept = record_shape
+shape ChangeKept = change_shape
 
 -- the rows of one table among a unit's rows
 abbrev pub rows_at : (i : Kept) → UnitRows → List (RowOf i)
@@ -192,6 +246,8 @@ rows_at ShelfKept rows = rows.shelves
 rows_at BandKept rows = rows.bands
 rows_at CellKept rows = rows.cells
 rows_at EventKept rows = rows.events
+rows_at RecordKept rows = rows.records
+rows_at ChangeKept rows = rows.changes
 
 -- the office's own table, whose key is the rowid
 abbrev pub office_table : Table
@@ -221,7 +277,7 @@ abbrev pub key_index : {X K : Type 0} → List ℕ → Shape X K → Index
 key_index name s = index_of name (suc s.tree) s.tree (1 ∷ s.keys) true
 
 abbrev pub by_person : Index
-by_person = index_of (codes "grants_by_person") 15 grant_shape.tree (2 ∷ 1 ∷ []) false
+by_person = index_of (codes "grants_by_person") 19 grant_shape.tree (2 ∷ 1 ∷ []) false
 
 -- after each of the statements that make it
 abbrev pub no_schema : Schema
@@ -274,11 +330,30 @@ events_schema = record {
   views = [];
 }
 
+abbrev pub records_schema : Schema
+records_schema = record {
+  tables = office_table ∷ table_in unit_shape ∷ table_in grant_shape ∷ table_in alarm_shape ∷ table_in shelf_shape ∷ table_in band_shape ∷ table_in cell_shape ∷ table_in event_shape ∷ table_in record_shape ∷ [];
+  indexes = key_index (codes "sqlite_autoindex_units_1") unit_shape ∷ key_index (codes "sqlite_autoindex_grants_1") grant_shape ∷ key_index (codes "sqlite_autoindex_alarms_1") alarm_shape ∷ key_index (codes "sqlite_autoindex_shelves_1") shelf_shape
+      ∷ key_index (codes "sqlite_autoindex_bands_1") band_shape ∷ key_index (codes "sqlite_autoindex_cells_1") cell_shape ∷ key_index (codes "sqlite_autoindex_events_1") event_shape
+      ∷ key_index (codes "sqlite_autoindex_records_1") record_shape ∷ [];
+  views = [];
+}
+
+abbrev pub changes_schema : Schema
+changes_schema = record {
+  tables = office_table ∷ table_in unit_shape ∷ table_in grant_shape ∷ table_in alarm_shape ∷ table_in shelf_shape ∷ table_in band_shape ∷ table_in cell_shape ∷ table_in event_shape ∷ table_in record_shape ∷ table_in change_shape ∷ [];
+  indexes = key_index (codes "sqlite_autoindex_units_1") unit_shape ∷ key_index (codes "sqlite_autoindex_grants_1") grant_shape ∷ key_index (codes "sqlite_autoindex_alarms_1") alarm_shape ∷ key_index (codes "sqlite_autoindex_shelves_1") shelf_shape
+      ∷ key_index (codes "sqlite_autoindex_bands_1") band_shape ∷ key_index (codes "sqlite_autoindex_cells_1") cell_shape ∷ key_index (codes "sqlite_autoindex_events_1") event_shape
+      ∷ key_index (codes "sqlite_autoindex_records_1") record_shape ∷ key_index (codes "sqlite_autoindex_changes_1") change_shape ∷ [];
+  views = [];
+}
+
 abbrev pub books_schema : Schema
 books_schema = record {
-  tables = office_table ∷ table_in unit_shape ∷ table_in grant_shape ∷ table_in alarm_shape ∷ table_in shelf_shape ∷ table_in band_shape ∷ table_in cell_shape ∷ table_in event_shape ∷ [];
+  tables = office_table ∷ table_in unit_shape ∷ table_in grant_shape ∷ table_in alarm_shape ∷ table_in shelf_shape ∷ table_in band_shape ∷ table_in cell_shape ∷ table_in event_shape ∷ table_in record_shape ∷ table_in change_shape ∷ [];
   indexes = key_index (codes "sqlite_autoindex_units_1") unit_shape ∷ key_index (codes "sqlite_autoindex_grants_1") grant_shape ∷ key_index (codes "sqlite_autoindex_alarms_1") alarm_shape ∷ key_index (codes "sqlite_autoindex_shelves_1") shelf_shape
-      ∷ key_index (codes "sqlite_autoindex_bands_1") band_shape ∷ key_index (codes "sqlite_autoindex_cells_1") cell_shape ∷ key_index (codes "sqlite_autoindex_events_1") event_shape ∷ by_person ∷ [];
+      ∷ key_index (codes "sqlite_autoindex_bands_1") band_shape ∷ key_index (codes "sqlite_autoindex_cells_1") cell_shape ∷ key_index (codes "sqlite_autoindex_events_1") event_shape
+      ∷ key_index (codes "sqlite_autoindex_records_1") record_shape ∷ key_index (codes "sqlite_autoindex_changes_1") change_shape ∷ by_person ∷ [];
   views = [];
 }
 

@@ -7,11 +7,13 @@ ghost use Rattle.plant_columns.specs.Causes.{IsNoMemory, MemoryIsOfText};
 ghost use Rattle.plant_columns.specs.Codes as codes;
 ghost use Rattle.plant_columns.specs.Shown.{columns};
 ghost use Rattle.plant_types.specs.Text.{is_text};
-ghost use Rattle.plant_columns.specs.Tables.{unit_shape, grant_shape, alarm_shape, shelf_shape, band_shape, cell_shape, event_shape};
+ghost use Rattle.plant_columns.specs.Tables.{unit_shape, grant_shape, alarm_shape, shelf_shape, band_shape, cell_shape, event_shape, record_shape, change_shape};
 
 use plant_alarm::{AlarmState, Event, EventKind, Number};
-use plant_model::{AlarmRow, BandRow, CellRow, GrantRow, ShelfRow, UnitRow};
-use plant_ration::Cell;
+use plant_model::{
+    AlarmRow, BandRow, CellRow, ChangeEntry, ChangeTopic, GrantRow, RecordEntry, ShelfRow, UnitRow,
+};
+use plant_ration::{Cell, ChangeState};
 use plant_types::{Alphabet, Moment, Quota, Role, Seconds, Table, Text};
 use sqlite::types::{Type, ValueRef};
 use sqlite::{Error, ErrorCode, Row};
@@ -118,6 +120,26 @@ fn seconds(row: &Row, at: usize) -> Result<Seconds, Error>
     }
 }
 
+fn open_small(row: &Row, at: usize) -> Result<Option<u8>, Error>
+    ensures value { IfOk result (λ n. column row.now at ≡ codes.open_number n) }
+    ensures cause { IfErr result IsNoMemory }
+{
+    if let ValueRef::Null = row.get_ref(at)? {
+        return Ok(None);
+    }
+    Ok(Some(small(row, at)?))
+}
+
+fn open_seconds(row: &Row, at: usize) -> Result<Option<Seconds>, Error>
+    ensures value { IfOk result (λ n. column row.now at ≡ codes.open_number n) }
+    ensures cause { IfErr result IsNoMemory }
+{
+    if let ValueRef::Null = row.get_ref(at)? {
+        return Ok(None);
+    }
+    Ok(Some(seconds(row, at)?))
+}
+
 fn quota(row: &Row, at: usize) -> Result<Quota, Error>
     ensures value { IfOk result (λ n. column row.now at ≡ codes.number n) }
     ensures cause { IfErr result IsNoMemory }
@@ -190,6 +212,31 @@ fn kind(row: &Row, at: usize) -> Result<EventKind, Error>
         4 => Ok(EventKind::Reset),
         5 => Ok(EventKind::Sup),
         6 => Ok(EventKind::Unsup),
+        _ => Err(Error::IntegralValueOutOfRange(at)),
+    }
+}
+
+fn topic(row: &Row, at: usize) -> Result<ChangeTopic, Error>
+    ensures value { IfOk result (λ t. column row.now at ≡ codes.topic t) }
+    ensures cause { IfErr result IsNoMemory }
+{
+    match number(row, at)? {
+        1 => Ok(ChangeTopic::Record),
+        2 => Ok(ChangeTopic::Matrix),
+        3 => Ok(ChangeTopic::Limit),
+        _ => Err(Error::IntegralValueOutOfRange(at)),
+    }
+}
+
+fn change_state(row: &Row, at: usize) -> Result<ChangeState, Error>
+    ensures value { IfOk result (λ s. column row.now at ≡ codes.change_state s) }
+    ensures cause { IfErr result IsNoMemory }
+{
+    match number(row, at)? {
+        1 => Ok(ChangeState::Proposed),
+        2 => Ok(ChangeState::Approved),
+        3 => Ok(ChangeState::Rejected),
+        4 => Ok(ChangeState::Withdrawn),
         _ => Err(Error::IntegralValueOutOfRange(at)),
     }
 }
@@ -328,6 +375,47 @@ impl Shown for Event {
             moment: moment(row, 1)?,
             tag: text(alloc, row, 2)?,
             kind: kind(row, 3)?,
+        })
+    }
+}
+
+impl Shown for RecordEntry {
+    ghost width = { 4 };
+
+    ghost cells = { record_shape.cells };
+
+    fn from_row(alloc: Global, row: &Row) -> Result<RecordEntry, Error> {
+        Ok(RecordEntry {
+            tag: text(alloc, row, 0)?,
+            change_no: number(row, 1)?,
+            rev: number(row, 2)?,
+            cell_no: cell(row, 3)?,
+        })
+    }
+}
+
+impl Shown for ChangeEntry {
+    ghost width = { 15 };
+
+    ghost cells = { change_shape.cells };
+
+    fn from_row(alloc: Global, row: &Row) -> Result<ChangeEntry, Error> {
+        Ok(ChangeEntry {
+            number: number(row, 0)?,
+            proposer: text(alloc, row, 1)?,
+            proposed_s: moment(row, 2)?,
+            kind_no: topic(row, 3)?,
+            tag: open_text(alloc, row, 4)?,
+            base: number(row, 5)?,
+            cause: open_text(alloc, row, 6)?,
+            consequence: open_text(alloc, row, 7)?,
+            remedy: open_text(alloc, row, 8)?,
+            severity: open_small(row, 9)?,
+            response_s: open_seconds(row, 10)?,
+            max_s: open_seconds(row, 11)?,
+            state_no: change_state(row, 12)?,
+            decider: open_text(alloc, row, 13)?,
+            decided_s: open_moment(row, 14)?,
         })
     }
 }

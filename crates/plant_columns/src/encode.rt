@@ -5,11 +5,13 @@ ghost use Rattle.sqlite.specs.Values.{bound, bound_value};
 ghost use Rattle.sqlite_value.specs.Value.{owned};
 ghost use Rattle.sqlite_value.specs.declared.value.Value.TheVariants.{Text as TextValue};
 ghost use Rattle.plant_columns.specs.Codes as codes;
-ghost use Rattle.plant_columns.specs.Tables.{unit_shape, grant_shape, alarm_shape, shelf_shape, band_shape, cell_shape, event_shape};
+ghost use Rattle.plant_columns.specs.Tables.{unit_shape, grant_shape, alarm_shape, shelf_shape, band_shape, cell_shape, event_shape, record_shape, change_shape};
 
 use plant_alarm::{AlarmState, Event, EventKind, Number};
-use plant_model::{AlarmRow, BandRow, CellRow, GrantRow, ShelfRow, UnitRow};
-use plant_ration::Cell;
+use plant_model::{
+    AlarmRow, BandRow, CellRow, ChangeEntry, ChangeTopic, GrantRow, RecordEntry, ShelfRow, UnitRow,
+};
+use plant_ration::{Cell, ChangeState};
 use plant_types::{Alphabet, Moment, Person, Quota, Role, Seconds, Text, UnitCode};
 use sqlite::Error;
 use sqlite::types::ValueRef;
@@ -89,6 +91,27 @@ fn kind(kind: EventKind) -> ValueRef<'static>
     })
 }
 
+fn topic(topic: ChangeTopic) -> ValueRef<'static>
+    ensures { bound_value (owned result) ≡ codes.topic topic }
+{
+    number(match topic {
+        ChangeTopic::Record => 1,
+        ChangeTopic::Matrix => 2,
+        ChangeTopic::Limit => 3,
+    })
+}
+
+fn change_state(state: ChangeState) -> ValueRef<'static>
+    ensures { bound_value (owned result) ≡ codes.change_state state }
+{
+    number(match state {
+        ChangeState::Proposed => 1,
+        ChangeState::Approved => 2,
+        ChangeState::Rejected => 3,
+        ChangeState::Withdrawn => 4,
+    })
+}
+
 fn cell(cell: Cell) -> ValueRef<'static>
     ensures { bound_value (owned result) ≡ codes.cell cell }
 {
@@ -118,6 +141,24 @@ fn open_moment(moment_at: Option<Moment>) -> ValueRef<'static>
 {
     match moment_at {
         Some(at) => moment(at),
+        None => ValueRef::Null,
+    }
+}
+
+fn open_small(small: Option<u8>) -> ValueRef<'static>
+    ensures { bound_value (owned result) ≡ codes.open_number small }
+{
+    match small {
+        Some(small) => number(u32::from(small)),
+        None => ValueRef::Null,
+    }
+}
+
+fn open_seconds(length: Option<Seconds>) -> ValueRef<'static>
+    ensures { bound_value (owned result) ≡ codes.open_number length }
+{
+    match length {
+        Some(length) => seconds(length),
         None => ValueRef::Null,
     }
 }
@@ -239,6 +280,43 @@ pub fn event_cells<'a>(unit: &'a UnitCode, event: &'a Event) -> [ValueRef<'a>; 5
     ]
 }
 
+/// The columns of a record.
+pub fn record_cells<'a>(unit: &'a UnitCode, entry: &'a RecordEntry) -> [ValueRef<'a>; 5]
+    ensures { bound result ≡ TextValue unit.now ∷ record_shape.cells entry.now }
+{
+    [
+        text(unit),
+        text(&entry.tag),
+        number(entry.change_no),
+        number(entry.rev),
+        cell(entry.cell_no),
+    ]
+}
+
+/// The columns of a change.
+pub fn change_cells<'a>(unit: &'a UnitCode, change: &'a ChangeEntry) -> [ValueRef<'a>; 16]
+    ensures { bound result ≡ TextValue unit.now ∷ change_shape.cells change.now }
+{
+    [
+        text(unit),
+        number(change.number),
+        text(&change.proposer),
+        moment(change.proposed_s),
+        topic(change.kind_no),
+        open_text(&change.tag),
+        number(change.base),
+        open_text(&change.cause),
+        open_text(&change.consequence),
+        open_text(&change.remedy),
+        open_small(change.severity),
+        open_seconds(change.response_s),
+        open_seconds(change.max_s),
+        change_state(change.state_no),
+        open_text(&change.decider),
+        open_moment(change.decided_s),
+    ]
+}
+
 /// The columns of a grant's key.
 pub fn grant_key<'a>(unit: &'a UnitCode, person: &'a Person, held: Role) -> [ValueRef<'a>; 3]
     ensures { bound result ≡ TextValue unit.now ∷ TextValue person.now ∷ codes.role held ∷ [] }
@@ -251,6 +329,13 @@ pub fn pair<'a, C: Alphabet>(unit: &'a UnitCode, name: &'a Text<C>) -> [ValueRef
     ensures { bound result ≡ TextValue unit.now ∷ TextValue name.now ∷ [] }
 {
     [text(unit), text(name)]
+}
+
+/// A unit's code and a number.
+pub fn numbered<'a>(unit: &'a UnitCode, at: u32) -> [ValueRef<'a>; 2]
+    ensures { bound result ≡ TextValue unit.now ∷ codes.number at ∷ [] }
+{
+    [text(unit), number(at)]
 }
 
 /// A name alone.
