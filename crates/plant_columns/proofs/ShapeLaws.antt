@@ -114,7 +114,7 @@ cast_open_text (Some t) = refl
 
 -- ---- the order of values is that of what they hold
 
-numbers : (m n : ℕ) → value_cmp (number m) (number n) ≡ nat_cmp m n
+pub numbers : (m n : ℕ) → value_cmp (number m) (number n) ≡ nat_cmp m n
 numbers m n = value_cmp-Int (pos m) (pos n) ∙ int_cmp-pos m n
 
 one : {a b : Ordering} → a ≡ b → ordering_then a Equal ≡ b

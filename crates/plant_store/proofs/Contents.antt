@@ -9,7 +9,7 @@ use Rattle.plant_books.specs.Contents.{Content, IsKnownTo, after_changes, no_uni
 use Rattle.plant_model.specs.declared.rows.Change.{Change}
 use Rattle.plant_model.specs.declared.rows.Change.TheVariants.{Put, Remove}
 use Rattle.plant_model.specs.declared.rows.Key.TheVariants.{Grant as GrantKey, Shelf as ShelfKey}
-use Rattle.plant_model.specs.declared.rows.Row.TheVariants.{Alarm as AlarmPut, Band as BandPut, Cell as CellPut, Event as EventPut, Grant as GrantPut, Shelf as ShelfPut, Unit as UnitPut}
+use Rattle.plant_model.specs.declared.rows.Row.TheVariants.{Alarm as AlarmPut, Band as BandPut, Cell as CellPut, Change as ChangePut, Event as EventPut, Grant as GrantPut, Record as RecordPut, Shelf as ShelfPut, Unit as UnitPut}
 use Rattle.plant_model.specs.declared.rows.UnitRows.{UnitRows}
 use Rattle.plant_model.specs.RowChanges.{changed, changed_by, no_rows, puts_unit}
 use Rattle.plant_types.specs.Names.{Name, name_cmp, same_name}
@@ -20,7 +20,7 @@ use Rattle.plant_store.specs.Keeping.{KeepsIn, has_any}
 use Rattle.plant_store.specs.Making.{AreNew}
 use Rattle.plant_columns.specs.Tables.{AreBooks, AreSeen, Kept, rows_at, rows_seen, shape}
 use Rattle.plant_tables.specs.Shape.{rows_in as rows_of}
-use Rattle.plant_columns.specs.Tables.Kept.{UnitKept, GrantKept, AlarmKept, ShelfKept, BandKept, CellKept, EventKept}
+use Rattle.plant_columns.specs.Tables.Kept.{UnitKept, GrantKept, AlarmKept, ShelfKept, BandKept, CellKept, EventKept, RecordKept, ChangeKept}
 
 same_codes : (a b : Name) → same_name a b ≡ true → a ≡ b
 same_codes a b h = same_names a b (tied _ _ h refl)
@@ -35,6 +35,8 @@ still_there (Put (ShelfPut r) ∷ cs) rows h = still_there cs (changed (Put (She
 still_there (Put (BandPut r) ∷ cs) rows h = still_there cs (changed (Put (BandPut r)) rows) h
 still_there (Put (CellPut r) ∷ cs) rows h = still_there cs (changed (Put (CellPut r)) rows) h
 still_there (Put (EventPut r) ∷ cs) rows h = still_there cs (changed (Put (EventPut r)) rows) h
+still_there (Put (RecordPut r) ∷ cs) rows h = still_there cs (changed (Put (RecordPut r)) rows) h
+still_there (Put (ChangePut r) ∷ cs) rows h = still_there cs (changed (Put (ChangePut r)) rows) h
 still_there (Remove (GrantKey p r) ∷ cs) rows h = still_there cs (changed (Remove (GrantKey p r)) rows) h
 still_there (Remove (ShelfKey a) ∷ cs) rows h = still_there cs (changed (Remove (ShelfKey a)) rows) h
 
@@ -47,6 +49,8 @@ comes_there (Put (ShelfPut r) ∷ cs) rows h = comes_there cs (changed (Put (She
 comes_there (Put (BandPut r) ∷ cs) rows h = comes_there cs (changed (Put (BandPut r)) rows) h
 comes_there (Put (CellPut r) ∷ cs) rows h = comes_there cs (changed (Put (CellPut r)) rows) h
 comes_there (Put (EventPut r) ∷ cs) rows h = comes_there cs (changed (Put (EventPut r)) rows) h
+comes_there (Put (RecordPut r) ∷ cs) rows h = comes_there cs (changed (Put (RecordPut r)) rows) h
+comes_there (Put (ChangePut r) ∷ cs) rows h = comes_there cs (changed (Put (ChangePut r)) rows) h
 comes_there (Remove (GrantKey p r) ∷ cs) rows h = comes_there cs (changed (Remove (GrantKey p r)) rows) h
 comes_there (Remove (ShelfKey a) ∷ cs) rows h = comes_there cs (changed (Remove (ShelfKey a)) rows) h
 
@@ -113,7 +117,7 @@ pub any_is : {A : Type 0} (xs : List A) → Rattle.std.proofs.Common.not (Rattle
 any_is [] = refl
 any_is (x ∷ xs) = ap Rattle.std.proofs.Common.not (Rattle.std.proofs.Math.Dec.eqb-suc-zero (Rattle.std.proofs.Common.length xs))
 
--- the seven lists of a unit that was opened are its rows
+-- the nine lists of a unit that was opened are its rows
 pub whole_found : (s : State) (m : Content) (u : Name) → KeepsIn s m → (rows : UnitRows) → AreSeen u s.now rows → has_any rows.units ≡ true → ◌≡◌ {A = Option UnitRows} (Some rows) (get m.units u)
 whole_found s m u k rows seen any =
     let same : rows ≡ rows_in m u = λ i. record {
@@ -124,6 +128,8 @@ whole_found s m u k rows seen any =
       bands = (sym (seen BandKept) ∙ k.seen u BandKept) i;
       cells = (sym (seen CellKept) ∙ k.seen u CellKept) i;
       events = (sym (seen EventKept) ∙ k.seen u EventKept) i;
+      records = (sym (seen RecordKept) ∙ k.seen u RecordKept) i;
+      changes = (sym (seen ChangeKept) ∙ k.seen u ChangeKept) i;
     } in
     ap Some same ∙ sym (kept_rows s m u k (ap has_any (seen UnitKept) ∙ any))
 
@@ -140,6 +146,8 @@ nothing_at ShelfKept = refl
 nothing_at BandKept = refl
 nothing_at CellKept = refl
 nothing_at EventKept = refl
+nothing_at RecordKept = refl
+nothing_at ChangeKept = refl
 
 pub keeps_new : (s : State) (admin : Name) → AreNew admin s.now → KeepsIn s (no_units admin)
 keeps_new s admin it = record {

@@ -25,10 +25,10 @@ use Rattle.plant_tables.proofs.Changes.{KeepsOthers, creates, indexes, lone_step
 use Rattle.plant_tables.proofs.Family.{kept_at}
 use Rattle.plant_tables.proofs.Laws.{cast_int, cast_null}
 use Rattle.plant_store.specs.Making.{AreEmpty, AreNew}
-use Rattle.plant_columns.specs.Tables.{Kept, alarms_schema, alarm_shape, band_shape, bands_schema, books_schema, cell_shape, cells_schema, event_shape, events_schema, grant_shape, grants_schema, no_schema, office_row, office_schema, office_table, shape, shelf_shape, shelves_schema, unit_shape, units_schema}
-use Rattle.plant_columns.specs.Tables.Kept.{UnitKept, GrantKept, AlarmKept, ShelfKept, BandKept, CellKept, EventKept}
-use Rattle.plant_store.specs.Texts.{alarms_text, bands_text, by_person_text, cells_text, events_text, grants_text, office_text, put_office_text, shelves_text, units_text}
-use Rattle.plant_store.proofs.Meanings.{alarms_created, alarms_is, alarms_made, alarms_plain, bands_created, bands_is, bands_made, bands_plain, by_person_created, by_person_is, by_person_made, by_person_plain, cells_created, cells_is, cells_made, cells_plain, events_created, events_is, events_made, events_plain, grants_created, grants_is, grants_made, grants_plain, office_created, office_is, office_made, office_plain, put_office_is, put_office_plain, shelves_created, shelves_is, shelves_made, shelves_plain, units_created, units_is, units_made, units_plain}
+use Rattle.plant_columns.specs.Tables.{Kept, alarms_schema, alarm_shape, band_shape, bands_schema, books_schema, cell_shape, cells_schema, change_shape, changes_schema, event_shape, events_schema, grant_shape, grants_schema, no_schema, office_row, office_schema, office_table, record_shape, records_schema, shape, shelf_shape, shelves_schema, unit_shape, units_schema}
+use Rattle.plant_columns.specs.Tables.Kept.{UnitKept, GrantKept, AlarmKept, ShelfKept, BandKept, CellKept, EventKept, RecordKept, ChangeKept}
+use Rattle.plant_store.specs.Texts.{alarms_text, bands_text, by_person_text, cells_text, changes_text, events_text, grants_text, office_text, put_office_text, records_text, shelves_text, units_text}
+use Rattle.plant_store.proofs.Meanings.{alarms_created, alarms_is, alarms_made, alarms_plain, bands_created, bands_is, bands_made, bands_plain, by_person_created, by_person_is, by_person_made, by_person_plain, cells_created, cells_is, cells_made, cells_plain, changes_created, changes_is, changes_made, changes_plain, events_created, events_is, events_made, events_plain, grants_created, grants_is, grants_made, grants_plain, office_created, office_is, office_made, office_plain, put_office_is, put_office_plain, records_created, records_is, records_made, records_plain, shelves_created, shelves_is, shelves_made, shelves_plain, units_created, units_is, units_made, units_plain}
 use Rattle.plant_columns.proofs.ShapeLaws.{all_listed}
 use Rattle.plant_store.proofs.Writes.{free}
 
@@ -71,10 +71,16 @@ makes_cells = makes cells_text bands_schema cells_schema _ (table_in cell_shape)
 pub makes_events : (old new : State) → AreEmpty cells_schema old.now → (count : ℕ) → Executes events_text [] old new (Ok count) → AreEmpty events_schema new.now
 makes_events = makes events_text cells_schema events_schema _ (table_in event_shape) 13 refl refl events_is.0 events_is.1 events_plain events_made events_created refl refl
 
-pub makes_index : (old new : State) → AreEmpty events_schema old.now → (count : ℕ) → Executes by_person_text [] old new (Ok count) → AreEmpty books_schema new.now
+pub makes_records : (old new : State) → AreEmpty events_schema old.now → (count : ℕ) → Executes records_text [] old new (Ok count) → AreEmpty records_schema new.now
+makes_records = makes records_text events_schema records_schema _ (table_in record_shape) 15 refl refl records_is.0 records_is.1 records_plain records_made records_created refl refl
+
+pub makes_changes : (old new : State) → AreEmpty records_schema old.now → (count : ℕ) → Executes changes_text [] old new (Ok count) → AreEmpty changes_schema new.now
+makes_changes = makes changes_text records_schema changes_schema _ (table_in change_shape) 17 refl refl changes_is.0 changes_is.1 changes_plain changes_made changes_created refl refl
+
+pub makes_index : (old new : State) → AreEmpty changes_schema old.now → (count : ℕ) → Executes by_person_text [] old new (Ok count) → AreEmpty books_schema new.now
 makes_index old new has count h =
-    let it = indexes by_person_text events_schema books_schema 2 (table_in grant_shape) _ old new has.same_schema refl by_person_is.0 by_person_is.1 by_person_plain by_person_made by_person_created count h in
-    record { same_schema = it.schema; empty = still_empty events_schema.tables old.now.trees new.now.trees it.kept has.empty }
+    let it = indexes by_person_text changes_schema books_schema 2 (table_in grant_shape) _ old new has.same_schema refl by_person_is.0 by_person_is.1 by_person_plain by_person_made by_person_created count h in
+    record { same_schema = it.schema; empty = still_empty changes_schema.tables old.now.trees new.now.trees it.kept has.empty }
 
 -- ---- the office's row
 
@@ -89,6 +95,8 @@ empty_at ShelfKept db h = h.empty.1.1.1.1.0
 empty_at BandKept db h = h.empty.1.1.1.1.1.0
 empty_at CellKept db h = h.empty.1.1.1.1.1.1.0
 empty_at EventKept db h = h.empty.1.1.1.1.1.1.1.0
+empty_at RecordKept db h = h.empty.1.1.1.1.1.1.1.1.0
+empty_at ChangeKept db h = h.empty.1.1.1.1.1.1.1.1.1.0
 
 not_office : (i : Kept) → (shape i).tree ≢ 0
 not_office UnitKept e = omega arith
@@ -98,6 +106,8 @@ not_office ShelfKept e = omega arith
 not_office BandKept e = omega arith
 not_office CellKept e = omega arith
 not_office EventKept e = omega arith
+not_office RecordKept e = omega arith
+not_office ChangeKept e = omega arith
 
 pub makes_new : (admin : List ℕ) (old new : State) → AreEmpty books_schema old.now → (count : ℕ) → Executes put_office_text (Text admin ∷ []) old new (Ok count) → AreNew admin new.now
 makes_new admin old new has count h =

@@ -17,8 +17,8 @@ use Rattle.sqlite_tied.specs.Compute.{everything}
 use Rattle.sqlite_value.specs.declared.keys.Key.{Key}
 use Rattle.sqlite_value.specs.declared.value.Value.TheVariants.{Null, Int}
 use Rattle.sqlite_value.specs.Keys.{ascending}
-use Rattle.plant_store.specs.Texts.{office_text, units_text, grants_text, alarms_text, shelves_text, bands_text, cells_text, events_text, by_person_text, put_office_text, office_row_text, put_unit_text, put_grant_text, put_alarm_text, put_shelf_text, put_band_text, put_cell_text, put_event_text, remove_grant_text, remove_shelf_text, units_of_text, grants_of_text, alarms_of_text, shelves_of_text, bands_of_text, cells_of_text, events_of_text, own_grants_text, alarm_at_text, shelf_at_text, tags_of_text, mine_shelves_text, mine_text}
-use Rattle.plant_columns.specs.Tables.{office_table, unit_shape, grant_shape, alarm_shape, shelf_shape, band_shape, cell_shape, event_shape, by_person, no_schema, office_schema, units_schema, grants_schema, alarms_schema, shelves_schema, bands_schema, cells_schema, events_schema, books_schema}
+use Rattle.plant_store.specs.Texts.{office_text, units_text, grants_text, alarms_text, shelves_text, bands_text, cells_text, events_text, by_person_text, put_office_text, office_row_text, put_unit_text, put_grant_text, put_alarm_text, put_shelf_text, put_band_text, put_cell_text, put_event_text, remove_grant_text, remove_shelf_text, units_of_text, grants_of_text, alarms_of_text, shelves_of_text, bands_of_text, cells_of_text, events_of_text, own_grants_text, alarm_at_text, shelf_at_text, tags_of_text, mine_shelves_text, mine_text, records_text, changes_text, put_record_text, put_change_text, records_of_text, changes_of_text, record_at_text, bands_at_text, cells_at_text, change_at_text, numbers_of_text}
+use Rattle.plant_columns.specs.Tables.{office_table, unit_shape, grant_shape, alarm_shape, shelf_shape, band_shape, cell_shape, event_shape, by_person, no_schema, office_schema, units_schema, grants_schema, alarms_schema, shelves_schema, bands_schema, cells_schema, events_schema, books_schema, record_shape, change_shape, records_schema, changes_schema}
 use Rattle.plant_tables.specs.Kept.{plain_query}
 use Rattle.plant_tables.specs.Shape.{table_in}
 
@@ -152,18 +152,50 @@ pub events_plain : IsPlain (understood cells_schema events_text)
 unfolding understood everything
 events_plain = (refl, refl)
 
+pub records_made : table_defined_by records_text ≡ Ok (table_in (record record_shape { tree = 0 }))
+unfolding everything
+records_made = refl
+
+pub records_created : created events_schema (table_in (record record_shape { tree = 0 })) ≡ records_schema
+unfolding digits
+records_created = refl
+
+pub records_is : (command_of (understood events_schema records_text) ≡ CreateTable) × (statement_of records_text (understood events_schema records_text) ≡ records_text)
+unfolding understood everything
+records_is = (refl, refl)
+
+pub records_plain : IsPlain (understood events_schema records_text)
+unfolding understood everything
+records_plain = (refl, refl)
+
+pub changes_made : table_defined_by changes_text ≡ Ok (table_in (record change_shape { tree = 0 }))
+unfolding everything
+changes_made = refl
+
+pub changes_created : created records_schema (table_in (record change_shape { tree = 0 })) ≡ changes_schema
+unfolding digits
+changes_created = refl
+
+pub changes_is : (command_of (understood records_schema changes_text) ≡ CreateTable) × (statement_of changes_text (understood records_schema changes_text) ≡ changes_text)
+unfolding understood everything
+changes_is = (refl, refl)
+
+pub changes_plain : IsPlain (understood records_schema changes_text)
+unfolding understood everything
+changes_plain = (refl, refl)
+
 pub by_person_made : index_defined_by (table_in grant_shape) by_person_text ≡ Ok (record by_person { tree = 0 })
 unfolding everything
 by_person_made = refl
 
-pub by_person_created : indexed events_schema (table_in grant_shape) (record by_person { tree = 0 }) ≡ books_schema
+pub by_person_created : indexed changes_schema (table_in grant_shape) (record by_person { tree = 0 }) ≡ books_schema
 by_person_created = refl
 
-pub by_person_is : (command_of (understood events_schema by_person_text) ≡ CreateIndex 2) × (statement_of by_person_text (understood events_schema by_person_text) ≡ by_person_text)
+pub by_person_is : (command_of (understood changes_schema by_person_text) ≡ CreateIndex 2) × (statement_of by_person_text (understood changes_schema by_person_text) ≡ by_person_text)
 unfolding understood everything
 by_person_is = (refl, refl)
 
-pub by_person_plain : IsPlain (understood events_schema by_person_text)
+pub by_person_plain : IsPlain (understood changes_schema by_person_text)
 unfolding understood everything
 by_person_plain = (refl, refl)
 
@@ -259,6 +291,28 @@ pub put_event_plain : IsPlain (understood books_schema put_event_text)
 unfolding understood everything
 put_event_plain = (refl, refl)
 
+abbrev pub put_record_terms : List Term
+put_record_terms = lit Null ∷ col 0 0 ∷ col 0 1 ∷ col 0 2 ∷ col 0 3 ∷ col 0 4 ∷ []
+
+pub put_record_is : command_of (understood books_schema put_record_text) ≡ InsertOr 8 Replace (Values put_record_terms 6) []
+unfolding understood everything
+put_record_is = refl
+
+pub put_record_plain : IsPlain (understood books_schema put_record_text)
+unfolding understood everything
+put_record_plain = (refl, refl)
+
+abbrev pub put_change_terms : List Term
+put_change_terms = lit Null ∷ col 0 0 ∷ col 0 1 ∷ col 0 2 ∷ col 0 3 ∷ col 0 4 ∷ col 0 5 ∷ col 0 6 ∷ col 0 7 ∷ col 0 8 ∷ col 0 9 ∷ col 0 10 ∷ col 0 11 ∷ col 0 12 ∷ col 0 13 ∷ col 0 14 ∷ col 0 15 ∷ []
+
+pub put_change_is : command_of (understood books_schema put_change_text) ≡ InsertOr 9 Replace (Values put_change_terms 17) []
+unfolding understood everything
+put_change_is = refl
+
+pub put_change_plain : IsPlain (understood books_schema put_change_text)
+unfolding understood everything
+put_change_plain = (refl, refl)
+
 -- ---- tests of the first columns against the parameters, and the orders of the keys
 abbrev pub by_unit : List Term
 by_unit = op2 (Compare Eq Binary) (col 1 1) (col 0 0) ∷ []
@@ -343,6 +397,18 @@ event_shows = col 1 2 ∷ col 1 3 ∷ col 1 4 ∷ col 1 5 ∷ []
 abbrev pub event_names : List (List ℕ)
 event_names = codes "seq" ∷ codes "moment_s" ∷ codes "tag" ∷ codes "kind_no" ∷ []
 
+abbrev pub record_shows : List Term
+record_shows = col 1 2 ∷ col 1 3 ∷ col 1 4 ∷ col 1 5 ∷ []
+
+abbrev pub record_names : List (List ℕ)
+record_names = codes "tag" ∷ codes "change_no" ∷ codes "rev" ∷ codes "cell_no" ∷ []
+
+abbrev pub change_shows : List Term
+change_shows = col 1 2 ∷ col 1 3 ∷ col 1 4 ∷ col 1 5 ∷ col 1 6 ∷ col 1 7 ∷ col 1 8 ∷ col 1 9 ∷ col 1 10 ∷ col 1 11 ∷ col 1 12 ∷ col 1 13 ∷ col 1 14 ∷ col 1 15 ∷ col 1 16 ∷ []
+
+abbrev pub change_names : List (List ℕ)
+change_names = codes "number" ∷ codes "proposer" ∷ codes "proposed_s" ∷ codes "kind_no" ∷ codes "tag" ∷ codes "base" ∷ codes "cause" ∷ codes "consequence" ∷ codes "remedy" ∷ codes "severity" ∷ codes "response_s" ∷ codes "max_s" ∷ codes "state_no" ∷ codes "decider" ∷ codes "decided_s" ∷ []
+
 pub units_of_is : (command_of (understood books_schema units_of_text) ≡ Select (record { lets = []; body = plain_query (inner 1 end) by_unit unit_shows order_1 }) unit_names) × (reads_listing books_schema units_of_text ≡ false)
 unfolding understood everything
 units_of_is = (refl, refl)
@@ -399,6 +465,22 @@ pub events_of_plain : IsPlain (understood books_schema events_of_text)
 unfolding understood everything
 events_of_plain = (refl, refl)
 
+pub records_of_is : (command_of (understood books_schema records_of_text) ≡ Select (record { lets = []; body = plain_query (inner 15 end) by_unit record_shows order_2 }) record_names) × (reads_listing books_schema records_of_text ≡ false)
+unfolding understood everything
+records_of_is = (refl, refl)
+
+pub records_of_plain : IsPlain (understood books_schema records_of_text)
+unfolding understood everything
+records_of_plain = (refl, refl)
+
+pub changes_of_is : (command_of (understood books_schema changes_of_text) ≡ Select (record { lets = []; body = plain_query (inner 17 end) by_unit change_shows order_2 }) change_names) × (reads_listing books_schema changes_of_text ≡ false)
+unfolding understood everything
+changes_of_is = (refl, refl)
+
+pub changes_of_plain : IsPlain (understood books_schema changes_of_text)
+unfolding understood everything
+changes_of_plain = (refl, refl)
+
 pub own_grants_is : (command_of (understood books_schema own_grants_text) ≡ Select (record { lets = []; body = plain_query (inner 3 end) by_two grant_shows order_3 }) grant_names) × (reads_listing books_schema own_grants_text ≡ false)
 unfolding understood everything
 own_grants_is = (refl, refl)
@@ -423,6 +505,38 @@ pub shelf_at_plain : IsPlain (understood books_schema shelf_at_text)
 unfolding understood everything
 shelf_at_plain = (refl, refl)
 
+pub record_at_is : (command_of (understood books_schema record_at_text) ≡ Select (record { lets = []; body = plain_query (inner 15 end) by_two record_shows order_2 }) record_names) × (reads_listing books_schema record_at_text ≡ false)
+unfolding understood everything
+record_at_is = (refl, refl)
+
+pub record_at_plain : IsPlain (understood books_schema record_at_text)
+unfolding understood everything
+record_at_plain = (refl, refl)
+
+pub bands_at_is : (command_of (understood books_schema bands_at_text) ≡ Select (record { lets = []; body = plain_query (inner 9 end) by_two band_shows order_3 }) band_names) × (reads_listing books_schema bands_at_text ≡ false)
+unfolding understood everything
+bands_at_is = (refl, refl)
+
+pub bands_at_plain : IsPlain (understood books_schema bands_at_text)
+unfolding understood everything
+bands_at_plain = (refl, refl)
+
+pub cells_at_is : (command_of (understood books_schema cells_at_text) ≡ Select (record { lets = []; body = plain_query (inner 11 end) by_two cell_shows order_4 }) cell_names) × (reads_listing books_schema cells_at_text ≡ false)
+unfolding understood everything
+cells_at_is = (refl, refl)
+
+pub cells_at_plain : IsPlain (understood books_schema cells_at_text)
+unfolding understood everything
+cells_at_plain = (refl, refl)
+
+pub change_at_is : (command_of (understood books_schema change_at_text) ≡ Select (record { lets = []; body = plain_query (inner 17 end) by_two change_shows order_2 }) change_names) × (reads_listing books_schema change_at_text ≡ false)
+unfolding understood everything
+change_at_is = (refl, refl)
+
+pub change_at_plain : IsPlain (understood books_schema change_at_text)
+unfolding understood everything
+change_at_plain = (refl, refl)
+
 pub tags_of_is : (command_of (understood books_schema tags_of_text) ≡ Select (record { lets = []; body = plain_query (inner 5 end) by_unit (col 1 2 ∷ []) order_2 }) (codes "tag" ∷ [])) × (reads_listing books_schema tags_of_text ≡ false)
 unfolding understood everything
 tags_of_is = (refl, refl)
@@ -430,6 +544,14 @@ tags_of_is = (refl, refl)
 pub tags_of_plain : IsPlain (understood books_schema tags_of_text)
 unfolding understood everything
 tags_of_plain = (refl, refl)
+
+pub numbers_of_is : (command_of (understood books_schema numbers_of_text) ≡ Select (record { lets = []; body = plain_query (inner 17 end) by_unit (col 1 2 ∷ []) order_2 }) (codes "number" ∷ [])) × (reads_listing books_schema numbers_of_text ≡ false)
+unfolding understood everything
+numbers_of_is = (refl, refl)
+
+pub numbers_of_plain : IsPlain (understood books_schema numbers_of_text)
+unfolding understood everything
+numbers_of_plain = (refl, refl)
 
 abbrev pub mine_tests : List Term
 mine_tests = op2 (Compare Eq Binary) (col 2 1) (col 1 1) ∷ op2 (Compare Eq Binary) (col 1 2) (col 0 0) ∷ []

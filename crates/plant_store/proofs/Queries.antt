@@ -2,6 +2,7 @@
 use Rattle.std.proofs.Common.{◌≡◌, ℕ, Bool, true, false, ◌&&◌, List, [], ◌∷◌, map, filter, Option, None, Some, Ok, Err, Result, IfOk, refl, sym, ap, ap₂, ◌∙◌, subst, is_eq}
 use Rattle.std.specs.Cmp.{eq_by_cmp_equiv}
 use Rattle.std.specs.Cmp.Lexicographic.{nat_list_cmp_total}
+use Rattle.std.proofs.lemmas.Cmp.{nat_cmp_total}
 use Rattle.sqlite.specs.Collation.TheVariants.{Binary}
 use Rattle.sqlite.specs.State.{State, Shown}
 use Rattle.sqlite_schema.specs.Rules.{equal}
@@ -10,18 +11,21 @@ use Rattle.sqlite_value.specs.declared.value.Value.{Value}
 use Rattle.sqlite_value.specs.declared.value.Value.TheVariants.{Null, Text}
 use Rattle.sqlite_value.specs.Order.{Row, column, value_cmp}
 use Rattle.sqlite_value.proofs.OrderLemmas.{value_cmp-Text}
+use Rattle.plant_model.specs.Histories.{same_number}
 use Rattle.plant_model.specs.declared.rows.AlarmRow.{AlarmRow}
+use Rattle.plant_model.specs.declared.rows.ChangeEntry.{ChangeEntry}
 use Rattle.plant_types.specs.Names.{Name, same_name}
 use Rattle.plant_tables.specs.Kept.{is_of}
 use Rattle.plant_tables.specs.Shape.{Shape}
 use Rattle.plant_tables.proofs.Keys.{equal_is}
 use Rattle.plant_tables.proofs.Shapes.{IsShape, finds_rows, shown_kept, some_kept}
+use Rattle.plant_columns.specs.Codes.{number}
 use Rattle.plant_columns.specs.Shown.{columns}
-use Rattle.plant_columns.specs.Tables.{AreBooks, books_schema, rows_seen, unit_shape, grant_shape, alarm_shape, shelf_shape, band_shape, cell_shape, event_shape}
-use Rattle.plant_columns.specs.Tables.Kept.{UnitKept, GrantKept, AlarmKept, ShelfKept, BandKept, CellKept, EventKept}
-use Rattle.plant_store.specs.Texts.{units_of_text, grants_of_text, alarms_of_text, shelves_of_text, bands_of_text, cells_of_text, events_of_text, own_grants_text, alarm_at_text, shelf_at_text, tags_of_text}
-use Rattle.plant_store.proofs.Meanings.{by_unit, by_two, order_1, order_2, order_3, order_4, unit_shows, grant_shows, alarm_shows, shelf_shows, band_shows, cell_shows, event_shows, unit_names, grant_names, alarm_names, shelf_names, band_names, cell_names, event_names, units_of_is, grants_of_is, alarms_of_is, shelves_of_is, bands_of_is, cells_of_is, events_of_is, own_grants_is, alarm_at_is, shelf_at_is, tags_of_is, units_of_plain, grants_of_plain, alarms_of_plain, shelves_of_plain, bands_of_plain, cells_of_plain, events_of_plain, own_grants_plain, alarm_at_plain, shelf_at_plain, tags_of_plain}
-use Rattle.plant_columns.proofs.ShapeLaws.{good}
+use Rattle.plant_columns.specs.Tables.{AreBooks, books_schema, rows_seen, unit_shape, grant_shape, alarm_shape, shelf_shape, band_shape, cell_shape, event_shape, record_shape, change_shape}
+use Rattle.plant_columns.specs.Tables.Kept.{UnitKept, GrantKept, AlarmKept, ShelfKept, BandKept, CellKept, EventKept, RecordKept, ChangeKept}
+use Rattle.plant_store.specs.Texts.{units_of_text, grants_of_text, alarms_of_text, shelves_of_text, bands_of_text, cells_of_text, events_of_text, own_grants_text, alarm_at_text, shelf_at_text, tags_of_text, records_of_text, changes_of_text, record_at_text, bands_at_text, cells_at_text, change_at_text, numbers_of_text}
+use Rattle.plant_store.proofs.Meanings.{by_unit, by_two, order_1, order_2, order_3, order_4, unit_shows, grant_shows, alarm_shows, shelf_shows, band_shows, cell_shows, event_shows, unit_names, grant_names, alarm_names, shelf_names, band_names, cell_names, event_names, units_of_is, grants_of_is, alarms_of_is, shelves_of_is, bands_of_is, cells_of_is, events_of_is, own_grants_is, alarm_at_is, shelf_at_is, tags_of_is, units_of_plain, grants_of_plain, alarms_of_plain, shelves_of_plain, bands_of_plain, cells_of_plain, events_of_plain, own_grants_plain, alarm_at_plain, shelf_at_plain, tags_of_plain, record_shows, record_names, change_shows, change_names, records_of_is, records_of_plain, changes_of_is, changes_of_plain, record_at_is, record_at_plain, bands_at_is, bands_at_plain, cells_at_is, cells_at_plain, change_at_is, change_at_plain, numbers_of_is, numbers_of_plain}
+use Rattle.plant_columns.proofs.ShapeLaws.{good, numbers}
 
 -- ---- what was shown is read back
 
@@ -49,12 +53,22 @@ one_test v u = and_true _ ∙ equal_is v (Text u) refl
 two_tests : (v w : Value) (u p : List ℕ) → (equal Binary v (Text u) && (equal Binary w (Text p) && true)) ≡ (is_eq (value_cmp v (Text u)) && is_eq (value_cmp w (Text p)))
 two_tests v w u p = ap₂ ◌&&◌ (equal_is v (Text u) refl) (one_test w p)
 
+number_tests : (v w : Value) (u : List ℕ) (n : ℕ) → (equal Binary v (Text u) && (equal Binary w (number n) && true)) ≡ (is_eq (value_cmp v (Text u)) && is_eq (value_cmp w (number n)))
+number_tests v w u n = ap₂ ◌&&◌ (equal_is v (Text u) refl) (and_true _ ∙ equal_is w (number n) refl)
+
 -- the second column has this name
 abbrev pub is_named : List ℕ → Row → Bool
 is_named name r = is_eq (value_cmp (column r 2) (Text name))
 
 named_same : (a b : Name) → is_eq (value_cmp (Text a) (Text b)) ≡ same_name b a
 named_same a b = ap is_eq (value_cmp-Text a b) ∙ (eq_by_cmp_equiv nat_list_cmp_total).symm a b
+
+-- the second column has this number
+abbrev pub is_numbered : ℕ → Row → Bool
+is_numbered n r = is_eq (value_cmp (column r 2) (number n))
+
+numbered_same : (m n : ℕ) → is_eq (value_cmp (number m) (number n)) ≡ same_number n m
+numbered_same m n = ap is_eq (numbers m n) ∙ (eq_by_cmp_equiv nat_cmp_total).symm m n
 
 -- ---- all rows of a unit
 
@@ -93,7 +107,17 @@ find_events u old new books rows h =
     finds_rows event_shape (good EventKept) books_schema events_of_text by_unit event_shows order_2 event_names events_of_is.0 events_of_is.1 events_of_plain (Text u ∷ []) refl (is_of u) (λ r. one_test (column r 1) u) old new books.same_schema (books.tidy EventKept).apart rows h
     ∙ shown_kept event_shape (good EventKept) _ event_shape.cells (λ id v x. refl) (is_of u) (old.now.trees 13) (books.tidy EventKept).each
 
--- ---- those of one person, or of one tag
+pub find_records : (u : Name) (old new : State) → AreBooks old.now → (rows : List Row) → Shown records_of_text (Text u ∷ []) old new rows → rows ≡ map record_shape.cells (rows_seen u old.now.trees RecordKept)
+find_records u old new books rows h =
+    finds_rows record_shape (good RecordKept) books_schema records_of_text by_unit record_shows order_2 record_names records_of_is.0 records_of_is.1 records_of_plain (Text u ∷ []) refl (is_of u) (λ r. one_test (column r 1) u) old new books.same_schema (books.tidy RecordKept).apart rows h
+    ∙ shown_kept record_shape (good RecordKept) _ record_shape.cells (λ id v x. refl) (is_of u) (old.now.trees 15) (books.tidy RecordKept).each
+
+pub find_changes : (u : Name) (old new : State) → AreBooks old.now → (rows : List Row) → Shown changes_of_text (Text u ∷ []) old new rows → rows ≡ map change_shape.cells (rows_seen u old.now.trees ChangeKept)
+find_changes u old new books rows h =
+    finds_rows change_shape (good ChangeKept) books_schema changes_of_text by_unit change_shows order_2 change_names changes_of_is.0 changes_of_is.1 changes_of_plain (Text u ∷ []) refl (is_of u) (λ r. one_test (column r 1) u) old new books.same_schema (books.tidy ChangeKept).apart rows h
+    ∙ shown_kept change_shape (good ChangeKept) _ change_shape.cells (λ id v x. refl) (is_of u) (old.now.trees 17) (books.tidy ChangeKept).each
+
+-- ---- those of one person, of one tag, or of one number
 
 pub find_own_grants : (u p : Name) (old new : State) → AreBooks old.now → (rows : List Row) → Shown own_grants_text (Text u ∷ Text p ∷ []) old new rows
     → rows ≡ map grant_shape.cells (filter (λ g. same_name p g.person) (rows_seen u old.now.trees GrantKept))
@@ -116,11 +140,45 @@ find_shelf u a old new books rows h =
     ∙ shown_kept shelf_shape (good ShelfKept) _ shelf_shape.cells (λ id v x. refl) (λ r. is_of u r && is_named a r) (old.now.trees 7) (books.tidy ShelfKept).each
     ∙ ap (map shelf_shape.cells) (some_kept shelf_shape (good ShelfKept) (is_named a) (λ r. same_name a r.tag) (λ id v x. named_same x.tag a) u (old.now.trees 7) (books.tidy ShelfKept).each)
 
+pub find_record : (u a : Name) (old new : State) → AreBooks old.now → (rows : List Row) → Shown record_at_text (Text u ∷ Text a ∷ []) old new rows
+    → rows ≡ map record_shape.cells (filter (λ r. same_name a r.tag) (rows_seen u old.now.trees RecordKept))
+find_record u a old new books rows h =
+    finds_rows record_shape (good RecordKept) books_schema record_at_text by_two record_shows order_2 record_names record_at_is.0 record_at_is.1 record_at_plain (Text u ∷ Text a ∷ []) refl (λ r. is_of u r && is_named a r) (λ r. two_tests (column r 1) (column r 2) u a) old new books.same_schema (books.tidy RecordKept).apart rows h
+    ∙ shown_kept record_shape (good RecordKept) _ record_shape.cells (λ id v x. refl) (λ r. is_of u r && is_named a r) (old.now.trees 15) (books.tidy RecordKept).each
+    ∙ ap (map record_shape.cells) (some_kept record_shape (good RecordKept) (is_named a) (λ r. same_name a r.tag) (λ id v x. named_same x.tag a) u (old.now.trees 15) (books.tidy RecordKept).each)
+
+pub find_bands_at : (u : Name) (n : ℕ) (old new : State) → AreBooks old.now → (rows : List Row) → Shown bands_at_text (Text u ∷ number n ∷ []) old new rows
+    → rows ≡ map band_shape.cells (filter (λ r. same_number n r.matrix_no) (rows_seen u old.now.trees BandKept))
+find_bands_at u n old new books rows h =
+    finds_rows band_shape (good BandKept) books_schema bands_at_text by_two band_shows order_3 band_names bands_at_is.0 bands_at_is.1 bands_at_plain (Text u ∷ number n ∷ []) refl (λ r. is_of u r && is_numbered n r) (λ r. number_tests (column r 1) (column r 2) u n) old new books.same_schema (books.tidy BandKept).apart rows h
+    ∙ shown_kept band_shape (good BandKept) _ band_shape.cells (λ id v x. refl) (λ r. is_of u r && is_numbered n r) (old.now.trees 9) (books.tidy BandKept).each
+    ∙ ap (map band_shape.cells) (some_kept band_shape (good BandKept) (is_numbered n) (λ r. same_number n r.matrix_no) (λ id v x. numbered_same x.matrix_no n) u (old.now.trees 9) (books.tidy BandKept).each)
+
+pub find_cells_at : (u : Name) (n : ℕ) (old new : State) → AreBooks old.now → (rows : List Row) → Shown cells_at_text (Text u ∷ number n ∷ []) old new rows
+    → rows ≡ map cell_shape.cells (filter (λ r. same_number n r.matrix_no) (rows_seen u old.now.trees CellKept))
+find_cells_at u n old new books rows h =
+    finds_rows cell_shape (good CellKept) books_schema cells_at_text by_two cell_shows order_4 cell_names cells_at_is.0 cells_at_is.1 cells_at_plain (Text u ∷ number n ∷ []) refl (λ r. is_of u r && is_numbered n r) (λ r. number_tests (column r 1) (column r 2) u n) old new books.same_schema (books.tidy CellKept).apart rows h
+    ∙ shown_kept cell_shape (good CellKept) _ cell_shape.cells (λ id v x. refl) (λ r. is_of u r && is_numbered n r) (old.now.trees 11) (books.tidy CellKept).each
+    ∙ ap (map cell_shape.cells) (some_kept cell_shape (good CellKept) (is_numbered n) (λ r. same_number n r.matrix_no) (λ id v x. numbered_same x.matrix_no n) u (old.now.trees 11) (books.tidy CellKept).each)
+
+pub find_change : (u : Name) (n : ℕ) (old new : State) → AreBooks old.now → (rows : List Row) → Shown change_at_text (Text u ∷ number n ∷ []) old new rows
+    → rows ≡ map change_shape.cells (filter (λ r. same_number n r.number) (rows_seen u old.now.trees ChangeKept))
+find_change u n old new books rows h =
+    finds_rows change_shape (good ChangeKept) books_schema change_at_text by_two change_shows order_2 change_names change_at_is.0 change_at_is.1 change_at_plain (Text u ∷ number n ∷ []) refl (λ r. is_of u r && is_numbered n r) (λ r. number_tests (column r 1) (column r 2) u n) old new books.same_schema (books.tidy ChangeKept).apart rows h
+    ∙ shown_kept change_shape (good ChangeKept) _ change_shape.cells (λ id v x. refl) (λ r. is_of u r && is_numbered n r) (old.now.trees 17) (books.tidy ChangeKept).each
+    ∙ ap (map change_shape.cells) (some_kept change_shape (good ChangeKept) (is_numbered n) (λ r. same_number n r.number) (λ id v x. numbered_same x.number n) u (old.now.trees 17) (books.tidy ChangeKept).each)
+
 -- a unit's tags
 pub find_tags : (u : Name) (old new : State) → AreBooks old.now → (rows : List Row) → Shown tags_of_text (Text u ∷ []) old new rows → rows ≡ map (λ (r : AlarmRow). Text r.tag ∷ []) (rows_seen u old.now.trees AlarmKept)
 find_tags u old new books rows h =
     finds_rows alarm_shape (good AlarmKept) books_schema tags_of_text by_unit _ order_2 _ tags_of_is.0 tags_of_is.1 tags_of_plain (Text u ∷ []) refl (is_of u) (λ r. one_test (column r 1) u) old new books.same_schema (books.tidy AlarmKept).apart rows h
     ∙ shown_kept alarm_shape (good AlarmKept) _ (λ (r : AlarmRow). Text r.tag ∷ []) (λ id v x. refl) (is_of u) (old.now.trees 5) (books.tidy AlarmKept).each
+
+-- the numbers of a unit's changes
+pub find_numbers : (u : Name) (old new : State) → AreBooks old.now → (rows : List Row) → Shown numbers_of_text (Text u ∷ []) old new rows → rows ≡ map (λ (r : ChangeEntry). number r.number ∷ []) (rows_seen u old.now.trees ChangeKept)
+find_numbers u old new books rows h =
+    finds_rows change_shape (good ChangeKept) books_schema numbers_of_text by_unit _ order_2 _ numbers_of_is.0 numbers_of_is.1 numbers_of_plain (Text u ∷ []) refl (is_of u) (λ r. one_test (column r 1) u) old new books.same_schema (books.tidy ChangeKept).apart rows h
+    ∙ shown_kept change_shape (good ChangeKept) _ (λ (r : ChangeEntry). number r.number ∷ []) (λ id v x. refl) (is_of u) (old.now.trees 17) (books.tidy ChangeKept).each
 
 pub length_mapped : {A B : Type 0} (f : A → B) (xs : List A) → Rattle.std.proofs.Common.length (map f xs) ≡ Rattle.std.proofs.Common.length xs
 length_mapped f [] = refl

@@ -17,9 +17,11 @@ use Rattle.plant_model.specs.declared.rows.BandRow.{BandRow}
 use Rattle.plant_model.specs.declared.rows.CellRow.{CellRow}
 use Rattle.plant_model.specs.declared.rows.Change.{Change}
 use Rattle.plant_model.specs.declared.rows.Change.TheVariants.{Put, Remove}
+use Rattle.plant_model.specs.declared.rows.ChangeEntry.{ChangeEntry}
 use Rattle.plant_model.specs.declared.rows.GrantRow.{GrantRow}
+use Rattle.plant_model.specs.declared.rows.RecordEntry.{RecordEntry}
 use Rattle.plant_model.specs.declared.rows.Key.TheVariants.{Grant as GrantKey, Shelf as ShelfKey}
-use Rattle.plant_model.specs.declared.rows.Row.TheVariants.{Alarm as AlarmPut, Band as BandPut, Cell as CellPut, Event as EventPut, Grant as GrantPut, Shelf as ShelfPut, Unit as UnitPut}
+use Rattle.plant_model.specs.declared.rows.Row.TheVariants.{Alarm as AlarmPut, Band as BandPut, Cell as CellPut, Change as ChangePut, Event as EventPut, Grant as GrantPut, Record as RecordPut, Shelf as ShelfPut, Unit as UnitPut}
 use Rattle.plant_model.specs.declared.rows.ShelfRow.{ShelfRow}
 use Rattle.plant_model.specs.declared.rows.UnitRow.{UnitRow}
 use Rattle.plant_model.specs.declared.rows.UnitRows.{UnitRows}
@@ -34,13 +36,13 @@ use Rattle.plant_tables.proofs.Shapes.{puts_row, removes_row, rises}
 use Rattle.plant_columns.specs.Codes.{role}
 use Rattle.plant_store.specs.Changes.{Applies}
 use Rattle.plant_columns.specs.Tables.{AreBooks, AreSeen, Kept, KeyOf, RowOf, books_schema, office_table, own_key, rows_at, rows_seen, shape, unit_shape}
-use Rattle.plant_columns.specs.Tables.Kept.{UnitKept, GrantKept, AlarmKept, ShelfKept, BandKept, CellKept, EventKept}
-use Rattle.plant_store.specs.Texts.{put_unit_text, put_grant_text, put_alarm_text, put_shelf_text, put_band_text, put_cell_text, put_event_text, remove_grant_text, remove_shelf_text}
-use Rattle.plant_store.proofs.Meanings.{by_two, by_three, put_unit_terms, put_grant_terms, put_alarm_terms, put_shelf_terms, put_band_terms, put_cell_terms, put_event_terms, put_unit_is, put_grant_is, put_alarm_is, put_shelf_is, put_band_is, put_cell_is, put_event_is, put_unit_plain, put_grant_plain, put_alarm_plain, put_shelf_plain, put_band_plain, put_cell_plain, put_event_plain, remove_grant_is, remove_grant_plain, remove_shelf_is, remove_shelf_plain}
+use Rattle.plant_columns.specs.Tables.Kept.{UnitKept, GrantKept, AlarmKept, ShelfKept, BandKept, CellKept, EventKept, RecordKept, ChangeKept}
+use Rattle.plant_store.specs.Texts.{put_unit_text, put_grant_text, put_alarm_text, put_shelf_text, put_band_text, put_cell_text, put_change_text, put_event_text, put_record_text, remove_grant_text, remove_shelf_text}
+use Rattle.plant_store.proofs.Meanings.{by_two, by_three, put_unit_terms, put_grant_terms, put_alarm_terms, put_shelf_terms, put_band_terms, put_cell_terms, put_change_terms, put_event_terms, put_record_terms, put_unit_is, put_grant_is, put_alarm_is, put_shelf_is, put_band_is, put_cell_is, put_change_is, put_event_is, put_record_is, put_unit_plain, put_grant_plain, put_alarm_plain, put_shelf_plain, put_band_plain, put_cell_plain, put_change_plain, put_event_plain, put_record_plain, remove_grant_is, remove_grant_plain, remove_shelf_is, remove_shelf_plain}
 use Rattle.plant_columns.proofs.ShapeLaws.{all_listed, good, listed}
 
 pub free : HasNoReferences books_schema
-free = (refl, (refl, (refl, (refl, (refl, (refl, (refl, (refl, tt))))))))
+free = (refl, (refl, (refl, (refl, (refl, (refl, (refl, (refl, (refl, (refl, tt))))))))))
 
 -- ---- from one table to the changes of a unit
 
@@ -52,6 +54,8 @@ office_apart ShelfKept e = omega arith
 office_apart BandKept e = omega arith
 office_apart CellKept e = omega arith
 office_apart EventKept e = omega arith
+office_apart RecordKept e = omega arith
+office_apart ChangeKept e = omega arith
 
 edits_apply : (i : Kept) (u : Name) (change : List (RowOf i) → List (RowOf i)) (cs : List Change) (old new : Database) → Edits RowOf KeyOf shape books_schema i u change old new
     → ((rows : UnitRows) → AreSeen u old rows → rows_at i (changed_by cs rows) ≡ change (rows_at i rows)) → ((rows : UnitRows) (j : Kept) → j ≢ i → rows_at j (changed_by cs rows) ≡ rows_at j rows)
@@ -103,6 +107,8 @@ put_unit_applies u x old new books count h =
     away rows BandKept h = refl
     away rows CellKept h = refl
     away rows EventKept h = refl
+    away rows RecordKept h = refl
+    away rows ChangeKept h = refl
 
 away_grants : (rows after : UnitRows) → ◌≡◌ {A = UnitRows} after (record rows { grants = after.grants }) → (j : Kept) → j ≢ GrantKept → rows_at j after ≡ rows_at j rows
 away_grants rows after e UnitKept h = ap (λ (r : UnitRows). r.units) e
@@ -112,6 +118,8 @@ away_grants rows after e ShelfKept h = ap (λ (r : UnitRows). r.shelves) e
 away_grants rows after e BandKept h = ap (λ (r : UnitRows). r.bands) e
 away_grants rows after e CellKept h = ap (λ (r : UnitRows). r.cells) e
 away_grants rows after e EventKept h = ap (λ (r : UnitRows). r.events) e
+away_grants rows after e RecordKept h = ap (λ (r : UnitRows). r.records) e
+away_grants rows after e ChangeKept h = ap (λ (r : UnitRows). r.changes) e
 
 away_alarms : (rows after : UnitRows) → ◌≡◌ {A = UnitRows} after (record rows { alarms = after.alarms }) → (j : Kept) → j ≢ AlarmKept → rows_at j after ≡ rows_at j rows
 away_alarms rows after e UnitKept h = ap (λ (r : UnitRows). r.units) e
@@ -121,6 +129,8 @@ away_alarms rows after e ShelfKept h = ap (λ (r : UnitRows). r.shelves) e
 away_alarms rows after e BandKept h = ap (λ (r : UnitRows). r.bands) e
 away_alarms rows after e CellKept h = ap (λ (r : UnitRows). r.cells) e
 away_alarms rows after e EventKept h = ap (λ (r : UnitRows). r.events) e
+away_alarms rows after e RecordKept h = ap (λ (r : UnitRows). r.records) e
+away_alarms rows after e ChangeKept h = ap (λ (r : UnitRows). r.changes) e
 
 away_shelves : (rows after : UnitRows) → ◌≡◌ {A = UnitRows} after (record rows { shelves = after.shelves }) → (j : Kept) → j ≢ ShelfKept → rows_at j after ≡ rows_at j rows
 away_shelves rows after e UnitKept h = ap (λ (r : UnitRows). r.units) e
@@ -130,6 +140,8 @@ away_shelves rows after e ShelfKept h = absurd (h refl)
 away_shelves rows after e BandKept h = ap (λ (r : UnitRows). r.bands) e
 away_shelves rows after e CellKept h = ap (λ (r : UnitRows). r.cells) e
 away_shelves rows after e EventKept h = ap (λ (r : UnitRows). r.events) e
+away_shelves rows after e RecordKept h = ap (λ (r : UnitRows). r.records) e
+away_shelves rows after e ChangeKept h = ap (λ (r : UnitRows). r.changes) e
 
 away_bands : (rows after : UnitRows) → ◌≡◌ {A = UnitRows} after (record rows { bands = after.bands }) → (j : Kept) → j ≢ BandKept → rows_at j after ≡ rows_at j rows
 away_bands rows after e UnitKept h = ap (λ (r : UnitRows). r.units) e
@@ -139,6 +151,8 @@ away_bands rows after e ShelfKept h = ap (λ (r : UnitRows). r.shelves) e
 away_bands rows after e BandKept h = absurd (h refl)
 away_bands rows after e CellKept h = ap (λ (r : UnitRows). r.cells) e
 away_bands rows after e EventKept h = ap (λ (r : UnitRows). r.events) e
+away_bands rows after e RecordKept h = ap (λ (r : UnitRows). r.records) e
+away_bands rows after e ChangeKept h = ap (λ (r : UnitRows). r.changes) e
 
 away_cells : (rows after : UnitRows) → ◌≡◌ {A = UnitRows} after (record rows { cells = after.cells }) → (j : Kept) → j ≢ CellKept → rows_at j after ≡ rows_at j rows
 away_cells rows after e UnitKept h = ap (λ (r : UnitRows). r.units) e
@@ -148,6 +162,8 @@ away_cells rows after e ShelfKept h = ap (λ (r : UnitRows). r.shelves) e
 away_cells rows after e BandKept h = ap (λ (r : UnitRows). r.bands) e
 away_cells rows after e CellKept h = absurd (h refl)
 away_cells rows after e EventKept h = ap (λ (r : UnitRows). r.events) e
+away_cells rows after e RecordKept h = ap (λ (r : UnitRows). r.records) e
+away_cells rows after e ChangeKept h = ap (λ (r : UnitRows). r.changes) e
 
 away_events : (rows after : UnitRows) → ◌≡◌ {A = UnitRows} after (record rows { events = after.events }) → (j : Kept) → j ≢ EventKept → rows_at j after ≡ rows_at j rows
 away_events rows after e UnitKept h = ap (λ (r : UnitRows). r.units) e
@@ -157,6 +173,30 @@ away_events rows after e ShelfKept h = ap (λ (r : UnitRows). r.shelves) e
 away_events rows after e BandKept h = ap (λ (r : UnitRows). r.bands) e
 away_events rows after e CellKept h = ap (λ (r : UnitRows). r.cells) e
 away_events rows after e EventKept h = absurd (h refl)
+away_events rows after e RecordKept h = ap (λ (r : UnitRows). r.records) e
+away_events rows after e ChangeKept h = ap (λ (r : UnitRows). r.changes) e
+
+away_records : (rows after : UnitRows) → ◌≡◌ {A = UnitRows} after (record rows { records = after.records }) → (j : Kept) → j ≢ RecordKept → rows_at j after ≡ rows_at j rows
+away_records rows after e UnitKept h = ap (λ (r : UnitRows). r.units) e
+away_records rows after e GrantKept h = ap (λ (r : UnitRows). r.grants) e
+away_records rows after e AlarmKept h = ap (λ (r : UnitRows). r.alarms) e
+away_records rows after e ShelfKept h = ap (λ (r : UnitRows). r.shelves) e
+away_records rows after e BandKept h = ap (λ (r : UnitRows). r.bands) e
+away_records rows after e CellKept h = ap (λ (r : UnitRows). r.cells) e
+away_records rows after e EventKept h = ap (λ (r : UnitRows). r.events) e
+away_records rows after e RecordKept h = absurd (h refl)
+away_records rows after e ChangeKept h = ap (λ (r : UnitRows). r.changes) e
+
+away_changes : (rows after : UnitRows) → ◌≡◌ {A = UnitRows} after (record rows { changes = after.changes }) → (j : Kept) → j ≢ ChangeKept → rows_at j after ≡ rows_at j rows
+away_changes rows after e UnitKept h = ap (λ (r : UnitRows). r.units) e
+away_changes rows after e GrantKept h = ap (λ (r : UnitRows). r.grants) e
+away_changes rows after e AlarmKept h = ap (λ (r : UnitRows). r.alarms) e
+away_changes rows after e ShelfKept h = ap (λ (r : UnitRows). r.shelves) e
+away_changes rows after e BandKept h = ap (λ (r : UnitRows). r.bands) e
+away_changes rows after e CellKept h = ap (λ (r : UnitRows). r.cells) e
+away_changes rows after e EventKept h = ap (λ (r : UnitRows). r.events) e
+away_changes rows after e RecordKept h = ap (λ (r : UnitRows). r.records) e
+away_changes rows after e ChangeKept h = absurd (h refl)
 
 pub put_grant_applies : (u : Name) (x : GrantRow) (old new : State) → AreBooks old.now → (count : ℕ) → Executes put_grant_text (Text u ∷ (shape GrantKept).cells x) old new (Ok count)
     → Applies u (Put (GrantPut x) ∷ []) old.now new.now
@@ -193,6 +233,18 @@ pub put_event_applies : (u : Name) (x : Event) (old new : State) → AreBooks ol
 put_event_applies u x old new books count h =
     edits_apply EventKept u (put_row (shape EventKept).order (shape EventKept).key x) (Put (EventPut x) ∷ []) old.now new.now (put_in_table EventKept put_event_text put_event_terms 6 put_event_is put_event_plain u x refl old new books count h)
     (λ rows seen. refl) (λ rows. away_events rows _ refl)
+
+pub put_record_applies : (u : Name) (x : RecordEntry) (old new : State) → AreBooks old.now → (count : ℕ) → Executes put_record_text (Text u ∷ (shape RecordKept).cells x) old new (Ok count)
+    → Applies u (Put (RecordPut x) ∷ []) old.now new.now
+put_record_applies u x old new books count h =
+    edits_apply RecordKept u (put_row (shape RecordKept).order (shape RecordKept).key x) (Put (RecordPut x) ∷ []) old.now new.now (put_in_table RecordKept put_record_text put_record_terms 6 put_record_is put_record_plain u x refl old new books count h)
+    (λ rows seen. refl) (λ rows. away_records rows _ refl)
+
+pub put_change_applies : (u : Name) (x : ChangeEntry) (old new : State) → AreBooks old.now → (count : ℕ) → Executes put_change_text (Text u ∷ (shape ChangeKept).cells x) old new (Ok count)
+    → Applies u (Put (ChangePut x) ∷ []) old.now new.now
+put_change_applies u x old new books count h =
+    edits_apply ChangeKept u (put_row (shape ChangeKept).order (shape ChangeKept).key x) (Put (ChangePut x) ∷ []) old.now new.now (put_in_table ChangeKept put_change_text put_change_terms 17 put_change_is put_change_plain u x refl old new books count h)
+    (λ rows seen. refl) (λ rows. away_changes rows _ refl)
 
 -- ---- the removes: a row of the key stands for the one that goes
 

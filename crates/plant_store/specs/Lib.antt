@@ -2,6 +2,7 @@ pub mod Texts
 pub mod Changes
 pub mod Keeping
 pub mod Wanted
+pub mod Numbers
 pub mod Making
 pub mod Mine
 pub mod Shelves

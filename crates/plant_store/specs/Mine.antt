@@ -20,9 +20,12 @@ use Rattle.plant_types.specs.Names.{Name, same_name}
 abbrev pub is_named : List ℕ → Row → Bool
 is_named name r = is_eq (value_cmp (column r 2) (Text name))
 
--- a unit's last moment, from its row
+-- a unit's own row, and its last moment
+abbrev pub own_row : List UnitRow → UnitRow
+own_row units = unwrap_or (slice_get units 0) no_unit
+
 abbrev pub last_in : List UnitRow → ℕ
-last_in units = (unwrap_or (slice_get units 0) no_unit).last_s
+last_in units = (own_row units).last_s
 
 abbrev pub line_at : Trees → Row → Line
 line_at trees g = record { unit = bytes (column g 1); role_no = role_in (column g 3); end_s = open_number_in (column g 4); last_s = last_in (rows_seen (bytes (column g 1)) trees UnitKept) }

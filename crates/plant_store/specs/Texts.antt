@@ -26,6 +26,12 @@ cells_text = codes "CREATE TABLE cells (unit TEXT NOT NULL, matrix_no INTEGER NO
 abbrev pub events_text : List ℕ
 events_text = codes "CREATE TABLE events (unit TEXT NOT NULL, seq INTEGER NOT NULL, moment_s INTEGER NOT NULL, tag TEXT NOT NULL, kind_no INTEGER NOT NULL, PRIMARY KEY (unit, seq)) STRICT"
 
+abbrev pub records_text : List ℕ
+records_text = codes "CREATE TABLE records (unit TEXT NOT NULL, tag TEXT NOT NULL, change_no INTEGER NOT NULL, rev INTEGER NOT NULL, cell_no INTEGER NOT NULL, PRIMARY KEY (unit, tag)) STRICT"
+
+abbrev pub changes_text : List ℕ
+changes_text = codes "CREATE TABLE changes (unit TEXT NOT NULL, number INTEGER NOT NULL, proposer TEXT NOT NULL, proposed_s INTEGER NOT NULL, kind_no INTEGER NOT NULL, tag TEXT, base INTEGER NOT NULL, cause TEXT, consequence TEXT, remedy TEXT, severity INTEGER, response_s INTEGER, max_s INTEGER, state_no INTEGER NOT NULL, decider TEXT, decided_s INTEGER, PRIMARY KEY (unit, number)) STRICT"
+
 abbrev pub by_person_text : List ℕ
 by_person_text = codes "CREATE INDEX grants_by_person ON grants (person, unit)"
 
@@ -58,6 +64,12 @@ put_cell_text = codes "INSERT OR REPLACE INTO cells (unit, matrix_no, severity, 
 abbrev pub put_event_text : List ℕ
 put_event_text = codes "INSERT OR REPLACE INTO events (unit, seq, moment_s, tag, kind_no) VALUES (?1, ?2, ?3, ?4, ?5)"
 
+abbrev pub put_record_text : List ℕ
+put_record_text = codes "INSERT OR REPLACE INTO records (unit, tag, change_no, rev, cell_no) VALUES (?1, ?2, ?3, ?4, ?5)"
+
+abbrev pub put_change_text : List ℕ
+put_change_text = codes "INSERT OR REPLACE INTO changes (unit, number, proposer, proposed_s, kind_no, tag, base, cause, consequence, remedy, severity, response_s, max_s, state_no, decider, decided_s) VALUES (?1, ?2, ?3, ?4, ?5, ?6, ?7, ?8, ?9, ?10, ?11, ?12, ?13, ?14, ?15, ?16)"
+
 -- the row of a key taken out
 abbrev pub remove_grant_text : List ℕ
 remove_grant_text = codes "DELETE FROM grants WHERE unit = ?1 AND person = ?2 AND role_no = ?3"
@@ -87,7 +99,13 @@ cells_of_text = codes "SELECT matrix_no, severity, band_no, cell_no FROM cells W
 abbrev pub events_of_text : List ℕ
 events_of_text = codes "SELECT seq, moment_s, tag, kind_no FROM events WHERE unit = ?1 ORDER BY unit, seq"
 
--- those of a person or of a tag
+abbrev pub records_of_text : List ℕ
+records_of_text = codes "SELECT tag, change_no, rev, cell_no FROM records WHERE unit = ?1 ORDER BY unit, tag"
+
+abbrev pub changes_of_text : List ℕ
+changes_of_text = codes "SELECT number, proposer, proposed_s, kind_no, tag, base, cause, consequence, remedy, severity, response_s, max_s, state_no, decider, decided_s FROM changes WHERE unit = ?1 ORDER BY unit, number"
+
+-- those of a person, of a tag or of a number
 abbrev pub own_grants_text : List ℕ
 own_grants_text = codes "SELECT person, role_no, end_s FROM grants WHERE unit = ?1 AND person = ?2 ORDER BY unit, person, role_no"
 
@@ -97,9 +115,24 @@ alarm_at_text = codes "SELECT tag, latching, max_s, max_rev, state_no, suppresse
 abbrev pub shelf_at_text : List ℕ
 shelf_at_text = codes "SELECT tag, one_shot, start_s, until_s, person, words FROM shelves WHERE unit = ?1 AND tag = ?2 ORDER BY unit, tag"
 
--- a unit's tags
+abbrev pub record_at_text : List ℕ
+record_at_text = codes "SELECT tag, change_no, rev, cell_no FROM records WHERE unit = ?1 AND tag = ?2 ORDER BY unit, tag"
+
+abbrev pub bands_at_text : List ℕ
+bands_at_text = codes "SELECT matrix_no, band_no, limit_s FROM bands WHERE unit = ?1 AND matrix_no = ?2 ORDER BY unit, matrix_no, band_no"
+
+abbrev pub cells_at_text : List ℕ
+cells_at_text = codes "SELECT matrix_no, severity, band_no, cell_no FROM cells WHERE unit = ?1 AND matrix_no = ?2 ORDER BY unit, matrix_no, severity, band_no"
+
+abbrev pub change_at_text : List ℕ
+change_at_text = codes "SELECT number, proposer, proposed_s, kind_no, tag, base, cause, consequence, remedy, severity, response_s, max_s, state_no, decider, decided_s FROM changes WHERE unit = ?1 AND number = ?2 ORDER BY unit, number"
+
+-- a unit's tags, and the numbers of its changes
 abbrev pub tags_of_text : List ℕ
 tags_of_text = codes "SELECT tag FROM alarms WHERE unit = ?1 ORDER BY unit, tag"
+
+abbrev pub numbers_of_text : List ℕ
+numbers_of_text = codes "SELECT number FROM changes WHERE unit = ?1 ORDER BY unit, number"
 
 -- a person's grants in all units, each beside its unit's last moment
 abbrev pub mine_text : List ℕ

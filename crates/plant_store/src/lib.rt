@@ -4,6 +4,7 @@
 
 mod make;
 mod mine;
+mod numbers;
 mod opening;
 mod part;
 mod read;

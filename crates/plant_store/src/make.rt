@@ -5,7 +5,7 @@ ghost use Rattle.sqlite.specs.Held.{state};
 ghost use Rattle.sqlite.specs.State.{HasCleanDisk, KeepsCommit, Survives};
 ghost use Rattle.plant_store.specs.Changes.{CanTell};
 ghost use Rattle.plant_store.specs.Making.{AreEmpty, AreNew};
-ghost use Rattle.plant_columns.specs.Tables.{no_schema, grants_schema, shelves_schema, events_schema, books_schema};
+ghost use Rattle.plant_columns.specs.Tables.{no_schema, grants_schema, shelves_schema, events_schema, changes_schema, books_schema};
 
 use crate::write::run;
 use plant_columns::encode::single;
@@ -88,10 +88,32 @@ fn make_events<S: Alter>(tx: &mut Transaction<'_, S>) -> Result<(), Error>
     Ok(())
 }
 
+/// Makes the tables of records and of changes.
+fn make_changes<S: Alter>(tx: &mut Transaction<'_, S>) -> Result<(), Error>
+    ensures same_reference { tx.new.conn.ghost_name ≡ tx.old.conn.ghost_name }
+    ensures made { HasCleanDisk (state S.Store tx.new.conn.now) → IsTrue tx.old.conn.now.in_transaction → AreEmpty events_schema (state S.Store tx.old.conn.now).now
+        → OnOk result (AreEmpty changes_schema (state S.Store tx.new.conn.now).now) }
+    ensures inside { HasCleanDisk (state S.Store tx.new.conn.now) → IsTrue tx.old.conn.now.in_transaction → OnOk result (IsTrue tx.new.conn.now.in_transaction) }
+    ensures kept { HasCleanDisk (state S.Store tx.new.conn.now) → IsTrue tx.old.conn.now.in_transaction → KeepsCommit (state S.Store tx.old.conn.now) (state S.Store tx.new.conn.now) }
+    ensures survives { Survives (state S.Store tx.old.conn.now) (state S.Store tx.new.conn.now) (λ _. ⊥) }
+{
+    run(
+        tx,
+        "CREATE TABLE records (unit TEXT NOT NULL, tag TEXT NOT NULL, change_no INTEGER NOT NULL, rev INTEGER NOT NULL, cell_no INTEGER NOT NULL, PRIMARY KEY (unit, tag)) STRICT",
+        &[],
+    )?;
+    run(
+        tx,
+        "CREATE TABLE changes (unit TEXT NOT NULL, number INTEGER NOT NULL, proposer TEXT NOT NULL, proposed_s INTEGER NOT NULL, kind_no INTEGER NOT NULL, tag TEXT, base INTEGER NOT NULL, cause TEXT, consequence TEXT, remedy TEXT, severity INTEGER, response_s INTEGER, max_s INTEGER, state_no INTEGER NOT NULL, decider TEXT, decided_s INTEGER, PRIMARY KEY (unit, number)) STRICT",
+        &[],
+    )?;
+    Ok(())
+}
+
 /// Makes the index of grants by persons, and the office's row.
 fn make_office<S: Alter>(tx: &mut Transaction<'_, S>, admin: &Person) -> Result<(), Error>
     ensures same_reference { tx.new.conn.ghost_name ≡ tx.old.conn.ghost_name }
-    ensures made { HasCleanDisk (state S.Store tx.new.conn.now) → IsTrue tx.old.conn.now.in_transaction → AreEmpty events_schema (state S.Store tx.old.conn.now).now
+    ensures made { HasCleanDisk (state S.Store tx.new.conn.now) → IsTrue tx.old.conn.now.in_transaction → AreEmpty changes_schema (state S.Store tx.old.conn.now).now
         → OnOk result (AreNew admin.now (state S.Store tx.new.conn.now).now) }
     ensures inside { HasCleanDisk (state S.Store tx.new.conn.now) → IsTrue tx.old.conn.now.in_transaction → OnOk result (IsTrue tx.new.conn.now.in_transaction) }
     ensures kept { HasCleanDisk (state S.Store tx.new.conn.now) → IsTrue tx.old.conn.now.in_transaction → KeepsCommit (state S.Store tx.old.conn.now) (state S.Store tx.new.conn.now) }
@@ -123,6 +145,7 @@ pub fn make_all<S: Alter>(conn: &mut Connection<S>, admin: &Person) -> Result<()
     make_grants(&mut tx)?;
     make_shelves(&mut tx)?;
     make_events(&mut tx)?;
+    make_changes(&mut tx)?;
     make_office(&mut tx, admin)?;
     tx.commit()?;
     Ok(())

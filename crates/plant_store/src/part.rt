@@ -12,19 +12,21 @@ ghost use Rattle.plant_books.specs.Contents.{Content, part_in};
 ghost use Rattle.plant_store.specs.Changes.{CanTell};
 ghost use Rattle.plant_store.specs.Keeping.{KeepsIn};
 ghost use Rattle.plant_columns.specs.Tables.{AreBooks, rows_seen};
-ghost use Rattle.plant_columns.specs.Tables.Kept.{GrantKept, AlarmKept, ShelfKept, EventKept};
-ghost use Rattle.plant_store.specs.Wanted.{alarms_with, events_with, shelves_with};
+ghost use Rattle.plant_columns.specs.Tables.Kept.{GrantKept, AlarmKept, ShelfKept, EventKept, RecordKept, ChangeKept};
+ghost use Rattle.plant_store.specs.Wanted.{alarms_with, events_with, records_with, shelves_with};
 
+use crate::numbers::{some_bands, some_cells, some_changes};
 use crate::read::{
-    alarm_at, alarms_of, count_of_alarms, events_of, grants_of, own_grants, shelf_at, shelves_of,
-    units_of,
+    alarm_at, alarms_of, count_of_alarms, count_of_changes, events_of, grants_of, own_grants,
+    record_at, records_of, shelf_at, shelves_of, units_of,
 };
 use crate::unit::has_row;
 use plant_alarm::Event;
 use plant_books::{
-    Wanted, unit_of, wanted_alarms, wanted_shelves, wants_all_grants, wants_count, wants_events,
+    Counted, Wanted, unit_of, wanted_alarms, wanted_count, wanted_records, wanted_shelves,
+    wants_all_grants, wants_events,
 };
-use plant_model::{AlarmRow, Call, GrantRow, Request, ShelfRow, UnitPart, UnitRows};
+use plant_model::{AlarmRow, Call, GrantRow, RecordEntry, Request, ShelfRow, UnitPart, UnitRows};
 use plant_types::{Person, Table, UnitCode};
 use sqlite::{Alter, Connection, Error};
 use std::alloc::Global;
@@ -90,6 +92,26 @@ pub fn some_shelves<S: Alter>(
     }
 }
 
+/// The unit's records that are wanted.
+pub fn some_records<S: Alter>(
+    alloc: Global,
+    conn: &mut Connection<S>,
+    unit: &UnitCode,
+    wanted: Wanted<'_>,
+) -> Result<Table<RecordEntry>, Error>
+    requires { conn.old.in_transaction ≡ false }
+    ensures mode { conn.new.in_transaction ≡ false }
+    ensures rows { HasCleanDisk (state S.Store conn.new) → AreBooks (state S.Store conn.old).now → IfOk result (λ rows. rows ≡ records_with wanted.entry (rows_seen unit.now (state S.Store conn.old).now.trees RecordKept)) }
+    ensures same { CanTell (state S.Store conn.new) → AreBooks (state S.Store conn.old).now → (state S.Store conn.new).now ≡ (state S.Store conn.old).now }
+    ensures told { CanTell (state S.Store conn.new) → CanTell (state S.Store conn.old) }
+{
+    match wanted {
+        Wanted::Nothing => Ok(Table::new(alloc)),
+        Wanted::One(tag) => record_at(alloc, conn, unit, tag),
+        Wanted::Every => records_of(alloc, conn, unit),
+    }
+}
+
 /// The unit's events, where they are wanted.
 pub fn some_events<S: Alter>(
     alloc: Global,
@@ -110,7 +132,7 @@ pub fn some_events<S: Alter>(
     }
 }
 
-/// The number of the unit's alarms, for a call that needs it.
+/// The number of the unit's alarms or of its changes, for a call that needs it.
 fn count_for<S: Alter>(
     conn: &mut Connection<S>,
     unit: &UnitCode,
@@ -118,14 +140,14 @@ fn count_for<S: Alter>(
 ) -> Result<u64, Error>
     requires { conn.old.in_transaction ≡ false }
     ensures mode { conn.new.in_transaction ≡ false }
-    ensures rows { HasCleanDisk (state S.Store conn.new) → AreBooks (state S.Store conn.old).now → IfOk result (λ n. (rows : Rows) → rows.alarms ≡ rows_seen unit.now (state S.Store conn.old).now.trees AlarmKept → n ≡ counted_for rows request.now) }
+    ensures rows { HasCleanDisk (state S.Store conn.new) → AreBooks (state S.Store conn.old).now → IfOk result (λ n. (rows : Rows) → rows.alarms ≡ rows_seen unit.now (state S.Store conn.old).now.trees AlarmKept → rows.changes ≡ rows_seen unit.now (state S.Store conn.old).now.trees ChangeKept → n ≡ counted_for rows request.now) }
     ensures same { CanTell (state S.Store conn.new) → AreBooks (state S.Store conn.old).now → (state S.Store conn.new).now ≡ (state S.Store conn.old).now }
     ensures told { CanTell (state S.Store conn.new) → CanTell (state S.Store conn.old) }
 {
-    if wants_count(request) {
-        count_of_alarms(conn, unit)
-    } else {
-        Ok(0)
+    match wanted_count(request) {
+        Counted::Nothing => Ok(0),
+        Counted::Alarms => count_of_alarms(conn, unit),
+        Counted::Changes => count_of_changes(conn, unit),
     }
 }
 
@@ -155,6 +177,11 @@ fn unit_part<S: Alter>(
     let shelves = some_shelves(alloc, conn, unit, shelved)?;
     let told = wants_events(request);
     let events = some_events(alloc, conn, unit, told)?;
+    let tags_recorded = wanted_records(request);
+    let records = some_records(alloc, conn, unit, tags_recorded)?;
+    let bands = some_bands(alloc, conn, unit, &units, request)?;
+    let cells = some_cells(alloc, conn, unit, &units, request)?;
+    let changes = some_changes(alloc, conn, unit, &records, request)?;
     let count = count_for(conn, unit, request)?;
     Ok(Some(UnitPart {
         rows: UnitRows {
@@ -163,8 +190,10 @@ fn unit_part<S: Alter>(
             alarms,
             shelves,
             events,
-            bands: Table::new(alloc),
-            cells: Table::new(alloc),
+            bands,
+            cells,
+            records,
+            changes,
         },
         count,
     }))

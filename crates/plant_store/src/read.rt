@@ -7,15 +7,18 @@ ghost use Rattle.sqlite.specs.Schema.{Schema};
 ghost use Rattle.sqlite.specs.State.{HasCleanDisk, Shown as IsShown};
 ghost use Rattle.sqlite.specs.Values.{bound};
 ghost use Rattle.sqlite.proofs.Callers.{IsPlain};
+ghost use Rattle.plant_model.specs.Histories.{same_number};
 ghost use Rattle.plant_types.specs.Names.{same_name};
 ghost use Rattle.plant_store.specs.Changes.{CanTell};
 ghost use Rattle.plant_columns.specs.Tables.{AreBooks, rows_seen};
-ghost use Rattle.plant_columns.specs.Tables.Kept.{UnitKept, GrantKept, AlarmKept, ShelfKept, BandKept, CellKept, EventKept};
+ghost use Rattle.plant_columns.specs.Tables.Kept.{UnitKept, GrantKept, AlarmKept, ShelfKept, BandKept, CellKept, EventKept, RecordKept, ChangeKept};
 
 use plant_alarm::Event;
 use plant_columns::decode::read_all;
-use plant_columns::encode::{pair, single};
-use plant_model::{AlarmRow, BandRow, CellRow, GrantRow, ShelfRow, UnitRow};
+use plant_columns::encode::{numbered, pair, single};
+use plant_model::{
+    AlarmRow, BandRow, CellRow, ChangeEntry, GrantRow, RecordEntry, ShelfRow, UnitRow,
+};
 use plant_types::{Person, Table, Tag, UnitCode};
 use sqlite::types::ValueRef;
 use sqlite::{Alter, Connection, Error, Row};
@@ -177,6 +180,46 @@ pub fn events_of<S: Alter>(
     read_all(alloc, rows.as_slice())
 }
 
+/// The unit's records.
+pub fn records_of<S: Alter>(
+    alloc: Global,
+    conn: &mut Connection<S>,
+    unit: &UnitCode,
+) -> Result<Table<RecordEntry>, Error>
+    requires { conn.old.in_transaction ≡ false }
+    ensures mode { conn.new.in_transaction ≡ false }
+    ensures rows { HasCleanDisk (state S.Store conn.new) → AreBooks (state S.Store conn.old).now → IfOk result (λ rows. rows ≡ rows_seen unit.now (state S.Store conn.old).now.trees RecordKept) }
+    ensures same { CanTell (state S.Store conn.new) → AreBooks (state S.Store conn.old).now → (state S.Store conn.new).now ≡ (state S.Store conn.old).now }
+    ensures told { CanTell (state S.Store conn.new) → CanTell (state S.Store conn.old) }
+{
+    let rows = ask(
+        conn,
+        "SELECT tag, change_no, rev, cell_no FROM records WHERE unit = ?1 ORDER BY unit, tag",
+        &single(unit),
+    )?;
+    read_all(alloc, rows.as_slice())
+}
+
+/// The unit's changes.
+pub fn changes_of<S: Alter>(
+    alloc: Global,
+    conn: &mut Connection<S>,
+    unit: &UnitCode,
+) -> Result<Table<ChangeEntry>, Error>
+    requires { conn.old.in_transaction ≡ false }
+    ensures mode { conn.new.in_transaction ≡ false }
+    ensures rows { HasCleanDisk (state S.Store conn.new) → AreBooks (state S.Store conn.old).now → IfOk result (λ rows. rows ≡ rows_seen unit.now (state S.Store conn.old).now.trees ChangeKept) }
+    ensures same { CanTell (state S.Store conn.new) → AreBooks (state S.Store conn.old).now → (state S.Store conn.new).now ≡ (state S.Store conn.old).now }
+    ensures told { CanTell (state S.Store conn.new) → CanTell (state S.Store conn.old) }
+{
+    let rows = ask(
+        conn,
+        "SELECT number, proposer, proposed_s, kind_no, tag, base, cause, consequence, remedy, severity, response_s, max_s, state_no, decider, decided_s FROM changes WHERE unit = ?1 ORDER BY unit, number",
+        &single(unit),
+    )?;
+    read_all(alloc, rows.as_slice())
+}
+
 /// One person's grants in the unit.
 pub fn own_grants<S: Alter>(
     alloc: Global,
@@ -240,6 +283,90 @@ pub fn shelf_at<S: Alter>(
     read_all(alloc, rows.as_slice())
 }
 
+/// The unit's record of this tag, where there is one.
+pub fn record_at<S: Alter>(
+    alloc: Global,
+    conn: &mut Connection<S>,
+    unit: &UnitCode,
+    tag: &Tag,
+) -> Result<Table<RecordEntry>, Error>
+    requires { conn.old.in_transaction ≡ false }
+    ensures mode { conn.new.in_transaction ≡ false }
+    ensures rows { HasCleanDisk (state S.Store conn.new) → AreBooks (state S.Store conn.old).now → IfOk result (λ rows. rows ≡ filter (λ r. same_name tag.now r.tag) (rows_seen unit.now (state S.Store conn.old).now.trees RecordKept)) }
+    ensures same { CanTell (state S.Store conn.new) → AreBooks (state S.Store conn.old).now → (state S.Store conn.new).now ≡ (state S.Store conn.old).now }
+    ensures told { CanTell (state S.Store conn.new) → CanTell (state S.Store conn.old) }
+{
+    let rows = ask(
+        conn,
+        "SELECT tag, change_no, rev, cell_no FROM records WHERE unit = ?1 AND tag = ?2 ORDER BY unit, tag",
+        &pair(unit, tag),
+    )?;
+    read_all(alloc, rows.as_slice())
+}
+
+/// The limits of the unit's matrix of this number.
+pub fn bands_at<S: Alter>(
+    alloc: Global,
+    conn: &mut Connection<S>,
+    unit: &UnitCode,
+    number: u32,
+) -> Result<Table<BandRow>, Error>
+    requires { conn.old.in_transaction ≡ false }
+    ensures mode { conn.new.in_transaction ≡ false }
+    ensures rows { HasCleanDisk (state S.Store conn.new) → AreBooks (state S.Store conn.old).now → IfOk result (λ rows. rows ≡ filter (λ r. same_number number r.matrix_no) (rows_seen unit.now (state S.Store conn.old).now.trees BandKept)) }
+    ensures same { CanTell (state S.Store conn.new) → AreBooks (state S.Store conn.old).now → (state S.Store conn.new).now ≡ (state S.Store conn.old).now }
+    ensures told { CanTell (state S.Store conn.new) → CanTell (state S.Store conn.old) }
+{
+    let rows = ask(
+        conn,
+        "SELECT matrix_no, band_no, limit_s FROM bands WHERE unit = ?1 AND matrix_no = ?2 ORDER BY unit, matrix_no, band_no",
+        &numbered(unit, number),
+    )?;
+    read_all(alloc, rows.as_slice())
+}
+
+/// The cells of the unit's matrix of this number.
+pub fn cells_at<S: Alter>(
+    alloc: Global,
+    conn: &mut Connection<S>,
+    unit: &UnitCode,
+    number: u32,
+) -> Result<Table<CellRow>, Error>
+    requires { conn.old.in_transaction ≡ false }
+    ensures mode { conn.new.in_transaction ≡ false }
+    ensures rows { HasCleanDisk (state S.Store conn.new) → AreBooks (state S.Store conn.old).now → IfOk result (λ rows. rows ≡ filter (λ r. same_number number r.matrix_no) (rows_seen unit.now (state S.Store conn.old).now.trees CellKept)) }
+    ensures same { CanTell (state S.Store conn.new) → AreBooks (state S.Store conn.old).now → (state S.Store conn.new).now ≡ (state S.Store conn.old).now }
+    ensures told { CanTell (state S.Store conn.new) → CanTell (state S.Store conn.old) }
+{
+    let rows = ask(
+        conn,
+        "SELECT matrix_no, severity, band_no, cell_no FROM cells WHERE unit = ?1 AND matrix_no = ?2 ORDER BY unit, matrix_no, severity, band_no",
+        &numbered(unit, number),
+    )?;
+    read_all(alloc, rows.as_slice())
+}
+
+/// The unit's change of this number, where there is one.
+pub fn change_at<S: Alter>(
+    alloc: Global,
+    conn: &mut Connection<S>,
+    unit: &UnitCode,
+    number: u32,
+) -> Result<Table<ChangeEntry>, Error>
+    requires { conn.old.in_transaction ≡ false }
+    ensures mode { conn.new.in_transaction ≡ false }
+    ensures rows { HasCleanDisk (state S.Store conn.new) → AreBooks (state S.Store conn.old).now → IfOk result (λ rows. rows ≡ filter (λ r. same_number number r.number) (rows_seen unit.now (state S.Store conn.old).now.trees ChangeKept)) }
+    ensures same { CanTell (state S.Store conn.new) → AreBooks (state S.Store conn.old).now → (state S.Store conn.new).now ≡ (state S.Store conn.old).now }
+    ensures told { CanTell (state S.Store conn.new) → CanTell (state S.Store conn.old) }
+{
+    let rows = ask(
+        conn,
+        "SELECT number, proposer, proposed_s, kind_no, tag, base, cause, consequence, remedy, severity, response_s, max_s, state_no, decider, decided_s FROM changes WHERE unit = ?1 AND number = ?2 ORDER BY unit, number",
+        &numbered(unit, number),
+    )?;
+    read_all(alloc, rows.as_slice())
+}
+
 /// How many alarms the unit has.
 pub fn count_of_alarms<S: Alter>(conn: &mut Connection<S>, unit: &UnitCode) -> Result<u64, Error>
     requires { conn.old.in_transaction ≡ false }
@@ -254,4 +381,20 @@ pub fn count_of_alarms<S: Alter>(conn: &mut Connection<S>, unit: &UnitCode) -> R
         &single(unit),
     )?;
     Ok(tags.as_slice().len() as u64)
+}
+
+/// How many changes the unit has.
+pub fn count_of_changes<S: Alter>(conn: &mut Connection<S>, unit: &UnitCode) -> Result<u64, Error>
+    requires { conn.old.in_transaction ≡ false }
+    ensures mode { conn.new.in_transaction ≡ false }
+    ensures rows { HasCleanDisk (state S.Store conn.new) → AreBooks (state S.Store conn.old).now → IfOk result (λ n. n ≡ length (rows_seen unit.now (state S.Store conn.old).now.trees ChangeKept)) }
+    ensures same { CanTell (state S.Store conn.new) → AreBooks (state S.Store conn.old).now → (state S.Store conn.new).now ≡ (state S.Store conn.old).now }
+    ensures told { CanTell (state S.Store conn.new) → CanTell (state S.Store conn.old) }
+{
+    let numbers = ask(
+        conn,
+        "SELECT number FROM changes WHERE unit = ?1 ORDER BY unit, number",
+        &single(unit),
+    )?;
+    Ok(numbers.as_slice().len() as u64)
 }

@@ -8,7 +8,10 @@ ghost use Rattle.plant_store.specs.Changes.{CanTell};
 ghost use Rattle.plant_store.specs.Keeping.{KeepsIn, has_any};
 ghost use Rattle.plant_columns.specs.Tables.{AreBooks};
 
-use crate::read::{alarms_of, bands_of, cells_of, events_of, grants_of, shelves_of, units_of};
+use crate::read::{
+    alarms_of, bands_of, cells_of, changes_of, events_of, grants_of, records_of, shelves_of,
+    units_of,
+};
 use plant_model::{UnitRow, UnitRows};
 use plant_types::{Table, UnitCode};
 use sqlite::{Alter, Connection, Error};
@@ -59,6 +62,8 @@ pub fn rows_of<S: Alter>(
     let bands = bands_of(alloc, conn, unit)?;
     let cells = cells_of(alloc, conn, unit)?;
     let events = events_of(alloc, conn, unit)?;
+    let records = records_of(alloc, conn, unit)?;
+    let changes = changes_of(alloc, conn, unit)?;
     Ok(Some(UnitRows {
         units,
         grants,
@@ -67,5 +72,7 @@ pub fn rows_of<S: Alter>(
         events,
         bands,
         cells,
+        records,
+        changes,
     }))
 }

@@ -6,16 +6,19 @@ ghost use Rattle.sqlite.specs.State.{Executes, HasCleanDisk, KeepsCommit, Surviv
 ghost use Rattle.sqlite.specs.Values.{bound};
 ghost use Rattle.plant_model.specs.declared.rows.Change.TheVariants.{Put, Remove};
 ghost use Rattle.plant_model.specs.declared.rows.Key.TheVariants.{Grant as GrantKey, Shelf as ShelfKey};
-ghost use Rattle.plant_model.specs.declared.rows.Row.TheVariants.{Alarm as AlarmPut, Band as BandPut, Cell as CellPut, Event as EventPut, Grant as GrantPut, Shelf as ShelfPut, Unit as UnitPut};
+ghost use Rattle.plant_model.specs.declared.rows.Row.TheVariants.{Alarm as AlarmPut, Band as BandPut, Cell as CellPut, Change as ChangePut, Event as EventPut, Grant as GrantPut, Record as RecordPut, Shelf as ShelfPut, Unit as UnitPut};
 ghost use Rattle.plant_store.specs.Changes.{Applies, CanTell};
 ghost use Rattle.plant_columns.specs.Tables.{AreBooks};
 
 use plant_alarm::Event;
 use plant_columns::encode::{
-    alarm_cells, band_cells, cell_cells, event_cells, grant_cells, grant_key, pair, shelf_cells,
-    unit_cells, wide,
+    alarm_cells, band_cells, cell_cells, change_cells, event_cells, grant_cells, grant_key, pair,
+    record_cells, shelf_cells, unit_cells, wide,
 };
-use plant_model::{AlarmRow, BandRow, CellRow, Change, GrantRow, Key, Row, ShelfRow, UnitRow};
+use plant_model::{
+    AlarmRow, BandRow, CellRow, Change, ChangeEntry, GrantRow, Key, RecordEntry, Row, ShelfRow,
+    UnitRow,
+};
 use plant_types::{Person, Role, Tag, UnitCode};
 use sqlite::types::ValueRef;
 use sqlite::{Alter, Connection, Error, Transaction};
@@ -179,6 +182,46 @@ fn put_event<S: Alter>(
     )
 }
 
+/// Puts a record.
+fn put_record<S: Alter>(
+    tx: &mut Transaction<'_, S>,
+    unit: &UnitCode,
+    row: &RecordEntry,
+) -> Result<(), Error>
+    ensures same_reference { tx.new.conn.ghost_name ≡ tx.old.conn.ghost_name }
+    ensures made { HasCleanDisk (state S.Store tx.new.conn.now) → IsTrue tx.old.conn.now.in_transaction → AreBooks (state S.Store tx.old.conn.now).now
+        → OnOk result (Applies unit.now (Put (RecordPut row.now) ∷ []) (state S.Store tx.old.conn.now).now (state S.Store tx.new.conn.now).now) }
+    ensures inside { HasCleanDisk (state S.Store tx.new.conn.now) → IsTrue tx.old.conn.now.in_transaction → OnOk result (IsTrue tx.new.conn.now.in_transaction) }
+    ensures kept { HasCleanDisk (state S.Store tx.new.conn.now) → IsTrue tx.old.conn.now.in_transaction → KeepsCommit (state S.Store tx.old.conn.now) (state S.Store tx.new.conn.now) }
+    ensures survives { Survives (state S.Store tx.old.conn.now) (state S.Store tx.new.conn.now) (λ _. ⊥) }
+{
+    run(
+        tx,
+        "INSERT OR REPLACE INTO records (unit, tag, change_no, rev, cell_no) VALUES (?1, ?2, ?3, ?4, ?5)",
+        &record_cells(unit, row),
+    )
+}
+
+/// Puts a change.
+fn put_change<S: Alter>(
+    tx: &mut Transaction<'_, S>,
+    unit: &UnitCode,
+    row: &ChangeEntry,
+) -> Result<(), Error>
+    ensures same_reference { tx.new.conn.ghost_name ≡ tx.old.conn.ghost_name }
+    ensures made { HasCleanDisk (state S.Store tx.new.conn.now) → IsTrue tx.old.conn.now.in_transaction → AreBooks (state S.Store tx.old.conn.now).now
+        → OnOk result (Applies unit.now (Put (ChangePut row.now) ∷ []) (state S.Store tx.old.conn.now).now (state S.Store tx.new.conn.now).now) }
+    ensures inside { HasCleanDisk (state S.Store tx.new.conn.now) → IsTrue tx.old.conn.now.in_transaction → OnOk result (IsTrue tx.new.conn.now.in_transaction) }
+    ensures kept { HasCleanDisk (state S.Store tx.new.conn.now) → IsTrue tx.old.conn.now.in_transaction → KeepsCommit (state S.Store tx.old.conn.now) (state S.Store tx.new.conn.now) }
+    ensures survives { Survives (state S.Store tx.old.conn.now) (state S.Store tx.new.conn.now) (λ _. ⊥) }
+{
+    run(
+        tx,
+        "INSERT OR REPLACE INTO changes (unit, number, proposer, proposed_s, kind_no, tag, base, cause, consequence, remedy, severity, response_s, max_s, state_no, decider, decided_s) VALUES (?1, ?2, ?3, ?4, ?5, ?6, ?7, ?8, ?9, ?10, ?11, ?12, ?13, ?14, ?15, ?16)",
+        &change_cells(unit, row),
+    )
+}
+
 /// Removes a grant.
 fn remove_grant<S: Alter>(
     tx: &mut Transaction<'_, S>,
@@ -237,6 +280,8 @@ fn put_row<S: Alter>(tx: &mut Transaction<'_, S>, unit: &UnitCode, row: &Row) ->
         Row::Band(row) => put_band(tx, unit, row),
         Row::Cell(row) => put_cell(tx, unit, row),
         Row::Event(event) => put_event(tx, unit, event),
+        Row::Record(row) => put_record(tx, unit, row),
+        Row::Change(row) => put_change(tx, unit, row),
     }
 }
 

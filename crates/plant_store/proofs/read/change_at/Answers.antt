@@ -1,0 +1,20 @@
+use Rattle.std.proofs.Common.{refl}
+use Rattle.sqlite.specs.Held.{state}
+use Rattle.plant_columns.specs.Tables.{change_shape}
+use Rattle.plant_columns.specs.Tables.Kept.{ChangeKept}
+use Rattle.plant_columns.specs.Tables.{books_schema}
+use Rattle.plant_store.proofs.Meanings.{change_at_plain}
+use Rattle.plant_store.proofs.Queries.{if_ok, told_back, find_change}
+use Rattle.plant_columns.proofs.ShapeLaws.{good}
+use Rattle.plant_store.proofs.read.change_at.Goals as goal
+
+pub returns-clause-rows : goal.returns-clause-rows
+returns-clause-rows g c clean books =
+    let shown = find_change c.args.unit.now c.args.number (state g.S.Store c.args.conn.now) (state g.S.Store c.ask.new.conn) books c.in_ok-rows.rows.items (rw c.numbered.ensures at (c.in_ok-rows.ensures.rows clean)) in
+    if_ok c.read_all.result (λ read. told_back change_shape (good ChangeKept) 15 (λ x. refl) c.in_ok-rows.rows.items _ read shown) (rw c.as_slice.ensures.value at c.read_all.ensures)
+
+pub returns-clause-same : goal.returns-clause-same
+returns-clause-same g c told books = c.ask.ensures.same told books_schema books.same_schema change_at_plain
+
+pub returns-in_err-rows-clause-same : goal.returns-in_err-rows-clause-same
+returns-in_err-rows-clause-same g c told books = c.ask.ensures.same told books_schema books.same_schema change_at_plain

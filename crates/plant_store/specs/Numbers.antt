@@ -1,0 +1,18 @@
+-- Numbers of matrices and of changes, rising, each once.
+use Rattle.std.specs.List.{list_any}
+use Rattle.std.specs.Ordering.{nat_cmp}
+use Rattle.std.specs.Prelude.{Bool, List, ◌≡◌, ℕ}
+use Rattle.plant_model.specs.Histories.{same_number}
+use Rattle.plant_types.specs.Tables.{IsInOrder, put_row}
+
+abbrev pub is_among : List ℕ → ℕ → Bool
+is_among numbers k = list_any (λ n. same_number n k) numbers
+
+-- with this number where it belongs
+abbrev pub with_number : ℕ → List ℕ → List ℕ
+with_number = put_row nat_cmp (λ n. n)
+
+-- they rise, and are those that pass the test
+pub record AreNumbers (numbers : List ℕ) (p : ℕ → Bool) : Type 0 where
+  pub rise : IsInOrder nat_cmp (λ n. n) numbers
+  pub all : (k : ℕ) → is_among numbers k ≡ p k

@@ -1,0 +1,257 @@
+//! The numbers of the matrices and of the changes that a request looks at, and the rows that a unit has of numbers.
+
+ghost use Rattle.std.specs.List.{flat_map, list_any};
+ghost use Rattle.std.specs.Prelude.{◌≡◌, ◌++◌, ℕ, false, filter, insert, IfOk, List, MatchOption, OnOk};
+ghost use Rattle.sqlite.specs.Held.{state};
+ghost use Rattle.sqlite.specs.State.{HasCleanDisk};
+ghost use Rattle.sqlite.specs.Tree.{Trees};
+ghost use Rattle.plant_columns.specs.Tables.{AreBooks, rows_seen};
+ghost use Rattle.plant_columns.specs.Tables.Kept.{BandKept, CellKept, ChangeKept};
+ghost use Rattle.plant_model.specs.Histories.{same_number};
+ghost use Rattle.plant_model.specs.Parts.{selected};
+ghost use Rattle.plant_model.specs.RowFacts.{change_number};
+ghost use Rattle.plant_model.specs.declared.rows.UnitRows.{UnitRows as Rows};
+ghost use Rattle.plant_store.specs.Changes.{CanTell};
+ghost use Rattle.plant_store.specs.Mine.{own_row};
+ghost use Rattle.plant_store.specs.Numbers.{AreNumbers, with_number};
+
+use crate::read::{bands_at, cells_at, change_at};
+use plant_books::{wanted_change, wants_matrix, wants_sources};
+use plant_model::{BandRow, CellRow, ChangeEntry, RecordEntry, Request, UnitRow};
+use plant_types::{Table, UnitCode};
+use sqlite::{Alter, Connection, Error, ErrorCode};
+use std::alloc::Global;
+use std::cmp::Ordering;
+
+/// The place where a number belongs among rising numbers, unless it is there.
+fn place_of(numbers: &[u32], number: u32) -> Option<usize>
+    ensures { MatchOption result (with_number number numbers.now ≡ numbers.now) (λ place. insert numbers.now place number ≡ with_number number numbers.now) }
+{
+    for (place, other) in numbers.iter().enumerate() {
+        match number.cmp(other) {
+            Ordering::Less => return Some(place),
+            Ordering::Equal => return None,
+            Ordering::Greater => {}
+        }
+    }
+    Some(numbers.len())
+}
+
+/// Puts a number where it belongs, once.
+fn put(numbers: &mut Table<u32>, number: u32) -> Result<(), Error>
+    ensures { OnOk result (numbers.new ≡ with_number number numbers.old) }
+{
+    let Some(place) = place_of(numbers.as_slice(), number) else {
+        return Ok(());
+    };
+    match numbers.insert_at(place, number) {
+        Ok(()) => Ok(()),
+        Err(_) => Err(Error::SqliteFailure(ErrorCode::OutOfMemory)),
+    }
+}
+
+/// The number of the matrix in force.
+fn matrix_in_force(units: &[UnitRow]) -> u32
+    ensures { result ≡ (own_row units.now).matrix_no }
+{
+    match units.first() {
+        Some(unit) => unit.matrix_no,
+        None => 0,
+    }
+}
+
+/// The numbers of the matrices that the request looks at.
+fn matrix_numbers(alloc: Global, units: &[UnitRow], request: &Request) -> Result<Table<u32>, Error>
+    ensures { (rows : Rows) → rows.units ≡ units.now → IfOk result (λ numbers. AreNumbers numbers (selected rows request.now).matrix) }
+{
+    let mut numbers = Table::new(alloc);
+    if wants_matrix(request) {
+        put(&mut numbers, matrix_in_force(units))?;
+    }
+    if let Some(number) = wanted_change(request) {
+        put(&mut numbers, number)?;
+    }
+    Ok(numbers)
+}
+
+/// The numbers of the changes that the records came from.
+fn source_numbers(alloc: Global, records: &[RecordEntry]) -> Result<Table<u32>, Error>
+    ensures { IfOk result (λ numbers. AreNumbers numbers (λ n. list_any (λ r. same_number n r.change_no) records.now)) }
+{
+    let mut numbers = Table::new(alloc);
+    for record in records {
+        put(&mut numbers, record.change_no)?;
+    }
+    Ok(numbers)
+}
+
+/// The numbers of the changes that the request looks at, where it looks at these records.
+fn change_numbers(
+    alloc: Global,
+    records: &[RecordEntry],
+    request: &Request,
+) -> Result<Table<u32>, Error>
+    ensures { (rows : Rows) → records.now ≡ filter (λ r. (selected rows request.now).rationale r.tag) rows.records → IfOk result (λ numbers. AreNumbers numbers (selected rows request.now).change) }
+{
+    let mut numbers = if wants_sources(request) {
+        source_numbers(alloc, records)?
+    } else {
+        Table::new(alloc)
+    };
+    if let Some(number) = wanted_change(request) {
+        put(&mut numbers, number)?;
+    }
+    Ok(numbers)
+}
+
+/// A row of the matrix of a number, or the change of a number.
+trait Numbered: Drop {
+    ghost number: { Self → ℕ };
+
+    /// Those that the tables have of a unit.
+    ghost seen: { List ℕ → Trees → List Self };
+
+    /// Those of this number.
+    fn read_at<S: Alter>(
+        alloc: Global,
+        conn: &mut Connection<S>,
+        unit: &UnitCode,
+        at: u32,
+    ) -> Result<Table<Self>, Error>
+        requires { conn.old.in_transaction ≡ false }
+        ensures mode { conn.new.in_transaction ≡ false }
+        ensures rows { HasCleanDisk (state S.Store conn.new) → AreBooks (state S.Store conn.old).now → IfOk result (λ rows. rows ≡ filter (λ r. same_number at (number r)) (seen unit.now (state S.Store conn.old).now.trees)) }
+        ensures same { CanTell (state S.Store conn.new) → AreBooks (state S.Store conn.old).now → (state S.Store conn.new).now ≡ (state S.Store conn.old).now }
+        ensures told { CanTell (state S.Store conn.new) → CanTell (state S.Store conn.old) };
+}
+
+impl Numbered for BandRow {
+    ghost number = { λ r. r.matrix_no };
+
+    ghost seen = { λ unit trees. rows_seen unit trees BandKept };
+
+    fn read_at<S: Alter>(
+        alloc: Global,
+        conn: &mut Connection<S>,
+        unit: &UnitCode,
+        at: u32,
+    ) -> Result<Table<BandRow>, Error> {
+        bands_at(alloc, conn, unit, at)
+    }
+}
+
+impl Numbered for CellRow {
+    ghost number = { λ r. r.matrix_no };
+
+    ghost seen = { λ unit trees. rows_seen unit trees CellKept };
+
+    fn read_at<S: Alter>(
+        alloc: Global,
+        conn: &mut Connection<S>,
+        unit: &UnitCode,
+        at: u32,
+    ) -> Result<Table<CellRow>, Error> {
+        cells_at(alloc, conn, unit, at)
+    }
+}
+
+impl Numbered for ChangeEntry {
+    ghost number = { change_number };
+
+    ghost seen = { λ unit trees. rows_seen unit trees ChangeKept };
+
+    fn read_at<S: Alter>(
+        alloc: Global,
+        conn: &mut Connection<S>,
+        unit: &UnitCode,
+        at: u32,
+    ) -> Result<Table<ChangeEntry>, Error> {
+        change_at(alloc, conn, unit, at)
+    }
+}
+
+/// Puts rows behind others.
+fn append<T: Drop>(rows: &mut Vec<T>, more: Table<T>) -> Result<(), Error>
+    ensures { OnOk result (rows.new.items ≡ rows.old.items ++ more) }
+{
+    let mut more = more.into_vec();
+    match rows.append(&mut more) {
+        Ok(()) => Ok(()),
+        Err(_) => Err(Error::SqliteFailure(ErrorCode::OutOfMemory)),
+    }
+}
+
+/// The unit's rows of each of the numbers in turn.
+fn rows_numbered<T: Numbered, S: Alter>(
+    alloc: Global,
+    conn: &mut Connection<S>,
+    unit: &UnitCode,
+    numbers: &[u32],
+) -> Result<Table<T>, Error>
+    requires { conn.old.in_transaction ≡ false }
+    ensures mode { conn.new.in_transaction ≡ false }
+    ensures rows { CanTell (state S.Store conn.new) → AreBooks (state S.Store conn.old).now → IfOk result (λ rows. rows ≡ flat_map (λ n. filter (λ r. same_number n (T.number r)) (T.seen unit.now (state S.Store conn.old).now.trees)) numbers.now) }
+    ensures same { CanTell (state S.Store conn.new) → AreBooks (state S.Store conn.old).now → (state S.Store conn.new).now ≡ (state S.Store conn.old).now }
+    ensures told { CanTell (state S.Store conn.new) → CanTell (state S.Store conn.old) }
+{
+    let mut rows = Vec::new(alloc);
+    for number in numbers {
+        let read = T::read_at(alloc, conn, unit, *number)?;
+        append(&mut rows, read)?;
+    }
+    Ok(Table::from_vec(rows))
+}
+
+/// The limits of the unit's matrices that the request looks at.
+pub fn some_bands<S: Alter>(
+    alloc: Global,
+    conn: &mut Connection<S>,
+    unit: &UnitCode,
+    units: &Table<UnitRow>,
+    request: &Request,
+) -> Result<Table<BandRow>, Error>
+    requires { conn.old.in_transaction ≡ false }
+    ensures mode { conn.new.in_transaction ≡ false }
+    ensures rows { CanTell (state S.Store conn.new) → AreBooks (state S.Store conn.old).now → (rows : Rows) → rows.units ≡ units.now → IfOk result (λ bands. bands ≡ filter (λ r. (selected rows request.now).matrix r.matrix_no) (rows_seen unit.now (state S.Store conn.old).now.trees BandKept)) }
+    ensures same { CanTell (state S.Store conn.new) → AreBooks (state S.Store conn.old).now → (state S.Store conn.new).now ≡ (state S.Store conn.old).now }
+    ensures told { CanTell (state S.Store conn.new) → CanTell (state S.Store conn.old) }
+{
+    let numbers = matrix_numbers(alloc, units.as_slice(), request)?;
+    rows_numbered(alloc, conn, unit, numbers.as_slice())
+}
+
+/// The cells of the unit's matrices that the request looks at.
+pub fn some_cells<S: Alter>(
+    alloc: Global,
+    conn: &mut Connection<S>,
+    unit: &UnitCode,
+    units: &Table<UnitRow>,
+    request: &Request,
+) -> Result<Table<CellRow>, Error>
+    requires { conn.old.in_transaction ≡ false }
+    ensures mode { conn.new.in_transaction ≡ false }
+    ensures rows { CanTell (state S.Store conn.new) → AreBooks (state S.Store conn.old).now → (rows : Rows) → rows.units ≡ units.now → IfOk result (λ cells. cells ≡ filter (λ r. (selected rows request.now).matrix r.matrix_no) (rows_seen unit.now (state S.Store conn.old).now.trees CellKept)) }
+    ensures same { CanTell (state S.Store conn.new) → AreBooks (state S.Store conn.old).now → (state S.Store conn.new).now ≡ (state S.Store conn.old).now }
+    ensures told { CanTell (state S.Store conn.new) → CanTell (state S.Store conn.old) }
+{
+    let numbers = matrix_numbers(alloc, units.as_slice(), request)?;
+    rows_numbered(alloc, conn, unit, numbers.as_slice())
+}
+
+/// The unit's changes that the request looks at, where it looks at these records.
+pub fn some_changes<S: Alter>(
+    alloc: Global,
+    conn: &mut Connection<S>,
+    unit: &UnitCode,
+    records: &Table<RecordEntry>,
+    request: &Request,
+) -> Result<Table<ChangeEntry>, Error>
+    requires { conn.old.in_transaction ≡ false }
+    ensures mode { conn.new.in_transaction ≡ false }
+    ensures rows { CanTell (state S.Store conn.new) → AreBooks (state S.Store conn.old).now → (rows : Rows) → records.now ≡ filter (λ r. (selected rows request.now).rationale r.tag) rows.records → IfOk result (λ changes. changes ≡ filter (λ r. (selected rows request.now).change r.number) (rows_seen unit.now (state S.Store conn.old).now.trees ChangeKept)) }
+    ensures same { CanTell (state S.Store conn.new) → AreBooks (state S.Store conn.old).now → (state S.Store conn.new).now ≡ (state S.Store conn.old).now }
+    ensures told { CanTell (state S.Store conn.new) → CanTell (state S.Store conn.old) }
+{
+    let numbers = change_numbers(alloc, records.as_slice(), request)?;
+    rows_numbered(alloc, conn, unit, numbers.as_slice())
+}
