@@ -121,7 +121,7 @@ revision_by : (h : List Call) (a : Name) (o : Option (ℕ × Sheet)) → sheet h
 revision_by h a None e = sym (none_counted (λ c before. approved_sheet a before c.request) h e)
 revision_by h a (Some s) e = refl
 
-revision_in : (h : List Call) (a : Name) → unwrap_or (option_map (λ (r : RecordEntry). r.rev) (record_found (rows_of h) a)) 0 ≡ record_revision h a
+pub revision_in : (h : List Call) (a : Name) → unwrap_or (option_map (λ (r : RecordEntry). r.rev) (record_found (rows_of h) a)) 0 ≡ record_revision h a
 revision_in h a = ap (λ o. unwrap_or (option_map (λ (r : RecordEntry). r.rev) o) 0) (record_entry_in h a) ∙ revision_by h a (sheet h a) refl
 
 -- A change keeps its number and its content

@@ -109,7 +109,7 @@ module _ (rows : UnitRows) (p : Name) (t : ℕ) where
     abbrev within : UnitRows
     within = rows_selected p s rows
 
-    matrix_there : (n : ℕ) → s.matrix n ≡ true → matrix_read within n ≡ matrix_read rows n
+    pub matrix_there : (n : ℕ) → s.matrix n ≡ true → matrix_read within n ≡ matrix_read rows n
     matrix_there n holds = λ i. record {
       limits = map (λ b. b.limit_s) (limits_within s.matrix n holds rows.bands i);
       cells = filter has_cells (map (λ severity. cells_within s.matrix n holds rows.cells severity i) (range_with_len 1 5));

@@ -113,7 +113,7 @@ no_alarms : (p : Name) (t : ℕ) (q : Request) → is_opening q ≡ true → len
 no_alarms p t (OpenUnit u s m n) e = omega arith
 no_alarms p t _ e = cc
 
-few_alarms : (h : List Call) → IsLegal h → length (alarm_rows h) ≤ 2000
+pub few_alarms : (h : List Call) → IsLegal h → length (alarm_rows h) ≤ 2000
 few_alarms [] legal = absurd legal
 few_alarms (c ∷ []) legal = no_alarms c.person c.moment c.request legal.0
 few_alarms (c ∷ d ∷ before) legal = more_alarms (d ∷ before) legal.2 c.person c.moment c.request legal.0 (few_alarms (d ∷ before) legal.2)

@@ -85,7 +85,7 @@ module _ {K X : Type 0} (R : K → K → Ordering) (key : X → K) where
       elim (p r) as (λ b. IsInOrder R key (cond b (r ∷ filter p rows) (filter p rows))) [ true ↦ both _ _ (below_left p (key r) rows (first _ _ h)) rest | false ↦ rest ]
 
   module _ (o : IsTotalOrder R) (same : (x y : K) → R x y ≡ Equal → x ≡ y) (test : K → Bool) where
-    row_at-left : (q : K) (rows : List X) → row_at R key q (filter (λ r. test (key r)) rows) ≡ cond (test q) (row_at R key q rows) None
+    pub row_at-left : (q : K) (rows : List X) → row_at R key q (filter (λ r. test (key r)) rows) ≡ cond (test q) (row_at R key q rows) None
     row_at-left q [] = no_row (test q) None refl
     row_at-left q (r ∷ rows) =
         let rest = row_at-left q rows in

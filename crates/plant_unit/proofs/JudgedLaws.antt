@@ -1,6 +1,5 @@
 -- From the facts of a part to the history whose rows it is of.
 use Rattle.std.proofs.Common.{ap, arith, cond, refl, subst, sym, ◌∙◌}
-use Rattle.std.specs.FinMap.Entries.{below_all}
 use Rattle.std.specs.List.{slice_get}
 use Rattle.std.specs.Prelude.{Bool, Err, IfOk, List, None, Ok, Option, Result, Some, T, [], false, filter, if◌then◌else◌, length, map, true, ℕ, ◌&&◌, ◌∷◌, ◌≡◌, ◌≤◌}
 use Rattle.plant_model.specs.declared.call.Call.{Call}
@@ -15,19 +14,12 @@ use Rattle.plant_model.specs.declared.rows.Verdict.{Verdict}
 use Rattle.plant_types.specs.declared.fault.Fault.{Fault}
 use Rattle.plant_model.proofs.AcceptLaws.{accepted_turns}
 use Rattle.plant_model.proofs.ChangeLaws.{opening_turns}
-use Rattle.plant_model.proofs.FactLaws.{facts-rows, not_true}
+use Rattle.plant_model.proofs.FactLaws.{not_true}
+use Rattle.plant_model.proofs.ReadLaws.{facts-rows}
+use Rattle.plant_unit.proofs.KeptLaws.{part_kept_of}
 use Rattle.plant_model.proofs.PartLaws.{part_changes, part_verdict}
 use Rattle.plant_model.proofs.WorldLaws.{not_granted, refused_changes}
-use Rattle.plant_alarm.specs.declared.event.Event.{Event}
-use Rattle.plant_import.specs.Merging.{IsRising}
-use Rattle.plant_model.proofs.EventLaws.{events_rise}
 use Rattle.plant_model.proofs.HistoryLaws.{alarms_told, tags_of_alarms}
-use Rattle.plant_model.specs.Events.{events}
-use Rattle.plant_model.specs.RowFacts.{alarm_tag}
-use Rattle.plant_model.specs.declared.rows.AlarmRow.{AlarmRow}
-use Rattle.plant_types.proofs.TableLaws.{IsInOrder-rows}
-use Rattle.plant_types.specs.Tables.{IsInOrder}
-use Rattle.plant_unit.proofs.EventBounds.{few_events}
 use Rattle.plant_unit.specs.Additions.{AreKept}
 use Rattle.plant_model.specs.Facts.{facts}
 use Rattle.plant_model.specs.Legality.{IsLegal}
@@ -61,10 +53,10 @@ judged h legal c v plain j =
     }
 
 -- the facts of the part give what the facts of the history give
-part_judged : (h : List Call) (c : Call) (v : Verdict) → IsJudged (facts_in (part_of c (rows_of h))) c v → IsJudged (facts h) c v
-part_judged h c v j =
-    let verdicts : verdict_of (facts_in (part_of c (rows_of h))) c ≡ verdict h c = part_verdict (rows_of h) c.person c.moment c.request ∙ ap (λ f. verdict_of f c) (facts-rows h) in
-    let changes : changes_for (facts_in (part_of c (rows_of h))) c ≡ changes_for (facts h) c = part_changes (rows_of h) c.person c.moment c.request ∙ ap (λ f. changes_for f c) (facts-rows h) in
+part_judged : (h : List Call) → IsLegal h → (c : Call) (v : Verdict) → IsJudged (facts_in (part_of c (rows_of h))) c v → IsJudged (facts h) c v
+part_judged h legal c v j =
+    let verdicts : verdict_of (facts_in (part_of c (rows_of h))) c ≡ verdict h c = part_verdict (rows_of h) c.person c.moment c.request ∙ ap (λ f. verdict_of f c) (facts-rows h legal) in
+    let changes : changes_for (facts_in (part_of c (rows_of h))) c ≡ changes_for (facts h) c = part_changes (rows_of h) c.person c.moment c.request ∙ ap (λ f. changes_for f c) (facts-rows h legal) in
     record {
       answer = j.answer ∙ verdicts;
       changes = j.changes ∙ (λ i. if changes_history (verdicts i) c then changes i else []);
@@ -89,62 +81,14 @@ pub judged_some : (h : List Call) (part : UnitPart) (c : Call) (o : Option UnitP
 judged_some h part c o (Ok v) plain some left j =
     let known : IsPartOf (Some part) h c = subst (λ x. IsPartOf x h c) some left in
     let is : part ≡ part_of c (rows_of h) = known.0 in
-    judged h known.1 c v plain (part_judged h c v (subst (λ x. IsJudged (facts_in x) c v) is j))
+    judged h known.1 c v plain (part_judged h known.1 c v (subst (λ x. IsJudged (facts_in x) c v) is j))
 judged_some h part c o (Err x) plain some left j = tt
 
 -- what a legal history keeps is in its parts
-both : (a b : Bool) → T a → T b → T (a && b)
-both true b p q = q
-both false b p q = p
-
-first : (a b : Bool) → T (a && b) → T a
-first true b p = tt
-first false b p = p
-
-second : (a b : Bool) → T (a && b) → T b
-second true b p = p
-second false b p = absurd p
-
-below_left : (p : AlarmRow → Bool) (a : Name) (rows : List AlarmRow) → T (below_all name_cmp a (map (λ r. (alarm_tag r, r)) rows)) → T (below_all name_cmp a (map (λ r. (alarm_tag r, r)) (filter p rows)))
-below_left p a [] h = tt
-below_left p a (r ∷ rows) h =
-    let rest = below_left p a rows (second _ _ h) in
-    elim (p r) as (λ b. T (below_all name_cmp a (map (λ r. (alarm_tag r, r)) (cond b (r ∷ filter p rows) (filter p rows))))) [ true ↦ both _ _ (first _ _ h) rest | false ↦ rest ]
-
-left_in_order : (p : AlarmRow → Bool) (rows : List AlarmRow) → IsInOrder name_cmp alarm_tag rows → IsInOrder name_cmp alarm_tag (filter p rows)
-left_in_order p [] h = tt
-left_in_order p (r ∷ rows) h =
-    let rest = left_in_order p rows (second _ _ h) in
-    elim (p r) as (λ b. IsInOrder name_cmp alarm_tag (cond b (r ∷ filter p rows) (filter p rows))) [ true ↦ both _ _ (below_left p r.tag rows (first _ _ h)) rest | false ↦ rest ]
-
-whole : (es : List Event) → filter (λ e. true) es ≡ es
-whole [] = refl
-whole (e ∷ es) = ap (λ l. e ∷ l) (whole es)
-
-nothing : (es : List Event) → filter (λ e. false) es ≡ []
-nothing [] = refl
-nothing (e ∷ es) = nothing es
-
-rises_left : (b : Bool) (es : List Event) → IsRising es → IsRising (filter (λ e. b) es)
-rises_left true es h = subst (λ (l : List Event). IsRising l) (sym (whole es)) h
-rises_left false es h = subst (λ (l : List Event). IsRising l) (sym (nothing es)) (λ i j d lt le. absurd (omega arith))
-
-few_left : (b : Bool) (es : List Event) → length es ≤ 100000 → length (filter (λ e. b) es) ≤ 4294967295
-few_left true es h = subst (λ (l : List Event). length l ≤ 4294967295) (sym (whole es)) (omega (arith, h))
-few_left false es h = subst (λ (l : List Event). length l ≤ 4294967295) (sym (nothing es)) (omega arith)
-
-part_kept_of : (h : List Call) (c : Call) → IsLegal h → AreKept (part_of c (rows_of h))
-part_kept_of h c legal =
-    record {
-      events_rise = rises_left (selected c.request).event (events h) (events_rise h legal);
-      events_few = few_left (selected c.request).event (events h) (few_events h legal);
-      alarms_in_order = left_in_order (λ r. (selected c.request).alarm r.tag) (alarm_rows h) (IsInOrder-rows (alarm_row h) (tags_of_alarms h) (alarms_told h));
-    }
-
 pub part_kept : (h : List Call) (part : UnitPart) (c : Call) (o : Option UnitPart) → o ≡ Some part → IsPartOf o h c → AreKept part
 part_kept h part c o some left =
     let known : IsPartOf (Some part) h c = subst (λ x. IsPartOf x h c) some left in
-    subst (λ (x : UnitPart). AreKept x) (sym known.0) (part_kept_of h c known.1)
+    subst (λ (x : UnitPart). AreKept x) (sym known.0) (part_kept_of h known.1 c.person c.moment c.request)
 
 -- a part of a history's rows has the unit's row
 pub has_unit : (h : List Call) (part : UnitPart) (c : Call) (o : Option UnitPart) → o ≡ Some part → IsPartOf o h c → slice_get part.rows.units 0 ≡ None → ⊥

@@ -2,14 +2,17 @@
 use Rattle.plant_alarm.specs.declared.event.Event.{Event}
 use Rattle.plant_import.specs.Merging.{IsRising, fresh}
 use Rattle.plant_import.specs.declared.merging.Merged.{Merged}
-use Rattle.plant_model.specs.Facts.{Facts}
+use Rattle.plant_model.specs.Facts.{Facts, limit_revision_of}
 use Rattle.plant_model.specs.Refusals.{file_refusals, first_refusal}
-use Rattle.plant_model.specs.RowFacts.{alarm_tag}
+use Rattle.plant_model.specs.RowFacts.{alarm_tag, change_found, facts_in, unit_read}
 use Rattle.plant_model.specs.declared.reply.Refused.{Refused}
+use Rattle.plant_model.specs.declared.rows.ChangeEntry.{ChangeEntry}
 use Rattle.plant_model.specs.declared.rows.UnitPart.{UnitPart}
-use Rattle.plant_types.specs.Names.{name_cmp}
+use Rattle.plant_types.specs.Names.{Name, name_cmp}
 use Rattle.plant_types.specs.Tables.{IsInOrder}
-use Rattle.std.specs.Prelude.{Err, List, None, Ok, Option, Result, Some, length, ℕ, ◌-◌, ◌≤◌}
+use Rattle.plant_unit.specs.Readings.{has_its_sheet, has_kind, is_left_out, is_matrix_at}
+use Rattle.std.specs.List.{list_all}
+use Rattle.std.specs.Prelude.{Err, List, None, Ok, Option, Result, Some, length, true, ℕ, ◌-◌, ◌<◌, ◌||◌, ◌≡◌, ◌≤◌}
 
 abbrev pub addition_or : Option Refused → Merged → Result Merged Refused
 addition_or None added = Ok added
@@ -22,8 +25,20 @@ rows_added kept rows = record { fresh = fresh kept rows; repeated = length rows 
 abbrev pub addition : Facts → ℕ → List Event → Result Merged Refused
 addition f t rows = addition_or (first_refusal (file_refusals f t (Ok rows))) (rows_added f.events rows)
 
--- what the rows of a legal history keep: events in rising number, not too many to be counted, and alarms in the order of their tags
+-- what the parts of a legal history keep
 pub record AreKept (part : UnitPart) : Type 0 where
+  -- events in rising number, not too many to be counted, and alarms in the order of their tags
   pub events_rise : IsRising part.rows.events
   pub events_few : length part.rows.events ≤ 4294967295
   pub alarms_in_order : IsInOrder name_cmp alarm_tag part.rows.alarms
+  -- the matrix in force, where the part has cells of it, is a matrix
+  pub matrix_whole : (is_left_out part.rows (unit_read part.rows).matrix_no || is_matrix_at part.rows (unit_read part.rows).matrix_no) ≡ true
+  -- a change has what its kind needs: the columns, or the rows of a matrix
+  pub changes_whole : (n : ℕ) (c : ChangeEntry) → change_found part.rows n ≡ Some c → has_kind part.rows c c.kind_no ≡ true
+  -- the change that a record came from, where the part has it, has the columns of a sheet
+  pub records_whole : list_all (has_its_sheet part.rows) part.rows.records ≡ true
+  -- there is a next number of each kind
+  pub count_fits : part.count < 4294967295
+  pub matrix_fits : (unit_read part.rows).matrix_rev < 4294967295
+  pub record_fits : (a : Name) → (facts_in part).revision a < 4294967295
+  pub limit_fits : (a : Name) → limit_revision_of (facts_in part) a < 4294967295

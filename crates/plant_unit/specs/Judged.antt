@@ -44,8 +44,8 @@ pub record IsJudged (f : Facts) (c : Call) (v : Verdict) : Type 0 where
 
 -- the verdict that the facts give to one who may make the call: by the request's own refusals
 pub record IsJudgedOwn (f : Facts) (c : Call) (v : Verdict) : Type 0 where
-  pub answer : answer_in v ≡ refused_or (first_refusal (own_refusals f c.moment c.request)) (reply f c.moment c.request)
-  pub changes : changes_in v ≡ (if changes_history (refused_or (first_refusal (own_refusals f c.moment c.request)) (reply f c.moment c.request)) c then changes_for f c else [])
+  pub answer : answer_in v ≡ refused_or (first_refusal (own_refusals f c.person c.moment c.request)) (reply f c.moment c.request)
+  pub changes : changes_in v ≡ (if changes_history (refused_or (first_refusal (own_refusals f c.person c.moment c.request)) (reply f c.moment c.request)) c then changes_for f c else [])
 
 -- the refusals of one who may not make the call, or not any more at its moment
 abbrev pub holder_refusals : Facts → Call → List (Bool × Refused)

@@ -1,4 +1,5 @@
 pub mod MatrixRows
+pub mod Readings
 pub mod Summaries
 pub mod Additions
 pub mod Judged

@@ -1,0 +1,250 @@
+-- What the parts of a legal history keep.
+use Rattle.plant_alarm.specs.declared.event.Event.{Event}
+use Rattle.plant_model.proofs.CountLaws.{few_limits, few_matrices, few_proposals, few_records}
+use Rattle.plant_model.proofs.FactLaws.{alarm_in, change_entry_in, not_true, revision_in, same_number_of, sheet_source}
+use Rattle.plant_model.proofs.HistoryLaws.{alarm_of, alarms_told, change_with, record_with, tags_of_alarms, tags_of_records}
+use Rattle.plant_model.proofs.PartLaws.{matrix_there}
+use Rattle.plant_model.proofs.PartLists.{or_later, or_true}
+use Rattle.plant_model.proofs.QuotaLaws.{few_alarms}
+use Rattle.plant_model.proofs.ReadLaws.{change_count, in_force_numbered, left_in_order, proposed_matrix, read_back, row_at-left, shaped}
+use Rattle.plant_model.proofs.ServiceLaws.{both_true}
+use Rattle.plant_model.specs.Alarms.{latching}
+use Rattle.plant_model.specs.Changes.{Draft, change, draft, kind_of_change, matrix, matrix_revision, record_of, sheet}
+use Rattle.plant_model.specs.Events.{events}
+use Rattle.plant_model.specs.Histories.{same_number}
+use Rattle.plant_model.specs.Legality.{IsLegal}
+use Rattle.plant_model.specs.Matrices.{matrix_numbered}
+use Rattle.plant_model.specs.Parts.{Selection, counted_for, every, is_source, none, of_proposal, part_of, rows_selected, selected}
+use Rattle.plant_model.specs.RowFacts.{alarm_tag, cells_at, change_found, change_number, has_cells, matrix_read, record_found, record_tag, unit_read}
+use Rattle.plant_model.specs.Rows.{alarm_row, alarm_rows, cell_rows, change_entry, change_rows, max_of_kind, record_entry, record_rows, rows_of, sheet_of_kind, tag_of_kind, topic}
+use Rattle.plant_model.specs.declared.call.Call.{Call}
+use Rattle.plant_model.specs.declared.call.Request.{Request}
+use Rattle.plant_model.specs.declared.call.Request.TheVariants.{Alarms, Approve, ChangeOf, Floods, MyShelves, MyUnits, Grant, Import, OneShotShelve, OpenUnit, PlaceInService, Propose, RecordOf, Register, Reject, RemoveFromService, Shelves, Standing, Status, TimedShelve, Unshelve, Withdraw, WithdrawChange}
+use Rattle.plant_model.specs.declared.reply.RecordRow.{RecordRow}
+use Rattle.plant_model.specs.declared.rows.AlarmRow.{AlarmRow}
+use Rattle.plant_model.specs.declared.rows.CellRow.{CellRow}
+use Rattle.plant_model.specs.declared.rows.ChangeEntry.{ChangeEntry}
+use Rattle.plant_model.specs.declared.rows.RecordEntry.{RecordEntry}
+use Rattle.plant_model.specs.declared.rows.UnitRows.{UnitRows}
+use Rattle.plant_ration.specs.Grid.{Grid}
+use Rattle.plant_ration.specs.Matrix.{is_matrix}
+use Rattle.plant_ration.specs.declared.change.ChangeKind.{ChangeKind}
+use Rattle.plant_ration.specs.declared.change.ChangeKind.TheVariants.{Limit, Matrix, Rationale}
+use Rattle.plant_ration.specs.declared.change.Sheet.{Sheet}
+use Rattle.plant_types.proofs.Orders.{name_total, number_total, same_names, same_numbers}
+use Rattle.plant_types.proofs.TableLaws.{IsInOrder-rows}
+use Rattle.plant_types.specs.Names.{Name, name_cmp, same_name}
+use Rattle.plant_types.specs.Tables.{in_order, row_at}
+use Rattle.plant_unit.proofs.EventBounds.{few_events}
+use Rattle.plant_unit.specs.Additions.{AreKept}
+use Rattle.plant_unit.specs.Readings.{has_its_sheet, has_kind, has_sheet, is_left_out, is_matrix_at}
+use Rattle.std.proofs.Common.{ap, arith, cond, inl, inr, refl, subst, sym, ◌∙◌, ◌⊎◌}
+use Rattle.std.specs.List.{cons_option, list_all, list_any}
+use Rattle.std.specs.Ordering.{nat_cmp}
+use Rattle.std.specs.Prelude.{Bool, List, None, Option, Some, [], false, filter, filter_map, is_some, length, map, max, option_map, true, unwrap_or, ℕ, ◌&&◌, ◌<◌, ◌==◌, ◌||◌, ◌∷◌, ◌≡◌, ◌≤◌}
+use Rattle.plant_import.specs.Merging.{IsRising}
+use Rattle.plant_model.proofs.EventLaws.{events_rise}
+
+-- Tests of rows that pass a wider one
+filter-none : {X : Type 0} (narrow wide : X → Bool) → ((x : X) → narrow x ≡ true → wide x ≡ false) → (xs : List X) → filter narrow (filter wide xs) ≡ []
+filter-none narrow wide never [] = refl
+filter-none narrow wide never (x ∷ xs) =
+    elim (wide x) as (λ b. wide x ≡ b → filter narrow (cond b (x ∷ filter wide xs) (filter wide xs)) ≡ []) [
+      | true ↦ λ is. ap (λ b. cond b (x ∷ filter narrow (filter wide xs)) (filter narrow (filter wide xs))) (not_true (narrow x) (λ e. let no : true ≡ false = sym is ∙ never x e in cc)) ∙ filter-none narrow wide never xs
+      | false ↦ λ _. filter-none narrow wide never xs
+    ] refl
+
+whole : (es : List Event) → filter (λ e. true) es ≡ es
+whole [] = refl
+whole (e ∷ es) = ap (λ l. e ∷ l) (whole es)
+
+nothing : (es : List Event) → filter (λ e. false) es ≡ []
+nothing [] = refl
+nothing (e ∷ es) = nothing es
+
+rises_left : (b : Bool) (es : List Event) → IsRising es → IsRising (filter (λ e. b) es)
+rises_left true es h = subst (λ (l : List Event). IsRising l) (sym (whole es)) h
+rises_left false es h = subst (λ (l : List Event). IsRising l) (sym (nothing es)) (λ i j d lt le. absurd (omega arith))
+
+few_left : (b : Bool) (es : List Event) → length es ≤ 100000 → length (filter (λ e. b) es) ≤ 4294967295
+few_left true es h = subst (λ (l : List Event). length l ≤ 4294967295) (sym (whole es)) (omega (arith, h))
+few_left false es h = subst (λ (l : List Event). length l ≤ 4294967295) (sym (nothing es)) (omega arith)
+
+or_either : (a b : Bool) → (a || b) ≡ true → (a ≡ true) ⊎ (b ≡ true)
+or_either true b e = inl refl
+or_either false b e = inr e
+
+fits : (n : ℕ) → n ≤ 20000 → n < 4294967295
+fits n few = omega (arith, few)
+
+-- A source of a record is a change of a record
+module _ (h : List Call) (n : ℕ) (m : Grid) (is : kind_of_change h n ≡ Some (Matrix m)) where
+  no_source_of : (tags : Name → Bool) (a : Name) (o : Option (ℕ × Sheet)) → sheet h a ≡ o → (rest : List RecordRow) → (list_any (λ (r : RecordEntry). tags r.tag && same_number n r.change_no) (map record_entry rest) ≡ true → ⊥) → list_any (λ (r : RecordEntry). tags r.tag && same_number n r.change_no) (map record_entry (cons_option (option_map (record_with h a) o) rest)) ≡ true → ⊥
+  no_source_of tags a None e rest none there = none there
+  no_source_of tags a (Some x) e rest none there = by (or_either (tags a && same_number n x.0) _ there) where
+    by : ((tags a && same_number n x.0) ≡ true) ⊎ (list_any (λ (r : RecordEntry). tags r.tag && same_number n r.change_no) (map record_entry rest) ≡ true) → ⊥
+    by (inl here) =
+        let number : n ≡ x.0 = same_number_of n x.0 (both_true (tags a) (same_number n x.0) here).1 in
+        let clash : Some (Matrix m) ≡ Some (Rationale a x.1) = sym is ∙ ap (kind_of_change h) number ∙ sheet_source h a x.0 x.1 e in
+        let no : Matrix m ≡ Rationale a x.1 = cc in
+        cc
+    by (inr later) = none later
+
+  no_source_among : (tags : Name → Bool) (names : List Name) → list_any (λ (r : RecordEntry). tags r.tag && same_number n r.change_no) (map record_entry (filter_map (record_of h) names)) ≡ true → ⊥
+  no_source_among tags [] there = cc
+  no_source_among tags (a ∷ names) there = no_source_of tags a (sheet h a) refl (filter_map (record_of h) names) (no_source_among tags names) there
+
+  no_source : (tags : Name → Bool) → is_source (rows_of h) tags n ≡ false
+  no_source tags = not_true (is_source (rows_of h) tags n) (λ e. no_source_among tags (in_order name_cmp (tags_of_records h)) e)
+
+  -- a matrix that is selected is there with its rows
+  named_matrix : (q : Request) → (selected (rows_of h) q).change n ≡ true → (selected (rows_of h) q).matrix n ≡ true
+  named_matrix (WithdrawChange u k) e = e
+  named_matrix (Reject u k) e = e
+  named_matrix (ChangeOf u k) e = e
+  named_matrix (Approve u k) e = by (or_either (is_source (rows_of h) every n) (same_number n k) e) where
+    by : (is_source (rows_of h) every n ≡ true) ⊎ (same_number n k ≡ true) → (same_number n (unit_read (rows_of h)).matrix_no || same_number n k) ≡ true
+    by (inl source) = absurd (let no : true ≡ false = sym source ∙ no_source every in cc)
+    by (inr named) = or_later (same_number n (unit_read (rows_of h)).matrix_no) (same_number n k) named
+  named_matrix (RecordOf u a) e = absurd (let no : true ≡ false = sym e ∙ no_source (same_name a) in cc)
+  named_matrix (Propose u x) e = by x.kind e where
+    by : (k : ChangeKind) → (of_proposal (rows_of h) k).change n ≡ true → (of_proposal (rows_of h) k).matrix n ≡ true
+    by (Rationale a s) e = cc
+    by (Matrix g) e = absurd (let no : true ≡ false = sym e ∙ no_source every in cc)
+    by (Limit a max) e = cc
+  named_matrix (OpenUnit u s g q) e = cc
+  named_matrix (Grant u p t) e = cc
+  named_matrix (Withdraw u p r) e = cc
+  named_matrix (Register u a l max) e = cc
+  named_matrix (Import u file) e = cc
+  named_matrix (TimedShelve u a d w) e = cc
+  named_matrix (OneShotShelve u a w) e = cc
+  named_matrix (Unshelve u a) e = cc
+  named_matrix (RemoveFromService u a w) e = cc
+  named_matrix (PlaceInService u a) e = cc
+  named_matrix (Status u a) e = cc
+  named_matrix (Shelves u) e = cc
+  named_matrix (Alarms u) e = cc
+  named_matrix (Standing u) e = cc
+  named_matrix (Floods u begin until) e = cc
+  named_matrix MyUnits e = cc
+  named_matrix MyShelves e = cc
+
+-- the columns of a sheet are there where the change is of a record
+abbrev has_sheet_of : ChangeKind → Bool
+has_sheet_of k = is_some (option_map (λ (s : Sheet). s.cause) (sheet_of_kind k)) && is_some (option_map (λ (s : Sheet). s.consequence) (sheet_of_kind k)) && is_some (option_map (λ (s : Sheet). s.action) (sheet_of_kind k)) && is_some (option_map (λ (s : Sheet). s.severity) (sheet_of_kind k)) && is_some (option_map (λ (s : Sheet). s.response) (sheet_of_kind k))
+
+module _ (h : List Call) (legal : IsLegal h) (p : Name) (t : ℕ) (q : Request) where
+  abbrev c : Call
+  c = record { person = p; moment = t; request = q }
+
+  abbrev s : Selection
+  s = selected (rows_of h) q
+
+  abbrev part : UnitRows
+  part = rows_selected p s (rows_of h)
+
+  matrix_is : (n : ℕ) (m : Grid) → matrix_numbered h n ≡ Some m → s.matrix n ≡ true → is_matrix_at part n ≡ true
+  matrix_is n m numbered holds =
+      let shape = shaped h legal n m numbered in
+      let whole : matrix_read part n ≡ m = matrix_there (rows_of h) p t s n holds ∙ read_back h n m numbered shape in
+      ap (λ (x : Grid). is_matrix x.limits x.cells) whole ∙ shape
+
+  cells_gone : (n : ℕ) → s.matrix n ≡ false → (severity : ℕ) → cells_at part.cells n severity ≡ []
+  cells_gone n out severity =
+      ap (map (λ (c : CellRow). c.cell_no))
+      (filter-none (λ (c : CellRow). same_number n c.matrix_no && same_number severity c.severity) (λ (c : CellRow). s.matrix c.matrix_no)
+        (λ c e. ap s.matrix (sym (same_number_of n c.matrix_no (both_true (same_number n c.matrix_no) (same_number severity c.severity) e).0)) ∙ out) (cell_rows h))
+
+  left_out : (n : ℕ) → s.matrix n ≡ false → is_left_out part n ≡ true
+  left_out n out = λ i. length (filter has_cells (cells_gone n out 1 i ∷ cells_gone n out 2 i ∷ cells_gone n out 3 i ∷ cells_gone n out 4 i ∷ cells_gone n out 5 i ∷ [])) == 0
+
+  matrix_whole : (is_left_out part (matrix h).0 || is_matrix_at part (matrix h).0) ≡ true
+  matrix_whole = by (s.matrix (matrix h).0) refl where
+    by : (b : Bool) → s.matrix (matrix h).0 ≡ b → (is_left_out part (matrix h).0 || is_matrix_at part (matrix h).0) ≡ true
+    by true holds = or_later _ _ (matrix_is (matrix h).0 (matrix h).1 (in_force_numbered h legal) holds)
+    by false out = or_true _ _ (left_out (matrix h).0 out)
+
+  -- a change of the part is one of the history
+  change_left : (n : ℕ) → change_found part n ≡ cond (s.change n) (option_map change_entry (change h n)) None
+  change_left n = row_at-left nat_cmp change_number number_total same_numbers s.change n (change_rows h) ∙ ap (λ o. cond (s.change n) o None) (change_entry_in h n)
+
+  kind_whole : (n : ℕ) (d : Draft) → draft h n ≡ Some d → s.change n ≡ true → has_kind part (change_entry (change_with h n d)) (topic d.kind) ≡ true
+  kind_whole n d known there = by d.kind refl where
+    by : (k : ChangeKind) → d.kind ≡ k → has_kind part (change_entry (change_with h n d)) (topic k) ≡ true
+    by (Rationale a sheet) e = ap (λ k. is_some (tag_of_kind k) && has_sheet_of k) e
+    by (Matrix m) e =
+        let is : kind_of_change h n ≡ Some (Matrix m) = ap (option_map (λ (d : Draft). d.kind)) known ∙ ap (λ k. Some k) e in
+        matrix_is n m (proposed_matrix h n m is) (named_matrix h n m is q there)
+    by (Limit a max) e = ap (λ k. is_some (tag_of_kind k) && is_some (max_of_kind k)) e
+
+  changes_whole : (n : ℕ) (c : ChangeEntry) → change_found part n ≡ Some c → has_kind part c c.kind_no ≡ true
+  changes_whole n c found = by (s.change n) refl (sym (change_left n) ∙ found) where
+    of_draft : (o : Option Draft) → draft h n ≡ o → s.change n ≡ true → option_map change_entry (option_map (change_with h n) o) ≡ Some c → has_kind part c c.kind_no ≡ true
+    of_draft None e there is = cc
+    of_draft (Some d) e there is = let same : change_entry (change_with h n d) ≡ c = cc in subst (λ (x : ChangeEntry). has_kind part x x.kind_no ≡ true) same (kind_whole n d e there)
+
+    by : (b : Bool) → s.change n ≡ b → cond b (option_map change_entry (change h n)) None ≡ Some c → has_kind part c c.kind_no ≡ true
+    by true there is = of_draft (draft h n) refl there is
+    by false out is = cc
+
+  -- a record's change, where the part has it, has a sheet
+  source_whole : (a : Name) (x : ℕ × Sheet) → sheet h a ≡ Some x → has_its_sheet part (record_entry (record_with h a x)) ≡ true
+  source_whole a x known = ap (λ o. unwrap_or (option_map has_sheet o) true) (change_left x.0) ∙ by (s.change x.0) where
+    of_draft : (o : Option Draft) → option_map (λ (d : Draft). d.kind) o ≡ Some (Rationale a x.1) → unwrap_or (option_map has_sheet (option_map change_entry (option_map (change_with h x.0) o))) true ≡ true
+    of_draft None is = cc
+    of_draft (Some d) is = let same : d.kind ≡ Rationale a x.1 = cc in ap has_sheet_of same
+
+    by : (b : Bool) → unwrap_or (option_map has_sheet (cond b (option_map change_entry (change h x.0)) None)) true ≡ true
+    by true = of_draft (draft h x.0) (sheet_source h a x.0 x.1 known)
+    by false = refl
+
+  record_whole : (a : Name) (o : Option (ℕ × Sheet)) → sheet h a ≡ o → (rest : List RecordRow) → list_all (has_its_sheet part) (filter (λ (r : RecordEntry). s.rationale r.tag) (map record_entry rest)) ≡ true → list_all (has_its_sheet part) (filter (λ (r : RecordEntry). s.rationale r.tag) (map record_entry (cons_option (option_map (record_with h a) o) rest))) ≡ true
+  record_whole a None e rest all = all
+  record_whole a (Some x) e rest all = by (s.rationale a) where
+    by : (b : Bool) → list_all (has_its_sheet part) (cond b (record_entry (record_with h a x) ∷ filter (λ (r : RecordEntry). s.rationale r.tag) (map record_entry rest)) (filter (λ (r : RecordEntry). s.rationale r.tag) (map record_entry rest))) ≡ true
+    by true = λ i. source_whole a x e i && all i
+    by false = all
+
+  records_among : (tags : List Name) → list_all (has_its_sheet part) (filter (λ (r : RecordEntry). s.rationale r.tag) (map record_entry (filter_map (record_of h) tags))) ≡ true
+  records_among [] = refl
+  records_among (a ∷ tags) = record_whole a (sheet h a) refl (filter_map (record_of h) tags) (records_among tags)
+
+  -- there is a next number of each kind
+  counted : counted_for (rows_of h) q ≤ 20000
+  counted = by q where
+    by : (q : Request) → counted_for (rows_of h) q ≤ 20000
+    by (Register u a l m) = let few = few_alarms h legal in omega (arith, few)
+    by (Propose u x) = subst (λ n. n ≤ 20000) (sym (change_count h)) (few_proposals h legal)
+    by _ = omega arith
+
+  revision_left : (a : Name) → unwrap_or (option_map (λ (r : RecordEntry). r.rev) (record_found part a)) 0 ≤ 20000
+  revision_left a = subst (λ o. unwrap_or (option_map (λ (r : RecordEntry). r.rev) o) 0 ≤ 20000) (sym (row_at-left name_cmp record_tag name_total same_names s.rationale a (record_rows h))) (by (s.rationale a)) where
+    by : (b : Bool) → unwrap_or (option_map (λ (r : RecordEntry). r.rev) (cond b (record_found (rows_of h) a) None)) 0 ≤ 20000
+    by true = subst (λ n. n ≤ 20000) (sym (revision_in h a)) (few_records h legal a)
+    by false = omega arith
+
+  limit_left : (a : Name) → unwrap_or (option_map (λ (r : AlarmRow). r.max_rev) (row_at name_cmp alarm_tag a part.alarms)) 0 ≤ 20000
+  limit_left a = subst (λ o. unwrap_or (option_map (λ (r : AlarmRow). r.max_rev) o) 0 ≤ 20000) (sym (row_at-left name_cmp alarm_tag name_total same_names s.alarm a (alarm_rows h) ∙ ap (λ o. cond (s.alarm a) o None) (alarm_in h a))) (by (s.alarm a)) where
+    of_alarm_row : (o : Option Bool) → unwrap_or (option_map (λ (r : AlarmRow). r.max_rev) (option_map (alarm_of h a) o)) 0 ≤ 20000
+    of_alarm_row None = omega arith
+    of_alarm_row (Some l) = few_limits h legal a
+
+    by : (b : Bool) → unwrap_or (option_map (λ (r : AlarmRow). r.max_rev) (cond b (alarm_row h a) None)) 0 ≤ 20000
+    by true = of_alarm_row (latching h a)
+    by false = omega arith
+
+  pub part_kept_of : AreKept (part_of c (rows_of h))
+  part_kept_of =
+      record {
+        events_rise = rises_left s.event (events h) (events_rise h legal);
+        events_few = few_left s.event (events h) (few_events h legal);
+        alarms_in_order = left_in_order name_cmp alarm_tag (λ r. s.alarm r.tag) (alarm_rows h) (IsInOrder-rows (alarm_row h) (tags_of_alarms h) (alarms_told h));
+        matrix_whole = matrix_whole;
+        changes_whole = changes_whole;
+        records_whole = records_among (in_order name_cmp (tags_of_records h));
+        count_fits = fits (counted_for (rows_of h) q) counted;
+        matrix_fits = fits (matrix_revision h) (few_matrices h legal);
+        record_fits = λ a. fits _ (revision_left a);
+        limit_fits = λ a. fits _ (limit_left a);
+      }
