@@ -1,10 +1,11 @@
 //! The numbers of the matrices and of the changes that a request looks at, and the rows that a unit has of numbers.
 
 ghost use Rattle.std.specs.List.{flat_map, list_any};
-ghost use Rattle.std.specs.Prelude.{◌≡◌, ◌++◌, ℕ, false, filter, insert, IfOk, List, MatchOption, OnOk};
+ghost use Rattle.std.specs.Prelude.{◌≡◌, ◌++◌, ◌||◌, ℕ, Bool, false, filter, insert, IfOk, List, MatchOption, OnOk};
 ghost use Rattle.sqlite.specs.Held.{state};
 ghost use Rattle.sqlite.specs.State.{HasCleanDisk};
 ghost use Rattle.sqlite.specs.Tree.{Trees};
+ghost use Rattle.plant_books.specs.Asking.{is_number};
 ghost use Rattle.plant_columns.specs.Tables.{AreBooks, rows_seen};
 ghost use Rattle.plant_columns.specs.Tables.Kept.{BandKept, CellKept, ChangeKept};
 ghost use Rattle.plant_model.specs.Histories.{same_number};
@@ -39,7 +40,7 @@ fn place_of(numbers: &[u32], number: u32) -> Option<usize>
 
 /// Puts a number where it belongs, once.
 fn put(numbers: &mut Table<u32>, number: u32) -> Result<(), Error>
-    ensures { OnOk result (numbers.new ≡ with_number number numbers.old) }
+    ensures { OnOk result ((p : ℕ → Bool) → AreNumbers numbers.old p → AreNumbers numbers.new (λ k. p k || same_number number k)) }
 {
     let Some(place) = place_of(numbers.as_slice(), number) else {
         return Ok(());
@@ -47,6 +48,16 @@ fn put(numbers: &mut Table<u32>, number: u32) -> Result<(), Error>
     match numbers.insert_at(place, number) {
         Ok(()) => Ok(()),
         Err(_) => Err(Error::SqliteFailure(ErrorCode::OutOfMemory)),
+    }
+}
+
+/// Puts a number where it belongs, where there is one.
+fn put_some(numbers: &mut Table<u32>, number: Option<u32>) -> Result<(), Error>
+    ensures { OnOk result ((p : ℕ → Bool) → AreNumbers numbers.old p → AreNumbers numbers.new (λ k. p k || is_number number k)) }
+{
+    match number {
+        Some(number) => put(numbers, number),
+        None => Ok(()),
     }
 }
 
@@ -68,21 +79,18 @@ fn matrix_numbers(alloc: Global, units: &[UnitRow], request: &Request) -> Result
     if wants_matrix(request) {
         put(&mut numbers, matrix_in_force(units))?;
     }
-    if let Some(number) = wanted_change(request) {
-        put(&mut numbers, number)?;
-    }
+    put_some(&mut numbers, wanted_change(request))?;
     Ok(numbers)
 }
 
-/// The numbers of the changes that the records came from.
-fn source_numbers(alloc: Global, records: &[RecordEntry]) -> Result<Table<u32>, Error>
-    ensures { IfOk result (λ numbers. AreNumbers numbers (λ n. list_any (λ r. same_number n r.change_no) records.now)) }
+/// Puts the numbers of the changes that the records came from.
+fn put_sources(numbers: &mut Table<u32>, records: &[RecordEntry]) -> Result<(), Error>
+    ensures { OnOk result ((p : ℕ → Bool) → AreNumbers numbers.old p → AreNumbers numbers.new (λ k. p k || list_any (λ r. same_number k r.change_no) records.now)) }
 {
-    let mut numbers = Table::new(alloc);
     for record in records {
-        put(&mut numbers, record.change_no)?;
+        put(numbers, record.change_no)?;
     }
-    Ok(numbers)
+    Ok(())
 }
 
 /// The numbers of the changes that the request looks at, where it looks at these records.
@@ -93,14 +101,11 @@ fn change_numbers(
 ) -> Result<Table<u32>, Error>
     ensures { (rows : Rows) → records.now ≡ filter (λ r. (selected rows request.now).rationale r.tag) rows.records → IfOk result (λ numbers. AreNumbers numbers (selected rows request.now).change) }
 {
-    let mut numbers = if wants_sources(request) {
-        source_numbers(alloc, records)?
-    } else {
-        Table::new(alloc)
-    };
-    if let Some(number) = wanted_change(request) {
-        put(&mut numbers, number)?;
+    let mut numbers = Table::new(alloc);
+    if wants_sources(request) {
+        put_sources(&mut numbers, records)?;
     }
+    put_some(&mut numbers, wanted_change(request))?;
     Ok(numbers)
 }
 

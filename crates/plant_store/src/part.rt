@@ -177,8 +177,8 @@ fn unit_part<S: Alter>(
     let shelves = some_shelves(alloc, conn, unit, shelved)?;
     let told = wants_events(request);
     let events = some_events(alloc, conn, unit, told)?;
-    let tags_recorded = wanted_records(request);
-    let records = some_records(alloc, conn, unit, tags_recorded)?;
+    let recorded = wanted_records(request);
+    let records = some_records(alloc, conn, unit, recorded)?;
     let bands = some_bands(alloc, conn, unit, &units, request)?;
     let cells = some_cells(alloc, conn, unit, &units, request)?;
     let changes = some_changes(alloc, conn, unit, &records, request)?;
