@@ -13,7 +13,7 @@ use sqlite::MemStore;
 use std::alloc::Global;
 use std::test::Fail;
 
-/// What is asked of the books: about the unit, of the alarm `PT-101`, or for the person `ann`.
+/// What is asked of the books: about the unit, of the alarm `PT-101`, of a change, or for the person `ann`.
 #[derive(Clone, Copy, Debug, PartialEq, Eq)]
 enum Asked {
     Taken,
@@ -24,41 +24,70 @@ enum Asked {
     Shelves,
     /// What a call looks at that reads all grants.
     Withdrawal,
+    /// What a call looks at that reads one record with its alarm and its change.
+    Record,
+    /// What a call looks at that reads the change 2 with its matrix.
+    Change,
+    /// What a call looks at that reads all alarms, all records with their changes, and the matrix in force.
+    Approval,
     Held,
     MineUnits,
 }
 
-const ALL: [Asked; 7] = [
+const ALL: [Asked; 10] = [
     Asked::Taken,
     Asked::Rows,
     Asked::Status,
     Asked::Shelves,
     Asked::Withdrawal,
+    Asked::Record,
+    Asked::Change,
+    Asked::Approval,
     Asked::Held,
     Asked::MineUnits,
 ];
 
-const OF_THE_UNIT: [Asked; 5] = [
+const OF_THE_UNIT: [Asked; 8] = [
     Asked::Taken,
     Asked::Rows,
     Asked::Status,
     Asked::Shelves,
     Asked::Withdrawal,
+    Asked::Record,
+    Asked::Change,
+    Asked::Approval,
 ];
 
-const OF_ANN: [Asked; 6] = [
+const OF_ANN: [Asked; 9] = [
     Asked::Rows,
     Asked::Status,
     Asked::Shelves,
     Asked::Withdrawal,
+    Asked::Record,
+    Asked::Change,
+    Asked::Approval,
     Asked::Held,
     Asked::MineUnits,
 ];
 
-const OF_ALARMS: [Asked; 3] = [Asked::Rows, Asked::Status, Asked::Shelves];
+const OF_ALARMS: [Asked; 5] = [
+    Asked::Rows,
+    Asked::Status,
+    Asked::Shelves,
+    Asked::Record,
+    Asked::Approval,
+];
+
+const OF_SHELVES: [Asked; 3] = [Asked::Rows, Asked::Status, Asked::Shelves];
+
+const OF_MATRICES: [Asked; 3] = [Asked::Rows, Asked::Change, Asked::Approval];
+
+const OF_RECORDS: [Asked; 3] = [Asked::Rows, Asked::Record, Asked::Approval];
+
+const OF_CHANGES: [Asked; 4] = [Asked::Rows, Asked::Record, Asked::Change, Asked::Approval];
 
 /// Each statement that puts a value outside its column's set into the tables of `opened`, with what reads that column.
-const OUTSIDE: [(&str, &[Asked]); 49] = [
+const OUTSIDE: [(&str, &[Asked]); 70] = [
     // a unit's code
     (
         "UPDATE units SET unit = 'u1'; UPDATE grants SET unit = 'u1'",
@@ -75,15 +104,18 @@ const OUTSIDE: [(&str, &[Asked]); 49] = [
     // a moment
     ("UPDATE units SET last_s = 3155760000", &ALL),
     ("UPDATE units SET last_s = -1", &ALL),
-    (
-        "UPDATE shelves SET start_s = 3155760000",
-        &[Asked::Rows, Asked::Status, Asked::Shelves],
-    ),
+    ("UPDATE shelves SET start_s = 3155760000", &OF_SHELVES),
     // a matrix's number and revision
     ("UPDATE units SET matrix_no = 4294967296", &OF_THE_UNIT),
     ("UPDATE units SET matrix_rev = -1", &OF_THE_UNIT),
-    ("UPDATE bands SET matrix_no = 4294967296", &[Asked::Rows]),
-    ("UPDATE cells SET matrix_no = -1", &[Asked::Rows]),
+    (
+        "UPDATE bands SET matrix_no = 4294967296 WHERE matrix_no = 0",
+        &[Asked::Rows],
+    ),
+    (
+        "UPDATE cells SET matrix_no = -1 WHERE matrix_no = 2",
+        &[Asked::Rows],
+    ),
     // a quota
     ("UPDATE units SET quota = 0", &OF_THE_UNIT),
     ("UPDATE units SET quota = 2001", &OF_THE_UNIT),
@@ -92,13 +124,10 @@ const OUTSIDE: [(&str, &[Asked]); 49] = [
         "UPDATE grants SET person = 'Ste' WHERE role_no = 6",
         &[Asked::Rows, Asked::Withdrawal],
     ),
-    (
-        "UPDATE shelves SET person = ''",
-        &[Asked::Rows, Asked::Status, Asked::Shelves],
-    ),
+    ("UPDATE shelves SET person = ''", &OF_SHELVES),
     (
         "UPDATE shelves SET person = 'a-name-that-has-thirty-three-bytes'",
-        &[Asked::Rows, Asked::Status, Asked::Shelves],
+        &OF_SHELVES,
     ),
     // a role
     ("UPDATE grants SET role_no = 0 WHERE role_no = 2", &OF_ANN),
@@ -113,11 +142,11 @@ const OUTSIDE: [(&str, &[Asked]); 49] = [
     // a tag
     (
         "UPDATE alarms SET tag = 'pt-101' WHERE tag = 'PT-101'",
-        &[Asked::Rows, Asked::Shelves],
+        &[Asked::Rows, Asked::Shelves, Asked::Approval],
     ),
     (
         "UPDATE alarms SET tag = '' WHERE tag = 'LT-2'",
-        &[Asked::Rows, Asked::Shelves],
+        &[Asked::Rows, Asked::Shelves, Asked::Approval],
     ),
     (
         "UPDATE shelves SET tag = 'A-TAG-OF-TWENTY-FIVE.BYTES'",
@@ -126,7 +155,7 @@ const OUTSIDE: [(&str, &[Asked]); 49] = [
     // a flag
     ("UPDATE alarms SET latching = 2", &OF_ALARMS),
     ("UPDATE alarms SET suppressed = -1", &OF_ALARMS),
-    ("UPDATE shelves SET one_shot = 2", &OF_ALARMS),
+    ("UPDATE shelves SET one_shot = 2", &OF_SHELVES),
     // a length of time
     ("UPDATE alarms SET max_s = 0", &OF_ALARMS),
     ("UPDATE alarms SET max_s = 604801", &OF_ALARMS),
@@ -143,18 +172,21 @@ const OUTSIDE: [(&str, &[Asked]); 49] = [
     ("UPDATE alarms SET out_by = 'Mat'", &OF_ALARMS),
     ("UPDATE alarms SET out_words = 'p\u{fc}mp'", &OF_ALARMS),
     // a shelf's words
-    ("UPDATE shelves SET words = ''", &OF_ALARMS),
+    ("UPDATE shelves SET words = ''", &OF_SHELVES),
     // a number of 64 bits
-    ("UPDATE shelves SET until_s = -1", &OF_ALARMS),
-    ("UPDATE bands SET limit_s = -300", &[Asked::Rows]),
+    ("UPDATE shelves SET until_s = -1", &OF_SHELVES),
+    ("UPDATE bands SET limit_s = -300", &OF_MATRICES),
     // a band, a severity and a cell
-    ("UPDATE bands SET band_no = 256", &[Asked::Rows]),
-    ("UPDATE cells SET severity = 256", &[Asked::Rows]),
+    ("UPDATE bands SET band_no = 256", &OF_MATRICES),
     (
-        "UPDATE cells SET band_no = -1 WHERE band_no = 1",
-        &[Asked::Rows],
+        "UPDATE cells SET severity = 256 WHERE band_no = 2",
+        &OF_MATRICES,
     ),
-    ("UPDATE cells SET cell_no = 5", &[Asked::Rows]),
+    (
+        "UPDATE cells SET band_no = -1 WHERE band_no = 2",
+        &OF_MATRICES,
+    ),
+    ("UPDATE cells SET cell_no = 5", &OF_MATRICES),
     // an event's number, moment, tag and kind
     ("UPDATE events SET seq = 0 WHERE seq = 7", &[Asked::Rows]),
     (
@@ -165,6 +197,37 @@ const OUTSIDE: [(&str, &[Asked]); 49] = [
     ("UPDATE events SET tag = 'pt-101'", &[Asked::Rows]),
     ("UPDATE events SET kind_no = 0", &[Asked::Rows]),
     ("UPDATE events SET kind_no = 7", &[Asked::Rows]),
+    // a record's tag, change, revision and cell
+    (
+        "UPDATE records SET tag = 'pt-101' WHERE tag = 'PT-101'",
+        &[Asked::Rows, Asked::Approval],
+    ),
+    ("UPDATE records SET change_no = -1", &OF_RECORDS),
+    ("UPDATE records SET rev = 4294967296", &OF_RECORDS),
+    ("UPDATE records SET cell_no = 5", &OF_RECORDS),
+    // a change's number, proposer, moment, topic and base
+    (
+        "UPDATE changes SET number = 4294967296 WHERE number = 1",
+        &[Asked::Rows],
+    ),
+    ("UPDATE changes SET proposer = 'Ann'", &OF_CHANGES),
+    ("UPDATE changes SET proposed_s = 3155760000", &OF_CHANGES),
+    ("UPDATE changes SET kind_no = 0", &OF_CHANGES),
+    ("UPDATE changes SET kind_no = 4", &OF_CHANGES),
+    ("UPDATE changes SET base = -1", &OF_CHANGES),
+    // what a change proposes, where it is there
+    ("UPDATE changes SET tag = 'pt-101'", &OF_CHANGES),
+    ("UPDATE changes SET cause = ''", &OF_CHANGES),
+    ("UPDATE changes SET consequence = ''", &OF_CHANGES),
+    ("UPDATE changes SET remedy = ''", &OF_CHANGES),
+    ("UPDATE changes SET severity = 256", &OF_CHANGES),
+    ("UPDATE changes SET response_s = 0", &OF_CHANGES),
+    ("UPDATE changes SET max_s = 604801", &OF_CHANGES),
+    // a change's state, and how it was decided
+    ("UPDATE changes SET state_no = 0", &OF_CHANGES),
+    ("UPDATE changes SET state_no = 5", &OF_CHANGES),
+    ("UPDATE changes SET decider = 'Mat'", &OF_CHANGES),
+    ("UPDATE changes SET decided_s = -1", &OF_CHANGES),
 ];
 
 /// Whether there was an answer.
@@ -218,6 +281,9 @@ fn answer(
                 role: Role::Viewer,
             },
         ),
+        Asked::Record => part(books, alloc, Request::RecordOf { unit, tag }),
+        Asked::Change => part(books, alloc, Request::ChangeOf { unit, number: 2 }),
+        Asked::Approval => part(books, alloc, Request::Approve { unit, number: 4 }),
         Asked::Held => Ok(told(books.held(&ann, at(90)?))),
         Asked::MineUnits => Ok(told(books.mine_units(&ann, at(90)?))),
     }

@@ -3,8 +3,11 @@ ghost use Rattle.std.specs.Prelude.{◌≡◌, false, IfOk};
 use super::*;
 use plant_alarm::{AlarmState, Event, EventKind, Number};
 use plant_books::{Books, MineShelf};
-use plant_model::{AlarmRow, BandRow, CellRow, Change, GrantRow, Row, ShelfRow, UnitRow, UnitRows};
-use plant_ration::Cell;
+use plant_model::{
+    AlarmRow, BandRow, Call, CellRow, Change, ChangeEntry, ChangeTopic, GrantRow, RecordEntry,
+    Request, Row, ShelfRow, UnitPart, UnitRow, UnitRows,
+};
+use plant_ration::{Cell, ChangeState};
 use plant_store::StoreFault;
 use plant_types::{Fault, Moment, Quota, Role, Seconds, Table, Tag, UnitCode, Words};
 use sqlite::{Files, MemStore};
@@ -116,6 +119,80 @@ fn event(
     })
 }
 
+fn record(alloc: Global, name: &[u8], change_no: u32) -> Result<Change, Fail> {
+    Ok(Change::Put(Row::Record(RecordEntry {
+        tag: tag(alloc, name)?,
+        change_no,
+        rev: 1,
+        cell_no: Cell::P2,
+    })))
+}
+
+/// A change of the matrix that is proposed.
+fn proposed(alloc: Global, number: u32) -> Result<ChangeEntry, Fail> {
+    Ok(ChangeEntry {
+        number,
+        proposer: person(alloc, b"eve")?,
+        proposed_s: at(75)?,
+        kind_no: ChangeTopic::Matrix,
+        tag: None,
+        base: 0,
+        cause: None,
+        consequence: None,
+        remedy: None,
+        severity: None,
+        response_s: None,
+        max_s: None,
+        state_no: ChangeState::Proposed,
+        decider: None,
+        decided_s: None,
+    })
+}
+
+/// A change of an alarm's record that is approved.
+fn rationalised(alloc: Global, number: u32, name: &[u8]) -> Result<ChangeEntry, Fail> {
+    Ok(ChangeEntry {
+        kind_no: ChangeTopic::Record,
+        tag: Some(tag(alloc, name)?),
+        cause: Some(Words::read(alloc, b"blocked valve")?.ok_or("words")?),
+        consequence: Some(Words::read(alloc, b"overflow")?.ok_or("words")?),
+        remedy: Some(Words::read(alloc, b"stop the pump")?.ok_or("words")?),
+        severity: Some(2),
+        response_s: Seconds::new(300),
+        state_no: ChangeState::Approved,
+        decider: Some(person(alloc, b"ann")?),
+        decided_s: Some(at(78)?),
+        ..proposed(alloc, number)?
+    })
+}
+
+/// A change of an alarm's limit that is proposed.
+fn limited(alloc: Global, number: u32, name: &[u8]) -> Result<ChangeEntry, Fail> {
+    Ok(ChangeEntry {
+        kind_no: ChangeTopic::Limit,
+        tag: Some(tag(alloc, name)?),
+        max_s: Seconds::new(7200),
+        ..proposed(alloc, number)?
+    })
+}
+
+fn band(matrix_no: u32) -> Change {
+    Change::Put(Row::Band(BandRow {
+        matrix_no,
+        band_no: 1,
+        limit_s: 300,
+    }))
+}
+
+fn cell(matrix_no: u32, band_no: u8, cell_no: Cell) -> Change {
+    Change::Put(Row::Cell(CellRow {
+        matrix_no,
+        severity: 1,
+        band_no,
+        cell_no,
+    }))
+}
+
 fn changes(alloc: Global) -> Result<Table<Change>, Fail> {
     let mut list = Table::new(alloc);
     list.push(own_row(80)?)?;
@@ -125,32 +202,26 @@ fn changes(alloc: Global) -> Result<Table<Change>, Fail> {
     list.push(alarm(alloc, b"PT-101")?)?;
     list.push(alarm(alloc, b"LT-2")?)?;
     list.push(shelf(alloc, b"PT-101")?)?;
-    list.push(Change::Put(Row::Band(BandRow {
-        matrix_no: 0,
-        band_no: 1,
-        limit_s: 300,
-    })))?;
-    list.push(Change::Put(Row::Cell(CellRow {
-        matrix_no: 0,
-        severity: 1,
-        band_no: 2,
-        cell_no: Cell::P4,
-    })))?;
-    list.push(Change::Put(Row::Cell(CellRow {
-        matrix_no: 0,
-        severity: 1,
-        band_no: 1,
-        cell_no: Cell::N,
-    })))?;
+    list.push(band(2))?;
+    list.push(band(0))?;
+    list.push(cell(0, 2, Cell::P4))?;
+    list.push(cell(0, 1, Cell::N))?;
+    list.push(cell(2, 2, Cell::P1))?;
     let returned = event(alloc, 12, 50, b"PT-101", EventKind::Rtn)?;
     list.push(Change::Put(Row::Event(returned)))?;
     let raised = event(alloc, 7, 40, b"LT-2", EventKind::Act)?;
     list.push(Change::Put(Row::Event(raised)))?;
+    list.push(record(alloc, b"PT-101", 3)?)?;
+    list.push(record(alloc, b"LT-2", 1)?)?;
+    list.push(Change::Put(Row::Change(limited(alloc, 4, b"PT-101")?)))?;
+    list.push(Change::Put(Row::Change(rationalised(alloc, 3, b"PT-101")?)))?;
+    list.push(Change::Put(Row::Change(proposed(alloc, 2)?)))?;
+    list.push(Change::Put(Row::Change(rationalised(alloc, 1, b"LT-2")?)))?;
     Ok(list)
 }
 
 /// How many rows each table has.
-fn counts(rows: &UnitRows) -> [usize; 7] {
+fn counts(rows: &UnitRows) -> [usize; 9] {
     [
         rows.units.len(),
         rows.grants.len(),
@@ -159,6 +230,8 @@ fn counts(rows: &UnitRows) -> [usize; 7] {
         rows.events.len(),
         rows.bands.len(),
         rows.cells.len(),
+        rows.records.len(),
+        rows.changes.len(),
     ]
 }
 
@@ -189,7 +262,7 @@ fn one(alloc: Global, change: Change) -> Result<Table<Change>, Fail> {
 fn keeps_the_rows_of_a_unit(rt: HostRuntime) -> Result<(), Fail> {
     let mut books = opened(rt.alloc())?;
     let rows = rows(&mut books, rt.alloc())?;
-    assert_eq!(rt; counts(&rows), [1, 3, 2, 1, 2, 1, 2]);
+    assert_eq!(rt; counts(&rows), [1, 3, 2, 1, 2, 2, 3, 2, 4]);
     assert!(rt;
         rows.units
             .as_slice()
@@ -207,6 +280,67 @@ fn keeps_the_rows_of_a_unit(rt: HostRuntime) -> Result<(), Fail> {
     };
     assert!(rt; *first == event(rt.alloc(), 7, 40, b"LT-2", EventKind::Act)?);
     assert!(rt; *second == event(rt.alloc(), 12, 50, b"PT-101", EventKind::Rtn)?);
+    Ok(())
+}
+
+/// What a call of `ann` looks at.
+fn part(books: &mut Tables<MemStore>, alloc: Global, request: Request) -> Result<UnitPart, Fail> {
+    let call = Call {
+        person: person(alloc, b"ann")?,
+        moment: at(90)?,
+        request,
+    };
+    Ok(books.part(&call)?.ok_or("the unit was opened")?)
+}
+
+#[test]
+fn gives_an_approval_its_matrices_and_the_changes_of_records(rt: HostRuntime) -> Result<(), Fail> {
+    let alloc = rt.alloc();
+    let mut books = opened(alloc)?;
+    let unit = unit(alloc, b"U1")?;
+    let part = part(&mut books, alloc, Request::Approve { unit, number: 2 })?;
+    assert_eq!(rt; counts(&part.rows), [1, 2, 2, 0, 0, 2, 3, 2, 3]);
+    let [first, second, third] = part.rows.changes.as_slice() else {
+        return Err(Fail::from("three changes"));
+    };
+    assert_eq!(rt; [first.number, second.number, third.number], [1, 2, 3]);
+    let [in_force, wanted] = part.rows.bands.as_slice() else {
+        return Err(Fail::from("two limits"));
+    };
+    assert_eq!(rt; [in_force.matrix_no, wanted.matrix_no], [0, 2]);
+    assert!(rt; third.severity == Some(2) && third.response_s == Seconds::new(300));
+    assert!(rt; second.tag.is_none() && second.kind_no == ChangeTopic::Matrix);
+    Ok(())
+}
+
+#[test]
+fn gives_a_record_its_change_alone(rt: HostRuntime) -> Result<(), Fail> {
+    let alloc = rt.alloc();
+    let mut books = opened(alloc)?;
+    let asked = Request::RecordOf {
+        unit: unit(alloc, b"U1")?,
+        tag: tag(alloc, b"PT-101")?,
+    };
+    let part = part(&mut books, alloc, asked)?;
+    assert_eq!(rt; counts(&part.rows), [1, 2, 1, 0, 0, 0, 0, 1, 1]);
+    assert!(rt;
+        part.rows
+            .changes
+            .as_slice()
+            .iter()
+            .all(|change| change.number == 3)
+    );
+    assert_eq!(rt; part.count, 0);
+    Ok(())
+}
+
+#[test]
+fn gives_a_change_with_its_matrix(rt: HostRuntime) -> Result<(), Fail> {
+    let alloc = rt.alloc();
+    let mut books = opened(alloc)?;
+    let unit = unit(alloc, b"U1")?;
+    let part = part(&mut books, alloc, Request::ChangeOf { unit, number: 2 })?;
+    assert_eq!(rt; counts(&part.rows), [1, 2, 0, 0, 0, 1, 1, 0, 1]);
     Ok(())
 }
 
@@ -294,7 +428,10 @@ fn opens_its_own_store_alone(rt: HostRuntime) -> Result<(), Fail> {
         return Err(Fail::from("the same administrator's"));
     };
     assert_eq!(rt; *books.administrator(), person(alloc, b"root")?);
-    assert_eq!(rt; counts(&rows(&mut books, alloc)?), [1, 3, 2, 1, 2, 1, 2]);
+    assert_eq!(rt;
+        counts(&rows(&mut books, alloc)?),
+        [1, 3, 2, 1, 2, 2, 3, 2, 4]
+    );
     Ok(())
 }
 
