@@ -10,7 +10,7 @@ use Rattle.matchit.specs.Route.{Scan, parse_route}
 use Rattle.matchit.specs.Router.{RouteOf, route_from}
 use Rattle.matchit.specs.declared.error.InsertError.{InsertError}
 use Rattle.plant_route.specs.declared.routes.Route.{Route}
-use Rattle.plant_route.specs.declared.routes.Route.TheVariants.{OpenUnit, Grant, Withdraw, Register, Import, TimedShelve, OneShotShelve, Unshelve, RemoveFromService, PlaceInService, Status, Alarms, Shelves, Standing, Floods, MyUnits, MyShelves}
+use Rattle.plant_route.specs.declared.routes.Route.TheVariants.{OpenUnit, Grant, Withdraw, Register, Import, TimedShelve, OneShotShelve, Unshelve, RemoveFromService, PlaceInService, Propose, WithdrawChange, Approve, Reject, Status, RecordOf, ChangeOf, Alarms, Shelves, Standing, Floods, MyUnits, MyShelves}
 
 abbrev pub Rows : Type 0
 Rows = RowsOf (RouteOf Route)
@@ -53,11 +53,27 @@ service_posts =
     ∷ (codes "/units/{unit}/alarms/{tag}/place-in-service", PlaceInService)
     ∷ []
 
--- GET: an alarm, and what a unit lists
+-- POST: a change, and how it is decided
+unfoldable pub change_posts : List (List ℕ × Route)
+change_posts =
+    (codes "/units/{unit}/changes", Propose)
+    ∷ (codes "/units/{unit}/changes/{n}/withdraw", WithdrawChange)
+    ∷ (codes "/units/{unit}/changes/{n}/approve", Approve)
+    ∷ (codes "/units/{unit}/changes/{n}/reject", Reject)
+    ∷ []
+
+-- GET: an alarm, its record, and a change
+unfoldable pub alarm_gets : List (List ℕ × Route)
+alarm_gets =
+    (codes "/units/{unit}/alarms/{tag}", Status)
+    ∷ (codes "/units/{unit}/alarms/{tag}/record", RecordOf)
+    ∷ (codes "/units/{unit}/changes/{n}", ChangeOf)
+    ∷ []
+
+-- GET: what a unit lists
 unfoldable pub unit_gets : List (List ℕ × Route)
 unit_gets =
-    (codes "/units/{unit}/alarms/{tag}", Status)
-    ∷ (codes "/units/{unit}/alarms", Alarms)
+    (codes "/units/{unit}/alarms", Alarms)
     ∷ (codes "/units/{unit}/shelves", Shelves)
     ∷ (codes "/units/{unit}/standing", Standing)
     ∷ (codes "/units/{unit}/floods/{begin}/{until}", Floods)
@@ -72,11 +88,11 @@ own_gets =
 
 -- the routes of POST
 unfoldable pub post_rows : Rows
-post_rows = with_routes service_posts (with_routes alarm_posts (with_routes unit_posts []))
+post_rows = with_routes change_posts (with_routes service_posts (with_routes alarm_posts (with_routes unit_posts [])))
 
 -- the routes of GET
 unfoldable pub get_rows : Rows
-get_rows = with_routes own_gets (with_routes unit_gets [])
+get_rows = with_routes own_gets (with_routes unit_gets (with_routes alarm_gets []))
 
 abbrev pub route_in : Rows → List ℕ → Option Route
 route_in rows path = option_map (λ found. found.value) (first rows path)

@@ -1,7 +1,7 @@
 ghost use Rattle.std.specs.Prelude.{◌≡◌, IfOk, IfErr, OnOk, IsTrue};
 ghost use Rattle.std.specs.List.{list_all};
 ghost use Rattle.plant_types.specs.declared.fault.Fault.TheVariants.{Memory};
-ghost use Rattle.plant_route.specs.Routes.{insert, unit_posts, alarm_posts, service_posts, unit_gets, own_gets, post_rows, get_rows, with_routes, route_in, route_of, is_path_byte, is_path};
+ghost use Rattle.plant_route.specs.Routes.{insert, unit_posts, alarm_posts, service_posts, change_posts, alarm_gets, unit_gets, own_gets, post_rows, get_rows, with_routes, route_in, route_of, is_path_byte, is_path};
 
 use matchit::Router;
 use plant_types::Fault;
@@ -20,7 +20,13 @@ pub enum Route {
     Unshelve,
     RemoveFromService,
     PlaceInService,
+    Propose,
+    WithdrawChange,
+    Approve,
+    Reject,
     Status,
+    RecordOf,
+    ChangeOf,
     Alarms,
     Shelves,
     Standing,
@@ -94,12 +100,38 @@ fn add_service_posts(router: &mut Router<Route>) -> Result<(), Fault>
     Ok(())
 }
 
+#[tactic(auto, unfolding(crate::specs::Routes::change_posts))]
+fn add_change_posts(router: &mut Router<Route>) -> Result<(), Fault>
+    ensures ok { OnOk result (router.new ≡ with_routes change_posts router.old) }
+    ensures err { IfErr result (λ e. e ≡ Memory) }
+{
+    add(router, "/units/{unit}/changes", Route::Propose)?;
+    add(
+        router,
+        "/units/{unit}/changes/{n}/withdraw",
+        Route::WithdrawChange,
+    )?;
+    add(router, "/units/{unit}/changes/{n}/approve", Route::Approve)?;
+    add(router, "/units/{unit}/changes/{n}/reject", Route::Reject)?;
+    Ok(())
+}
+
+#[tactic(auto, unfolding(crate::specs::Routes::alarm_gets))]
+fn add_alarm_gets(router: &mut Router<Route>) -> Result<(), Fault>
+    ensures ok { OnOk result (router.new ≡ with_routes alarm_gets router.old) }
+    ensures err { IfErr result (λ e. e ≡ Memory) }
+{
+    add(router, "/units/{unit}/alarms/{tag}", Route::Status)?;
+    add(router, "/units/{unit}/alarms/{tag}/record", Route::RecordOf)?;
+    add(router, "/units/{unit}/changes/{n}", Route::ChangeOf)?;
+    Ok(())
+}
+
 #[tactic(auto, unfolding(crate::specs::Routes::unit_gets))]
 fn add_unit_gets(router: &mut Router<Route>) -> Result<(), Fault>
     ensures ok { OnOk result (router.new ≡ with_routes unit_gets router.old) }
     ensures err { IfErr result (λ e. e ≡ Memory) }
 {
-    add(router, "/units/{unit}/alarms/{tag}", Route::Status)?;
     add(router, "/units/{unit}/alarms", Route::Alarms)?;
     add(router, "/units/{unit}/shelves", Route::Shelves)?;
     add(router, "/units/{unit}/standing", Route::Standing)?;
@@ -130,6 +162,7 @@ fn post_routes(alloc: Global) -> Result<Router<Route>, Fault>
     add_unit_posts(&mut router)?;
     add_alarm_posts(&mut router)?;
     add_service_posts(&mut router)?;
+    add_change_posts(&mut router)?;
     Ok(router)
 }
 
@@ -139,6 +172,7 @@ fn get_routes(alloc: Global) -> Result<Router<Route>, Fault>
     ensures err { IfErr result (λ e. e ≡ Memory) }
 {
     let mut router = Router::new(alloc);
+    add_alarm_gets(&mut router)?;
     add_unit_gets(&mut router)?;
     add_own_gets(&mut router)?;
     Ok(router)

@@ -1,7 +1,7 @@
 use super::*;
 use std::test::Fail;
 
-const TABLE: [(&[u8], &[u8], Route); 17] = [
+const TABLE: [(&[u8], &[u8], Route); 23] = [
     (b"POST", b"/units/U1", Route::OpenUnit),
     (b"POST", b"/units/U1/grants", Route::Grant),
     (b"POST", b"/units/U1/withdrawals", Route::Withdraw),
@@ -43,9 +43,19 @@ const TABLE: [(&[u8], &[u8], Route); 17] = [
         Route::Floods,
     ),
     (b"GET", b"/shelves", Route::MyShelves),
+    (b"POST", b"/units/U1/changes", Route::Propose),
+    (
+        b"POST",
+        b"/units/U1/changes/2/withdraw",
+        Route::WithdrawChange,
+    ),
+    (b"POST", b"/units/U1/changes/2/approve", Route::Approve),
+    (b"POST", b"/units/U1/changes/2/reject", Route::Reject),
+    (b"GET", b"/units/U1/alarms/PT-101/record", Route::RecordOf),
+    (b"GET", b"/units/U1/changes/2", Route::ChangeOf),
 ];
 
-const NONE: [(&[u8], &[u8]); 16] = [
+const NONE: [(&[u8], &[u8]); 22] = [
     (b"GET", b"/units/U1/grants"),
     (b"POST", b"/units"),
     (b"get", b"/units"),
@@ -62,6 +72,12 @@ const NONE: [(&[u8], &[u8]); 16] = [
     (b"POST", b"/units/U1/floods/a/b"),
     (b"GET", b"/units/U1/floods/a"),
     (b"GET", b"/units/U1/floods/a/b/"),
+    (b"GET", b"/units/U1/changes"),
+    (b"GET", b"/units/U1/changes/2/approve"),
+    (b"POST", b"/units/U1/changes/2"),
+    (b"POST", b"/units/U1/changes//approve"),
+    (b"POST", b"/units/U1/alarms/PT-101/record"),
+    (b"GET", b"/units/U1/changes/"),
 ];
 
 #[test]
