@@ -1,6 +1,6 @@
 pub mod Causes
-pub mod Path
 pub mod Lengths
+pub mod Path
 pub mod Reading
 pub mod Front
 pub mod Cut

@@ -1,8 +1,10 @@
 -- The segments of a path.
-use Rattle.std.specs.Prelude.{ℕ, zero, suc, List, [], ◌∷◌, ◌==◌, if◌then◌else◌, Result}
+use Rattle.std.specs.Prelude.{ℕ, zero, suc, List, [], ◌∷◌, length, slice_index, ◌==◌, nat_le, Bool, ◌&&◌, not, if◌then◌else◌, Option, Some, None, Result}
 use Rattle.std.specs.Option.{ok_or}
+use Rattle.std.specs.Str.Parse.{digits_value}
 use Rattle.plant_types.specs.Text.{unit_code_of, tag_of}
 use Rattle.plant_types.specs.Moment.{moment_of}
+use Rattle.plant_call.specs.Lengths.{is_numeral}
 use Rattle.plant_call.specs.declared.causes.Cause.{Cause}
 use Rattle.plant_call.specs.declared.causes.Cause.TheVariants.{BadPath}
 
@@ -42,3 +44,14 @@ begin_in path = moment_at 4 path
 
 abbrev pub until_in : List ℕ → Result ℕ Cause
 until_in path = moment_at 5 path
+
+-- 1 to 5 digits, of which the first isn't 0
+abbrev pub is_change_number : List ℕ → Bool
+is_change_number text = is_numeral text && nat_le (length text) 5 && not (slice_index text 0 == 48)
+
+abbrev pub change_number_of : List ℕ → Option ℕ
+change_number_of text = if is_change_number text then Some (digits_value 10 text) else None
+
+-- /units/{unit}/changes/{n}
+abbrev pub number_in : List ℕ → Result ℕ Cause
+number_in path = ok_or (change_number_of (segment 4 path)) BadPath

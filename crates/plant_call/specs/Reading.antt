@@ -11,9 +11,10 @@ use Rattle.plant_route.specs.declared.routes.Route.{Route}
 use Rattle.plant_route.specs.declared.routes.Route.TheVariants as route
 use Rattle.plant_route.specs.Routes.{route_of}
 use Rattle.plant_body.specs.Bodies.{read_by, opening_in, granting_in, withdrawal_in, registration_in, timed_shelving_in, reason_in}
+use Rattle.plant_body.specs.Proposals.{proposal_in}
 use Rattle.plant_head.specs.Fields.{NameValue, values_named}
 use Rattle.plant_call.specs.Causes.{of_body, ◌>>=◌}
-use Rattle.plant_call.specs.Path.{unit_in, tag_in, begin_in, until_in}
+use Rattle.plant_call.specs.Path.{unit_in, tag_in, begin_in, until_in, number_in}
 use Rattle.plant_call.specs.declared.causes.Cause.{Cause}
 use Rattle.plant_call.specs.declared.causes.Cause.TheVariants.{NoRoute, BadPerson, BadMoment}
 
@@ -73,10 +74,34 @@ request_in route.PlaceInService path body = do
   unit ← unit_in path
   tag ← tag_in path
   Ok (request.PlaceInService unit tag)
+request_in route.Propose path body = do
+  unit ← unit_in path
+  proposal ← of_body (read_by proposal_in body)
+  Ok (request.Propose unit proposal)
+request_in route.WithdrawChange path body = do
+  unit ← unit_in path
+  number ← number_in path
+  Ok (request.WithdrawChange unit number)
+request_in route.Approve path body = do
+  unit ← unit_in path
+  number ← number_in path
+  Ok (request.Approve unit number)
+request_in route.Reject path body = do
+  unit ← unit_in path
+  number ← number_in path
+  Ok (request.Reject unit number)
 request_in route.Status path body = do
   unit ← unit_in path
   tag ← tag_in path
   Ok (request.Status unit tag)
+request_in route.RecordOf path body = do
+  unit ← unit_in path
+  tag ← tag_in path
+  Ok (request.RecordOf unit tag)
+request_in route.ChangeOf path body = do
+  unit ← unit_in path
+  number ← number_in path
+  Ok (request.ChangeOf unit number)
 request_in route.Alarms path body = do
   unit ← unit_in path
   Ok (request.Alarms unit)

@@ -17,14 +17,15 @@ fn has_digits(text: &[u8]) -> bool
     text.iter().all(|b| b.is_ascii_digit())
 }
 
-fn is_numeral(text: &[u8]) -> bool
+/// Whether the text is a number in digits.
+pub(crate) fn is_numeral(text: &[u8]) -> bool
     ensures { result ≡ is_numeral text.now }
 {
     !text.is_empty() && has_digits(text)
 }
 
 /// The number, or one more than the limit where it is above that.
-fn capped_value(text: &[u8]) -> usize
+pub(crate) fn capped_value(text: &[u8]) -> usize
     requires { IsTrue (list_all is_ascii_digit text.now) }
     ensures { result ≡ min (digits_value 10 text.now) (BODY_LIMIT + 1) }
 {

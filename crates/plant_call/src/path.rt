@@ -1,8 +1,9 @@
 ghost use Rattle.std.specs.Prelude.{◌≡◌};
 ghost use Rattle.plant_call.specs.Causes.{Gives};
-ghost use Rattle.plant_call.specs.Path.{until_slash, after_slash, after_slashes, segment, unit_in, tag_in, moment_at, begin_in, until_in};
+ghost use Rattle.plant_call.specs.Path.{until_slash, after_slash, after_slashes, segment, unit_in, tag_in, moment_at, begin_in, until_in, is_change_number, change_number_of, number_in};
 
 use crate::causes::{CallError, Cause};
+use crate::lengths::{capped_value, is_numeral};
 use plant_types::{Moment, Tag, UnitCode};
 use std::alloc::Global;
 
@@ -70,4 +71,31 @@ pub(crate) fn until_in(path: &[u8]) -> Result<Moment, CallError>
     ensures { Gives result (until_in path.now) }
 {
     moment_at(path, 5)
+}
+
+fn is_change_number(text: &[u8]) -> bool
+    ensures { result ≡ is_change_number text.now }
+{
+    is_numeral(text) && text.len() <= 5 && text[0] != b'0'
+}
+
+/// The number that the text is: 1 to 5 digits, of which the first isn't 0.
+fn change_number_of(text: &[u8]) -> Option<u32>
+    ensures { result ≡ change_number_of text.now }
+{
+    if is_change_number(text) {
+        Some(capped_value(text) as u32)
+    } else {
+        None
+    }
+}
+
+/// The number of a change that the path names.
+pub(crate) fn number_in(path: &[u8]) -> Result<u32, CallError>
+    ensures { Gives result (number_in path.now) }
+{
+    match change_number_of(segment(path, 4)) {
+        Some(number) => Ok(number),
+        None => Err(CallError::Because(Cause::BadPath)),
+    }
 }

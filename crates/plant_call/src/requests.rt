@@ -12,11 +12,12 @@ ghost use Rattle.plant_call.specs.Reading.{person_said, moment_said, request_in,
 ghost use Rattle.std.specs.Prelude.{Result};
 
 use crate::causes::{CallError, Cause, body_error};
-use crate::path::{begin_in, tag_in, unit_in, until_in};
+use crate::path::{begin_in, number_in, tag_in, unit_in, until_in};
 use httparse::spans::HeaderSpan;
 use plant_body::{
     BodyError, Granting, Opening, Registration, TimedShelving, Withdrawal, read_granting,
-    read_opening, read_reason, read_registration, read_timed_shelving, read_withdrawal,
+    read_opening, read_proposal, read_reason, read_registration, read_timed_shelving,
+    read_withdrawal,
 };
 use plant_head::{Lookup, field};
 use plant_import::read_file;
@@ -161,6 +162,15 @@ fn remove_from_service(alloc: Global, path: &[u8], body: &[u8]) -> Result<Reques
 }
 
 #[tactic(auto, unfolding(crate::specs::Reading::request_in))]
+fn propose(alloc: Global, path: &[u8], body: &[u8]) -> Result<Request, CallError>
+    ensures { Gives result (request_in route.Propose path.now body.now) }
+{
+    let unit = unit_in(alloc, path)?;
+    let proposal = of_body(read_proposal(alloc, body))?;
+    Ok(Request::Propose { unit, proposal })
+}
+
+#[tactic(auto, unfolding(crate::specs::Reading::request_in))]
 fn request_in(alloc: Global, route: Route, path: &[u8], body: &[u8]) -> Result<Request, CallError>
     ensures { Gives result (request_in route path.now body.now) }
 {
@@ -181,9 +191,30 @@ fn request_in(alloc: Global, route: Route, path: &[u8], body: &[u8]) -> Result<R
             unit: unit_in(alloc, path)?,
             tag: tag_in(alloc, path)?,
         }),
+        Route::Propose => propose(alloc, path, body),
+        Route::WithdrawChange => Ok(Request::WithdrawChange {
+            unit: unit_in(alloc, path)?,
+            number: number_in(path)?,
+        }),
+        Route::Approve => Ok(Request::Approve {
+            unit: unit_in(alloc, path)?,
+            number: number_in(path)?,
+        }),
+        Route::Reject => Ok(Request::Reject {
+            unit: unit_in(alloc, path)?,
+            number: number_in(path)?,
+        }),
         Route::Status => Ok(Request::Status {
             unit: unit_in(alloc, path)?,
             tag: tag_in(alloc, path)?,
+        }),
+        Route::RecordOf => Ok(Request::RecordOf {
+            unit: unit_in(alloc, path)?,
+            tag: tag_in(alloc, path)?,
+        }),
+        Route::ChangeOf => Ok(Request::ChangeOf {
+            unit: unit_in(alloc, path)?,
+            number: number_in(path)?,
         }),
         Route::Alarms => Ok(Request::Alarms {
             unit: unit_in(alloc, path)?,

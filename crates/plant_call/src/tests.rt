@@ -1,6 +1,7 @@
 use super::*;
 use plant_import::{BadFile, Cause as FileCause};
 use plant_model::{Call, Request};
+use plant_ration::ChangeKind;
 use std::alloc::Global;
 use std::test::Fail;
 
@@ -209,6 +210,91 @@ fn reads_floods(rt: HostRuntime) -> Result<(), Fail> {
     let ends =
         b"GET /units/U1/floods/2026-03-01T10:00:00Z/2100-01-01T00:00:00Z HTTP/1.0\nX-Person:ann\nX-Moment:2026-03-01T08:00:00Z\n\n";
     assert!(rt; malformed(alloc, ends) == Some(Cause::BadPath));
+    Ok(())
+}
+
+/// A proposal's body is read, and its causes stand after those of the path.
+#[test]
+fn reads_proposals(rt: HostRuntime) -> Result<(), Fail> {
+    let alloc = rt.alloc();
+    let limit = b"{\"kind\":\"limit\",\"base\":1,\"tag\":\"PT-101\",\"max\":600}";
+    let bytes = posted(alloc, b"/units/U1/changes", limit)?;
+    let Request::Propose { unit, proposal } = asked(alloc, &bytes)? else {
+        return Err(Fail::new("no proposal"));
+    };
+    assert_eq!(rt; unit.as_bytes(), b"U1".as_slice());
+    assert_eq!(rt; proposal.base, 1);
+    let ChangeKind::Limit(tag, max) = &proposal.kind else {
+        return Err(Fail::new("no limit"));
+    };
+    assert_eq!(rt; tag.as_bytes(), b"PT-101".as_slice());
+    assert_eq!(rt; max.get(), 600);
+    let falling = b"{\"kind\":\"matrix\",\"base\":0,\"bands\":[],\"cells\":[[\"P1\"],[\"P2\"]]}";
+    let bytes = posted(alloc, b"/units/U1/changes", falling)?;
+    assert!(rt; malformed(alloc, &bytes) == Some(Cause::NotOrdered));
+    let bytes = posted(alloc, b"/units/u/changes", falling)?;
+    assert!(rt; malformed(alloc, &bytes) == Some(Cause::BadPath));
+    let bytes = posted(alloc, b"/units/U1/changes", b"{}")?;
+    assert!(rt; malformed(alloc, &bytes) == Some(Cause::BadBody));
+    Ok(())
+}
+
+#[test]
+fn reads_decisions(rt: HostRuntime) -> Result<(), Fail> {
+    let alloc = rt.alloc();
+    let bytes = posted(alloc, b"/units/U1/changes/2/withdraw", b"not read")?;
+    let Request::WithdrawChange { unit, number } = asked(alloc, &bytes)? else {
+        return Err(Fail::new("no withdrawal"));
+    };
+    assert_eq!(rt; unit.as_bytes(), b"U1".as_slice());
+    assert_eq!(rt; number, 2);
+    let bytes = posted(alloc, b"/units/U1/changes/20000/approve", b"")?;
+    let Request::Approve { number, .. } = asked(alloc, &bytes)? else {
+        return Err(Fail::new("no approval"));
+    };
+    assert_eq!(rt; number, 20_000);
+    let bytes = posted(alloc, b"/units/U1/changes/13/reject", b"")?;
+    let Request::Reject { number, .. } = asked(alloc, &bytes)? else {
+        return Err(Fail::new("no rejection"));
+    };
+    assert_eq!(rt; number, 13);
+    Ok(())
+}
+
+#[test]
+fn reads_questions_of_records_and_changes(rt: HostRuntime) -> Result<(), Fail> {
+    let alloc = rt.alloc();
+    let bytes =
+        b"GET /units/U1/alarms/PT-101/record HTTP/1.0\nX-Person:ann\nX-Moment:2026-03-01T08:00:00Z\n\n";
+    let Request::RecordOf { unit, tag } = asked(alloc, bytes)? else {
+        return Err(Fail::new("no record"));
+    };
+    assert_eq!(rt; unit.as_bytes(), b"U1".as_slice());
+    assert_eq!(rt; tag.as_bytes(), b"PT-101".as_slice());
+    let bytes =
+        b"GET /units/U1/changes/99999 HTTP/1.0\nX-Person:ann\nX-Moment:2026-03-01T08:00:00Z\n\n";
+    let Request::ChangeOf { number, .. } = asked(alloc, bytes)? else {
+        return Err(Fail::new("no change"));
+    };
+    assert_eq!(rt; number, 99_999);
+    Ok(())
+}
+
+/// A number of a change has 1 to 5 digits, of which the first isn't 0.
+#[test]
+fn tells_bad_numbers(rt: HostRuntime) -> Result<(), Fail> {
+    let alloc = rt.alloc();
+    let targets: [&[u8]; 5] = [
+        b"/units/U1/changes/0/approve",
+        b"/units/U1/changes/07/approve",
+        b"/units/U1/changes/100000/approve",
+        b"/units/U1/changes/+7/approve",
+        b"/units/U1/changes/7x/approve",
+    ];
+    for target in targets.iter() {
+        let bytes = posted(alloc, target, b"")?;
+        assert!(rt; malformed(alloc, &bytes) == Some(Cause::BadPath));
+    }
     Ok(())
 }
 
