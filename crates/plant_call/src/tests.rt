@@ -243,21 +243,14 @@ fn reads_proposals(rt: HostRuntime) -> Result<(), Fail> {
 fn reads_decisions(rt: HostRuntime) -> Result<(), Fail> {
     let alloc = rt.alloc();
     let bytes = posted(alloc, b"/units/U1/changes/2/withdraw", b"not read")?;
-    let Request::WithdrawChange { unit, number } = asked(alloc, &bytes)? else {
-        return Err(Fail::new("no withdrawal"));
-    };
-    assert_eq!(rt; unit.as_bytes(), b"U1".as_slice());
-    assert_eq!(rt; number, 2);
+    let request = asked(alloc, &bytes)?;
+    assert!(rt; matches!(&request, Request::WithdrawChange { number: 2, .. }));
     let bytes = posted(alloc, b"/units/U1/changes/20000/approve", b"")?;
-    let Request::Approve { number, .. } = asked(alloc, &bytes)? else {
-        return Err(Fail::new("no approval"));
-    };
-    assert_eq!(rt; number, 20_000);
+    let request = asked(alloc, &bytes)?;
+    assert!(rt; matches!(&request, Request::Approve { number: 20_000, .. }));
     let bytes = posted(alloc, b"/units/U1/changes/13/reject", b"")?;
-    let Request::Reject { number, .. } = asked(alloc, &bytes)? else {
-        return Err(Fail::new("no rejection"));
-    };
-    assert_eq!(rt; number, 13);
+    let request = asked(alloc, &bytes)?;
+    assert!(rt; matches!(&request, Request::Reject { number: 13, .. }));
     Ok(())
 }
 
