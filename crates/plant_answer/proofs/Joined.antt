@@ -45,3 +45,8 @@ pushed_first c f xs i d o m q x lt none is was more =
     let e : i ≡ 0 = omega arith in
     let first : m ≡ o = was ∙ rw e (append-nil o) in
     rw (more, first, is, joined_first c f xs i d lt e) refl
+
+-- one after another is both at once
+pub map_both : {A B C : Type 0} (f : A → B) (g : B → C) (xs : List A) → map (λ x. g (f x)) xs ≡ map g (map f xs)
+map_both f g [] = refl
+map_both f g (x ∷ xs) = ap (λ ys. g (f x) ∷ ys) (map_both f g xs)

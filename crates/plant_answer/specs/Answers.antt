@@ -10,7 +10,8 @@ use Rattle.plant_report.specs.Texts.{shelf_text, standing_text, alarm_text, floo
 use Rattle.plant_answer.specs.declared.responses.Media.{Media}
 use Rattle.plant_answer.specs.declared.responses.Media.TheVariants.{Json, Plain}
 use Rattle.plant_answer.specs.Response.{response}
-use Rattle.plant_answer.specs.Bodies.{done_body, imported_body, status_body, units_body, refusal_body, fault_body}
+use Rattle.plant_answer.specs.Bodies.{done_body, imported_body, number_body, status_body, units_body, refusal_body, fault_body}
+use Rattle.plant_answer.specs.Changes.{record_body, change_body}
 
 -- who may not call at all is answered 403, any other refusal 409
 abbrev pub refusal_status : Refused → ℕ
@@ -31,7 +32,10 @@ reply_media _ = Json
 abbrev pub reply_body : Reply → List ℕ
 reply_body reply.Done = done_body
 reply_body (reply.Imported fresh repeated) = imported_body fresh repeated
+reply_body (reply.Number number) = number_body number
 reply_body (reply.Status row) = status_body row
+reply_body (reply.RecordOf row) = record_body row
+reply_body (reply.ChangeOf row) = change_body row
 reply_body (reply.Units lines) = units_body lines
 reply_body (reply.Shelves unit at lines) = shelf_text unit at lines
 reply_body (reply.Standing unit at lines) = standing_text unit at lines

@@ -3,12 +3,12 @@ use Rattle.std.specs.Prelude.{ℕ, List, [], ◌++◌, map, Option, Some, None, 
 use Rattle.plant_types.specs.declared.fault.Fault.{Fault}
 use Rattle.plant_import.specs.declared.bad_file.BadFile.{BadFile}
 use Rattle.plant_model.specs.declared.reply.Refused.{Refused}
-use Rattle.plant_model.specs.declared.reply.Refused.TheVariants.{RoleLacking, MomentBehind, UnitFull, ShelvingTimeOutOfRange, BadFile as FileRefused, ShelfQuota}
+use Rattle.plant_model.specs.declared.reply.Refused.TheVariants.{RoleLacking, MomentBehind, UnitFull, ShelvingTimeOutOfRange, NotProposed, BaseChanged, BadFile as FileRefused, ShelfQuota}
 use Rattle.plant_model.specs.declared.reply.StatusRow.{StatusRow}
 use Rattle.plant_model.specs.declared.reply.UnitLine.{UnitLine}
 use Rattle.plant_report.specs.Moments.{moment_text}
 use Rattle.plant_answer.specs.Json.{quoted, truth, listed}
-use Rattle.plant_answer.specs.Names.{role_name, state_name, shelf_name, shelf_left, full_name, file_cause_name, fault_name, refusal_name, refusal_no}
+use Rattle.plant_answer.specs.Names.{role_name, state_name, shelf_name, shelf_left, full_name, file_cause_name, fault_name, change_state_name, refusal_name, refusal_no}
 
 abbrev pub done_body : List ℕ
 done_body = codes "{\"done\":true}"
@@ -16,6 +16,10 @@ done_body = codes "{\"done\":true}"
 -- how many rows of a file are new, and how many are repeated
 unfoldable pub imported_body : ℕ → ℕ → List ℕ
 imported_body fresh repeated = codes "{\"new\":" ++ decimal fresh ++ codes ",\"repeated\":" ++ decimal repeated ++ codes "}"
+
+-- the number of the change that was proposed
+unfoldable pub number_body : ℕ → List ℕ
+number_body number = codes "{\"number\":" ++ decimal number ++ codes "}"
 
 unfoldable pub status_body : StatusRow → List ℕ
 status_body s =
@@ -50,6 +54,8 @@ refusal_value (RoleLacking role) = Some (quoted (role_name role))
 refusal_value (MomentBehind last) = Some (quoted (moment_text last))
 refusal_value (UnitFull what) = Some (quoted (full_name what))
 refusal_value (ShelvingTimeOutOfRange max) = Some (decimal max)
+refusal_value (NotProposed state) = Some (quoted (change_state_name state))
+refusal_value (BaseChanged revision) = Some (decimal revision)
 refusal_value (FileRefused fault) = Some (bad_file_object fault)
 refusal_value (ShelfQuota quota) = Some (decimal quota)
 refusal_value _ = None

@@ -1,5 +1,5 @@
 -- JSON as answers have it: compact, members in the byte order of their names.
-use Rattle.std.specs.Prelude.{ℕ, Bool, List, [], ◌∷◌, ◌++◌, codes, ◌==◌, ◌||◌, if◌then◌else◌}
+use Rattle.std.specs.Prelude.{ℕ, Bool, List, [], ◌∷◌, ◌++◌, Option, Some, None, codes, ◌==◌, ◌||◌, if◌then◌else◌}
 use Rattle.std.specs.List.{flat_map, join_with_byte}
 
 -- a byte of a string: a quote and a backslash have a backslash before them
@@ -16,3 +16,8 @@ truth b = if b then codes "true" else codes "false"
 -- a list of values, with a comma between each two
 abbrev pub listed : List (List ℕ) → List ℕ
 listed values = codes "[" ++ join_with_byte 44 values ++ codes "]"
+
+-- a string, or null where there is none
+abbrev pub quoted_or_null : Option (List ℕ) → List ℕ
+quoted_or_null None = codes "null"
+quoted_or_null (Some text) = quoted text

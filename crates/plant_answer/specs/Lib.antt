@@ -2,4 +2,5 @@ pub mod Json
 pub mod Names
 pub mod Response
 pub mod Bodies
+pub mod Changes
 pub mod Answers

@@ -8,12 +8,18 @@ use Rattle.plant_alarm.specs.declared.summary.AlarmState.{AlarmState}
 use Rattle.plant_alarm.specs.declared.summary.AlarmState.TheVariants.{Normal, Unacknowledged, Acknowledged, ReturnedUnack, LatchedUnack, LatchedAck}
 use Rattle.plant_alarm.specs.declared.shelf.ShelfState.{ShelfState}
 use Rattle.plant_alarm.specs.declared.shelf.ShelfState.TheVariants.{Unshelved, TimedShelved, OneShotShelved}
+use Rattle.plant_ration.specs.declared.cell.Cell.{Cell}
+use Rattle.plant_ration.specs.declared.cell.Cell.TheVariants.{P1, P2, P3, P4, N}
+use Rattle.plant_ration.specs.declared.change.ChangeKind.{ChangeKind}
+use Rattle.plant_ration.specs.declared.change.ChangeKind.TheVariants as kind
+use Rattle.plant_ration.specs.declared.change.ChangeState.{ChangeState}
+use Rattle.plant_ration.specs.declared.change.ChangeState.TheVariants.{Proposed, Approved, Rejected, Withdrawn}
 use Rattle.plant_import.specs.declared.bad_file.Cause.{Cause}
 use Rattle.plant_import.specs.declared.bad_file.Cause.TheVariants.{Header, FieldCount, NotUtf8, BadNumber, BadMoment, BadTag, BadEvent, TooLong, TagUnknown, MomentAhead, SequenceClash, MomentOutOfOrder}
 use Rattle.plant_model.specs.declared.reply.Full.{Full}
 use Rattle.plant_model.specs.declared.reply.Full.TheVariants as full
 use Rattle.plant_model.specs.declared.reply.Refused.{Refused}
-use Rattle.plant_model.specs.declared.reply.Refused.TheVariants.{NotAdministrator, UnitTaken, NotGranted, RoleLacking, MomentBehind, UnitFull, AlarmTaken, AlarmUnknown, ShelvingTimeOutOfRange, ConditionAlreadyShelved, ConditionNotShelved, AlreadyOutOfService, NotOutOfService, AlreadyHeld, NotHeld, LastSteward, RangeNotAligned, BadFile, ShelfQuota, EndNotAhead}
+use Rattle.plant_model.specs.declared.reply.Refused.TheVariants.{NotAdministrator, UnitTaken, NotGranted, RoleLacking, MomentBehind, UnitFull, AlarmTaken, AlarmUnknown, ShelvingTimeOutOfRange, ConditionAlreadyShelved, ConditionNotShelved, AlreadyOutOfService, NotOutOfService, AlreadyHeld, NotHeld, LastSteward, ChangeUnknown, NotProposed, SamePerson, NotProposer, BaseChanged, OutsideMatrix, NotAnAlarm, RecordUnknown, RangeNotAligned, BadFile, ShelfQuota, EndNotAhead}
 
 abbrev pub role_name : Role → List ℕ
 role_name Viewer = codes "Viewer"
@@ -48,6 +54,28 @@ abbrev pub full_name : Full → List ℕ
 full_name full.Alarms = codes "Alarms"
 full_name full.Grants = codes "Grants"
 full_name full.Events = codes "Events"
+full_name full.Changes = codes "Changes"
+
+-- a priority, or N where no alarm is needed
+abbrev pub cell_name : Cell → List ℕ
+cell_name P1 = codes "P1"
+cell_name P2 = codes "P2"
+cell_name P3 = codes "P3"
+cell_name P4 = codes "P4"
+cell_name N = codes "N"
+
+-- what a change is of
+abbrev pub kind_name : ChangeKind → List ℕ
+kind_name (kind.Rationale tag sheet) = codes "record"
+kind_name (kind.Matrix matrix) = codes "matrix"
+kind_name (kind.Limit tag max) = codes "limit"
+
+-- how far a change has come
+abbrev pub change_state_name : ChangeState → List ℕ
+change_state_name Proposed = codes "Proposed"
+change_state_name Approved = codes "Approved"
+change_state_name Rejected = codes "Rejected"
+change_state_name Withdrawn = codes "Withdrawn"
 
 -- why a row of a file is faulty
 abbrev pub file_cause_name : Cause → List ℕ
@@ -85,6 +113,14 @@ refusal_name NotOutOfService = codes "NotOutOfService"
 refusal_name AlreadyHeld = codes "AlreadyHeld"
 refusal_name NotHeld = codes "NotHeld"
 refusal_name LastSteward = codes "LastSteward"
+refusal_name ChangeUnknown = codes "ChangeUnknown"
+refusal_name (NotProposed state) = codes "NotProposed"
+refusal_name SamePerson = codes "SamePerson"
+refusal_name NotProposer = codes "NotProposer"
+refusal_name (BaseChanged revision) = codes "BaseChanged"
+refusal_name OutsideMatrix = codes "OutsideMatrix"
+refusal_name NotAnAlarm = codes "NotAnAlarm"
+refusal_name RecordUnknown = codes "RecordUnknown"
 refusal_name RangeNotAligned = codes "RangeNotAligned"
 refusal_name (BadFile fault) = codes "BadFile"
 refusal_name (ShelfQuota quota) = codes "ShelfQuota"
@@ -107,6 +143,14 @@ refusal_no NotOutOfService = 13
 refusal_no AlreadyHeld = 14
 refusal_no NotHeld = 15
 refusal_no LastSteward = 16
+refusal_no ChangeUnknown = 17
+refusal_no (NotProposed state) = 18
+refusal_no SamePerson = 19
+refusal_no NotProposer = 20
+refusal_no (BaseChanged revision) = 21
+refusal_no OutsideMatrix = 22
+refusal_no NotAnAlarm = 23
+refusal_no RecordUnknown = 24
 refusal_no RangeNotAligned = 25
 refusal_no (BadFile fault) = 26
 refusal_no (ShelfQuota quota) = 27

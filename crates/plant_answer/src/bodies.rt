@@ -25,6 +25,18 @@ pub fn imported_body(alloc: Global, fresh: u32, repeated: u64) -> Result<Vec<u8>
     Ok(out)
 }
 
+/// The body of a reply to Propose.
+#[tactic(auto, unfolding(crate::specs::Bodies::number_body))]
+pub fn number_body(alloc: Global, number: u32) -> Result<Vec<u8>, Fault>
+    ensures value { IfOk result (λ out. out.items ≡ spec.number_body number) }
+    ensures err { IfErr result (λ e. e ≡ Memory) }
+{
+    let mut out = Vec::new(alloc);
+    push_number(&mut out, b"{\"number\":", u64::from(number))?;
+    out.push(b'}')?;
+    Ok(out)
+}
+
 /// The body of a reply to Status.
 #[tactic(auto, unfolding(crate::specs::Bodies::status_body))]
 pub fn status_body(alloc: Global, row: &StatusRow) -> Result<Vec<u8>, Fault>

@@ -1,7 +1,7 @@
-ghost use Rattle.std.specs.Prelude.{◌≡◌, ◌++◌, IfErr, OnOk, decimal};
+ghost use Rattle.std.specs.Prelude.{◌≡◌, ◌++◌, IfErr, OnOk, option_map, decimal};
 ghost use Rattle.std.specs.List.{flat_map};
 ghost use Rattle.plant_types.specs.declared.fault.Fault.TheVariants.{Memory};
-ghost use Rattle.plant_answer.specs.Json.{escaped, quoted, truth};
+ghost use Rattle.plant_answer.specs.Json.{escaped, quoted, quoted_or_null, truth};
 
 use itoa::Buffer;
 use plant_types::Fault;
@@ -37,14 +37,22 @@ pub fn push_quoted(out: &mut Vec<u8>, text: &[u8]) -> Result<(), Fault>
     Ok(out.push(b'"')?)
 }
 
+/// Adds a number.
+pub(crate) fn push_decimal(out: &mut Vec<u8>, number: u64) -> Result<(), Fault>
+    ensures value { OnOk result (out.new.items ≡ out.old.items ++ decimal number) }
+    ensures err { IfErr result (λ e. e ≡ Memory) }
+{
+    let mut buffer = Buffer::new();
+    Ok(out.extend_from_slice(buffer.format(number).as_bytes())?)
+}
+
 /// Adds a number, after some bytes.
 pub(crate) fn push_number(out: &mut Vec<u8>, before: &[u8], number: u64) -> Result<(), Fault>
     ensures value { OnOk result (out.new.items ≡ out.old.items ++ before.now ++ decimal number) }
     ensures err { IfErr result (λ e. e ≡ Memory) }
 {
-    let mut buffer = Buffer::new();
     out.extend_from_slice(before)?;
-    Ok(out.extend_from_slice(buffer.format(number).as_bytes())?)
+    push_decimal(out, number)
 }
 
 /// Adds a string, after some bytes.
@@ -54,6 +62,22 @@ pub(crate) fn push_string(out: &mut Vec<u8>, before: &[u8], text: &[u8]) -> Resu
 {
     out.extend_from_slice(before)?;
     push_quoted(out, text)
+}
+
+/// Adds a string, or null where there is none, after some bytes.
+pub(crate) fn push_string_or_null(
+    out: &mut Vec<u8>,
+    before: &[u8],
+    text: Option<&[u8]>,
+) -> Result<(), Fault>
+    ensures value { OnOk result (out.new.items ≡ out.old.items ++ before.now ++ quoted_or_null (option_map (λ t. t.now) text.entry)) }
+    ensures err { IfErr result (λ e. e ≡ Memory) }
+{
+    out.extend_from_slice(before)?;
+    match text {
+        Some(text) => push_quoted(out, text),
+        None => Ok(out.extend_from_slice(b"null")?),
+    }
 }
 
 /// Adds true or false, after some bytes.

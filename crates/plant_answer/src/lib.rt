@@ -2,6 +2,7 @@
 #![tactic(auto)]
 
 mod bodies;
+mod changes;
 mod json;
 mod names;
 mod refusals;

@@ -4,6 +4,7 @@ ghost use Rattle.plant_answer.specs.Names as spec;
 use plant_alarm::{AlarmState, ShelfState};
 use plant_import::Cause;
 use plant_model::Full;
+use plant_ration::{Cell, ChangeKind, ChangeState};
 use plant_types::{Fault, Role};
 
 /// The name of a role.
@@ -64,6 +65,43 @@ pub fn full_name(full: Full) -> &'static [u8]
         Full::Alarms => b"Alarms",
         Full::Grants => b"Grants",
         Full::Events => b"Events",
+        Full::Changes => b"Changes",
+    }
+}
+
+/// The name of a cell of a matrix: a priority, or that no alarm is needed.
+pub fn cell_name(cell: Cell) -> &'static [u8]
+    ensures { result.now ≡ spec.cell_name cell }
+{
+    match cell {
+        Cell::P1 => b"P1",
+        Cell::P2 => b"P2",
+        Cell::P3 => b"P3",
+        Cell::P4 => b"P4",
+        Cell::N => b"N",
+    }
+}
+
+/// The name of what a change is of.
+pub fn kind_name(kind: &ChangeKind) -> &'static [u8]
+    ensures { result.now ≡ spec.kind_name kind.now }
+{
+    match kind {
+        ChangeKind::Rationale(_, _) => b"record",
+        ChangeKind::Matrix(_) => b"matrix",
+        ChangeKind::Limit(_, _) => b"limit",
+    }
+}
+
+/// The name of how far a change has come.
+pub fn change_state_name(state: ChangeState) -> &'static [u8]
+    ensures { result.now ≡ spec.change_state_name state }
+{
+    match state {
+        ChangeState::Proposed => b"Proposed",
+        ChangeState::Approved => b"Approved",
+        ChangeState::Rejected => b"Rejected",
+        ChangeState::Withdrawn => b"Withdrawn",
     }
 }
 

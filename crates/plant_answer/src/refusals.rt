@@ -6,7 +6,7 @@ ghost use Rattle.plant_answer.specs.Bodies as bodies;
 ghost use Rattle.plant_answer.specs.Bodies.{bad_file_object, refusal_value, value_member};
 
 use crate::json::{push_number, push_string};
-use crate::names::{file_cause_name, full_name, role_name};
+use crate::names::{change_state_name, file_cause_name, full_name, role_name};
 use http::StatusCode;
 use plant_import::BadFile;
 use plant_model::Refused;
@@ -35,6 +35,14 @@ fn name_of(refused: &Refused) -> &'static [u8]
         Refused::AlreadyHeld => b"AlreadyHeld",
         Refused::NotHeld => b"NotHeld",
         Refused::LastSteward => b"LastSteward",
+        Refused::ChangeUnknown => b"ChangeUnknown",
+        Refused::NotProposed(_) => b"NotProposed",
+        Refused::SamePerson => b"SamePerson",
+        Refused::NotProposer => b"NotProposer",
+        Refused::BaseChanged(_) => b"BaseChanged",
+        Refused::OutsideMatrix => b"OutsideMatrix",
+        Refused::NotAnAlarm => b"NotAnAlarm",
+        Refused::RecordUnknown => b"RecordUnknown",
         Refused::RangeNotAligned => b"RangeNotAligned",
         Refused::BadFile(_) => b"BadFile",
         Refused::ShelfQuota(_) => b"ShelfQuota",
@@ -63,6 +71,14 @@ fn number_of(refused: &Refused) -> u64
         Refused::AlreadyHeld => 14,
         Refused::NotHeld => 15,
         Refused::LastSteward => 16,
+        Refused::ChangeUnknown => 17,
+        Refused::NotProposed(_) => 18,
+        Refused::SamePerson => 19,
+        Refused::NotProposer => 20,
+        Refused::BaseChanged(_) => 21,
+        Refused::OutsideMatrix => 22,
+        Refused::NotAnAlarm => 23,
+        Refused::RecordUnknown => 24,
         Refused::RangeNotAligned => 25,
         Refused::BadFile(_) => 26,
         Refused::ShelfQuota(_) => 27,
@@ -102,6 +118,10 @@ fn push_value(out: &mut Vec<u8>, refused: &Refused) -> Result<(), Fault>
         Refused::MomentBehind(last) => push_string(out, b",\"value\":", &write_moment(*last)),
         Refused::UnitFull(what) => push_string(out, b",\"value\":", full_name(*what)),
         Refused::ShelvingTimeOutOfRange(max) => push_number(out, b",\"value\":", max.get()),
+        Refused::NotProposed(state) => {
+            push_string(out, b",\"value\":", change_state_name(*state))
+        }
+        Refused::BaseChanged(revision) => push_number(out, b",\"value\":", u64::from(*revision)),
         Refused::BadFile(fault) => push_bad_file(out, fault),
         Refused::ShelfQuota(quota) => push_number(out, b",\"value\":", quota.get()),
         _ => Ok(()),

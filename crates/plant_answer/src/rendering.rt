@@ -3,7 +3,8 @@ ghost use Rattle.plant_types.specs.declared.fault.Fault.TheVariants.{Memory};
 ghost use Rattle.plant_answer.specs.Response as spec;
 ghost use Rattle.plant_answer.specs.Answers.{text_of, reply_media, reply_body};
 
-use crate::bodies::{fault_body, imported_body, status_body, units_body};
+use crate::bodies::{fault_body, imported_body, number_body, status_body, units_body};
+use crate::changes::{change_body, record_body};
 use crate::refusals::{refusal_body, status_of};
 use crate::responses::{Media, response};
 use http::StatusCode;
@@ -32,7 +33,10 @@ fn reply_body(alloc: Global, reply: &Reply) -> Result<Vec<u8>, Fault>
     match reply {
         Reply::Done => Ok(Vec::from_slice(alloc, b"{\"done\":true}")?),
         Reply::Imported { fresh, repeated } => imported_body(alloc, *fresh, *repeated),
+        Reply::Number(number) => number_body(alloc, *number),
         Reply::Status(row) => status_body(alloc, row),
+        Reply::RecordOf(row) => record_body(alloc, row),
+        Reply::ChangeOf(row) => change_body(alloc, row),
         Reply::Units(lines) => units_body(alloc, lines.as_slice()),
         Reply::Shelves { unit, at, lines } => shelf_text(alloc, unit, *at, lines.as_slice()),
         Reply::Standing { unit, at, lines } => standing_text(alloc, unit, *at, lines.as_slice()),

@@ -1,7 +1,10 @@
 use super::*;
 use plant_alarm::{AlarmState, ShelfState};
 use plant_import::{BadFile, Cause};
-use plant_model::{Answer, FloodLine, Full, Refused, Reply, ShelfLine, StatusRow, UnitLine};
+use plant_model::{
+    Answer, ChangeRow, FloodLine, Full, RecordRow, Refused, Reply, ShelfLine, StatusRow, UnitLine,
+};
+use plant_ration::{Cell, ChangeKind, ChangeState, Matrix, Sheet};
 use plant_types::{Fault, Moment, Person, Quota, Role, Seconds, Table, Tag, UnitCode, Words};
 use std::alloc::Global;
 use std::process::Abort;
@@ -211,6 +214,193 @@ fn renders_refused_files(rt: HostRuntime) -> Result<(), Fail> {
 }
 
 #[test]
+fn renders_refused_changes(rt: HostRuntime) -> Result<(), Fail> {
+    let alloc = rt.alloc();
+    is_refused(
+        &rt,
+        alloc,
+        Refused::UnitFull(Full::Changes),
+        b"409 Conflict",
+        b"{\"name\":\"UnitFull\",\"refused\":6,\"value\":\"Changes\"}",
+    )?;
+    is_refused(
+        &rt,
+        alloc,
+        Refused::ChangeUnknown,
+        b"409 Conflict",
+        b"{\"name\":\"ChangeUnknown\",\"refused\":17}",
+    )?;
+    is_refused(
+        &rt,
+        alloc,
+        Refused::NotProposed(ChangeState::Approved),
+        b"409 Conflict",
+        b"{\"name\":\"NotProposed\",\"refused\":18,\"value\":\"Approved\"}",
+    )?;
+    is_refused(
+        &rt,
+        alloc,
+        Refused::SamePerson,
+        b"409 Conflict",
+        b"{\"name\":\"SamePerson\",\"refused\":19}",
+    )?;
+    is_refused(
+        &rt,
+        alloc,
+        Refused::NotProposer,
+        b"409 Conflict",
+        b"{\"name\":\"NotProposer\",\"refused\":20}",
+    )
+}
+
+#[test]
+fn renders_refused_proposals(rt: HostRuntime) -> Result<(), Fail> {
+    let alloc = rt.alloc();
+    is_refused(
+        &rt,
+        alloc,
+        Refused::BaseChanged(1),
+        b"409 Conflict",
+        b"{\"name\":\"BaseChanged\",\"refused\":21,\"value\":1}",
+    )?;
+    is_refused(
+        &rt,
+        alloc,
+        Refused::OutsideMatrix,
+        b"409 Conflict",
+        b"{\"name\":\"OutsideMatrix\",\"refused\":22}",
+    )?;
+    is_refused(
+        &rt,
+        alloc,
+        Refused::NotAnAlarm,
+        b"409 Conflict",
+        b"{\"name\":\"NotAnAlarm\",\"refused\":23}",
+    )?;
+    is_refused(
+        &rt,
+        alloc,
+        Refused::RecordUnknown,
+        b"409 Conflict",
+        b"{\"name\":\"RecordUnknown\",\"refused\":24}",
+    )
+}
+
+fn words(alloc: Global, text: &[u8]) -> Result<Words, Fail> {
+    Ok(Words::read(alloc, text)?.ok_or("no words")?)
+}
+
+fn person(alloc: Global, text: &[u8]) -> Result<Person, Fail> {
+    Ok(Person::read(alloc, text)?.ok_or("no person")?)
+}
+
+fn seconds(seconds: u64) -> Result<Seconds, Fail> {
+    Ok(Seconds::new(seconds).ok_or("no seconds")?)
+}
+
+/// A reply is this body, with status 200.
+fn is_replied(rt: &impl Abort, alloc: Global, reply: Reply, body: &[u8]) -> Result<(), Fail> {
+    is_json(rt, alloc, &Answer::Reply(reply), b"200 OK", body)
+}
+
+#[test]
+fn renders_a_number(rt: HostRuntime) -> Result<(), Fail> {
+    is_replied(
+        &rt,
+        rt.alloc(),
+        Reply::Number(20_000),
+        b"{\"number\":20000}",
+    )
+}
+
+#[test]
+fn renders_a_record(rt: HostRuntime) -> Result<(), Fail> {
+    let alloc = rt.alloc();
+    let row = RecordRow {
+        tag: tag(alloc)?,
+        change: 1,
+        revision: 1,
+        cause: words(alloc, b"seal leak")?,
+        consequence: words(alloc, b"loss of pressure")?,
+        action: words(alloc, b"close XV-7")?,
+        severity: 2,
+        response: seconds(120)?,
+        priority: Cell::P1,
+    };
+    is_replied(
+        &rt,
+        alloc,
+        Reply::RecordOf(row),
+        b"{\"action\":\"close XV-7\",\"cause\":\"seal leak\",\"change\":1,\"consequence\":\"loss of pressure\",\"priority\":\"P1\",\"response\":120,\"revision\":1,\"severity\":2,\"tag\":\"PT-101\"}",
+    )
+}
+
+/// A change by eve that waits for its decision.
+fn proposed(alloc: Global, kind: ChangeKind) -> Result<ChangeRow, Fail> {
+    Ok(ChangeRow {
+        number: 2,
+        kind,
+        base: 0,
+        proposer: person(alloc, b"eve")?,
+        proposed: moment(b"2026-03-01T09:00:00Z")?,
+        state: ChangeState::Proposed,
+        decider: None,
+        decided: None,
+    })
+}
+
+#[test]
+fn renders_a_change_of_a_record(rt: HostRuntime) -> Result<(), Fail> {
+    let alloc = rt.alloc();
+    let sheet = Sheet {
+        cause: words(alloc, b"seal leak")?,
+        consequence: words(alloc, b"loss of \"pressure\"")?,
+        action: words(alloc, b"close XV-7")?,
+        severity: 2,
+        response: seconds(120)?,
+    };
+    let mut row = proposed(alloc, ChangeKind::Rationale(tag(alloc)?, sheet))?;
+    row.state = ChangeState::Withdrawn;
+    row.decider = Some(person(alloc, b"eve")?);
+    row.decided = Some(moment(b"2026-03-01T09:30:00Z")?);
+    is_replied(
+        &rt,
+        alloc,
+        Reply::ChangeOf(row),
+        b"{\"base\":0,\"content\":{\"action\":\"close XV-7\",\"cause\":\"seal leak\",\"consequence\":\"loss of \\\"pressure\\\"\",\"response\":120,\"severity\":2},\"decided\":\"2026-03-01T09:30:00Z\",\"decider\":\"eve\",\"kind\":\"record\",\"number\":2,\"proposed\":\"2026-03-01T09:00:00Z\",\"proposer\":\"eve\",\"state\":\"Withdrawn\",\"tag\":\"PT-101\"}",
+    )
+}
+
+#[test]
+fn renders_a_change_of_the_matrix(rt: HostRuntime) -> Result<(), Fail> {
+    let alloc = rt.alloc();
+    let mut rows = Vec::new(alloc);
+    for row in [[Cell::P4, Cell::N], [Cell::P1, Cell::P2]] {
+        rows.push(Vec::from_slice(alloc, &row)?)?;
+    }
+    let matrix = Matrix::new(alloc, &[300], &rows)?.ok().ok_or("no matrix")?;
+    let row = proposed(alloc, ChangeKind::Matrix(matrix))?;
+    is_replied(
+        &rt,
+        alloc,
+        Reply::ChangeOf(row),
+        b"{\"base\":0,\"content\":{\"bands\":[300],\"cells\":[[\"P4\",\"N\"],[\"P1\",\"P2\"]]},\"decided\":null,\"decider\":null,\"kind\":\"matrix\",\"number\":2,\"proposed\":\"2026-03-01T09:00:00Z\",\"proposer\":\"eve\",\"state\":\"Proposed\",\"tag\":null}",
+    )
+}
+
+#[test]
+fn renders_a_change_of_a_limit(rt: HostRuntime) -> Result<(), Fail> {
+    let alloc = rt.alloc();
+    let row = proposed(alloc, ChangeKind::Limit(tag(alloc)?, seconds(600)?))?;
+    is_replied(
+        &rt,
+        alloc,
+        Reply::ChangeOf(row),
+        b"{\"base\":0,\"content\":{\"max\":600},\"decided\":null,\"decider\":null,\"kind\":\"limit\",\"number\":2,\"proposed\":\"2026-03-01T09:00:00Z\",\"proposer\":\"eve\",\"state\":\"Proposed\",\"tag\":\"PT-101\"}",
+    )
+}
+
+#[test]
 fn renders_an_import(rt: HostRuntime) -> Result<(), Fail> {
     let reply = Reply::Imported {
         fresh: 3,
@@ -271,26 +461,33 @@ fn renders_replies_and_faults(rt: HostRuntime) -> Result<(), Fail> {
 }
 
 #[test]
-fn renders_units(rt: HostRuntime) -> Result<(), Fail> {
+fn renders_no_units(rt: HostRuntime) -> Result<(), Fail> {
     let alloc = rt.alloc();
-    let none = Answer::Reply(Reply::Units(Table::new(alloc)));
-    is_json(&rt, alloc, &none, b"200 OK", b"{\"units\":[]}")?;
-    let mut lines = Table::new(alloc);
-    for roles in [
-        [Role::Viewer, Role::Steward],
-        [Role::Operator, Role::Engineer],
-    ] {
-        lines.push(UnitLine {
-            unit: unit(alloc)?,
-            roles: Table::from_vec(Vec::from_slice(alloc, &roles)?),
-        })?;
-    }
-    let some = Answer::Reply(Reply::Units(lines));
-    is_json(
+    is_replied(
         &rt,
         alloc,
-        &some,
-        b"200 OK",
+        Reply::Units(Table::new(alloc)),
+        b"{\"units\":[]}",
+    )
+}
+
+fn unit_line(alloc: Global, roles: &[Role]) -> Result<UnitLine, Fail> {
+    Ok(UnitLine {
+        unit: unit(alloc)?,
+        roles: Table::from_vec(Vec::from_slice(alloc, roles)?),
+    })
+}
+
+#[test]
+fn renders_units(rt: HostRuntime) -> Result<(), Fail> {
+    let alloc = rt.alloc();
+    let mut lines = Table::new(alloc);
+    lines.push(unit_line(alloc, &[Role::Viewer, Role::Steward])?)?;
+    lines.push(unit_line(alloc, &[Role::Operator, Role::Engineer])?)?;
+    is_replied(
+        &rt,
+        alloc,
+        Reply::Units(lines),
         b"{\"units\":[{\"roles\":[\"Viewer\",\"Steward\"],\"unit\":\"U1\"},{\"roles\":[\"Operator\",\"Engineer\"],\"unit\":\"U1\"}]}",
     )
 }

@@ -1,0 +1,187 @@
+ghost use Rattle.std.specs.Prelude.{◌≡◌, ◌++◌, codes, map, option_map, decimal, IfOk, IfErr, OnOk};
+ghost use Rattle.std.specs.List.{join_with_byte};
+ghost use Rattle.plant_types.specs.declared.fault.Fault.TheVariants.{Memory};
+ghost use Rattle.plant_report.specs.Moments.{moment_text};
+ghost use Rattle.plant_answer.specs.Json.{quoted, quoted_or_null};
+ghost use Rattle.plant_answer.specs.Names as names;
+ghost use Rattle.plant_answer.specs.Changes as spec;
+ghost use Rattle.plant_answer.specs.Changes.{sheet_object, row_list, matrix_object, limit_object, content_object, tag_of};
+
+use crate::json::{push_decimal, push_number, push_quoted, push_string, push_string_or_null};
+use crate::names::{cell_name, change_state_name, kind_name};
+use plant_model::{ChangeRow, RecordRow};
+use plant_ration::{Cell, ChangeKind, Matrix, Sheet};
+use plant_report::write_moment;
+use plant_types::{Fault, Moment, Person, Seconds};
+use std::alloc::Global;
+
+/// The body of a reply to RecordOf.
+#[tactic(auto, unfolding(crate::specs::Changes::record_body))]
+pub fn record_body(alloc: Global, row: &RecordRow) -> Result<Vec<u8>, Fault>
+    ensures value { IfOk result (λ out. out.items ≡ spec.record_body row.now) }
+    ensures err { IfErr result (λ e. e ≡ Memory) }
+{
+    let mut out = Vec::new(alloc);
+    push_string(&mut out, b"{\"action\":", row.action.as_bytes())?;
+    push_string(&mut out, b",\"cause\":", row.cause.as_bytes())?;
+    push_number(&mut out, b",\"change\":", u64::from(row.change))?;
+    push_string(&mut out, b",\"consequence\":", row.consequence.as_bytes())?;
+    push_string(&mut out, b",\"priority\":", cell_name(row.priority))?;
+    push_number(&mut out, b",\"response\":", row.response.get())?;
+    push_number(&mut out, b",\"revision\":", u64::from(row.revision))?;
+    push_number(&mut out, b",\"severity\":", u64::from(row.severity))?;
+    push_string(&mut out, b",\"tag\":", row.tag.as_bytes())?;
+    out.push(b'}')?;
+    Ok(out)
+}
+
+#[tactic(auto, unfolding(crate::specs::Changes::sheet_object))]
+fn push_sheet(out: &mut Vec<u8>, sheet: &Sheet) -> Result<(), Fault>
+    ensures value { OnOk result (out.new.items ≡ out.old.items ++ sheet_object sheet.now) }
+    ensures err { IfErr result (λ e. e ≡ Memory) }
+{
+    push_string(out, b"{\"action\":", sheet.action.as_bytes())?;
+    push_string(out, b",\"cause\":", sheet.cause.as_bytes())?;
+    push_string(out, b",\"consequence\":", sheet.consequence.as_bytes())?;
+    push_number(out, b",\"response\":", sheet.response.get())?;
+    push_number(out, b",\"severity\":", u64::from(sheet.severity))?;
+    Ok(out.push(b'}')?)
+}
+
+/// Adds the numbers, with a comma between each two.
+fn push_numbers(out: &mut Vec<u8>, numbers: &[u64]) -> Result<(), Fault>
+    ensures value { OnOk result (out.new.items ≡ out.old.items ++ join_with_byte 44 (map decimal numbers.now)) }
+    ensures err { IfErr result (λ e. e ≡ Memory) }
+{
+    for (i, number) in numbers.iter().enumerate() {
+        if i > 0 {
+            out.push(b',')?;
+        }
+        push_decimal(out, *number)?;
+    }
+    Ok(())
+}
+
+/// Adds the names of the cells, with a comma between each two.
+fn push_cells(out: &mut Vec<u8>, cells: &[Cell]) -> Result<(), Fault>
+    ensures value { OnOk result (out.new.items ≡ out.old.items ++ join_with_byte 44 (map (λ cell. quoted (names.cell_name cell)) cells.now)) }
+    ensures err { IfErr result (λ e. e ≡ Memory) }
+{
+    for (i, cell) in cells.iter().enumerate() {
+        if i > 0 {
+            out.push(b',')?;
+        }
+        push_quoted(out, cell_name(*cell))?;
+    }
+    Ok(())
+}
+
+fn push_row(out: &mut Vec<u8>, row: &[Cell]) -> Result<(), Fault>
+    ensures value { OnOk result (out.new.items ≡ out.old.items ++ row_list row.now) }
+    ensures err { IfErr result (λ e. e ≡ Memory) }
+{
+    out.push(b'[')?;
+    push_cells(out, row)?;
+    Ok(out.push(b']')?)
+}
+
+/// Adds the rows, with a comma between each two.
+fn push_rows(out: &mut Vec<u8>, rows: &[Vec<Cell>]) -> Result<(), Fault>
+    ensures value { OnOk result (out.new.items ≡ out.old.items ++ join_with_byte 44 (map row_list (map (λ row. row.items) rows.now))) }
+    ensures err { IfErr result (λ e. e ≡ Memory) }
+{
+    for (i, row) in rows.iter().enumerate() {
+        if i > 0 {
+            out.push(b',')?;
+        }
+        push_row(out, row)?;
+    }
+    Ok(())
+}
+
+#[tactic(auto, unfolding(crate::specs::Changes::matrix_object))]
+fn push_matrix(out: &mut Vec<u8>, matrix: &Matrix) -> Result<(), Fault>
+    ensures value { OnOk result (out.new.items ≡ out.old.items ++ matrix_object matrix.now) }
+    ensures err { IfErr result (λ e. e ≡ Memory) }
+{
+    out.extend_from_slice(b"{\"bands\":[")?;
+    push_numbers(out, matrix.limits())?;
+    out.extend_from_slice(b"],\"cells\":[")?;
+    push_rows(out, matrix.cells())?;
+    Ok(out.extend_from_slice(b"]}")?)
+}
+
+#[tactic(auto, unfolding(crate::specs::Changes::limit_object))]
+fn push_limit(out: &mut Vec<u8>, max: Seconds) -> Result<(), Fault>
+    ensures value { OnOk result (out.new.items ≡ out.old.items ++ limit_object max) }
+    ensures err { IfErr result (λ e. e ≡ Memory) }
+{
+    push_number(out, b"{\"max\":", max.get())?;
+    Ok(out.push(b'}')?)
+}
+
+/// Adds what is proposed.
+fn push_content(out: &mut Vec<u8>, kind: &ChangeKind) -> Result<(), Fault>
+    ensures value { OnOk result (out.new.items ≡ out.old.items ++ content_object kind.now) }
+    ensures err { IfErr result (λ e. e ≡ Memory) }
+{
+    match kind {
+        ChangeKind::Rationale(_, sheet) => push_sheet(out, sheet),
+        ChangeKind::Matrix(matrix) => push_matrix(out, matrix),
+        ChangeKind::Limit(_, max) => push_limit(out, *max),
+    }
+}
+
+/// The tag of the alarm of which a change is.
+fn tag_of(kind: &ChangeKind) -> Option<&[u8]>
+    ensures { option_map (λ t. t.now) result ≡ tag_of kind.now }
+{
+    match kind {
+        ChangeKind::Rationale(tag, _) => Some(tag.as_bytes()),
+        ChangeKind::Matrix(_) => None,
+        ChangeKind::Limit(tag, _) => Some(tag.as_bytes()),
+    }
+}
+
+/// Adds the member `decided`: a moment, or null.
+fn push_decided(out: &mut Vec<u8>, decided: Option<Moment>) -> Result<(), Fault>
+    ensures value { OnOk result (out.new.items ≡ out.old.items ++ codes ",\"decided\":" ++ quoted_or_null (option_map moment_text decided)) }
+    ensures err { IfErr result (λ e. e ≡ Memory) }
+{
+    match decided {
+        Some(moment) => push_string(out, b",\"decided\":", &write_moment(moment)),
+        None => Ok(out.extend_from_slice(b",\"decided\":null")?),
+    }
+}
+
+/// The bytes of the name of a person, if there is one.
+fn bytes_of(person: &Option<Person>) -> Option<&[u8]>
+    ensures { option_map (λ t. t.now) result ≡ person.now }
+{
+    match person {
+        Some(person) => Some(person.as_bytes()),
+        None => None,
+    }
+}
+
+/// The body of a reply to ChangeOf.
+#[tactic(auto, unfolding(crate::specs::Changes::change_body))]
+pub fn change_body(alloc: Global, row: &ChangeRow) -> Result<Vec<u8>, Fault>
+    ensures value { IfOk result (λ out. out.items ≡ spec.change_body row.now) }
+    ensures err { IfErr result (λ e. e ≡ Memory) }
+{
+    let mut out = Vec::new(alloc);
+    push_number(&mut out, b"{\"base\":", u64::from(row.base))?;
+    out.extend_from_slice(b",\"content\":")?;
+    push_content(&mut out, &row.kind)?;
+    push_decided(&mut out, row.decided)?;
+    push_string_or_null(&mut out, b",\"decider\":", bytes_of(&row.decider))?;
+    push_string(&mut out, b",\"kind\":", kind_name(&row.kind))?;
+    push_number(&mut out, b",\"number\":", u64::from(row.number))?;
+    push_string(&mut out, b",\"proposed\":", &write_moment(row.proposed))?;
+    push_string(&mut out, b",\"proposer\":", row.proposer.as_bytes())?;
+    push_string(&mut out, b",\"state\":", change_state_name(row.state))?;
+    push_string_or_null(&mut out, b",\"tag\":", tag_of(&row.kind))?;
+    out.push(b'}')?;
+    Ok(out)
+}
