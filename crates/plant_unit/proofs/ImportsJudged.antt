@@ -37,26 +37,26 @@ first_of [] ys = refl
 first_of ((true, r) ∷ xs) ys = refl
 first_of ((false, r) ∷ xs) ys = first_of xs ys
 
-all_refusals : (f : Facts) (c : Call) → first_refusal (refusals f c) ≡ or_else (first_refusal (holder_refusals f c)) (first_refusal (own_refusals f c.moment c.request))
-all_refusals f c = ap first_refusal (sym (cut f c)) ∙ first_of (holder_refusals f c) (own_refusals f c.moment c.request)
+all_refusals : (f : Facts) (c : Call) → first_refusal (refusals f c) ≡ or_else (first_refusal (holder_refusals f c)) (first_refusal (own_refusals f c.person c.moment c.request))
+all_refusals f c = ap first_refusal (sym (cut f c)) ∙ first_of (holder_refusals f c) (own_refusals f c.person c.moment c.request)
   where
-    cut : (f : Facts) (c : Call) → holder_refusals f c ++ own_refusals f c.moment c.request ≡ refusals f c
+    cut : (f : Facts) (c : Call) → holder_refusals f c ++ own_refusals f c.person c.moment c.request ≡ refusals f c
     cut f c =
-        let own : List (Bool × Refused) = own_refusals f c.moment c.request in
+        let own : List (Bool × Refused) = own_refusals f c.person c.moment c.request in
         let behind : List (Bool × Refused) = (nat_lt c.moment f.unit.last_s, MomentBehind f.unit.last_s) ∷ [] in
         ap (λ (l : List (Bool × Refused)). (not (holds_some f c.moment c.person), NotGranted) ∷ l) (append_assoc (lacks_role f c.moment c.person (role_needed c.request)) behind own)
 
 pub refused_judged : (f : Facts) (c : Call) (r : Refused) → first_refusal (holder_refusals f c) ≡ Some r → IsJudged f c (IsRefused r)
 refused_judged f c r is =
-    let verdict : verdict_of f c ≡ Err r = ap (λ o. refused_or o (reply f c.moment c.request)) (all_refusals f c ∙ ap (λ o. or_else o (first_refusal (own_refusals f c.moment c.request))) is) in
+    let verdict : verdict_of f c ≡ Err r = ap (λ o. refused_or o (reply f c.moment c.request)) (all_refusals f c ∙ ap (λ o. or_else o (first_refusal (own_refusals f c.person c.moment c.request))) is) in
     record { answer = sym verdict; changes = sym (ap (λ v. if changes_history v c then changes_for f c else []) verdict) }
 
 pub own_judged : (f : Facts) (c : Call) (v : Verdict) → first_refusal (holder_refusals f c) ≡ None → IsJudgedOwn f c v → IsJudged f c v
 own_judged f c v none j =
-    let verdict : refused_or (first_refusal (own_refusals f c.moment c.request)) (reply f c.moment c.request) ≡ verdict_of f c = sym (ap (λ o. refused_or o (reply f c.moment c.request)) (all_refusals f c ∙ ap (λ o. or_else o (first_refusal (own_refusals f c.moment c.request))) none)) in
+    let verdict : refused_or (first_refusal (own_refusals f c.person c.moment c.request)) (reply f c.moment c.request) ≡ verdict_of f c = sym (ap (λ o. refused_or o (reply f c.moment c.request)) (all_refusals f c ∙ ap (λ o. or_else o (first_refusal (own_refusals f c.person c.moment c.request))) none)) in
     record { answer = j.answer ∙ verdict; changes = j.changes ∙ ap (λ v. if changes_history v c then changes_for f c else []) verdict }
 
-pub own_refused : (f : Facts) (c : Call) (r : Refused) → first_refusal (own_refusals f c.moment c.request) ≡ Some r → IsJudgedOwn f c (IsRefused r)
+pub own_refused : (f : Facts) (c : Call) (r : Refused) → first_refusal (own_refusals f c.person c.moment c.request) ≡ Some r → IsJudgedOwn f c (IsRefused r)
 own_refused f c r is =
     record {
       answer = sym (ap (λ o. refused_or o (reply f c.moment c.request)) is);
@@ -67,7 +67,7 @@ if_not : {A : Type 0} (b : Bool) (x y : A) → (if not b then x else y) ≡ (if 
 if_not true x y = refl
 if_not false x y = refl
 
-pub own_accepted : (f : Facts) (c : Call) (r : Reply) (cs : List Change) → first_refusal (own_refusals f c.moment c.request) ≡ None → r ≡ reply f c.moment c.request → cs ≡ (if is_read c.request then [] else changes_for f c) → IsJudgedOwn f c (IsAccepted r cs)
+pub own_accepted : (f : Facts) (c : Call) (r : Reply) (cs : List Change) → first_refusal (own_refusals f c.person c.moment c.request) ≡ None → r ≡ reply f c.moment c.request → cs ≡ (if is_read c.request then [] else changes_for f c) → IsJudgedOwn f c (IsAccepted r cs)
 own_accepted f c r cs none er ec =
     record {
       answer = ap Ok er ∙ sym (ap (λ o. refused_or o (reply f c.moment c.request)) none);
@@ -126,10 +126,10 @@ asked : (c : Call) (q : Request) → c.request ≡ q → record { person = c.per
 asked c q e = λ i. record { person = c.person; moment = c.moment; request = sym e i }
 
 pub file_refused : (f : Facts) (c : Call) (u : Name) (fault : BadFile) → c.request ≡ Import u (Err fault) → IsJudgedOwn f c (IsRefused (FileRefused fault))
-file_refused f c u fault e = own_refused f c (FileRefused fault) (ap (λ q. first_refusal (own_refusals f c.moment q)) e)
+file_refused f c u fault e = own_refused f c (FileRefused fault) (ap (λ q. first_refusal (own_refusals f c.person c.moment q)) e)
 
 pub import_refused : (f : Facts) (c : Call) (u : Name) (rows : List Event) (r : Refused) → c.request ≡ Import u (Ok rows) → Err r ≡ addition f c.moment rows → IsJudgedOwn f c (IsRefused r)
-import_refused f c u rows r e is = own_refused f c r (ap (λ q. first_refusal (own_refusals f c.moment q)) e ∙ not_added f c.moment rows r (sym is))
+import_refused f c u rows r e is = own_refused f c r (ap (λ q. first_refusal (own_refusals f c.person c.moment q)) e ∙ not_added f c.moment rows r (sym is))
 
 pub import_fresh : (f : Facts) (t : ℕ) (rows : List Event) (m : Merged) → Ok m ≡ addition f t rows → m.fresh ≡ fresh f.events rows
 import_fresh f t rows m is = ap (λ (x : Merged). x.fresh) ((adds f t rows m (sym is)).is)

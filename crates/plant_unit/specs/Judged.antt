@@ -2,7 +2,7 @@
 use Rattle.std.specs.Prelude.{Bool, Err, List, None, Ok, Option, Result, Some, [], false, if◌then◌else◌, is_ok, nat_lt, not, true, ◌++◌, ◌∷◌, ◌≡◌}
 use Rattle.plant_model.specs.declared.call.Call.{Call}
 use Rattle.plant_model.specs.declared.call.Request.{Request}
-use Rattle.plant_model.specs.declared.call.Request.TheVariants.{Import}
+use Rattle.plant_model.specs.declared.call.Request.TheVariants.{Approve, Import, Propose, Reject, WithdrawChange}
 use Rattle.plant_model.specs.declared.reply.Refused.{Refused}
 use Rattle.plant_model.specs.declared.reply.Reply.{Reply}
 use Rattle.plant_model.specs.declared.rows.Change.{Change}
@@ -23,6 +23,14 @@ use Rattle.plant_model.specs.Worlds.{opening}
 abbrev pub is_import : Request → Bool
 is_import (Import u file) = true
 is_import _ = false
+
+-- a request that proposes a change, or decides one
+abbrev pub is_on_change : Request → Bool
+is_on_change (Propose u x) = true
+is_on_change (WithdrawChange u n) = true
+is_on_change (Approve u n) = true
+is_on_change (Reject u n) = true
+is_on_change _ = false
 
 abbrev pub answer_in : Verdict → Result Reply Refused
 answer_in (IsRefused r) = Err r

@@ -6,21 +6,24 @@ ghost use Rattle.plant_types.specs.declared.fault.Fault.TheVariants.{Memory};
 ghost use Rattle.plant_ration.specs.Matrix.{is_matrix};
 ghost use Rattle.plant_model.specs.Facts.{facts, limit_of};
 ghost use Rattle.plant_model.specs.Rows.{alarm_as};
+ghost use Rattle.plant_model.specs.RowChanges as the_changes;
 ghost use Rattle.plant_model.specs.RowChanges.{changes_for, matrix_changes, own_changes, placed_in, taken_out, with_alarm};
 ghost use Rattle.plant_model.specs.RowFacts.{facts_in, unit_read};
 ghost use Rattle.plant_model.specs.Verdicts.{is_opening, is_read};
 ghost use Rattle.plant_model.specs.declared.rows.Change.TheVariants.{Put};
 ghost use Rattle.plant_model.specs.declared.rows.Row.TheVariants.{Band as BandPut, Cell as CellPut};
-ghost use Rattle.plant_unit.specs.Judged.{is_import};
+ghost use Rattle.plant_unit.specs.Additions.{AreKept};
+ghost use Rattle.plant_unit.specs.Judged.{is_import, is_on_change};
 ghost use Rattle.plant_unit.specs.MatrixRows.{band_row_of, cell_row_of, row_of_cells};
 
+use crate::decisions::{approved_row, push_approval, push_decision, push_proposal};
+use crate::matrices::push_matrix;
 use plant_alarm::AlarmState;
 use plant_books::alarm_of;
 use plant_model::{
-    AlarmRow, BandRow, Call, CellRow, Change, GrantRow, Key, Request, Row, ShelfRow, UnitPart,
-    UnitRow,
+    AlarmRow, Call, Change, GrantRow, Key, Request, Row, ShelfRow, UnitPart, UnitRow,
 };
-use plant_ration::{Cell, Matrix};
+use plant_ration::ChangeState;
 use plant_types::{Duplicate, Fault, Role, Seconds, Table, Tag, Words};
 use std::alloc::Global;
 
@@ -35,7 +38,7 @@ fn limit_of(part: &UnitPart, tag: &Tag) -> u64
 }
 
 fn new_alarm(alloc: Global, tag: &Tag, latching: bool, max: Seconds) -> Result<AlarmRow, Fault>
-    ensures value { IfOk result (λ row. row ≡ alarm_as tag.now max [] None latching) }
+    ensures value { IfOk result (λ row. row ≡ alarm_as tag.now max 0 [] None latching) }
     ensures err { IfErr result (λ e. e ≡ Memory) }
 {
     Ok(AlarmRow {
@@ -103,10 +106,12 @@ fn placement(alloc: Global, part: &UnitPart, tag: &Tag) -> Result<Option<Change>
     }
 }
 
-/// The change that a request makes beside that of the unit's row, where it makes one. An import makes more.
+/// The change that a request makes beside that of the unit's row, where it makes one. An import makes more, and so may a
+/// call on a change.
 fn own_change(alloc: Global, part: &UnitPart, call: &Call) -> Result<Option<Change>, Fault>
     requires plain { is_opening call.now.request ≡ false }
     requires no_import { is_import call.now.request ≡ false }
+    requires no_change { is_on_change call.now.request ≡ false }
     ensures value { IfOk result (λ change. option_to_list change ≡ own_changes (facts_in part.now) call.now.person call.now.moment call.now.request) }
     ensures err { IfErr result (λ e. e ≡ Memory) }
 {
@@ -157,6 +162,53 @@ fn own_change(alloc: Global, part: &UnitPart, call: &Call) -> Result<Option<Chan
     Ok(Some(change))
 }
 
+/// Adds the changes that a request makes beside that of the unit's row.
+fn push_own(
+    alloc: Global,
+    changes: &mut Table<Change>,
+    unit: &UnitRow,
+    part: &UnitPart,
+    call: &Call,
+) -> Result<(), Fault>
+    requires row { unit_read part.now.rows ≡ unit.now }
+    requires plain { is_opening call.now.request ≡ false }
+    requires no_import { is_import call.now.request ≡ false }
+    ensures value { AreKept part.now → OnOk result (changes.new ≡ changes.old ++ own_changes (facts_in part.now) call.now.person call.now.moment call.now.request) }
+    ensures err { IfErr result (λ e. e ≡ Memory) }
+{
+    match &call.request {
+        Request::Propose { proposal, .. } => push_proposal(alloc, changes, part, call, proposal),
+        Request::WithdrawChange { number, .. } => {
+            push_decision(alloc, changes, part, call, *number, ChangeState::Withdrawn)
+        }
+        Request::Approve { number, .. } => {
+            push_approval(alloc, changes, unit, part, call, *number)
+        }
+        Request::Reject { number, .. } => {
+            push_decision(alloc, changes, part, call, *number, ChangeState::Rejected)
+        }
+        _ => match own_change(alloc, part, call)? {
+            None => Ok(()),
+            Some(change) => changes.push(change),
+        },
+    }
+}
+
+/// The unit's row after the call.
+fn unit_after(unit: &UnitRow, part: &UnitPart, call: &Call) -> UnitRow
+    requires row { unit_read part.now.rows ≡ unit.now }
+    requires plain { is_opening call.now.request ≡ false }
+    ensures { unit.now.matrix_rev < 4294967295 → result ≡ the_changes.unit_after (facts_in part.now) call.now.moment call.now.request }
+{
+    match &call.request {
+        Request::Approve { number, .. } => approved_row(unit, part, call.moment, *number),
+        _ => UnitRow {
+            last_s: call.moment,
+            ..*unit
+        },
+    }
+}
+
 /// The changes of an accepted call that is no import: none for a read.
 pub fn changes_of(
     alloc: Global,
@@ -167,19 +219,16 @@ pub fn changes_of(
     requires row { unit_read part.now.rows ≡ unit.now }
     requires plain { is_opening call.now.request ≡ false }
     requires no_import { is_import call.now.request ≡ false }
-    ensures value { IfOk result (λ cs. cs ≡ (if is_read call.now.request then [] else changes_for (facts_in part.now) call.now)) }
+    ensures value { AreKept part.now → IfOk result (λ cs. cs ≡ (if is_read call.now.request then [] else changes_for (facts_in part.now) call.now)) }
     ensures err { IfErr result (λ e. e ≡ Memory) }
 {
     let mut changes = Table::new(alloc);
     if is_read(&call.request) {
         return Ok(changes);
     }
-    let mut row = *unit;
-    row.last_s = call.moment;
+    let row = unit_after(unit, part, call);
     changes.push(Change::Put(Row::Unit(row)))?;
-    if let Some(change) = own_change(alloc, part, call)? {
-        changes.push(change)?;
-    }
+    push_own(alloc, &mut changes, unit, part, call)?;
     Ok(changes)
 }
 
@@ -190,6 +239,8 @@ pub fn is_read(request: &Request) -> bool
     matches!(
         request,
         Request::Status { .. }
+            | Request::RecordOf { .. }
+            | Request::ChangeOf { .. }
             | Request::Shelves { .. }
             | Request::Alarms { .. }
             | Request::Standing { .. }
@@ -197,63 +248,6 @@ pub fn is_read(request: &Request) -> bool
             | Request::MyUnits
             | Request::MyShelves
     )
-}
-
-fn push_bands(changes: &mut Table<Change>, number: u32, limits: &[u64]) -> Result<(), Fault>
-    requires { length limits.now ≤ 4 }
-    ensures value { OnOk result (changes.new ≡ changes.old ++ map (λ r. Put (BandPut r)) (map (band_row_of number) (enumerate_from 1 limits.now))) }
-    ensures err { IfErr result (λ e. e ≡ Memory) }
-{
-    for (i, limit) in limits.iter().enumerate() {
-        changes.push(Change::Put(Row::Band(BandRow {
-            matrix_no: number,
-            band_no: i as u8 + 1,
-            limit_s: *limit,
-        })))?;
-    }
-    Ok(())
-}
-
-fn push_row(
-    changes: &mut Table<Change>,
-    number: u32,
-    severity: u8,
-    row: &[Cell],
-) -> Result<(), Fault>
-    requires { length row.now ≤ 5 }
-    ensures value { OnOk result (changes.new ≡ changes.old ++ map (λ r. Put (CellPut r)) (row_of_cells number (severity, row.now))) }
-    ensures err { IfErr result (λ e. e ≡ Memory) }
-{
-    for (i, cell) in row.iter().enumerate() {
-        changes.push(Change::Put(Row::Cell(CellRow {
-            matrix_no: number,
-            severity,
-            band_no: i as u8 + 1,
-            cell_no: *cell,
-        })))?;
-    }
-    Ok(())
-}
-
-fn push_cells(changes: &mut Table<Change>, number: u32, cells: &[Vec<Cell>]) -> Result<(), Fault>
-    requires rows { length cells.now ≤ 5 }
-    requires wide { All (λ row. length row.items ≤ 5) cells.now }
-    ensures value { OnOk result (changes.new ≡ changes.old ++ map (λ r. Put (CellPut r)) (flat_map (row_of_cells number) (enumerate_from 1 (map (λ row. row.items) cells.now)))) }
-    ensures err { IfErr result (λ e. e ≡ Memory) }
-{
-    for (i, row) in cells.iter().enumerate() {
-        push_row(changes, number, i as u8 + 1, row)?;
-    }
-    Ok(())
-}
-
-fn push_matrix(changes: &mut Table<Change>, number: u32, matrix: &Matrix) -> Result<(), Fault>
-    ensures value { OnOk result (changes.new ≡ changes.old ++ matrix_changes number matrix.now) }
-    ensures err { IfErr result (λ e. e ≡ Memory) }
-{
-    let cells = matrix.cells();
-    push_bands(changes, number, matrix.limits())?;
-    push_cells(changes, number, cells)
 }
 
 /// The changes of an opening.

@@ -28,7 +28,7 @@ fn judge_plain(
     ensures value { AreKept part.now → IfOk result (IsJudgedOwn (facts_in part.now) call.now) }
     ensures err { IfErr result (λ e. e ≡ Memory) }
 {
-    if let Some(refused) = own_refusal(unit, part, call.moment, &call.request) {
+    if let Some(refused) = own_refusal(alloc, unit, part, call)? {
         return Ok(Verdict::Refused(refused));
     }
     let reply = reply_to(alloc, part, call.moment, &call.request)?;

@@ -3,10 +3,14 @@
 
 mod alarms;
 mod changes;
+mod decisions;
 mod facts;
 mod floods;
 mod imports;
 mod judgement;
+mod matrices;
+mod proposals;
+mod reading;
 mod refusals;
 mod replies;
 
@@ -14,8 +18,9 @@ pub use changes::is_read;
 pub use judgement::{judge, judge_open};
 pub use plant_books::{Books, MineShelf, MineUnit};
 pub use plant_model::{
-    AlarmLine, AlarmRow, Answer, BandRow, Call, CellRow, Change, FloodLine, Full, GrantRow, Key,
-    MineLine, Refused, Reply, Request, Row, ShelfLine, ShelfRow, StandingLine, StatusRow, UnitLine,
-    UnitPart, UnitRow, UnitRows, Verdict, laws,
+    AlarmLine, AlarmRow, Answer, BandRow, Call, CellRow, Change, ChangeEntry, ChangeRow,
+    ChangeTopic, FloodLine, Full, GrantRow, Key, MineLine, RecordEntry, RecordRow, Refused, Reply,
+    Request, Row, ShelfLine, ShelfRow, StandingLine, StatusRow, UnitLine, UnitPart, UnitRow,
+    UnitRows, Verdict, laws,
 };
 pub use replies::shelf_line;

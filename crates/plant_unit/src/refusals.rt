@@ -1,25 +1,33 @@
 //! The first refusal of a call, by its own conditions in their order.
 
-ghost use Rattle.std.specs.Prelude.{◌≡◌, ℕ, Bool, [], ◌∷◌, false};
+ghost use Rattle.std.specs.Prelude.{◌≡◌, ℕ, Bool, [], ◌∷◌, IfErr, IfOk, false};
+ghost use Rattle.plant_types.specs.declared.fault.Fault.TheVariants.{Memory};
+ghost use Rattle.plant_unit.specs.Additions.{AreKept};
 ghost use Rattle.plant_types.specs.Names.{Name};
 ghost use Rattle.plant_model.specs.RowFacts.{facts_in, unit_read};
 ghost use Rattle.plant_model.specs.Refusals.{first_refusal, over_quota, own_refusals, role_needed};
-ghost use Rattle.plant_unit.specs.Judged.{holder_refusals, is_import};
-ghost use Rattle.plant_model.specs.declared.call.Request.TheVariants.{Grant, OneShotShelve, PlaceInService, Register, RemoveFromService, TimedShelve, Unshelve, Withdraw};
+ghost use Rattle.plant_unit.specs.Judged.{holder_refusals, is_import, is_on_change};
+ghost use Rattle.plant_model.specs.declared.call.Request.TheVariants.{ChangeOf, Grant, OneShotShelve, PlaceInService, RecordOf, Register, RemoveFromService, Status, TimedShelve, Unshelve, Withdraw};
 
 use crate::facts::{holds_any, is_before, is_held, others_shelved, stands, state_now, stewards};
 use crate::floods::is_aligned;
+use crate::proposals::{approval_refusal, proposal_refusal, rejection_refusal, withdrawal_refusal};
+use crate::reading::{entry_of, has_rationale};
 use plant_alarm::ShelfState;
 use plant_books::alarm_of;
 use plant_model::{Call, Full, Refused, Request, UnitPart, UnitRow};
-use plant_types::{Moment, Person, Role, Seconds, Tag, Tenure};
+use plant_types::{Fault, Moment, Person, Role, Seconds, Tag, Tenure};
+use std::alloc::Global;
 
 fn needed(request: &Request) -> Option<Role>
     ensures { result ≡ role_needed request.now }
 {
     match request {
         Request::Grant { .. } | Request::Withdraw { .. } => Some(Role::Steward),
-        Request::Register { .. } => Some(Role::Engineer),
+        Request::Register { .. } | Request::Propose { .. } | Request::WithdrawChange { .. } => {
+            Some(Role::Engineer)
+        }
+        Request::Approve { .. } | Request::Reject { .. } => Some(Role::Approver),
         Request::TimedShelve { .. } | Request::OneShotShelve { .. } | Request::Unshelve { .. } => {
             Some(Role::Operator)
         }
@@ -32,7 +40,7 @@ fn needed(request: &Request) -> Option<Role>
 }
 
 fn grant_refusal(part: &UnitPart, person: &Person, tenure: Tenure, now: Moment) -> Option<Refused>
-    ensures { (u : Name) → result ≡ first_refusal (own_refusals (facts_in part.now) now (Grant u person.now tenure)) }
+    ensures { (p u : Name) → result ≡ first_refusal (own_refusals (facts_in part.now) p now (Grant u person.now tenure)) }
 {
     if part.rows.grants.as_slice().len() >= 500 {
         Some(Refused::UnitFull(Full::Grants))
@@ -46,7 +54,7 @@ fn grant_refusal(part: &UnitPart, person: &Person, tenure: Tenure, now: Moment) 
 }
 
 fn withdraw_refusal(part: &UnitPart, person: &Person, role: Role) -> Option<Refused>
-    ensures { (t : ℕ) (u : Name) → result ≡ first_refusal (own_refusals (facts_in part.now) t (Withdraw u person.now role)) }
+    ensures { (t : ℕ) (p u : Name) → result ≡ first_refusal (own_refusals (facts_in part.now) p t (Withdraw u person.now role)) }
 {
     let grants = part.rows.grants.as_slice();
     if !stands(grants, person, role) {
@@ -59,7 +67,7 @@ fn withdraw_refusal(part: &UnitPart, person: &Person, role: Role) -> Option<Refu
 }
 
 fn register_refusal(part: &UnitPart, tag: &Tag) -> Option<Refused>
-    ensures { (t m : ℕ) (u : Name) (l : Bool) → result ≡ first_refusal (own_refusals (facts_in part.now) t (Register u tag.now l m)) }
+    ensures { (t m : ℕ) (p u : Name) (l : Bool) → result ≡ first_refusal (own_refusals (facts_in part.now) p t (Register u tag.now l m)) }
 {
     if part.count >= 2000 {
         Some(Refused::UnitFull(Full::Alarms))
@@ -89,7 +97,7 @@ fn timed_refusal(
     now: Moment,
 ) -> Option<Refused>
     requires { unit_read part.now.rows ≡ unit.now }
-    ensures { (u w : Name) → result ≡ first_refusal (own_refusals (facts_in part.now) now (TimedShelve u tag.now seconds w)) }
+    ensures { (p u w : Name) → result ≡ first_refusal (own_refusals (facts_in part.now) p now (TimedShelve u tag.now seconds w)) }
 {
     let Some(alarm) = alarm_of(part.rows.alarms.as_slice(), tag) else {
         return Some(Refused::AlarmUnknown);
@@ -106,7 +114,7 @@ fn timed_refusal(
 
 fn one_shot_refusal(unit: &UnitRow, part: &UnitPart, tag: &Tag, now: Moment) -> Option<Refused>
     requires { unit_read part.now.rows ≡ unit.now }
-    ensures { (u w : Name) → result ≡ first_refusal (own_refusals (facts_in part.now) now (OneShotShelve u tag.now w)) }
+    ensures { (p u w : Name) → result ≡ first_refusal (own_refusals (facts_in part.now) p now (OneShotShelve u tag.now w)) }
 {
     if alarm_of(part.rows.alarms.as_slice(), tag).is_none() {
         return Some(Refused::AlarmUnknown);
@@ -118,7 +126,7 @@ fn one_shot_refusal(unit: &UnitRow, part: &UnitPart, tag: &Tag, now: Moment) -> 
 }
 
 fn unshelve_refusal(part: &UnitPart, tag: &Tag, now: Moment) -> Option<Refused>
-    ensures { (u : Name) → result ≡ first_refusal (own_refusals (facts_in part.now) now (Unshelve u tag.now)) }
+    ensures { (p u : Name) → result ≡ first_refusal (own_refusals (facts_in part.now) p now (Unshelve u tag.now)) }
 {
     if alarm_of(part.rows.alarms.as_slice(), tag).is_none() {
         return Some(Refused::AlarmUnknown);
@@ -130,7 +138,7 @@ fn unshelve_refusal(part: &UnitPart, tag: &Tag, now: Moment) -> Option<Refused>
 }
 
 fn removal_refusal(part: &UnitPart, tag: &Tag) -> Option<Refused>
-    ensures { (t : ℕ) (u w : Name) → result ≡ first_refusal (own_refusals (facts_in part.now) t (RemoveFromService u tag.now w)) }
+    ensures { (t : ℕ) (p u w : Name) → result ≡ first_refusal (own_refusals (facts_in part.now) p t (RemoveFromService u tag.now w)) }
 {
     match alarm_of(part.rows.alarms.as_slice(), tag) {
         None => Some(Refused::AlarmUnknown),
@@ -140,7 +148,7 @@ fn removal_refusal(part: &UnitPart, tag: &Tag) -> Option<Refused>
 }
 
 fn placement_refusal(part: &UnitPart, tag: &Tag) -> Option<Refused>
-    ensures { (t : ℕ) (u : Name) → result ≡ first_refusal (own_refusals (facts_in part.now) t (PlaceInService u tag.now)) }
+    ensures { (t : ℕ) (p u : Name) → result ≡ first_refusal (own_refusals (facts_in part.now) p t (PlaceInService u tag.now)) }
 {
     match alarm_of(part.rows.alarms.as_slice(), tag) {
         None => Some(Refused::AlarmUnknown),
@@ -149,16 +157,44 @@ fn placement_refusal(part: &UnitPart, tag: &Tag) -> Option<Refused>
     }
 }
 
-/// The first refusal of a request that is no import, made by one who may make it, where there is one.
-pub fn own_refusal(
-    unit: &UnitRow,
-    part: &UnitPart,
-    now: Moment,
-    request: &Request,
-) -> Option<Refused>
+fn status_refusal(part: &UnitPart, tag: &Tag) -> Option<Refused>
+    ensures { (t : ℕ) (p u : Name) → result ≡ first_refusal (own_refusals (facts_in part.now) p t (Status u tag.now)) }
+{
+    if alarm_of(part.rows.alarms.as_slice(), tag).is_some() {
+        None
+    } else {
+        Some(Refused::AlarmUnknown)
+    }
+}
+
+fn record_refusal(part: &UnitPart, tag: &Tag) -> Option<Refused>
+    ensures { (t : ℕ) (p u : Name) → result ≡ first_refusal (own_refusals (facts_in part.now) p t (RecordOf u tag.now)) }
+{
+    if alarm_of(part.rows.alarms.as_slice(), tag).is_none() {
+        Some(Refused::AlarmUnknown)
+    } else if !has_rationale(part, tag) {
+        Some(Refused::RecordUnknown)
+    } else {
+        None
+    }
+}
+
+fn change_refusal(part: &UnitPart, number: u32) -> Option<Refused>
+    ensures { (t : ℕ) (p u : Name) → result ≡ first_refusal (own_refusals (facts_in part.now) p t (ChangeOf u number)) }
+{
+    if entry_of(part.rows.changes.as_slice(), number).is_some() {
+        None
+    } else {
+        Some(Refused::ChangeUnknown)
+    }
+}
+
+/// The first refusal of a request that is no import and not about a change, made by one who may make it, where there is one.
+fn plain_refusal(unit: &UnitRow, part: &UnitPart, now: Moment, request: &Request) -> Option<Refused>
     requires row { unit_read part.now.rows ≡ unit.now }
     requires plain { is_import request.now ≡ false }
-    ensures { result ≡ first_refusal (own_refusals (facts_in part.now) now request.now) }
+    requires no_change { is_on_change request.now ≡ false }
+    ensures { (p : Name) → result ≡ first_refusal (own_refusals (facts_in part.now) p now request.now) }
 {
     match request {
         Request::Grant { person, tenure, .. } => grant_refusal(part, person, *tenure, now),
@@ -169,13 +205,9 @@ pub fn own_refusal(
         Request::Unshelve { tag, .. } => unshelve_refusal(part, tag, now),
         Request::RemoveFromService { tag, .. } => removal_refusal(part, tag),
         Request::PlaceInService { tag, .. } => placement_refusal(part, tag),
-        Request::Status { tag, .. } => {
-            if alarm_of(part.rows.alarms.as_slice(), tag).is_some() {
-                None
-            } else {
-                Some(Refused::AlarmUnknown)
-            }
-        }
+        Request::Status { tag, .. } => status_refusal(part, tag),
+        Request::RecordOf { tag, .. } => record_refusal(part, tag),
+        Request::ChangeOf { number, .. } => change_refusal(part, *number),
         Request::Floods { begin, until, .. } => {
             if is_aligned(*begin, *until) {
                 None
@@ -184,6 +216,31 @@ pub fn own_refusal(
             }
         }
         _ => None,
+    }
+}
+
+/// The first refusal of a request that is no import, made by one who may make it, where there is one.
+pub fn own_refusal(
+    alloc: Global,
+    unit: &UnitRow,
+    part: &UnitPart,
+    call: &Call,
+) -> Result<Option<Refused>, Fault>
+    requires row { unit_read part.now.rows ≡ unit.now }
+    requires plain { is_import call.now.request ≡ false }
+    ensures value { AreKept part.now → IfOk result (λ r. r ≡ first_refusal (own_refusals (facts_in part.now) call.now.person call.now.moment call.now.request)) }
+    ensures err { IfErr result (λ e. e ≡ Memory) }
+{
+    match &call.request {
+        Request::Propose { proposal, .. } => proposal_refusal(alloc, unit, part, proposal),
+        Request::WithdrawChange { number, .. } => {
+            Ok(withdrawal_refusal(part, &call.person, *number))
+        }
+        Request::Approve { number, .. } => {
+            approval_refusal(alloc, unit, part, &call.person, *number)
+        }
+        Request::Reject { number, .. } => Ok(rejection_refusal(part, &call.person, *number)),
+        _ => Ok(plain_refusal(unit, part, call.moment, &call.request)),
     }
 }
 

@@ -9,11 +9,14 @@ ghost use Rattle.plant_model.specs.Replies as replies;
 ghost use Rattle.plant_model.specs.Replies.{line_of, reply, shelf_lines};
 ghost use Rattle.plant_model.specs.RowFacts.{facts_in};
 ghost use Rattle.plant_model.specs.Shelves as shelves;
+ghost use Rattle.plant_unit.specs.Additions.{AreKept};
 ghost use Rattle.plant_unit.specs.Judged.{is_import};
-ghost use Rattle.plant_model.specs.declared.call.Request.TheVariants.{Alarms as AlarmsCall, Floods as FloodsCall, Shelves as ShelvesCall, Standing as StandingCall, Status as StatusCall};
+ghost use Rattle.plant_model.specs.declared.call.Request.TheVariants.{Alarms as AlarmsCall, ChangeOf as ChangeCall, Floods as FloodsCall, RecordOf as RecordCall, Shelves as ShelvesCall, Standing as StandingCall, Status as StatusCall};
 
+use crate::decisions::next_number;
 use crate::facts::{shelf_of, state_now, state_of};
 use crate::floods::flood_lines;
+use crate::reading::{change_of, priority_of, rationale_of};
 use plant_alarm::ShelfState;
 use plant_books::{alarm_of, last_return};
 use plant_model::{
@@ -131,7 +134,7 @@ fn alarm_line(
     Ok(AlarmLine {
         tag: alarm.tag.copy(alloc)?,
         state: alarm.state_no,
-        priority: None,
+        priority: priority_of(part, &alarm.tag),
         shelved: is_shelved(part, alarm, now),
         by_design: alarm.suppressed,
         out_of_service: alarm.out_s.is_some(),
@@ -241,6 +244,26 @@ fn floods_reply(
     })
 }
 
+fn record_reply(alloc: Global, part: &UnitPart, tag: &Tag) -> Result<Reply, Fault>
+    ensures value { AreKept part.now → (t : ℕ) (u : Name) → IfOk result (λ r. r ≡ reply (facts_in part.now) t (RecordCall u tag.now)) }
+    ensures err { IfErr result (λ e. e ≡ Memory) }
+{
+    match rationale_of(alloc, part, tag)? {
+        None => Ok(Reply::Done),
+        Some(row) => Ok(Reply::RecordOf(row)),
+    }
+}
+
+fn change_reply(alloc: Global, part: &UnitPart, number: u32) -> Result<Reply, Fault>
+    ensures value { AreKept part.now → (t : ℕ) (u : Name) → IfOk result (λ r. r ≡ reply (facts_in part.now) t (ChangeCall u number)) }
+    ensures err { IfErr result (λ e. e ≡ Memory) }
+{
+    match change_of(alloc, part, number)? {
+        None => Ok(Reply::Done),
+        Some(change) => Ok(Reply::ChangeOf(change)),
+    }
+}
+
 /// The reply to an accepted request that is no import.
 pub fn reply_to(
     alloc: Global,
@@ -249,7 +272,7 @@ pub fn reply_to(
     request: &Request,
 ) -> Result<Reply, Fault>
     requires { is_import request.now ≡ false }
-    ensures value { length part.now.rows.events ≤ 4294967295 → IfOk result (λ r. r ≡ reply (facts_in part.now) now request.now) }
+    ensures value { AreKept part.now → IfOk result (λ r. r ≡ reply (facts_in part.now) now request.now) }
     ensures err { IfErr result (λ e. e ≡ Memory) }
 {
     match request {
@@ -258,6 +281,9 @@ pub fn reply_to(
         Request::Shelves { unit } => shelves_reply(alloc, part, unit, now),
         Request::Alarms { unit } => alarms_reply(alloc, part, unit, now),
         Request::Standing { unit } => standing_reply(alloc, part, unit, now),
+        Request::RecordOf { tag, .. } => record_reply(alloc, part, tag),
+        Request::ChangeOf { number, .. } => change_reply(alloc, part, *number),
+        Request::Propose { .. } => Ok(Reply::Number(next_number(part))),
         _ => Ok(Reply::Done),
     }
 }

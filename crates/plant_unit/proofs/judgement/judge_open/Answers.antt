@@ -1,4 +1,4 @@
-use Rattle.plant_unit.proofs.Matrices.{not_other}
+use Rattle.plant_unit.proofs.MatrixLaws.{not_other}
 use Rattle.plant_unit.proofs.JudgedLaws.{opened_verdict}
 use Rattle.plant_unit.proofs.judgement.judge_open.Goals as goal
 

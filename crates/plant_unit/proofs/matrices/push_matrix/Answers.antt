@@ -1,7 +1,7 @@
 use Rattle.std.proofs.Common.{ap, ◌∙◌}
 use Rattle.plant_ration.specs.Matrix.{is_matrix}
-use Rattle.plant_unit.proofs.Matrices.{short_rows, matrix_pushed}
-use Rattle.plant_unit.proofs.changes.push_matrix.Goals as goal
+use Rattle.plant_unit.proofs.MatrixLaws.{short_rows, matrix_pushed}
+use Rattle.plant_unit.proofs.matrices.push_matrix.Goals as goal
 
 pub push_cells-requires-clause-wide : goal.push_cells-requires-clause-wide
 push_cells-requires-clause-wide c = λ k d lt.

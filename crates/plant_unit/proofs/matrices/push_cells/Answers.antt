@@ -2,7 +2,7 @@ use Rattle.plant_model.specs.declared.rows.Change.TheVariants.{Put}
 use Rattle.plant_model.specs.declared.rows.Row.TheVariants.{Cell as CellPut}
 use Rattle.plant_unit.specs.MatrixRows.{row_of_cells}
 use Rattle.plant_unit.proofs.Loops.{grown, next_cells}
-use Rattle.plant_unit.proofs.changes.push_cells.Goals as goal
+use Rattle.plant_unit.proofs.matrices.push_cells.Goals as goal
 
 pub loop-i-preserved : goal.loop-i-preserved
 loop-i-preserved c =

@@ -1,0 +1,8 @@
+use Rattle.std.proofs.Common.{◌≡◌, map}
+use Rattle.std.specs.List.{range_with_len}
+use Rattle.std.specs.Prelude.{filter}
+use Rattle.plant_model.specs.RowFacts.{cells_at, has_cells}
+use Rattle.plant_unit.proofs.matrices.cells_of.Given as goal
+
+abbrev pub invariant-loop-place : goal.invariant-loop-place
+invariant-loop-place l = map (λ row. row.items) l.rows.items ≡ filter has_cells (map (cells_at l.cells l.number) (range_with_len 1 l.place))

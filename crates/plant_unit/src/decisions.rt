@@ -1,0 +1,336 @@
+//! The changes that calls on changes make.
+
+ghost use Rattle.std.specs.Prelude.{◌≡◌, ◌<◌, ◌++◌, ◌∷◌, [], IfErr, IfOk, None, OnOk, Some, map, option_map, option_to_list, true};
+ghost use Rattle.plant_types.specs.Names.{Name};
+ghost use Rattle.plant_types.specs.declared.fault.Fault.TheVariants.{Memory};
+ghost use Rattle.plant_ration.specs.declared.change.ChangeKind.TheVariants.{Limit, Matrix as MatrixKind, Rationale};
+ghost use Rattle.plant_model.specs.Changes.{priority_by};
+ghost use Rattle.plant_model.specs.Facts.{limit_revision_of};
+ghost use Rattle.plant_model.specs.RowChanges as changes;
+ghost use Rattle.plant_model.specs.RowChanges.{approval_changes, decided_as, decision_change, for_change, in_force, own_changes};
+ghost use Rattle.plant_model.specs.RowFacts.{facts_in, record_read, unit_read};
+ghost use Rattle.plant_model.specs.Rows as rows;
+ghost use Rattle.plant_model.specs.Rows.{change_entry};
+ghost use Rattle.plant_model.specs.declared.call.Request.TheVariants.{Propose};
+ghost use Rattle.plant_model.specs.declared.rows.Change.TheVariants.{Put};
+ghost use Rattle.plant_model.specs.declared.rows.Row.TheVariants.{Record as RecordPut};
+ghost use Rattle.plant_unit.specs.Additions.{AreKept};
+ghost use Rattle.plant_unit.specs.Readings.{has_its_sheet};
+
+use crate::matrices::{matrix_of, push_matrix};
+use crate::reading::{change_of, entry_of, revision_of, source_of};
+use plant_books::alarm_of;
+use plant_model::{
+    AlarmRow, Call, Change, ChangeEntry, ChangeRow, ChangeTopic, RecordEntry, Row, UnitPart,
+    UnitRow,
+};
+use plant_ration::{Cell, ChangeKind, ChangeState, Matrix, Proposal, Sheet};
+use plant_types::{Duplicate, Fault, Moment, Seconds, Table, Tag};
+use std::alloc::Global;
+
+fn topic(kind: &ChangeKind) -> ChangeTopic
+    ensures { result ≡ rows.topic kind.now }
+{
+    match kind {
+        ChangeKind::Rationale(..) => ChangeTopic::Record,
+        ChangeKind::Matrix(_) => ChangeTopic::Matrix,
+        ChangeKind::Limit(..) => ChangeTopic::Limit,
+    }
+}
+
+/// The row of a change, without what its kind puts there.
+fn bare_entry(alloc: Global, change: &ChangeRow) -> Result<ChangeEntry, Fault>
+    ensures value { IfOk result (λ entry. entry ≡ record (change_entry change.now) { tag = None; cause = None; consequence = None; remedy = None; severity = None; response_s = None; max_s = None }) }
+    ensures err { IfErr result (λ e. e ≡ Memory) }
+{
+    Ok(ChangeEntry {
+        number: change.number,
+        proposer: change.proposer.copy(alloc)?,
+        proposed_s: change.proposed,
+        kind_no: topic(&change.kind),
+        tag: None,
+        base: change.base,
+        cause: None,
+        consequence: None,
+        remedy: None,
+        severity: None,
+        response_s: None,
+        max_s: None,
+        state_no: change.state,
+        decider: change.decider.duplicate(alloc)?,
+        decided_s: change.decided,
+    })
+}
+
+/// The row of a change.
+fn entry_from(alloc: Global, change: &ChangeRow) -> Result<ChangeEntry, Fault>
+    ensures value { IfOk result (λ entry. entry ≡ change_entry change.now) }
+    ensures err { IfErr result (λ e. e ≡ Memory) }
+{
+    let mut entry = bare_entry(alloc, change)?;
+    match &change.kind {
+        ChangeKind::Rationale(tag, sheet) => {
+            entry.tag = Some(tag.copy(alloc)?);
+            entry.cause = Some(sheet.cause.copy(alloc)?);
+            entry.consequence = Some(sheet.consequence.copy(alloc)?);
+            entry.remedy = Some(sheet.action.copy(alloc)?);
+            entry.severity = Some(sheet.severity);
+            entry.response_s = Some(sheet.response);
+            Ok(entry)
+        }
+        ChangeKind::Matrix(_) => Ok(entry),
+        ChangeKind::Limit(tag, max) => {
+            entry.tag = Some(tag.copy(alloc)?);
+            entry.max_s = Some(*max);
+            Ok(entry)
+        }
+    }
+}
+
+/// The number of the next change: 4,294,967,295 where there are as many or more.
+pub fn next_number(part: &UnitPart) -> u32
+    ensures { part.now.count < 4294967295 → result ≡ part.now.count + 1 }
+{
+    u32::try_from(part.count)
+        .unwrap_or(u32::MAX)
+        .saturating_add(1)
+}
+
+/// Adds the changes of a proposal: its row, and those of its matrix where it is of one.
+pub fn push_proposal(
+    alloc: Global,
+    changes: &mut Table<Change>,
+    part: &UnitPart,
+    call: &Call,
+    proposal: &Proposal,
+) -> Result<(), Fault>
+    ensures value { AreKept part.now → (u : Name) → OnOk result (changes.new ≡ changes.old ++ own_changes (facts_in part.now) call.now.person call.now.moment (Propose u proposal.now)) }
+    ensures err { IfErr result (λ e. e ≡ Memory) }
+{
+    let number = next_number(part);
+    let change = ChangeRow {
+        number,
+        kind: proposal.kind.copy(alloc)?,
+        base: proposal.base,
+        proposer: call.person.copy(alloc)?,
+        proposed: call.moment,
+        state: ChangeState::Proposed,
+        decider: None,
+        decided: None,
+    };
+    changes.push(Change::Put(Row::Change(entry_from(alloc, &change)?)))?;
+    match &proposal.kind {
+        ChangeKind::Matrix(matrix) => push_matrix(changes, number, matrix),
+        _ => Ok(()),
+    }
+}
+
+/// The change of a row of a change that is decided.
+fn decided(
+    alloc: Global,
+    change: &ChangeRow,
+    state: ChangeState,
+    call: &Call,
+) -> Result<Change, Fault>
+    ensures value { IfOk result (λ put. put ≡ decision_change state call.now.person call.now.moment change.now) }
+    ensures err { IfErr result (λ e. e ≡ Memory) }
+{
+    let mut entry = entry_from(alloc, change)?;
+    entry.state_no = state;
+    entry.decider = Some(call.person.copy(alloc)?);
+    entry.decided_s = Some(call.moment);
+    Ok(Change::Put(Row::Change(entry)))
+}
+
+/// Adds the change of a decision that brings nothing into force.
+pub fn push_decision(
+    alloc: Global,
+    changes: &mut Table<Change>,
+    part: &UnitPart,
+    call: &Call,
+    number: u32,
+    state: ChangeState,
+) -> Result<(), Fault>
+    ensures value { AreKept part.now → OnOk result (changes.new ≡ changes.old ++ for_change ((facts_in part.now).change number) (λ c. decision_change state call.now.person call.now.moment c ∷ [])) }
+    ensures err { IfErr result (λ e. e ≡ Memory) }
+{
+    match change_of(alloc, part, number)? {
+        None => Ok(()),
+        Some(change) => changes.push(decided(alloc, &change, state, call)?),
+    }
+}
+
+/// The cell of a severity and a time to respond; that no alarm is needed, where there is none.
+fn rated(matrix: &Matrix, severity: u8, response: Seconds) -> Cell
+    ensures { result ≡ priority_by matrix.now severity response }
+{
+    matrix.priority(severity, response).unwrap_or(Cell::N)
+}
+
+/// The priority of a sheet by the matrix in force.
+fn rated_now(alloc: Global, unit: &UnitRow, part: &UnitPart, sheet: &Sheet) -> Result<Cell, Fault>
+    requires { unit_read part.now.rows ≡ unit.now }
+    ensures value { AreKept part.now → IfOk result (λ cell. cell ≡ priority_by (facts_in part.now).matrix sheet.now.severity sheet.now.response) }
+    ensures err { IfErr result (λ e. e ≡ Memory) }
+{
+    match matrix_of(alloc, &part.rows, unit.matrix_no)? {
+        None => Ok(Cell::N),
+        Some(matrix) => Ok(rated(&matrix, sheet.severity, sheet.response)),
+    }
+}
+
+/// Adds the change of a record that comes into force.
+fn push_record(
+    alloc: Global,
+    changes: &mut Table<Change>,
+    unit: &UnitRow,
+    part: &UnitPart,
+    number: u32,
+    tag: &Tag,
+    sheet: &Sheet,
+) -> Result<(), Fault>
+    requires { unit_read part.now.rows ≡ unit.now }
+    ensures value { AreKept part.now → OnOk result (changes.new ≡ changes.old ++ in_force (facts_in part.now) number (Rationale tag.now sheet.now)) }
+    ensures err { IfErr result (λ e. e ≡ Memory) }
+{
+    let cell_no = rated_now(alloc, unit, part, sheet)?;
+    changes.push(Change::Put(Row::Record(RecordEntry {
+        tag: tag.copy(alloc)?,
+        change_no: number,
+        rev: revision_of(part, tag).saturating_add(1),
+        cell_no,
+    })))
+}
+
+/// The row of a record with its priority by a matrix, where the change that it came from is there.
+fn rerated(
+    alloc: Global,
+    part: &UnitPart,
+    matrix: &Matrix,
+    row: &RecordEntry,
+) -> Result<Option<RecordEntry>, Fault>
+    ensures value { has_its_sheet part.now.rows row.now ≡ true → IfOk result (λ entry. entry ≡ option_map (changes.rerated matrix.now) (record_read part.now.rows row.now)) }
+    ensures err { IfErr result (λ e. e ≡ Memory) }
+{
+    let Some(entry) = source_of(part, row) else {
+        return Ok(None);
+    };
+    let (Some(severity), Some(response)) = (entry.severity, entry.response_s) else {
+        return Ok(None);
+    };
+    Ok(Some(RecordEntry {
+        tag: row.tag.copy(alloc)?,
+        change_no: row.change_no,
+        rev: row.rev,
+        cell_no: rated(matrix, severity, response),
+    }))
+}
+
+/// Adds the changes of all records, with their priorities by a matrix that comes into force.
+fn push_rerated(
+    alloc: Global,
+    changes: &mut Table<Change>,
+    part: &UnitPart,
+    matrix: &Matrix,
+) -> Result<(), Fault>
+    ensures value { AreKept part.now → OnOk result (changes.new ≡ changes.old ++ map (λ r. Put (RecordPut (changes.rerated matrix.now r))) (facts_in part.now).rationales) }
+    ensures err { IfErr result (λ e. e ≡ Memory) }
+{
+    for row in part.rows.records.as_slice() {
+        if let Some(entry) = rerated(alloc, part, matrix, row)? {
+            changes.push(Change::Put(Row::Record(entry)))?;
+        }
+    }
+    Ok(())
+}
+
+/// The row of an alarm whose limit is changed.
+fn limited(alloc: Global, alarm: &AlarmRow, max: Seconds) -> Result<AlarmRow, Fault>
+    ensures value { alarm.now.max_rev < 4294967295 → IfOk result (λ row. row ≡ record alarm.now { max_s = max; max_rev = alarm.now.max_rev + 1 }) }
+    ensures err { IfErr result (λ e. e ≡ Memory) }
+{
+    let mut row = alarm.duplicate(alloc)?;
+    row.max_s = max;
+    row.max_rev = alarm.max_rev.saturating_add(1);
+    Ok(row)
+}
+
+/// Adds the change of an alarm whose limit comes into force.
+fn push_limit(
+    alloc: Global,
+    changes: &mut Table<Change>,
+    part: &UnitPart,
+    tag: &Tag,
+    max: Seconds,
+) -> Result<(), Fault>
+    ensures value { AreKept part.now → (n : ℕ) → OnOk result (changes.new ≡ changes.old ++ in_force (facts_in part.now) n (Limit tag.now max)) }
+    ensures err { IfErr result (λ e. e ≡ Memory) }
+{
+    match alarm_of(part.rows.alarms.as_slice(), tag) {
+        None => Ok(()),
+        Some(alarm) => changes.push(Change::Put(Row::Alarm(limited(alloc, alarm, max)?))),
+    }
+}
+
+/// Adds the changes that bring an approved change into force.
+fn push_in_force(
+    alloc: Global,
+    changes: &mut Table<Change>,
+    unit: &UnitRow,
+    part: &UnitPart,
+    number: u32,
+    kind: &ChangeKind,
+) -> Result<(), Fault>
+    requires { unit_read part.now.rows ≡ unit.now }
+    ensures value { AreKept part.now → OnOk result (changes.new ≡ changes.old ++ in_force (facts_in part.now) number kind.now) }
+    ensures err { IfErr result (λ e. e ≡ Memory) }
+{
+    match kind {
+        ChangeKind::Rationale(tag, sheet) => {
+            push_record(alloc, changes, unit, part, number, tag, sheet)
+        }
+        ChangeKind::Matrix(matrix) => push_rerated(alloc, changes, part, matrix),
+        ChangeKind::Limit(tag, max) => push_limit(alloc, changes, part, tag, *max),
+    }
+}
+
+/// Adds the changes of an approval: the change's row, and what it brings into force.
+pub fn push_approval(
+    alloc: Global,
+    changes: &mut Table<Change>,
+    unit: &UnitRow,
+    part: &UnitPart,
+    call: &Call,
+    number: u32,
+) -> Result<(), Fault>
+    requires { unit_read part.now.rows ≡ unit.now }
+    ensures value { AreKept part.now → OnOk result (changes.new ≡ changes.old ++ for_change ((facts_in part.now).change number) (approval_changes (facts_in part.now) call.now.person call.now.moment)) }
+    ensures err { IfErr result (λ e. e ≡ Memory) }
+{
+    let Some(change) = change_of(alloc, part, number)? else {
+        return Ok(());
+    };
+    changes.push(decided(alloc, &change, ChangeState::Approved, call)?)?;
+    push_in_force(alloc, changes, unit, part, change.number, &change.kind)
+}
+
+/// The unit's row after the approval of a change.
+pub fn approved_row(unit: &UnitRow, part: &UnitPart, now: Moment, number: u32) -> UnitRow
+    ensures { unit.now.matrix_rev < 4294967295 → result ≡ changes.approved_row now unit.now ((facts_in part.now).change number) }
+{
+    let row = UnitRow {
+        last_s: now,
+        ..*unit
+    };
+    match entry_of(part.rows.changes.as_slice(), number) {
+        None => row,
+        Some(entry) => match entry.kind_no {
+            ChangeTopic::Matrix => UnitRow {
+                matrix_no: entry.number,
+                matrix_rev: unit.matrix_rev.saturating_add(1),
+                ..row
+            },
+            ChangeTopic::Record | ChangeTopic::Limit => row,
+        },
+    }
+}

@@ -1,0 +1,128 @@
+//! The matrices of a unit, read from their rows and put into them.
+
+ghost use Rattle.std.specs.Prelude.{◌≡◌, ◌≤◌, ◌++◌, All, IfErr, IfOk, OnOk, filter, flat_map, length, map};
+ghost use Rattle.std.specs.List.{enumerate_from, range_with_len};
+ghost use Rattle.plant_types.specs.declared.fault.Fault.TheVariants.{Memory};
+ghost use Rattle.plant_model.specs.Histories.{same_number};
+ghost use Rattle.plant_model.specs.RowChanges.{matrix_changes};
+ghost use Rattle.plant_model.specs.RowFacts.{cells_at, has_cells};
+ghost use Rattle.plant_model.specs.declared.rows.Change.TheVariants.{Put};
+ghost use Rattle.plant_model.specs.declared.rows.Row.TheVariants.{Band as BandPut, Cell as CellPut};
+ghost use Rattle.plant_unit.specs.MatrixRows.{band_row_of, cell_row_of, row_of_cells};
+ghost use Rattle.plant_unit.specs.Readings.{matrix_found};
+
+use plant_model::{BandRow, CellRow, Change, Row, UnitRows};
+use plant_ration::{Cell, Matrix};
+use plant_types::{Fault, Table};
+use std::alloc::Global;
+
+/// The limits of the matrix of a number.
+fn limits_of(alloc: Global, bands: &[BandRow], number: u32) -> Result<Vec<u64>, Fault>
+    ensures value { IfOk result (λ limits. limits.items ≡ map (λ b. b.limit_s) (filter (λ b. same_number number b.matrix_no) bands.now)) }
+    ensures err { IfErr result (λ e. e ≡ Memory) }
+{
+    let mut limits = Vec::new(alloc);
+    for band in bands {
+        if number == band.matrix_no {
+            limits.push(band.limit_s)?;
+        }
+    }
+    Ok(limits)
+}
+
+/// The cells of a severity in the matrix of a number.
+fn row_of(alloc: Global, cells: &[CellRow], number: u32, severity: u8) -> Result<Vec<Cell>, Fault>
+    ensures value { IfOk result (λ row. row.items ≡ cells_at cells.now number severity) }
+    ensures err { IfErr result (λ e. e ≡ Memory) }
+{
+    let mut row = Vec::new(alloc);
+    for cell in cells {
+        if number == cell.matrix_no && severity == cell.severity {
+            row.push(cell.cell_no)?;
+        }
+    }
+    Ok(row)
+}
+
+/// The rows of the matrix of a number, as far as there are cells.
+fn cells_of(alloc: Global, cells: &[CellRow], number: u32) -> Result<Vec<Vec<Cell>>, Fault>
+    ensures value { IfOk result (λ rows. map (λ row. row.items) rows.items ≡ filter has_cells (map (cells_at cells.now number) (range_with_len 1 5))) }
+    ensures err { IfErr result (λ e. e ≡ Memory) }
+{
+    let mut rows = Vec::new(alloc);
+    for place in 0..5u8 {
+        let row = row_of(alloc, cells, number, place + 1)?;
+        if !row.as_slice().is_empty() {
+            rows.push(row)?;
+        }
+    }
+    Ok(rows)
+}
+
+/// The matrix of a number, where its rows are those of one.
+pub fn matrix_of(alloc: Global, rows: &UnitRows, number: u32) -> Result<Option<Matrix>, Fault>
+    ensures value { IfOk result (λ matrix. matrix ≡ matrix_found rows.now number) }
+    ensures err { IfErr result (λ e. e ≡ Memory) }
+{
+    let limits = limits_of(alloc, rows.bands.as_slice(), number)?;
+    let cells = cells_of(alloc, rows.cells.as_slice(), number)?;
+    Ok(Matrix::new(alloc, &limits, &cells)?.ok())
+}
+
+fn push_bands(changes: &mut Table<Change>, number: u32, limits: &[u64]) -> Result<(), Fault>
+    requires { length limits.now ≤ 4 }
+    ensures value { OnOk result (changes.new ≡ changes.old ++ map (λ r. Put (BandPut r)) (map (band_row_of number) (enumerate_from 1 limits.now))) }
+    ensures err { IfErr result (λ e. e ≡ Memory) }
+{
+    for (i, limit) in limits.iter().enumerate() {
+        changes.push(Change::Put(Row::Band(BandRow {
+            matrix_no: number,
+            band_no: i as u8 + 1,
+            limit_s: *limit,
+        })))?;
+    }
+    Ok(())
+}
+
+fn push_row(
+    changes: &mut Table<Change>,
+    number: u32,
+    severity: u8,
+    row: &[Cell],
+) -> Result<(), Fault>
+    requires { length row.now ≤ 5 }
+    ensures value { OnOk result (changes.new ≡ changes.old ++ map (λ r. Put (CellPut r)) (row_of_cells number (severity, row.now))) }
+    ensures err { IfErr result (λ e. e ≡ Memory) }
+{
+    for (i, cell) in row.iter().enumerate() {
+        changes.push(Change::Put(Row::Cell(CellRow {
+            matrix_no: number,
+            severity,
+            band_no: i as u8 + 1,
+            cell_no: *cell,
+        })))?;
+    }
+    Ok(())
+}
+
+fn push_cells(changes: &mut Table<Change>, number: u32, cells: &[Vec<Cell>]) -> Result<(), Fault>
+    requires rows { length cells.now ≤ 5 }
+    requires wide { All (λ row. length row.items ≤ 5) cells.now }
+    ensures value { OnOk result (changes.new ≡ changes.old ++ map (λ r. Put (CellPut r)) (flat_map (row_of_cells number) (enumerate_from 1 (map (λ row. row.items) cells.now)))) }
+    ensures err { IfErr result (λ e. e ≡ Memory) }
+{
+    for (i, row) in cells.iter().enumerate() {
+        push_row(changes, number, i as u8 + 1, row)?;
+    }
+    Ok(())
+}
+
+/// Adds the changes that put the rows of a matrix.
+pub fn push_matrix(changes: &mut Table<Change>, number: u32, matrix: &Matrix) -> Result<(), Fault>
+    ensures value { OnOk result (changes.new ≡ changes.old ++ matrix_changes number matrix.now) }
+    ensures err { IfErr result (λ e. e ≡ Memory) }
+{
+    let cells = matrix.cells();
+    push_bands(changes, number, matrix.limits())?;
+    push_cells(changes, number, cells)
+}

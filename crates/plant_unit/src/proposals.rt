@@ -1,0 +1,220 @@
+//! The refusals of calls on changes.
+
+ghost use Rattle.std.specs.Prelude.{◌≡◌, ◌∷◌, [], IfErr, IfOk, false, not, option_map, unwrap_or, ℕ};
+ghost use Rattle.std.specs.List.{list_any};
+ghost use Rattle.plant_types.specs.Names.{Name};
+ghost use Rattle.plant_types.specs.declared.fault.Fault.TheVariants.{Memory};
+ghost use Rattle.plant_ration.specs.Matrix.{priority_of};
+ghost use Rattle.plant_ration.specs.declared.change.ChangeKind.TheVariants.{Limit, Matrix as MatrixKind, Rationale};
+ghost use Rattle.plant_model.specs.Facts.{limit_revision_of};
+ghost use Rattle.plant_model.specs.Refusals as refusals;
+ghost use Rattle.plant_model.specs.Refusals.{first_refusal, is_not_needed, kind_refusals, kind_unknown, own_refusals};
+ghost use Rattle.plant_model.specs.RowFacts.{facts_in, record_read, unit_read};
+ghost use Rattle.plant_model.specs.declared.call.Request.TheVariants.{Approve, Propose, Reject, WithdrawChange};
+ghost use Rattle.plant_model.specs.declared.reply.Refused.TheVariants.{NotAnAlarm, OutsideMatrix};
+ghost use Rattle.plant_unit.specs.Additions.{AreKept};
+
+use crate::matrices::matrix_of;
+use crate::reading::{change_of, entry_of, revision_of, source_of};
+use plant_books::alarm_of;
+use plant_model::{Full, RecordEntry, Refused, UnitPart, UnitRow};
+use plant_ration::{Cell, ChangeKind, ChangeState, Matrix, Proposal, Sheet};
+use plant_types::{Fault, Person, Seconds, Tag};
+use std::alloc::Global;
+
+/// Whether the severity is a row of the matrix.
+fn has_row(matrix: &Matrix, severity: u8) -> bool
+    ensures { result ≡ refusals.has_row matrix.now severity }
+{
+    severity != 0 && severity as usize <= matrix.cells().len()
+}
+
+fn sheet_refusal(matrix: &Matrix, severity: u8, response: Seconds) -> Option<Refused>
+    ensures { result ≡ first_refusal ((not (refusals.has_row matrix.now severity), OutsideMatrix) ∷ (is_not_needed (priority_of matrix.now severity response), NotAnAlarm) ∷ []) }
+{
+    if !has_row(matrix, severity) {
+        return Some(Refused::OutsideMatrix);
+    }
+    match matrix.priority(severity, response) {
+        Some(Cell::N) => Some(Refused::NotAnAlarm),
+        _ => None,
+    }
+}
+
+fn record_refusal(
+    alloc: Global,
+    unit: &UnitRow,
+    part: &UnitPart,
+    base: u32,
+    tag: &Tag,
+    sheet: &Sheet,
+) -> Result<Option<Refused>, Fault>
+    requires { unit_read part.now.rows ≡ unit.now }
+    ensures value { AreKept part.now → IfOk result (λ r. r ≡ first_refusal (kind_refusals (facts_in part.now) base (Rationale tag.now sheet.now))) }
+    ensures err { IfErr result (λ e. e ≡ Memory) }
+{
+    let revision = revision_of(part, tag);
+    if base != revision {
+        return Ok(Some(Refused::BaseChanged(revision)));
+    }
+    match matrix_of(alloc, &part.rows, unit.matrix_no)? {
+        None => Ok(Some(Refused::OutsideMatrix)),
+        Some(matrix) => Ok(sheet_refusal(&matrix, sheet.severity, sheet.response)),
+    }
+}
+
+/// Whether the record has a severity that is no row of the matrix.
+fn is_outside(part: &UnitPart, matrix: &Matrix, row: &RecordEntry) -> bool
+    ensures { result ≡ unwrap_or (option_map (λ r. not (refusals.has_row matrix.now r.severity)) (record_read part.now.rows row.now)) false }
+{
+    match source_of(part, row) {
+        None => false,
+        Some(entry) => !has_row(matrix, entry.severity.unwrap_or(0)),
+    }
+}
+
+/// Whether some record has a severity that is no row of the matrix.
+fn has_outside(part: &UnitPart, matrix: &Matrix) -> bool
+    ensures { result ≡ list_any (λ r. not (refusals.has_row matrix.now r.severity)) (facts_in part.now).rationales }
+{
+    part.rows
+        .records
+        .as_slice()
+        .iter()
+        .any(|row| is_outside(part, matrix, row))
+}
+
+fn matrix_refusal(unit: &UnitRow, part: &UnitPart, base: u32, matrix: &Matrix) -> Option<Refused>
+    requires { unit_read part.now.rows ≡ unit.now }
+    ensures { result ≡ first_refusal (kind_refusals (facts_in part.now) base (MatrixKind matrix.now)) }
+{
+    let revision = unit.matrix_rev;
+    if base != revision {
+        Some(Refused::BaseChanged(revision))
+    } else if has_outside(part, matrix) {
+        Some(Refused::OutsideMatrix)
+    } else {
+        None
+    }
+}
+
+/// How many changes of an alarm's limit were approved.
+fn limit_revision(part: &UnitPart, tag: &Tag) -> u32
+    ensures { result ≡ limit_revision_of (facts_in part.now) tag.now }
+{
+    match alarm_of(part.rows.alarms.as_slice(), tag) {
+        Some(alarm) => alarm.max_rev,
+        None => 0,
+    }
+}
+
+fn limit_refusal(part: &UnitPart, base: u32, tag: &Tag) -> Option<Refused>
+    ensures { (max : ℕ) → result ≡ first_refusal (kind_refusals (facts_in part.now) base (Limit tag.now max)) }
+{
+    let revision = limit_revision(part, tag);
+    if base != revision {
+        Some(Refused::BaseChanged(revision))
+    } else {
+        None
+    }
+}
+
+/// The first refusal of a change of this kind, for its base and its content, where there is one.
+fn kind_refusal(
+    alloc: Global,
+    unit: &UnitRow,
+    part: &UnitPart,
+    base: u32,
+    kind: &ChangeKind,
+) -> Result<Option<Refused>, Fault>
+    requires { unit_read part.now.rows ≡ unit.now }
+    ensures value { AreKept part.now → IfOk result (λ r. r ≡ first_refusal (kind_refusals (facts_in part.now) base kind.now)) }
+    ensures err { IfErr result (λ e. e ≡ Memory) }
+{
+    match kind {
+        ChangeKind::Rationale(tag, sheet) => record_refusal(alloc, unit, part, base, tag, sheet),
+        ChangeKind::Matrix(matrix) => Ok(matrix_refusal(unit, part, base, matrix)),
+        ChangeKind::Limit(tag, _) => Ok(limit_refusal(part, base, tag)),
+    }
+}
+
+/// The refusal of a change of an alarm that is not there.
+fn unknown_refusal(part: &UnitPart, kind: &ChangeKind) -> Option<Refused>
+    ensures { result ≡ first_refusal (kind_unknown (facts_in part.now) kind.now) }
+{
+    match kind {
+        ChangeKind::Rationale(tag, _) | ChangeKind::Limit(tag, _) => {
+            if alarm_of(part.rows.alarms.as_slice(), tag).is_some() {
+                None
+            } else {
+                Some(Refused::AlarmUnknown)
+            }
+        }
+        ChangeKind::Matrix(_) => None,
+    }
+}
+
+pub fn proposal_refusal(
+    alloc: Global,
+    unit: &UnitRow,
+    part: &UnitPart,
+    proposal: &Proposal,
+) -> Result<Option<Refused>, Fault>
+    requires { unit_read part.now.rows ≡ unit.now }
+    ensures value { AreKept part.now → (t : ℕ) (p u : Name) → IfOk result (λ r. r ≡ first_refusal (own_refusals (facts_in part.now) p t (Propose u proposal.now))) }
+    ensures err { IfErr result (λ e. e ≡ Memory) }
+{
+    if part.count >= 20_000 {
+        return Ok(Some(Refused::UnitFull(Full::Changes)));
+    }
+    if let Some(refused) = unknown_refusal(part, &proposal.kind) {
+        return Ok(Some(refused));
+    }
+    kind_refusal(alloc, unit, part, proposal.base, &proposal.kind)
+}
+
+pub fn withdrawal_refusal(part: &UnitPart, person: &Person, number: u32) -> Option<Refused>
+    ensures { (t : ℕ) (u : Name) → result ≡ first_refusal (own_refusals (facts_in part.now) person.now t (WithdrawChange u number)) }
+{
+    let Some(entry) = entry_of(part.rows.changes.as_slice(), number) else {
+        return Some(Refused::ChangeUnknown);
+    };
+    match entry.state_no {
+        ChangeState::Proposed if *person == entry.proposer => None,
+        ChangeState::Proposed => Some(Refused::NotProposer),
+        decided => Some(Refused::NotProposed(decided)),
+    }
+}
+
+pub fn rejection_refusal(part: &UnitPart, person: &Person, number: u32) -> Option<Refused>
+    ensures { (t : ℕ) (u : Name) → result ≡ first_refusal (own_refusals (facts_in part.now) person.now t (Reject u number)) }
+{
+    let Some(entry) = entry_of(part.rows.changes.as_slice(), number) else {
+        return Some(Refused::ChangeUnknown);
+    };
+    match entry.state_no {
+        ChangeState::Proposed if *person == entry.proposer => Some(Refused::SamePerson),
+        ChangeState::Proposed => None,
+        decided => Some(Refused::NotProposed(decided)),
+    }
+}
+
+pub fn approval_refusal(
+    alloc: Global,
+    unit: &UnitRow,
+    part: &UnitPart,
+    person: &Person,
+    number: u32,
+) -> Result<Option<Refused>, Fault>
+    requires { unit_read part.now.rows ≡ unit.now }
+    ensures value { AreKept part.now → (t : ℕ) (u : Name) → IfOk result (λ r. r ≡ first_refusal (own_refusals (facts_in part.now) person.now t (Approve u number))) }
+    ensures err { IfErr result (λ e. e ≡ Memory) }
+{
+    if let Some(refused) = rejection_refusal(part, person, number) {
+        return Ok(Some(refused));
+    }
+    match change_of(alloc, part, number)? {
+        None => Ok(Some(Refused::ChangeUnknown)),
+        Some(change) => kind_refusal(alloc, unit, part, change.base, &change.kind),
+    }
+}

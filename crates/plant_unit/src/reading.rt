@@ -1,0 +1,223 @@
+//! Records and changes, read from the rows of a part.
+
+ghost use Rattle.std.specs.Prelude.{◌≡◌, IfErr, IfOk, is_some, option_copied, option_map};
+ghost use Rattle.std.specs.Ordering.{nat_cmp};
+ghost use Rattle.plant_types.specs.Names.{name_cmp};
+ghost use Rattle.plant_types.specs.Tables.{row_at};
+ghost use Rattle.plant_types.specs.declared.fault.Fault.TheVariants.{Memory};
+ghost use Rattle.plant_model.specs.RowFacts.{change_found, change_number, facts_in, record_from, record_tag};
+ghost use Rattle.plant_model.specs.declared.rows.ChangeTopic.TheVariants.{Limit as LimitTopic, Matrix as MatrixTopic, Record as RecordTopic};
+ghost use Rattle.plant_model.specs.declared.rows.UnitRows.{UnitRows as TheRows};
+ghost use Rattle.plant_unit.specs.Additions.{AreKept};
+ghost use Rattle.plant_unit.specs.Readings.{change_whole, kind_found, sheet_found};
+
+use crate::matrices::matrix_of;
+use plant_model::{
+    ChangeEntry, ChangeRow, ChangeTopic, RecordEntry, RecordRow, UnitPart, UnitRows,
+};
+use plant_ration::{Cell, ChangeKind, Sheet};
+use plant_types::{Duplicate, Fault, Tag};
+use std::alloc::Global;
+
+/// The row of an alarm's record.
+pub fn record_of<'a>(records: &'a [RecordEntry], tag: &Tag) -> Option<&'a RecordEntry>
+    ensures { option_copied result ≡ row_at name_cmp record_tag tag.now records.now }
+{
+    records.iter().find(|row| *tag == row.tag)
+}
+
+/// The row of the change of a number.
+pub fn entry_of<'a>(changes: &'a [ChangeEntry], number: u32) -> Option<&'a ChangeEntry>
+    ensures { option_copied result ≡ row_at nat_cmp change_number number changes.now }
+{
+    changes.iter().find(|row| number == row.number)
+}
+
+/// The row of the change that a record came from.
+pub fn source_of<'a>(part: &'a UnitPart, row: &RecordEntry) -> Option<&'a ChangeEntry>
+    ensures { option_copied result ≡ change_found part.now.rows row.now.change_no }
+{
+    entry_of(part.rows.changes.as_slice(), row.change_no)
+}
+
+/// How many changes of an alarm's record were approved.
+pub fn revision_of(part: &UnitPart, tag: &Tag) -> u32
+    ensures { result ≡ (facts_in part.now).revision tag.now }
+{
+    match record_of(part.rows.records.as_slice(), tag) {
+        Some(row) => row.rev,
+        None => 0,
+    }
+}
+
+/// The priority of an alarm, where it has a record.
+pub fn priority_of(part: &UnitPart, tag: &Tag) -> Option<Cell>
+    ensures { result ≡ (facts_in part.now).priority tag.now }
+{
+    match record_of(part.rows.records.as_slice(), tag) {
+        Some(row) => Some(row.cell_no),
+        None => None,
+    }
+}
+
+/// Whether an alarm has a record.
+pub fn has_rationale(part: &UnitPart, tag: &Tag) -> bool
+    ensures { result ≡ is_some ((facts_in part.now).rationale tag.now) }
+{
+    match record_of(part.rows.records.as_slice(), tag) {
+        Some(row) => source_of(part, row).is_some(),
+        None => false,
+    }
+}
+
+/// The sheet of a change, where all its columns are there.
+fn sheet_of(alloc: Global, entry: &ChangeEntry) -> Result<Option<Sheet>, Fault>
+    ensures value { IfOk result (λ sheet. sheet ≡ sheet_found entry.now) }
+    ensures err { IfErr result (λ e. e ≡ Memory) }
+{
+    let Some(cause) = &entry.cause else {
+        return Ok(None);
+    };
+    let Some(consequence) = &entry.consequence else {
+        return Ok(None);
+    };
+    let Some(action) = &entry.remedy else {
+        return Ok(None);
+    };
+    let (Some(severity), Some(response)) = (entry.severity, entry.response_s) else {
+        return Ok(None);
+    };
+    Ok(Some(Sheet {
+        cause: cause.copy(alloc)?,
+        consequence: consequence.copy(alloc)?,
+        action: action.copy(alloc)?,
+        severity,
+        response,
+    }))
+}
+
+/// The record of a row and the change that it came from, where that is one of a record.
+pub fn rationale_from(
+    alloc: Global,
+    row: &RecordEntry,
+    entry: &ChangeEntry,
+) -> Result<Option<RecordRow>, Fault>
+    ensures value { IfOk result (λ found. found ≡ option_map (record_from row.now) (sheet_found entry.now)) }
+    ensures err { IfErr result (λ e. e ≡ Memory) }
+{
+    let Some(sheet) = sheet_of(alloc, entry)? else {
+        return Ok(None);
+    };
+    Ok(Some(RecordRow {
+        tag: row.tag.copy(alloc)?,
+        change: row.change_no,
+        revision: row.rev,
+        cause: sheet.cause,
+        consequence: sheet.consequence,
+        action: sheet.action,
+        severity: sheet.severity,
+        response: sheet.response,
+        priority: row.cell_no,
+    }))
+}
+
+/// The record of an alarm.
+pub fn rationale_of(alloc: Global, part: &UnitPart, tag: &Tag) -> Result<Option<RecordRow>, Fault>
+    ensures value { AreKept part.now → IfOk result (λ found. found ≡ (facts_in part.now).rationale tag.now) }
+    ensures err { IfErr result (λ e. e ≡ Memory) }
+{
+    let Some(row) = record_of(part.rows.records.as_slice(), tag) else {
+        return Ok(None);
+    };
+    let Some(entry) = source_of(part, row) else {
+        return Ok(None);
+    };
+    rationale_from(alloc, row, entry)
+}
+
+fn record_kind(alloc: Global, entry: &ChangeEntry) -> Result<Option<ChangeKind>, Fault>
+    ensures value { (rows : TheRows) → IfOk result (λ kind. kind ≡ kind_found rows entry.now RecordTopic) }
+    ensures err { IfErr result (λ e. e ≡ Memory) }
+{
+    let Some(tag) = &entry.tag else {
+        return Ok(None);
+    };
+    let Some(sheet) = sheet_of(alloc, entry)? else {
+        return Ok(None);
+    };
+    Ok(Some(ChangeKind::Rationale(tag.copy(alloc)?, sheet)))
+}
+
+fn matrix_kind(
+    alloc: Global,
+    rows: &UnitRows,
+    entry: &ChangeEntry,
+) -> Result<Option<ChangeKind>, Fault>
+    ensures value { IfOk result (λ kind. kind ≡ kind_found rows.now entry.now MatrixTopic) }
+    ensures err { IfErr result (λ e. e ≡ Memory) }
+{
+    match matrix_of(alloc, rows, entry.number)? {
+        None => Ok(None),
+        Some(matrix) => Ok(Some(ChangeKind::Matrix(matrix))),
+    }
+}
+
+fn limit_kind(alloc: Global, entry: &ChangeEntry) -> Result<Option<ChangeKind>, Fault>
+    ensures value { (rows : TheRows) → IfOk result (λ kind. kind ≡ kind_found rows entry.now LimitTopic) }
+    ensures err { IfErr result (λ e. e ≡ Memory) }
+{
+    let Some(tag) = &entry.tag else {
+        return Ok(None);
+    };
+    let Some(max) = entry.max_s else {
+        return Ok(None);
+    };
+    Ok(Some(ChangeKind::Limit(tag.copy(alloc)?, max)))
+}
+
+/// What a change is of and to what, where all of it is there.
+fn kind_of(alloc: Global, rows: &UnitRows, entry: &ChangeEntry) -> Result<Option<ChangeKind>, Fault>
+    ensures value { IfOk result (λ kind. kind ≡ kind_found rows.now entry.now entry.now.kind_no) }
+    ensures err { IfErr result (λ e. e ≡ Memory) }
+{
+    match entry.kind_no {
+        ChangeTopic::Record => record_kind(alloc, entry),
+        ChangeTopic::Matrix => matrix_kind(alloc, rows, entry),
+        ChangeTopic::Limit => limit_kind(alloc, entry),
+    }
+}
+
+/// The change of a row, where all of it is there.
+fn change_from(
+    alloc: Global,
+    rows: &UnitRows,
+    entry: &ChangeEntry,
+) -> Result<Option<ChangeRow>, Fault>
+    ensures value { IfOk result (λ change. change ≡ change_whole rows.now entry.now) }
+    ensures err { IfErr result (λ e. e ≡ Memory) }
+{
+    let Some(kind) = kind_of(alloc, rows, entry)? else {
+        return Ok(None);
+    };
+    Ok(Some(ChangeRow {
+        number: entry.number,
+        kind,
+        base: entry.base,
+        proposer: entry.proposer.copy(alloc)?,
+        proposed: entry.proposed_s,
+        state: entry.state_no,
+        decider: entry.decider.duplicate(alloc)?,
+        decided: entry.decided_s,
+    }))
+}
+
+/// The change of a number.
+pub fn change_of(alloc: Global, part: &UnitPart, number: u32) -> Result<Option<ChangeRow>, Fault>
+    ensures value { AreKept part.now → IfOk result (λ change. change ≡ (facts_in part.now).change number) }
+    ensures err { IfErr result (λ e. e ≡ Memory) }
+{
+    match entry_of(part.rows.changes.as_slice(), number) {
+        None => Ok(None),
+        Some(entry) => change_from(alloc, &part.rows, entry),
+    }
+}
