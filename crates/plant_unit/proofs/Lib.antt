@@ -6,3 +6,4 @@ pub mod FloodLines
 pub mod JudgedLaws
 pub mod Loops
 pub mod ReadingLaws
+pub mod ProposalLaws

@@ -1,5 +1,21 @@
 -- What is read from rows.
-use Rattle.std.proofs.Common.{ap, arith, cond, eqb→eq, refl, subst, sym, ◌∙◌}
+use Rattle.plant_model.specs.Changes.{priority_by}
+use Rattle.plant_model.specs.RowFacts.{change_found, facts_in, record_found, record_from, record_read, sheet_read, unit_read}
+use Rattle.plant_model.specs.declared.reply.RecordRow.{RecordRow}
+use Rattle.plant_model.specs.declared.rows.ChangeEntry.{ChangeEntry}
+use Rattle.plant_model.specs.declared.rows.RecordEntry.{RecordEntry}
+use Rattle.plant_model.specs.declared.rows.UnitPart.{UnitPart}
+use Rattle.plant_model.specs.declared.rows.UnitRow.{UnitRow}
+use Rattle.plant_ration.specs.Matrix.{band, row_of}
+use Rattle.plant_ration.specs.declared.cell.Cell.TheVariants.{N}
+use Rattle.plant_types.specs.Names.{Name, same_name}
+use Rattle.plant_unit.specs.Additions.{AreKept}
+use Rattle.plant_model.specs.Refusals.{has_row}
+use Rattle.plant_unit.specs.Readings.{has_its_sheet, has_sheet, is_left_out, is_matrix_at, is_outside, sheet_found}
+use Rattle.std.specs.List.{cons_option, find, list_all, list_any, slice_get}
+use Rattle.std.specs.Prelude.{IfOk, filter_map, option_and_then, option_map, option_to_list, suc, unwrap_or, zero, ◌-◌, ◌||◌}
+use Rattle.plant_unit.proofs.Loops.{filter_map_more}
+use Rattle.std.proofs.Common.{ap, arith, cond, eqb→eq, get_or, refl, subst, sym, take, ◌<◌, ◌∙◌}
 use Rattle.std.proofs.lemmas.List.{map-append}
 use Rattle.std.proofs.lemmas.List.FromFn.{filter_of_map_range_with_len_more}
 use Rattle.std.specs.List.{range_with_len}
@@ -66,3 +82,101 @@ matrix_made items rows n o made limits cells bands all is by eb ea el ec =
     let read : limits ≡ (matrix_read rows n).limits = el ∙ ap (λ bs. map (λ b. b.limit_s) (filter (λ b. same_number n b.matrix_no) bs)) eb in
     let filled : map items cells ≡ (matrix_read rows n).cells = ec ∙ ap (λ cs. filter has_cells (map (cells_at cs n) (range_with_len 1 5))) ea in
     is ∙ ap result_ok by ∙ (λ i. result_ok (matrix_of (read i) (filled i))) ∙ matrix_when (matrix_read rows n).limits (matrix_read rows n).cells
+
+pub mapped_when : {A B : Type 0} (f : A → B) (b : Bool) (x : A) → option_map f (when b x) ≡ when b (f x)
+mapped_when f true x = refl
+mapped_when f false x = refl
+
+-- the matrix in force: what is found is what is read, and where none is found no cell is there
+grid_read : (b : Bool) (m g : Grid) → Some m ≡ when b g → m ≡ g
+grid_read true m g e = cc
+grid_read false m g e = cc
+
+no_cells : (out whole : Bool) (g : Grid) → (length g.cells == 0) ≡ out → None ≡ when whole g → (out || whole) ≡ true → g.cells ≡ []
+no_cells true whole g e none h = nothing g.cells (eqb→eq (length g.cells) 0 (subst T (sym e) tt))
+  where
+    nothing : (rows : List (List Cell)) → length rows ≡ 0 → rows ≡ []
+    nothing [] e = refl
+    nothing (row ∷ rows) e = absurd (omega (arith, e))
+no_cells false true g e none h = cc
+no_cells false false g e none h = cc
+
+pub in_force_read : (part : UnitPart) (u : UnitRow) (m : Grid) → unit_read part.rows ≡ u → Some m ≡ matrix_found part.rows u.matrix_no → m ≡ (facts_in part).matrix
+in_force_read part u m is found = grid_read (is_matrix_at part.rows u.matrix_no) m (matrix_read part.rows u.matrix_no) found ∙ ap (λ (x : UnitRow). matrix_read part.rows x.matrix_no) (sym is)
+
+pub in_force_none : (part : UnitPart) (u : UnitRow) → AreKept part → unit_read part.rows ≡ u → None ≡ matrix_found part.rows u.matrix_no → (facts_in part).matrix.cells ≡ []
+in_force_none part u kept is none =
+    let n : ℕ = (unit_read part.rows).matrix_no in
+    no_cells (is_left_out part.rows n) (is_matrix_at part.rows n) (matrix_read part.rows n) refl (none ∙ ap (λ (x : UnitRow). matrix_found part.rows x.matrix_no) (sym is)) kept.matrix_whole
+
+pub no_row : (m : Grid) (severity : ℕ) → m.cells ≡ [] → row_of m severity ≡ None
+no_row m severity e = ap (λ (rows : List (List Cell)). cond (severity == 0) None (slice_get rows (severity - 1))) e ∙ by (severity == 0)
+  where
+    by : (b : Bool) → cond b None (let none : Option (List Cell) = slice_get [] (severity - 1) in none) ≡ None
+    by true = refl
+    by false = refl
+
+pub no_priority : (m : Grid) (severity response : ℕ) → m.cells ≡ [] → priority_by m severity response ≡ N
+no_priority m severity response e = ap (λ (o : Option (List Cell)). unwrap_or (option_and_then (λ row. slice_get row (band m.limits response)) o) N) (no_row m severity e)
+
+-- what is told of the records that are read
+pub any_told : {X Y : Type 0} (g : Y → Bool) (f : X → Option Y) (xs : List X) → list_any (λ x. unwrap_or (option_map g (f x)) false) xs ≡ list_any g (filter_map f xs)
+any_told g f [] = refl
+any_told {Y = Y} g f (x ∷ xs) = by (f x) (any_told g f xs)
+  where
+    by : (o : Option Y) → list_any (λ y. unwrap_or (option_map g (f y)) false) xs ≡ list_any g (filter_map f xs) → (unwrap_or (option_map g o) false || list_any (λ y. unwrap_or (option_map g (f y)) false) xs) ≡ list_any g (cons_option o (filter_map f xs))
+    by None rest = rest
+    by (Some y) rest = ap (λ b. g y || b) rest
+
+pub outside_told : (m : Grid) (rows : UnitRows) (records : List RecordEntry) → list_any (is_outside m rows) records ≡ list_any (λ r. not (has_row m r.severity)) (filter_map (record_read rows) records)
+unfolding is_outside
+outside_told m rows records = any_told (λ r. not (has_row m r.severity)) (record_read rows) records
+
+-- a row that is found in a list passes what all of it pass
+pub found_passes : {X : Type 0} (p q : X → Bool) (xs : List X) (x : X) → list_all q xs ≡ true → find p xs ≡ Some x → q x ≡ true
+found_passes p q [] x all is = cc
+found_passes {X = X} p q (y ∷ ys) x all is = by (p y) (parts (q y) (list_all q ys) all) is (found_passes p q ys x)
+  where
+    parts : (a b : Bool) → (a && b) ≡ true → (a ≡ true) × (b ≡ true)
+    parts true b e = (refl, e)
+    parts false b e = cc
+    by : (b : Bool) → (q y ≡ true) × (list_all q ys ≡ true) → cond b (Some y) (find p ys) ≡ Some x → (list_all q ys ≡ true → find p ys ≡ Some x → q x ≡ true) → q x ≡ true
+    by true both e rest = let same : y ≡ x = cc in ap q (sym same) ∙ both.0
+    by false both e rest = rest both.1 e
+
+-- the record of an alarm
+sheeted : {E : Type 0} (r : RecordEntry) (c : ChangeEntry) (b : Bool) (x : Result (Option RecordRow) E) → b ≡ true → IfOk x (λ found. found ≡ option_map (record_from r) (when b (sheet_read c))) → IfOk x (λ found. found ≡ Some (record_from r (sheet_read c)))
+sheeted r c true x e told = told
+sheeted r c false x e told = cc
+
+pub rationale_read : {E : Type 0} (part : UnitPart) (a : Name) (r : RecordEntry) (c : ChangeEntry) (x : Result (Option RecordRow) E) → AreKept part → Some r ≡ record_found part.rows a → Some c ≡ change_found part.rows r.change_no
+    → IfOk x (λ found. found ≡ option_map (record_from r) (sheet_found c)) → IfOk x (λ found. found ≡ (facts_in part).rationale a)
+rationale_read part a r c x kept row source told =
+    let its : has_its_sheet part.rows r ≡ true = found_passes (λ y. same_name a y.tag) (has_its_sheet part.rows) part.rows.records r kept.records_whole (sym row) in
+    let whole : has_sheet c ≡ true = ap (λ (o : Option ChangeEntry). unwrap_or (option_map has_sheet o) true) source ∙ its in
+    let read : Some (record_from r (sheet_read c)) ≡ (facts_in part).rationale a =
+        ap (λ (o : Option ChangeEntry). option_map (λ y. record_from r (sheet_read y)) o) source ∙ ap (λ (o : Option RecordEntry). option_and_then (record_read part.rows) o) row in
+    rw (← read) (sheeted r c (has_sheet c) x whole told)
+
+pub each_passes : {X : Type 0} (q : X → Bool) (xs : List X) (i : ℕ) (x : X) → list_all q xs ≡ true → i < length xs → x ≡ get_or xs i x → q x ≡ true
+each_passes {X = X} q xs i x all lt is = ap q is ∙ by xs i all lt
+  where
+    parts : (a b : Bool) → (a && b) ≡ true → (a ≡ true) × (b ≡ true)
+    parts true b e = (refl, e)
+    parts false b e = cc
+    by : (ys : List X) (k : ℕ) → list_all q ys ≡ true → k < length ys → q (get_or ys k x) ≡ true
+    by [] k all lt = absurd (omega arith)
+    by (y ∷ ys) zero all lt = (parts (q y) (list_all q ys) all).0
+    by (y ∷ ys) (suc k) all lt = by ys k (parts (q y) (list_all q ys) all).1 (omega arith)
+
+-- one more record with its priority
+pub told_more : {X Y E C : Type 0} (f : X → Option Y) (g : Y → E) (put : E → C) (xs : List X) (i : ℕ) (x : X) (o : Option E) → i < length xs → o ≡ option_map g (f x) → x ≡ get_or xs i x
+    → map (λ y. put (g y)) (filter_map f (take (i + 1) xs)) ≡ map (λ y. put (g y)) (filter_map f (take i xs)) ++ map put (option_to_list o)
+told_more {Y = Y} {C = C} f g put xs i x o lt told is =
+    ap (map (λ y. put (g y))) (filter_map_more f xs i x (f x) lt (ap f (sym is)))
+    ∙ map-append (λ y. put (g y)) (filter_map f (take i xs)) (option_to_list (f x))
+    ∙ ap (λ (l : List C). map (λ y. put (g y)) (filter_map f (take i xs)) ++ l) (by (f x) ∙ ap (λ p. map put (option_to_list p)) (sym told))
+  where
+    by : (p : Option Y) → map (λ y. put (g y)) (option_to_list p) ≡ map put (option_to_list (option_map g p))
+    by None = refl
+    by (Some y) = refl

@@ -1,5 +1,6 @@
 -- What is read from rows, where all of it is there.
-use Rattle.plant_model.specs.RowFacts.{change_found, change_read, kind_read, matrix_read, sheet_read}
+use Rattle.plant_model.specs.Refusals.{has_row}
+use Rattle.plant_model.specs.RowFacts.{change_found, change_read, record_read, kind_read, matrix_read, sheet_read}
 use Rattle.plant_model.specs.declared.reply.ChangeRow.{ChangeRow}
 use Rattle.plant_model.specs.declared.rows.ChangeEntry.{ChangeEntry}
 use Rattle.plant_model.specs.declared.rows.ChangeTopic.{ChangeTopic}
@@ -11,7 +12,7 @@ use Rattle.plant_ration.specs.Matrix.{is_matrix}
 use Rattle.plant_ration.specs.declared.change.ChangeKind.{ChangeKind}
 use Rattle.plant_ration.specs.declared.change.Sheet.{Sheet}
 use Rattle.plant_types.specs.Options.{when}
-use Rattle.std.specs.Prelude.{Bool, Option, is_some, length, option_map, true, unwrap_or, ℕ, ◌&&◌, ◌==◌}
+use Rattle.std.specs.Prelude.{Bool, Option, false, not, is_some, length, option_map, true, unwrap_or, ℕ, ◌&&◌, ◌==◌}
 
 -- the matrix of a number
 abbrev pub is_matrix_at : UnitRows → ℕ → Bool
@@ -46,3 +47,7 @@ change_whole rows c = when (has_kind rows c c.kind_no) (change_read rows c)
 -- the change that a record came from, where it is there, has the columns of a sheet
 abbrev pub has_its_sheet : UnitRows → RecordEntry → Bool
 has_its_sheet rows r = unwrap_or (option_map has_sheet (change_found rows r.change_no)) true
+
+-- the severity of a record that is read is no row of the matrix
+unfoldable pub is_outside : Grid → UnitRows → RecordEntry → Bool
+is_outside m rows r = unwrap_or (option_map (λ x. not (has_row m x.severity)) (record_read rows r)) false

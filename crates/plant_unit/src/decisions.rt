@@ -1,13 +1,12 @@
 //! The changes that calls on changes make.
 
-ghost use Rattle.std.specs.Prelude.{◌≡◌, ◌<◌, ◌++◌, ◌∷◌, [], IfErr, IfOk, None, OnOk, Some, map, option_map, option_to_list, true};
+ghost use Rattle.std.specs.Prelude.{◌≡◌, ◌<◌, ◌+◌, ◌++◌, ◌∷◌, [], IfErr, IfOk, None, OnOk, Some, map, option_map, true, ℕ};
 ghost use Rattle.plant_types.specs.Names.{Name};
 ghost use Rattle.plant_types.specs.declared.fault.Fault.TheVariants.{Memory};
 ghost use Rattle.plant_ration.specs.declared.change.ChangeKind.TheVariants.{Limit, Matrix as MatrixKind, Rationale};
 ghost use Rattle.plant_model.specs.Changes.{priority_by};
-ghost use Rattle.plant_model.specs.Facts.{limit_revision_of};
-ghost use Rattle.plant_model.specs.RowChanges as changes;
-ghost use Rattle.plant_model.specs.RowChanges.{approval_changes, decided_as, decision_change, for_change, in_force, own_changes};
+ghost use Rattle.plant_model.specs.RowChanges as row_changes;
+ghost use Rattle.plant_model.specs.RowChanges.{approval_changes, decision_change, for_change, in_force, own_changes};
 ghost use Rattle.plant_model.specs.RowFacts.{facts_in, record_read, unit_read};
 ghost use Rattle.plant_model.specs.Rows as rows;
 ghost use Rattle.plant_model.specs.Rows.{change_entry};
@@ -209,7 +208,7 @@ fn rerated(
     matrix: &Matrix,
     row: &RecordEntry,
 ) -> Result<Option<RecordEntry>, Fault>
-    ensures value { has_its_sheet part.now.rows row.now ≡ true → IfOk result (λ entry. entry ≡ option_map (changes.rerated matrix.now) (record_read part.now.rows row.now)) }
+    ensures value { has_its_sheet part.now.rows row.now ≡ true → IfOk result (λ entry. entry ≡ option_map (row_changes.rerated matrix.now) (record_read part.now.rows row.now)) }
     ensures err { IfErr result (λ e. e ≡ Memory) }
 {
     let Some(entry) = source_of(part, row) else {
@@ -233,7 +232,7 @@ fn push_rerated(
     part: &UnitPart,
     matrix: &Matrix,
 ) -> Result<(), Fault>
-    ensures value { AreKept part.now → OnOk result (changes.new ≡ changes.old ++ map (λ r. Put (RecordPut (changes.rerated matrix.now r))) (facts_in part.now).rationales) }
+    ensures value { AreKept part.now → OnOk result (changes.new ≡ changes.old ++ map (λ r. Put (RecordPut (row_changes.rerated matrix.now r))) (facts_in part.now).rationales) }
     ensures err { IfErr result (λ e. e ≡ Memory) }
 {
     for row in part.rows.records.as_slice() {
@@ -316,7 +315,7 @@ pub fn push_approval(
 
 /// The unit's row after the approval of a change.
 pub fn approved_row(unit: &UnitRow, part: &UnitPart, now: Moment, number: u32) -> UnitRow
-    ensures { unit.now.matrix_rev < 4294967295 → result ≡ changes.approved_row now unit.now ((facts_in part.now).change number) }
+    ensures { unit.now.matrix_rev < 4294967295 → result ≡ row_changes.approved_row now unit.now ((facts_in part.now).change number) }
 {
     let row = UnitRow {
         last_s: now,

@@ -1,6 +1,6 @@
 //! The refusals of calls on changes.
 
-ghost use Rattle.std.specs.Prelude.{◌≡◌, ◌∷◌, [], IfErr, IfOk, false, not, option_map, unwrap_or, ℕ};
+ghost use Rattle.std.specs.Prelude.{◌≡◌, ◌∷◌, [], IfErr, IfOk, not, ℕ};
 ghost use Rattle.std.specs.List.{list_any};
 ghost use Rattle.plant_types.specs.Names.{Name};
 ghost use Rattle.plant_types.specs.declared.fault.Fault.TheVariants.{Memory};
@@ -9,10 +9,11 @@ ghost use Rattle.plant_ration.specs.declared.change.ChangeKind.TheVariants.{Limi
 ghost use Rattle.plant_model.specs.Facts.{limit_revision_of};
 ghost use Rattle.plant_model.specs.Refusals as refusals;
 ghost use Rattle.plant_model.specs.Refusals.{first_refusal, is_not_needed, kind_refusals, kind_unknown, own_refusals};
-ghost use Rattle.plant_model.specs.RowFacts.{facts_in, record_read, unit_read};
+ghost use Rattle.plant_model.specs.RowFacts.{facts_in, unit_read};
 ghost use Rattle.plant_model.specs.declared.call.Request.TheVariants.{Approve, Propose, Reject, WithdrawChange};
 ghost use Rattle.plant_model.specs.declared.reply.Refused.TheVariants.{NotAnAlarm, OutsideMatrix};
 ghost use Rattle.plant_unit.specs.Additions.{AreKept};
+ghost use Rattle.plant_unit.specs.Readings as readings;
 
 use crate::matrices::matrix_of;
 use crate::reading::{change_of, entry_of, revision_of, source_of};
@@ -64,8 +65,9 @@ fn record_refusal(
 }
 
 /// Whether the record has a severity that is no row of the matrix.
+#[tactic(auto, unfolding(crate::specs::Readings::is_outside))]
 fn is_outside(part: &UnitPart, matrix: &Matrix, row: &RecordEntry) -> bool
-    ensures { result ≡ unwrap_or (option_map (λ r. not (refusals.has_row matrix.now r.severity)) (record_read part.now.rows row.now)) false }
+    ensures { result ≡ readings.is_outside matrix.now part.now.rows row.now }
 {
     match source_of(part, row) {
         None => false,
