@@ -1,7 +1,7 @@
 -- From the facts of a part to the history whose rows it is of.
-use Rattle.std.proofs.Common.{ap, arith, cond, refl, subst, sym, ◌∙◌}
+use Rattle.std.proofs.Common.{ap, refl, subst, sym, ◌∙◌}
 use Rattle.std.specs.List.{slice_get}
-use Rattle.std.specs.Prelude.{Bool, Err, IfOk, List, None, Ok, Option, Result, Some, T, [], false, filter, if◌then◌else◌, length, map, true, ℕ, ◌&&◌, ◌∷◌, ◌≡◌, ◌≤◌}
+use Rattle.std.specs.Prelude.{Bool, Err, IfOk, List, None, Ok, Option, Result, Some, [], false, if◌then◌else◌, true, ℕ, ◌∷◌, ◌≡◌}
 use Rattle.plant_model.specs.declared.call.Call.{Call}
 use Rattle.plant_model.specs.declared.call.Request.TheVariants.{OpenUnit}
 use Rattle.plant_model.specs.declared.call.Request.{Request}
@@ -19,16 +19,15 @@ use Rattle.plant_model.proofs.ReadLaws.{facts-rows}
 use Rattle.plant_unit.proofs.KeptLaws.{part_kept_of}
 use Rattle.plant_model.proofs.PartLaws.{part_changes, part_verdict}
 use Rattle.plant_model.proofs.WorldLaws.{not_granted, refused_changes}
-use Rattle.plant_model.proofs.HistoryLaws.{alarms_told, tags_of_alarms}
 use Rattle.plant_unit.specs.Additions.{AreKept}
 use Rattle.plant_model.specs.Facts.{facts}
 use Rattle.plant_model.specs.Legality.{IsLegal}
-use Rattle.plant_model.specs.Parts.{none, part_of, selected}
+use Rattle.plant_model.specs.Parts.{none, part_of}
 use Rattle.plant_model.specs.RowChanges.{changed_by, changes_for, no_rows, puts_unit}
 use Rattle.plant_model.specs.RowFacts.{facts_in}
-use Rattle.plant_model.specs.Rows.{alarm_row, alarm_rows, rows_of, unit_row}
+use Rattle.plant_model.specs.Rows.{rows_of, unit_row}
 use Rattle.plant_model.specs.Verdicts.{changes_history, is_opening, verdict, verdict_of}
-use Rattle.plant_types.specs.Names.{Name, name_cmp}
+use Rattle.plant_types.specs.Names.{Name}
 use Rattle.plant_unit.specs.Judged.{IsJudged, IsOpening, IsPartOf, IsVerdictOn}
 
 changed_if : (h : List Call) (c : Call) (b : Bool) → (b ≡ true → changed_by (changes_for (facts h) c) (rows_of h) ≡ rows_of (c ∷ h)) → changed_by (if b then changes_for (facts h) c else []) (rows_of h) ≡ rows_of (if b then c ∷ h else h)

@@ -1,9 +1,11 @@
 pub mod MatrixLaws
 pub mod AlarmLists
 pub mod EventBounds
+pub mod KeptLaws
 pub mod ImportsJudged
 pub mod FloodLines
 pub mod JudgedLaws
 pub mod Loops
 pub mod ReadingLaws
 pub mod ProposalLaws
+pub mod DecisionLaws

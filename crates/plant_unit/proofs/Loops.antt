@@ -39,7 +39,7 @@ next_mapped put make xs i d lt =
     ap (λ es. map put (map make es)) (numbered_next xs i d lt)
     ∙ ap (map put) (map-append make (enumerate_from 1 (take i xs)) _) ∙ map-append put (map make (enumerate_from 1 (take i xs))) _
 
-append-[] : {A : Type 0} (xs : List A) → xs ++ [] ≡ xs
+pub append-[] : {A : Type 0} (xs : List A) → xs ++ [] ≡ xs
 append-[] [] = refl
 append-[] (x ∷ xs) = ap (λ ys. x ∷ ys) (append-[] xs)
 

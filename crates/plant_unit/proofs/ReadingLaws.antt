@@ -14,7 +14,7 @@ use Rattle.plant_model.specs.Refusals.{has_row}
 use Rattle.plant_unit.specs.Readings.{has_its_sheet, has_sheet, is_left_out, is_matrix_at, is_outside, sheet_found}
 use Rattle.std.specs.List.{cons_option, find, list_all, list_any, slice_get}
 use Rattle.std.specs.Prelude.{IfOk, filter_map, option_and_then, option_map, option_to_list, suc, unwrap_or, zero, ◌-◌, ◌||◌}
-use Rattle.plant_unit.proofs.Loops.{filter_map_more}
+use Rattle.plant_unit.proofs.Loops.{append-[], filter_map_more}
 use Rattle.std.proofs.Common.{ap, arith, cond, eqb→eq, get_or, refl, subst, sym, take, ◌<◌, ◌∙◌}
 use Rattle.std.proofs.lemmas.List.{map-append}
 use Rattle.std.proofs.lemmas.List.FromFn.{filter_of_map_range_with_len_more}
@@ -42,10 +42,6 @@ filled (c ∷ row) e = refl
 bare : (row : List Cell) → (length row == 0) ≡ true → has_cells row ≡ false
 bare [] e = refl
 bare (c ∷ row) e = let none : length (c ∷ row) ≡ 0 = eqb→eq (length (c ∷ row)) 0 (subst T (sym e) tt) in absurd (omega (arith, none))
-
-append-[] : {A : Type 0} (xs : List A) → xs ++ [] ≡ xs
-append-[] [] = refl
-append-[] (x ∷ xs) = ap (λ l. x ∷ l) (append-[] xs)
 
 module _ {V : Type 0} (items : V → List Cell) (row_of : ℕ → List Cell) where
   next_row : (k : ℕ) → filter has_cells (map row_of (range_with_len 1 (k + 1))) ≡ filter has_cells (map row_of (range_with_len 1 k)) ++ cond (has_cells (row_of (k + 1))) (row_of (k + 1) ∷ []) []
@@ -140,6 +136,7 @@ found_passes {X = X} p q (y ∷ ys) x all is = by (p y) (parts (q y) (list_all q
     parts : (a b : Bool) → (a && b) ≡ true → (a ≡ true) × (b ≡ true)
     parts true b e = (refl, e)
     parts false b e = cc
+
     by : (b : Bool) → (q y ≡ true) × (list_all q ys ≡ true) → cond b (Some y) (find p ys) ≡ Some x → (list_all q ys ≡ true → find p ys ≡ Some x → q x ≡ true) → q x ≡ true
     by true both e rest = let same : y ≡ x = cc in ap q (sym same) ∙ both.0
     by false both e rest = rest both.1 e
@@ -155,7 +152,7 @@ rationale_read part a r c x kept row source told =
     let its : has_its_sheet part.rows r ≡ true = found_passes (λ y. same_name a y.tag) (has_its_sheet part.rows) part.rows.records r kept.records_whole (sym row) in
     let whole : has_sheet c ≡ true = ap (λ (o : Option ChangeEntry). unwrap_or (option_map has_sheet o) true) source ∙ its in
     let read : Some (record_from r (sheet_read c)) ≡ (facts_in part).rationale a =
-        ap (λ (o : Option ChangeEntry). option_map (λ y. record_from r (sheet_read y)) o) source ∙ ap (λ (o : Option RecordEntry). option_and_then (record_read part.rows) o) row in
+    ap (λ (o : Option ChangeEntry). option_map (λ y. record_from r (sheet_read y)) o) source ∙ ap (λ (o : Option RecordEntry). option_and_then (record_read part.rows) o) row in
     rw (← read) (sheeted r c (has_sheet c) x whole told)
 
 pub each_passes : {X : Type 0} (q : X → Bool) (xs : List X) (i : ℕ) (x : X) → list_all q xs ≡ true → i < length xs → x ≡ get_or xs i x → q x ≡ true
@@ -164,6 +161,7 @@ each_passes {X = X} q xs i x all lt is = ap q is ∙ by xs i all lt
     parts : (a b : Bool) → (a && b) ≡ true → (a ≡ true) × (b ≡ true)
     parts true b e = (refl, e)
     parts false b e = cc
+
     by : (ys : List X) (k : ℕ) → list_all q ys ≡ true → k < length ys → q (get_or ys k x) ≡ true
     by [] k all lt = absurd (omega arith)
     by (y ∷ ys) zero all lt = (parts (q y) (list_all q ys) all).0

@@ -236,7 +236,8 @@ fn push_rerated(
     ensures err { IfErr result (λ e. e ≡ Memory) }
 {
     for row in part.rows.records.as_slice() {
-        if let Some(entry) = rerated(alloc, part, matrix, row)? {
+        let found = rerated(alloc, part, matrix, row)?;
+        if let Some(entry) = found {
             changes.push(Change::Put(Row::Record(entry)))?;
         }
     }

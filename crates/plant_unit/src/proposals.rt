@@ -79,11 +79,12 @@ fn is_outside(part: &UnitPart, matrix: &Matrix, row: &RecordEntry) -> bool
 fn has_outside(part: &UnitPart, matrix: &Matrix) -> bool
     ensures { result ≡ list_any (λ r. not (refusals.has_row matrix.now r.severity)) (facts_in part.now).rationales }
 {
-    part.rows
-        .records
-        .as_slice()
-        .iter()
-        .any(|row| is_outside(part, matrix, row))
+    for row in part.rows.records.as_slice() {
+        if is_outside(part, matrix, row) {
+            return true;
+        }
+    }
+    false
 }
 
 fn matrix_refusal(unit: &UnitRow, part: &UnitPart, base: u32, matrix: &Matrix) -> Option<Refused>

@@ -13,4 +13,4 @@ returns-in-Some-clause-value c kept t u =
 pub returns-in-Some-2-clause-value : goal.returns-in-Some-2-clause-value
 returns-in-Some-2-clause-value c kept t u =
     let f = facts_in c.args.part.now in
-    ok_is c.kind_refusal.result _ _ (c.kind_refusal.ensures.value kept) (not_rejected (f.change c.args.number) (λ x. same_name c.args.person.now x.proposer) (λ x. kind_refusals f x.base x.kind) c.in-Some-2.change ? (sym c.in-Some-2.is ∙ c.in_ok-change_of.ensures.value kept))
+    ok_is c.kind_refusal.result _ _ (c.kind_refusal.ensures.value kept) (not_rejected (f.change c.args.number) (λ x. same_name c.args.person.now x.proposer) (λ x. kind_refusals f x.base x.kind) c.in-Some-2.change (sym c.in_default.is ∙ c.rejection_refusal.ensures t u) (sym c.in-Some-2.is ∙ c.in_ok-change_of.ensures.value kept))

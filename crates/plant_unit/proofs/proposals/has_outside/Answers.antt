@@ -1,10 +1,17 @@
-use Rattle.std.proofs.Common.{rules, ◌∙◌, ◌≡◌}
+use Rattle.std.proofs.lemmas.Grind.{common_steps}
+use Rattle.std.proofs.Common.{arith, ◌∙◌, ◌≡◌}
 use Rattle.std.specs.List.{list_any}
+use Rattle.std.specs.Prelude.{false, true}
 use Rattle.plant_unit.proofs.ReadingLaws.{outside_told}
 use Rattle.plant_unit.specs.Readings.{is_outside}
 use Rattle.plant_unit.proofs.proposals.has_outside.Goals as goal
 
+pub returns-then-is_outside : goal.returns-then-is_outside
+returns-then-is_outside c =
+    let told : true ≡ list_any (is_outside c.args.matrix.now c.args.part.now.rows) c.args.part.now.rows.records = grind (arith, common_steps) in
+    told ∙ outside_told c.args.matrix.now c.args.part.now.rows c.args.part.now.rows.records
+
 pub returns : goal.returns
 returns c =
-    let told : c.any.result ≡ list_any (is_outside c.args.matrix.now c.args.part.now.rows) c.args.part.now.rows.records = search rules in
+    let told : false ≡ list_any (is_outside c.args.matrix.now c.args.part.now.rows) c.args.part.now.rows.records = grind (arith, common_steps) in
     told ∙ outside_told c.args.matrix.now c.args.part.now.rows c.args.part.now.rows.records

@@ -13,4 +13,4 @@ pub returns-in-Reject-clause-value : goal.returns-in-Reject-clause-value
 returns-in-Reject-clause-value c kept = rw c.in-Reject.is (c.rejection_refusal.ensures c.args.call.now.moment c.in-Reject.unit)
 
 pub returns-in_default : goal.returns-in_default
-returns-in_default c = ?
+returns-in_default c = record { value = λ kept. c.plain_refusal.ensures c.args.call.now.person; err = tt }
