@@ -1,5 +1,5 @@
 use Rattle.std.proofs.lemmas.Grind.{common_steps}
-use Rattle.std.proofs.Common.{◌≡◌, Some, arith, sym, ap, ◌∙◌, get_or}
+use Rattle.std.proofs.Common.{◌≡◌, arith, sym, ap, ◌∙◌, get_or}
 use Rattle.std.specs.Prelude.{Option}
 use Rattle.plant_books.specs.declared.books.MineShelf.{MineShelf}
 use Rattle.plant_model.specs.declared.reply.MineLine.{MineLine}
