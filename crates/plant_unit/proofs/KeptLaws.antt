@@ -154,7 +154,7 @@ module _ (h : List Call) (legal : IsLegal h) (p : Name) (t : ℕ) (q : Request) 
   cells_gone n out severity =
       ap (map (λ (c : CellRow). c.cell_no))
       (filter-none (λ (c : CellRow). same_number n c.matrix_no && same_number severity c.severity) (λ (c : CellRow). s.matrix c.matrix_no)
-        (λ c e. ap s.matrix (sym (same_number_of n c.matrix_no (both_true (same_number n c.matrix_no) (same_number severity c.severity) e).0)) ∙ out) (cell_rows h))
+      (λ c e. ap s.matrix (sym (same_number_of n c.matrix_no (both_true (same_number n c.matrix_no) (same_number severity c.severity) e).0)) ∙ out) (cell_rows h))
 
   left_out : (n : ℕ) → s.matrix n ≡ false → is_left_out part n ≡ true
   left_out n out = λ i. length (filter has_cells (cells_gone n out 1 i ∷ cells_gone n out 2 i ∷ cells_gone n out 3 i ∷ cells_gone n out 4 i ∷ cells_gone n out 5 i ∷ [])) == 0

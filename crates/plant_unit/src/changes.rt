@@ -1,20 +1,15 @@
 //! The changes that an accepted call makes.
 
-ghost use Rattle.std.specs.Prelude.{◌≡◌, ◌≤◌, ◌<◌, ℕ, List, [], ◌∷◌, ◌++◌, if◌then◌else◌, map, flat_map, length, All, IfOk, IfErr, OnOk, IsTrue, None, true, false, option_to_list};
-ghost use Rattle.std.specs.List.{enumerate_from};
+ghost use Rattle.std.specs.Prelude.{◌≡◌, ◌≤◌, ◌<◌, ◌++◌, [], IfErr, IfOk, None, OnOk, false, if◌then◌else◌, option_to_list, true};
 ghost use Rattle.plant_types.specs.declared.fault.Fault.TheVariants.{Memory};
-ghost use Rattle.plant_ration.specs.Matrix.{is_matrix};
 ghost use Rattle.plant_model.specs.Facts.{facts, limit_of};
 ghost use Rattle.plant_model.specs.Rows.{alarm_as};
-ghost use Rattle.plant_model.specs.RowChanges as the_changes;
-ghost use Rattle.plant_model.specs.RowChanges.{changes_for, matrix_changes, own_changes, placed_in, taken_out, with_alarm};
+ghost use Rattle.plant_model.specs.RowChanges as row_changes;
+ghost use Rattle.plant_model.specs.RowChanges.{changes_for, own_changes, placed_in, taken_out, with_alarm};
 ghost use Rattle.plant_model.specs.RowFacts.{facts_in, unit_read};
 ghost use Rattle.plant_model.specs.Verdicts.{is_opening, is_read};
-ghost use Rattle.plant_model.specs.declared.rows.Change.TheVariants.{Put};
-ghost use Rattle.plant_model.specs.declared.rows.Row.TheVariants.{Band as BandPut, Cell as CellPut};
 ghost use Rattle.plant_unit.specs.Additions.{AreKept};
 ghost use Rattle.plant_unit.specs.Judged.{is_import, is_on_change};
-ghost use Rattle.plant_unit.specs.MatrixRows.{band_row_of, cell_row_of, row_of_cells};
 
 use crate::decisions::{approved_row, push_approval, push_decision, push_proposal};
 use crate::matrices::push_matrix;
@@ -198,7 +193,7 @@ fn push_own(
 fn unit_after(unit: &UnitRow, part: &UnitPart, call: &Call) -> UnitRow
     requires row { unit_read part.now.rows ≡ unit.now }
     requires plain { is_opening call.now.request ≡ false }
-    ensures { unit.now.matrix_rev < 4294967295 → result ≡ the_changes.unit_after (facts_in part.now) call.now.moment call.now.request }
+    ensures { unit.now.matrix_rev < 4294967295 → result ≡ row_changes.unit_after (facts_in part.now) call.now.moment call.now.request }
 {
     match &call.request {
         Request::Approve { number, .. } => approved_row(unit, part, call.moment, *number),

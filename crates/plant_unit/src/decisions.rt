@@ -3,7 +3,7 @@
 ghost use Rattle.std.specs.Prelude.{◌≡◌, ◌<◌, ◌+◌, ◌++◌, ◌∷◌, [], IfErr, IfOk, None, OnOk, Some, map, option_map, true, ℕ};
 ghost use Rattle.plant_types.specs.Names.{Name};
 ghost use Rattle.plant_types.specs.declared.fault.Fault.TheVariants.{Memory};
-ghost use Rattle.plant_ration.specs.declared.change.ChangeKind.TheVariants.{Limit, Matrix as MatrixKind, Rationale};
+ghost use Rattle.plant_ration.specs.declared.change.ChangeKind.TheVariants.{Limit, Rationale};
 ghost use Rattle.plant_model.specs.Changes.{priority_by};
 ghost use Rattle.plant_model.specs.RowChanges as row_changes;
 ghost use Rattle.plant_model.specs.RowChanges.{approval_changes, decision_change, for_change, in_force, own_changes};

@@ -8,7 +8,7 @@ ghost use Rattle.plant_model.specs.RowChanges.{matrix_changes};
 ghost use Rattle.plant_model.specs.RowFacts.{cells_at, has_cells};
 ghost use Rattle.plant_model.specs.declared.rows.Change.TheVariants.{Put};
 ghost use Rattle.plant_model.specs.declared.rows.Row.TheVariants.{Band as BandPut, Cell as CellPut};
-ghost use Rattle.plant_unit.specs.MatrixRows.{band_row_of, cell_row_of, row_of_cells};
+ghost use Rattle.plant_unit.specs.MatrixRows.{band_row_of, row_of_cells};
 ghost use Rattle.plant_unit.specs.Readings.{matrix_found};
 
 use plant_model::{BandRow, CellRow, Change, Row, UnitRows};

@@ -157,6 +157,7 @@ fn unknown_refusal(part: &UnitPart, kind: &ChangeKind) -> Option<Refused>
     }
 }
 
+/// The first refusal of a proposal, where there is one.
 pub fn proposal_refusal(
     alloc: Global,
     unit: &UnitRow,
@@ -176,6 +177,7 @@ pub fn proposal_refusal(
     kind_refusal(alloc, unit, part, proposal.base, &proposal.kind)
 }
 
+/// The first refusal of taking a change back, where there is one.
 pub fn withdrawal_refusal(part: &UnitPart, person: &Person, number: u32) -> Option<Refused>
     ensures { (t : ℕ) (u : Name) → result ≡ first_refusal (own_refusals (facts_in part.now) person.now t (WithdrawChange u number)) }
 {
@@ -189,6 +191,7 @@ pub fn withdrawal_refusal(part: &UnitPart, person: &Person, number: u32) -> Opti
     }
 }
 
+/// The first refusal of rejecting a change, where there is one.
 pub fn rejection_refusal(part: &UnitPart, person: &Person, number: u32) -> Option<Refused>
     ensures { (t : ℕ) (u : Name) → result ≡ first_refusal (own_refusals (facts_in part.now) person.now t (Reject u number)) }
 {
@@ -202,6 +205,7 @@ pub fn rejection_refusal(part: &UnitPart, person: &Person, number: u32) -> Optio
     }
 }
 
+/// The first refusal of approving a change, where there is one: those of rejecting it, and then those of its kind.
 pub fn approval_refusal(
     alloc: Global,
     unit: &UnitRow,
