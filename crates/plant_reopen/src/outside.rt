@@ -4,9 +4,9 @@
 ghost use Rattle.std.specs.Prelude.{ℕ, IfOk};
 ghost use Rattle.plant_books.specs.Counting.{Counts};
 
-use crate::tests::{after, at, opened, person, tag, unit};
+use crate::tests::{after, at, call, opened, person, tag, unit};
 use plant_books::Books;
-use plant_model::{Call, Request};
+use plant_model::Request;
 use plant_store::Tables;
 use plant_types::{Fault, Role};
 use sqlite::MemStore;
@@ -248,11 +248,7 @@ fn part(
 ) -> Result<Result<(), Fault>, Fail>
     ensures count { IfOk result (λ answer. Counts books.old.1 books.new.1 answer) }
 {
-    let call = Call {
-        person: person(alloc, b"ann")?,
-        moment: at(90)?,
-        request,
-    };
+    let call = call(alloc, request)?;
     Ok(told(books.part(&call)))
 }
 

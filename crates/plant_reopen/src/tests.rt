@@ -283,14 +283,25 @@ fn keeps_the_rows_of_a_unit(rt: HostRuntime) -> Result<(), Fail> {
     Ok(())
 }
 
-/// What a call of `ann` looks at.
-fn part(books: &mut Tables<MemStore>, alloc: Global, request: Request) -> Result<UnitPart, Fail> {
-    let call = Call {
+/// A call of `ann`.
+pub(crate) fn call(alloc: Global, request: Request) -> Result<Call, Fail> {
+    Ok(Call {
         person: person(alloc, b"ann")?,
         moment: at(90)?,
         request,
-    };
-    Ok(books.part(&call)?.ok_or("the unit was opened")?)
+    })
+}
+
+/// A call of `ann` for the record of PT-101.
+fn record_asked(alloc: Global) -> Result<Call, Fail> {
+    let unit = unit(alloc, b"U1")?;
+    let tag = tag(alloc, b"PT-101")?;
+    call(alloc, Request::RecordOf { unit, tag })
+}
+
+/// What a call looks at.
+fn part(books: &mut Tables<MemStore>, call: &Call) -> Result<UnitPart, Fail> {
+    Ok(books.part(call)?.ok_or("the unit was opened")?)
 }
 
 #[test]
@@ -298,7 +309,8 @@ fn gives_an_approval_its_matrices_and_the_changes_of_records(rt: HostRuntime) ->
     let alloc = rt.alloc();
     let mut books = opened(alloc)?;
     let unit = unit(alloc, b"U1")?;
-    let part = part(&mut books, alloc, Request::Approve { unit, number: 2 })?;
+    let call = call(alloc, Request::Approve { unit, number: 2 })?;
+    let part = part(&mut books, &call)?;
     assert_eq!(rt; counts(&part.rows), [1, 2, 2, 0, 0, 2, 3, 2, 3]);
     let [first, second, third] = part.rows.changes.as_slice() else {
         return Err(Fail::from("three changes"));
@@ -317,11 +329,8 @@ fn gives_an_approval_its_matrices_and_the_changes_of_records(rt: HostRuntime) ->
 fn gives_a_record_its_change_alone(rt: HostRuntime) -> Result<(), Fail> {
     let alloc = rt.alloc();
     let mut books = opened(alloc)?;
-    let asked = Request::RecordOf {
-        unit: unit(alloc, b"U1")?,
-        tag: tag(alloc, b"PT-101")?,
-    };
-    let part = part(&mut books, alloc, asked)?;
+    let call = record_asked(alloc)?;
+    let part = part(&mut books, &call)?;
     assert_eq!(rt; counts(&part.rows), [1, 2, 1, 0, 0, 0, 0, 1, 1]);
     assert!(rt;
         part.rows
@@ -339,7 +348,8 @@ fn gives_a_change_with_its_matrix(rt: HostRuntime) -> Result<(), Fail> {
     let alloc = rt.alloc();
     let mut books = opened(alloc)?;
     let unit = unit(alloc, b"U1")?;
-    let part = part(&mut books, alloc, Request::ChangeOf { unit, number: 2 })?;
+    let call = call(alloc, Request::ChangeOf { unit, number: 2 })?;
+    let part = part(&mut books, &call)?;
     assert_eq!(rt; counts(&part.rows), [1, 2, 0, 0, 0, 1, 1, 0, 1]);
     Ok(())
 }
