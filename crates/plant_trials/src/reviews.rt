@@ -3,8 +3,7 @@
 use crate::examples::BASE;
 
 /// An engineer who approves nothing of his own, a second approver, and a second unit with an engineer and an alarm.
-const STAFFED: &str =
-    r#"ste 08:00:00 POST /units/U1/grants {"person":"abe","role":"Engineer"}
+const STAFFED: &str = r#"ste 08:00:00 POST /units/U1/grants {"person":"abe","role":"Engineer"}
 200 {"done":true}
 
 ste 08:00:00 POST /units/U1/grants {"person":"amy","role":"Approver"}
@@ -103,7 +102,8 @@ vic 09:00:00 GET /units/U1/alarms/LT-2/record
 eve 09:00:00 POST /units/U1/changes {"kind":"record","base":0,"tag":"LT-2","cause":"seal leak","consequence":"loss of pressure","action":"close XV-7","severity":3,"response":120}
 409 {"name":"OutsideMatrix","refused":22}"#;
 
-const NO_ALARM_NEEDED: &str = r#"root 08:00:00 POST /units/U4 {"steward":"ste","bands":[],"cells":[["N"]]}
+const NO_ALARM_NEEDED: &str =
+    r#"root 08:00:00 POST /units/U4 {"steward":"ste","bands":[],"cells":[["N"]]}
 200 {"done":true}
 
 ste 08:00:00 POST /units/U4/grants {"person":"ste","role":"Engineer"}
@@ -139,7 +139,8 @@ vic 11:00:00 GET /units/U1/changes/1
 ann 11:00:00 POST /units/U1/alarms/PT-101/timed-shelve {"seconds":600,"words":"x"}
 200 {"done":true}"#;
 
-const FALLEN: &str = r#"eve 09:00:00 POST /units/U1/changes {"kind":"matrix","base":0,"bands":[60],"cells":[["P3","N"],["P1","N"]]}
+const FALLEN: &str =
+    r#"eve 09:00:00 POST /units/U1/changes {"kind":"matrix","base":0,"bands":[60],"cells":[["P3","N"],["P1","N"]]}
 200 {"number":4}
 
 amy 09:00:00 POST /units/U1/changes/4/approve
@@ -156,7 +157,8 @@ PT-101                   Normal         N  ---   3600
 eve 09:00:00 POST /units/U1/changes {"kind":"matrix","base":0,"bands":[60],"cells":[["P3","P4"],["P1","P2"]]}
 409 {"name":"BaseChanged","refused":21,"value":1}"#;
 
-const NOT_THERE: &str = r#"eve 09:00:00 POST /units/U1/changes {"kind":"limit","base":0,"tag":"NO-1","max":600}
+const NOT_THERE: &str =
+    r#"eve 09:00:00 POST /units/U1/changes {"kind":"limit","base":0,"tag":"NO-1","max":600}
 409 {"name":"AlarmUnknown","refused":8}
 
 eve 09:00:00 POST /units/U1/changes {"kind":"record","base":3,"tag":"NO-1","cause":"c","consequence":"d","action":"e","severity":5,"response":1}
@@ -236,10 +238,6 @@ pub(crate) const CHANGED: [(&str, &[&str], &str); 7] = [
         &[BASE, STAFFED, REVIEWED],
         FALLEN,
     ),
-    (
-        "alarms and changes that are not there",
-        &[BASE],
-        NOT_THERE,
-    ),
+    ("alarms and changes that are not there", &[BASE], NOT_THERE),
     ("malformed changes", &[BASE], MALFORMED),
 ];
