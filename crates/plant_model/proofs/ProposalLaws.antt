@@ -4,8 +4,8 @@ use Rattle.plant_import.proofs.Placed.{there}
 use Rattle.plant_model.proofs.Base.{base, x}
 use Rattle.plant_model.proofs.FactLaws.{draft_bound, none_counted, same_number_of}
 use Rattle.plant_model.proofs.HistoryLaws.{alarm_of, change_with, when_Some}
-use Rattle.plant_model.proofs.ServiceLaws.{both_true, is_some-map, registered}
-use Rattle.plant_model.specs.Alarms.{latching, said_of_latching}
+use Rattle.plant_model.proofs.ServiceLaws.{both_true, is_some-map, registered, registered_stays}
+use Rattle.plant_model.specs.Alarms.{latching}
 use Rattle.plant_model.specs.Changes.{Decision, Draft, approved_limit, change, decision, draft, is_proposal, kind_of_change, limit_in, limit_revision, proposals, said_of_decision, said_of_draft}
 use Rattle.plant_model.specs.Facts.{facts, limit_revision_of}
 use Rattle.plant_model.specs.Grants.{held}
@@ -121,7 +121,7 @@ there_of_kind false false true d x y z v None rest r e = cc
 there_of_kind false false false true x y z v None rest r e = cc
 there_of_kind false false false false x y z v None rest r e = cc
 
-latched_of : (h : List Call) (a : Name) → is_some (alarm_row h a) ≡ is_some (latching h a)
+pub latched_of : (h : List Call) (a : Name) → is_some (alarm_row h a) ≡ is_some (latching h a)
 latched_of h a = is_some-map (alarm_of h a) (latching h a)
 
 proposed_there : (h : List Call) (p : Name) (t : ℕ) (u b : Name) (max base : ℕ) → changes_history (verdict h (record { person = p; moment = t; request = Propose u (record { kind = Limit b max; base = base }) })) (record { person = p; moment = t; request = Propose u (record { kind = Limit b max; base = base }) }) ≡ true → is_some (latching h b) ≡ true
@@ -129,9 +129,6 @@ proposed_there h p t u b max base accepted =
     sym (latched_of h b)
     ∙ there_of_kind (not (holds_some (facts h) t p)) (not (held h t (p, Engineer))) (nat_lt t (last_moment h)) (nat_le 20000 (proposals h)) NotGranted (RoleLacking Engineer) (MomentBehind (last_moment h)) (UnitFull TooManyChanges) (alarm_row h b) (base_changed base (limit_revision_of (facts h) b) ∷ []) (Number (proposals h + 1))
     (both_true (is_ok (verdict h (record { person = p; moment = t; request = Propose u (record { kind = Limit b max; base = base }) }))) true accepted).0
-
-registered_stays : (c : Call) (h : List Call) (a : Name) → is_some (latching h a) ≡ true → is_some (latching (c ∷ h) a) ≡ true
-registered_stays c h a e = elim (said_of_latching a c.request) as (λ o. is_some (or_else o (latching h a)) ≡ true) [ None ↦ e | Some l ↦ refl ]
 
 opening_drafts : (n : ℕ) (p : Name) (t : ℕ) (q : Request) → is_opening q ≡ true → said_of_draft n p t [] q ≡ None
 opening_drafts n p t (OpenUnit u s m k) is = refl

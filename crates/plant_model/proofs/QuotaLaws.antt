@@ -6,9 +6,10 @@ use Rattle.plant_alarm.specs.Shelves.{is_one_shot, is_timed, is_unshelved, shelf
 use Rattle.plant_model.proofs.ChangeLaws.{register_turns}
 use Rattle.plant_model.proofs.EventLaws.{unspoken}
 use Rattle.plant_model.proofs.FactLaws.{not_true}
-use Rattle.plant_model.proofs.HistoryLaws.{alarm_of, alarms_told, shelves_told, tags_of_alarms, tags_of_shelves}
+use Rattle.plant_model.proofs.HistoryLaws.{alarms_told, shelves_told, tags_of_alarms, tags_of_shelves}
 use Rattle.plant_model.proofs.PutLaws.{said}
-use Rattle.plant_model.proofs.ServiceLaws.{both_true, registered_anew}
+use Rattle.plant_model.proofs.ProposalLaws.{latched_of}
+use Rattle.plant_model.proofs.ServiceLaws.{both_true, registered_anew, registered_stays}
 use Rattle.plant_model.specs.Alarms.{latching, said_of_latching}
 use Rattle.plant_model.specs.Facts.{facts, limit_of, returned, shelf_now}
 use Rattle.plant_model.specs.Grants.{held}
@@ -44,7 +45,7 @@ use Rattle.std.specs.Cmp.{eq_by_cmp_equiv}
 use Rattle.std.specs.FinMap.Entries.{below_all, by_order}
 use Rattle.std.specs.List.{cons_option, list_any}
 use Rattle.std.specs.Ordering.{is_eq, is_lt}
-use Rattle.std.specs.Prelude.{Bool, List, None, Option, Some, T, [], cond, count_by, false, filter, filter_map, is_none, is_ok, is_some, length, map, max, nat_le, nat_lt, not, option_map, suc, true, ℕ, ◌&&◌, ◌+◌, ◌<◌, ◌||◌, ◌∷◌, ◌≡◌, ◌≤◌}
+use Rattle.std.specs.Prelude.{Bool, List, None, Option, Some, T, [], cond, count_by, false, filter, filter_map, is_none, is_ok, is_some, length, map, max, nat_le, nat_lt, not, suc, true, ℕ, ◌&&◌, ◌+◌, ◌<◌, ◌||◌, ◌∷◌, ◌≡◌, ◌≤◌}
 use Rattle.std.specs.declared.cmp.Ordering.{Ordering}
 use Rattle.std.specs.declared.cmp.Ordering.TheVariants.{Equal, Greater, Less}
 
@@ -59,9 +60,6 @@ passed false false false false x y z v rest r e = refl
 some_of : {A : Type 0} (o : Option A) → is_none o ≡ false → is_some o ≡ true
 some_of None e = cc
 some_of (Some x) e = refl
-
-latched_of : (h : List Call) (a : Name) → is_some (alarm_row h a) ≡ is_some (latching h a)
-latched_of h a = elim (latching h a) as (λ o. is_some (option_map (alarm_of h a) o) ≡ is_some o) [ None ↦ refl | Some l ↦ refl ]
 
 -- Alarms: at most 2,000
 length-put : (r : AlarmRow) (rows : List AlarmRow) → length (put_row name_cmp alarm_tag r rows) ≤ length rows + 1
@@ -139,9 +137,6 @@ shelved_alarm h p t a (OneShotShelve u b w) s may said =
     of_tag_said h a b _ s (sym (latched_of h b) ∙ some_of (alarm_row h b) known) said
 shelved_alarm h p t a (Unshelve u b) s may said = elim (same_name a b) as (λ x. when x None ≡ Some (Some s) → is_some (latching h a) ≡ true) [ true ↦ λ e. cc | false ↦ λ e. cc ] said
 shelved_alarm h p t a _ s may said = cc
-
-registered_stays : (c : Call) (h : List Call) (a : Name) → is_some (latching h a) ≡ true → is_some (latching (c ∷ h) a) ≡ true
-registered_stays c h a e = elim (said_of_latching a c.request) as (λ o. is_some (or_else o (latching h a)) ≡ true) [ None ↦ e | Some l ↦ refl ]
 
 opening_shelves : (a p : Name) (t : ℕ) (q : Request) → is_opening q ≡ true → said_of_shelf a p t [] q ≡ None
 opening_shelves a p t (OpenUnit u s m n) e = refl

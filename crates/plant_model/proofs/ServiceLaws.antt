@@ -56,7 +56,7 @@ removed_is_there h p t (RemoveFromService u b w) a o accepted e =
 removed_is_there h p t (PlaceInService u b) a o accepted e = elim (same_name a b) as (λ s. when s None ≡ Some (Some o) → is_some (latching h a) ≡ true) [ true ↦ λ is. cc | false ↦ λ is. cc ] e
 removed_is_there h p t _ a o accepted e = cc
 
-registered_stays : (c : Call) (h : List Call) (a : Name) → is_some (latching h a) ≡ true → is_some (latching (c ∷ h) a) ≡ true
+pub registered_stays : (c : Call) (h : List Call) (a : Name) → is_some (latching h a) ≡ true → is_some (latching (c ∷ h) a) ≡ true
 registered_stays c h a e = elim (said_of_latching a c.request) as (λ o. is_some (or_else o (latching h a)) ≡ true) [ None ↦ e | Some l ↦ refl ]
 
 opening_serves : (a p : Name) (t : ℕ) (q : Request) → is_opening q ≡ true → said_of_service a p t q ≡ None

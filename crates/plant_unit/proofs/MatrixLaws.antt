@@ -4,6 +4,7 @@ use Rattle.std.proofs.lemmas.Bool.Decides.{nat_tests}
 use Rattle.std.proofs.lemmas.List.Elements.{filter_map-append}
 use Rattle.std.specs.List.{cons_option, enumerate_from, list_all, range_with_len, slice_get}
 use Rattle.std.specs.Prelude.{Bool, Err, List, Ok, OnOk, Option, Result, Some, T, [], false, filter_map, flat_map, length, map, nat_le, not, option_and_then, option_map, suc, true, zero, ℕ, ◌&&◌, ◌++◌, ◌+◌, ◌<◌, ◌==◌, ◌∷◌, ◌≡◌, ◌≤◌}
+use Rattle.plant_model.proofs.ReadLaws.{filter_map-map, listed, place-after}
 use Rattle.plant_model.specs.declared.rows.Change.{Change}
 use Rattle.plant_model.specs.declared.rows.Change.TheVariants.{Put}
 use Rattle.plant_model.specs.declared.rows.Row.TheVariants.{Band as BandPut, Cell as CellPut}
@@ -13,27 +14,6 @@ use Rattle.plant_model.specs.RowChanges.{bands_of, cells_of, matrix_changes}
 use Rattle.plant_ration.specs.Grid.{Grid}
 use Rattle.plant_ration.specs.Matrix.{is_matrix}
 use Rattle.plant_unit.specs.MatrixRows.{band_row_of, row_of_cells}
-
--- the element after a prefix
-get-after : {A : Type 0} (pre : List A) (x : A) (post : List A) → slice_get (pre ++ x ∷ post) (length pre) ≡ Some x
-get-after [] x post = refl
-get-after (y ∷ pre) x post = get-after pre x post
-
-place-after : {A : Type 0} (pre : List A) (x : A) (post : List A) → at_place (pre ++ x ∷ post) (length pre + 1) ≡ Some x
-place-after pre x post = ap (at_place (pre ++ x ∷ post)) (let e : length pre + 1 ≡ suc (length pre) = omega arith in e) ∙ get-after pre x post
-
-filter_map-map : {A B C : Type 0} (f : B → Option C) (g : A → B) (xs : List A) → filter_map f (map g xs) ≡ filter_map (λ x. f (g x)) xs
-filter_map-map f g [] = refl
-filter_map-map f g (x ∷ xs) = ap (cons_option (f (g x))) (filter_map-map f g xs)
-
--- rows made of the elements at the places of a list are made of its elements in their order
-listed : {A B : Type 0} (make : ℕ → A → B) (whole pre xs : List A) (s : ℕ) → s ≡ length pre + 1 → whole ≡ pre ++ xs → filter_map (λ b. option_map (make b) (at_place whole b)) (range_with_len s (length xs)) ≡ map (λ e. make e.0 e.1) (enumerate_from s xs)
-listed make whole pre [] s at is = refl
-listed make whole pre (x ∷ xs) s at is =
-    let here : at_place whole s ≡ Some x = ap (λ w. at_place w s) is ∙ ap (at_place (pre ++ x ∷ xs)) at ∙ place-after pre x xs in
-    let more : s + 1 ≡ length (pre ++ x ∷ []) + 1 = omega (arith, at, length-append pre (x ∷ [])) in
-    let rest = listed make whole (pre ++ x ∷ []) xs (s + 1) more (is ∙ sym (append_assoc pre (x ∷ []) xs)) in
-    λ i. cons_option (option_map (make s) (here i)) (rest i)
 
 pub bands_listed : (n : ℕ) (m : Grid) → bands_of n m ≡ map (λ r. Put (BandPut r)) (map (band_row_of n) (enumerate_from 1 m.limits))
 bands_listed n m =
