@@ -1,5 +1,5 @@
-//! Tables in which a column holds a value outside its set: each call that reads the column answers a fault of the
-//! store, and counts it.
+//! Tables in which a column holds a value outside its set, or one of which is missing: each call that reads the column or
+//! the table answers a fault of the store, and counts it.
 
 ghost use Rattle.std.specs.Prelude.{ℕ, IfOk};
 ghost use Rattle.plant_books.specs.Counting.{Counts};
@@ -86,8 +86,9 @@ const OF_RECORDS: [Asked; 3] = [Asked::Rows, Asked::Record, Asked::Approval];
 
 const OF_CHANGES: [Asked; 4] = [Asked::Rows, Asked::Record, Asked::Change, Asked::Approval];
 
-/// Each statement that puts a value outside its column's set into the tables of `opened`, with what reads that column.
-const OUTSIDE: [(&str, &[Asked]); 70] = [
+/// Each statement that puts a value outside its column's set into the tables of `opened`, with what reads that column, and
+/// those that take a table away, with what reads the table.
+const OUTSIDE: [(&str, &[Asked]); 72] = [
     // a unit's code
     (
         "UPDATE units SET unit = 'u1'; UPDATE grants SET unit = 'u1'",
@@ -228,6 +229,9 @@ const OUTSIDE: [(&str, &[Asked]); 70] = [
     ("UPDATE changes SET state_no = 5", &OF_CHANGES),
     ("UPDATE changes SET decider = 'Mat'", &OF_CHANGES),
     ("UPDATE changes SET decided_s = -1", &OF_CHANGES),
+    // no table
+    ("DROP TABLE records", &OF_RECORDS),
+    ("DROP TABLE changes", &OF_CHANGES),
 ];
 
 /// Whether there was an answer.
@@ -295,7 +299,7 @@ fn spoiled(alloc: Global, statements: &str) -> Result<Tables<MemStore>, Fail> {
 }
 
 #[test]
-fn answers_store_where_a_value_is_outside_its_set(rt: HostRuntime) -> Result<(), Fail> {
+fn answers_store_where_a_table_is_spoiled(rt: HostRuntime) -> Result<(), Fail> {
     for (statements, readers) in OUTSIDE {
         let mut books = spoiled(rt.alloc(), statements)?;
         for asked in ALL {
