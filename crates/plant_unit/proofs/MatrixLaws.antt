@@ -2,8 +2,8 @@
 use Rattle.std.proofs.Common.{eqb→eq, ap, append_assoc, arith, get_or, length-append, refl, subst, sym, ◌∙◌}
 use Rattle.std.proofs.lemmas.Bool.Decides.{nat_tests}
 use Rattle.std.proofs.lemmas.List.Elements.{filter_map-append}
-use Rattle.std.specs.List.{cons_option, enumerate_from, list_all, range_with_len, slice_get}
-use Rattle.std.specs.Prelude.{Bool, Err, List, Ok, OnOk, Option, Result, Some, T, [], false, filter_map, flat_map, length, map, nat_le, not, option_and_then, option_map, suc, true, zero, ℕ, ◌&&◌, ◌++◌, ◌+◌, ◌<◌, ◌==◌, ◌∷◌, ◌≡◌, ◌≤◌}
+use Rattle.std.specs.List.{enumerate_from, list_all, range_with_len}
+use Rattle.std.specs.Prelude.{Bool, Err, List, Ok, OnOk, Result, Some, T, [], false, filter_map, flat_map, length, map, nat_le, not, option_and_then, option_map, suc, true, zero, ℕ, ◌&&◌, ◌++◌, ◌+◌, ◌<◌, ◌==◌, ◌∷◌, ◌≡◌, ◌≤◌}
 use Rattle.plant_model.proofs.ReadLaws.{filter_map-map, listed, place-after}
 use Rattle.plant_model.specs.declared.rows.Change.{Change}
 use Rattle.plant_model.specs.declared.rows.Change.TheVariants.{Put}
