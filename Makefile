@@ -10,6 +10,7 @@ build:
 	mkdir -p out
 	cp crates/shelfoffice/out/shelfoffice out/shelfoffice
 
-# The gate: every proof from nothing, the must-fail edits, the tests, and the programs.
+# The gate: the schema in examples/, then every proof from nothing, the must-fail edits, the tests, and the programs.
 test:
+	scripts/check-schema
 	rt ci

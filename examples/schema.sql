@@ -6,4 +6,6 @@ CREATE TABLE shelves (unit TEXT NOT NULL, tag TEXT NOT NULL, one_shot INTEGER NO
 CREATE TABLE bands (unit TEXT NOT NULL, matrix_no INTEGER NOT NULL, band_no INTEGER NOT NULL, limit_s INTEGER NOT NULL, PRIMARY KEY (unit, matrix_no, band_no)) STRICT;
 CREATE TABLE cells (unit TEXT NOT NULL, matrix_no INTEGER NOT NULL, severity INTEGER NOT NULL, band_no INTEGER NOT NULL, cell_no INTEGER NOT NULL, PRIMARY KEY (unit, matrix_no, severity, band_no)) STRICT;
 CREATE TABLE events (unit TEXT NOT NULL, seq INTEGER NOT NULL, moment_s INTEGER NOT NULL, tag TEXT NOT NULL, kind_no INTEGER NOT NULL, PRIMARY KEY (unit, seq)) STRICT;
+CREATE TABLE records (unit TEXT NOT NULL, tag TEXT NOT NULL, change_no INTEGER NOT NULL, rev INTEGER NOT NULL, cell_no INTEGER NOT NULL, PRIMARY KEY (unit, tag)) STRICT;
+CREATE TABLE changes (unit TEXT NOT NULL, number INTEGER NOT NULL, proposer TEXT NOT NULL, proposed_s INTEGER NOT NULL, kind_no INTEGER NOT NULL, tag TEXT, base INTEGER NOT NULL, cause TEXT, consequence TEXT, remedy TEXT, severity INTEGER, response_s INTEGER, max_s INTEGER, state_no INTEGER NOT NULL, decider TEXT, decided_s INTEGER, PRIMARY KEY (unit, number)) STRICT;
 CREATE INDEX grants_by_person ON grants (person, unit);
