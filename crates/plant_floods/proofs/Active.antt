@@ -118,15 +118,19 @@ counted_more ms old new start n k m d lt is few long grown so_far =
     (λ i below. at i (let b : i < length old = omega (arith, below, long) in b)) where
       width : length old ≡ n
       width = ap (λ l. length l) so_far ∙ length-map-range_with_len (counted_in ms start k) 0 n
+
       old_at : (i : ℕ) → i < n → get_or old i 0 ≡ counted_in ms start k i
       old_at i lt = ap (λ l. get_or l i 0) so_far ∙ get_or-map-range_with_len (counted_in ms start k) 0 n i i 0 lt (omega arith)
+
       few_at : (i : ℕ) → counted_in ms start k i < 4294967295
       few_at i = let le = count_by-le-length (λ m. is_in_period (start + 600 * i) m) (take k ms) in let short = length-take-le k ms (let w : k ≤ length ms = omega (arith, lt) in w) in omega (arith, le, short, lt, few)
+
       step : (i : ℕ) → counted_in ms start (k + 1) i ≡ counted_in ms start k i + cond (is_in_period (start + 600 * i) m) 1 0
       step i = elim (is_in_period (start + 600 * i) m) as (λ b. is_in_period (start + 600 * i) m ≡ b → counted_in ms start (k + 1) i ≡ counted_in ms start k i + cond b 1 0) [
         | true ↦ λ e. count_by_more_yes (λ m. is_in_period (start + 600 * i) m) ms k d lt (ap (is_in_period (start + 600 * i)) (sym is) ∙ e)
         | false ↦ λ e. count_by_more_no (λ m. is_in_period (start + 600 * i) m) ms k d lt (ap (is_in_period (start + 600 * i)) (sym is) ∙ e) ∙ sym (add-zero (counted_in ms start k i))
       ] refl
+
       at : (i : ℕ) → i < length old → get_or new i 0 ≡ get_or (map (counted_in ms start (k + 1)) (range_with_len 0 n)) i 0
       at i below =
           let inside : i < n = omega (arith, below, width) in

@@ -64,7 +64,7 @@ fn period_of(start: u64, moment: Moment) -> Option<u64>
 fn count_in(counts: &mut Vec<u32>, start: u64, moment: Moment)
     ensures len { length counts.new.items ≡ length counts.old.items }
     ensures counted { (i : ℕ) → i < length counts.old.items → slice_index counts.old.items i < 4294967295
-      → slice_index counts.new.items i ≡ slice_index counts.old.items i + (if is_in_period (start + 600 * i) moment then 1 else 0) }
+        → slice_index counts.new.items i ≡ slice_index counts.old.items i + (if is_in_period (start + 600 * i) moment then 1 else 0) }
 {
     if let Some(period) = period_of(start, moment) {
         if period < counts.len() as u64 {
@@ -151,6 +151,56 @@ mod tests {
         assert_eq!(rt; counts.as_slice(), [0, 2, 1, 0].as_slice());
         let none = period_counts(rt.alloc(), events.as_slice(), until, begin)?;
         assert!(rt; none.is_empty());
+        Ok(())
+    }
+
+    /// One of three mixes of events: an alarm that annunciates again and again while another comes and goes, two thousand
+    /// alarms that stay active and annunciate again, and those that come and go in turn.
+    fn mix(alloc: Global, which: u8, count: u64) -> Result<Vec<Event>, Fail> {
+        let mut events = Vec::new(alloc);
+        for i in 0..count {
+            let tag = match which {
+                0 => u64::from(i >= count / 2),
+                _ => i % 2000,
+            };
+            let comes = match which {
+                0 => i < count / 2 || i % 2 == 0,
+                1 => true,
+                _ => i / 2000 % 2 == 0,
+            };
+            events.push(event(alloc, i, tag, comes)?)?;
+        }
+        Ok(events)
+    }
+
+    fn event(alloc: Global, i: u64, tag: u64, comes: bool) -> Result<Event, Fail> {
+        let tag = format!(in alloc; "A-{tag}")?;
+        Ok(Event {
+            seq: Number::new(i.saturating_add(1)).ok_or("number")?,
+            moment: Moment::of_seconds(i).ok_or("moment")?,
+            tag: Tag::read(alloc, tag.as_bytes())?.ok_or("tag")?,
+            kind: if comes {
+                EventKind::Act
+            } else {
+                EventKind::Rtn
+            },
+        })
+    }
+
+    /// 100,000 events in each of the mixes, and a week of periods. The counts are told by a formula of each mix.
+    #[test]
+    fn counts_a_week_of_events(rt: HostRuntime) -> Result<(), Fail> {
+        let begin = Moment::of_seconds(0).ok_or("begin")?;
+        let until = Moment::of_seconds(604_800).ok_or("until")?;
+        for (which, activations) in [(0, 25_001), (1, 2_000), (2, 50_000)] {
+            let events = mix(rt.alloc(), which, 100_000)?;
+            let counts = period_counts(rt.alloc(), events.as_slice(), begin, until)?;
+            let sum = counts
+                .iter()
+                .fold(0u32, |sum, count| sum.wrapping_add(*count));
+            assert_eq!(rt; sum, activations, "mix {which}");
+            assert_eq!(rt; counts.len(), 1008);
+        }
         Ok(())
     }
 }
