@@ -22,6 +22,7 @@ pub mod LegalLaws
 pub mod AgreeLaws
 pub mod EndLaws
 pub mod QuotaLaws
+pub mod ShelfLaws
 pub mod Base
 mod WorkedShelves
 mod WorkedGrants

@@ -1,7 +1,7 @@
 //! What holds of the definitions alone: contracts that stand on empty bodies.
 
 ghost use Rattle.plant_model.specs.ImportLaw.{ImportsAgree};
-ghost use Rattle.plant_model.specs.Laws.{UnseenCallsChangeNothing, CodesAreTheAdministrators, EqualViewsEqualAnswers, CallsToSeenUnits, OthersCallsCanGo, NextWorldsAreLegal, WithoutEndsStandingIsHolding, QuotaOf2000RefusesNothing};
+ghost use Rattle.plant_model.specs.Laws.{UnseenCallsChangeNothing, CodesAreTheAdministrators, EqualViewsEqualAnswers, CallsToSeenUnits, OthersCallsCanGo, NextWorldsAreLegal, WithoutEndsStandingIsHolding, QuotaOf2000RefusesNothing, ShelvesEndByReturns};
 
 /// Isolation: what one person sees of two worlds.
 pub fn two_worlds()
@@ -34,4 +34,9 @@ pub fn largest_quota()
 /// Imports agree: which files bring the rows, and in which order, plays no part.
 pub fn imports_agree()
     ensures { ImportsAgree }
+{}
+
+/// A verdict looks at an alarm's last return alone. It sees the shelf that all returns of the alarm leave.
+pub fn shelves_end_by_returns()
+    ensures { ShelvesEndByReturns }
 {}
