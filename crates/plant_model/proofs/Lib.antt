@@ -23,6 +23,7 @@ pub mod AgreeLaws
 pub mod EndLaws
 pub mod QuotaLaws
 pub mod ShelfLaws
+pub mod OwnLaws
 pub mod Base
 mod WorkedShelves
 mod WorkedGrants

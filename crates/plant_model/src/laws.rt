@@ -1,6 +1,7 @@
 //! What holds of the definitions alone: contracts that stand on empty bodies.
 
 ghost use Rattle.plant_model.specs.ImportLaw.{ImportsAgree};
+ghost use Rattle.plant_model.specs.Openings.{HistoriesAreOwn};
 ghost use Rattle.plant_model.specs.Laws.{UnseenCallsChangeNothing, CodesAreTheAdministrators, EqualViewsEqualAnswers, CallsToSeenUnits, OthersCallsCanGo, NextWorldsAreLegal, WithoutEndsStandingIsHolding, QuotaOf2000RefusesNothing, ShelvesEndByReturns};
 
 /// Isolation: what one person sees of two worlds.
@@ -19,6 +20,11 @@ pub fn purged()
 /// The next world of a world of legal histories is one.
 pub fn histories_stay_legal()
     ensures { NextWorldsAreLegal }
+{}
+
+/// Each unit's history is its own: opened by the administrator, with values of their sets.
+pub fn histories_are_own()
+    ensures { HistoriesAreOwn }
 {}
 
 /// Without ends, what stands is held at every moment.
