@@ -1,7 +1,11 @@
 -- The alarms that are active, one event after another.
 use Rattle.std.proofs.Common.{IfOk, [], ap, append-nil, arith, cond, false, get_or, length, refl, subst, sym, take, true, ◌*◌, ◌++◌, ◌+◌, ◌-◌, ◌/◌, ◌<◌, ◌∙◌, ◌∷◌, ◌≡◌, ◌≤◌}
-use Rattle.std.proofs.lemmas.List.Folds.{list_any-append}
-use Rattle.std.proofs.lemmas.List.FromFn.{map-range_with_len_more}
+use Rattle.std.proofs.lemmas.List.FromFn.{get_or-map-range_with_len, length-map-range_with_len, length-range_with_len}
+use Rattle.std.proofs.lemmas.Simd.{splat_is_map}
+use Rattle.std.proofs.lemmas.List.Sums.{count_by-le-length, count_by_more_no, count_by_more_yes}
+use Rattle.std.proofs.lemmas.List.{ext_get_or, length-take-le}
+use Rattle.std.proofs.Math.ListN.{replicate}
+use Rattle.std.proofs.Common.{add-zero}
 use Rattle.std.proofs.lemmas.List.{length-map, map-append, take_more}
 use Rattle.std.specs.List.{list_any, range_with_len}
 use Rattle.std.specs.Prelude.{Bool, Err, List, Ok, Result, Some, count_by, filter, fold, map, not, option_map, unwrap_or, ℕ, ◌||◌}
@@ -13,6 +17,15 @@ use Rattle.plant_floods.specs.Activations.{AreActive, activations_of_all, is_act
 use Rattle.plant_types.proofs.Orders.{same_names}
 use Rattle.plant_types.proofs.TableLaws.{tied}
 use Rattle.plant_types.specs.Names.{Name, same_name}
+use Rattle.std.specs.BTreeSet.{BTreeSet, UpdatesBy, btree_set_len, contains}
+use Rattle.std.specs.BTreeMap.{is_at}
+use Rattle.std.specs.Cmp.{eq_by_cmp_equiv}
+use Rattle.std.specs.Cmp.Lexicographic.{nat_list_cmp_total}
+use Rattle.std.proofs.lemmas.Bool.Decides.{leb_tells, eqb_tells}
+use Rattle.std.proofs.Math.Nat.{div-mul-le_self, lt-mul-div-succ}
+use Rattle.std.specs.Prelude.{nat_eq}
+use Rattle.plant_types.specs.Names.{name_cmp}
+use Rattle.std.proofs.Common.{lit<, suc, ℕ}
 
 or_false : (b : Bool) → (b || false) ≡ b
 or_false true = refl
@@ -40,67 +53,44 @@ active_of a es e =
       | false ↦ ap is_active (append-nil (of_alarm a es))
     ]
 
--- an activation puts its tag, a return takes it out, another event leaves the tags
-pub activated : (tags : List Name) (es : List Event) (e : Event) → is_act e ≡ true → AreActive tags es → AreActive (tags ++ e.tag ∷ []) (es ++ e ∷ [])
-activated tags es e act are a =
-    list_any-append (same_name a) tags (e.tag ∷ [])
-    ∙ (λ i. are a i || (same_name a e.tag || false))
-    ∙ elim (same_name a e.tag) as (λ b. (is_active (of_alarm a es) || (b || false)) ≡ cond b true (is_active (of_alarm a es))) [
-      | true ↦ or_true (is_active (of_alarm a es))
-      | false ↦ or_false (is_active (of_alarm a es))
-    ]
-    ∙ (λ i. cond (same_name a e.tag) (cond (sym act i || is_rtn e) (sym act i) (is_active (of_alarm a es))) (is_active (of_alarm a es)))
-    ∙ sym (active_of a es e) where
-      or_true : (b : Bool) → (b || true) ≡ true
-      or_true true = refl
-      or_true false = refl
-
--- a tag that is taken out
-taken_out : (a b : Name) (tags : List Name) → list_any (same_name a) (filter (λ t. not (same_name b t)) tags) ≡ cond (same_name a b) false (list_any (same_name a) tags)
-taken_out a b [] = elim (same_name a b) as (λ s. false ≡ cond s false false) [ true ↦ refl | false ↦ refl ]
-taken_out a b (t ∷ tags) =
-    elim (same_name b t) as (λ s. same_name b t ≡ s → list_any (same_name a) (cond (not s) (t ∷ filter (λ t. not (same_name b t)) tags) (filter (λ t. not (same_name b t)) tags)) ≡ cond (same_name a b) false (same_name a t || list_any (same_name a) tags)) [
-      | true ↦ λ is. taken_out a b tags ∙ ap (λ s. cond s false (list_any (same_name a) tags)) (refl)
-          ∙ elim (same_name a b) as (λ s. same_name a b ≡ s → cond s false (list_any (same_name a) tags) ≡ cond s false (same_name a t || list_any (same_name a) tags)) [
-            | true ↦ λ _. refl
-            | false ↦ λ other. ap (λ x. x || list_any (same_name a) tags) (sym (ap (same_name a) (sym (same_of b t is)) ∙ other))
-          ] refl
-      | false ↦ λ other. ap (λ x. same_name a t || x) (taken_out a b tags)
-          ∙ elim (same_name a b) as (λ s. same_name a b ≡ s → (same_name a t || cond s false (list_any (same_name a) tags)) ≡ cond s false (same_name a t || list_any (same_name a) tags)) [
-            | true ↦ λ is. ap (λ x. x || false) (ap (λ x. same_name x t) (same_of a b is) ∙ other)
-            | false ↦ λ _. refl
-          ] refl
-    ] refl where
-      same_of : (x y : Name) → same_name x y ≡ true → x ≡ y
-      same_of x y e = same_names x y (tied _ true e refl)
-
-pub returned : (tags : List Name) (es : List Event) (e : Event) → is_rtn e ≡ true → is_act e ≡ false → AreActive tags es → AreActive (filter (λ t. not (same_name e.tag t)) tags) (es ++ e ∷ [])
-returned tags es e rtn act are a =
-    taken_out a e.tag tags
-    ∙ (λ i. cond (same_name a e.tag) false (are a i))
-    ∙ (λ i. cond (same_name a e.tag) (cond (sym act i || sym rtn i) (sym act i) (is_active (of_alarm a es))) (is_active (of_alarm a es)))
+-- an activation puts its tag into the set, a return takes it out
+pub moved : (s n : BTreeSet Name) (es : List Event) (e : Event) (k : Name) (b : Bool) → k ≡ e.tag → UpdatesBy name_cmp (name_cmp k) s n b → (is_act e || is_rtn e) ≡ true → b ≡ is_act e → AreActive s es → AreActive n (es ++ e ∷ [])
+moved s n es e k b own new moves is are a =
+    new.0 a
+    ∙ (λ i. cond ((ap (λ x. same_name x a) own ∙ (eq_by_cmp_equiv nat_list_cmp_total).symm e.tag a) i) (is i) (are a i))
+    ∙ (λ i. cond (same_name a e.tag) (cond (sym moves i) (is_act e) (is_active (of_alarm a es))) (is_active (of_alarm a es)))
     ∙ sym (active_of a es e)
 
-pub unmoved : (tags : List Name) (es : List Event) (e : Event) → is_act e ≡ false → is_rtn e ≡ false → AreActive tags es → AreActive tags (es ++ e ∷ [])
-unmoved tags es e act rtn are a =
+-- any other event leaves the set
+pub unmoved : (s : BTreeSet Name) (es : List Event) (e : Event) → is_act e ≡ false → is_rtn e ≡ false → AreActive s es → AreActive s (es ++ e ∷ [])
+unmoved s es e act rtn are a =
     are a
-    ∙ elim (same_name a e.tag) as (λ s. is_active (of_alarm a es) ≡ cond s (is_active (of_alarm a es)) (is_active (of_alarm a es))) [ true ↦ refl | false ↦ refl ]
+    ∙ elim (same_name a e.tag) as (λ b. is_active (of_alarm a es) ≡ cond b (is_active (of_alarm a es)) (is_active (of_alarm a es))) [ true ↦ refl | false ↦ refl ]
     ∙ (λ i. cond (same_name a e.tag) (cond (sym act i || sym rtn i) (sym act i) (is_active (of_alarm a es))) (is_active (of_alarm a es)))
     ∙ sym (active_of a es e)
 
-pub none_active : (a : Name) → list_any (same_name a) [] ≡ is_active (of_alarm a [])
-none_active a = refl
+-- an ACT of an alarm that is active leaves the set too
+pub still_active : (s : BTreeSet Name) (es : List Event) (e : Event) → is_act e ≡ true → contains name_cmp s e.tag ≡ true → AreActive s es → AreActive s (es ++ e ∷ [])
+still_active s es e act has are a =
+    are a
+    ∙ elim (same_name a e.tag) as (λ b. same_name a e.tag ≡ b → is_active (of_alarm a es) ≡ cond b true (is_active (of_alarm a es))) [
+      | true ↦ λ same. ap (λ x. is_active (of_alarm x es)) (same_names a e.tag (tied _ true same refl)) ∙ sym (are e.tag) ∙ has
+      | false ↦ λ _. refl
+    ] refl
+    ∙ (λ i. cond (same_name a e.tag) (cond (sym act i || is_rtn e) (sym act i) (is_active (of_alarm a es))) (is_active (of_alarm a es)))
+    ∙ sym (active_of a es e)
 
-pub returned_at : (tags left : List Name) (es : List Event) (e : Event) → e.kind ≡ Rtn → left ≡ filter (λ t. not (same_name e.tag t)) tags → AreActive tags es → AreActive left (es ++ e ∷ [])
-returned_at tags left es e kind is are a =
-    ap (list_any (same_name a)) is ∙ returned tags es e (rw kind refl) (rw kind refl) are a
+pub none_active : (s : BTreeSet Name) → btree_set_len s ≡ 0 → AreActive s []
+none_active s none a = elim s.keys as (λ ks. length ks ≡ 0 → list_any (is_at (name_cmp a)) ks ≡ false) [ [] ↦ λ _. refl | k ∷ ks ↦ λ e. absurd (no_more (length ks) e) ] none where
+  no_more : (n : ℕ) → suc n ≡ 0 → ⊥
+  no_more n e = omega (arith, e)
 
 -- the events up to one, and that one
 taken_more : (events : List Event) (i : ℕ) (e : Event) → i < length events → e ≡ get_or events i e → take (i + 1) events ≡ take i events ++ e ∷ []
 taken_more events i e lt is = take_more events i e lt ∙ ap (λ x. take i events ++ x ∷ []) (sym is)
 
-pub active_more : (tags : List Name) (events : List Event) (i : ℕ) (e : Event) → i < length events → e ≡ get_or events i e → AreActive tags (take i events ++ e ∷ []) → AreActive tags (take (i + 1) events)
-active_more tags events i e lt is are = subst (AreActive tags) (sym (taken_more events i e lt is)) are
+pub active_more : (s : BTreeSet Name) (events : List Event) (i : ℕ) (e : Event) → i < length events → e ≡ get_or events i e → AreActive s (take i events ++ e ∷ []) → AreActive s (take (i + 1) events)
+active_more s events i e lt is are = subst (AreActive s) (sym (taken_more events i e lt is)) are
 
 pub moments_more : (events : List Event) (i : ℕ) (e : Event) (b : Bool) (old new : List ℕ) → i < length events → e ≡ get_or events i e → b ≡ is_activation_of (take i events) e
     → old ≡ map (λ e. e.moment) (activations_of_all (take i events)) → new ≡ old ++ cond b (e.moment ∷ []) [] → new ≡ map (λ e. e.moment) (activations_of_all (take (i + 1) events))
@@ -111,6 +101,46 @@ moments_more events i e b old new lt is tells so_far grown =
     ∙ ap (λ c. map (λ (x : Event). x.moment) (activations_of_all (take i events) ++ cond c (e ∷ []) [])) tells
     ∙ ap (map (λ (x : Event). x.moment)) (sym (passing-push is_activation_of [] (take i events) e))
     ∙ ap (λ l. map (λ (x : Event). x.moment) (activations_of_all l)) (sym (taken_more events i e lt is))
+
+-- of the first moments, those in a period
+abbrev counted_in : List ℕ → ℕ → ℕ → ℕ → ℕ
+counted_in ms start j i = count_by (λ m. is_in_period (start + 600 * i) m) (take j ms)
+
+-- one moment more: each period's count grows by the moment's
+pub counted_more : (ms old new : List ℕ) (start n k m d : ℕ) → k < length ms → m ≡ get_or ms k d → length ms ≤ 4294967295
+    → length new ≡ length old
+    → ((i : ℕ) → i < length old → get_or old i 0 < 4294967295 → get_or new i 0 ≡ get_or old i 0 + cond (is_in_period (start + 600 * i) m) 1 0)
+    → old ≡ map (λ i. count_by (λ m. is_in_period (start + 600 * i) m) (take k ms)) (range_with_len 0 n)
+    → new ≡ map (λ i. count_by (λ m. is_in_period (start + 600 * i) m) (take (k + 1) ms)) (range_with_len 0 n)
+counted_more ms old new start n k m d lt is few long grown so_far =
+    ext_get_or 0 new (map (counted_in ms start (k + 1)) (range_with_len 0 n))
+    (long ∙ width ∙ sym (length-map-range_with_len (counted_in ms start (k + 1)) 0 n))
+    (λ i below. at i (let b : i < length old = omega (arith, below, long) in b)) where
+      width : length old ≡ n
+      width = ap (λ l. length l) so_far ∙ length-map-range_with_len (counted_in ms start k) 0 n
+
+      old_at : (i : ℕ) → i < n → get_or old i 0 ≡ counted_in ms start k i
+      old_at i lt = ap (λ l. get_or l i 0) so_far ∙ get_or-map-range_with_len (counted_in ms start k) 0 n i i 0 lt (omega arith)
+
+      few_at : (i : ℕ) → counted_in ms start k i < 4294967295
+      few_at i = let le = count_by-le-length (λ m. is_in_period (start + 600 * i) m) (take k ms) in let short = length-take-le k ms (let w : k ≤ length ms = omega (arith, lt) in w) in omega (arith, le, short, lt, few)
+
+      step : (i : ℕ) → counted_in ms start (k + 1) i ≡ counted_in ms start k i + cond (is_in_period (start + 600 * i) m) 1 0
+      step i = elim (is_in_period (start + 600 * i) m) as (λ b. is_in_period (start + 600 * i) m ≡ b → counted_in ms start (k + 1) i ≡ counted_in ms start k i + cond b 1 0) [
+        | true ↦ λ e. count_by_more_yes (λ m. is_in_period (start + 600 * i) m) ms k d lt (ap (is_in_period (start + 600 * i)) (sym is) ∙ e)
+        | false ↦ λ e. count_by_more_no (λ m. is_in_period (start + 600 * i) m) ms k d lt (ap (is_in_period (start + 600 * i)) (sym is) ∙ e) ∙ sym (add-zero (counted_in ms start k i))
+      ] refl
+
+      at : (i : ℕ) → i < length old → get_or new i 0 ≡ get_or (map (counted_in ms start (k + 1)) (range_with_len 0 n)) i 0
+      at i below =
+          let inside : i < n = omega (arith, below, width) in
+          let is_old = old_at i inside in
+          let small : get_or old i 0 < 4294967295 = (let f = few_at i in omega (arith, f, is_old)) in
+          grown i below small ∙ ap (λ x. x + cond (is_in_period (start + 600 * i) m) 1 0) is_old ∙ sym (step i) ∙ sym (get_or-map-range_with_len (counted_in ms start (k + 1)) 0 n i i 0 inside (omega arith))
+
+-- none so far
+pub counted_none : (ms zeros : List ℕ) (start n : ℕ) → zeros ≡ replicate n 0 → zeros ≡ map (λ i. count_by (λ m. is_in_period (start + 600 * i) m) (take 0 ms)) (range_with_len 0 n)
+counted_none ms zeros start n is = is ∙ splat_is_map (range_with_len 0 n) n 0 (length-range_with_len 0 n)
 
 -- no more activations than events
 few_passing : (test : List Event → Event → Bool) (before es : List Event) → length (passing test before es) ≤ length es
@@ -126,9 +156,12 @@ fold_mapped p a (e ∷ es) = fold_mapped p (a + cond (p e.moment) 1 0) es
 count_mapped : (p : ℕ → Bool) (es : List Event) → count_by p (map (λ e. e.moment) es) ≡ count_by (λ e. p e.moment) es
 count_mapped p es = fold_mapped p 0 es
 
-pub counts_more : (f : ℕ → ℕ) (counts new : List ℕ) (i n : ℕ) → counts ≡ map f (range_with_len 0 i) → n ≡ f i → new ≡ counts ++ n ∷ [] → new ≡ map f (range_with_len 0 (i + 1))
-counts_more f counts new i n so_far next grown =
-    grown ∙ (λ k. so_far k ++ next k ∷ []) ∙ sym (map-range_with_len_more f 0 i i (let e : 0 + i ≡ i = omega arith in e))
+-- the period of a moment: its own, and no other
+in_own : (start m i : ℕ) → start ≤ m → is_in_period (start + 600 * i) m ≡ nat_eq i ((m - start) / 600)
+in_own start m i le =
+    let low : (m - start) / 600 * 600 ≤ m - start = div-mul-le_self (m - start) 600 in
+    let high : m - start < 600 * ((m - start) / 600 + 1) = lt-mul-div-succ (m - start) (lit< tt) in
+    grind (arith, low, high, leb_tells (start + 600 * i) m, leb_tells (suc m) (start + 600 * i + 600), eqb_tells i ((m - start) / 600))
 
 pub few_moments : (es : List Event) (moments : List ℕ) → moments ≡ map (λ e. e.moment) (activations_of_all es) → length es ≤ 4294967295 → length moments ≤ 4294967295
 few_moments es moments is few =

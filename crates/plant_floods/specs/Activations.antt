@@ -1,9 +1,10 @@
 -- The activations of all alarms of a unit (ISA-18.2: alarm rate), and how many there are in each period of ten minutes.
-use Rattle.std.specs.List.{list_any, range_with_len}
+use Rattle.std.specs.BTreeSet.{BTreeSet, contains}
+use Rattle.std.specs.List.{range_with_len}
 use Rattle.std.specs.Prelude.{Bool, List, [], count_by, filter, map, nat_le, nat_lt, ℕ, ◌&&◌, ◌*◌, ◌+◌, ◌-◌, ◌/◌, ◌≡◌}
 use Rattle.plant_alarm.specs.declared.event.Event.{Event}
 use Rattle.plant_alarm.specs.States.{is_activation, is_active, passing}
-use Rattle.plant_types.specs.Names.{Name, same_name}
+use Rattle.plant_types.specs.Names.{Name, name_cmp, same_name}
 
 -- the events of one alarm
 abbrev pub of_alarm : Name → List Event → List Event
@@ -29,5 +30,5 @@ abbrev pub period_counts : List Event → ℕ → ℕ → List ℕ
 period_counts es begin until = map (λ i. activations_from es (begin + 600 * i)) (range_with_len 0 ((until - begin) / 600))
 
 -- the tags are those of the alarms that are active after these events
-abbrev pub AreActive : List Name → List Event → Type 0
-AreActive tags es = (a : Name) → list_any (same_name a) tags ≡ is_active (of_alarm a es)
+abbrev pub AreActive : BTreeSet Name → List Event → Type 0
+AreActive tags es = (a : Name) → contains name_cmp tags a ≡ is_active (of_alarm a es)

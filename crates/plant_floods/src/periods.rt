@@ -1,8 +1,8 @@
 //! The activations of all alarms, from their events in rising number.
 
-ghost use Rattle.std.specs.Prelude.{◌≡◌, ◌≤◌, ◌+◌, ◌*◌, ◌++◌, ◌∷◌, [], ℕ, List, IfErr, IfOk, OnOk, count_by, filter, length, map, not};
-ghost use Rattle.std.specs.List.{list_any, range_with_len};
-ghost use Rattle.plant_types.specs.Names.{same_name};
+ghost use Rattle.std.specs.Prelude.{◌≡◌, ◌≤◌, ◌<◌, ◌+◌, ◌-◌, ◌*◌, ◌/◌, ◌++◌, ◌∷◌, [], ℕ, List, IfErr, IfOk, OnOk, count_by, if◌then◌else◌, length, map, nat_le, slice_index};
+ghost use Rattle.std.specs.List.{range_with_len};
+ghost use Rattle.plant_types.specs.Options.{when};
 ghost use Rattle.plant_types.specs.declared.fault.Fault.TheVariants.{Memory};
 ghost use Rattle.plant_alarm.specs.declared.event.Event.{Event as TheEvent};
 ghost use Rattle.plant_floods.specs.Activations.{AreActive, activations_of_all, is_activation_of, is_in_period};
@@ -11,43 +11,30 @@ ghost use Rattle.plant_floods.specs.Activations as activations;
 use plant_alarm::{Event, EventKind};
 use plant_types::{Fault, Moment, Table, Tag};
 use std::alloc::Global;
+use std::collections::BTreeSet;
 
-fn is_there(tags: &[Tag], tag: &Tag) -> bool
-    ensures { result ≡ list_any (same_name tag.now) tags.now }
-{
-    tags.iter().any(|other| *tag == *other)
-}
-
-/// The tags without this one.
-fn without(tags: Table<Tag>, tag: &Tag) -> Table<Tag>
-    ensures { result ≡ filter (λ t. not (same_name tag.now t)) tags }
-{
-    let mut left = tags.into_vec();
-    left.retain(|other| *tag != *other);
-    Table::from_vec(left)
-}
-
-/// The tags of the active alarms after one more event.
-fn after_event(alloc: Global, active: Table<Tag>, event: &Event) -> Result<Table<Tag>, Fault>
-    ensures value { (before : List TheEvent) → AreActive active before → IfOk result (λ tags. AreActive tags (before ++ event.now ∷ [])) }
+/// Whether the event is an activation, where `active` has the tags of the alarms that are active before it; it then has
+/// those that are active after it.
+fn is_activation(alloc: Global, active: &mut BTreeSet<Tag>, event: &Event) -> Result<bool, Fault>
+    ensures value { (before : List TheEvent) → AreActive active.old before → IfOk result (λ b. b ≡ is_activation_of before event.now) }
+    ensures active { (before : List TheEvent) → AreActive active.old before → OnOk result (AreActive active.new (before ++ event.now ∷ [])) }
     ensures err { IfErr result (λ e. e ≡ Memory) }
 {
     match event.kind {
         EventKind::Act => {
-            let mut tags = active;
-            tags.push(event.tag.copy(alloc)?)?;
-            Ok(tags)
+            if active.contains(&event.tag) {
+                return Ok(false);
+            }
+            let tag = event.tag.copy(alloc)?;
+            active.insert(tag)?;
+            Ok(true)
         }
-        EventKind::Rtn => Ok(without(active, &event.tag)),
-        _ => Ok(active),
+        EventKind::Rtn => {
+            active.remove(&event.tag);
+            Ok(false)
+        }
+        _ => Ok(false),
     }
-}
-
-/// Whether the event is an activation, where these alarms are active before it.
-fn is_activation(active: &[Tag], event: &Event) -> bool
-    ensures { (before : List TheEvent) → AreActive active.now before → result ≡ is_activation_of before event.now }
-{
-    matches!(event.kind, EventKind::Act) && !is_there(active, &event.tag)
 }
 
 /// The moments of the activations of all alarms. The events stand in rising number.
@@ -55,35 +42,35 @@ pub fn activations(alloc: Global, events: &[Event]) -> Result<Table<Moment>, Fau
     ensures value { IfOk result (λ moments. moments ≡ map (λ e. e.moment) (activations_of_all events.now)) }
     ensures err { IfErr result (λ e. e ≡ Memory) }
 {
-    let mut active = Table::new(alloc);
+    let mut active = BTreeSet::new(alloc);
     let mut moments = Table::new(alloc);
     for event in events {
-        if is_activation(active.as_slice(), event) {
+        if is_activation(alloc, &mut active, event)? {
             moments.push(event.moment)?;
         }
-        active = after_event(alloc, active, event)?;
     }
     Ok(moments)
 }
 
-fn is_in_period(start: u64, moment: Moment) -> bool
-    requires { start ≤ 9223372036854775807 }
-    ensures { result ≡ activations.is_in_period start moment }
+/// The number of the period of ten minutes in which the moment lies, counted from a second on.
+fn period_of(start: u64, moment: Moment) -> Option<u64>
+    ensures { result ≡ when (nat_le start moment) ((moment - start) / 600) }
 {
-    let seconds = moment.seconds();
-    start <= seconds && seconds < start + 600
+    let after = moment.seconds().checked_sub(start)?;
+    Some(after / 600)
 }
 
-/// How many of the moments lie in the ten minutes from a second on; 4,294,967,295 where there are more.
-fn count_from(moments: &[Moment], start: u64) -> u32
-    requires { start ≤ 9223372036854775807 }
-    ensures { length moments.now ≤ 4294967295 → result ≡ count_by (λ m. activations.is_in_period start m) moments.now }
+/// Counts the moment in its period, if that is one of these.
+fn count_in(counts: &mut Vec<u32>, start: u64, moment: Moment)
+    ensures len { length counts.new.items ≡ length counts.old.items }
+    ensures counted { (i : ℕ) → i < length counts.old.items → slice_index counts.old.items i < 4294967295
+        → slice_index counts.new.items i ≡ slice_index counts.old.items i + (if is_in_period (start + 600 * i) moment then 1 else 0) }
 {
-    let count = moments
-        .iter()
-        .filter(|moment| is_in_period(start, **moment))
-        .count();
-    u32::try_from(count).unwrap_or(u32::MAX)
+    if let Some(period) = period_of(start, moment) {
+        if period < counts.len() as u64 {
+            counts[period as usize] = counts[period as usize].saturating_add(1);
+        }
+    }
 }
 
 /// How many of the moments lie in each of some periods of ten minutes, the first of which begins at a second.
@@ -93,13 +80,12 @@ fn counts_from(
     start: u64,
     periods: u64,
 ) -> Result<Vec<u32>, Fault>
-    requires { start + 600 * periods ≤ 9223372036854775807 }
-    ensures value { length moments.now ≤ 4294967295 → IfOk result (λ counts. counts.items ≡ map (λ i. count_by (λ m. activations.is_in_period (start + 600 * i) m) moments.now) (range_with_len 0 periods)) }
+    ensures value { length moments.now ≤ 4294967295 → IfOk result (λ counts. counts.items ≡ map (λ i. count_by (λ m. is_in_period (start + 600 * i) m) moments.now) (range_with_len 0 periods)) }
     ensures err { IfErr result (λ e. e ≡ Memory) }
 {
-    let mut counts = Vec::new(alloc);
-    for i in 0..periods {
-        counts.push(count_from(moments, start + 600 * i))?;
+    let mut counts = vec![in alloc; 0u32; periods as usize]?;
+    for moment in moments {
+        count_in(&mut counts, start, *moment);
     }
     Ok(counts)
 }
@@ -165,6 +151,56 @@ mod tests {
         assert_eq!(rt; counts.as_slice(), [0, 2, 1, 0].as_slice());
         let none = period_counts(rt.alloc(), events.as_slice(), until, begin)?;
         assert!(rt; none.is_empty());
+        Ok(())
+    }
+
+    /// One of three mixes of events: an alarm that annunciates again and again while another comes and goes, two thousand
+    /// alarms that stay active and annunciate again, and those that come and go in turn.
+    fn mix(alloc: Global, which: u8, count: u64) -> Result<Vec<Event>, Fail> {
+        let mut events = Vec::new(alloc);
+        for i in 0..count {
+            let tag = match which {
+                0 => u64::from(i >= count / 2),
+                _ => i % 2000,
+            };
+            let comes = match which {
+                0 => i < count / 2 || i % 2 == 0,
+                1 => true,
+                _ => i / 2000 % 2 == 0,
+            };
+            events.push(event(alloc, i, tag, comes)?)?;
+        }
+        Ok(events)
+    }
+
+    fn event(alloc: Global, i: u64, tag: u64, comes: bool) -> Result<Event, Fail> {
+        let tag = format!(in alloc; "A-{tag}")?;
+        Ok(Event {
+            seq: Number::new(i.saturating_add(1)).ok_or("number")?,
+            moment: Moment::of_seconds(i).ok_or("moment")?,
+            tag: Tag::read(alloc, tag.as_bytes())?.ok_or("tag")?,
+            kind: if comes {
+                EventKind::Act
+            } else {
+                EventKind::Rtn
+            },
+        })
+    }
+
+    /// 100,000 events in each of the mixes, and a week of periods. The counts are told by a formula of each mix.
+    #[test]
+    fn counts_a_week_of_events(rt: HostRuntime) -> Result<(), Fail> {
+        let begin = Moment::of_seconds(0).ok_or("begin")?;
+        let until = Moment::of_seconds(604_800).ok_or("until")?;
+        for (which, activations) in [(0, 25_001), (1, 2_000), (2, 50_000)] {
+            let events = mix(rt.alloc(), which, 100_000)?;
+            let counts = period_counts(rt.alloc(), events.as_slice(), begin, until)?;
+            let sum = counts
+                .iter()
+                .fold(0u32, |sum, count| sum.wrapping_add(*count));
+            assert_eq!(rt; sum, activations, "mix {which}");
+            assert_eq!(rt; counts.len(), 1008);
+        }
         Ok(())
     }
 }

@@ -21,7 +21,7 @@ use Rattle.plant_model.specs.Events.{events}
 use Rattle.plant_model.specs.Facts.{facts}
 use Rattle.plant_model.specs.Grants.{held}
 use Rattle.plant_model.specs.Histories.{last_moment}
-use Rattle.plant_model.specs.ImportLaw.{AreAccepted, AreImportsInto, ImportsAgree, but_last, new_counted, rows_imported, through}
+use Rattle.plant_model.specs.ImportLaw.{AreAccepted, AreImportsInto, ImportsAgree, but_last, new_counted, new_in, rows_imported, through}
 use Rattle.plant_model.specs.Legality.{IsLegal}
 use Rattle.plant_model.specs.Refusals.{fault_entries, first_refusal, holds_some, tags_of}
 use Rattle.plant_model.specs.Replies.{import_reply}
@@ -106,7 +106,7 @@ module _ (h : List Call) (u : Name) (all : List Event) (fit : is_fit all ≡ tru
   none_ahead_of t rows le within = all_from (λ e. not (nat_lt t e.moment)) rows (λ e there. none_later t e (all_member (λ x. nat_le x.moment t) all e le (within e there)))
 
   -- what an import that meets no refusal is answered
-  no_refusal : (a b c d : Bool) (x y z v : Refused) (fault : Option BadFile) (r : Reply) → a ≡ false → b ≡ false → c ≡ false → d ≡ false → fault ≡ None → (is_ok (refused_or (first_refusal ((a, x) ∷ (b, y) ∷ (c, z) ∷ (d, v) ∷ fault_entries fault)) r) && true) ≡ true
+  no_refusal : (a b c d : Bool) (x y z v : Refused) (fault : Option BadFile) (r : Reply) → a ≡ false → b ≡ false → c ≡ false → d ≡ false → fault ≡ None → refused_or (first_refusal ((a, x) ∷ (b, y) ∷ (c, z) ∷ (d, v) ∷ fault_entries fault)) r ≡ Ok r
   no_refusal false false false false x y z v None r ha hb hc hd none = refl
   no_refusal true b c d x y z v fault r ha hb hc hd none = cc
   no_refusal false true c d x y z v fault r ha hb hc hd none = cc
@@ -130,13 +130,19 @@ module _ (h : List Call) (u : Name) (all : List Event) (fit : is_fit all ≡ tru
     clean : first_fault (tags_of (facts g)) t 2 (events g) rows ≡ None
     clean = no_fault (tags_of (facts g)) t 2 all (events g) rows (known_tags g rows reached.latching_still known) (none_ahead_of t rows not_ahead within) fit reached.inside within
 
-    accepted : changes_history (verdict g next_one) next_one ≡ true
-    accepted =
+    answered : verdict g next_one ≡ Ok (import_reply (events g) rows)
+    answered =
         let role : held g t (p, Operator) ≡ true = reached.held_still t (p, Operator) ∙ operator in
         no_refusal (not (holds_some (facts g) t p)) (not (held g t (p, Operator))) (nat_lt t (last_moment g)) (nat_lt 100000 (length (events g) + length (new_numbers (events g) rows)))
         NotGranted (RoleLacking Operator) (MomentBehind (last_moment g)) (UnitFull TooManyEvents) (first_fault (tags_of (facts g)) t 2 (events g) rows) (import_reply (events g) rows)
         (turned_off (holds_some (facts g) t p) (some_role g t p role)) (turned_off (held g t (p, Operator)) role) (at_least (last_moment g) t behind)
         (ap (λ n. nat_lt 100000 (length (events g) + n)) (sym (fresh_count (tags_of (facts g)) t 2 (events g) rows clean)) ∙ at_least (length (events g) + length (fresh (events g) rows)) 100000 room) clean
+
+    accepted : changes_history (verdict g next_one) next_one ≡ true
+    accepted = ap (λ s. changes_history s next_one) answered
+
+    counted_one : new_in (verdict g next_one) ≡ length (fresh (events g) rows)
+    counted_one = ap new_in answered
 
     legal_next : IsLegal (next_one ∷ g)
     legal_next = followed g next_one reached.legal accepted refl
@@ -190,13 +196,14 @@ module _ (h : List Call) (u : Name) (all : List Event) (fit : is_fit all ≡ tru
       let here : length (events g) + length (fresh (events g) rows) ≤ 100000 = omega (arith, room, split) in
       let same = same_after g reached c.person c.moment v rows one.operator one.known one.not_ahead le own here in
       let alike : length (fresh (events (asking c (Import v (Ok rows)) ∷ g)) rest) ≡ length (fresh (events g ++ rows) rest) = ap (λ l. length l) (fresh_alike (events (asking c (Import v (Ok rows)) ∷ g)) (events g ++ rows) rest same) in
+      let counted = counted_one g reached c.person c.moment v rows one.operator one.known one.not_ahead le own here in
       let few = no_more_after g reached c.person c.moment v rows one.operator one.known one.not_ahead le own here in
       let more = on (asking c (Import v (Ok rows)) ∷ g) (reached_next g reached c.person c.moment v rows one.operator one.known one.not_ahead le own here) c.moment (omega arith) imports.2 (back_within rows rest all within) (omega (arith, few, alike, split, room)) in
       record {
         accepted_each = (accepted g reached c.person c.moment v rows one.operator one.known one.not_ahead le own here, more.accepted_each);
         reached_last = more.reached_last;
         members_last = λ e. more.members_last e ∙ same_more (events (asking c (Import v (Ok rows)) ∷ g)) (events g ++ rows) rest same e ∙ ap (member e) (append_assoc (events g) rows rest);
-        counted_new = ap (λ n. length (fresh (events g) rows) + n) (more.counted_new ∙ alike) ∙ sym split;
+        counted_new = (λ i. counted i + (more.counted_new ∙ alike) i) ∙ sym split;
         rows_last = more.rows_last;
       }
   goes_one calls on c (Import v (Err fault)) g reached t behind imports within room = absurd imports.0.import

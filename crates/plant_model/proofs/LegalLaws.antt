@@ -24,12 +24,12 @@ opening_of true false c e = refl
 opening_of false taken c e = cc
 
 -- an accepted changing call on a code that was never opened is an opening
-first_entry : (by_admin taken opens : Bool) (c : Call) → is_opening c.request ≡ opens → changes_history (if opens then opening by_admin taken else verdict [] c) c ≡ true → is_opening c.request ≡ true
+pub first_entry : (by_admin taken opens : Bool) (c : Call) → is_opening c.request ≡ opens → changes_history (if opens then opening by_admin taken else verdict [] c) c ≡ true → is_opening c.request ≡ true
 first_entry by_admin taken true c is e = is
 first_entry by_admin taken false c is e = absurd (let no : true ≡ false = sym e ∙ no_change [] c refl in cc)
 
 -- and one on a unit that is there is no opening
-later_entry : (by_admin opens : Bool) (h : List Call) (c : Call) → is_opening c.request ≡ opens → changes_history (if opens then opening by_admin true else verdict h c) c ≡ true → may_follow h c ≡ true
+pub later_entry : (by_admin opens : Bool) (h : List Call) (c : Call) → is_opening c.request ≡ opens → changes_history (if opens then opening by_admin true else verdict h c) c ≡ true → may_follow h c ≡ true
 later_entry by_admin true h c is e = absurd (let no : true ≡ false = opening_of by_admin true c e in cc)
 later_entry by_admin false h c is e = ap (λ b. not b && changes_history (verdict h c) c) is ∙ e
 

@@ -22,6 +22,8 @@ pub mod LegalLaws
 pub mod AgreeLaws
 pub mod EndLaws
 pub mod QuotaLaws
+pub mod ShelfLaws
+pub mod OwnLaws
 pub mod Base
 mod WorkedShelves
 mod WorkedGrants

@@ -215,7 +215,7 @@ choose false x y z f g = g refl
 opening_by_other : (taken : Bool) (c : Call) → changes_history (opening false taken) c ≡ true → ⊥
 opening_by_other taken c t = cc
 
-opening_changes : (admin taken : Bool) (c : Call) → changes_history (opening admin taken) c ≡ true → (admin ≡ true) × (taken ≡ false)
+pub opening_changes : (admin taken : Bool) (c : Call) → changes_history (opening admin taken) c ≡ true → (admin ≡ true) × (taken ≡ false)
 opening_changes true true c t = cc
 opening_changes true false c t = (refl, refl)
 opening_changes false taken c t = cc

@@ -10,6 +10,9 @@ use Rattle.plant_model.specs.Legality.{IsLegal}
 use Rattle.plant_model.specs.Rows.{rows_of}
 use Rattle.plant_model.specs.Verdicts.{changes_history, verdict}
 use Rattle.plant_model.specs.declared.call.Call.{Call}
+use Rattle.plant_model.specs.declared.reply.Refused.{Refused}
+use Rattle.plant_model.specs.declared.reply.Reply.{Reply}
+use Rattle.plant_model.specs.declared.reply.Reply.TheVariants.{Imported}
 use Rattle.plant_model.specs.declared.call.Request.{Request}
 use Rattle.plant_model.specs.declared.call.Request.TheVariants.{Import}
 use Rattle.plant_model.specs.declared.rows.UnitRow.{UnitRow}
@@ -17,7 +20,7 @@ use Rattle.plant_model.specs.declared.rows.UnitRows.{UnitRows}
 use Rattle.plant_types.specs.Names.{Name}
 use Rattle.plant_types.specs.declared.role.Role.TheVariants.{Operator}
 use Rattle.std.specs.List.{flat_map, list_all}
-use Rattle.std.specs.Prelude.{List, Ok, [], is_some, length, map, nat_le, true, ℕ, ◌++◌, ◌+◌, ◌∷◌, ◌≡◌, ◌≤◌}
+use Rattle.std.specs.Prelude.{List, Ok, Result, [], is_some, length, map, nat_le, true, ℕ, ◌++◌, ◌+◌, ◌∷◌, ◌≡◌, ◌≤◌}
 
 -- the rows that calls import, the calls' oldest first
 abbrev pub rows_imported : List Call → List Event
@@ -49,17 +52,22 @@ abbrev pub AreAccepted : List Call → List Call → Type 0
 AreAccepted h [] = Unit {0}
 AreAccepted h (c ∷ calls) = (changes_history (verdict h c) c ≡ true) × AreAccepted (c ∷ h) calls
 
--- how many new rows the calls count, one after another
+-- how many rows an answer says were new
+abbrev pub new_in : Result Reply Refused → ℕ
+new_in (Ok (Imported new repeated)) = new
+new_in _ = 0
+
+-- how many rows the answers to calls say were new, one call after another
 abbrev pub new_counted : List Call → List Call → ℕ
 new_counted h [] = 0
-new_counted h (c ∷ calls) = length (fresh (events h) (imported c.request)) + new_counted (c ∷ h) calls
+new_counted h (c ∷ calls) = new_in (verdict h c) + new_counted (c ∷ h) calls
 
 -- the rows but the last call's moment
 abbrev pub but_last : UnitRows → UnitRows
 but_last rows = record rows { units = map (λ (r : UnitRow). record r { last_s = 0 }) rows.units }
 
--- all imports of both lists are accepted, the rows after both are the same but for the last moment, and as many rows are counted
--- as new, which are those that were not kept
+-- all imports of both lists are accepted, the rows after both are the same but for the last moment, and their answers say that as
+-- many rows were new, which are those that were not kept
 pub record AreAlike (h : List Call) (xs ys : List Call) : Type 0 where
   pub first_accepted : AreAccepted h xs
   pub second_accepted : AreAccepted h ys

@@ -5,10 +5,13 @@ use Rattle.std.specs.Prelude.{Bool, List, Some, false, is_none, is_some, true, �
 use Rattle.plant_model.specs.declared.call.Call.{Call}
 use Rattle.plant_model.specs.declared.call.Request.{Request}
 use Rattle.plant_model.specs.declared.call.Request.TheVariants.{Grant}
-use Rattle.plant_model.specs.Facts.{facts, others_shelved}
+use Rattle.plant_alarm.specs.Shelves.{shelf_of}
+use Rattle.plant_model.specs.Events.{events_of}
+use Rattle.plant_model.specs.Facts.{facts, others_shelved, shelf_now}
 use Rattle.plant_model.specs.Grants.{held, holds_any, stands}
 use Rattle.plant_model.specs.Legality.{IsLegal, has_matrix}
 use Rattle.plant_model.specs.Rows.{alarm_row}
+use Rattle.plant_model.specs.Shelves.{shelf, shelf_left}
 use Rattle.plant_model.specs.Views.{IsAlwaysInside, answers_to, grants_to, purge, view}
 use Rattle.plant_model.specs.Worlds.{IsLegalWorld, World, answer, empty_world, history, next, unit_named, units_held}
 use Rattle.plant_types.specs.Names.{Name, same_name}
@@ -70,3 +73,9 @@ WithoutEndsStandingIsHolding =
 abbrev pub QuotaOf2000RefusesNothing : Type 0
 QuotaOf2000RefusesNothing =
     (h : List Call) → IsLegal h → (a : Name) (t : ℕ) → is_some (alarm_row h a) ≡ true → others_shelved (facts h) a t < 2000
+
+-- in a legal history the shelf that a verdict sees, by the alarm's last return, is what all its events leave of it: a one-shot
+-- shelf holds until some return after its start
+abbrev pub ShelvesEndByReturns : Type 0
+ShelvesEndByReturns =
+    (h : List Call) → IsLegal h → (a : Name) (t : ℕ) → shelf_now (facts h) a t ≡ shelf_of (shelf_left (shelf h a)) (events_of h a) t

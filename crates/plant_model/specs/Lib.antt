@@ -17,5 +17,6 @@ pub mod Parts
 pub mod RowChanges
 pub mod Worlds
 pub mod Views
+pub mod Openings
 pub mod ImportLaw
 pub mod Laws

@@ -1,7 +1,8 @@
 //! What holds of the definitions alone: contracts that stand on empty bodies.
 
 ghost use Rattle.plant_model.specs.ImportLaw.{ImportsAgree};
-ghost use Rattle.plant_model.specs.Laws.{UnseenCallsChangeNothing, CodesAreTheAdministrators, EqualViewsEqualAnswers, CallsToSeenUnits, OthersCallsCanGo, NextWorldsAreLegal, WithoutEndsStandingIsHolding, QuotaOf2000RefusesNothing};
+ghost use Rattle.plant_model.specs.Openings.{HistoriesAreOwn};
+ghost use Rattle.plant_model.specs.Laws.{UnseenCallsChangeNothing, CodesAreTheAdministrators, EqualViewsEqualAnswers, CallsToSeenUnits, OthersCallsCanGo, NextWorldsAreLegal, WithoutEndsStandingIsHolding, QuotaOf2000RefusesNothing, ShelvesEndByReturns};
 
 /// Isolation: what one person sees of two worlds.
 pub fn two_worlds()
@@ -21,6 +22,11 @@ pub fn histories_stay_legal()
     ensures { NextWorldsAreLegal }
 {}
 
+/// Each unit's history is its own: opened by the administrator, with values of their sets.
+pub fn histories_are_own()
+    ensures { HistoriesAreOwn }
+{}
+
 /// Without ends, what stands is held at every moment.
 pub fn standing_without_ends()
     ensures { WithoutEndsStandingIsHolding }
@@ -34,4 +40,9 @@ pub fn largest_quota()
 /// Imports agree: which files bring the rows, and in which order, plays no part.
 pub fn imports_agree()
     ensures { ImportsAgree }
+{}
+
+/// A verdict looks at an alarm's last return alone. It sees the shelf that all returns of the alarm leave.
+pub fn shelves_end_by_returns()
+    ensures { ShelvesEndByReturns }
 {}
