@@ -12,6 +12,3 @@ pub use bodies::{
 };
 pub use members::{BodyError, Unfit};
 pub use proposals::read_proposal;
-
-#[cfg(test)]
-mod tests;

@@ -19,6 +19,3 @@ pub use asking::{
 pub use books::{Books, MineShelf, MineUnit};
 pub use opened::{alarm_of, last_return};
 pub use plain::Plain;
-
-#[cfg(test)]
-mod tests;

@@ -9,6 +9,3 @@ mod requests;
 
 pub use causes::Cause;
 pub use cut::{Cut, cuts_agree, next_call, next_call_with, one_reading, one_stream};
-
-#[cfg(test)]
-mod tests;

@@ -80,35 +80,3 @@ fn grown(current: Option<Run>, i: usize, count: u32) -> Option<Run>
         }
     }
 }
-
-#[cfg(test)]
-mod tests {
-    use super::*;
-    use std::test::Fail;
-
-    #[test]
-    fn finds_two_floods(rt: HostRuntime) -> Result<(), Fail> {
-        let runs = floods(rt.alloc(), &[11, 5, 4, 10, 12])?;
-        let first = Run {
-            first: 0,
-            last: 1,
-            total: 16,
-            peak: 11,
-        };
-        let second = Run {
-            first: 4,
-            last: 4,
-            total: 12,
-            peak: 12,
-        };
-        assert_eq!(rt; runs.as_slice(), [first, second].as_slice());
-        Ok(())
-    }
-
-    #[test]
-    fn finds_none(rt: HostRuntime) -> Result<(), Fail> {
-        assert!(rt; floods(rt.alloc(), &[])?.is_empty());
-        assert!(rt; floods(rt.alloc(), &[10, 9, 5, 10])?.is_empty());
-        Ok(())
-    }
-}

@@ -6,6 +6,3 @@ mod heading;
 
 pub use fields::{Lookup, field};
 pub use heading::{FieldRoom, HEAD_LIMIT, Heading, front_of, read_head};
-
-#[cfg(test)]
-mod tests;

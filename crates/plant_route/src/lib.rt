@@ -4,6 +4,3 @@
 mod routes;
 
 pub use routes::{Route, Routes};
-
-#[cfg(test)]
-mod tests;

@@ -19,6 +19,3 @@ pub use table::Table;
 pub use text::{
     Alphabet, Person, PersonBytes, Tag, TagBytes, Text, UnitCode, UnitCodeBytes, Words, WordsBytes,
 };
-
-#[cfg(test)]
-mod tests;

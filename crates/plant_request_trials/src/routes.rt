@@ -1,5 +1,6 @@
-use super::*;
-use std::test::Fail;
+//! Routes of targets.
+
+use plant_route::{Route, Routes};
 
 const TABLE: [(&[u8], &[u8], Route); 23] = [
     (b"POST", b"/units/U1", Route::OpenUnit),
@@ -81,13 +82,17 @@ const NONE: [(&[u8], &[u8]); 22] = [
 ];
 
 #[test]
-fn finds_each_route(rt: HostRuntime) -> Result<(), Fail> {
-    let routes = Routes::new(rt.alloc())?;
+fn finds_each_route(rt: HostRuntime) {
+    let routes = Routes::new(rt.alloc()).expect(&rt, "memory");
     for (method, target, route) in TABLE.iter() {
-        assert!(rt; routes.of(method, target) == Some(*route));
+        assert!(rt; routes.of(method, target) == Some(*route), "{route:?}");
     }
+}
+
+#[test]
+fn finds_no_other(rt: HostRuntime) {
+    let routes = Routes::new(rt.alloc()).expect(&rt, "memory");
     for (method, target) in NONE.iter() {
-        assert!(rt; routes.of(method, target).is_none());
+        assert!(rt; routes.of(method, target).is_none(), "{target:?}");
     }
-    Ok(())
 }

@@ -1,0 +1,140 @@
+//! Refused memory leaves the rows as they were.
+
+use crate::fixtures::{code, later, opening, plain, rationale};
+use plant_books::{Books, Plain};
+use plant_model::{AlarmRow, Change, ChangeEntry, GrantRow, RecordEntry, ShelfRow, UnitRows};
+use plant_types::{Fault, Table, UnitCode};
+use std::alloc::Global;
+use std::process::Abort;
+
+/// A row that can be told from another.
+trait Same: Drop {
+    fn is_same(&self, other: &Self) -> bool;
+}
+
+impl Same for GrantRow {
+    fn is_same(&self, other: &GrantRow) -> bool {
+        self.person == other.person && self.role_no == other.role_no && self.end_s == other.end_s
+    }
+}
+
+impl Same for AlarmRow {
+    fn is_same(&self, other: &AlarmRow) -> bool {
+        self.tag == other.tag && self.max_s == other.max_s && self.out_words == other.out_words
+    }
+}
+
+impl Same for ShelfRow {
+    fn is_same(&self, other: &ShelfRow) -> bool {
+        self.tag == other.tag && self.person == other.person && self.words == other.words
+    }
+}
+
+impl Same for RecordEntry {
+    fn is_same(&self, other: &RecordEntry) -> bool {
+        self.tag == other.tag && self.change_no == other.change_no
+    }
+}
+
+impl Same for ChangeEntry {
+    fn is_same(&self, other: &ChangeEntry) -> bool {
+        self.number == other.number && self.proposer == other.proposer
+    }
+}
+
+fn are_same<T: Same>(some: &Table<T>, other: &Table<T>) -> bool {
+    if some.len() != other.len() {
+        return false;
+    }
+    for (row, other) in some.as_slice().iter().zip(other.as_slice()) {
+        if !row.is_same(other) {
+            return false;
+        }
+    }
+    true
+}
+
+fn are_rows(some: &UnitRows, other: &UnitRows) -> bool {
+    some.units.as_slice() == other.units.as_slice()
+        && some.bands.as_slice() == other.bands.as_slice()
+        && some.cells.as_slice() == other.cells.as_slice()
+        && are_same(&some.grants, &other.grants)
+        && are_same(&some.alarms, &other.alarms)
+        && are_same(&some.shelves, &other.shelves)
+        && are_same(&some.records, &other.records)
+        && are_same(&some.changes, &other.changes)
+}
+
+/// Whether a unit has the same rows, or none both times.
+fn are_same_rows(some: &Option<UnitRows>, other: &Option<UnitRows>) -> bool {
+    match some {
+        None => other.is_none(),
+        Some(some) => match other {
+            None => false,
+            Some(other) => are_rows(some, other),
+        },
+    }
+}
+
+/// Whether the unit still has these rows.
+fn has_kept(books: &mut Plain, unit: &UnitCode, before: &Option<UnitRows>) -> Result<bool, Fault> {
+    Ok(are_same_rows(&books.rows(unit)?, before))
+}
+
+/// Makes the changes. Where memory is refused, the rows are as before, and the same call is made
+/// again.
+fn apply_through_faults(
+    rt: &(impl Abort + Eprint),
+    books: &mut Plain,
+    unit: &UnitCode,
+    changes: &Table<Change>,
+) -> Result<(), Fault> {
+    let before = books.rows(unit)?;
+    if books.apply(unit, changes).is_err() {
+        let _ = rt.eprintln("refused while rows are changed");
+        assert!(rt; has_kept(books, unit, &before)?);
+        books.apply(unit, changes)?;
+    }
+    Ok(())
+}
+
+/// Makes three lists of changes in a unit.
+fn change_all(
+    rt: &(impl Abort + Eprint),
+    alloc: Global,
+    books: &mut Plain,
+    unit: &UnitCode,
+) -> Result<(), Fault> {
+    apply_through_faults(rt, books, unit, &opening(rt, alloc)?)?;
+    apply_through_faults(rt, books, unit, &later(rt, alloc)?)?;
+    apply_through_faults(rt, books, unit, &rationale(rt, alloc)?)
+}
+
+/// How many grants and shelves a unit has, which was opened.
+fn grants_and_shelves(
+    rt: &impl Abort,
+    books: &mut Plain,
+    unit: &UnitCode,
+) -> Result<(usize, usize), Fault> {
+    let rows = books.rows(unit)?.expect(rt, "the unit was opened");
+    Ok((rows.grants.len(), rows.shelves.len()))
+}
+
+fn change_through_faults(rt: &(impl Abort + Eprint), alloc: Global) -> Result<(), Fault> {
+    let mut books = plain(rt, alloc)?;
+    let unit = code(rt, alloc, b"U1")?;
+    change_all(rt, alloc, &mut books, &unit)?;
+    assert!(rt; grants_and_shelves(rt, &mut books, &unit)? == (1, 2));
+    Ok(())
+}
+
+/// Run with each allocation refused in turn, until nothing is told of a refusal: a call that meets
+/// it leaves the rows as they were. Where it is met outside such a call, all is done again.
+#[test]
+fn leaves_the_rows_at_a_fault(rt: HostRuntime) {
+    let alloc = rt.alloc();
+    if change_through_faults(&rt, alloc).is_err() {
+        let _ = rt.eprintln("refused");
+        change_through_faults(&rt, alloc).expect(&rt, "memory");
+    }
+}

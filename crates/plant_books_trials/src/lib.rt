@@ -1,0 +1,11 @@
+//! The books in lists, as tests alone: what they keep, what they give a call, and what a fault leaves.
+#![tactic(auto)]
+
+#[cfg(test)]
+mod faults;
+#[cfg(test)]
+mod fixtures;
+#[cfg(test)]
+mod keeping;
+#[cfg(test)]
+mod parts;

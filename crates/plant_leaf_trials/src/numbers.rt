@@ -1,0 +1,78 @@
+//! Events in rising number.
+
+use crate::fixtures::event;
+use plant_alarm::{Event, EventKind};
+use plant_import::{count_new, events_after};
+use std::alloc::Global;
+use std::process::Abort;
+
+/// The event of a number: PT-101 becomes active, that many seconds after the first moment.
+pub(crate) fn active(rt: &impl Abort, alloc: Global, number: u64) -> Event {
+    event(rt, alloc, number, number, b"PT-101", EventKind::Act)
+}
+
+fn events(rt: &impl Abort, alloc: Global, numbers: &[u64]) -> Vec<Event> {
+    let mut events = Vec::new(alloc);
+    for number in numbers {
+        events.push(active(rt, alloc, *number)).expect(rt, "memory");
+    }
+    events
+}
+
+#[test]
+fn counts_each_new_number_once(rt: HostRuntime) {
+    let kept = events(&rt, rt.alloc(), &[2, 4, 6]);
+    let file = events(&rt, rt.alloc(), &[5, 4, 7, 5, 1, 2, 7]);
+    assert!(rt; count_new(rt.alloc(), &kept, &file).expect(&rt, "memory") == 3);
+    assert!(rt; count_new(rt.alloc(), &[], &[]).expect(&rt, "memory") == 0);
+}
+
+fn have_numbers(events: &[Event], numbers: &[u64]) -> bool {
+    if events.len() != numbers.len() {
+        return false;
+    }
+    for (event, number) in events.iter().zip(numbers) {
+        if event.seq.get() != *number {
+            return false;
+        }
+    }
+    true
+}
+
+#[test]
+fn puts_events_in_rising_number(rt: HostRuntime) {
+    let kept = events(&rt, rt.alloc(), &[2, 4, 6]);
+    let more = events(&rt, rt.alloc(), &[7, 5, 1, 3, 9]);
+    let all = events_after(rt.alloc(), &kept, &more).expect(&rt, "memory");
+    assert!(rt; have_numbers(all.as_slice(), &[1, 2, 3, 4, 5, 6, 7, 9]));
+}
+
+/// A hundred thousand events with even numbers.
+pub(crate) fn many_kept(rt: &impl Abort, alloc: Global) -> Vec<Event> {
+    let mut kept = Vec::new(alloc);
+    for i in 1..=100_000 {
+        kept.push(active(rt, alloc, 2 * i)).expect(rt, "memory");
+    }
+    kept
+}
+
+/// Ten thousand events with odd numbers that fall.
+pub(crate) fn many_new(rt: &impl Abort, alloc: Global) -> Vec<Event> {
+    let mut file = Vec::new(alloc);
+    for i in 0..10_000 {
+        let number = 200_001u64.saturating_sub(20 * i);
+        file.push(active(rt, alloc, number)).expect(rt, "memory");
+    }
+    file
+}
+
+/// Ten thousand rows in falling number between a hundred thousand kept events. A cost of the
+/// product would take minutes.
+#[test]
+fn puts_many_events(rt: HostRuntime) {
+    let kept = many_kept(&rt, rt.alloc());
+    let file = many_new(&rt, rt.alloc());
+    assert!(rt; count_new(rt.alloc(), &kept, &file).expect(&rt, "memory") == 10_000);
+    let all = events_after(rt.alloc(), &kept, &file).expect(&rt, "memory");
+    assert!(rt; all.len() == 110_000);
+}
