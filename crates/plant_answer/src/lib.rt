@@ -12,6 +12,3 @@ mod responses;
 pub use json::push_quoted;
 pub use rendering::render;
 pub use responses::{Media, response};
-
-#[cfg(test)]
-mod tests;

@@ -62,39 +62,3 @@ fn push_flood(text: &mut Vec<u8>, line: &FloodLine) -> Result<(), Fault>
     push_right(text, 6, total.format(line.total).as_bytes())?;
     push_last_right(text, 6, peak.format(line.peak).as_bytes())
 }
-
-#[cfg(test)]
-mod tests {
-    use super::*;
-    use std::test::Fail;
-
-    #[test]
-    fn prints_two_floods(rt: HostRuntime) -> Result<(), Fail> {
-        let unit = UnitCode::read(rt.alloc(), b"U1")?.ok_or("unit")?;
-        let begin = Moment::of_seconds(825_674_400).ok_or("begin")?;
-        let until = Moment::of_seconds(825_677_400).ok_or("until")?;
-        let lines = [
-            FloodLine {
-                start: begin,
-                until: Moment::of_seconds(825_675_600).ok_or("end")?,
-                total: 16,
-                peak: 11,
-            },
-            FloodLine {
-                start: Moment::of_seconds(825_676_800).ok_or("start")?,
-                until,
-                total: 12,
-                peak: 12,
-            },
-        ];
-        let text = flood_text(rt.alloc(), &unit, begin, until, &lines)?;
-        assert_eq!(rt;
-            text.as_slice(),
-            b"FLOODS U1 FROM 2026-03-01T10:00:00Z TO 2026-03-01T10:50:00Z COUNT 2\n\
-            2026-03-01T10:00:00Z 2026-03-01T10:20:00Z     16     11\n\
-            2026-03-01T10:40:00Z 2026-03-01T10:50:00Z     12     12\n"
-                .as_slice()
-        );
-        Ok(())
-    }
-}
