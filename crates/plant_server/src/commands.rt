@@ -1,25 +1,19 @@
-ghost use Rattle.std.specs.Prelude.{◌≡◌};
+ghost use Rattle.std.specs.Prelude.{◌≡◌, IfErr, IfOk};
 ghost use Rattle.plant_server.specs.Statuses as statuses;
 
 use crate::books::{close_file, in_file, in_memory};
-use crate::line::{Line, LineError, line_of};
-use plant_office::Office;
+use crate::connections::serve_connections;
+use crate::line::{Line, LineError, Service, line_of};
+use crate::sockets::Port;
+use crate::texts::{end_name, say};
+use plant_office::{Books, Office};
 use plant_store::{StoreFault, Tables};
-use plant_wire::{End, FromRead, ToWrite, session};
+use plant_wire::{End, Failed, FromRead, ToWrite, session};
 use sqlite::Alter;
 use std::alloc::Global;
 use std::convert::AsStr;
 use std::io::{Read, Write};
-
-fn name_of(end: End) -> &'static str {
-    match end {
-        End::Closed => "Closed",
-        End::BrokenInput => "BrokenInput",
-        End::ReadFailed => "ReadFailed",
-        End::WriteFailed => "WriteFailed",
-        End::Fault => "Fault",
-    }
-}
+use std::time::Duration;
 
 fn status_of(end: End) -> u8
     ensures { result ≡ statuses.status_of end }
@@ -33,33 +27,27 @@ fn status_of(end: End) -> u8
     }
 }
 
-/// Writes a text. One that can't be written is passed over.
-fn say(writer: &mut impl Write, text: &str) {
-    let _ = writer.write_all(text.as_bytes());
-}
-
-/// One session over these books, how it ended, and the books after it.
-fn serve<S: Alter + Drop, I: Read + Drop, O: Write + Drop>(
-    alloc: Global,
-    books: Tables<S>,
-    input: I,
-    output: O,
-) -> (End, Tables<S>) {
-    let mut office = Office::new(alloc, books);
-    let mut inlet = FromRead::new(input);
-    let mut outlet = ToWrite::new(output);
-    let end = session(alloc, &mut inlet, &mut outlet, &mut office);
-    (end, office.into_books())
-}
-
 /// Says how the session ended, and gives the status.
 fn ended(errors: &mut impl Write, end: End) -> u8
     ensures { result ≡ statuses.status_of end }
 {
-    say(errors, "end: ");
-    say(errors, name_of(end));
-    say(errors, "\n");
+    say(errors, b"end: ");
+    say(errors, end_name(end));
+    say(errors, b"\n");
     status_of(end)
+}
+
+/// Says where listening or accepting failed, and gives the status.
+fn served(errors: &mut impl Write, outcome: Result<(), Failed>) -> u8
+    ensures { result ≡ statuses.served outcome }
+{
+    match outcome {
+        Ok(()) => 0,
+        Err(_) => {
+            say(errors, b"net: failed\n");
+            8
+        }
+    }
 }
 
 const UNREADY: u8 = 3;
@@ -69,10 +57,91 @@ fn unready(errors: &mut impl Write, fault: &StoreFault) -> u8
     ensures { result ≡ statuses.unready }
 {
     match fault {
-        StoreFault::NotThisStore => say(errors, "store: not this store\n"),
-        StoreFault::Fault(_) => say(errors, "store: fault\n"),
+        StoreFault::NotThisStore => say(errors, b"store: not this store\n"),
+        StoreFault::Fault(_) => say(errors, b"store: fault\n"),
     }
     UNREADY
+}
+
+/// One session over the streams, and how it ended.
+fn serve_streams<B: Books, I: Read + Drop, O: Write + Drop>(
+    alloc: Global,
+    office: &mut Office<B>,
+    input: I,
+    output: O,
+) -> End {
+    let mut inlet = FromRead::new(input);
+    let mut outlet = ToWrite::new(output);
+    session(alloc, &mut inlet, &mut outlet, office)
+}
+
+/// Says on which address a port listens.
+fn say_address(alloc: Global, output: &mut impl Write, port: &Port) -> Result<(), Failed> {
+    let address = port.address()?;
+    if let Ok(line) = format!(in alloc; "listening on {address}\n") {
+        say(output, line.as_bytes());
+    }
+    Ok(())
+}
+
+/// Serves the connections of a port.
+fn serve_port<B: Books>(
+    rt: &HostRuntime,
+    office: &mut Office<B>,
+    service: Service,
+    output: &mut impl Write,
+) -> Result<(), Failed> {
+    let alloc = rt.alloc();
+    let mut port = Port::listen(rt, service.port, service.idle.map(Duration::from_secs))?;
+    say_address(alloc, output, &port)?;
+    serve_connections(alloc, &mut port, service.connections, office, output)
+}
+
+/// Serves a port or the streams over these books, and gives the status and the books after it.
+fn serve_books<S: Alter + Drop, I: Read + Drop, O: Write + Drop, E: Write>(
+    rt: &HostRuntime,
+    books: Tables<S>,
+    service: Option<Service>,
+    input: I,
+    mut output: O,
+    errors: &mut E,
+) -> (u8, Tables<S>)
+    ensures { statuses.IsOfService service result.0 }
+{
+    let alloc = rt.alloc();
+    let mut office = Office::new(alloc, books);
+    match service {
+        None => {
+            let end = serve_streams(alloc, &mut office, input, output);
+            (ended(errors, end), office.into_books())
+        }
+        Some(service) => {
+            let outcome = serve_port(rt, &mut office, service, &mut output);
+            (served(errors, outcome), office.into_books())
+        }
+    }
+}
+
+/// Serves the books that were opened, and gives the status and the books after it. Where none were, it looks no
+/// further: a port is listened on only for books that are there.
+fn serve_opened<S: Alter + Drop, I: Read + Drop, O: Write + Drop, E: Write>(
+    rt: &HostRuntime,
+    opened: Result<Tables<S>, StoreFault>,
+    service: Option<Service>,
+    input: I,
+    output: O,
+    errors: &mut E,
+) -> (u8, Option<Tables<S>>)
+    ensures served { IfOk opened (λ _. statuses.IsOfService service result.0) }
+    ensures unready { IfErr opened (λ _. result.0 ≡ statuses.unready) }
+{
+    match opened {
+        Ok(books) => {
+            let (status, books) = serve_books(rt, books, service, input, output, errors);
+            (status, Some(books))
+        }
+        Err(fault) => (unready(errors, &fault), None),
+    }
 }
 
 fn run<I: Read + Drop, O: Write + Drop, E: Write + Drop>(
@@ -82,27 +151,23 @@ fn run<I: Read + Drop, O: Write + Drop, E: Write + Drop>(
     output: O,
     errors: &mut E,
 ) -> u8
-    ensures { statuses.IsOfSession result }
+    ensures { statuses.IsOfLine line.service result }
 {
-    let alloc = rt.alloc();
-    let Line { admin, db } = line;
+    let Line { admin, db, service } = line;
     match db {
-        None => match in_memory(alloc, admin) {
-            Ok(books) => {
-                let (end, books) = serve(alloc, books, input, output);
-                drop(books);
-                ended(errors, end)
-            }
-            Err(fault) => unready(errors, &fault),
-        },
-        Some(path) => match in_file(rt, path.as_str(), admin) {
-            Ok(books) => {
-                let (end, books) = serve(alloc, books, input, output);
+        None => {
+            let opened = in_memory(rt.alloc(), admin);
+            let (status, _) = serve_opened(rt, opened, service, input, output, errors);
+            status
+        }
+        Some(path) => {
+            let opened = in_file(rt, path.as_str(), admin);
+            let (status, books) = serve_opened(rt, opened, service, input, output, errors);
+            if let Some(books) = books {
                 close_file(books);
-                ended(errors, end)
             }
-            Err(fault) => unready(errors, &fault),
-        },
+            status
+        }
     }
 }
 
@@ -113,15 +178,15 @@ fn unfollowed(output: &mut impl Write, errors: &mut impl Write, error: &LineErro
     match error {
         LineError::Text { text, is_error } => {
             if *is_error {
-                say(errors, text.as_str());
+                say(errors, text.as_bytes());
                 2
             } else {
-                say(output, text.as_str());
+                say(output, text.as_bytes());
                 0
             }
         }
         LineError::NotAPerson => {
-            say(errors, "admin: not a person name\n");
+            say(errors, b"admin: not a person name\n");
             2
         }
         LineError::Memory => 7,
@@ -129,9 +194,10 @@ fn unfollowed(output: &mut impl Write, errors: &mut impl Write, error: &LineErro
 }
 
 /// Does what the words ask for, the program's own name first, and answers the exit status: 0 where the input ended
-/// and every request was answered, or for help; 2 where the words are wrong; 3 where the file keeps no books of this
-/// administrator or can't be opened; 4, 5, 6 or 7 where the session ended by broken input, a failed read, a failed
-/// write, or want of memory.
+/// and every request was answered, where all connections of the port were served, or for help; 2 where the command
+/// line is wrong; 3 where the file keeps no books of this administrator or can't be opened; 4, 5, 6 or 7 where the
+/// session over the streams ended by broken input, a failed read, a failed write, or for lack of memory; 8 where
+/// listening on the port or accepting a connection failed.
 pub fn command<S: AsStr, I: Read + Drop, O: Write + Drop, E: Write + Drop>(
     rt: &HostRuntime,
     words: &[S],

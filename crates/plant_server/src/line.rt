@@ -1,7 +1,8 @@
+use clap::builder::ValueParser;
 use clap::error::ErrorKind;
-use clap::{Arg, ArgAction, Command, Error};
+use clap::{Arg, ArgAction, ArgMatches, Command, Error};
 use plant_types::Person;
-use std::alloc::Global;
+use std::alloc::{AllocError, Global};
 use std::convert::AsStr;
 
 /// Why the program's words can't be followed.
@@ -28,6 +29,17 @@ fn text_of(alloc: Global, error: &Error) -> LineError {
     }
 }
 
+/// How a port is served.
+#[derive(Clone, Copy, Debug)]
+pub struct Service {
+    /// The port of 127.0.0.1.
+    pub port: u16,
+    /// How many connections are served.
+    pub connections: u64,
+    /// After how many seconds a silent connection is given up.
+    pub idle: Option<u64>,
+}
+
 /// What the program's words ask for.
 #[derive(Drop)]
 pub struct Line {
@@ -35,6 +47,8 @@ pub struct Line {
     pub admin: Person,
     /// The file that keeps the tables, or none where memory keeps them.
     pub db: Option<String>,
+    /// The port to serve, or none for one session over the standard streams.
+    pub service: Option<Service>,
 }
 
 fn person_of(alloc: Global, name: Option<&str>) -> Result<Person, LineError> {
@@ -58,7 +72,45 @@ fn path_of(alloc: Global, path: Option<&str>) -> Result<Option<String>, LineErro
     }
 }
 
-fn office_command<'a>(alloc: Global) -> Result<Command<'a>, LineError> {
+/// How many connections `--forever` stands for. No machine serves as many.
+const FOREVER: u64 = u64::MAX;
+
+/// After how many seconds `--forever` gives a silent connection up unless told.
+const FOREVER_IDLE: u64 = 30;
+
+fn service_of(matches: &ArgMatches<'_>) -> Option<Service> {
+    let port = matches.get_one::<u16>("port")?;
+    let idle = matches.get_one::<u64>("idle");
+    if matches.get_flag("forever") {
+        return Some(Service {
+            port,
+            connections: FOREVER,
+            idle: Some(idle.unwrap_or(FOREVER_IDLE)),
+        });
+    }
+    Some(Service {
+        port,
+        connections: matches.get_one::<u64>("connections").unwrap_or(1),
+        idle,
+    })
+}
+
+fn number_arg<'a>(
+    alloc: Global,
+    name: &'a str,
+    value_name: &'a str,
+    most: u64,
+    help: &'a str,
+) -> Arg<'a> {
+    Arg::new(alloc, name)
+        .long(name)
+        .value_name(value_name)
+        .value_parser(ValueParser::Unsigned(1, most))
+        .help(help)
+        .action(ArgAction::Set)
+}
+
+fn store_args<'a>(alloc: Global, command: Command<'a>) -> Result<Command<'a>, AllocError> {
     let admin = Arg::new(alloc, "admin")
         .long("admin")
         .value_name("NAME")
@@ -69,26 +121,60 @@ fn office_command<'a>(alloc: Global) -> Result<Command<'a>, LineError> {
         .long("db")
         .value_name("FILE")
         .help(
-            "The file that keeps the tables: made where it is not there; without it they are kept in memory",
+            "The file that keeps the tables, created if missing; without it they are kept in memory",
         )
         .action(ArgAction::Set);
-    Command::new(alloc, "shelfoffice")
-        .about(
-            "Answers the control rooms of a plant: requests on standard input, answers on standard output",
-        )
-        .arg(admin)
-        .map_err(|_| LineError::Memory)?
-        .arg(db)
-        .map_err(|_| LineError::Memory)
+    command.arg(admin)?.arg(db)
+}
+
+fn service_args<'a>(alloc: Global, command: Command<'a>) -> Result<Command<'a>, AllocError> {
+    let port = number_arg(
+        alloc,
+        "port",
+        "N",
+        65_535,
+        "Listens on this port of 127.0.0.1 and serves its connections one after the other",
+    );
+    let connections = number_arg(
+        alloc,
+        "connections",
+        "N",
+        1_000,
+        "How many connections the port serves [default: 1]",
+    );
+    let forever = Arg::new(alloc, "forever")
+        .long("forever")
+        .help("Serves the port until the program is stopped")
+        .action(ArgAction::SetTrue)
+        .requires_arg("port")?
+        .conflicts_with("connections")?;
+    let idle = number_arg(
+        alloc,
+        "idle",
+        "SECONDS",
+        3_600,
+        "Gives up a connection of the port that is silent for so long [default: never; 30 with --forever]",
+    );
+    command.arg(port)?.arg(connections)?.arg(forever)?.arg(idle)
+}
+
+fn office_command<'a>(alloc: Global) -> Result<Command<'a>, AllocError> {
+    let command = Command::new(alloc, "shelfoffice").about(
+        "Answers the control rooms of a plant: requests on standard input, answers on standard output, or both on a port",
+    );
+    service_args(alloc, store_args(alloc, command)?)
 }
 
 /// What the program's words ask for, the program's own name first.
 pub fn line_of<S: AsStr>(alloc: Global, words: &[S]) -> Result<Line, LineError> {
-    let command = office_command(alloc)?;
+    let Ok(command) = office_command(alloc) else {
+        return Err(LineError::Memory);
+    };
     match command.try_get_matches_from(words) {
         Ok(matches) => Ok(Line {
             admin: person_of(alloc, matches.get_str("admin"))?,
             db: path_of(alloc, matches.get_str("db"))?,
+            service: service_of(&matches),
         }),
         Err(error) => Err(text_of(alloc, &error)),
     }

@@ -4,6 +4,7 @@ use plant_server::command;
 use std::alloc::Global;
 use std::io;
 use std::io::{Read, Write};
+use std::test::Fail;
 
 const STATUS: &[u8] =
     b"GET /units/U1/alarms/PT-101 HTTP/1.1\r\nX-Person: bob\r\nX-Moment: 2026-03-01T07:00:00Z\r\n\r\n";
@@ -33,10 +34,10 @@ impl Write for Broken {
 
 /// What a command wrote, and its status.
 #[derive(Drop)]
-struct Written {
-    status: u8,
-    output: Vec<u8>,
-    errors: Vec<u8>,
+pub(crate) struct Written {
+    pub(crate) status: u8,
+    pub(crate) output: Vec<u8>,
+    pub(crate) errors: Vec<u8>,
 }
 
 fn said(rt: &HostRuntime, words: &[&str], input: &[u8]) -> Written {
@@ -51,7 +52,7 @@ fn said(rt: &HostRuntime, words: &[&str], input: &[u8]) -> Written {
     }
 }
 
-fn is_text(bytes: &Vec<u8>, text: &str) -> bool {
+pub(crate) fn is_text(bytes: &Vec<u8>, text: &str) -> bool {
     bytes.as_slice() == text.as_bytes()
 }
 
@@ -60,9 +61,6 @@ fn reads_its_words(rt: HostRuntime) {
     let unnamed = said(&rt, &["shelfoffice"], STATUS);
     assert_eq!(rt; unnamed.status, 2);
     assert!(rt; unnamed.output.is_empty() && !unnamed.errors.is_empty());
-    let strange = said(&rt, &["shelfoffice", "--admin", "root", "--port"], STATUS);
-    assert_eq!(rt; strange.status, 2);
-    assert!(rt; strange.output.is_empty() && !strange.errors.is_empty());
     let named = said(&rt, &["shelfoffice", "--admin", "two words"], STATUS);
     assert_eq!(rt; named.status, 2);
     assert!(rt; named.output.is_empty());
@@ -75,6 +73,39 @@ fn reads_its_words(rt: HostRuntime) {
             .starts_with(b"Answers the control rooms")
     );
     assert!(rt; help.errors.is_empty());
+}
+
+/// What a command says to words that are parted by spaces.
+pub(crate) fn said_to(rt: &HostRuntime, line: &str) -> Result<Written, Fail> {
+    let mut words = Vec::new(rt.alloc());
+    for word in line.split(' ') {
+        words.push(word)?;
+    }
+    Ok(said(rt, words.as_slice(), STATUS))
+}
+
+/// The command line is read whole before the store is opened.
+#[test]
+fn reads_the_words_for_a_port(rt: HostRuntime) -> Result<(), Fail> {
+    for words in [
+        "--port",
+        "--port 0",
+        "--port 65536",
+        "--port 8080 --connections 0",
+        "--port 8080 --connections 1001",
+        "--port 8080 --connections few",
+        "--port 8080 --idle 3601",
+        "--port 8080 --forever --connections 2",
+        "--forever",
+    ] {
+        let line = format!(in rt.alloc();
+            "shelfoffice --admin root --db no-folder/plant.db {words}"
+        )?;
+        let refused = said_to(&rt, &line)?;
+        assert_eq!(rt; refused.status, 2, "{words}");
+        assert!(rt; refused.output.is_empty() && !refused.errors.is_empty());
+    }
+    Ok(())
 }
 
 #[test]

@@ -25,4 +25,6 @@ mod replays;
 #[cfg(test)]
 mod reviews;
 #[cfg(test)]
+mod sockets;
+#[cfg(test)]
 mod worked;

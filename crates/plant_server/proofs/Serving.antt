@@ -1,0 +1,67 @@
+-- Sessions over connections, one after the other.
+use Rattle.std.proofs.Common.{◌≡◌, ◌⊎◌, ℕ, ◌+◌, List, [], ◌∷◌, ◌++◌, length, take, Bool, true, Option, None, Some, refl, sym, subst, inl, inr}
+use Rattle.std.specs.Io.KnownBytes.{Appends}
+use Rattle.plant_model.specs.declared.call.Call.{Call}
+use Rattle.plant_model.specs.declared.reply.Answer.{Answer}
+use Rattle.plant_books.specs.Contents.{Content}
+use Rattle.plant_wire.proofs.Growing.{Appends-append}
+use Rattle.plant_wire.proofs.Running.{ran_joins}
+use Rattle.plant_wire.specs.Causes.{cause_text}
+use Rattle.plant_wire.specs.Marks.{answers_of, calls_of, last_marks, last_text, out_of}
+use Rattle.plant_wire.specs.Ran.{Ran}
+use Rattle.plant_wire.specs.Session.{IsCutShort, IsSession}
+use Rattle.plant_wire.specs.Step.{Serves, ServesBroken, ServesPart}
+use Rattle.plant_wire.specs.declared.reads.End.{End}
+use Rattle.plant_wire.specs.declared.reads.End.TheVariants.{BrokenInput, Closed, Fault, ReadFailed, WriteFailed}
+use Rattle.plant_server.specs.Connections.{IsConnection, Tells, line_of}
+
+module _ {o o' : Option (List ℕ)} {ran : List Call → List Answer → Type 0} where
+  -- the same over a writer that held nothing before, and of which the bytes are known
+  whole : {bytes rest : List ℕ} → (s : Serves bytes o o' ran rest) → Serves bytes (Some []) (Some (out_of s.marks)) ran rest
+  whole s = record { marks = s.marks; parses = s.parses; writes = refl; served = s.served }
+
+  broken : {bytes : List ℕ} → (s : ServesBroken bytes o o' ran) → ServesBroken bytes (Some []) (Some (out_of s.marks ++ cause_text s.cause)) ran
+  broken s = record { marks = s.marks; rest = s.rest; cause = s.cause; parses = s.parses; front = s.front; writes = refl; served = s.served }
+
+  partial : {bytes : List ℕ} → (s : ServesPart bytes o o' ran) → ServesPart bytes (Some []) (Some (out_of s.marks ++ take s.part (last_text s.last))) ran
+  partial s = record { marks = s.marks; rest = s.rest; last = s.last; part = s.part; parses = s.parses; stands = s.stands; writes = refl; served = s.served }
+
+  cut : {bytes : List ℕ} {r : Option (List ℕ)} {ended : Bool} → (s : IsCutShort bytes r ended o o' ran)
+      → IsCutShort bytes None true (Some []) (Some (out_of s.serves.marks)) ran
+  cut s = record { seen = refl; nothing_left = tt; rest = s.rest; some = s.some; waiting = s.waiting; serves = whole s.serves }
+
+-- a session is one over a connection
+pub connects : (r r' : Option (List ℕ)) (ended : Bool) (o o' : Option (List ℕ)) (ran : List Call → List Answer → Type 0) (end : End) → IsSession r r' ended o o' ran end → IsConnection ran end
+connects r r' ended o o' ran Closed (bytes, consumes, (seen, left, s)) = record { came = bytes; went = out_of s.marks; ends = (refl, tt, whole s) }
+connects r r' ended o o' ran BrokenInput (bytes, consumes, inl s) = record { came = bytes; went = out_of s.marks ++ cause_text s.cause; ends = inl (broken s) }
+connects r r' ended o o' ran BrokenInput (bytes, consumes, inr s) = record { came = bytes; went = out_of s.serves.marks; ends = inr (cut s) }
+connects r r' ended o o' ran ReadFailed (bytes, consumes, (rest, idle, s)) = record { came = bytes; went = out_of s.marks; ends = (rest, idle, whole s) }
+connects r r' ended o o' ran WriteFailed (bytes, consumes, s) = record { came = bytes; went = out_of s.marks ++ take s.part (last_text s.last); ends = partial s }
+connects r r' ended o o' ran Fault (bytes, consumes, s) = record { came = bytes; went = out_of s.marks ++ take s.part (last_text s.last); ends = partial s }
+
+-- the calls that were made over a connection, and their answers
+pub made : {ran : List Call → List Answer → Type 0} (end : End) → IsConnection ran end → (calls : List Call) × (answers : List Answer) × ran calls answers
+made Closed c = let s = c.ends.2 in (calls_of s.marks, answers_of s.marks, s.served)
+made BrokenInput c = elim c.ends [
+  | inl s ↦ (calls_of s.marks, answers_of s.marks, s.served)
+  | inr s ↦ (calls_of s.serves.marks, answers_of s.serves.marks, s.serves.served)
+]
+made ReadFailed c = let s = c.ends.2 in (calls_of s.marks, answers_of s.marks, s.served)
+made WriteFailed c = let s = c.ends in (calls_of (s.marks ++ last_marks s.last), answers_of (s.marks ++ last_marks s.last), s.served)
+made Fault c = let s = c.ends in (calls_of (s.marks ++ last_marks s.last), answers_of (s.marks ++ last_marks s.last), s.served)
+
+-- the log with one line more
+pub tells_more : (o o' o'' : Option (List ℕ)) (ends : List End) (count : ℕ) → length ends ≡ count → (end : End) → Tells o ends o'
+    → (part : ℕ) × Appends o' o'' (take part (line_of (count + 1) end)) → Tells o (end ∷ ends) o''
+tells_more o o' o'' ends count is end (text, lines, h) (part, k) =
+    let line = take part (line_of (length ends + 1) end) in
+    let k' = subst (λ (i : ℕ). Appends o' o'' (take part (line_of (i + 1) end))) (sym is) k in
+    (text ++ line, (text, part, lines, refl), Appends-append o o' o'' text line h k')
+
+-- what was done before a connection, and then over it
+pub ran_more : (held mid left : Content → Type 0) (tells_first tells : Type 0) → (tells → tells_first)
+    → (calls : List Call) × (answers : List Answer) × Ran held tells_first mid calls answers
+    → (calls : List Call) × (answers : List Answer) × Ran mid tells left calls answers
+    → (calls : List Call) × (answers : List Answer) × Ran held tells left calls answers
+ran_more held mid left tells_first tells told (cs, xs, first) (ds, ys, second) =
+    (cs ++ ds, xs ++ ys, (ran_joins held mid left tells_first tells told).join cs ds xs ys first second)

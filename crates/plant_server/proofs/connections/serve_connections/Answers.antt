@@ -1,0 +1,33 @@
+use Rattle.std.proofs.Common.{[], ◌∷◌, ◌∙◌, refl, arith}
+use Rattle.plant_wire.proofs.Growing.{Appends-none}
+use Rattle.plant_wire.proofs.Running.{ran_none}
+use Rattle.plant_server.proofs.Serving.{made, ran_more, tells_more}
+use Rattle.plant_server.proofs.connections.serve_connections.Goals as goal
+
+pub connections-init : goal.connections-init
+connections-init g c = record {
+  served = ([], refl, ([], refl, Appends-none (g.W.Write.contents c.args.log.now)), omega arith, refl);
+  ran = ([], [], ran_none (g.B.Books.holds c.args.office.now.books) (g.B.Books.can_tell c.args.office.now.books));
+  told = λ t. t;
+  failed = refl;
+}
+
+pub connections-preserved : goal.connections-preserved
+connections-preserved g c =
+    let served = c.connections.invariant.served in
+    let end = c.in_ok-end.end in
+    record {
+      served = (
+        end ∷ served.0,
+        (c.connections.office.books, served.1, c.in_ok-end.ensures.told, c.in_ok-end.ensures.does),
+        tells_more (g.W.Write.contents c.args.log.now) (g.W.Write.contents c.connections.log) (g.W.Write.contents c.say_end.new.log)
+            served.0 c.connections.count served.4 end served.2 c.say_end.ensures,
+        omega (arith, c.in_ok-end.ensures.counted, served.3),
+        omega (arith, served.4),
+      );
+      ran = ran_more (g.B.Books.holds c.args.office.now.books) (g.B.Books.holds c.connections.office.books) (g.B.Books.holds c.serve_next.new.office.books)
+          (g.B.Books.can_tell c.connections.office.books) (g.B.Books.can_tell c.serve_next.new.office.books) c.in_ok-end.ensures.told
+          c.connections.invariant.ran (made end c.in_ok-end.ensures.does);
+      told = λ t. c.connections.invariant.told (c.in_ok-end.ensures.told t);
+      failed = c.in_ok-end.ensures.ok ∙ c.connections.invariant.failed;
+    }

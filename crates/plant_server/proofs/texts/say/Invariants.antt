@@ -1,0 +1,9 @@
+use Rattle.std.proofs.Common.{◌-◌, ◌≤◌, length, take}
+use Rattle.std.specs.Io.KnownBytes.{Appends}
+use Rattle.plant_server.proofs.texts.say.Given as goal
+
+abbrev pub invariant-writes : goal.invariant-writes
+invariant-writes g l = (l.at ≤ length l.text) × Appends (g.W.Write.contents l.fn.writer) (g.W.Write.contents l.writer) (take l.at l.text)
+
+abbrev pub decreases-writes : goal.decreases-writes
+decreases-writes g l = length l.text - l.at

@@ -1,0 +1,50 @@
+-- Connections served one after the other. Lists of ends have the latest first.
+use Rattle.std.specs.Prelude.{None, Option, Result, Ok, Err, Some, true, ℕ, ◌≡◌, ◌<◌, ◌+◌, List, [], ◌∷◌, ◌++◌, codes, decimal, length, take}
+use Rattle.std.specs.Io.KnownBytes.{Appends}
+use Rattle.plant_model.specs.declared.call.Call.{Call}
+use Rattle.plant_model.specs.declared.reply.Answer.{Answer}
+use Rattle.plant_books.specs.Contents.{Content}
+use Rattle.plant_wire.specs.Ran.{Ran}
+use Rattle.plant_wire.specs.Session.{EndsAs}
+use Rattle.plant_wire.specs.declared.reads.End.{End}
+use Rattle.plant_wire.specs.declared.reads.End.TheVariants.{BrokenInput, Closed, Fault, ReadFailed, WriteFailed}
+use Rattle.plant_wire.specs.declared.streams.Failed.{Failed}
+
+abbrev pub end_name : End → List ℕ
+end_name Closed = codes "Closed"
+end_name BrokenInput = codes "BrokenInput"
+end_name ReadFailed = codes "ReadFailed"
+end_name WriteFailed = codes "WriteFailed"
+end_name Fault = codes "Fault"
+
+-- the line that says how a connection ended
+unfoldable pub line_of : ℕ → End → List ℕ
+line_of count end = codes "connection " ++ decimal count ++ codes " " ++ end_name end ++ codes "\n"
+
+-- A session over one connection. What came over a socket is known to no contract, so all that is said of the bytes is
+-- that there are some, by which the session ended so, answered with what went, and of the office `ran` is true.
+pub record IsConnection (ran : List Call → List Answer → Type 0) (end : End) : Type 0 where
+  pub came : List ℕ
+  pub went : List ℕ
+  pub ends : EndsAs came None true (Some []) (Some went) ran end
+
+-- The office went through sessions with these ends, each on the books that the one before left. `holds` and `tells` are
+-- the keeper's: what books hold, and its premise on them.
+abbrev pub GoesThrough : {B : Type 0} → (B → Content → Type 0) → (B → Type 0) → B → List End → B → Type 0
+GoesThrough holds tells before [] after = after ≡ before
+GoesThrough {B} holds tells before (end ∷ earlier) after = (books : B) × GoesThrough holds tells before earlier books
+    × (tells after → tells books) × IsConnection (Ran (holds books) (tells after) (holds after)) end
+
+-- the log got a line for each connection, by its number and its end, whole or, where it can't be written, a part from
+-- the front
+abbrev pub AreLines : List End → List ℕ → Type 0
+AreLines [] text = text ≡ []
+AreLines (end ∷ earlier) text = (before : List ℕ) × (part : ℕ) × AreLines earlier before × (text ≡ before ++ take part (line_of (length earlier + 1) end))
+
+abbrev pub Tells : Option (List ℕ) → List End → Option (List ℕ) → Type 0
+Tells o ends o' = (text : List ℕ) × AreLines ends text × Appends o o' text
+
+-- all n were served, or fewer where accepting failed; f and f' count failures of accepting
+abbrev pub StopsAfter : ℕ → ℕ → ℕ → ℕ → Result (Unit {0}) Failed → Type 0
+StopsAfter n f f' count (Ok u) = (count ≡ n) × (f' ≡ f)
+StopsAfter n f f' count (Err e) = (count < n) × (f' ≡ 1)

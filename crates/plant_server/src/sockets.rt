@@ -1,0 +1,74 @@
+ghost use Rattle.std.specs.Prelude.{if◌then◌else◌};
+
+use crate::connections::Listener;
+use plant_wire::{Failed, FromRead, ToWrite};
+use std::io;
+use std::net::{Ipv4Addr, SocketAddr, TcpListener, TcpStream};
+use std::time::Duration;
+
+/// A port of 127.0.0.1 that listens. Its connections send at once, and a read or a write fails after `idle`, if given.
+#[derive(Drop)]
+pub struct Port {
+    listener: TcpListener,
+    idle: Option<Duration>,
+    accepted: u64,
+    failed: bool,
+}
+
+impl Port {
+    /// Listens on the port with this number, or on a free one for 0.
+    pub fn listen(rt: &HostRuntime, number: u16, idle: Option<Duration>) -> Result<Port, Failed> {
+        let address = SocketAddr::from((Ipv4Addr::LOCALHOST, number));
+        match TcpListener::bind(rt, address) {
+            Ok(listener) => Ok(Port {
+                listener,
+                idle,
+                accepted: 0,
+                failed: false,
+            }),
+            Err(_) => Err(Failed),
+        }
+    }
+
+    /// The address that clients connect to.
+    pub fn address(&self) -> Result<SocketAddr, Failed> {
+        self.listener.local_addr().map_err(|_| Failed)
+    }
+
+    /// The next connection, as its two directions.
+    fn next_streams(&self) -> io::Result<(TcpStream, TcpStream)> {
+        let (stream, _) = self.listener.accept()?;
+        stream.set_nodelay(true)?;
+        stream.set_read_timeout(self.idle)?;
+        stream.set_write_timeout(self.idle)?;
+        let other = stream.try_clone()?;
+        Ok((stream, other))
+    }
+}
+
+impl Listener for Port {
+    type Requests = FromRead<TcpStream>;
+
+    type Answers = ToWrite<TcpStream>;
+
+    ghost accepted = { λ s. s.accepted };
+
+    ghost failures = { λ s. if s.failed then 1 else 0 };
+
+    fn accept(&mut self) -> Result<(FromRead<TcpStream>, ToWrite<TcpStream>), Failed> {
+        if self.failed || self.accepted == u64::MAX {
+            self.failed = true;
+            return Err(Failed);
+        }
+        match self.next_streams() {
+            Ok((requests, answers)) => {
+                self.accepted += 1;
+                Ok((FromRead::new(requests), ToWrite::new(answers)))
+            }
+            Err(_) => {
+                self.failed = true;
+                Err(Failed)
+            }
+        }
+    }
+}

@@ -1,0 +1,39 @@
+ghost use Rattle.std.specs.Prelude.{◌≡◌, ◌≤◌, ◌-◌, ℕ, length, drop, take};
+ghost use Rattle.std.specs.Io.KnownBytes.{Appends};
+ghost use Rattle.plant_server.specs.Connections as spec;
+
+use plant_wire::End;
+use std::io::Write;
+
+pub(crate) fn end_name(end: End) -> &'static [u8]
+    ensures { result.now ≡ spec.end_name end }
+{
+    match end {
+        End::Closed => b"Closed",
+        End::BrokenInput => b"BrokenInput",
+        End::ReadFailed => b"ReadFailed",
+        End::WriteFailed => b"WriteFailed",
+        End::Fault => b"Fault",
+    }
+}
+
+fn bytes_from(bytes: &[u8], at: usize) -> &[u8]
+    requires { at ≤ length bytes.now }
+    ensures value { result.now ≡ drop at bytes.now }
+    ensures len { length result.now ≡ length bytes.now - at }
+{
+    &bytes[at..]
+}
+
+/// Writes a text. What can't be written is passed over.
+pub(crate) fn say<W: Write>(writer: &mut W, text: &[u8])
+    ensures { (n : ℕ) × Appends (W.contents writer.old) (W.contents writer.new) (take n text.now) }
+{
+    let mut at = 0;
+    'writes: while at < text.len() {
+        match writer.write(bytes_from(text, at)) {
+            Ok(0) | Err(_) => return,
+            Ok(n) => at += n,
+        }
+    }
+}
