@@ -54,8 +54,3 @@ pub fn reopen<D: Disk + Drop>(
         Err(_) => None,
     }
 }
-
-#[cfg(test)]
-mod outside;
-#[cfg(test)]
-mod tests;

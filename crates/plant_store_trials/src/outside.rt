@@ -1,17 +1,14 @@
 //! Tables in which a column holds a value outside its set, or one of which is missing: each call that reads the column or
-//! the table answers a fault of the store, and counts it.
+//! the table answers a fault of the store.
 
-ghost use Rattle.std.specs.Prelude.{ℕ, IfOk};
-ghost use Rattle.plant_books.specs.Counting.{Counts};
-
-use crate::tests::{after, at, call, opened, person, tag, unit};
+use crate::fixtures::{after, at, call, opened, person, tag, unit};
 use plant_books::Books;
 use plant_model::Request;
 use plant_store::Tables;
 use plant_types::{Fault, Role};
 use sqlite::MemStore;
 use std::alloc::Global;
-use std::test::Fail;
+use std::process::Abort;
 
 /// What is asked of the books: about the unit, of the alarm `PT-101`, of a change, or for the person `ann`.
 #[derive(Clone, Copy, Debug, PartialEq, Eq)]
@@ -241,119 +238,102 @@ const MISSING: [(&str, &[Asked]); 2] = [
     ("DROP TABLE changes", &OF_CHANGES),
 ];
 
-/// Whether there was an answer.
-fn told<T: Drop>(answer: Result<T, Fault>) -> Result<(), Fault>
-    ensures { (old new : ℕ) → Counts old new answer → Counts old new result }
-{
-    match answer {
-        Ok(_) => Ok(()),
-        Err(fault) => Err(fault),
+/// The request of a call that asks so, about the unit or the alarm.
+fn request(rt: &impl Abort, alloc: Global, asked: Asked) -> Request {
+    let unit = unit(rt, alloc, b"U1");
+    let tag = tag(rt, alloc, b"PT-101");
+    match asked {
+        Asked::Status => Request::Status { unit, tag },
+        Asked::Record => Request::RecordOf { unit, tag },
+        Asked::Change => Request::ChangeOf { unit, number: 2 },
+        Asked::Approval => Request::Approve { unit, number: 4 },
+        Asked::Withdrawal => Request::Withdraw {
+            unit,
+            person: person(rt, alloc, b"ann"),
+            role: Role::Viewer,
+        },
+        _ => Request::Shelves { unit },
     }
 }
 
-/// What the books answer to a call of `ann`.
-fn part(
-    books: &mut Tables<MemStore>,
-    alloc: Global,
-    request: Request,
-) -> Result<Result<(), Fault>, Fail>
-    ensures count { IfOk result (λ answer. Counts books.old.1 books.new.1 answer) }
-{
-    let call = call(alloc, request)?;
-    Ok(told(books.part(&call)))
+/// The fault of an answer, if it is one.
+fn fault_of<T: Drop>(answer: Result<T, Fault>) -> Option<Fault> {
+    match answer {
+        Ok(_) => None,
+        Err(fault) => Some(fault),
+    }
 }
 
-/// What the books answer; an answer `Store` is counted, and no other.
-fn answer(
-    books: &mut Tables<MemStore>,
+/// The fault of what the books answer to a call of `ann`.
+fn fault_of_part(
+    rt: &impl Abort,
     alloc: Global,
+    books: &mut Tables<MemStore>,
     asked: Asked,
-) -> Result<Result<(), Fault>, Fail>
-    ensures count { IfOk result (λ answer. Counts books.old.1 books.new.1 answer) }
-{
-    let unit = unit(alloc, b"U1")?;
-    let ann = person(alloc, b"ann")?;
-    let tag = tag(alloc, b"PT-101")?;
+) -> Option<Fault> {
+    let call = call(rt, alloc, request(rt, alloc, asked));
+    fault_of(books.part(&call))
+}
+
+/// The fault of what the books answer, if it is one.
+fn fault(
+    rt: &impl Abort,
+    alloc: Global,
+    books: &mut Tables<MemStore>,
+    asked: Asked,
+) -> Option<Fault> {
     match asked {
-        Asked::Taken => Ok(told(books.taken(&unit))),
-        Asked::Rows => Ok(told(books.rows(&unit))),
-        Asked::Status => part(books, alloc, Request::Status { unit, tag }),
-        Asked::Shelves => part(books, alloc, Request::Shelves { unit }),
-        Asked::Withdrawal => part(
-            books,
-            alloc,
-            Request::Withdraw {
-                unit,
-                person: ann,
-                role: Role::Viewer,
-            },
-        ),
-        Asked::Record => part(books, alloc, Request::RecordOf { unit, tag }),
-        Asked::Change => part(books, alloc, Request::ChangeOf { unit, number: 2 }),
-        Asked::Approval => part(books, alloc, Request::Approve { unit, number: 4 }),
-        Asked::Held => Ok(told(books.held(&ann, at(90)?))),
-        Asked::MineUnits => Ok(told(books.mine_units(&ann, at(90)?))),
+        Asked::Taken => fault_of(books.taken(&unit(rt, alloc, b"U1"))),
+        Asked::Rows => fault_of(books.rows(&unit(rt, alloc, b"U1"))),
+        Asked::Held => fault_of(books.held(&person(rt, alloc, b"ann"), at(rt, 90))),
+        Asked::MineUnits => fault_of(books.mine_units(&person(rt, alloc, b"ann"), at(rt, 90))),
+        _ => fault_of_part(rt, alloc, books, asked),
     }
 }
 
 /// The books of `opened`, after these statements.
-fn spoiled(alloc: Global, statements: &str) -> Result<Tables<MemStore>, Fail> {
-    let conn = after(opened(alloc)?.close(), statements)?;
-    match Tables::open(alloc, conn, person(alloc, b"root")?) {
-        Ok(books) => Ok(books),
-        Err(back) => Err(Fail::from(back.fault)),
+fn spoiled(rt: &impl Abort, alloc: Global, statements: &str) -> Tables<MemStore> {
+    let conn = after(rt, opened(rt, alloc).close(), statements);
+    match Tables::open(alloc, conn, person(rt, alloc, b"root")) {
+        Ok(books) => books,
+        Err(_) => rt.panic("no books"),
     }
 }
 
 /// What does not answer as is due after these statements: each of the readers a fault of the store, and each other none.
-fn amiss(alloc: Global, statements: &str, readers: &[Asked]) -> Result<Option<Asked>, Fail> {
-    let mut books = spoiled(alloc, statements)?;
-    for asked in ALL {
-        let answer = answer(&mut books, alloc, asked)?;
-        let is_due = if readers.contains(&asked) {
-            matches!(answer, Err(Fault::Store))
-        } else {
-            answer.is_ok()
+fn amiss(rt: &impl Abort, alloc: Global, statements: &str, readers: &[Asked]) -> Option<Asked> {
+    let mut books = spoiled(rt, alloc, statements);
+    for asked in ALL.iter() {
+        let is_due = match fault(rt, alloc, &mut books, *asked) {
+            Some(Fault::Store) => readers.contains(asked),
+            Some(Fault::Memory) => false,
+            None => !readers.contains(asked),
         };
         if !is_due {
-            return Ok(Some(asked));
+            return Some(*asked);
         }
     }
-    Ok(None)
+    None
+}
+
+/// After each of these statements, each call answers as is due.
+fn is_answered(rt: &impl Abort, alloc: Global, spoilt: &[(&str, &[Asked])]) {
+    for (statements, readers) in spoilt {
+        assert_eq!(rt; amiss(rt, alloc, statements, readers), None, "{statements}");
+    }
 }
 
 #[test]
-fn answers_store_where_a_value_is_outside_its_set(rt: HostRuntime) -> Result<(), Fail> {
-    for (statements, readers) in OUTSIDE {
-        assert_eq!(rt;
-            amiss(rt.alloc(), statements, readers)?,
-            None,
-            "{statements}"
-        );
-    }
-    Ok(())
+fn answers_store_where_a_value_is_outside_its_set(rt: HostRuntime) {
+    is_answered(&rt, rt.alloc(), &OUTSIDE);
 }
 
 #[test]
-fn answers_store_where_a_change_is_outside_its_set(rt: HostRuntime) -> Result<(), Fail> {
-    for (statements, readers) in OUTSIDE_CHANGES {
-        assert_eq!(rt;
-            amiss(rt.alloc(), statements, readers)?,
-            None,
-            "{statements}"
-        );
-    }
-    Ok(())
+fn answers_store_where_a_change_is_outside_its_set(rt: HostRuntime) {
+    is_answered(&rt, rt.alloc(), &OUTSIDE_CHANGES);
 }
 
 #[test]
-fn answers_store_where_a_table_is_missing(rt: HostRuntime) -> Result<(), Fail> {
-    for (statements, readers) in MISSING {
-        assert_eq!(rt;
-            amiss(rt.alloc(), statements, readers)?,
-            None,
-            "{statements}"
-        );
-    }
-    Ok(())
+fn answers_store_where_a_table_is_missing(rt: HostRuntime) {
+    is_answered(&rt, rt.alloc(), &MISSING);
 }

@@ -1,0 +1,14 @@
+//! The books in tables, as tests alone: what they keep, what they give a call, which databases they open, and what they
+//! answer where a column or a table is spoiled.
+#![tactic(auto)]
+
+#[cfg(test)]
+mod fixtures;
+#[cfg(test)]
+mod keeping;
+#[cfg(test)]
+mod opening;
+#[cfg(test)]
+mod outside;
+#[cfg(test)]
+mod parts;

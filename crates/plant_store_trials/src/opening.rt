@@ -1,0 +1,149 @@
+//! Which databases are opened, and files that are opened again.
+
+ghost use Rattle.std.specs.Prelude.{◌≡◌, false};
+
+use crate::fixtures::{changes, counts, made_by, opened, person, rows, unit};
+use plant_books::Books;
+use plant_reopen::reopen;
+use plant_store::{StoreFault, Tables};
+use plant_types::Fault;
+use sqlite::{Connection, FileStore, Files, Options};
+use sqlite_disk::{Disk, Memory};
+use std::alloc::Global;
+use std::process::Abort;
+
+#[test]
+fn opens_its_own_store_alone(rt: HostRuntime) {
+    let alloc = rt.alloc();
+    let conn = opened(&rt, alloc).close();
+    let Err(back) = Tables::open(alloc, conn, person(&rt, alloc, b"ste")) else {
+        rt.panic("another administrator's")
+    };
+    assert!(rt; matches!(back.fault, StoreFault::NotThisStore));
+    let Ok(mut books) = Tables::open(alloc, back.conn, person(&rt, alloc, b"root")) else {
+        rt.panic("the same administrator's")
+    };
+    assert!(rt; *books.administrator() == person(&rt, alloc, b"root"));
+    assert!(rt; counts(&rows(&rt, alloc, &mut books)) == [1, 3, 2, 1, 2, 2, 3, 2, 4]);
+}
+
+/// Statements that make a database, and whether it is then opened for `root`.
+const OFFICES: [(&str, bool); 9] = [
+    ("", false),
+    (
+        "CREATE TABLE other (id INTEGER, schema_no INTEGER, admin TEXT) STRICT; INSERT INTO other (id, schema_no, admin) VALUES (1, 2, 'root')",
+        false,
+    ),
+    (
+        "CREATE TABLE office (id INTEGER, schema_no INTEGER) STRICT; INSERT INTO office (id, schema_no) VALUES (1, 2)",
+        false,
+    ),
+    (
+        "CREATE TABLE other (id INTEGER) STRICT; CREATE TABLE office (admin TEXT, schema_no INTEGER, id INTEGER) STRICT; CREATE VIEW seen AS SELECT id FROM other; INSERT INTO office (id, schema_no, admin) VALUES (1, 2, 'root')",
+        true,
+    ),
+    (
+        "CREATE TABLE other (id INTEGER) STRICT; CREATE TABLE office (admin TEXT, schema_no INTEGER, id INTEGER) STRICT; INSERT INTO office (id, schema_no, admin) VALUES (1, 1, 'root')",
+        false,
+    ),
+    (
+        "CREATE TABLE office (id INTEGER, schema_no INTEGER, admin TEXT) STRICT; INSERT INTO office (id, schema_no, admin) VALUES (1, 2, 'ste')",
+        false,
+    ),
+    (
+        "CREATE TABLE office (id INTEGER, schema_no INTEGER, admin TEXT) STRICT; INSERT INTO office (id, schema_no, admin) VALUES (2, 2, 'root')",
+        false,
+    ),
+    (
+        "CREATE TABLE office (id INTEGER, schema_no INTEGER, admin TEXT) STRICT",
+        false,
+    ),
+    (
+        "CREATE TABLE office (id INTEGER, schema_no INTEGER, admin TEXT) STRICT; INSERT INTO office (id, schema_no, admin) VALUES (1, 2, 'root'), (1, 2, 'root')",
+        false,
+    ),
+];
+
+/// Whether the database that these statements make is opened; where it is not, it is not this store's.
+fn is_opened(rt: &impl Abort, alloc: Global, statements: &str) -> bool {
+    let conn = made_by(rt, alloc, statements);
+    match Tables::open(alloc, conn, person(rt, alloc, b"root")) {
+        Ok(_) => true,
+        Err(back) => {
+            assert!(rt;
+                matches!(back.fault, StoreFault::NotThisStore),
+                "{statements}"
+            );
+            false
+        }
+    }
+}
+
+#[test]
+fn opens_where_the_office_has_its_row(rt: HostRuntime) {
+    for (statements, wanted) in OFFICES.iter() {
+        assert!(rt;
+            is_opened(&rt, rt.alloc(), statements) == *wanted,
+            "{statements}"
+        );
+    }
+}
+
+#[test]
+fn makes_no_second_store(rt: HostRuntime) {
+    let alloc = rt.alloc();
+    let conn = opened(&rt, alloc).close();
+    let Err(back) = Tables::create(alloc, conn, person(&rt, alloc, b"root")) else {
+        rt.panic("tables are there")
+    };
+    assert!(rt; matches!(back.fault, StoreFault::Fault(Fault::Store)));
+}
+
+/// The same books with one unit more.
+fn with_unit<D: Disk + Drop>(
+    rt: &impl Abort,
+    alloc: Global,
+    mut books: Tables<FileStore<D>>,
+) -> Tables<FileStore<D>> {
+    let unit = unit(rt, alloc, b"U1");
+    books
+        .apply(&unit, &changes(rt, alloc))
+        .expect(rt, "changes");
+    books
+}
+
+fn is_taken<D: Disk + Drop>(
+    rt: &impl Abort,
+    alloc: Global,
+    mut books: Tables<FileStore<D>>,
+) -> bool {
+    books.taken(&unit(rt, alloc, b"U1")).expect(rt, "an answer")
+}
+
+/// Whether a unit that is kept in these files is found again.
+fn is_found_again<D: Disk + Drop>(
+    rt: &impl Abort,
+    alloc: Global,
+    conn: Connection<FileStore<D>>,
+) -> bool
+    requires { conn.in_transaction ≡ false }
+{
+    let Ok(books) = Tables::create(alloc, conn, person(rt, alloc, b"root")) else {
+        rt.panic("no books")
+    };
+    let books = with_unit(rt, alloc, books);
+    let again = reopen(alloc, books, person(rt, alloc, b"root"), Options::new(7));
+    is_taken(rt, alloc, again.expect(rt, "books again"))
+}
+
+#[test]
+fn finds_again_what_was_kept_in_files(rt: HostRuntime) {
+    let files = Files {
+        log: Memory::new(rt.alloc()),
+        db: Memory::new(rt.alloc()),
+    };
+    let Ok(conn) = Connection::open_files(rt.alloc(), files, Options::new(7)) else {
+        rt.panic("no connection")
+    };
+    assert!(rt; is_found_again(&rt, rt.alloc(), conn));
+}

@@ -1,0 +1,73 @@
+//! What a call looks at.
+
+use crate::fixtures::{call, counts, opened, tag, unit};
+use plant_books::Books;
+use plant_model::{BandRow, ChangeEntry, ChangeTopic, Request, UnitPart};
+use plant_types::Seconds;
+use std::alloc::Global;
+use std::process::Abort;
+
+/// What a call of `ann` looks at.
+fn part(rt: &impl Abort, alloc: Global, request: Request) -> UnitPart {
+    let mut books = opened(rt, alloc);
+    books
+        .part(&call(rt, alloc, request))
+        .expect(rt, "a part")
+        .expect(rt, "the unit was opened")
+}
+
+/// Whether these are the bands of the matrix in force, and of the matrix that is wanted.
+fn are_both_bands(bands: &[BandRow]) -> bool {
+    let [in_force, wanted] = bands else {
+        return false;
+    };
+    in_force.matrix_no == 0 && wanted.matrix_no == 2
+}
+
+/// Whether these are the changes 1 to 3, with what the second and the third propose.
+fn are_three_changes(changes: &[ChangeEntry]) -> bool {
+    let [first, second, third] = changes else {
+        return false;
+    };
+    first.number == 1
+        && second.number == 2
+        && third.number == 3
+        && third.severity == Some(2)
+        && third.response_s == Seconds::new(300)
+        && second.tag.is_none()
+        && second.kind_no == ChangeTopic::Matrix
+}
+
+#[test]
+fn gives_an_approval_its_matrices_and_the_changes_of_records(rt: HostRuntime) {
+    let unit = unit(&rt, rt.alloc(), b"U1");
+    let part = part(&rt, rt.alloc(), Request::Approve { unit, number: 2 });
+    assert!(rt; counts(&part.rows) == [1, 2, 2, 0, 0, 2, 3, 2, 3]);
+    assert!(rt; are_three_changes(part.rows.changes.as_slice()));
+    assert!(rt; are_both_bands(part.rows.bands.as_slice()));
+}
+
+/// Whether there is one change, of this number.
+fn is_change(changes: &[ChangeEntry], number: u32) -> bool {
+    let [change] = changes else {
+        return false;
+    };
+    change.number == number
+}
+
+#[test]
+fn gives_a_record_its_change_alone(rt: HostRuntime) {
+    let unit = unit(&rt, rt.alloc(), b"U1");
+    let tag = tag(&rt, rt.alloc(), b"PT-101");
+    let part = part(&rt, rt.alloc(), Request::RecordOf { unit, tag });
+    assert!(rt; counts(&part.rows) == [1, 2, 1, 0, 0, 0, 0, 1, 1]);
+    assert!(rt; is_change(part.rows.changes.as_slice(), 3));
+    assert!(rt; part.count == 0);
+}
+
+#[test]
+fn gives_a_change_with_its_matrix(rt: HostRuntime) {
+    let unit = unit(&rt, rt.alloc(), b"U1");
+    let part = part(&rt, rt.alloc(), Request::ChangeOf { unit, number: 2 });
+    assert!(rt; counts(&part.rows) == [1, 2, 0, 0, 0, 1, 1, 0, 1]);
+}
