@@ -7,7 +7,7 @@ use plant_types::{Fault, Table, UnitCode};
 use std::alloc::Global;
 use std::process::Abort;
 
-/// A row that can be told from another.
+/// A row that can be compared with another.
 trait Same: Drop {
     fn is_same(&self, other: &Self) -> bool;
 }
@@ -128,8 +128,8 @@ fn change_through_faults(rt: &(impl Abort + Eprint), alloc: Global) -> Result<()
     Ok(())
 }
 
-/// Run with each allocation refused in turn, until nothing is told of a refusal: a call that meets
-/// it leaves the rows as they were. Where it is met outside such a call, all is done again.
+/// To be run with each allocation refused in turn, until no run meets a refusal. A call that meets one leaves the
+/// rows as they were; a refusal outside such a call starts the test again.
 #[test]
 fn leaves_the_rows_at_a_fault(rt: HostRuntime) {
     let alloc = rt.alloc();

@@ -1,5 +1,5 @@
-//! Names, rows and requests, made of numbers and bytes, and books that keep them. Where there is no such value, the test
-//! ends.
+//! Names, rows and requests built from numbers and bytes, and books that keep them. The test fails if a value is
+//! invalid or memory runs out.
 
 use plant_alarm::AlarmState;
 use plant_books::{Books, Plain};

@@ -1,4 +1,4 @@
-//! Values made of numbers and bytes. Where there is no such value, or no memory for it, the test ends.
+//! Values built from numbers and bytes. The test fails if a value is invalid or memory runs out.
 
 use plant_alarm::{Event, EventKind, Number};
 use plant_types::{Moment, Seconds, Tag, Words};

@@ -4,7 +4,7 @@ use crate::calls::{got, posted, waits};
 use plant_call::{Cause, Cut, next_call};
 use std::alloc::Global;
 
-/// The cause of a request that is no call, where its end is known.
+/// The cause of a malformed request whose end is known.
 fn malformed(alloc: Global, bytes: &[u8]) -> Option<Cause> {
     match next_call(alloc, bytes) {
         Cut::Malformed(cause, n) if n == bytes.len() => Some(cause),

@@ -171,7 +171,7 @@ fn run<I: Read + Drop, O: Write + Drop, E: Write + Drop>(
     }
 }
 
-/// Says why the words can't be followed, or gives the help that they ask for, and gives the status.
+/// Prints why the command line is refused, or the help that it asks for, and returns the status.
 fn unfollowed(output: &mut impl Write, errors: &mut impl Write, error: &LineError) -> u8
     ensures { result ≡ statuses.unfollowed error.now }
 {

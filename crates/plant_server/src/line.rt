@@ -5,7 +5,7 @@ use plant_types::Person;
 use std::alloc::{AllocError, Global};
 use std::convert::AsStr;
 
-/// Why the program's words can't be followed.
+/// Why the command line is refused.
 #[derive(Drop)]
 pub enum LineError {
     /// The line is wrong, or asks for help: clap's text, and whether it is an error.
@@ -75,7 +75,7 @@ fn path_of(alloc: Global, path: Option<&str>) -> Result<Option<String>, LineErro
 /// How many connections `--forever` stands for. No machine serves as many.
 const FOREVER: u64 = u64::MAX;
 
-/// After how many seconds `--forever` gives a silent connection up unless told.
+/// The default of `--idle` with `--forever`, in seconds.
 const FOREVER_IDLE: u64 = 30;
 
 fn service_of(matches: &ArgMatches<'_>) -> Option<Service> {

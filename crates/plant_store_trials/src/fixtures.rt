@@ -1,4 +1,4 @@
-//! Names, rows and calls, made of numbers and bytes, and books that keep them. Where there is no such value, the test ends.
+//! Names, rows and calls built from numbers and bytes, and books that keep them. The test fails if a value is invalid.
 
 ghost use Rattle.std.specs.Prelude.{◌≡◌, false};
 

@@ -14,7 +14,7 @@ use std::alloc::Global;
 use std::process::Abort;
 use std::test::Fail;
 
-/// A row that can be told from another.
+/// A row that can be compared with another.
 trait Same: Drop {
     fn is_same(&self, other: &Self) -> bool;
 }

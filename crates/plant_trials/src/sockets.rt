@@ -105,7 +105,7 @@ fn gives_a_silent_client_up(rt: HostRuntime) -> Result<(), Fail> {
     Ok(())
 }
 
-/// A port that is taken is told only once there are books.
+/// A taken port is reported only after the store was opened.
 #[test]
 fn needs_a_free_port(rt: HostRuntime) -> Result<(), Fail> {
     let (_port, address) = listening(&rt, None)?;
