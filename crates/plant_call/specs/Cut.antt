@@ -1,6 +1,7 @@
 -- What `next_call` answers.
-use Rattle.std.specs.Prelude.{◌≡◌, ℕ, List}
-use Rattle.plant_call.specs.Front.{Front, waits, whole, broken, asked, bad, StandsAtFront}
+use Rattle.std.specs.Prelude.{◌≡◌, ◌<◌, ◌+◌, ◌++◌, ℕ, List, length, Ok}
+use Rattle.httparse.specs.Grammar.{RequestHead, print_request}
+use Rattle.plant_call.specs.Front.{Front, waits, whole, broken, asked, bad, body_length, StandsAtFront}
 use Rattle.plant_call.specs.declared.cut.Cut.{Cut}
 use Rattle.plant_call.specs.declared.cut.Cut.TheVariants.{More, Call, Malformed, Broken, Fault}
 
@@ -19,3 +20,11 @@ IsCutOf bytes (Call call n) = StandsAtFront bytes (whole (asked call) n)
 IsCutOf bytes (Malformed cause n) = StandsAtFront bytes (whole (bad cause) n)
 IsCutOf bytes (Broken cause) = StandsAtFront bytes (broken cause)
 IsCutOf bytes Fault = Unit {0}
+
+-- bytes that go on from these and are fewer than n are still less than a request
+abbrev pub WaitsBelow : List ℕ → ℕ → Type 0
+WaitsBelow bytes n = (more : List ℕ) → length (bytes ++ more) < n → StandsAtFront (bytes ++ more) waits
+
+-- the request with this head has n bytes
+abbrev pub IsLengthOf : RequestHead → ℕ → Type 0
+IsLengthOf head n = (m : ℕ) × (body_length head ≡ Ok m) × (n ≡ length (print_request head) + m)

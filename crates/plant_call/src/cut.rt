@@ -1,8 +1,8 @@
-ghost use Rattle.std.specs.Prelude.{◌≡◌, ◌≢◌, ◌⊎◌, ◌≤◌, ◌++◌, ℕ, List, length};
+ghost use Rattle.std.specs.Prelude.{◌≡◌, ◌≢◌, ◌⊎◌, ◌<◌, ◌≤◌, ◌++◌, ℕ, List, length};
 ghost use Rattle.httparse.specs.Grammar.{RequestHead};
 ghost use Rattle.httparse.specs.Spans.{IsRequestAt, IsRequestWithin};
 ghost use Rattle.plant_call.specs.Front.{Item, Front, waits, answer_to, StandsAtFront, IsOpen, IsStream, OpensSomewhere};
-ghost use Rattle.plant_call.specs.Cut.{Shows, IsCutOf};
+ghost use Rattle.plant_call.specs.Cut.{Shows, IsCutOf, IsLengthOf, WaitsBelow};
 
 use crate::causes::{CallError, Cause};
 use crate::lengths::body_length;
@@ -28,27 +28,45 @@ pub enum Cut {
     Fault,
 }
 
-fn cut_at(
+/// What stands at the front of a buffer, and how many bytes it takes to go on.
+#[derive(Drop)]
+pub struct Look {
+    /// What stands there.
+    pub cut: Cut,
+    /// The bytes of a request whose head is whole and whose body is not: with fewer it still waits. Else 0.
+    pub wanted: usize,
+}
+
+fn look_at(
     alloc: Global,
     routes: &Routes,
     front: &[u8],
     headers: &[HeaderSpan],
     spans: RequestSpans,
     after: &[u8],
-) -> Cut
+) -> Look
     requires within { IsRequestWithin front.now headers.now spans }
     requires short { length front.now ≤ 16384 }
-    ensures { (head : RequestHead) → IsRequestAt front.now headers.now spans head → Shows result (answer_to head after.now) }
+    ensures shows { (head : RequestHead) → IsRequestAt front.now headers.now spans head → Shows result.cut (answer_to head after.now) }
+    ensures wants { (head : RequestHead) → IsRequestAt front.now headers.now spans head → 0 < result.wanted → IsLengthOf head result.wanted }
 {
     let fields = &headers[..spans.headers];
     let count = match body_length(front, fields) {
         Ok(count) => count,
-        Err(cause) => return Cut::Broken(cause),
+        Err(cause) => {
+            return Look {
+                cut: Cut::Broken(cause),
+                wanted: 0,
+            };
+        }
     };
-    if after.len() < count {
-        return Cut::More;
-    }
     let length = spans.len + count;
+    if after.len() < count {
+        return Look {
+            cut: Cut::More,
+            wanted: length,
+        };
+    }
     match call_in(
         alloc,
         routes,
@@ -58,21 +76,41 @@ fn cut_at(
         fields,
         &after[..count],
     ) {
-        Ok(call) => Cut::Call(call, length),
-        Err(CallError::Because(cause)) => Cut::Malformed(cause, length),
-        Err(CallError::Memory) => Cut::Fault,
+        Ok(call) => Look {
+            cut: Cut::Call(call, length),
+            wanted: 0,
+        },
+        Err(CallError::Because(cause)) => Look {
+            cut: Cut::Malformed(cause, length),
+            wanted: 0,
+        },
+        Err(CallError::Memory) => Look {
+            cut: Cut::Fault,
+            wanted: 0,
+        },
     }
 }
 
-/// The request at the front of `bytes`, with routes and room for fields that were made before.
-pub fn next_call_with(alloc: Global, routes: &Routes, room: &mut FieldRoom, bytes: &[u8]) -> Cut
-    ensures { IsCutOf bytes.now result }
+/// The request at the front of `bytes`, and how many bytes it takes to go on, with routes and room for fields that
+/// were made before.
+pub fn look_with(alloc: Global, routes: &Routes, room: &mut FieldRoom, bytes: &[u8]) -> Look
+    ensures cut { IsCutOf bytes.now result.cut }
+    ensures wanted { WaitsBelow bytes.now result.wanted }
 {
     match read_head(bytes, room) {
-        Heading::Waiting => Cut::More,
-        Heading::Malformed => Cut::Broken(Cause::HeadSyntax),
-        Heading::TooLong => Cut::Broken(Cause::HeadTooLong),
-        Heading::Whole(spans) => cut_at(
+        Heading::Waiting => Look {
+            cut: Cut::More,
+            wanted: 0,
+        },
+        Heading::Malformed => Look {
+            cut: Cut::Broken(Cause::HeadSyntax),
+            wanted: 0,
+        },
+        Heading::TooLong => Look {
+            cut: Cut::Broken(Cause::HeadTooLong),
+            wanted: 0,
+        },
+        Heading::Whole(spans) => look_at(
             alloc,
             routes,
             front_of(bytes),
@@ -81,6 +119,13 @@ pub fn next_call_with(alloc: Global, routes: &Routes, room: &mut FieldRoom, byte
             &bytes[spans.len..],
         ),
     }
+}
+
+/// The request at the front of `bytes`, with routes and room for fields that were made before.
+pub fn next_call_with(alloc: Global, routes: &Routes, room: &mut FieldRoom, bytes: &[u8]) -> Cut
+    ensures { IsCutOf bytes.now result }
+{
+    look_with(alloc, routes, room, bytes).cut
 }
 
 /// The request at the front of `bytes`. A request that is no call is told by the first cause that applies; it waits

@@ -8,4 +8,6 @@ mod path;
 mod requests;
 
 pub use causes::Cause;
-pub use cut::{Cut, cuts_agree, next_call, next_call_with, one_reading, one_stream};
+pub use cut::{
+    Cut, Look, cuts_agree, look_with, next_call, next_call_with, one_reading, one_stream,
+};

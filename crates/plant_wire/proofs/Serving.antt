@@ -1,18 +1,42 @@
 -- One run of answers after another is one run.
 use Rattle.std.proofs.Common.{◌≡◌, ℕ, ◌+◌, List, [], ◌∷◌, ◌++◌, take, drop, map, Option, refl, sym, ap, subst, ◌∙◌, append_assoc, append-nil}
-use Rattle.std.specs.Prelude.{Result, Ok, Err}
+use Rattle.std.specs.Prelude.{Result, Ok, Err, IfErr}
 use Rattle.std.specs.Io.KnownBytes.{Appends}
 use Rattle.plant_model.specs.declared.call.Call.{Call}
+use Rattle.plant_types.specs.declared.fault.Fault as faults
 use Rattle.plant_model.specs.declared.reply.Answer.{Answer}
+use Rattle.plant_model.specs.declared.reply.Answer.TheVariants as answers
 use Rattle.plant_answer.specs.Answers.{text_of}
 use Rattle.plant_call.specs.Front.{Item, waits, whole, broken, StandsAtFront, Parsed}
+use Rattle.plant_call.specs.Cut.{WaitsBelow}
 use Rattle.plant_call.specs.declared.causes.Cause.{Cause}
 use Rattle.plant_wire.specs.Causes.{cause_text}
-use Rattle.plant_wire.specs.Marks.{Mark, said, told, item_of, mark_text, out_of, calls_of, answers_of, nothing, begun, breaking, last_text, last_marks}
+use Rattle.plant_wire.specs.Marks.{Mark, said, told, item_of, mark_text, out_of, calls_of, answers_of, Last, nothing, begun, breaking, last_text, last_marks, IsSaid, IsFaultless}
 use Rattle.plant_wire.specs.declared.step.Stop.{Stop}
-use Rattle.plant_wire.specs.Step.{IsPut, IsAnswer, Serves, ServesBroken, ServesPart}
+use Rattle.plant_wire.specs.declared.step.Stop.TheVariants.{WriteFailed, Fault}
+use Rattle.plant_wire.specs.Step.{IsPut, IsAnswer, IsStopped, StopsFor, Serves, ServesBroken}
 use Rattle.plant_wire.proofs.Growing.{Appends-none, Appends-append, drop-add}
 use Rattle.plant_wire.proofs.Running.{Joins}
+
+-- a session may stop within an answer that is none by a fault, whatever the cause
+pub stops_for : (last : Last) (stop : Stop) → IsFaultless last → StopsFor last stop
+stops_for last WriteFailed faultless = tt
+stops_for last Fault faultless = faultless
+
+pub stops_faultless : (last : Last) (r : Result (Unit {0}) Stop) → IsFaultless last → IfErr r (λ stop. StopsFor last stop)
+stops_faultless last (Ok u) faultless = tt
+stops_faultless last (Err stop) faultless = stops_for last stop faultless
+
+-- and within any where a write failed
+pub stops_writing : (last : Last) (r : Result (Unit {0}) Stop) → IfErr r (λ stop. stop ≡ WriteFailed) → IfErr r (λ stop. StopsFor last stop)
+stops_writing last (Ok u) is = tt
+stops_writing last (Err stop) is = subst (StopsFor last) (sym is) tt
+
+-- what is no fault was said
+pub said_unless : (answer : Answer) → ((fault : faults.Fault) → answer ≡ answers.Fault fault → ⊥) → IsSaid answer
+said_unless (answers.Reply r) none = tt
+said_unless (answers.Refused r) none = tt
+said_unless (answers.Fault f) none = none f refl
 
 items-append : (ms ns : List Mark) → map item_of (ms ++ ns) ≡ map item_of ms ++ map item_of ns
 items-append [] ns = refl
@@ -68,20 +92,23 @@ module _ {first second both : List Call → List Answer → Type 0} (joins : Joi
         served = ran_more a.marks b.marks a.served b.served;
       }
 
-  pub serves_then_part : (bytes mid : List ℕ) (u v w : Option (List ℕ)) → Serves bytes u v first mid → ServesPart mid v w second → ServesPart bytes u w both
-  serves_then_part bytes mid u v w a b =
+  pub serves_then_part : (bytes mid : List ℕ) (u v w : Option (List ℕ)) (stop : Stop) → Serves bytes u v first mid → IsStopped mid v w second stop
+      → IsStopped bytes u w both stop
+  serves_then_part bytes mid u v w stop a (b, why) =
       let all : Appends u w (out_of a.marks ++ (out_of b.marks ++ take b.part (last_text b.last))) = Appends-append u v w _ _ a.writes b.writes in
-      let ran = ran_more a.marks (b.marks ++ last_marks b.last) a.served b.served in
-      record {
-        marks = a.marks ++ b.marks;
-        rest = b.rest;
-        last = b.last;
-        part = b.part;
-        parses = parsed_more bytes mid b.rest a.marks b.marks a.parses b.parses;
-        stands = b.stands;
-        writes = rw (out-append a.marks b.marks, append_assoc) all;
-        served = subst (λ (x : List Mark). both (calls_of x) (answers_of x)) (sym (append_assoc a.marks b.marks (last_marks b.last))) ran;
-      }
+      let ran = ran_more a.marks (b.marks ++ last_marks b.last) a.served b.served in (
+        record {
+          marks = a.marks ++ b.marks;
+          rest = b.rest;
+          last = b.last;
+          part = b.part;
+          parses = parsed_more bytes mid b.rest a.marks b.marks a.parses b.parses;
+          stands = b.stands;
+          writes = rw (out-append a.marks b.marks, append_assoc) all;
+          served = subst (λ (x : List Mark). both (calls_of x) (answers_of x)) (sym (append_assoc a.marks b.marks (last_marks b.last))) ran;
+        },
+        why,
+      )
 
   -- the same, where the second run begins at a place in the bytes
   pub serves_past : (bytes : List ℕ) (at n : ℕ) (mid : List ℕ) (u v w : Option (List ℕ)) → mid ≡ drop at bytes
@@ -95,17 +122,18 @@ module _ {first second both : List Call → List Answer → Type 0} (joins : Joi
   broken_from bytes at mid u v w is a b =
       serves_then_broken bytes (drop at bytes) u v w a (subst (λ (x : List ℕ). ServesBroken x v w second) is b)
 
-  pub part_from : (bytes : List ℕ) (at : ℕ) (mid : List ℕ) (u v w : Option (List ℕ)) → mid ≡ drop at bytes
-      → Serves bytes u v first (drop at bytes) → ServesPart mid v w second → ServesPart bytes u w both
-  part_from bytes at mid u v w is a b =
-      serves_then_part bytes (drop at bytes) u v w a (subst (λ (x : List ℕ). ServesPart x v w second) is b)
+  pub part_from : (bytes : List ℕ) (at : ℕ) (mid : List ℕ) (u v w : Option (List ℕ)) (stop : Stop) → mid ≡ drop at bytes
+      → Serves bytes u v first (drop at bytes) → IsStopped mid v w second stop → IsStopped bytes u w both stop
+  part_from bytes at mid u v w stop is a b =
+      serves_then_part bytes (drop at bytes) u v w stop a (subst (λ (x : List ℕ). IsStopped x v w second stop) is b)
 
-  pub waits_from : (bytes : List ℕ) (at : ℕ) (mid : List ℕ) (u v w : Option (List ℕ)) → mid ≡ drop at bytes
-      → Serves bytes u v first (drop at bytes) → StandsAtFront mid waits × Serves mid v w second mid
-      → StandsAtFront (drop at bytes) waits × Serves bytes u w both (drop at bytes)
-  waits_from bytes at mid u v w is a b = (
+  pub waits_from : (bytes : List ℕ) (at more : ℕ) (mid : List ℕ) (u v w : Option (List ℕ)) → mid ≡ drop at bytes
+      → Serves bytes u v first (drop at bytes) → StandsAtFront mid waits × Serves mid v w second mid × WaitsBelow mid more
+      → StandsAtFront (drop at bytes) waits × Serves bytes u w both (drop at bytes) × WaitsBelow (drop at bytes) more
+  waits_from bytes at more mid u v w is a b = (
     subst (λ (x : List ℕ). StandsAtFront x waits) is b.0,
     serves_more bytes (drop at bytes) (drop at bytes) u v w a (subst (λ (x : List ℕ). Serves x v w second x) is b.1),
+    subst (λ (x : List ℕ). WaitsBelow x more) is b.2,
   )
 
 module _ {ran : List Call → List Answer → Type 0} where
@@ -127,41 +155,41 @@ module _ {ran : List Call → List Answer → Type 0} where
   broken_now bytes o o' cause front writes none =
       record { marks = []; rest = bytes; cause = cause; parses = refl; front = front; writes = writes; served = none }
 
-  pub part_none : (bytes : List ℕ) (o : Option (List ℕ)) → ran [] [] → ServesPart bytes o o ran
+  pub part_none : (bytes : List ℕ) (o : Option (List ℕ)) → ran [] [] → IsStopped bytes o o ran Fault
   part_none bytes o none =
-      record { marks = []; rest = bytes; last = nothing; part = 0; parses = refl; stands = tt; writes = Appends-none o; served = none }
+      (record { marks = []; rest = bytes; last = nothing; part = 0; parses = refl; stands = tt; writes = Appends-none o; served = none }, tt)
 
   -- a part of the answer to one request
-  pub part_one : (bytes : List ℕ) (o o' : Option (List ℕ)) (m : Mark) (n part : ℕ) → StandsAtFront bytes (whole (item_of m) n)
-      → Appends o o' (take part (mark_text m)) → ran (calls_of (m ∷ [])) (answers_of (m ∷ [])) → ServesPart bytes o o' ran
-  part_one bytes o o' m n part front writes ran_it =
-      record { marks = []; rest = bytes; last = begun m; part = part; parses = refl; stands = (n, front); writes = writes; served = ran_it }
+  pub part_one : (bytes : List ℕ) (o o' : Option (List ℕ)) (m : Mark) (n part : ℕ) (stop : Stop) → StandsAtFront bytes (whole (item_of m) n)
+      → Appends o o' (take part (mark_text m)) → ran (calls_of (m ∷ [])) (answers_of (m ∷ [])) → StopsFor (begun m) stop → IsStopped bytes o o' ran stop
+  part_one bytes o o' m n part stop front writes ran_it why =
+      (record { marks = []; rest = bytes; last = begun m; part = part; parses = refl; stands = (n, front); writes = writes; served = ran_it }, why)
 
-  pub part_broken : (bytes : List ℕ) (o o' : Option (List ℕ)) (cause : Cause) (part : ℕ) → StandsAtFront bytes (broken cause)
-      → Appends o o' (take part (cause_text cause)) → ran [] [] → ServesPart bytes o o' ran
-  part_broken bytes o o' cause part front writes none =
-      record { marks = []; rest = bytes; last = breaking cause; part = part; parses = refl; stands = front; writes = writes; served = none }
+  pub part_broken : (bytes : List ℕ) (o o' : Option (List ℕ)) (cause : Cause) (part : ℕ) (stop : Stop) → StandsAtFront bytes (broken cause)
+      → Appends o o' (take part (cause_text cause)) → ran [] [] → IsStopped bytes o o' ran stop
+  part_broken bytes o o' cause part stop front writes none = (
+    record { marks = []; rest = bytes; last = breaking cause; part = part; parses = refl; stands = front; writes = writes; served = none },
+    stops_for (breaking cause) stop tt,
+  )
 
   -- what was answered whole was answered
-  pub serves_part : (bytes rest : List ℕ) (o o' : Option (List ℕ)) → Serves bytes o o' ran rest → ServesPart bytes o o' ran
-  serves_part bytes rest o o' a = record {
-    marks = a.marks;
-    rest = rest;
-    last = nothing;
-    part = 0;
-    parses = a.parses;
-    stands = tt;
-    writes = subst (Appends o o') (sym (append-nil (out_of a.marks))) a.writes;
-    served = subst (λ (x : List Mark). ran (calls_of x) (answers_of x)) (sym (append-nil a.marks)) a.served;
-  }
+  pub serves_part : (bytes rest : List ℕ) (o o' : Option (List ℕ)) → Serves bytes o o' ran rest → IsStopped bytes o o' ran Fault
+  serves_part bytes rest o o' a = (
+    record {
+      marks = a.marks;
+      rest = rest;
+      last = nothing;
+      part = 0;
+      parses = a.parses;
+      stands = tt;
+      writes = subst (Appends o o') (sym (append-nil (out_of a.marks))) a.writes;
+      served = subst (λ (x : List Mark). ran (calls_of x) (answers_of x)) (sym (append-nil a.marks)) a.served;
+    },
+    tt,
+  )
 
 -- the answer to a call was put
-pub answer_put : (o o' : Option (List ℕ)) (ran : List Call → List Answer → Type 0) (call : Call) (answer : Answer) (text : List ℕ) (r : Result (Unit {0}) Stop)
-    → IsPut o o' text r → text ≡ text_of answer → ran (call ∷ []) (answer ∷ []) → IsAnswer o o' ran call r
-answer_put o o' ran call answer text (Ok u) put is ran_it = (answer, subst (λ (x : List ℕ). Appends o o' x) is put, ran_it)
-answer_put o o' ran call answer text (Err e) put is ran_it = (answer, put.0, subst (λ (x : List ℕ). Appends o o' (take put.0 x)) is put.1, ran_it)
-
--- it couldn't be rendered
-pub answer_unput : (o : Option (List ℕ)) (ran : List Call → List Answer → Type 0) (call : Call) (answer : Answer) (e : Stop)
-    → ran (call ∷ []) (answer ∷ []) → IsAnswer o o ran call (Err e)
-answer_unput o ran call answer e ran_it = (answer, 0, Appends-none o, ran_it)
+pub answer_put : (o o' : Option (List ℕ)) (ran : List Call → List Answer → Type 0) (call : Call) (answer : Answer) (r : Result (Unit {0}) Stop)
+    → IsPut o o' (text_of answer) r → IfErr r (λ stop. StopsFor (begun (said call answer)) stop) → ran (call ∷ []) (answer ∷ []) → IsAnswer o o' ran call r
+answer_put o o' ran call answer (Ok u) put why ran_it = (answer, put, ran_it)
+answer_put o o' ran call answer (Err stop) put why ran_it = (answer, put.0, put.1, ran_it, why)

@@ -7,7 +7,9 @@ use Rattle.plant_model.specs.declared.reply.Answer.{Answer}
 use Rattle.plant_call.specs.Front.{waits, body_length, item_of as item_from_head, StandsAtFront}
 use Rattle.plant_call.proofs.Cuts.{Parses-append}
 use Rattle.plant_wire.specs.Marks.{item_of}
-use Rattle.plant_wire.specs.Step.{Serves, ServesBroken, ServesPart}
+use Rattle.plant_wire.specs.Step.{IsStopped, Serves, ServesBroken}
+use Rattle.plant_wire.specs.declared.step.Stop.{Stop}
+use Rattle.plant_wire.specs.declared.step.Stop.TheVariants.{Fault}
 use Rattle.plant_wire.specs.Session.{IsIdle, IsCutShort}
 use Rattle.plant_wire.proofs.Growing.{Consumes-none, Consumes-append}
 use Rattle.plant_wire.proofs.Running.{Joins}
@@ -60,7 +62,7 @@ module _ {r r' o o' : Option (List ℕ)} {ran : List Call → List Answer → Ty
   ends_failed r'' none = (at.bytes, no_more r'' none, (buffer, at.idle, at.serves))
 
   pub ends_fault : (r'' : Option (List ℕ)) (more : List ℕ) → Consumes r' r'' more
-      → (bytes : List ℕ) × Consumes r r'' bytes × ServesPart bytes o o' ran
+      → (bytes : List ℕ) × Consumes r r'' bytes × IsStopped bytes o o' ran Fault
   ends_fault r'' more came = (
     at.bytes ++ more,
     Consumes-append r r' r'' at.bytes more at.bytes_are came,
@@ -75,15 +77,16 @@ module _ {r r' o o' : Option (List ℕ)} {ran : List Call → List Answer → Ty
     before : Serves (at.bytes ++ more) o o' ran buffer'
     before = subst (λ (x : List ℕ). Serves (at.bytes ++ more) o o' ran x) (sym is) (serves_extend at.bytes more buffer o o' ran at.serves)
 
-    pub ends_part : (o'' : Option (List ℕ)) → ServesPart buffer' o' o'' next → (bytes : List ℕ) × Consumes r r'' bytes × ServesPart bytes o o'' all
-    ends_part o'' b = (at.bytes ++ more, all_bytes, serves_then_part joins (at.bytes ++ more) buffer' o o' o'' before b)
+    pub ends_part : (o'' : Option (List ℕ)) (stop : Stop) → IsStopped buffer' o' o'' next stop
+        → (bytes : List ℕ) × Consumes r r'' bytes × IsStopped bytes o o'' all stop
+    ends_part o'' stop b = (at.bytes ++ more, all_bytes, serves_then_part joins (at.bytes ++ more) buffer' o o' o'' stop before b)
 
     pub ends_broken : (e : Bool) (o'' : Option (List ℕ)) → ServesBroken buffer' o' o'' next
         → (bytes : List ℕ) × Consumes r r'' bytes × (ServesBroken bytes o o'' all ⊎ IsCutShort bytes r'' e o o'' all)
     ends_broken e o'' b = (at.bytes ++ more, all_bytes, inl (serves_then_broken joins (at.bytes ++ more) buffer' o o' o'' before b))
 
     pub ends_drop_fault : (o'' : Option (List ℕ)) (rest : List ℕ) → Serves buffer' o' o'' next rest
-        → (bytes : List ℕ) × Consumes r r'' bytes × ServesPart bytes o o'' all
+        → (bytes : List ℕ) × Consumes r r'' bytes × IsStopped bytes o o'' all Fault
     ends_drop_fault o'' rest b =
         (at.bytes ++ more, all_bytes, serves_part (at.bytes ++ more) rest o o'' (serves_more joins (at.bytes ++ more) buffer' rest o o' o'' before b))
 

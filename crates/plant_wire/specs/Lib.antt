@@ -1,4 +1,5 @@
 pub mod Causes
+pub mod Limits
 pub mod Marks
 pub mod Ran
 pub mod Step

@@ -2,6 +2,7 @@
 use Rattle.std.specs.Prelude.{ℕ, List, [], ◌∷◌, ◌++◌}
 use Rattle.plant_model.specs.declared.call.Call.{Call}
 use Rattle.plant_model.specs.declared.reply.Answer.{Answer}
+use Rattle.plant_model.specs.declared.reply.Answer.TheVariants as answer
 use Rattle.plant_answer.specs.Answers.{text_of}
 use Rattle.plant_call.specs.Front.{Item, asked, bad}
 use Rattle.plant_call.specs.declared.causes.Cause.{Cause}
@@ -53,3 +54,13 @@ abbrev pub last_marks : Last → List Mark
 last_marks nothing = []
 last_marks (begun m) = m ∷ []
 last_marks (breaking cause) = []
+
+-- a reply or a refusal
+abbrev pub IsSaid : Answer → Type 0
+IsSaid (answer.Fault f) = ⊥
+IsSaid _ = Unit {0}
+
+-- what was begun is not the answer to a call that got a fault
+abbrev pub IsFaultless : Last → Type 0
+IsFaultless (begun (said call answer)) = IsSaid answer
+IsFaultless _ = Unit {0}

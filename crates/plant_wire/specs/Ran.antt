@@ -1,13 +1,15 @@
 -- What the office did.
-use Rattle.std.specs.Prelude.{List}
+use Rattle.std.specs.Prelude.{◌≡◌, ◌<◌, ◌+◌, ◌^◌, ℕ, List}
 use Rattle.plant_model.specs.declared.call.Call.{Call}
 use Rattle.plant_model.specs.declared.reply.Answer.{Answer}
 use Rattle.plant_model.specs.Worlds.{World, IsLegalWorld}
 use Rattle.plant_books.specs.Contents.{Content}
 use Rattle.plant_office.specs.Served.{Holds}
-use Rattle.plant_office.specs.Runs.{IsRun}
+use Rattle.plant_office.specs.Runs.{IsRun, stores_in}
 
 -- From any world whose rows the books held, the calls got these answers, and the books hold the rows of the world
--- after them. A call that was answered by a fault counts as never made. `tells` is the keeper's premise at the end.
-pub record Ran (held : Content → Type 0) (tells : Type 0) (left : Content → Type 0) (calls : List Call) (answers : List Answer) : Type 0 where
+-- after them. A call that was answered by a fault counts as never made. `tells` is the keeper's premise at the end. The
+-- books counted each answer Store, from `before` to `after`, while the count has room.
+pub record Ran (held : Content → Type 0) (tells : Type 0) (left : Content → Type 0) (before after : ℕ) (calls : List Call) (answers : List Answer) : Type 0 where
   pub run : (m : Content) → held m → (w : World) → IsLegalWorld w → Holds m w → tells → IsRun w calls answers left
+  pub counted : before + stores_in answers < 2 ^ 64 → after ≡ before + stores_in answers

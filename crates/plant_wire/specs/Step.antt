@@ -5,9 +5,10 @@ use Rattle.plant_model.specs.declared.call.Call.{Call}
 use Rattle.plant_model.specs.declared.reply.Answer.{Answer}
 use Rattle.plant_answer.specs.Answers.{text_of}
 use Rattle.plant_call.specs.Front.{waits, whole, broken, StandsAtFront, Parsed}
+use Rattle.plant_call.specs.Cut.{WaitsBelow}
 use Rattle.plant_call.specs.declared.causes.Cause.{Cause}
 use Rattle.plant_wire.specs.Causes.{cause_text}
-use Rattle.plant_wire.specs.Marks.{Mark, item_of, out_of, calls_of, answers_of, Last, nothing, begun, breaking, last_text, last_marks}
+use Rattle.plant_wire.specs.Marks.{Mark, said, item_of, out_of, calls_of, answers_of, Last, nothing, begun, breaking, last_text, last_marks, IsFaultless}
 use Rattle.plant_wire.specs.declared.step.Step.{Step}
 use Rattle.plant_wire.specs.declared.step.Step.TheVariants.{Waits, Took, Broken}
 use Rattle.plant_wire.specs.declared.step.Stop.{Stop}
@@ -26,10 +27,16 @@ abbrev pub IsPut : Option (List ℕ) → Option (List ℕ) → List ℕ → Resu
 IsPut o o' text (Ok u) = Appends o o' text
 IsPut o o' text (Err e) = (part : ℕ) × Appends o o' (take part text)
 
+-- why an answer was written in part: a write failed, or it could not be rendered; one by a fault always can
+abbrev pub StopsFor : Last → Stop → Type 0
+StopsFor last WriteFailed = Unit {0}
+StopsFor last Fault = IsFaultless last
+
 -- the call was made, and its answer written whole or in part
 abbrev pub IsAnswer : Option (List ℕ) → Option (List ℕ) → (List Call → List Answer → Type 0) → Call → Result (Unit {0}) Stop → Type 0
 IsAnswer o o' ran call (Ok u) = (answer : Answer) × Appends o o' (text_of answer) × ran (call ∷ []) (answer ∷ [])
-IsAnswer o o' ran call (Err e) = (answer : Answer) × (part : ℕ) × Appends o o' (take part (text_of answer)) × ran (call ∷ []) (answer ∷ [])
+IsAnswer o o' ran call (Err stop) =
+    (answer : Answer) × (part : ℕ) × Appends o o' (take part (text_of answer)) × ran (call ∷ []) (answer ∷ []) × StopsFor (begun (said call answer)) stop
 
 -- the requests at the front of the bytes were answered, each once and in order, and this is left
 pub record Serves (bytes : List ℕ) (o o' : Option (List ℕ)) (ran : List Call → List Answer → Type 0) (rest : List ℕ) : Type 0 where
@@ -65,15 +72,20 @@ pub record ServesPart (bytes : List ℕ) (o o' : Option (List ℕ)) (ran : List 
   pub writes : Appends o o' (out_of marks ++ take part (last_text last))
   pub served : ran (calls_of (marks ++ last_marks last)) (answers_of (marks ++ last_marks last))
 
+-- they were, and the next answer stops within
+abbrev pub IsStopped : List ℕ → Option (List ℕ) → Option (List ℕ) → (List Call → List Answer → Type 0) → Stop → Type 0
+IsStopped bytes o o' ran stop = (s : ServesPart bytes o o' ran) × StopsFor s.last stop
+
 -- one request
 abbrev pub IsStep : List ℕ → Option (List ℕ) → Option (List ℕ) → (List Call → List Answer → Type 0) → Result Step Stop → Type 0
-IsStep bytes o o' ran (Ok Waits) = StandsAtFront bytes waits × Serves bytes o o' ran bytes
+IsStep bytes o o' ran (Ok (Waits n)) = StandsAtFront bytes waits × Serves bytes o o' ran bytes × WaitsBelow bytes n
 IsStep bytes o o' ran (Ok (Took n)) = (0 < n) × (n ≤ length bytes) × Serves bytes o o' ran (drop n bytes)
 IsStep bytes o o' ran (Ok Broken) = ServesBroken bytes o o' ran
-IsStep bytes o o' ran (Err e) = ServesPart bytes o o' ran
+IsStep bytes o o' ran (Err stop) = IsStopped bytes o o' ran stop
 
 -- all whole requests at the front
 abbrev pub IsRest : List ℕ → Option (List ℕ) → Option (List ℕ) → (List Call → List Answer → Type 0) → Result Rest Stop → Type 0
-IsRest bytes o o' ran (Ok (left.Waits n)) = (n ≤ length bytes) × StandsAtFront (drop n bytes) waits × Serves bytes o o' ran (drop n bytes)
+IsRest bytes o o' ran (Ok (left.Waits n more)) =
+    (n ≤ length bytes) × StandsAtFront (drop n bytes) waits × Serves bytes o o' ran (drop n bytes) × WaitsBelow (drop n bytes) more
 IsRest bytes o o' ran (Ok left.Broken) = ServesBroken bytes o o' ran
-IsRest bytes o o' ran (Err e) = ServesPart bytes o o' ran
+IsRest bytes o o' ran (Err stop) = IsStopped bytes o o' ran stop

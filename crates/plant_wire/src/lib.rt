@@ -2,6 +2,7 @@
 #![tactic(auto)]
 
 mod causes;
+mod faults;
 mod put;
 mod reads;
 mod std_streams;
@@ -14,6 +15,3 @@ pub use plant_call::{Cause, Cut, cuts_agree, next_call, next_call_with, one_read
 pub use reads::{End, session};
 pub use std_streams::{FromRead, ToWrite};
 pub use streams::{Failed, Inlet, Outlet};
-
-#[cfg(test)]
-mod tests;

@@ -1,6 +1,7 @@
 ghost use Rattle.std.specs.Prelude.{◌≡◌, ◌≤◌, length, drop, OnOk};
+ghost use Rattle.plant_wire.specs.Limits.{least_room};
 ghost use Rattle.plant_wire.specs.Ran.{Ran};
-ghost use Rattle.plant_wire.specs.Session.{IsRead, IsSession, StopsAs};
+ghost use Rattle.plant_wire.specs.Session.{IsFewReads, IsIdle, IsRead, IsSession, StopsAs};
 
 use crate::put::bytes_from;
 use crate::step::{Rest, Stop, answer_all};
@@ -34,14 +35,21 @@ pub(crate) enum Read {
     Fault,
 }
 
-const CHUNK: usize = 4096;
+/// A session makes so many reads at most.
+const MAX_READS: u32 = 1_000_000;
 
-fn read_more<I: Inlet>(inlet: &mut I, buffer: &mut Vec<u8>) -> Read
+/// Each is offered room for so many bytes.
+const CHUNK: usize = 65536;
+
+/// One read, behind what waits. No whole request may be left there, so that a client that waits for an answer has it
+/// before more is asked of it.
+fn read_more<I: Inlet>(inlet: &mut I, chunk: &mut [u8], buffer: &mut Vec<u8>) -> Read
+    requires room { least_room ≤ length chunk.old }
+    requires answered { IsIdle buffer.old.items }
     ensures { IsRead (I.remaining inlet.old) (I.remaining inlet.new) (I.ended inlet.new) (I.failures inlet.old) (I.failures inlet.new)
         (I.reads inlet.old) (I.reads inlet.new) buffer.old.items buffer.new.items result }
 {
-    let mut chunk = [0u8; CHUNK];
-    match inlet.take(&mut chunk) {
+    match inlet.take(chunk) {
         Err(_) => Read::Failed,
         Ok(0) => Read::Finished,
         Ok(n) => match buffer.extend_from_slice(&chunk[..n]) {
@@ -67,18 +75,22 @@ fn run_reads<I: Inlet, O: Outlet, B: Books>(
     alloc: Global,
     routes: &Routes,
     room: &mut FieldRoom,
+    chunk: &mut [u8],
     inlet: &mut I,
     outlet: &mut O,
     office: &mut Office<B>,
 ) -> End
+    requires { least_room ≤ length chunk.old }
     ensures does { IsSession (I.remaining inlet.old) (I.remaining inlet.new) (I.ended inlet.new) (O.written outlet.old) (O.written outlet.new)
-        (Ran (B.holds office.old.books) (B.can_tell office.new.books) (B.holds office.new.books)) result }
+        (Ran (B.holds office.old.books) (B.can_tell office.new.books) (B.holds office.new.books) (B.stores office.old.books) (B.stores office.new.books)) result }
     ensures told { B.can_tell office.new.books → B.can_tell office.old.books }
     ensures stops { StopsAs (I.failures inlet.old) (I.failures inlet.new) (I.reads inlet.old) (I.reads inlet.new) (O.failures outlet.old) (O.failures outlet.new) result }
+    ensures counted { IsFewReads (I.reads inlet.old) (I.reads inlet.new) }
 {
     let mut buffer = Vec::new(alloc);
-    'reads: for count in 0..1_000_000u32 {
-        match read_more(inlet, &mut buffer) {
+    let mut wanted = 0;
+    'reads: for count in 0..MAX_READS {
+        match read_more(inlet, chunk, &mut buffer) {
             Read::Failed => return End::ReadFailed,
             Read::Fault => return End::Fault,
             Read::Finished => {
@@ -89,12 +101,12 @@ fn run_reads<I: Inlet, O: Outlet, B: Books>(
             }
             Read::More => {}
         }
-        match answer_all(alloc, routes, room, &buffer, outlet, office) {
+        match answer_all(alloc, routes, room, &buffer, wanted, outlet, office) {
             Err(Stop::WriteFailed) => return End::WriteFailed,
             Err(Stop::Fault) => return End::Fault,
             Ok(Rest::Broken) => return End::BrokenInput,
-            Ok(Rest::Waits(n)) => match drop_front(alloc, &mut buffer, n) {
-                Ok(()) => {}
+            Ok(Rest::Waits(n, more)) => match drop_front(alloc, &mut buffer, n) {
+                Ok(()) => wanted = more,
                 Err(_) => return End::Fault,
             },
         }
@@ -104,10 +116,10 @@ fn run_reads<I: Inlet, O: Outlet, B: Books>(
 
 /// Answers the requests that come in, after each read all that are whole, in their order, each answer whole before
 /// the next call is made, until the input ends, it can't be read as requests, a read or a write fails, or memory runs
-/// out. At most 1,000,000 reads are made.
+/// out. At most 1,000,000 reads are made, each with room for 65,536 bytes.
 ///
 /// What is written is what the calls in the bytes received are answered, however the reads and the writes are cut. A
-/// call that the office answers by a fault is answered 503, and the session goes on.
+/// call that the office answers by a fault is answered 503, for which no memory is taken, and the session goes on.
 pub fn session<I: Inlet, O: Outlet, B: Books>(
     alloc: Global,
     inlet: &mut I,
@@ -115,9 +127,10 @@ pub fn session<I: Inlet, O: Outlet, B: Books>(
     office: &mut Office<B>,
 ) -> End
     ensures does { IsSession (I.remaining inlet.old) (I.remaining inlet.new) (I.ended inlet.new) (O.written outlet.old) (O.written outlet.new)
-        (Ran (B.holds office.old.books) (B.can_tell office.new.books) (B.holds office.new.books)) result }
+        (Ran (B.holds office.old.books) (B.can_tell office.new.books) (B.holds office.new.books) (B.stores office.old.books) (B.stores office.new.books)) result }
     ensures told { B.can_tell office.new.books → B.can_tell office.old.books }
     ensures stops { StopsAs (I.failures inlet.old) (I.failures inlet.new) (I.reads inlet.old) (I.reads inlet.new) (O.failures outlet.old) (O.failures outlet.new) result }
+    ensures counted { IsFewReads (I.reads inlet.old) (I.reads inlet.new) }
 {
     let Ok(routes) = Routes::new(alloc) else {
         return End::Fault;
@@ -125,5 +138,9 @@ pub fn session<I: Inlet, O: Outlet, B: Books>(
     let Ok(mut room) = FieldRoom::new(alloc) else {
         return End::Fault;
     };
-    run_reads(alloc, &routes, &mut room, inlet, outlet, office)
+    let Ok(mut bytes) = vec![in alloc; 0u8; CHUNK] else {
+        return End::Fault;
+    };
+    let chunk = bytes.as_mut_slice();
+    run_reads(alloc, &routes, &mut room, chunk, inlet, outlet, office)
 }

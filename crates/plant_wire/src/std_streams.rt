@@ -1,21 +1,28 @@
-ghost use Rattle.std.specs.Prelude.{◌≡◌, if◌then◌else◌, None, Some, length, false};
+ghost use Rattle.std.specs.Prelude.{◌≡◌, ◌<◌, ◌-◌, ◌^◌, if◌then◌else◌, None, Some, IsSome, length, false, true};
+ghost use Rattle.std.specs.Option.{is_some};
 
 use crate::streams::{Failed, Inlet, Outlet};
-use std::io::{Read, Write};
+use std::io;
+use std::io::{ErrorKind, Read, Write};
 
-/// A reader of std as an inlet. What it claims of its bytes is what the reader claims.
+/// A reader of std as an inlet. What it claims of its bytes is what the reader claims. It fails with the reader's error,
+/// or where no more reads can be counted.
 #[derive(Drop)]
 pub struct FromRead<R: Read> {
     reader: R,
     reads: u64,
     ended: bool,
     failed: bool,
+    error: Option<io::Error>,
+    ghost caused: { failed ≡ true → reads < 2 ^ 64 - 1 → IsSome error },
 }
 
 impl<R: Read> FromRead<R> {
     /// The inlet over this reader, of which no read was made.
     pub fn new(reader: R) -> FromRead<R>
         ensures reader { result.reader ≡ reader }
+        ensures unread { result.reads ≡ 0 }
+        ensures going { result.ended ≡ false }
         ensures fresh { result.failed ≡ false }
     {
         FromRead {
@@ -23,6 +30,7 @@ impl<R: Read> FromRead<R> {
             reads: 0,
             ended: false,
             failed: false,
+            error: None,
         }
     }
 }
@@ -52,7 +60,8 @@ impl<R: Read> Inlet for FromRead<R> {
                 }
                 Ok(n)
             }
-            Err(_) => {
+            Err(error) => {
+                self.error = Some(error);
                 self.failed = true;
                 Err(Failed)
             }
@@ -60,22 +69,23 @@ impl<R: Read> Inlet for FromRead<R> {
     }
 }
 
-/// A writer of std as an outlet. What it claims of its bytes is what the writer claims.
+/// A writer of std as an outlet. What it claims of its bytes is what the writer claims. It fails with the writer's
+/// error, or with `WriteZero` where the writer took nothing of some bytes.
 #[derive(Drop)]
 pub struct ToWrite<W: Write> {
     writer: W,
-    failed: bool,
+    error: Option<io::Error>,
 }
 
 impl<W: Write> ToWrite<W> {
     /// The outlet over this writer, of which no write failed.
     pub fn new(writer: W) -> ToWrite<W>
         ensures writer { result.writer ≡ writer }
-        ensures fresh { result.failed ≡ false }
+        ensures fresh { result.error ≡ None }
     {
         ToWrite {
             writer,
-            failed: false,
+            error: None,
         }
     }
 }
@@ -83,23 +93,36 @@ impl<W: Write> ToWrite<W> {
 impl<W: Write> Outlet for ToWrite<W> {
     ghost written = { λ s. W.contents s.writer };
 
-    ghost failures = { λ s. if s.failed then 1 else 0 };
+    ghost failures = { λ s. if is_some s.error then 1 else 0 };
 
     fn put(&mut self, bytes: &[u8]) -> Result<usize, Failed> {
-        if self.failed {
+        if self.error.is_some() {
             return Err(Failed);
         }
         match self.writer.write(bytes) {
             Ok(n) => {
                 if n == 0 && !bytes.is_empty() {
-                    self.failed = true;
+                    self.error = Some(ErrorKind::WriteZero.into());
                 }
                 Ok(n)
             }
-            Err(_) => {
-                self.failed = true;
+            Err(error) => {
+                self.error = Some(error);
                 Err(Failed)
             }
         }
+    }
+}
+
+/// What is written beside the answers, as lines of a log, is not counted as an answer that failed.
+impl<W: Write> Write for ToWrite<W> {
+    ghost contents = { λ s. W.contents s.writer };
+
+    fn write(&mut self, bytes: &[u8]) -> io::Result<usize> {
+        self.writer.write(bytes)
+    }
+
+    fn flush(&mut self) -> io::Result<()> {
+        self.writer.flush()
     }
 }

@@ -1,23 +1,28 @@
-ghost use Rattle.std.specs.Prelude.{◌≡◌};
+ghost use Rattle.std.specs.Prelude.{◌≡◌, IfErr};
+ghost use Rattle.plant_model.specs.declared.reply.Answer.TheVariants as answers;
+ghost use Rattle.plant_answer.specs.Answers.{text_of};
+ghost use Rattle.plant_call.specs.Cut.{WaitsBelow};
 ghost use Rattle.plant_wire.specs.Causes.{cause_text};
 ghost use Rattle.plant_wire.specs.Ran.{Ran};
 ghost use Rattle.plant_wire.specs.Step.{Stalls, IsPut, IsAnswer, IsStep, IsRest};
 
 use crate::causes::render_cause;
+use crate::faults::fault_text;
 use crate::put::{bytes_from, put_all};
 use crate::streams::Outlet;
 use plant_answer::render;
-use plant_call::{Cause, Cut, next_call_with};
+use plant_call::{Cause, Cut, Look, look_with};
 use plant_head::FieldRoom;
-use plant_model::Call;
+use plant_model::{Answer, Call};
 use plant_office::{Books, Office};
 use plant_route::Routes;
+use plant_types::Fault;
 use std::alloc::Global;
 
-/// What stood at the front.
+/// What stood at the front. What waits still does with fewer bytes than these.
 #[derive(Clone, Copy, Debug)]
 pub(crate) enum Step {
-    Waits,
+    Waits(usize),
     Took(usize),
     Broken,
 }
@@ -29,16 +34,17 @@ pub(crate) enum Stop {
     Fault,
 }
 
-/// What is left after all whole requests.
+/// What is left after all whole requests: where it begins, and with fewer bytes than how many it still waits.
 #[derive(Clone, Copy, Debug)]
 pub(crate) enum Rest {
-    Waits(usize),
+    Waits(usize, usize),
     Broken,
 }
 
 fn put_text<O: Outlet>(outlet: &mut O, text: &[u8]) -> Result<(), Stop>
     ensures does { IsPut (O.written outlet.old) (O.written outlet.new) text.now result }
     ensures stalls { Stalls (O.failures outlet.old) (O.failures outlet.new) result }
+    ensures only { IfErr result (λ stop. stop ≡ Stop.WriteFailed) }
 {
     match put_all(outlet, text) {
         Ok(()) => Ok(()),
@@ -56,21 +62,40 @@ fn put_cause<O: Outlet>(alloc: Global, outlet: &mut O, cause: Cause) -> Result<(
     }
 }
 
+/// The answer to a call that got a fault takes no memory, so that only a write that fails can stop it.
+fn put_fault<O: Outlet>(outlet: &mut O, fault: &Fault) -> Result<(), Stop>
+    ensures does { IsPut (O.written outlet.old) (O.written outlet.new) (text_of (answers.Fault fault.now)) result }
+    ensures stalls { Stalls (O.failures outlet.old) (O.failures outlet.new) result }
+    ensures only { IfErr result (λ stop. stop ≡ Stop.WriteFailed) }
+{
+    put_text(outlet, fault_text(fault))
+}
+
+fn put_answer<O: Outlet>(alloc: Global, outlet: &mut O, answer: &Answer) -> Result<(), Stop>
+    ensures does { IsPut (O.written outlet.old) (O.written outlet.new) (text_of answer.now) result }
+    ensures stalls { Stalls (O.failures outlet.old) (O.failures outlet.new) result }
+{
+    match render(alloc, answer) {
+        Ok(text) => put_text(outlet, &text),
+        Err(_) => Err(Stop::Fault),
+    }
+}
+
 fn answer_call<O: Outlet, B: Books>(
     alloc: Global,
     outlet: &mut O,
     office: &mut Office<B>,
     call: &Call,
 ) -> Result<(), Stop>
-    ensures does { IsAnswer (O.written outlet.old) (O.written outlet.new) (Ran (B.holds office.old.books) (B.can_tell office.new.books) (B.holds office.new.books)) call.now result }
+    ensures does { IsAnswer (O.written outlet.old) (O.written outlet.new) (Ran (B.holds office.old.books) (B.can_tell office.new.books) (B.holds office.new.books) (B.stores office.old.books) (B.stores office.new.books)) call.now result }
     ensures told { B.can_tell office.new.books → B.can_tell office.old.books }
     ensures stalls { Stalls (O.failures outlet.old) (O.failures outlet.new) result }
 {
     let answer = office.serve(call);
-    let Ok(text) = render(alloc, &answer) else {
-        return Err(Stop::Fault);
-    };
-    put_text(outlet, &text)
+    match &answer {
+        Answer::Fault(fault) => put_fault(outlet, fault),
+        said => put_answer(alloc, outlet, said),
+    }
 }
 
 fn answer_next<O: Outlet, B: Books>(
@@ -81,12 +106,13 @@ fn answer_next<O: Outlet, B: Books>(
     outlet: &mut O,
     office: &mut Office<B>,
 ) -> Result<Step, Stop>
-    ensures does { IsStep bytes.now (O.written outlet.old) (O.written outlet.new) (Ran (B.holds office.old.books) (B.can_tell office.new.books) (B.holds office.new.books)) result }
+    ensures does { IsStep bytes.now (O.written outlet.old) (O.written outlet.new) (Ran (B.holds office.old.books) (B.can_tell office.new.books) (B.holds office.new.books) (B.stores office.old.books) (B.stores office.new.books)) result }
     ensures told { B.can_tell office.new.books → B.can_tell office.old.books }
     ensures stalls { Stalls (O.failures outlet.old) (O.failures outlet.new) result }
 {
-    match next_call_with(alloc, routes, room, bytes) {
-        Cut::More => Ok(Step::Waits),
+    let Look { cut, wanted } = look_with(alloc, routes, room, bytes);
+    match cut {
+        Cut::More => Ok(Step::Waits(wanted)),
         Cut::Fault => Err(Stop::Fault),
         Cut::Broken(cause) => match put_cause(alloc, outlet, cause) {
             Ok(()) => Ok(Step::Broken),
@@ -103,24 +129,30 @@ fn answer_next<O: Outlet, B: Books>(
     }
 }
 
-/// Answers all whole requests at the front of the bytes.
+/// Answers all whole requests at the front of the bytes. Where fewer are there than are wanted, none is, and they are
+/// not looked at.
 pub(crate) fn answer_all<O: Outlet, B: Books>(
     alloc: Global,
     routes: &Routes,
     room: &mut FieldRoom,
     bytes: &[u8],
+    wanted: usize,
     outlet: &mut O,
     office: &mut Office<B>,
 ) -> Result<Rest, Stop>
-    ensures does { IsRest bytes.now (O.written outlet.old) (O.written outlet.new) (Ran (B.holds office.old.books) (B.can_tell office.new.books) (B.holds office.new.books)) result }
+    requires { WaitsBelow bytes.now wanted }
+    ensures does { IsRest bytes.now (O.written outlet.old) (O.written outlet.new) (Ran (B.holds office.old.books) (B.can_tell office.new.books) (B.holds office.new.books) (B.stores office.old.books) (B.stores office.new.books)) result }
     ensures told { B.can_tell office.new.books → B.can_tell office.old.books }
     ensures stalls { Stalls (O.failures outlet.old) (O.failures outlet.new) result }
 {
+    if bytes.len() < wanted {
+        return Ok(Rest::Waits(0, wanted));
+    }
     let mut at = 0;
     'items: loop {
         match answer_next(alloc, routes, room, bytes_from(bytes, at), outlet, office) {
             Err(stop) => return Err(stop),
-            Ok(Step::Waits) => return Ok(Rest::Waits(at)),
+            Ok(Step::Waits(more)) => return Ok(Rest::Waits(at, more)),
             Ok(Step::Broken) => return Ok(Rest::Broken),
             Ok(Step::Took(n)) => at += n,
         }

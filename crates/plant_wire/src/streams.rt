@@ -1,5 +1,6 @@
 ghost use Rattle.std.specs.Prelude.{◌≡◌, ◌≤◌, ◌<◌, ◌+◌, ℕ, List, Bool, Option, length, IfOk, OnErr, OnOk, IsTrue};
 ghost use Rattle.std.specs.Io.KnownBytes.{ReadConsumes, WriteAppends};
+ghost use Rattle.plant_wire.specs.Limits.{least_room};
 
 /// A read or a write failed.
 #[derive(Clone, Copy, Debug, PartialEq, Eq)]
@@ -19,12 +20,17 @@ pub trait Inlet {
     /// How many reads were made.
     ghost reads: { Self → ℕ };
 
-    /// The next bytes, at the front of `buf`; none at the end of the input.
+    /// The next bytes, at the front of `buf`, which has room for 4,096; none at the end of the input.
     fn take(&mut self, buf: &mut [u8]) -> Result<usize, Failed>
+        requires { least_room ≤ length buf.old }
         ensures within { IfOk result (λ n. n ≤ length buf.old) }
         ensures bytes { ReadConsumes (remaining self.old) (remaining self.new) result buf.new }
         ensures finished { IfOk result (λ n. 0 < length buf.old → n ≡ 0 → IsTrue (ended self.new)) }
+        ensures going { IfOk result (λ n. 0 < n → ended self.new ≡ ended self.old) }
+        ensures unended { OnErr result (ended self.new ≡ ended self.old) }
         ensures counted { OnOk result (reads self.new ≡ reads self.old + 1) }
+        ensures kept { OnErr result (reads self.old ≤ reads self.new) }
+        ensures few { OnErr result (reads self.new ≤ reads self.old + 1) }
         ensures lasting { OnOk result (failures self.old ≡ 0) }
         ensures ok { OnOk result (failures self.new ≡ failures self.old) }
         ensures failed { OnErr result (failures self.new ≡ 1) };

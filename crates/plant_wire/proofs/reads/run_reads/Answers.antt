@@ -1,5 +1,7 @@
-use Rattle.std.proofs.Common.{◌∙◌, ap, sym, drop, refl, arith, inl}
+use Rattle.std.proofs.Common.{[], ◌∙◌, ap, sym, drop, refl, arith, inl}
+use Rattle.plant_call.proofs.Waiting.{waits_left, waits_more, waits_none}
 use Rattle.plant_wire.specs.Ran.{Ran}
+use Rattle.plant_wire.specs.declared.step.Stop.TheVariants.{Fault}
 use Rattle.plant_wire.proofs.Running.{ran_none, ran_joins}
 use Rattle.plant_wire.proofs.Sessions.{stands_start, ends_cut, ends_failed, ends_fault, ends_part, ends_broken, ends_drop_fault, stands_next, some_left}
 use Rattle.plant_wire.proofs.reads.run_reads.Goals as goal
@@ -8,13 +10,21 @@ pub reads-init : goal.reads-init
 reads-init g c =
     rw c.new-buffer.ensures.items record {
       stands = stands_start (g.I.Inlet.remaining c.args.inlet.now) (g.O.Outlet.written c.args.outlet.now)
-          (Ran (g.B.Books.holds c.args.office.now.books) (g.B.Books.can_tell c.args.office.now.books) (g.B.Books.holds c.args.office.now.books))
-          (ran_none (g.B.Books.holds c.args.office.now.books) (g.B.Books.can_tell c.args.office.now.books));
+          (Ran (g.B.Books.holds c.args.office.now.books) (g.B.Books.can_tell c.args.office.now.books) (g.B.Books.holds c.args.office.now.books) (g.B.Books.stores c.args.office.now.books) (g.B.Books.stores c.args.office.now.books))
+          (ran_none (g.B.Books.holds c.args.office.now.books) (g.B.Books.can_tell c.args.office.now.books) (g.B.Books.stores c.args.office.now.books));
       told = λ t. t;
       stalls = refl;
       failed = refl;
       count = omega arith;
+      waits = waits_none [];
     }
+
+pub read_more-requires-clause-answered : goal.read_more-requires-clause-answered
+read_more-requires-clause-answered g c = c.reads.invariant.stands.idle
+
+pub answer_all-requires : goal.answer_all-requires
+answer_all-requires g c =
+    waits_more c.reads.buffer.items c.in-More.ensures.0 c.deref.result.now c.reads.wanted (c.deref.ensures.value ∙ c.in-More.ensures.2) c.reads.invariant.waits
 
 pub returns-in-Failed-clause-does : goal.returns-in-Failed-clause-does
 returns-in-Failed-clause-does g c = ends_failed c.reads.invariant.stands (g.I.Inlet.remaining c.read_more.new.inlet) c.in-Failed.ensures.0
@@ -37,22 +47,24 @@ returns-in-Finished-clause-does g c =
 pub returns-in-Err-WriteFailed-clause-does : goal.returns-in-Err-WriteFailed-clause-does
 returns-in-Err-WriteFailed-clause-does g c =
     let joins = ran_joins (g.B.Books.holds c.args.office.now.books) (g.B.Books.holds c.reads.office.books) (g.B.Books.holds c.answer_all.new.office.books)
-    (g.B.Books.can_tell c.reads.office.books) (g.B.Books.can_tell c.answer_all.new.office.books) c.in-Err-WriteFailed.ensures.told in
-    ends_part c.reads.invariant.stands (g.I.Inlet.remaining c.read_more.new.inlet) c.deref.result.now c.in-More.ensures.0 c.in-More.ensures.1
-    (c.deref.ensures.value ∙ c.in-More.ensures.2) joins (g.O.Outlet.written c.answer_all.new.outlet) c.in-Err-WriteFailed.ensures.does
+    (g.B.Books.can_tell c.reads.office.books) (g.B.Books.can_tell c.answer_all.new.office.books) (g.B.Books.stores c.args.office.now.books) (g.B.Books.stores c.reads.office.books) (g.B.Books.stores c.answer_all.new.office.books) c.in-Err-WriteFailed.ensures.told in
+    let h = ends_part c.reads.invariant.stands (g.I.Inlet.remaining c.read_more.new.inlet) c.deref.result.now c.in-More.ensures.0 c.in-More.ensures.1
+    (c.deref.ensures.value ∙ c.in-More.ensures.2) joins (g.O.Outlet.written c.answer_all.new.outlet) _ c.in-Err-WriteFailed.ensures.does in
+    (h.0, h.1, h.2.0)
 
 pub returns-in-Err-Fault-clause-does : goal.returns-in-Err-Fault-clause-does
 returns-in-Err-Fault-clause-does g c =
+    let h = rw c.in-Err-Fault.field-0-is at c.in-Err-Fault.ensures.does in
     let joins = ran_joins (g.B.Books.holds c.args.office.now.books) (g.B.Books.holds c.reads.office.books) (g.B.Books.holds c.answer_all.new.office.books)
-    (g.B.Books.can_tell c.reads.office.books) (g.B.Books.can_tell c.answer_all.new.office.books) c.in-Err-Fault.ensures.told in
+    (g.B.Books.can_tell c.reads.office.books) (g.B.Books.can_tell c.answer_all.new.office.books) (g.B.Books.stores c.args.office.now.books) (g.B.Books.stores c.reads.office.books) (g.B.Books.stores c.answer_all.new.office.books) c.in-Err-Fault.ensures.told in
     ends_part c.reads.invariant.stands (g.I.Inlet.remaining c.read_more.new.inlet) c.deref.result.now c.in-More.ensures.0 c.in-More.ensures.1
-    (c.deref.ensures.value ∙ c.in-More.ensures.2) joins (g.O.Outlet.written c.answer_all.new.outlet) c.in-Err-Fault.ensures.does
+    (c.deref.ensures.value ∙ c.in-More.ensures.2) joins (g.O.Outlet.written c.answer_all.new.outlet) Fault h
 
 pub returns-in-Ok-Broken-clause-does : goal.returns-in-Ok-Broken-clause-does
 returns-in-Ok-Broken-clause-does g c =
     let h = rw c.in-Ok-Broken.field-0-is at c.in-Ok-Broken.ensures.does in
     let joins = ran_joins (g.B.Books.holds c.args.office.now.books) (g.B.Books.holds c.reads.office.books) (g.B.Books.holds c.answer_all.new.office.books)
-    (g.B.Books.can_tell c.reads.office.books) (g.B.Books.can_tell c.answer_all.new.office.books) c.in-Ok-Broken.ensures.told in
+    (g.B.Books.can_tell c.reads.office.books) (g.B.Books.can_tell c.answer_all.new.office.books) (g.B.Books.stores c.args.office.now.books) (g.B.Books.stores c.reads.office.books) (g.B.Books.stores c.answer_all.new.office.books) c.in-Ok-Broken.ensures.told in
     ends_broken c.reads.invariant.stands (g.I.Inlet.remaining c.read_more.new.inlet) c.deref.result.now c.in-More.ensures.0 c.in-More.ensures.1
     (c.deref.ensures.value ∙ c.in-More.ensures.2) joins (g.I.Inlet.ended c.read_more.new.inlet) (g.O.Outlet.written c.answer_all.new.outlet) h
 
@@ -60,7 +72,7 @@ pub returns-in-Err-clause-does : goal.returns-in-Err-clause-does
 returns-in-Err-clause-does g c =
     let h = rw c.in-Ok-Waits.field-0-is at c.in-Ok-Waits.ensures.does in
     let joins = ran_joins (g.B.Books.holds c.args.office.now.books) (g.B.Books.holds c.reads.office.books) (g.B.Books.holds c.answer_all.new.office.books)
-    (g.B.Books.can_tell c.reads.office.books) (g.B.Books.can_tell c.answer_all.new.office.books) c.in-Ok-Waits.ensures.told in
+    (g.B.Books.can_tell c.reads.office.books) (g.B.Books.can_tell c.answer_all.new.office.books) (g.B.Books.stores c.args.office.now.books) (g.B.Books.stores c.reads.office.books) (g.B.Books.stores c.answer_all.new.office.books) c.in-Ok-Waits.ensures.told in
     ends_drop_fault c.reads.invariant.stands (g.I.Inlet.remaining c.read_more.new.inlet) c.deref.result.now c.in-More.ensures.0 c.in-More.ensures.1
     (c.deref.ensures.value ∙ c.in-More.ensures.2) joins (g.O.Outlet.written c.answer_all.new.outlet) _ h.2
 
@@ -68,7 +80,7 @@ pub reads-preserved : goal.reads-preserved
 reads-preserved g c =
     let h = rw c.in-Ok-Waits.field-0-is at c.in-Ok-Waits.ensures.does in
     let joins = ran_joins (g.B.Books.holds c.args.office.now.books) (g.B.Books.holds c.reads.office.books) (g.B.Books.holds c.answer_all.new.office.books)
-    (g.B.Books.can_tell c.reads.office.books) (g.B.Books.can_tell c.answer_all.new.office.books) c.in-Ok-Waits.ensures.told in
+    (g.B.Books.can_tell c.reads.office.books) (g.B.Books.can_tell c.answer_all.new.office.books) (g.B.Books.stores c.args.office.now.books) (g.B.Books.stores c.reads.office.books) (g.B.Books.stores c.answer_all.new.office.books) c.in-Ok-Waits.ensures.told in
     record {
       stands = stands_next c.reads.invariant.stands (g.I.Inlet.remaining c.read_more.new.inlet) c.deref.result.now c.in-More.ensures.0 c.in-More.ensures.1
           (c.deref.ensures.value ∙ c.in-More.ensures.2) joins (g.O.Outlet.written c.answer_all.new.outlet)
@@ -78,4 +90,6 @@ reads-preserved g c =
       stalls = c.in-Ok-Waits.ensures.stalls ∙ c.reads.invariant.stalls;
       failed = c.in-More.ensures.3 ∙ c.reads.invariant.failed;
       count = omega (arith, c.in-More.ensures.4, c.reads.invariant.count);
+      waits = waits_left (drop c.in-Ok-Waits.n c.deref.result.now) c.drop_front.new.buffer.items c.in-Ok-Waits.more
+          (c.in-Ok.ensures ∙ sym (ap (drop c.in-Ok-Waits.n) c.deref.ensures.value)) h.3;
     }

@@ -7,7 +7,7 @@ abbrev pub invariant-items : goal.invariant-items
 invariant-items g l = record {
   within : l.at ≤ length l.bytes;
   serves : Serves l.bytes (g.O.Outlet.written l.fn.outlet) (g.O.Outlet.written l.outlet)
-      (Ran (g.B.Books.holds l.fn.office.books) (g.B.Books.can_tell l.office.books) (g.B.Books.holds l.office.books)) (drop l.at l.bytes);
+      (Ran (g.B.Books.holds l.fn.office.books) (g.B.Books.can_tell l.office.books) (g.B.Books.holds l.office.books) (g.B.Books.stores l.fn.office.books) (g.B.Books.stores l.office.books)) (drop l.at l.bytes);
   told : g.B.Books.can_tell l.office.books → g.B.Books.can_tell l.fn.office.books;
   stalls : g.O.Outlet.failures l.outlet ≡ g.O.Outlet.failures l.fn.outlet;
 }

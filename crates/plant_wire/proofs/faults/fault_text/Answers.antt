@@ -1,0 +1,13 @@
+use Rattle.std.proofs.Common.{refl}
+use Rattle.std.specs.Fmt.{digits}
+use Rattle.plant_answer.specs.Json.{quoted}
+use Rattle.plant_answer.specs.Response.{response, status_line}
+use Rattle.plant_wire.proofs.faults.fault_text.Goals as goal
+
+pub returns-in-Memory : goal.returns-in-Memory
+unfolding digits quoted response status_line
+returns-in-Memory c = rw c.in-Memory.is refl
+
+pub returns-in-Store : goal.returns-in-Store
+unfolding digits quoted response status_line
+returns-in-Store c = rw c.in-Store.is refl
