@@ -1,5 +1,5 @@
 -- Books that hold the rows of a world, and what a call does to them.
-use Rattle.std.proofs.Common.{ap, arith, inl, inr, refl, subst, sym, ◌++◌, ◌∙◌}
+use Rattle.std.proofs.Common.{true≢false, ap, arith, inl, inr, refl, subst, sym, ◌++◌, ◌∙◌}
 use Rattle.std.proofs.lemmas.Bool.Decides.{nat_tests}
 use Rattle.std.proofs.lemmas.List.Elements.{filter_map-append}
 use Rattle.std.specs.FinMap.Entries.{find as found}
@@ -141,6 +141,10 @@ changing_call b w c u reply cs h named plain read v =
     let left = ap (changed_by cs) (rows_there b w u (history w u) h there) ∙ v.changes ∙ ap (λ x. rows_of (if x then c ∷ history w u else history w u)) accepted in
     served _ w c u (Ok reply) named is (put b w c u (Ok reply) _ h is changing left)
 
+-- a reply to a call that is no read changes a history
+pub changing_reply : (reply : Reply) (c : Call) (A : Type 0) → is_read c.request ≡ false → changes_history (Ok reply) c ≡ false → A
+changing_reply reply c A plain still = absurd (true≢false (sym (ap not plain) ∙ still))
+
 -- an opening
 pub refused_opening : (b : Content) (w : World) (c : Call) (u : Name) (r : Refused) → Holds b w → unit_named c.request ≡ Some u → is_opening c.request ≡ true → IsOpening (by_admin w c) (is_taken w u) c (IsRefused r) → Serves w c (Err r) (λ m. m ≡ b)
 refused_opening b w c u r h named opens v =
@@ -155,7 +159,7 @@ taken_of false taken e = cc
 not_there : (w : World) (u : Name) → is_taken w u ≡ false → get w.units u ≡ None
 not_there w u = elim (get w.units u) as (λ o. is_some o ≡ false → o ≡ None) [ None ↦ λ h. refl | Some h ↦ λ e. cc ]
 
-opening_changes : (q : Request) → is_opening q ≡ true → is_read q ≡ false
+pub opening_changes : (q : Request) → is_opening q ≡ true → is_read q ≡ false
 opening_changes (OpenUnit u s m q) e = refl
 opening_changes _ e = cc
 

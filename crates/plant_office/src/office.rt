@@ -2,7 +2,7 @@ ghost use Rattle.std.specs.Prelude.{◌≡◌, ◌<◌, ◌^◌, ◌-◌, ◌+�
 ghost use Rattle.plant_types.specs.declared.fault.Fault.TheVariants.{Memory};
 ghost use Rattle.plant_model.specs.declared.call.Request.TheVariants.{MyShelves, MyUnits};
 ghost use Rattle.plant_model.specs.Legality.{has_matrix, is_matrix_kind};
-ghost use Rattle.plant_model.specs.Verdicts.{is_opening};
+ghost use Rattle.plant_model.specs.Verdicts.{changes_history, is_opening};
 ghost use Rattle.plant_model.specs.Views.{view};
 ghost use Rattle.plant_model.specs.Worlds.{World, IsLegalWorld, unit_named};
 ghost use Rattle.plant_books.specs.Contents.{Content, no_units};
@@ -84,6 +84,7 @@ impl<B: Books> Office<B> {
         requires { call.now.request ≡ MyUnits }
         ensures served { (m : Content) → B.holds self.old.books m → (w : World) → IsLegalWorld w → Holds m w → B.can_tell self.new.books → IfOk result (λ a. IsServed w call.now a (B.holds self.new.books)) }
         ensures told { B.can_tell self.new.books → B.can_tell self.old.books }
+        ensures unchanged { (m : Content) → B.holds self.old.books m → IfOk result (λ a. changes_history a call.now ≡ false → B.holds self.new.books m) }
         ensures fault { (m : Content) → B.holds self.old.books m → OnErr result (B.holds self.new.books m) }
         ensures count { Counts (B.stores self.old.books) (B.stores self.new.books) result }
     {
@@ -102,6 +103,7 @@ impl<B: Books> Office<B> {
         requires { call.now.request ≡ MyShelves }
         ensures served { (m : Content) → B.holds self.old.books m → (w : World) → IsLegalWorld w → Holds m w → B.can_tell self.new.books → IfOk result (λ a. IsServed w call.now a (B.holds self.new.books)) }
         ensures told { B.can_tell self.new.books → B.can_tell self.old.books }
+        ensures unchanged { (m : Content) → B.holds self.old.books m → IfOk result (λ a. changes_history a call.now ≡ false → B.holds self.new.books m) }
         ensures fault { (m : Content) → B.holds self.old.books m → OnErr result (B.holds self.new.books m) }
         ensures count { Counts (B.stores self.old.books) (B.stores self.new.books) result }
     {
@@ -127,6 +129,7 @@ impl<B: Books> Office<B> {
         requires plain { is_opening call.now.request ≡ false }
         ensures served { (m : Content) → B.holds self.old.books m → (w : World) → IsLegalWorld w → Holds m w → B.can_tell self.new.books → IfOk result (λ a. IsServed w call.now a (B.holds self.new.books)) }
         ensures told { B.can_tell self.new.books → B.can_tell self.old.books }
+        ensures unchanged { (m : Content) → B.holds self.old.books m → IfOk result (λ a. changes_history a call.now ≡ false → B.holds self.new.books m) }
         ensures fault { (m : Content) → B.holds self.old.books m → OnErr result (B.holds self.new.books m) }
         ensures count { Counts (B.stores self.old.books) (B.stores self.new.books) result }
     {
@@ -153,6 +156,7 @@ impl<B: Books> Office<B> {
         requires opening { is_opening call.now.request ≡ true }
         ensures served { (m : Content) → B.holds self.old.books m → (w : World) → IsLegalWorld w → Holds m w → B.can_tell self.new.books → IfOk result (λ a. IsServed w call.now a (B.holds self.new.books)) }
         ensures told { B.can_tell self.new.books → B.can_tell self.old.books }
+        ensures unchanged { (m : Content) → B.holds self.old.books m → IfOk result (λ a. changes_history a call.now ≡ false → B.holds self.new.books m) }
         ensures fault { (m : Content) → B.holds self.old.books m → OnErr result (B.holds self.new.books m) }
         ensures count { Counts (B.stores self.old.books) (B.stores self.new.books) result }
     {
@@ -170,6 +174,7 @@ impl<B: Books> Office<B> {
     fn serve_call(&mut self, call: &Call) -> Result<Result<Reply, Refused>, Fault>
         ensures served { (m : Content) → B.holds self.old.books m → (w : World) → IsLegalWorld w → Holds m w → B.can_tell self.new.books → IfOk result (λ a. IsServed w call.now a (B.holds self.new.books)) }
         ensures told { B.can_tell self.new.books → B.can_tell self.old.books }
+        ensures unchanged { (m : Content) → B.holds self.old.books m → IfOk result (λ a. changes_history a call.now ≡ false → B.holds self.new.books m) }
         ensures fault { (m : Content) → B.holds self.old.books m → OnErr result (B.holds self.new.books m) }
         ensures count { Counts (B.stores self.old.books) (B.stores self.new.books) result }
     {
@@ -204,13 +209,15 @@ impl<B: Books> Office<B> {
     ///
     /// The headline is the clause `isolated`: an answer that is no fault is what any other office of the same
     /// administrator would answer that looks the same to the caller at the call's moment, and the rows of the units
-    /// that the caller held before or holds after are those of that office. A fault leaves the books as they were.
+    /// that the caller held before or holds after are those of that office. A fault leaves the books as they were, and
+    /// so do a refusal and a reply to a call that only asks, whatever the books hold.
     pub fn serve(&mut self, call: &Call) -> Answer
         ensures served { (m : Content) → B.holds self.old.books m → (w : World) → IsLegalWorld w → Holds m w → B.can_tell self.new.books → IfSaid result (λ a. IsServed w call.now a (B.holds self.new.books)) }
         ensures isolated { (m : Content) → B.holds self.old.books m → (w v : World) → IsLegalWorld w → Holds m w → w.admin ≡ v.admin
             → view call.now.moment call.now.person w ≡ view call.now.moment call.now.person v → B.can_tell self.new.books
             → IfSaid result (λ a. IsIsolated v call.now a (B.holds self.new.books)) }
         ensures told { B.can_tell self.new.books → B.can_tell self.old.books }
+        ensures unchanged { (m : Content) → B.holds self.old.books m → IfSaid result (λ a. changes_history a call.now ≡ false → B.holds self.new.books m) }
         ensures fault { (m : Content) → B.holds self.old.books m → OnFault result (B.holds self.new.books m) }
         ensures count { CountsAnswer (B.stores self.old.books) (B.stores self.new.books) result }
     {

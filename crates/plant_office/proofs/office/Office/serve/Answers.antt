@@ -1,5 +1,6 @@
-use Rattle.std.proofs.Common.{subst, sym}
+use Rattle.std.proofs.Common.{◌≡◌, false, subst, sym}
 use Rattle.plant_model.specs.declared.reply.Answer.{Answer}
+use Rattle.plant_model.specs.Verdicts.{changes_history}
 use Rattle.plant_office.specs.Answers.{CountsAnswer, IfSaid, OnFault}
 use Rattle.plant_office.specs.Served.{IsIsolated, IsServed}
 use Rattle.plant_office.proofs.Serving.{counts_if, fault_if, isolated_if, said_if}
@@ -13,6 +14,10 @@ pub returns-clause-isolated : goal.returns-clause-isolated
 returns-clause-isolated g c = λ m k w v legal h admin e told.
     subst (λ (a : Answer). IfSaid a (λ x. IsIsolated v c.args.call.now x (g.B.Books.holds c.serve_call.new.self.books))) (sym c.answer_of.ensures)
     (isolated_if w v c.args.call.now _ _ (said_if c.serve_call.result _ (c.serve_call.ensures.served m k w legal h told)) admin e)
+
+pub returns-clause-unchanged : goal.returns-clause-unchanged
+returns-clause-unchanged g c = λ m k.
+    subst (λ (a : Answer). IfSaid a (λ x. changes_history x c.args.call.now ≡ false → g.B.Books.holds c.serve_call.new.self.books m)) (sym c.answer_of.ensures) (said_if c.serve_call.result _ (c.serve_call.ensures.unchanged m k))
 
 pub returns-clause-fault : goal.returns-clause-fault
 returns-clause-fault g c = λ m k.

@@ -1,6 +1,6 @@
 use Rattle.std.proofs.Common.{sym}
 use Rattle.plant_books.specs.Contents.{after_changes}
-use Rattle.plant_office.proofs.Serving.{changing_call, known_call, leaves, on_history, read_call, refused_call}
+use Rattle.plant_office.proofs.Serving.{changing_call, changing_reply, known_call, leaves, on_history, read_call, refused_call}
 use Rattle.plant_office.proofs.office.Office.serve_unit.Goals as goal
 
 pub returns-in-Refused-clause-served : goal.returns-in-Refused-clause-served
@@ -29,3 +29,6 @@ returns-clause-served g c = λ m k w legal h told.
     let known = known_call m w call u c.in-Accepted.reply _ (sym c.if-is_read.ensures) v in
     leaves w call _ (after_changes m u c.in-Accepted.changes) (g.B.Books.holds c.apply.new.self) legal c.note_matrix.ensures (changing_call m w call u c.in-Accepted.reply _ h c.requires.named c.requires.plain (sym c.if-is_read.ensures) v)
     (c.in_ok-apply-in-Accepted.ensures.made m (c.part.ensures.same m k) known)
+
+pub returns-clause-unchanged : goal.returns-clause-unchanged
+returns-clause-unchanged g c = λ m k still. changing_reply c.in-Accepted.reply c.args.call.now _ (sym c.if-is_read.ensures) still
