@@ -1,9 +1,7 @@
--- The trees tell the schema, so that equal trees are the same books.
-use Rattle.std.proofs.Common.{◌≡◌, IsTrue, sym, ap, ◌∙◌, subst}
-use Rattle.sqlite.specs.Effect.{Database, IsDatabase}
+-- Files that are opened again hold the same books.
+use Rattle.std.proofs.Common.{◌≡◌, IsTrue, sym, ap, ◌∙◌}
+use Rattle.sqlite.specs.Effect.{Database}
 use Rattle.sqlite.specs.State.{IsLive}
-use Rattle.sqlite.specs.Tree.{Trees}
-use Rattle.sqlite_catalog.proofs.ReadLemmas.{lists_once}
 use Rattle.sqlite_disk.specs.declared.Disk as disk
 use Rattle.sqlite_disk.specs.declared.Files.{Files}
 use Rattle.sqlite.specs.WalReads.{AreClean}
@@ -16,12 +14,7 @@ use Rattle.plant_books.specs.Contents.{Content}
 use Rattle.plant_store.specs.Changes.{CanTell}
 use Rattle.plant_store.specs.Keeping.{Keeps, KeepsIn}
 use Rattle.plant_store.proofs.Contents.{keeps_same}
-
-same_schema : (a b : Database) → IsDatabase a → IsDatabase b → a.trees ≡ b.trees → a.schema ≡ b.schema
-same_schema a b p q same = lists_once _ a.schema b.schema p.lists (subst (λ (t : Trees). Rattle.sqlite_catalog.specs.Listing.Lists (t Rattle.sqlite_trees.specs.Objects.catalog_tree) b.schema) (sym same) q.lists)
-
-same_database : (a b : Database) → IsDatabase a → IsDatabase b → b.trees ≡ a.trees → b ≡ a
-same_database a b p q same = λ i. record { schema = same_schema b a q p same i; trees = same i }
+use Rattle.plant_store.proofs.Databases.{same_database}
 
 module _ {D : Type 0} {g : disk.Ghosts D} (old new : Held (FileStore D g)) (files : Files D) (live : IsLive (file_state old)) (settled : IsTrue (file_state old).is_open → (file_state old).now ≡ (file_state old).committed)
     (copied : AreClean g files.log files.db → IsCopied old files) (opened : IsOpened new) (found : Finds files new) (up : IsTrue (file_state new).is_open) where

@@ -1,4 +1,5 @@
 -- A connection keeps a content of the books, as far as it can be told.
+use Rattle.sqlite.specs.Effect.{Database}
 use Rattle.sqlite.specs.State.{State}
 use Rattle.std.specs.FinMap.{contains_key}
 use Rattle.std.specs.Prelude.{Bool, List, [], false, true, ◌∷◌, ◌≡◌}
@@ -12,11 +13,15 @@ has_any [] = false
 has_any (x ∷ xs) = true
 
 -- the tables have the rows of each unit, and a unit was opened where it has a row of its own
-pub record KeepsIn (s : State) (m : Content) : Type 0 where
-  pub books : AreBooks s.now
-  pub office : IsOfficeOf m.admin s.now
-  pub seen : (u : Name) → AreSeen u s.now (rows_in m u)
+pub record HaveRows (m : Content) (db : Database) : Type 0 where
+  pub books : AreBooks db
+  pub office : IsOfficeOf m.admin db
+  pub seen : (u : Name) → AreSeen u db (rows_in m u)
   pub opened : (u : Name) → contains_key m.units u ≡ has_any (rows_in m u).units
+
+-- what a connection shows has them
+abbrev pub KeepsIn : State → Content → Type 0
+KeepsIn s m = HaveRows m s.now
 
 abbrev pub Keeps : State → Content → Type 0
 Keeps s m = CanTell s → KeepsIn s m

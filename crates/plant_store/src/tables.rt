@@ -141,6 +141,7 @@ impl<S: Alter> Tables<S> {
         requires { conn.in_transaction ≡ false }
         ensures kept { (m : Content) → Keeps (state S.Store conn) m → IfOk result (λ t. Keeps (state S.Store t.0.0) m) }
         ensures fresh { IfOk result (λ t. (t.0.1 ≡ admin) × (t.1 ≡ 0)) }
+        ensures told { IfOk result (λ t. CanTell (state S.Store t.0.0) → CanTell (state S.Store conn)) }
         ensures office { IfOk result (λ t. CanTell (state S.Store t.0.0) → IsThisOffice admin (state S.Store conn).now) }
         ensures other { IfErr result (λ e. e.fault ≡ StoreFault.NotThisStore → CanTell (state S.Store e.conn) → ¬ IsThisOffice admin (state S.Store conn).now) }
         ensures missing { has_office (state S.Store conn).now.schema ≡ false → IsErrAnd result (λ e. e.fault ≡ StoreFault.NotThisStore) }
