@@ -1,2 +1,2 @@
-pub mod Connections
+pub mod Files
 pub mod Statuses

@@ -1,11 +1,14 @@
 -- The exit statuses of the program.
-use Rattle.std.specs.Prelude.{if◌then◌else◌, ℕ, ◌≡◌, ◌⊎◌, Err, None, Ok, Option, Result, Some}
+use Rattle.std.specs.Prelude.{if◌then◌else◌, Bool, List, ℕ, ◌≡◌, ◌⊎◌, Err, None, Ok, Option, Result, Some}
+use Rattle.plant_model.specs.declared.call.Call.{Call}
+use Rattle.plant_model.specs.declared.reply.Answer.{Answer}
+use Rattle.plant_wire.specs.Session.{IsSession}
 use Rattle.plant_wire.specs.declared.reads.End.{End}
 use Rattle.plant_wire.specs.declared.reads.End.TheVariants.{BrokenInput, Closed, Fault, ReadFailed, WriteFailed}
 use Rattle.plant_wire.specs.declared.streams.Failed.{Failed}
-use Rattle.plant_server.specs.declared.line.Service.{Service}
-use Rattle.plant_server.specs.declared.line.LineError.{LineError}
-use Rattle.plant_server.specs.declared.line.LineError.TheVariants.{Memory, NotAPerson, Text}
+use Rattle.plant_line.specs.declared.words.Service.{Service}
+use Rattle.plant_line.specs.declared.words.LineError.{LineError}
+use Rattle.plant_line.specs.declared.words.LineError.TheVariants.{Memory, NotAPerson, Text}
 
 -- how a session ended, as a status: 0 where all was answered
 abbrev pub status_of : End → ℕ
@@ -30,15 +33,28 @@ abbrev pub served : Result (Unit {0}) Failed → ℕ
 served (Ok u) = 0
 served (Err e) = 8
 
+-- One session over an inlet and an outlet, and its end. r and o are what was left to read and what was written
+-- before, r' and o' after.
+abbrev pub IsStreamed : Option (List ℕ) → Option (List ℕ) → Option (List ℕ) → Option (List ℕ) → (List Call → List Answer → Type 0) → ℕ → Type 0
+IsStreamed r r' o o' ran n = (end : End) × (ended : Bool) × IsSession r r' ended o o' ran end × (n ≡ status_of end)
+
+-- whatever the office did
+abbrev pub Whatever : List Call → List Answer → Type 0
+Whatever calls answers = Unit {0}
+
+-- the connections of a port were served, or not all of them
+abbrev pub IsOfPort : ℕ → Type 0
+IsOfPort n = (result : Result (Unit {0}) Failed) × (n ≡ served result)
+
 -- over books: one session ended, or the connections of a port were served
-abbrev pub IsOfService : Option Service → ℕ → Type 0
-IsOfService None n = (end : End) × (n ≡ status_of end)
-IsOfService (Some service) n = (result : Result (Unit {0}) Failed) × (n ≡ served result)
+abbrev pub IsServed : Option Service → Option (List ℕ) → Option (List ℕ) → Option (List ℕ) → Option (List ℕ) → ℕ → Type 0
+IsServed None r r' o o' n = IsStreamed r r' o o' Whatever n
+IsServed (Some service) r r' o o' n = IsOfPort n
 
 -- what a line's words ask for was done, or no books were opened for it
-abbrev pub IsOfLine : Option Service → ℕ → Type 0
-IsOfLine service n = (n ≡ unready) ⊎ IsOfService service n
+abbrev pub IsFollowed : Option Service → Option (List ℕ) → Option (List ℕ) → Option (List ℕ) → Option (List ℕ) → ℕ → Type 0
+IsFollowed service r r' o o' n = (n ≡ unready) ⊎ IsServed service r r' o o' n
 
--- or the words can't be followed
+-- a status of the program: that of a session or of a port, that no books were opened, or that the words can't be followed
 abbrev pub IsStatus : ℕ → Type 0
-IsStatus n = ((service : Option Service) × IsOfLine service n) ⊎ ((error : LineError) × (n ≡ unfollowed error))
+IsStatus n = ((end : End) × (n ≡ status_of end)) ⊎ (IsOfPort n ⊎ ((n ≡ unready) ⊎ ((error : LineError) × (n ≡ unfollowed error))))

@@ -1,15 +1,17 @@
 ghost use Rattle.std.specs.Prelude.{◌≡◌, IfErr, IfOk};
 ghost use Rattle.plant_server.specs.Statuses as statuses;
+ghost use Rattle.plant_server.specs.Statuses.{IsFollowed, IsOfPort, IsServed, IsStreamed, Whatever};
+ghost use Rattle.plant_wire.specs.Ran.{Ran};
 
-use crate::books::{close_file, in_file, in_memory};
-use crate::connections::serve_connections;
-use crate::line::{Line, LineError, Service, line_of};
+use crate::books::in_memory;
+use crate::files::{close_file, in_file};
 use crate::sockets::Port;
-use crate::texts::{end_name, say};
+use plant_connections::{end_name, say, serve_connections};
+use plant_line::{Line, LineError, Service, line_of};
 use plant_office::{Books, Office};
 use plant_store::{StoreFault, Tables};
-use plant_wire::{End, Failed, FromRead, ToWrite, session};
-use sqlite::Alter;
+use plant_wire::{End, Failed, FromRead, Inlet, Outlet, ToWrite, session};
+use sqlite::{Alter, Unknown};
 use std::alloc::Global;
 use std::convert::AsStr;
 use std::io::{Read, Write};
@@ -63,16 +65,21 @@ fn unready(errors: &mut impl Write, fault: &StoreFault) -> u8
     UNREADY
 }
 
-/// One session over the streams, and how it ended.
-fn serve_streams<B: Books, I: Read + Drop, O: Write + Drop>(
+/// One session, of which the status says how it ended.
+fn serve_streams<B: Books, I: Inlet, O: Outlet, E: Write>(
     alloc: Global,
     office: &mut Office<B>,
-    input: I,
-    output: O,
-) -> End {
-    let mut inlet = FromRead::new(input);
-    let mut outlet = ToWrite::new(output);
-    session(alloc, &mut inlet, &mut outlet, office)
+    inlet: &mut I,
+    outlet: &mut O,
+    errors: &mut E,
+) -> u8
+    ensures does { IsStreamed (I.remaining inlet.old) (I.remaining inlet.new) (O.written outlet.old) (O.written outlet.new)
+        (Ran (B.holds office.old.books) (B.can_tell office.new.books) (B.holds office.new.books) (B.stores office.old.books) (B.stores office.new.books)) result }
+    ensures streamed { IsStreamed (I.remaining inlet.old) (I.remaining inlet.new) (O.written outlet.old) (O.written outlet.new) Whatever result }
+    ensures told { B.can_tell office.new.books → B.can_tell office.old.books }
+{
+    let end = session(alloc, inlet, outlet, office);
+    ended(errors, end)
 }
 
 /// Says on which address a port listens.
@@ -97,72 +104,86 @@ fn serve_port<B: Books>(
     serve_connections(alloc, &mut port, service.connections, office, output)
 }
 
+/// The same, of which the status says whether all of them were served.
+fn serve_all<B: Books>(
+    rt: &HostRuntime,
+    office: &mut Office<B>,
+    service: Service,
+    output: &mut impl Write,
+    errors: &mut impl Write,
+) -> u8
+    ensures { IsOfPort result }
+{
+    let outcome = serve_port(rt, office, service, output);
+    served(errors, outcome)
+}
+
 /// Serves a port or the streams over these books, and gives the status and the books after it.
-fn serve_books<S: Alter + Drop, I: Read + Drop, O: Write + Drop, E: Write>(
+fn serve_books<S: Alter + Drop, I: Inlet, O: Outlet + Write, E: Write>(
     rt: &HostRuntime,
     books: Tables<S>,
     service: Option<Service>,
-    input: I,
-    mut output: O,
+    inlet: &mut I,
+    outlet: &mut O,
     errors: &mut E,
 ) -> (u8, Tables<S>)
-    ensures { statuses.IsOfService service result.0 }
+    ensures { IsServed service (I.remaining inlet.old) (I.remaining inlet.new) (O.written outlet.old) (O.written outlet.new) result.0 }
 {
     let alloc = rt.alloc();
     let mut office = Office::new(alloc, books);
     match service {
         None => {
-            let end = serve_streams(alloc, &mut office, input, output);
-            (ended(errors, end), office.into_books())
+            let status = serve_streams(alloc, &mut office, inlet, outlet, errors);
+            (status, office.into_books())
         }
         Some(service) => {
-            let outcome = serve_port(rt, &mut office, service, &mut output);
-            (served(errors, outcome), office.into_books())
+            let status = serve_all(rt, &mut office, service, outlet, errors);
+            (status, office.into_books())
         }
     }
 }
 
 /// Serves the books that were opened, and gives the status and the books after it. Where none were, it looks no
 /// further: a port is listened on only for books that are there.
-fn serve_opened<S: Alter + Drop, I: Read + Drop, O: Write + Drop, E: Write>(
+fn serve_opened<S: Alter + Drop, I: Inlet, O: Outlet + Write, E: Write>(
     rt: &HostRuntime,
     opened: Result<Tables<S>, StoreFault>,
     service: Option<Service>,
-    input: I,
-    output: O,
+    inlet: &mut I,
+    outlet: &mut O,
     errors: &mut E,
 ) -> (u8, Option<Tables<S>>)
-    ensures served { IfOk opened (λ _. statuses.IsOfService service result.0) }
+    ensures served { IfOk opened (λ _. IsServed service (I.remaining inlet.old) (I.remaining inlet.new) (O.written outlet.old) (O.written outlet.new) result.0) }
     ensures unready { IfErr opened (λ _. result.0 ≡ statuses.unready) }
 {
     match opened {
         Ok(books) => {
-            let (status, books) = serve_books(rt, books, service, input, output, errors);
+            let (status, books) = serve_books(rt, books, service, inlet, outlet, errors);
             (status, Some(books))
         }
         Err(fault) => (unready(errors, &fault), None),
     }
 }
 
-fn run<I: Read + Drop, O: Write + Drop, E: Write + Drop>(
+fn run<I: Inlet, O: Outlet + Write, E: Write>(
     rt: &HostRuntime,
     line: Line,
-    input: I,
-    output: O,
+    inlet: &mut I,
+    outlet: &mut O,
     errors: &mut E,
 ) -> u8
-    ensures { statuses.IsOfLine line.service result }
+    ensures { IsFollowed line.service (I.remaining inlet.old) (I.remaining inlet.new) (O.written outlet.old) (O.written outlet.new) result }
 {
     let Line { admin, db, service } = line;
     match db {
         None => {
             let opened = in_memory(rt.alloc(), admin);
-            let (status, _) = serve_opened(rt, opened, service, input, output, errors);
+            let (status, _) = serve_opened(rt, opened, service, inlet, outlet, errors);
             status
         }
         Some(path) => {
-            let opened = in_file(rt, path.as_str(), admin);
-            let (status, books) = serve_opened(rt, opened, service, input, output, errors);
+            let opened = in_file(rt, path.as_str(), admin, Unknown);
+            let (status, books) = serve_opened(rt, opened, service, inlet, outlet, errors);
             if let Some(books) = books {
                 close_file(books);
             }
@@ -202,13 +223,15 @@ pub fn command<S: AsStr, I: Read + Drop, O: Write + Drop, E: Write + Drop>(
     rt: &HostRuntime,
     words: &[S],
     input: I,
-    mut output: O,
+    output: O,
     mut errors: E,
 ) -> u8
     ensures { statuses.IsStatus result }
 {
+    let mut inlet = FromRead::new(input);
+    let mut outlet = ToWrite::new(output);
     match line_of(rt.alloc(), words) {
-        Ok(line) => run(rt, line, input, output, &mut errors),
-        Err(error) => unfollowed(&mut output, &mut errors, &error),
+        Ok(line) => run(rt, line, &mut inlet, &mut outlet, &mut errors),
+        Err(error) => unfollowed(&mut outlet, &mut errors, &error),
     }
 }

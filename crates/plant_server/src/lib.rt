@@ -1,13 +1,11 @@
-//! The program's command: its words, sessions over its streams or over the connections of a port, and its exit status.
+//! The program's command: sessions over its streams or over the connections of a port, and its exit status.
 #![tactic(auto)]
 
 mod books;
 mod commands;
-mod connections;
-mod line;
+mod files;
 mod sockets;
-mod texts;
 
 pub use commands::command;
-pub use connections::{Listener, serve_connections};
+pub use plant_connections::{Listener, serve_connections};
 pub use sockets::Port;

@@ -1,6 +1,6 @@
 ghost use Rattle.std.specs.Prelude.{if◌then◌else◌};
 
-use crate::connections::Listener;
+use plant_connections::Listener;
 use plant_wire::{Failed, FromRead, ToWrite};
 use std::io;
 use std::net::{Ipv4Addr, SocketAddr, TcpListener, TcpStream};

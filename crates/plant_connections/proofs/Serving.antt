@@ -1,5 +1,5 @@
 -- Sessions over connections, one after the other.
-use Rattle.std.proofs.Common.{◌≡◌, ◌⊎◌, ℕ, ◌+◌, List, [], ◌∷◌, ◌++◌, length, take, Bool, true, Option, None, Some, refl, sym, subst, inl, inr}
+use Rattle.std.proofs.Common.{◌≡◌, ℕ, ◌+◌, List, [], ◌∷◌, ◌++◌, length, take, Bool, true, Option, None, Some, refl, sym, subst, inl, inr}
 use Rattle.std.specs.Io.KnownBytes.{Appends}
 use Rattle.plant_model.specs.declared.call.Call.{Call}
 use Rattle.plant_model.specs.declared.reply.Answer.{Answer}
@@ -13,7 +13,7 @@ use Rattle.plant_wire.specs.Session.{IsCutShort, IsSession}
 use Rattle.plant_wire.specs.Step.{Serves, ServesBroken, ServesPart}
 use Rattle.plant_wire.specs.declared.reads.End.{End}
 use Rattle.plant_wire.specs.declared.reads.End.TheVariants.{BrokenInput, Closed, Fault, ReadFailed, WriteFailed}
-use Rattle.plant_server.specs.Connections.{IsConnection, Tells, line_of}
+use Rattle.plant_connections.specs.Connections.{IsConnection, Tells, line_of}
 
 module _ {o o' : Option (List ℕ)} {ran : List Call → List Answer → Type 0} where
   -- the same over a writer that held nothing before, and of which the bytes are known
@@ -23,7 +23,7 @@ module _ {o o' : Option (List ℕ)} {ran : List Call → List Answer → Type 0}
   broken : {bytes : List ℕ} → (s : ServesBroken bytes o o' ran) → ServesBroken bytes (Some []) (Some (out_of s.marks ++ cause_text s.cause)) ran
   broken s = record { marks = s.marks; rest = s.rest; cause = s.cause; parses = s.parses; front = s.front; writes = refl; served = s.served }
 
-  partial : {bytes : List ℕ} → (s : ServesPart bytes o o' ran) → ServesPart bytes (Some []) (Some (out_of s.marks ++ take s.part (last_text s.last))) ran
+  abbrev partial : {bytes : List ℕ} → (s : ServesPart bytes o o' ran) → ServesPart bytes (Some []) (Some (out_of s.marks ++ take s.part (last_text s.last))) ran
   partial s = record { marks = s.marks; rest = s.rest; last = s.last; part = s.part; parses = s.parses; stands = s.stands; writes = refl; served = s.served }
 
   cut : {bytes : List ℕ} {r : Option (List ℕ)} {ended : Bool} → (s : IsCutShort bytes r ended o o' ran)
@@ -37,7 +37,7 @@ connects r r' ended o o' ran BrokenInput (bytes, consumes, inl s) = record { cam
 connects r r' ended o o' ran BrokenInput (bytes, consumes, inr s) = record { came = bytes; went = out_of s.serves.marks; ends = inr (cut s) }
 connects r r' ended o o' ran ReadFailed (bytes, consumes, (rest, idle, s)) = record { came = bytes; went = out_of s.marks; ends = (rest, idle, whole s) }
 connects r r' ended o o' ran WriteFailed (bytes, consumes, s) = record { came = bytes; went = out_of s.marks ++ take s.part (last_text s.last); ends = partial s }
-connects r r' ended o o' ran Fault (bytes, consumes, s) = record { came = bytes; went = out_of s.marks ++ take s.part (last_text s.last); ends = partial s }
+connects r r' ended o o' ran Fault (bytes, consumes, (s, why)) = record { came = bytes; went = out_of s.marks ++ take s.part (last_text s.last); ends = (partial s, why) }
 
 -- the calls that were made over a connection, and their answers
 pub made : {ran : List Call → List Answer → Type 0} (end : End) → IsConnection ran end → (calls : List Call) × (answers : List Answer) × ran calls answers
@@ -48,7 +48,7 @@ made BrokenInput c = elim c.ends [
 ]
 made ReadFailed c = let s = c.ends.2 in (calls_of s.marks, answers_of s.marks, s.served)
 made WriteFailed c = let s = c.ends in (calls_of (s.marks ++ last_marks s.last), answers_of (s.marks ++ last_marks s.last), s.served)
-made Fault c = let s = c.ends in (calls_of (s.marks ++ last_marks s.last), answers_of (s.marks ++ last_marks s.last), s.served)
+made Fault c = let s = c.ends.0 in (calls_of (s.marks ++ last_marks s.last), answers_of (s.marks ++ last_marks s.last), s.served)
 
 -- the log with one line more
 pub tells_more : (o o' o'' : Option (List ℕ)) (ends : List End) (count : ℕ) → length ends ≡ count → (end : End) → Tells o ends o'
@@ -59,9 +59,9 @@ tells_more o o' o'' ends count is end (text, lines, h) (part, k) =
     (text ++ line, (text, part, lines, refl), Appends-append o o' o'' text line h k')
 
 -- what was done before a connection, and then over it
-pub ran_more : (held mid left : Content → Type 0) (tells_first tells : Type 0) → (tells → tells_first)
-    → (calls : List Call) × (answers : List Answer) × Ran held tells_first mid calls answers
-    → (calls : List Call) × (answers : List Answer) × Ran mid tells left calls answers
-    → (calls : List Call) × (answers : List Answer) × Ran held tells left calls answers
-ran_more held mid left tells_first tells told (cs, xs, first) (ds, ys, second) =
-    (cs ++ ds, xs ++ ys, (ran_joins held mid left tells_first tells told).join cs ds xs ys first second)
+pub ran_more : (held mid left : Content → Type 0) (tells_first tells : Type 0) (before between after : ℕ) → (tells → tells_first)
+    → (calls : List Call) × (answers : List Answer) × Ran held tells_first mid before between calls answers
+    → (calls : List Call) × (answers : List Answer) × Ran mid tells left between after calls answers
+    → (calls : List Call) × (answers : List Answer) × Ran held tells left before after calls answers
+ran_more held mid left tells_first tells before between after told (cs, xs, first) (ds, ys, second) =
+    (cs ++ ds, xs ++ ys, (ran_joins held mid left tells_first tells before between after told).join cs ds xs ys first second)

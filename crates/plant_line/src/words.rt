@@ -1,3 +1,6 @@
+ghost use Rattle.std.specs.Prelude.{◌≡◌, None, Some, Err, IfOk, IfErr};
+ghost use Rattle.plant_types.specs.Text as names;
+
 use clap::builder::ValueParser;
 use clap::error::ErrorKind;
 use clap::{Arg, ArgAction, ArgMatches, Command, Error};
@@ -51,11 +54,13 @@ pub struct Line {
     pub service: Option<Service>,
 }
 
-fn person_of(alloc: Global, name: Option<&str>) -> Result<Person, LineError> {
-    let Some(name) = name else {
-        return Err(LineError::NotAPerson);
-    };
-    match Person::read(alloc, name.as_bytes()) {
+/// The person of this name.
+fn person_of(alloc: Global, name: &[u8]) -> Result<Person, LineError>
+    ensures named { IfOk result (λ person. names.person_of name.now ≡ Some person) }
+    ensures outside { names.person_of name.now ≡ None → result ≡ Err LineError.NotAPerson }
+    ensures refused { IfErr result (λ e. e ≡ LineError.NotAPerson → names.person_of name.now ≡ None) }
+{
+    match Person::read(alloc, name) {
         Ok(Some(person)) => Ok(person),
         Ok(None) => Err(LineError::NotAPerson),
         Err(_) => Err(LineError::Memory),
@@ -172,7 +177,7 @@ pub fn line_of<S: AsStr>(alloc: Global, words: &[S]) -> Result<Line, LineError> 
     };
     match command.try_get_matches_from(words) {
         Ok(matches) => Ok(Line {
-            admin: person_of(alloc, matches.get_str("admin"))?,
+            admin: person_of(alloc, matches.get_str("admin").unwrap_or("").as_bytes())?,
             db: path_of(alloc, matches.get_str("db"))?,
             service: service_of(&matches),
         }),

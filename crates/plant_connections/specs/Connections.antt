@@ -28,12 +28,12 @@ pub record IsConnection (ran : List Call → List Answer → Type 0) (end : End)
   pub went : List ℕ
   pub ends : EndsAs came None true (Some []) (Some went) ran end
 
--- The office went through sessions with these ends, each on the books that the one before left. `holds` and `tells` are
--- the keeper's: what books hold, and its premise on them.
-abbrev pub GoesThrough : {B : Type 0} → (B → Content → Type 0) → (B → Type 0) → B → List End → B → Type 0
-GoesThrough holds tells before [] after = after ≡ before
-GoesThrough {B} holds tells before (end ∷ earlier) after = (books : B) × GoesThrough holds tells before earlier books
-    × (tells after → tells books) × IsConnection (Ran (holds books) (tells after) (holds after)) end
+-- The office went through sessions with these ends, each on the books that the one before left. `holds`, `tells` and
+-- `stores` are the keeper's: what books hold, its premise on them, and how many answers were Store.
+abbrev pub GoesThrough : {B : Type 0} → (B → Content → Type 0) → (B → Type 0) → (B → ℕ) → B → List End → B → Type 0
+GoesThrough holds tells stores before [] after = after ≡ before
+GoesThrough {B} holds tells stores before (end ∷ earlier) after = (books : B) × GoesThrough holds tells stores before earlier books
+    × (tells after → tells books) × IsConnection (Ran (holds books) (tells after) (holds after) (stores books) (stores after)) end
 
 -- the log got a line for each connection, by its number and its end, whole or, where it can't be written, a part from
 -- the front

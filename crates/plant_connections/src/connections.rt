@@ -4,8 +4,8 @@ ghost use Rattle.plant_wire.specs.Ran.{Ran};
 ghost use Rattle.plant_wire.specs.declared.reads.End.{End};
 ghost use Rattle.plant_model.specs.declared.call.Call.{Call};
 ghost use Rattle.plant_model.specs.declared.reply.Answer.{Answer};
-ghost use Rattle.plant_server.specs.Connections as spec;
-ghost use Rattle.plant_server.specs.Connections.{GoesThrough, IsConnection, StopsAfter, Tells};
+ghost use Rattle.plant_connections.specs.Connections as spec;
+ghost use Rattle.plant_connections.specs.Connections.{GoesThrough, IsConnection, StopsAfter, Tells};
 
 use crate::texts::{end_name, say};
 use itoa::Buffer;
@@ -42,7 +42,7 @@ fn serve_next<L: Listener, B: Books>(
     listener: &mut L,
     office: &mut Office<B>,
 ) -> Result<End, Failed>
-    ensures does { IfOk result (IsConnection (Ran (B.holds office.old.books) (B.can_tell office.new.books) (B.holds office.new.books))) }
+    ensures does { IfOk result (IsConnection (Ran (B.holds office.old.books) (B.can_tell office.new.books) (B.holds office.new.books) (B.stores office.old.books) (B.stores office.new.books))) }
     ensures told { OnOk result (B.can_tell office.new.books → B.can_tell office.old.books) }
     ensures counted { OnOk result (L.accepted listener.new ≡ L.accepted listener.old + 1) }
     ensures ok { OnOk result (L.failures listener.new ≡ L.failures listener.old) }
@@ -85,11 +85,11 @@ pub fn serve_connections<L: Listener, B: Books, W: Write>(
     office: &mut Office<B>,
     log: &mut W,
 ) -> Result<(), Failed>
-    ensures served { (ends : List End) × GoesThrough B.holds B.can_tell office.old.books ends office.new.books
+    ensures served { (ends : List End) × GoesThrough B.holds B.can_tell B.stores office.old.books ends office.new.books
         × Tells (W.contents log.old) ends (W.contents log.new)
         × (L.accepted listener.new ≡ L.accepted listener.old + length ends)
         × StopsAfter n (L.failures listener.old) (L.failures listener.new) (length ends) result }
-    ensures ran { (calls : List Call) × (answers : List Answer) × Ran (B.holds office.old.books) (B.can_tell office.new.books) (B.holds office.new.books) calls answers }
+    ensures ran { (calls : List Call) × (answers : List Answer) × Ran (B.holds office.old.books) (B.can_tell office.new.books) (B.holds office.new.books) (B.stores office.old.books) (B.stores office.new.books) calls answers }
     ensures told { B.can_tell office.new.books → B.can_tell office.old.books }
 {
     'connections: for count in 0..n {

@@ -1,11 +1,12 @@
 ghost use Rattle.std.specs.Prelude.{◌≡◌, ◌≤◌, ◌-◌, ℕ, length, drop, take};
 ghost use Rattle.std.specs.Io.KnownBytes.{Appends};
-ghost use Rattle.plant_server.specs.Connections as spec;
+ghost use Rattle.plant_connections.specs.Connections as spec;
 
 use plant_wire::End;
 use std::io::Write;
 
-pub(crate) fn end_name(end: End) -> &'static [u8]
+/// The name of an end, as the log and the program tell it.
+pub fn end_name(end: End) -> &'static [u8]
     ensures { result.now ≡ spec.end_name end }
 {
     match end {
@@ -26,7 +27,7 @@ fn bytes_from(bytes: &[u8], at: usize) -> &[u8]
 }
 
 /// Writes a text. What can't be written is passed over.
-pub(crate) fn say<W: Write>(writer: &mut W, text: &[u8])
+pub fn say<W: Write>(writer: &mut W, text: &[u8])
     ensures { (n : ℕ) × Appends (W.contents writer.old) (W.contents writer.new) (take n text.now) }
 {
     let mut at = 0;

@@ -1,6 +1,6 @@
 use Rattle.std.proofs.Common.{arith}
 use Rattle.plant_wire.proofs.Growing.{Appends-more}
-use Rattle.plant_server.proofs.texts.say.Goals as goal
+use Rattle.plant_connections.proofs.texts.say.Goals as goal
 
 pub writes-preserved : goal.writes-preserved
 writes-preserved g c = (

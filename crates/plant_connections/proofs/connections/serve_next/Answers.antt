@@ -1,10 +1,10 @@
 use Rattle.plant_wire.specs.Ran.{Ran}
-use Rattle.plant_server.proofs.Serving.{connects}
-use Rattle.plant_server.proofs.connections.serve_next.Goals as goal
+use Rattle.plant_connections.proofs.Serving.{connects}
+use Rattle.plant_connections.proofs.connections.serve_next.Goals as goal
 
 pub returns-clause-does : goal.returns-clause-does
 returns-clause-does g c =
     connects (g.L.Requests.Inlet.remaining c.in_ok-requests.requests) (g.L.Requests.Inlet.remaining c.session.new.inlet)
     (g.L.Requests.Inlet.ended c.session.new.inlet) (g.L.Answers.Outlet.written c.in_ok-requests.answers) (g.L.Answers.Outlet.written c.session.new.outlet)
-    (Ran (g.B.Books.holds c.args.office.now.books) (g.B.Books.can_tell c.session.new.office.books) (g.B.Books.holds c.session.new.office.books))
+    (Ran (g.B.Books.holds c.args.office.now.books) (g.B.Books.can_tell c.session.new.office.books) (g.B.Books.holds c.session.new.office.books) (g.B.Books.stores c.args.office.now.books) (g.B.Books.stores c.session.new.office.books))
     c.session.result c.session.ensures.does

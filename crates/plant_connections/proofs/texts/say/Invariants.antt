@@ -1,6 +1,6 @@
 use Rattle.std.proofs.Common.{◌-◌, ◌≤◌, length, take}
 use Rattle.std.specs.Io.KnownBytes.{Appends}
-use Rattle.plant_server.proofs.texts.say.Given as goal
+use Rattle.plant_connections.proofs.texts.say.Given as goal
 
 abbrev pub invariant-writes : goal.invariant-writes
 invariant-writes g l = (l.at ≤ length l.text) × Appends (g.W.Write.contents l.fn.writer) (g.W.Write.contents l.writer) (take l.at l.text)

@@ -1,13 +1,13 @@
 use Rattle.std.proofs.Common.{[], ◌∷◌, ◌∙◌, refl, arith}
 use Rattle.plant_wire.proofs.Growing.{Appends-none}
 use Rattle.plant_wire.proofs.Running.{ran_none}
-use Rattle.plant_server.proofs.Serving.{made, ran_more, tells_more}
-use Rattle.plant_server.proofs.connections.serve_connections.Goals as goal
+use Rattle.plant_connections.proofs.Serving.{made, ran_more, tells_more}
+use Rattle.plant_connections.proofs.connections.serve_connections.Goals as goal
 
 pub connections-init : goal.connections-init
 connections-init g c = record {
   served = ([], refl, ([], refl, Appends-none (g.W.Write.contents c.args.log.now)), omega arith, refl);
-  ran = ([], [], ran_none (g.B.Books.holds c.args.office.now.books) (g.B.Books.can_tell c.args.office.now.books));
+  ran = ([], [], ran_none (g.B.Books.holds c.args.office.now.books) (g.B.Books.can_tell c.args.office.now.books) (g.B.Books.stores c.args.office.now.books));
   told = λ t. t;
   failed = refl;
 }
@@ -26,7 +26,7 @@ connections-preserved g c =
         omega (arith, served.4),
       );
       ran = ran_more (g.B.Books.holds c.args.office.now.books) (g.B.Books.holds c.connections.office.books) (g.B.Books.holds c.serve_next.new.office.books)
-          (g.B.Books.can_tell c.connections.office.books) (g.B.Books.can_tell c.serve_next.new.office.books) c.in_ok-end.ensures.told
+          (g.B.Books.can_tell c.connections.office.books) (g.B.Books.can_tell c.serve_next.new.office.books) (g.B.Books.stores c.args.office.now.books) (g.B.Books.stores c.connections.office.books) (g.B.Books.stores c.serve_next.new.office.books) c.in_ok-end.ensures.told
           c.connections.invariant.ran (made end c.in_ok-end.ensures.does);
       told = λ t. c.connections.invariant.told (c.in_ok-end.ensures.told t);
       failed = c.in_ok-end.ensures.ok ∙ c.connections.invariant.failed;

@@ -3,15 +3,15 @@ use Rattle.plant_model.specs.declared.call.Call.{Call}
 use Rattle.plant_model.specs.declared.reply.Answer.{Answer}
 use Rattle.plant_wire.specs.Ran.{Ran}
 use Rattle.plant_wire.specs.declared.reads.End.{End}
-use Rattle.plant_server.specs.Connections.{GoesThrough, Tells}
-use Rattle.plant_server.proofs.connections.serve_connections.Given as goal
+use Rattle.plant_connections.specs.Connections.{GoesThrough, Tells}
+use Rattle.plant_connections.proofs.connections.serve_connections.Given as goal
 
 abbrev pub invariant-connections : goal.invariant-connections
 invariant-connections g l = record {
-  served : (ends : List End) × GoesThrough g.B.Books.holds g.B.Books.can_tell l.fn.office.books ends l.office.books
+  served : (ends : List End) × GoesThrough g.B.Books.holds g.B.Books.can_tell g.B.Books.stores l.fn.office.books ends l.office.books
       × Tells (g.W.Write.contents l.fn.log) ends (g.W.Write.contents l.log)
       × (g.L.Listener.accepted l.listener ≡ g.L.Listener.accepted l.fn.listener + length ends) × (length ends ≡ l.count);
-  ran : (calls : List Call) × (answers : List Answer) × Ran (g.B.Books.holds l.fn.office.books) (g.B.Books.can_tell l.office.books) (g.B.Books.holds l.office.books) calls answers;
+  ran : (calls : List Call) × (answers : List Answer) × Ran (g.B.Books.holds l.fn.office.books) (g.B.Books.can_tell l.office.books) (g.B.Books.holds l.office.books) (g.B.Books.stores l.fn.office.books) (g.B.Books.stores l.office.books) calls answers;
   told : g.B.Books.can_tell l.office.books → g.B.Books.can_tell l.fn.office.books;
   failed : g.L.Listener.failures l.listener ≡ g.L.Listener.failures l.fn.listener;
 }

@@ -1,0 +1,17 @@
+use Rattle.std.proofs.Common.{subst}
+use Rattle.sqlite.specs.Effect.{Database}
+use Rattle.sqlite.specs.Files.{file_state}
+use Rattle.sqlite_wal.specs.Files.{image_at}
+use Rattle.plant_store.specs.Opening.{IsThisOffice}
+use Rattle.plant_server.proofs.Opened.{kept, same_now}
+use Rattle.plant_server.proofs.files.open_file.Goals as goal
+
+pub returns-in-Ok-clause-kept : goal.returns-in-Ok-clause-kept
+returns-in-Ok-clause-kept g c m held =
+    c.in-Ok.ensures.kept m (kept (image_at g.S.Start) (file_state c.in_ok-conn.conn) c.in_ok-conn.ensures.opened c.in_ok-conn.ensures.found m held)
+
+pub returns-in-Ok-clause-office : goal.returns-in-Ok-clause-office
+returns-in-Ok-clause-office g c db held tells =
+    subst (λ (d : Database). IsThisOffice c.args.admin d)
+    (same_now (image_at g.S.Start) (file_state c.in_ok-conn.conn) c.in_ok-conn.ensures.opened c.in_ok-conn.ensures.found (c.in-Ok.ensures.told tells) db held)
+    (c.in-Ok.ensures.office tells)

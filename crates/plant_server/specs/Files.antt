@@ -1,0 +1,30 @@
+-- What the files of a database held when they were opened, and what an error of the engine is told as.
+use Rattle.std.specs.Prelude.{◌≡◌}
+use Rattle.sqlite.specs.Effect.{Database, IsDatabase}
+use Rattle.sqlite.specs.Files.{HoldsDatabase}
+use Rattle.sqlite.specs.declared.error.Error.{Error}
+use Rattle.sqlite.specs.declared.error.Error.TheVariants.{SqliteFailure}
+use Rattle.sqlite.specs.declared.error.ErrorCode.TheVariants.{NotADatabase, OutOfMemory}
+use Rattle.sqlite_wal.specs.Recovery.{Image}
+use Rattle.plant_books.specs.Contents.{Content}
+use Rattle.plant_store.specs.Keeping.{HaveRows}
+use Rattle.plant_store.specs.declared.tables.StoreFault.{StoreFault}
+use Rattle.plant_store.specs.declared.tables.StoreFault.TheVariants as told
+use Rattle.plant_types.specs.declared.fault.Fault.TheVariants.{Memory, Store}
+
+-- the files hold this database
+pub record HoldDatabase (files : Image) (db : Database) : Type 0 where
+  pub trees : HoldsDatabase files db.trees
+  pub listed : IsDatabase db
+
+-- they hold books with this content
+pub record HoldBooks (files : Image) (m : Content) : Type 0 where
+  pub db : Database
+  pub database : HoldDatabase files db
+  pub rows : HaveRows m db
+
+-- a file that is no database is not this store; every other error is a fault, for want of memory or of the store
+abbrev pub fault_of : Error → StoreFault
+fault_of (SqliteFailure NotADatabase) = told.NotThisStore
+fault_of (SqliteFailure OutOfMemory) = told.Fault Memory
+fault_of _ = told.Fault Store

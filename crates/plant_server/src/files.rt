@@ -1,0 +1,146 @@
+//! Books that a file keeps.
+
+ghost use Rattle.std.specs.Prelude.{◌≡◌, false, IsTrue, IfErr, IfOk};
+ghost use Rattle.sqlite.specs.Effect.{Database};
+ghost use Rattle.sqlite.specs.Files.{file_state, IsOpened};
+ghost use Rattle.sqlite.specs.Opening.{is_open_error};
+ghost use Rattle.sqlite.specs.Start.{FindsIn};
+ghost use Rattle.sqlite.specs.State.{HasCleanDisk};
+ghost use Rattle.sqlite.specs.declared.error.Error.{Error as EngineError};
+ghost use Rattle.sqlite_wal.specs.Files.{image_at};
+ghost use Rattle.plant_books.specs.Contents.{Content};
+ghost use Rattle.plant_server.specs.Files as files;
+ghost use Rattle.plant_server.specs.Files.{HoldBooks, HoldDatabase};
+ghost use Rattle.plant_store.specs.Changes.{CanTell};
+ghost use Rattle.plant_store.specs.Keeping.{Keeps};
+ghost use Rattle.plant_store.specs.Opening.{IsThisOffice};
+
+use plant_store::{StoreFault, Tables};
+use plant_types::{Fault, Person};
+use sqlite::{Connection, Error, ErrorCode, FileFrom, FileStore, Start, Unknown};
+use std::fs;
+use std::io::ErrorKind;
+
+const STORE: StoreFault = StoreFault::Fault(Fault::Store);
+
+const MEMORY: StoreFault = StoreFault::Fault(Fault::Memory);
+
+fn fault_of(error: &Error) -> StoreFault
+    ensures { result ≡ files.fault_of error.now }
+{
+    match error {
+        Error::SqliteFailure(ErrorCode::NotADatabase) => StoreFault::NotThisStore,
+        Error::SqliteFailure(ErrorCode::OutOfMemory) => MEMORY,
+        _ => STORE,
+    }
+}
+
+/// The database at this path, which is made where it is not there.
+fn connect<S: Start>(
+    rt: &HostRuntime,
+    path: &str,
+    start: S,
+) -> Result<Connection<FileStore<FileFrom<S>>>, StoreFault>
+    ensures mode { IfOk result (λ conn. conn.in_transaction ≡ false) }
+    ensures opened { IfOk result (λ conn. HasCleanDisk (file_state conn) → IsOpened conn) }
+    ensures found { IfOk result (λ conn. HasCleanDisk (file_state conn) → FindsIn (image_at S.Start) (file_state conn)) }
+    ensures refused { IfErr result (λ e. (error : EngineError) × IsTrue (is_open_error error) × (e ≡ files.fault_of error)) }
+{
+    match Connection::open_from(rt, path, false, start) {
+        Ok(conn) => Ok(conn),
+        Err((error, _)) => Err(fault_of(&error)),
+    }
+}
+
+/// The books of a database that is there. Where its files held books with some content, that is what these hold; of any
+/// other database none are opened but where it is this person's office.
+fn open_file<S: Start>(
+    rt: &HostRuntime,
+    path: &str,
+    admin: Person,
+    start: S,
+) -> Result<Tables<FileStore<FileFrom<S>>>, StoreFault>
+    ensures own { IfOk result (λ books. (books.0.1 ≡ admin) × (books.1 ≡ 0)) }
+    ensures kept { (m : Content) → HoldBooks (image_at S.Start) m → IfOk result (λ books. Keeps (file_state books.0.0) m) }
+    ensures office { (db : Database) → HoldDatabase (image_at S.Start) db
+        → IfOk result (λ books. CanTell (file_state books.0.0) → IsThisOffice admin db) }
+{
+    let conn = connect(rt, path, start)?;
+    match Tables::open(rt.alloc(), conn, admin) {
+        Ok(books) => Ok(books),
+        Err(unopened) => Err(unopened.fault),
+    }
+}
+
+/// Whether there is something of this name, be it a link to nothing.
+fn is_there(rt: &HostRuntime, path: &str) -> Result<bool, StoreFault> {
+    match fs::symlink_metadata(rt, path) {
+        Ok(_) => Ok(true),
+        Err(error) if error.kind() == ErrorKind::NotFound => Ok(false),
+        Err(_) => Err(STORE),
+    }
+}
+
+/// The name of a file beside this one.
+fn beside(rt: &HostRuntime, path: &str, ending: &str) -> Result<String, StoreFault> {
+    format!(in rt.alloc(); "{path}{ending}").map_err(|_| MEMORY)
+}
+
+/// Removes a file, if it is there.
+fn remove(rt: &HostRuntime, path: &str) -> Result<(), StoreFault> {
+    match fs::remove_file(rt, path) {
+        Ok(()) => Ok(()),
+        Err(error) if error.kind() == ErrorKind::NotFound => Ok(()),
+        Err(_) => Err(STORE),
+    }
+}
+
+/// Makes new books in a file that is not there, and closes it: it is whole, without a log.
+fn make_whole(rt: &HostRuntime, path: &str, admin: Person) -> Result<(), StoreFault> {
+    let conn = connect(rt, path, Unknown)?;
+    match Tables::create(rt.alloc(), conn, admin) {
+        Ok(books) => books.close().close().map_err(|error| fault_of(&error)),
+        Err(unopened) => Err(unopened.fault),
+    }
+}
+
+/// Makes new books in a file of this name: whole under a name beside it, then renamed. What a start that was cut off
+/// left under that name goes first.
+fn make_file(rt: &HostRuntime, path: &str, admin: Person) -> Result<(), StoreFault> {
+    let new = beside(rt, path, ".new")?;
+    let log = beside(rt, path, ".new-wal")?;
+    remove(rt, &new)?;
+    remove(rt, &log)?;
+    make_whole(rt, &new, admin)?;
+    remove(rt, &log)?;
+    if is_there(rt, path)? {
+        return Err(STORE);
+    }
+    fs::rename(rt, &new, path).map_err(|_| STORE)
+}
+
+/// The books of the file at this path, which is made where neither it nor its log is there. A start that is cut off
+/// leaves nothing of this name or a file that the next start opens.
+pub fn in_file<S: Start>(
+    rt: &HostRuntime,
+    path: &str,
+    admin: Person,
+    start: S,
+) -> Result<Tables<FileStore<FileFrom<S>>>, StoreFault>
+    ensures own { IfOk result (λ books. (books.0.1 ≡ admin) × (books.1 ≡ 0)) }
+    ensures kept { (m : Content) → HoldBooks (image_at S.Start) m → IfOk result (λ books. Keeps (file_state books.0.0) m) }
+    ensures office { (db : Database) → HoldDatabase (image_at S.Start) db
+        → IfOk result (λ books. CanTell (file_state books.0.0) → IsThisOffice admin db) }
+{
+    let log = beside(rt, path, "-wal")?;
+    if !is_there(rt, path)? && !is_there(rt, &log)? {
+        let founder = admin.copy(rt.alloc()).map_err(|_| MEMORY)?;
+        make_file(rt, path, founder)?;
+    }
+    open_file(rt, path, admin, start)
+}
+
+/// Copies the log into the file. Where that fails, the log stays beside the file and is read when it is opened again.
+pub fn close_file<S: Start>(books: Tables<FileStore<FileFrom<S>>>) {
+    let _ = books.close().close();
+}
