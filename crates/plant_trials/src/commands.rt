@@ -1,10 +1,11 @@
 //! The program's command, by its words, and how it ends.
 
+use crate::exchanges::push_all;
 use plant_server::command;
 use std::alloc::Global;
 use std::io;
 use std::io::{Read, Write};
-use std::test::Fail;
+use std::process::Abort;
 
 const STATUS: &[u8] =
     b"GET /units/U1/alarms/PT-101 HTTP/1.1\r\nX-Person: bob\r\nX-Moment: 2026-03-01T07:00:00Z\r\n\r\n";
@@ -40,7 +41,7 @@ pub(crate) struct Written {
     pub(crate) errors: Vec<u8>,
 }
 
-fn said(rt: &HostRuntime, words: &[&str], input: &[u8]) -> Written {
+pub(crate) fn said(rt: &HostRuntime, words: &[&str], input: &[u8]) -> Written {
     let alloc: Global = rt.alloc();
     let mut output = Vec::new(alloc);
     let mut errors = Vec::new(alloc);
@@ -76,17 +77,17 @@ fn reads_its_words(rt: HostRuntime) {
 }
 
 /// What a command says to words that are parted by spaces.
-pub(crate) fn said_to(rt: &HostRuntime, line: &str) -> Result<Written, Fail> {
+pub(crate) fn said_to(stop: &impl Abort, rt: &HostRuntime, line: &str) -> Written {
     let mut words = Vec::new(rt.alloc());
     for word in line.split(' ') {
-        words.push(word)?;
+        words.push(word).expect(stop, "memory");
     }
-    Ok(said(rt, words.as_slice(), STATUS))
+    said(rt, words.as_slice(), STATUS)
 }
 
 /// The command line is read whole before the store is opened.
 #[test]
-fn reads_the_words_for_a_port(rt: HostRuntime) -> Result<(), Fail> {
+fn reads_the_words_for_a_port(rt: HostRuntime) {
     for words in [
         "--port",
         "--port 0",
@@ -98,14 +99,16 @@ fn reads_the_words_for_a_port(rt: HostRuntime) -> Result<(), Fail> {
         "--port 8080 --forever --connections 2",
         "--forever",
     ] {
-        let line = format!(in rt.alloc();
-            "shelfoffice --admin root --db no-folder/plant.db {words}"
-        )?;
-        let refused = said_to(&rt, &line)?;
+        let mut line = String::new(rt.alloc());
+        push_all(
+            &rt,
+            &mut line,
+            &["shelfoffice --admin root --db no-folder/plant.db ", words],
+        );
+        let refused = said_to(&rt, &rt, &line);
         assert_eq!(rt; refused.status, 2, "{words}");
         assert!(rt; refused.output.is_empty() && !refused.errors.is_empty());
     }
-    Ok(())
 }
 
 #[test]

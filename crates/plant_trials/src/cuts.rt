@@ -5,14 +5,12 @@ use crate::exchanges::Exchanges;
 use crate::replays::{lists, replays, tables};
 use plant_office::Books;
 use plant_wire::End;
-use std::alloc::Global;
 use std::ops::Range;
 use std::process::Abort;
-use std::test::Fail;
 
 /// The first shelf, from the opening of its unit on.
-fn first_shelf(alloc: Global) -> Result<Exchanges, Fail> {
-    Exchanges::of(alloc, &[BASE, SHELVED, LOOKED_AT])
+fn first_shelf(rt: &(impl Abort + AllocGlobal)) -> Exchanges {
+    Exchanges::of(rt, &[BASE, SHELVED, LOOKED_AT])
 }
 
 /// Cut in two reads at this place, the requests are answered as in one.
@@ -80,88 +78,81 @@ fn places(wanted: &Exchanges) -> usize {
 }
 
 #[test]
-fn first_shelf_has_its_bytes(rt: HostRuntime) -> Result<(), Fail> {
-    let wanted = first_shelf(rt.alloc())?;
+fn first_shelf_has_its_bytes(rt: HostRuntime) {
+    let wanted = first_shelf(&rt);
     assert_eq!(rt; wanted.requests.len(), 1616);
     assert_eq!(rt; wanted.answers.len(), 1568);
-    Ok(())
 }
 
 #[test]
-fn first_shelf_cut_in_two(rt: HostRuntime) -> Result<(), Fail> {
-    let wanted = first_shelf(rt.alloc())?;
+fn first_shelf_cut_in_two(rt: HostRuntime) {
+    let wanted = first_shelf(&rt);
     for place in 0..places(&wanted) {
-        is_answered_cut(&rt, lists(&rt)?, &wanted, place);
+        is_answered_cut(&rt, lists(&rt), &wanted, place);
     }
-    Ok(())
 }
 
 #[test]
-fn first_shelf_ended_early(rt: HostRuntime) -> Result<(), Fail> {
-    let wanted = first_shelf(rt.alloc())?;
+fn first_shelf_ended_early(rt: HostRuntime) {
+    let wanted = first_shelf(&rt);
     for place in 0..places(&wanted) {
-        is_answered_ended(&rt, lists(&rt)?, &wanted, place);
+        is_answered_ended(&rt, lists(&rt), &wanted, place);
     }
-    Ok(())
 }
 
 #[test]
-fn a_strangers_status_cut(rt: HostRuntime) -> Result<(), Fail> {
-    let mut wanted = Exchanges::new(rt.alloc());
-    wanted.add_all(STRANGER)?;
+fn a_strangers_status_cut(rt: HostRuntime) {
+    let wanted = Exchanges::of(&rt, &[STRANGER]);
     for place in 0..places(&wanted) {
-        is_answered_cut(&rt, lists(&rt)?, &wanted, place);
-        is_answered_cut(&rt, tables(&rt)?, &wanted, place);
-        is_answered_ended(&rt, lists(&rt)?, &wanted, place);
-        is_answered_ended(&rt, tables(&rt)?, &wanted, place);
+        is_answered_cut(&rt, lists(&rt), &wanted, place);
+        is_answered_cut(&rt, tables(&rt), &wanted, place);
+        is_answered_ended(&rt, lists(&rt), &wanted, place);
+        is_answered_ended(&rt, tables(&rt), &wanted, place);
     }
-    Ok(())
 }
 
-fn cut_over_tables(rt: &(impl Abort + AllocGlobal), places: Range<usize>) -> Result<(), Fail> {
-    let wanted = first_shelf(rt.alloc())?;
+fn cut_over_tables(rt: &(impl Abort + AllocGlobal), places: Range<usize>) {
+    let wanted = first_shelf(rt);
     for place in places {
-        is_answered_cut(rt, tables(rt)?, &wanted, place);
+        is_answered_cut(rt, tables(rt), &wanted, place);
     }
-    Ok(())
 }
 
-fn ended_over_tables(rt: &(impl Abort + AllocGlobal), places: Range<usize>) -> Result<(), Fail> {
-    let wanted = first_shelf(rt.alloc())?;
+fn ended_over_tables(rt: &(impl Abort + AllocGlobal), places: Range<usize>) {
+    let wanted = first_shelf(rt);
     for place in places {
-        is_answered_ended(rt, tables(rt)?, &wanted, place);
+        is_answered_ended(rt, tables(rt), &wanted, place);
     }
-    Ok(())
 }
 
 // Over tables a session takes longer, so the 1,617 places are parted.
 
 #[test]
-fn first_shelf_cut_over_tables_before_400(rt: HostRuntime) -> Result<(), Fail> {
-    cut_over_tables(&rt, 0..400)
+fn first_shelf_cut_over_tables_before_400(rt: HostRuntime) {
+    cut_over_tables(&rt, 0..400);
 }
 
 #[test]
-fn first_shelf_cut_over_tables_before_800(rt: HostRuntime) -> Result<(), Fail> {
-    cut_over_tables(&rt, 400..800)
+fn first_shelf_cut_over_tables_before_800(rt: HostRuntime) {
+    cut_over_tables(&rt, 400..800);
 }
 
 #[test]
-fn first_shelf_cut_over_tables_before_1200(rt: HostRuntime) -> Result<(), Fail> {
-    cut_over_tables(&rt, 800..1200)
+fn first_shelf_cut_over_tables_before_1200(rt: HostRuntime) {
+    cut_over_tables(&rt, 800..1200);
 }
 
 #[test]
-fn first_shelf_cut_over_tables_to_its_end(rt: HostRuntime) -> Result<(), Fail> {
-    cut_over_tables(&rt, 1200..1617)
+fn first_shelf_cut_over_tables_to_its_end(rt: HostRuntime) {
+    cut_over_tables(&rt, 1200..1617);
 }
 
 #[test]
-fn first_shelf_ended_over_tables_before_900(rt: HostRuntime) -> Result<(), Fail> {
-    ended_over_tables(&rt, 0..900)
+fn first_shelf_ended_over_tables_before_900(rt: HostRuntime) {
+    ended_over_tables(&rt, 0..900);
 }
 
 #[test]
-fn first_shelf_ended_over_tables_to_its_end(rt: HostRuntime) -> Result<(), Fail> {
-    ended_over_tables(&rt, 900..1617)
+fn first_shelf_ended_over_tables_to_its_end(rt: HostRuntime) {
+    ended_over_tables(&rt, 900..1617);
 }

@@ -1,25 +1,46 @@
 //! A full unit: 500 pairs, 2,000 alarms, 20,000 changes and 100,000 events, on which no call is answered by a fault.
 
 use crate::examples::BASE;
-use crate::exchanges::{Exchanges, add_answer, add_request};
-use crate::replays::{lists, replays_on, tables, text};
+use crate::exchanges::{Exchanges, add_answer, add_request, push_all, push_number};
+use crate::replays::{after, lists, replays_on, tables, text};
 use plant_alarm::AlarmState;
 use plant_model::{AlarmRow, Change, ChangeEntry, ChangeTopic, GrantRow, Row};
 use plant_office::Books;
 use plant_ration::ChangeState;
 use plant_types::{Moment, Person, Role, Seconds, Table, Tag, UnitCode};
 use plant_wire::End;
-use std::alloc::Global;
 use std::process::Abort;
-use std::test::Fail;
+
+/// A name that ends in a number.
+fn name(rt: &(impl Abort + AllocGlobal), begin: &str, number: usize) -> String {
+    let mut name = String::new(rt.alloc());
+    push_all(rt, &mut name, &[begin]);
+    push_number(rt, &mut name, number);
+    name
+}
+
+fn person(rt: &(impl Abort + AllocGlobal), name: &str) -> Person {
+    Person::read(rt.alloc(), name.as_bytes())
+        .expect(rt, "memory")
+        .expect(rt, "a person")
+}
+
+fn tag(rt: &(impl Abort + AllocGlobal), name: &str) -> Tag {
+    Tag::read(rt.alloc(), name.as_bytes())
+        .expect(rt, "memory")
+        .expect(rt, "a tag")
+}
+
+fn seconds(rt: &impl Abort, seconds: u64) -> Seconds {
+    Seconds::new(seconds).expect(rt, "a length of time")
+}
 
 /// The alarm of a number, in service and without events, with a minute for a limit.
-fn alarm(alloc: Global, number: u32) -> Result<Change, Fail> {
-    let name = format!(in alloc; "A-{number}")?;
-    Ok(Change::Put(Row::Alarm(AlarmRow {
-        tag: Tag::read(alloc, name.as_bytes())?.ok_or("a tag")?,
+fn alarm(rt: &(impl Abort + AllocGlobal), number: usize) -> Row {
+    Row::Alarm(AlarmRow {
+        tag: tag(rt, &name(rt, "A-", number)),
         latching: false,
-        max_s: Seconds::new(60).ok_or("a length of time")?,
+        max_s: seconds(rt, 60),
         max_rev: 0,
         state_no: AlarmState::Normal,
         suppressed: false,
@@ -28,244 +49,242 @@ fn alarm(alloc: Global, number: u32) -> Result<Change, Fail> {
         out_s: None,
         out_by: None,
         out_words: None,
-    })))
+    })
 }
 
 /// A viewer's pair, of a person with a number.
-fn grant(alloc: Global, number: u32) -> Result<Change, Fail> {
-    let name = format!(in alloc; "p-{number}")?;
-    Ok(Change::Put(Row::Grant(GrantRow {
-        person: Person::read(alloc, name.as_bytes())?.ok_or("a person")?,
+fn grant(rt: &(impl Abort + AllocGlobal), number: usize) -> Row {
+    Row::Grant(GrantRow {
+        person: person(rt, &name(rt, "p-", number)),
         role_no: Role::Viewer,
         end_s: None,
-    })))
+    })
 }
 
 /// A proposal of ten minutes for the limit of PT-101.
-fn proposal(alloc: Global, number: u32) -> Result<Change, Fail> {
-    Ok(Change::Put(Row::Change(ChangeEntry {
+fn proposal(rt: &(impl Abort + AllocGlobal), number: u32) -> Row {
+    Row::Change(ChangeEntry {
         number,
-        proposer: Person::read(alloc, b"eve")?.ok_or("a person")?,
-        proposed_s: Moment::read(b"2026-03-01T08:00:00Z").ok_or("a moment")?,
+        proposer: person(rt, "eve"),
+        proposed_s: Moment::read(b"2026-03-01T08:00:00Z").expect(rt, "a moment"),
         kind_no: ChangeTopic::Limit,
-        tag: Some(Tag::read(alloc, b"PT-101")?.ok_or("a tag")?),
+        tag: Some(tag(rt, "PT-101")),
         base: 0,
         cause: None,
         consequence: None,
         remedy: None,
         severity: None,
         response_s: None,
-        max_s: Some(Seconds::new(600).ok_or("a length of time")?),
+        max_s: Some(seconds(rt, 600)),
         state_no: ChangeState::Proposed,
         decider: None,
         decided_s: None,
-    })))
+    })
+}
+
+fn push(rt: &impl Abort, changes: &mut Table<Change>, row: Row) {
+    changes.push(Change::Put(row)).expect(rt, "memory");
 }
 
 /// The rows that the base office has not: 494 pairs, 1,998 alarms and 20,000 changes.
-fn more_rows(alloc: Global) -> Result<Table<Change>, Fail> {
-    let mut changes = Table::new(alloc);
-    for number in 6..500 {
-        changes.push(grant(alloc, number)?)?;
+fn more_rows(rt: &(impl Abort + AllocGlobal)) -> Table<Change> {
+    let mut changes = Table::new(rt.alloc());
+    for number in 6..500usize {
+        push(rt, &mut changes, grant(rt, number));
     }
-    for number in 2..2000 {
-        changes.push(alarm(alloc, number)?)?;
+    for number in 2..2000usize {
+        push(rt, &mut changes, alarm(rt, number));
     }
-    for number in 1..=20_000 {
-        changes.push(proposal(alloc, number)?)?;
+    for number in 1..=20_000u32 {
+        push(rt, &mut changes, proposal(rt, number));
     }
-    Ok(changes)
+    changes
+}
+
+/// Makes these changes in the unit U1.
+fn put(rt: &(impl Abort + AllocGlobal), books: &mut impl Books, changes: &Table<Change>) {
+    let unit = UnitCode::read(rt.alloc(), b"U1")
+        .expect(rt, "memory")
+        .expect(rt, "a unit");
+    books.apply(&unit, changes).expect(rt, "changes");
 }
 
 /// The base office with 500 pairs, 2,000 alarms and 20,000 changes.
-fn crowded<B: Books + Drop>(alloc: Global, books: B) -> Result<B, Fail> {
-    let base = Exchanges::of(alloc, &[BASE])?;
-    let (_, _, mut books) = replays_on(alloc, books, base.requests.as_bytes(), b"");
-    let unit = UnitCode::read(alloc, b"U1")?.ok_or("a unit")?;
-    books.apply(&unit, &more_rows(alloc)?)?;
-    Ok(books)
-}
-
-/// A file of events of PT-101 at nine, with these numbers: the alarm becomes active at odd ones, and returns at even ones.
-fn file(alloc: Global, first: u32, last: u32) -> Result<String, Fail> {
-    let mut file = String::new(alloc);
-    file.push_str("seq,moment,tag,event\n")?;
-    for number in first..=last {
-        let event = if number % 2 == 1 { "ACT" } else { "RTN" };
-        write!(file, "{number},2026-03-01T09:00:00Z,PT-101,{event}\n")?;
-    }
-    Ok(file)
-}
-
-/// A request and the answer that is wanted.
-#[derive(Drop)]
-struct Wanted {
-    request: String,
-    answer: String,
-}
-
-/// An import of the events with these numbers, at ten.
-fn imported(alloc: Global, first: u32, last: u32, answer: &str) -> Result<Wanted, Fail> {
-    let file = file(alloc, first, last)?;
-    let mut wanted = Wanted {
-        request: String::new(alloc),
-        answer: String::new(alloc),
-    };
-    let request = "ann 10:00:00 POST /units/U1/imports";
-    add_request(&mut wanted.request, request, file.as_str())?;
-    add_answer(&mut wanted.answer, answer)?;
-    Ok(wanted)
-}
-
-/// Another request, in the notation of the examples.
-fn asked(alloc: Global, request: &str, answer: &str) -> Result<Wanted, Fail> {
-    let mut wanted = Wanted {
-        request: String::new(alloc),
-        answer: String::new(alloc),
-    };
-    add_request(&mut wanted.request, request, "")?;
-    add_answer(&mut wanted.answer, answer)?;
-    Ok(wanted)
-}
-
-/// The books after one request, which is answered as wanted.
-fn after<B: Books + Drop>(rt: &(impl Abort + AllocGlobal), books: B, wanted: &Wanted) -> B {
-    let (answers, end, books) = replays_on(rt.alloc(), books, wanted.request.as_bytes(), b"");
-    assert_eq!(rt; text(&answers), wanted.answer.as_str());
-    assert_eq!(rt; end, End::Closed);
+fn crowded<B: Books + Drop>(rt: &(impl Abort + AllocGlobal), books: B) -> B {
+    let base = Exchanges::of(rt, &[BASE]);
+    let (_, _, mut books) = replays_on(rt.alloc(), books, base.requests.as_bytes(), b"");
+    put(rt, &mut books, &more_rows(rt));
     books
+}
+
+/// A row of a file: the alarm becomes active at odd numbers, and returns at even ones.
+fn push_event(rt: &impl Abort, file: &mut String, number: u32) {
+    let event = if number % 2 == 1 { "ACT" } else { "RTN" };
+    write!(file, "{number},2026-03-01T09:00:00Z,PT-101,{event}\n").expect(rt, "memory");
+}
+
+/// A file of events of PT-101 at nine, with these numbers.
+fn file(rt: &(impl Abort + AllocGlobal), first: u32, last: u32) -> String {
+    let mut file = String::new(rt.alloc());
+    push_all(rt, &mut file, &["seq,moment,tag,event\n"]);
+    for number in first..=last {
+        push_event(rt, &mut file, number);
+    }
+    file
+}
+
+/// The books after one request, in the notation of the examples and with a file, which is answered so.
+fn after_one<B: Books + Drop>(
+    rt: &(impl Abort + AllocGlobal),
+    books: B,
+    line: &str,
+    file: &str,
+    wanted: &str,
+) -> B {
+    let mut request = String::new(rt.alloc());
+    let mut answer = String::new(rt.alloc());
+    add_request(rt, &mut request, line, file);
+    add_answer(rt, &mut answer, wanted);
+    after(rt, books, request.as_bytes(), answer.as_bytes(), line)
+}
+
+/// The books after an import of the events with these numbers, at ten, which is answered so.
+fn after_import<B: Books + Drop>(
+    rt: &(impl Abort + AllocGlobal),
+    books: B,
+    first: u32,
+    last: u32,
+    answer: &str,
+) -> B {
+    let line = "ann 10:00:00 POST /units/U1/imports";
+    after_one(rt, books, line, &file(rt, first, last), answer)
 }
 
 const TEN_THOUSAND: &str = r#"200 {"new":10000,"repeated":0}"#;
 
-/// What is answered to imports once there are 100,000 events.
-fn imports_when_full<B: Books + Drop>(
-    rt: &(impl Abort + AllocGlobal),
-    mut books: B,
-) -> Result<B, Fail> {
-    for (first, last, answer) in [
-        (90_001, 100_000, r#"200 {"new":0,"repeated":10000}"#),
-        (7, 7, r#"200 {"new":0,"repeated":1}"#),
-        (
-            100_001,
-            100_001,
-            r#"409 {"name":"UnitFull","refused":6,"value":"Events"}"#,
-        ),
-        (
-            1,
-            10_001,
-            r#"409 {"name":"BadFile","refused":26,"value":{"cause":"TooLong","line":10002}}"#,
-        ),
-    ] {
-        let wanted = imported(rt.alloc(), first, last, answer)?;
-        books = after(rt, books, &wanted);
-    }
-    Ok(books)
-}
-
-const STATUS: &str =
-    r#"200 {"limit":3600,"limit_revision":0,"out_of_service":false,"shelf":"Unshelved","shelf_left":0,"state":"ReturnedUnack","suppressed":false,"suppressed_or_shelved":false,"tag":"PT-101"}"#;
-
-const FLOODS: &str = r#"200 FLOODS U1 FROM 2026-03-01T09:00:00Z TO 2026-03-01T09:10:00Z COUNT 1
-2026-03-01T09:00:00Z 2026-03-01T09:10:00Z  50000  50000"#;
+/// The first and the last number of files that come once there are 100,000 events, and their answers.
+const FILES_WHEN_FULL: [(u32, u32, &str); 4] = [
+    (90_001, 100_000, r#"200 {"new":0,"repeated":10000}"#),
+    (7, 7, r#"200 {"new":0,"repeated":1}"#),
+    (
+        100_001,
+        100_001,
+        r#"409 {"name":"UnitFull","refused":6,"value":"Events"}"#,
+    ),
+    (
+        1,
+        10_001,
+        r#"409 {"name":"BadFile","refused":26,"value":{"cause":"TooLong","line":10002}}"#,
+    ),
+];
 
 /// What is answered to the other calls that look at events, alarms or pairs.
-fn asked_when_full<B: Books + Drop>(
+const ASKED_WHEN_FULL: [(&str, &str); 5] = [
+    (
+        "vic 10:00:00 GET /units/U1/alarms/PT-101",
+        r#"200 {"limit":3600,"limit_revision":0,"out_of_service":false,"shelf":"Unshelved","shelf_left":0,"state":"ReturnedUnack","suppressed":false,"suppressed_or_shelved":false,"tag":"PT-101"}"#,
+    ),
+    (
+        "vic 10:00:00 GET /units/U1/floods/2026-03-01T09:00:00Z/2026-03-01T09:10:00Z",
+        "200 FLOODS U1 FROM 2026-03-01T09:00:00Z TO 2026-03-01T09:10:00Z COUNT 1\n2026-03-01T09:00:00Z 2026-03-01T09:10:00Z  50000  50000",
+    ),
+    (
+        r#"ste 10:00:00 POST /units/U1/grants {"person":"zed","role":"Viewer"}"#,
+        r#"409 {"name":"UnitFull","refused":6,"value":"Grants"}"#,
+    ),
+    (
+        r#"eve 10:00:00 POST /units/U1/alarms {"tag":"A-1","latching":false,"max":60}"#,
+        r#"409 {"name":"UnitFull","refused":6,"value":"Alarms"}"#,
+    ),
+    (
+        "vic 10:00:00 GET /units/U1/standing",
+        "200 STANDING U1 AT 2026-03-01T10:00:00Z COUNT 0",
+    ),
+];
+
+/// What is answered to proposals and decisions once there are 20,000 changes.
+const CHANGED_WHEN_FULL: [(&str, &str); 4] = [
+    (
+        r#"eve 10:00:00 POST /units/U1/changes {"kind":"limit","base":0,"tag":"PT-101","max":60}"#,
+        r#"409 {"name":"UnitFull","refused":6,"value":"Changes"}"#,
+    ),
+    (
+        "abe 10:00:00 POST /units/U1/changes/20000/approve",
+        r#"200 {"done":true}"#,
+    ),
+    (
+        "abe 10:00:00 POST /units/U1/changes/1/approve",
+        r#"409 {"name":"BaseChanged","refused":21,"value":1}"#,
+    ),
+    (
+        "vic 10:00:00 GET /units/U1/alarms/PT-101",
+        r#"200 {"limit":600,"limit_revision":1,"out_of_service":false,"shelf":"Unshelved","shelf_left":0,"state":"ReturnedUnack","suppressed":false,"suppressed_or_shelved":false,"tag":"PT-101"}"#,
+    ),
+];
+
+/// The books after these requests, each of which is answered so.
+fn after_all<B: Books + Drop>(
     rt: &(impl Abort + AllocGlobal),
-    mut books: B,
-) -> Result<B, Fail> {
-    for (request, answer) in [
-        ("vic 10:00:00 GET /units/U1/alarms/PT-101", STATUS),
-        (
-            "vic 10:00:00 GET /units/U1/floods/2026-03-01T09:00:00Z/2026-03-01T09:10:00Z",
-            FLOODS,
-        ),
-        (
-            r#"ste 10:00:00 POST /units/U1/grants {"person":"zed","role":"Viewer"}"#,
-            r#"409 {"name":"UnitFull","refused":6,"value":"Grants"}"#,
-        ),
-        (
-            r#"eve 10:00:00 POST /units/U1/alarms {"tag":"A-1","latching":false,"max":60}"#,
-            r#"409 {"name":"UnitFull","refused":6,"value":"Alarms"}"#,
-        ),
-        (
-            "vic 10:00:00 GET /units/U1/standing",
-            "200 STANDING U1 AT 2026-03-01T10:00:00Z COUNT 0",
-        ),
-    ] {
-        let wanted = asked(rt.alloc(), request, answer)?;
-        books = after(rt, books, &wanted);
+    books: B,
+    exchanges: &[(&str, &str)],
+) -> B {
+    let mut books = books;
+    for (request, answer) in exchanges {
+        books = after_one(rt, books, request, "", answer);
     }
-    Ok(books)
+    books
+}
+
+/// The books after these files, each of which is answered so.
+fn after_files<B: Books + Drop>(
+    rt: &(impl Abort + AllocGlobal),
+    books: B,
+    files: &[(u32, u32, &str)],
+) -> B {
+    let mut books = books;
+    for (first, last, answer) in files {
+        books = after_import(rt, books, *first, *last, answer);
+    }
+    books
+}
+
+/// The books after ten files of 10,000 rows each.
+fn filled<B: Books + Drop>(rt: &(impl Abort + AllocGlobal), books: B) -> B {
+    let mut books = crowded(rt, books);
+    for tenth in 0..10u32 {
+        let first = 10_000 * tenth + 1;
+        books = after_import(rt, books, first, first + 9_999, TEN_THOUSAND);
+    }
+    books
 }
 
 /// The list of all alarms has 2,000 lines below its heading.
-fn lists_all_alarms<B: Books + Drop>(rt: &(impl Abort + AllocGlobal), books: B) -> Result<B, Fail> {
+fn lists_all_alarms<B: Books + Drop>(rt: &(impl Abort + AllocGlobal), books: B) -> B {
     let mut request = String::new(rt.alloc());
-    add_request(&mut request, "vic 10:00:00 GET /units/U1/alarms", "")?;
+    add_request(rt, &mut request, "vic 10:00:00 GET /units/U1/alarms", "");
     let (answers, end, books) = replays_on(rt.alloc(), books, request.as_bytes(), b"");
-    let (_, list) = text(&answers).split_once("\r\n\r\n").ok_or("no body")?;
-    assert_eq!(rt;
-        list.lines().next(),
-        Some("ALARMS U1 AT 2026-03-01T10:00:00Z COUNT 2000")
-    );
+    let (_, list) = text(&answers).split_once("\r\n\r\n").expect(rt, "a body");
+    let heading = list.lines().next().expect(rt, "a heading");
+    assert_eq!(rt; heading, "ALARMS U1 AT 2026-03-01T10:00:00Z COUNT 2000");
     assert_eq!(rt; list.lines().count(), 2001);
     assert_eq!(rt; end, End::Closed);
-    Ok(books)
+    books
 }
 
-const LIMITED: &str =
-    r#"200 {"limit":600,"limit_revision":1,"out_of_service":false,"shelf":"Unshelved","shelf_left":0,"state":"ReturnedUnack","suppressed":false,"suppressed_or_shelved":false,"tag":"PT-101"}"#;
-
-/// What is answered to proposals and decisions once there are 20,000 changes.
-fn changes_when_full<B: Books + Drop>(
-    rt: &(impl Abort + AllocGlobal),
-    mut books: B,
-) -> Result<B, Fail> {
-    for (request, answer) in [
-        (
-            r#"eve 10:00:00 POST /units/U1/changes {"kind":"limit","base":0,"tag":"PT-101","max":60}"#,
-            r#"409 {"name":"UnitFull","refused":6,"value":"Changes"}"#,
-        ),
-        (
-            "abe 10:00:00 POST /units/U1/changes/20000/approve",
-            r#"200 {"done":true}"#,
-        ),
-        (
-            "abe 10:00:00 POST /units/U1/changes/1/approve",
-            r#"409 {"name":"BaseChanged","refused":21,"value":1}"#,
-        ),
-        ("vic 10:00:00 GET /units/U1/alarms/PT-101", LIMITED),
-    ] {
-        let wanted = asked(rt.alloc(), request, answer)?;
-        books = after(rt, books, &wanted);
-    }
-    Ok(books)
-}
-
-fn fills<B: Books + Drop>(rt: &(impl Abort + AllocGlobal), books: B) -> Result<(), Fail> {
-    let mut books = crowded(rt.alloc(), books)?;
-    for tenth in 0..10u32 {
-        let first = 10_000 * tenth + 1;
-        let wanted = imported(rt.alloc(), first, first + 9_999, TEN_THOUSAND)?;
-        books = after(rt, books, &wanted);
-    }
-    books = imports_when_full(rt, books)?;
-    books = asked_when_full(rt, books)?;
-    books = lists_all_alarms(rt, books)?;
-    books = changes_when_full(rt, books)?;
-    drop(books);
-    Ok(())
+fn fills<B: Books + Drop>(rt: &(impl Abort + AllocGlobal), books: B) {
+    let books = filled(rt, books);
+    let books = after_files(rt, books, &FILES_WHEN_FULL);
+    let books = after_all(rt, books, &ASKED_WHEN_FULL);
+    let books = lists_all_alarms(rt, books);
+    drop(after_all(rt, books, &CHANGED_WHEN_FULL));
 }
 
 #[test]
-fn a_full_unit_over_lists(rt: HostRuntime) -> Result<(), Fail> {
-    let books = lists(&rt)?;
-    fills(&rt, books)
+fn a_full_unit_over_lists(rt: HostRuntime) {
+    fills(&rt, lists(&rt));
 }
 
 #[test]
-fn a_full_unit_over_tables(rt: HostRuntime) -> Result<(), Fail> {
-    let books = tables(&rt)?;
-    fills(&rt, books)
+fn a_full_unit_over_tables(rt: HostRuntime) {
+    fills(&rt, tables(&rt));
 }

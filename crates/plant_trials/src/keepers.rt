@@ -2,17 +2,14 @@
 
 use crate::examples::{BASE, SHELVED};
 use crate::exchanges::{Exchanges, Mark};
-use crate::replays::{lists, replays_on, tables, text};
+use crate::replays::{after, lists, replays_on, tables, text};
 use plant_alarm::Event;
 use plant_model::{
     AlarmRow, BandRow, CellRow, ChangeEntry, GrantRow, RecordEntry, ShelfRow, UnitRow, UnitRows,
 };
 use plant_office::Books;
 use plant_types::{Table, UnitCode};
-use plant_wire::End;
-use std::alloc::Global;
 use std::process::Abort;
-use std::test::Fail;
 
 /// A row that can be compared with another.
 trait Same: Drop {
@@ -194,33 +191,46 @@ fn are_same_rows(ours: &Option<UnitRows>, theirs: &Option<UnitRows>) -> bool {
         && are_same(changes, &theirs.changes)
 }
 
+/// The rows of a unit, if it was opened.
+fn rows(rt: &impl Abort, books: &mut impl Books, unit: &UnitCode) -> Option<UnitRows> {
+    books.rows(unit).expect(rt, "rows")
+}
+
 /// Whether both keepers hold the same rows of each of the units.
-fn hold_alike(
+pub(crate) fn hold_alike(
+    rt: &impl Abort,
     ours: &mut impl Books,
     theirs: &mut impl Books,
     units: &[UnitCode],
-) -> Result<bool, Fail> {
+) -> bool {
     for unit in units {
-        if !are_same_rows(&ours.rows(unit)?, &theirs.rows(unit)?) {
-            return Ok(false);
+        if !are_same_rows(&rows(rt, ours, unit), &rows(rt, theirs, unit)) {
+            return false;
         }
     }
-    Ok(true)
+    true
 }
 
-/// The books after one request, which is answered so.
-fn after<B: Books + Drop>(
-    rt: &(impl Abort + AllocGlobal),
-    books: B,
-    request: &[u8],
-    answer: &[u8],
-    title: &str,
-) -> B {
-    let (answers, end, books) = replays_on(rt.alloc(), books, request, b"");
-    assert_eq!(rt; text(&answers), text(answer), "{title}: {}", text(request));
-    assert_eq!(rt; end, End::Closed, "{title}: {}", text(request));
-    books
+/// The requests and the answers from one mark to the next.
+pub(crate) fn between<'a>(
+    rt: &impl Abort,
+    wanted: &'a Exchanges,
+    last: Mark,
+    next: Mark,
+) -> (&'a [u8], &'a [u8]) {
+    let requests = wanted.requests.as_bytes().get(last.asked..next.asked);
+    let answers = wanted.answers.as_bytes().get(last.answered..next.answered);
+    (
+        requests.expect(rt, "a request"),
+        answers.expect(rt, "an answer"),
+    )
 }
+
+/// The mark before all exchanges.
+pub(crate) const BEGIN: Mark = Mark {
+    asked: 0,
+    answered: 0,
+};
 
 /// After each request both keepers hold the same rows of each unit that the example names.
 pub(crate) fn are_kept_alike<A: Books + Drop, B: Books + Drop>(
@@ -229,60 +239,47 @@ pub(crate) fn are_kept_alike<A: Books + Drop, B: Books + Drop>(
     mut theirs: B,
     wanted: &Exchanges,
     title: &str,
-) -> Result<(), Fail> {
-    let mut last = Mark {
-        asked: 0,
-        answered: 0,
-    };
+) {
+    let mut last = BEGIN;
     for mark in &wanted.marks {
-        let request = wanted
-            .requests
-            .as_bytes()
-            .get(last.asked..mark.asked)
-            .ok_or("a request")?;
-        let answer = wanted
-            .answers
-            .as_bytes()
-            .get(last.answered..mark.answered)
-            .ok_or("an answer")?;
+        let (request, answer) = between(rt, wanted, last, *mark);
         ours = after(rt, ours, request, answer, title);
         theirs = after(rt, theirs, request, answer, title);
         assert!(rt;
-            hold_alike(&mut ours, &mut theirs, &wanted.units)?,
+            hold_alike(rt, &mut ours, &mut theirs, &wanted.units),
             "{title}: {}",
             text(request)
         );
         last = *mark;
     }
-    Ok(())
 }
 
 /// Whether both keepers hold the same rows, one after these exchanges and the other after those.
 pub(crate) fn are_left_alike<A: Books + Drop, B: Books + Drop>(
-    alloc: Global,
+    rt: &(impl Abort + AllocGlobal),
     ours: A,
     theirs: B,
     these: &Exchanges,
     those: &Exchanges,
-) -> Result<bool, Fail> {
+) -> bool {
+    let alloc = rt.alloc();
     let (_, _, mut ours) = replays_on(alloc, ours, these.requests.as_bytes(), b"");
     let (_, _, mut theirs) = replays_on(alloc, theirs, those.requests.as_bytes(), b"");
-    hold_alike(&mut ours, &mut theirs, &these.units)
+    hold_alike(rt, &mut ours, &mut theirs, &these.units)
 }
 
 #[test]
-fn tells_rows_that_differ(rt: HostRuntime) -> Result<(), Fail> {
-    let base = Exchanges::of(rt.alloc(), &[BASE])?;
+fn tells_rows_that_differ(rt: HostRuntime) {
+    let base = Exchanges::of(&rt, &[BASE]);
     for (parts, is_alike) in [
         ([BASE].as_slice(), true),
         ([BASE, SHELVED].as_slice(), false),
         ([].as_slice(), false),
     ] {
-        let other = Exchanges::of(rt.alloc(), parts)?;
+        let other = Exchanges::of(&rt, parts);
         assert_eq!(rt;
-            are_left_alike(rt.alloc(), lists(&rt)?, tables(&rt)?, &base, &other)?,
+            are_left_alike(&rt, lists(&rt), tables(&rt), &base, &other),
             is_alike
         );
     }
-    Ok(())
 }

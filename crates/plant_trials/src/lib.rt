@@ -13,17 +13,27 @@ mod examples;
 #[cfg(test)]
 mod exchanges;
 #[cfg(test)]
+mod files;
+#[cfg(test)]
 mod full;
 #[cfg(test)]
+mod interruptions;
+#[cfg(test)]
 mod keepers;
+#[cfg(test)]
+mod largest;
 #[cfg(test)]
 mod malformed;
 #[cfg(test)]
 mod purges;
 #[cfg(test)]
+mod reopenings;
+#[cfg(test)]
 mod replays;
 #[cfg(test)]
 mod reviews;
+#[cfg(test)]
+mod runs;
 #[cfg(test)]
 mod sockets;
 #[cfg(test)]

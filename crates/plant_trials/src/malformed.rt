@@ -1,13 +1,11 @@
 //! Requests that are no calls. A session ends with one whose end is not known, and goes on after any other.
 
 use crate::examples::NO_UNITS;
-use crate::exchanges::{Exchanges, add_answer};
+use crate::exchanges::{Exchanges, add_answer, push_all, push_number};
 use crate::replays::{lists, replays, tables, text};
 use plant_office::Books;
 use plant_wire::End;
-use std::alloc::Global;
 use std::process::Abort;
-use std::test::Fail;
 
 /// Requests whose end is not known, each with its answer.
 const BROKEN: [(&str, &str); 12] = [
@@ -145,31 +143,185 @@ const WRONG: [(&str, &str); 20] = [
     ),
 ];
 
+/// First requests that no client of good will sends, and whose end is not known, each with its answer.
+const HOSTILE_BROKEN: [(&str, &str); 15] = [
+    ("\0", r#"400 {"cause":"HeadSyntax","malformed":1}"#),
+    (
+        "\x16\x03\x01\x02",
+        r#"400 {"cause":"HeadSyntax","malformed":1}"#,
+    ),
+    (
+        "PRI * HTTP/2.0\r\n\r\nSM\r\n\r\n",
+        r#"400 {"cause":"HeadSyntax","malformed":1}"#,
+    ),
+    (
+        "GET /units HTTP/1.1\rX-Person: vic\r\n\r\n",
+        r#"400 {"cause":"HeadSyntax","malformed":1}"#,
+    ),
+    (
+        "GET /units HTTP/1.1\r\nX-Person : vic\r\n\r\n",
+        r#"400 {"cause":"HeadSyntax","malformed":1}"#,
+    ),
+    (
+        "GET /units HTTP/1.1\r\n X-Person: vic\r\n\r\n",
+        r#"400 {"cause":"HeadSyntax","malformed":1}"#,
+    ),
+    (
+        "GET /units HTTP/1.1\r\nX-Person\r\n\r\n",
+        r#"400 {"cause":"HeadSyntax","malformed":1}"#,
+    ),
+    (
+        "GET /units HTTP/1.1\r\nX-Person: v\0c\r\n\r\n",
+        r#"400 {"cause":"HeadSyntax","malformed":1}"#,
+    ),
+    (
+        "GET /units\r\n\r\n",
+        r#"400 {"cause":"HeadSyntax","malformed":1}"#,
+    ),
+    (
+        "POST /units/U1 HTTP/1.1\r\nContent-Length: -1\r\n\r\n",
+        r#"400 {"cause":"LengthWrong","malformed":3}"#,
+    ),
+    (
+        "POST /units/U1 HTTP/1.1\r\nContent-Length: 0x10\r\n\r\n",
+        r#"400 {"cause":"LengthWrong","malformed":3}"#,
+    ),
+    (
+        "POST /units/U1 HTTP/1.1\r\nContent-Length: 5, 5\r\n\r\n",
+        r#"400 {"cause":"LengthWrong","malformed":3}"#,
+    ),
+    (
+        "POST /units/U1 HTTP/1.1\r\nContent-Length: 0\r\ncontent-length: 20\r\n\r\n",
+        r#"400 {"cause":"LengthWrong","malformed":3}"#,
+    ),
+    (
+        "POST /units/U1 HTTP/1.1\r\nContent-Length: 5\r\nTransfer-Encoding: chunked\r\n\r\n0\r\n\r\n",
+        r#"501 {"cause":"Chunked","malformed":5}"#,
+    ),
+    (
+        "POST /units/U1 HTTP/1.1\r\nTransfer-Encoding: identity\r\nTransfer-Encoding: chunked\r\n\r\n",
+        r#"501 {"cause":"Chunked","malformed":5}"#,
+    ),
+];
+
+/// Whole first requests that no client of good will sends, each with its answer.
+const HOSTILE_WRONG: [(&str, &str); 20] = [
+    (
+        "\r\n\r\nGET /nothing HTTP/1.1\r\n\r\n",
+        r#"404 {"cause":"NoRoute","malformed":6}"#,
+    ),
+    (
+        "get /units HTTP/1.1\r\nX-Person: vic\r\nX-Moment: 2026-03-01T08:00:00Z\r\n\r\n",
+        r#"404 {"cause":"NoRoute","malformed":6}"#,
+    ),
+    (
+        "OPTIONS * HTTP/1.1\r\n\r\n",
+        r#"404 {"cause":"NoRoute","malformed":6}"#,
+    ),
+    (
+        "DELETE /units/U1 HTTP/1.1\r\nX-Person: vic\r\nX-Moment: 2026-03-01T08:00:00Z\r\n\r\n",
+        r#"404 {"cause":"NoRoute","malformed":6}"#,
+    ),
+    (
+        "GET http://localhost/units HTTP/1.1\r\nX-Person: vic\r\nX-Moment: 2026-03-01T08:00:00Z\r\n\r\n",
+        r#"404 {"cause":"NoRoute","malformed":6}"#,
+    ),
+    (
+        "GET //units HTTP/1.1\r\nX-Person: vic\r\nX-Moment: 2026-03-01T08:00:00Z\r\n\r\n",
+        r#"404 {"cause":"NoRoute","malformed":6}"#,
+    ),
+    (
+        "GET /units/ HTTP/1.1\r\nX-Person: vic\r\nX-Moment: 2026-03-01T08:00:00Z\r\n\r\n",
+        r#"404 {"cause":"NoRoute","malformed":6}"#,
+    ),
+    (
+        "GET /units/U1/../U2/shelves HTTP/1.1\r\nX-Person: vic\r\nX-Moment: 2026-03-01T08:00:00Z\r\n\r\n",
+        r#"404 {"cause":"NoRoute","malformed":6}"#,
+    ),
+    (
+        "GET /units/U1//shelves HTTP/1.1\r\nX-Person: vic\r\nX-Moment: 2026-03-01T08:00:00Z\r\n\r\n",
+        r#"404 {"cause":"NoRoute","malformed":6}"#,
+    ),
+    (
+        "POST /nothing HTTP/1.1\r\nContent-Length: 0027\r\n\r\nGET /units HTTP/1.1\r\n\r\nabcd",
+        r#"404 {"cause":"NoRoute","malformed":6}"#,
+    ),
+    (
+        "GET /units HTTP/1.1\r\nX-Person: ann' OR '1'='1\r\nX-Moment: 2026-03-01T08:00:00Z\r\n\r\n",
+        r#"400 {"cause":"BadPerson","malformed":7}"#,
+    ),
+    (
+        "GET /units HTTP/1.1\r\nX-Person: a-name-that-has-thirty-three-bytes\r\nX-Moment: 2026-03-01T08:00:00Z\r\n\r\n",
+        r#"400 {"cause":"BadPerson","malformed":7}"#,
+    ),
+    (
+        "GET /units HTTP/1.1\r\nX-Person: vic\r\nX-Moment: 2100-01-01T00:00:00Z\r\n\r\n",
+        r#"400 {"cause":"BadMoment","malformed":8}"#,
+    ),
+    (
+        "GET /units HTTP/1.1\r\nX-Person: vic\r\nX-Moment: 2026-03-01T08:00:00Z\r\nX-Moment: 2026-03-01T08:00:00Z\r\n\r\n",
+        r#"400 {"cause":"BadMoment","malformed":8}"#,
+    ),
+    (
+        "GET /units/%55%31/shelves HTTP/1.1\r\nX-Person: vic\r\nX-Moment: 2026-03-01T08:00:00Z\r\n\r\n",
+        r#"400 {"cause":"BadPath","malformed":9}"#,
+    ),
+    (
+        "GET /units/U1'--/shelves HTTP/1.1\r\nX-Person: vic\r\nX-Moment: 2026-03-01T08:00:00Z\r\n\r\n",
+        r#"400 {"cause":"BadPath","malformed":9}"#,
+    ),
+    (
+        "GET /units/../shelves HTTP/1.1\r\nX-Person: vic\r\nX-Moment: 2026-03-01T08:00:00Z\r\n\r\n",
+        r#"400 {"cause":"BadPath","malformed":9}"#,
+    ),
+    (
+        "POST /units/U1/grants HTTP/1.1\r\nX-Person: vic\r\nX-Moment: 2026-03-01T08:00:00Z\r\nContent-Length: 15\r\n\r\n{\"person\":\"ann\"",
+        r#"400 {"cause":"BadBody","malformed":10}"#,
+    ),
+    (
+        "POST /units/U1/grants HTTP/1.1\r\nX-Person: vic\r\nX-Moment: 2026-03-01T08:00:00Z\r\nContent-Length: 4\r\n\r\nnull",
+        r#"400 {"cause":"BadBody","malformed":10}"#,
+    ),
+    (
+        "POST /units/U1/grants HTTP/1.1\r\nX-Person: vic\r\nX-Moment: 2026-03-01T08:00:00Z\r\nContent-Length: 2\r\n\r\n[]",
+        r#"400 {"cause":"BadBody","malformed":10}"#,
+    ),
+];
+
 /// A request by someone who has no role, and its answer.
-fn add_follower(requests: &mut Vec<u8>, answers: &mut String) -> Result<(), Fail> {
-    let mut next = Exchanges::new(*requests.allocator());
-    next.add(NO_UNITS)?;
-    requests.extend_from_slice(next.requests.as_bytes())?;
-    answers.push_str(next.answers.as_str())?;
-    Ok(())
+fn add_follower(rt: &(impl Abort + AllocGlobal), requests: &mut Vec<u8>, answers: &mut String) {
+    let next = Exchanges::of(rt, &[NO_UNITS]);
+    push_bytes(rt, requests, next.requests.as_bytes());
+    push_all(rt, answers, &[next.answers.as_str()]);
+}
+
+/// Adds these bytes.
+fn push_bytes(rt: &impl Abort, out: &mut Vec<u8>, bytes: &[u8]) {
+    out.extend_from_slice(bytes).expect(rt, "memory");
+}
+
+/// The answers to these requests are wanted so, and the session ends so.
+fn is_ended<B: Books + Drop>(
+    rt: &(impl Abort + AllocGlobal),
+    books: B,
+    requests: &[u8],
+    wanted: &str,
+    end: End,
+) {
+    let (answers, ended) = replays(rt.alloc(), books, requests, b"");
+    assert_eq!(rt; text(&answers), wanted, "{}", text(requests));
+    assert_eq!(rt; ended, end, "{}", text(requests));
 }
 
 /// The request is answered so, and ends the session: what follows it is answered nothing.
-fn ends<B: Books + Drop>(
-    rt: &(impl Abort + AllocGlobal),
-    books: B,
-    request: &[u8],
-    answer: &str,
-) -> Result<(), Fail> {
-    let mut requests = Vec::from_slice(rt.alloc(), request)?;
+fn ends<B: Books + Drop>(rt: &(impl Abort + AllocGlobal), books: B, request: &[u8], answer: &str) {
+    let mut requests = Vec::new(rt.alloc());
     let mut wanted = String::new(rt.alloc());
     let mut unsaid = String::new(rt.alloc());
-    add_answer(&mut wanted, answer)?;
-    add_follower(&mut requests, &mut unsaid)?;
-    let (answers, end) = replays(rt.alloc(), books, &requests, b"");
-    assert_eq!(rt; text(&answers), wanted.as_str(), "{}", text(request));
-    assert_eq!(rt; end, End::BrokenInput, "{}", text(request));
-    Ok(())
+    push_bytes(rt, &mut requests, request);
+    add_answer(rt, &mut wanted, answer);
+    add_follower(rt, &mut requests, &mut unsaid);
+    is_ended(rt, books, &requests, &wanted, End::BrokenInput);
 }
 
 /// The request is answered so, and what follows it is answered too.
@@ -178,99 +330,113 @@ fn goes_on<B: Books + Drop>(
     books: B,
     request: &[u8],
     answer: &str,
-) -> Result<(), Fail> {
-    let mut requests = Vec::from_slice(rt.alloc(), request)?;
+) {
+    let mut requests = Vec::new(rt.alloc());
     let mut wanted = String::new(rt.alloc());
-    add_answer(&mut wanted, answer)?;
-    add_follower(&mut requests, &mut wanted)?;
-    let (answers, end) = replays(rt.alloc(), books, &requests, b"");
-    assert_eq!(rt; text(&answers), wanted.as_str(), "{}", text(request));
-    assert_eq!(rt; end, End::Closed, "{}", text(request));
-    Ok(())
+    push_bytes(rt, &mut requests, request);
+    add_answer(rt, &mut wanted, answer);
+    add_follower(rt, &mut requests, &mut wanted);
+    is_ended(rt, books, &requests, &wanted, End::Closed);
+}
+
+/// Over each keeper each of these requests is answered so and ends the session.
+fn all_end(rt: &(impl Abort + AllocGlobal), requests: &[(&str, &str)]) {
+    for (request, answer) in requests {
+        ends(rt, lists(rt), request.as_bytes(), answer);
+        ends(rt, tables(rt), request.as_bytes(), answer);
+    }
+}
+
+/// Over each keeper the request is answered so, and the session goes on.
+fn goes_on_over_both(rt: &(impl Abort + AllocGlobal), request: &[u8], answer: &str) {
+    goes_on(rt, lists(rt), request, answer);
+    goes_on(rt, tables(rt), request, answer);
+}
+
+/// Over each keeper each of these requests is answered so, and the session goes on.
+fn all_go_on(rt: &(impl Abort + AllocGlobal), requests: &[(&str, &str)]) {
+    for (request, answer) in requests {
+        goes_on_over_both(rt, request.as_bytes(), answer);
+    }
 }
 
 #[test]
-fn broken_requests(rt: HostRuntime) -> Result<(), Fail> {
-    for (request, answer) in BROKEN {
-        ends(&rt, lists(&rt)?, request.as_bytes(), answer)?;
-        ends(&rt, tables(&rt)?, request.as_bytes(), answer)?;
-    }
-    Ok(())
+fn broken_requests(rt: HostRuntime) {
+    all_end(&rt, &BROKEN);
 }
 
 #[test]
-fn wrong_requests(rt: HostRuntime) -> Result<(), Fail> {
-    for (request, answer) in WRONG {
-        goes_on(&rt, lists(&rt)?, request.as_bytes(), answer)?;
-        goes_on(&rt, tables(&rt)?, request.as_bytes(), answer)?;
-    }
-    Ok(())
+fn wrong_requests(rt: HostRuntime) {
+    all_go_on(&rt, &WRONG);
+}
+
+#[test]
+fn hostile_requests(rt: HostRuntime) {
+    all_end(&rt, &HOSTILE_BROKEN);
+    all_go_on(&rt, &HOSTILE_WRONG);
 }
 
 /// A request by `vic` whose head has this many bytes, without its last two line ends.
-fn long_head(alloc: Global, length: usize) -> Result<Vec<u8>, Fail> {
-    let mut head = Vec::from_slice(
-        alloc,
+fn long_head(rt: &(impl Abort + AllocGlobal), length: usize) -> Vec<u8> {
+    let mut head = Vec::new(rt.alloc());
+    push_bytes(
+        rt,
+        &mut head,
         b"GET /units HTTP/1.1\r\nX-Person: vic\r\nX-Moment: 2026-03-01T08:00:00Z\r\nX-Pad: ",
-    )?;
+    );
     for _ in head.len()..length {
-        head.push(b'a')?;
+        head.push(b'a').expect(rt, "memory");
     }
-    Ok(head)
+    head
 }
 
 #[test]
-fn long_heads(rt: HostRuntime) -> Result<(), Fail> {
-    let head = long_head(rt.alloc(), 16_384)?;
-    ends(
+fn long_heads(rt: HostRuntime) {
+    let answer = r#"400 {"cause":"HeadTooLong","malformed":2}"#;
+    ends(&rt, lists(&rt), &long_head(&rt, 16_384), answer);
+    let mut head = long_head(&rt, 16_380);
+    push_bytes(&rt, &mut head, b"\r\n\r\n");
+    goes_on_over_both(&rt, &head, r#"200 {"units":[]}"#);
+    is_ended(
         &rt,
-        lists(&rt)?,
-        &head,
-        r#"400 {"cause":"HeadTooLong","malformed":2}"#,
-    )?;
-    let mut head = long_head(rt.alloc(), 16_380)?;
-    head.extend_from_slice(b"\r\n\r\n")?;
-    goes_on(&rt, lists(&rt)?, &head, r#"200 {"units":[]}"#)?;
-    goes_on(&rt, tables(&rt)?, &head, r#"200 {"units":[]}"#)?;
-    let head = long_head(rt.alloc(), 16_383)?;
-    let (answers, end) = replays(rt.alloc(), lists(&rt)?, &head, b"");
-    assert!(rt; answers.is_empty());
-    assert_eq!(rt; end, End::BrokenInput);
-    Ok(())
+        lists(&rt),
+        &long_head(&rt, 16_383),
+        "",
+        End::BrokenInput,
+    );
 }
 
 /// A registration with this body.
-fn registration(alloc: Global, body: &[u8]) -> Result<Vec<u8>, Fail> {
-    let mut request = Vec::from_slice(
-        alloc,
-        b"POST /units/U1/alarms HTTP/1.1\r\nX-Person: eve\r\nX-Moment: 2026-03-01T08:00:00Z\r\nContent-Length: ",
-    )?;
-    request.extend_from_slice(body.len().to_string(alloc)?.as_bytes())?;
-    request.extend_from_slice(b"\r\n\r\n")?;
-    request.extend_from_slice(body)?;
-    Ok(request)
+fn registration(rt: &(impl Abort + AllocGlobal), body: &[u8]) -> Vec<u8> {
+    let mut head = String::new(rt.alloc());
+    push_all(
+        rt,
+        &mut head,
+        &[
+            "POST /units/U1/alarms HTTP/1.1\r\nX-Person: eve\r\nX-Moment: 2026-03-01T08:00:00Z\r\nContent-Length: ",
+        ],
+    );
+    push_number(rt, &mut head, body.len());
+    push_all(rt, &mut head, &["\r\n\r\n"]);
+    let mut request = Vec::new(rt.alloc());
+    push_bytes(rt, &mut request, head.as_bytes());
+    push_bytes(rt, &mut request, body);
+    request
 }
 
 #[test]
-fn strange_bodies(rt: HostRuntime) -> Result<(), Fail> {
-    let mut nested = Vec::from_slice(rt.alloc(), &[b'['; 128])?;
-    nested.extend_from_slice(&[b']'; 128])?;
+fn strange_bodies(rt: HostRuntime) {
     let answer = r#"400 {"cause":"BadBody","malformed":10}"#;
-    let request = registration(rt.alloc(), &nested)?;
-    goes_on(&rt, lists(&rt)?, &request, answer)?;
-    goes_on(&rt, tables(&rt)?, &request, answer)?;
+    let mut nested = Vec::new(rt.alloc());
+    push_bytes(&rt, &mut nested, &[b'['; 128]);
+    push_bytes(&rt, &mut nested, &[b']'; 128]);
+    goes_on_over_both(&rt, &registration(&rt, &nested), answer);
     let no_text = b"{\"tag\":\"A-1\",\"latching\":false,\"max\":60,\"more\":\"\xff\"}";
-    let request = registration(rt.alloc(), no_text)?;
-    goes_on(&rt, lists(&rt)?, &request, answer)?;
-    goes_on(&rt, tables(&rt)?, &request, answer)?;
-    Ok(())
+    goes_on_over_both(&rt, &registration(&rt, no_text), answer);
 }
 
 #[test]
-fn a_body_that_does_not_come_whole(rt: HostRuntime) -> Result<(), Fail> {
+fn a_body_that_does_not_come_whole(rt: HostRuntime) {
     let request = b"POST /units/U1 HTTP/1.1\r\nContent-Length: 20\r\n\r\n1234567890123456789";
-    let (answers, end) = replays(rt.alloc(), lists(&rt)?, request, b"");
-    assert!(rt; answers.is_empty());
-    assert_eq!(rt; end, End::BrokenInput);
-    Ok(())
+    is_ended(&rt, lists(&rt), request, "", End::BrokenInput);
 }

@@ -4,8 +4,7 @@
 use crate::exchanges::{Exchanges, unit_named};
 use crate::keepers::are_kept_alike;
 use crate::replays::{is_answered, lists, tables};
-use std::alloc::Global;
-use std::test::Fail;
+use std::process::Abort;
 
 /// Three persons, two units and the administrator: ann is in U1, bea in U2, and cal in U1 until ten.
 const FORTY_CALLS: &str =
@@ -137,25 +136,23 @@ fn caller(exchange: &str) -> &str {
 }
 
 /// The exchanges of the person, and those on the unit in which the person has or had a role.
-fn purged(alloc: Global, person: &str, unit: &str) -> Result<Exchanges, Fail> {
-    let mut kept = Exchanges::new(alloc);
+fn purged(rt: &(impl Abort + AllocGlobal), person: &str, unit: &str) -> Exchanges {
+    let mut kept = Exchanges::new(rt.alloc());
     for exchange in FORTY_CALLS.split("\n\n") {
         if caller(exchange) == person || unit_named(exchange) == unit {
-            kept.add(exchange)?;
+            kept.add(rt, exchange);
         }
     }
-    Ok(kept)
+    kept
 }
 
 #[test]
-fn forty_calls(rt: HostRuntime) -> Result<(), Fail> {
-    let mut wanted = Exchanges::new(rt.alloc());
-    wanted.add_all(FORTY_CALLS)?;
+fn forty_calls(rt: HostRuntime) {
+    let wanted = Exchanges::of(&rt, &[FORTY_CALLS]);
     assert_eq!(rt; wanted.marks.len(), 40);
-    is_answered(&rt, lists(&rt)?, &wanted, "all calls");
-    is_answered(&rt, tables(&rt)?, &wanted, "all calls");
-    are_kept_alike(&rt, lists(&rt)?, tables(&rt)?, &wanted, "all calls")?;
-    Ok(())
+    is_answered(&rt, lists(&rt), &wanted, "all calls");
+    is_answered(&rt, tables(&rt), &wanted, "all calls");
+    are_kept_alike(&rt, lists(&rt), tables(&rt), &wanted, "all calls");
 }
 
 /// Each person, the unit in which the person has or had a role (none is named so by any call: the administrator has
@@ -168,12 +165,11 @@ const PERSONS: [(&str, &str, usize); 4] = [
 ];
 
 #[test]
-fn calls_of_others_can_go(rt: HostRuntime) -> Result<(), Fail> {
+fn calls_of_others_can_go(rt: HostRuntime) {
     for (person, unit, count) in PERSONS {
-        let wanted = purged(rt.alloc(), person, unit)?;
+        let wanted = purged(&rt, person, unit);
         assert_eq!(rt; wanted.marks.len(), count, "{person}");
-        is_answered(&rt, lists(&rt)?, &wanted, person);
-        is_answered(&rt, tables(&rt)?, &wanted, person);
+        is_answered(&rt, lists(&rt), &wanted, person);
+        is_answered(&rt, tables(&rt), &wanted, person);
     }
-    Ok(())
 }

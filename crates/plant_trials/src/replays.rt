@@ -10,23 +10,24 @@ use sqlite::{Connection, MemStore};
 use std::alloc::Global;
 use std::io::Read;
 use std::process::Abort;
-use std::test::Fail;
 
-fn root(alloc: Global) -> Result<Person, Fail> {
-    Ok(Person::read(alloc, b"root")?.ok_or("no person")?)
+pub(crate) fn root(rt: &(impl Abort + AllocGlobal)) -> Person {
+    Person::read(rt.alloc(), b"root")
+        .expect(rt, "memory")
+        .expect(rt, "a person")
 }
 
 /// Lists that hold nothing yet, with the administrator `root`.
-pub(crate) fn lists(rt: &impl AllocGlobal) -> Result<Plain, Fail> {
-    Ok(Plain::new(rt.alloc(), root(rt.alloc())?))
+pub(crate) fn lists(rt: &(impl Abort + AllocGlobal)) -> Plain {
+    Plain::new(rt.alloc(), root(rt))
 }
 
 /// Tables in memory that hold nothing yet, with the administrator `root`.
-pub(crate) fn tables(rt: &impl AllocGlobal) -> Result<Tables<MemStore>, Fail> {
-    let connection = Connection::open_in_memory(rt.alloc())?;
-    match Tables::create(rt.alloc(), connection, root(rt.alloc())?) {
-        Ok(tables) => Ok(tables),
-        Err(unopened) => Err(Fail::from(unopened.fault)),
+pub(crate) fn tables(rt: &(impl Abort + AllocGlobal)) -> Tables<MemStore> {
+    let connection = Connection::open_in_memory(rt.alloc()).expect(rt, "a database");
+    match Tables::create(rt.alloc(), connection, root(rt)) {
+        Ok(tables) => tables,
+        Err(_) => rt.panic("no tables"),
     }
 }
 
@@ -61,6 +62,20 @@ pub(crate) fn replays<B: Books + Drop>(
 /// Bytes as a text, to be shown.
 pub(crate) fn text(bytes: &[u8]) -> &str {
     str::from_utf8(bytes).unwrap_or("no text")
+}
+
+/// The books after these requests, which are answered so.
+pub(crate) fn after<B: Books + Drop>(
+    rt: &(impl Abort + AllocGlobal),
+    books: B,
+    request: &[u8],
+    answer: &[u8],
+    title: &str,
+) -> B {
+    let (answers, end, books) = replays_on(rt.alloc(), books, request, b"");
+    assert_eq!(rt; text(&answers), text(answer), "{title}: {}", text(request));
+    assert_eq!(rt; end, End::Closed, "{title}: {}", text(request));
+    books
 }
 
 /// The requests are answered as wanted, and the session ends with its input.

@@ -1,0 +1,99 @@
+//! Sessions over readers and writers of std.
+
+ghost use Rattle.std.specs.Prelude.{◌≤◌, length};
+
+use crate::exchanges::{NO_ROUTE, NOT_GRANTED, NOTHING, STATUS};
+use crate::streams::{joined, portion, run};
+use plant_wire::{End, FromRead, ToWrite};
+use std::alloc::Global;
+use std::io;
+use std::io::{Read, Write};
+use std::process::Abort;
+
+/// A reader of one byte a read.
+#[derive(Drop)]
+struct ByByte {
+    bytes: Vec<u8>,
+    at: usize,
+}
+
+impl Read for ByByte {
+    fn read(&mut self, buf: &mut [u8]) -> io::Result<usize> {
+        let n = portion(self.bytes.as_slice(), self.at, 1, buf);
+        self.at = self.at.saturating_add(n);
+        Ok(n)
+    }
+}
+
+/// A writer that takes so many bytes a write, at most.
+#[derive(Drop)]
+struct Narrow {
+    bytes: Vec<u8>,
+    most: usize,
+}
+
+impl Write for Narrow {
+    fn write(&mut self, buf: &[u8]) -> io::Result<usize> {
+        let n = buf.len().min(self.most);
+        self.bytes.extend_from_slice(&buf[..n])?;
+        Ok(n)
+    }
+
+    fn flush(&mut self) -> io::Result<()> {
+        Ok(())
+    }
+}
+
+#[test]
+fn reads_and_writes_std_streams(rt: HostRuntime) {
+    let alloc = rt.alloc();
+    let stream = joined(&rt, alloc, &[STATUS, NOTHING, STATUS]);
+    let wanted = joined(&rt, alloc, &[NOT_GRANTED, NO_ROUTE, NOT_GRANTED]);
+    let mut out = Vec::new(alloc);
+    let mut inlet = FromRead::new(stream.as_slice());
+    let mut outlet = ToWrite::new(&mut out);
+    let end = run(&rt, alloc, &mut inlet, &mut outlet);
+    assert_eq!(rt; end, End::Closed);
+    assert!(rt; out.as_slice() == wanted.as_slice());
+}
+
+/// This request or answer, 2,800 times.
+fn repeated(rt: &impl Abort, alloc: Global, part: &[u8]) -> Vec<u8> {
+    let mut out = Vec::new(alloc);
+    for _ in 0..2800u32 {
+        out.extend_from_slice(part).expect(rt, "memory");
+    }
+    out
+}
+
+/// What was written to a writer of so many bytes a write, where the input comes byte by byte, and how the session ended.
+fn written(rt: &impl Abort, alloc: Global, bytes: Vec<u8>, most: usize) -> (Vec<u8>, End) {
+    let mut inlet = FromRead::new(ByByte { bytes, at: 0 });
+    let mut writer = Narrow {
+        bytes: Vec::new(alloc),
+        most,
+    };
+    let mut outlet = ToWrite::new(&mut writer);
+    let end = run(rt, alloc, &mut inlet, &mut outlet);
+    drop(outlet);
+    (writer.bytes, end)
+}
+
+#[test]
+fn makes_70000_reads_of_a_reader(rt: HostRuntime) {
+    let alloc = rt.alloc();
+    let stream = repeated(&rt, alloc, NOTHING);
+    assert_eq!(rt; stream.len(), 70_000);
+    let wanted = repeated(&rt, alloc, NO_ROUTE);
+    let (answers, end) = written(&rt, alloc, stream, 7);
+    assert_eq!(rt; end, End::Closed);
+    assert!(rt; answers.as_slice() == wanted.as_slice());
+}
+
+#[test]
+fn stops_where_a_writer_takes_nothing(rt: HostRuntime) {
+    let alloc = rt.alloc();
+    let (answers, end) = written(&rt, alloc, joined(&rt, alloc, &[STATUS]), 0);
+    assert_eq!(rt; end, End::WriteFailed);
+    assert!(rt; answers.is_empty());
+}
