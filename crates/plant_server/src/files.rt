@@ -72,12 +72,23 @@ fn open_file<S: Start>(
     }
 }
 
-/// Whether there is something of this name, be it a link to nothing.
-fn is_there(rt: &HostRuntime, path: &str) -> Result<bool, StoreFault> {
+/// How many bytes there are of this name, where there is something, be it a link to nothing.
+fn length_of(rt: &HostRuntime, path: &str) -> Result<Option<u64>, StoreFault> {
     match fs::symlink_metadata(rt, path) {
-        Ok(_) => Ok(true),
-        Err(error) if error.kind() == ErrorKind::NotFound => Ok(false),
+        Ok(found) => Ok(Some(found.len())),
+        Err(error) if error.kind() == ErrorKind::NotFound => Ok(None),
         Err(_) => Err(STORE),
+    }
+}
+
+/// Whether there is a file of this name. One that is there and empty, or of which only the log is there, keeps no books:
+/// it is told so before the engine would write to it.
+fn is_there(rt: &HostRuntime, path: &str) -> Result<bool, StoreFault> {
+    let log = beside(rt, path, "-wal")?;
+    match (length_of(rt, path)?, length_of(rt, &log)?) {
+        (None, None) => Ok(false),
+        (Some(0), _) | (None, Some(_)) => Err(StoreFault::NotThisStore),
+        (Some(_), _) => Ok(true),
     }
 }
 
@@ -113,7 +124,7 @@ fn make_file(rt: &HostRuntime, path: &str, admin: Person) -> Result<(), StoreFau
     remove(rt, &log)?;
     make_whole(rt, &new, admin)?;
     remove(rt, &log)?;
-    if is_there(rt, path)? {
+    if length_of(rt, path)?.is_some() {
         return Err(STORE);
     }
     fs::rename(rt, &new, path).map_err(|_| STORE)
@@ -132,8 +143,7 @@ pub fn in_file<S: Start>(
     ensures office { (db : Database) → HoldDatabase (image_at S.Start) db
         → IfOk result (λ books. CanTell (file_state books.0.0) → IsThisOffice admin db) }
 {
-    let log = beside(rt, path, "-wal")?;
-    if !is_there(rt, path)? && !is_there(rt, &log)? {
+    if !is_there(rt, path)? {
         let founder = admin.copy(rt.alloc()).map_err(|_| MEMORY)?;
         make_file(rt, path, founder)?;
     }
