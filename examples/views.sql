@@ -1,7 +1,7 @@
--- Views of an office's file, with names in place of codes and times in place of seconds. For a COPY of the file, never for the
--- file itself: with views in it the program may not open it any more. docs/FILE.md has the queries.
+-- Views of an office's file, with names in place of codes and times in place of seconds. For a COPY of the file: nothing but
+-- the program writes the file itself. docs/FILE.md has the queries.
 --
---     sqlite3 copy.db <examples/views.sql
+--     sqlite3 look.db <examples/views.sql
 
 DROP VIEW IF EXISTS v_units;
 DROP VIEW IF EXISTS v_grants;
