@@ -28,8 +28,8 @@ pub record IsConnection (ran : List Call → List Answer → Type 0) (end : End)
   pub went : List ℕ
   pub ends : EndsAs came None true (Some []) (Some went) ran end
 
--- The office went through sessions with these ends, each on the books that the one before left. `holds`, `tells` and
--- `stores` are the keeper's: what books hold, its premise on them, and how many answers were Store.
+-- Sessions with these ends were served in turn, each starting from the books that the previous one left. The keeper gives
+-- `holds` (what books hold), `tells` (its premise on them) and `stores` (how many answers were Store).
 abbrev pub GoesThrough : {B : Type 0} → (B → Content → Type 0) → (B → Type 0) → (B → ℕ) → B → List End → B → Type 0
 GoesThrough holds tells stores before [] after = after ≡ before
 GoesThrough {B} holds tells stores before (end ∷ earlier) after = (books : B) × GoesThrough holds tells stores before earlier books
