@@ -100,7 +100,7 @@ open_text_back (Some t) = refl
 
 -- ---- no cell is cast
 
-cast_number : (n : ℕ) → cast Integer (number n) ≡ number n
+pub cast_number : (n : ℕ) → cast Integer (number n) ≡ number n
 cast_number n = cast_int (pos n)
 
 cast_open_number : (o : Option ℕ) → cast Integer (open_number o) ≡ open_number o
@@ -117,13 +117,13 @@ cast_open_text (Some t) = refl
 pub numbers : (m n : ℕ) → value_cmp (number m) (number n) ≡ nat_cmp m n
 numbers m n = value_cmp-Int (pos m) (pos n) ∙ int_cmp-pos m n
 
-one : {a b : Ordering} → a ≡ b → ordering_then a Equal ≡ b
+pub one : {a b : Ordering} → a ≡ b → ordering_then a Equal ≡ b
 one {a} {b} h = then-Equal a ∙ h
 
-band_total : IsTotalOrder band_cmp
+pub band_total : IsTotalOrder band_cmp
 band_total = then_total (on_total (λ (k : BandKey). k.0) nat_cmp_total) (on_total (λ (k : BandKey). k.1) nat_cmp_total)
 
-cell_total : IsTotalOrder cell_cmp
+pub cell_total : IsTotalOrder cell_cmp
 cell_total = then_total (on_total (λ (k : CellKey). k.0) nat_cmp_total) (then_total (on_total (λ (k : CellKey). k.1) nat_cmp_total) (on_total (λ (k : CellKey). k.2) nat_cmp_total))
 
 -- ---- table by table

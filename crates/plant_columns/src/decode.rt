@@ -63,7 +63,7 @@ pub fn wide(row: &Row, at: usize) -> Result<u64, Error>
     }
 }
 
-fn number(row: &Row, at: usize) -> Result<u32, Error>
+pub fn number(row: &Row, at: usize) -> Result<u32, Error>
     ensures value { IfOk result (λ n. column row.now at ≡ codes.number n) }
     ensures cause { IfErr result IsNoMemory }
 {

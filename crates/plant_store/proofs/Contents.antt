@@ -22,7 +22,7 @@ use Rattle.plant_columns.specs.Tables.{AreBooks, AreSeen, Kept, rows_at, rows_se
 use Rattle.plant_tables.specs.Shape.{rows_in as rows_of}
 use Rattle.plant_columns.specs.Tables.Kept.{UnitKept, GrantKept, AlarmKept, ShelfKept, BandKept, CellKept, EventKept, RecordKept, ChangeKept}
 
-same_codes : (a b : Name) → same_name a b ≡ true → a ≡ b
+pub same_codes : (a b : Name) → same_name a b ≡ true → a ≡ b
 same_codes a b h = same_names a b (tied _ _ h refl)
 
 -- a unit that has its row keeps it, and one whose row is put has it
@@ -138,7 +138,7 @@ none_found s m u k units is any = sym (never_opened s m u k (ap has_any (sym is)
 
 -- ---- new books
 
-nothing_at : (i : Kept) → [] ≡ rows_at i no_rows
+pub nothing_at : (i : Kept) → [] ≡ rows_at i no_rows
 nothing_at UnitKept = refl
 nothing_at GrantKept = refl
 nothing_at AlarmKept = refl

@@ -9,7 +9,8 @@ use Rattle.std.specs.FinMap.Entries.{below_all, is_sorted}
 use Rattle.std.specs.List.{AllByRecursion, flat_map, list_any}
 use Rattle.std.specs.Ordering.{eq_by_cmp, is_lt, ordering_then}
 use Rattle.std.specs.Prelude.{is_some, unwrap_or, ◌||◌}
-use Rattle.sqlite.specs.Query.{Output}
+use Rattle.sqlite.specs.Program.{overlay}
+use Rattle.sqlite.specs.Query.{IsAnswer, Output, inner, end}
 use Rattle.sqlite.specs.State.{State, Shown}
 use Rattle.sqlite.proofs.Callers.{reads_as}
 use Rattle.sqlite_keyed.specs.Lists.{sort_by}
@@ -29,7 +30,7 @@ use Rattle.plant_columns.specs.Tables.Kept.{GrantKept, ShelfKept}
 use Rattle.plant_columns.proofs.ShapeLaws.{good}
 use Rattle.plant_model.specs.declared.rows.GrantRow.{GrantRow}
 use Rattle.plant_model.specs.RowChanges.{no_rows}
-use Rattle.plant_tables.specs.Kept.{by_columns, is_of}
+use Rattle.plant_tables.specs.Kept.{by_columns, is_of, plain_query}
 use Rattle.plant_tables.specs.Shape.{IsRowIn}
 use Rattle.plant_tables.proofs.Joins.{meets, met, strict-sort}
 use Rattle.plant_tables.proofs.JoinsMany.{joins_many}
@@ -44,7 +45,8 @@ use Rattle.plant_store.specs.declared.shelves.UnitShelf.{UnitShelf}
 use Rattle.plant_store.proofs.Blocks.{blocks, is_in, is_under}
 use Rattle.plant_store.proofs.Joined.{any_sorted, both, equal_ties, one_test}
 use Rattle.plant_store.proofs.LineLaws.{NotAbove, same_codes}
-use Rattle.plant_store.proofs.Meanings.{mine_shelves_is, mine_shelves_order, mine_shelves_plain, mine_shelves_shows, mine_shelves_tests}
+use Rattle.plant_store.proofs.Meanings.{mine_shelves_is, mine_shelves_order, mine_shelves_plain, mine_shelves_shows, mine_shelves_tests, shelves_first_order, shelves_first_shows, shelves_first_tests}
+use Rattle.plant_store.proofs.Turned.{turned_answer}
 use Rattle.plant_store.proofs.Queries.{is_named}
 
 abbrev shelf_key : List ℕ
@@ -96,7 +98,7 @@ right false b h = absurd (true≢false (sym h))
 ties_through : (u v g : Value) → value_cmp u g ≡ Equal → value_cmp v g ≡ Equal → value_cmp u v ≡ Equal
 ties_through u v g h k = sym (alike_right value_cmp_total g v u (tied_back value_cmp_total v g k)) ∙ h
 
-inside : (p : List ℕ) (g u v : Row) → meets 7 3 mine_shelves_tests mine_shelves_shows mine_shelves_order shelf_key (Text p ∷ []) g u ≡ true → meets 7 3 mine_shelves_tests mine_shelves_shows mine_shelves_order shelf_key (Text p ∷ []) g v ≡ true
+inside : (p : List ℕ) (g u v : Row) → meets 7 3 shelves_first_tests shelves_first_shows shelves_first_order shelf_key (Text p ∷ []) g u ≡ true → meets 7 3 shelves_first_tests shelves_first_shows shelves_first_order shelf_key (Text p ∷ []) g v ≡ true
     → by_columns grant_key u v ≡ Less → by_columns (3 ∷ []) u v ≡ Less
 inside p g u v h k less =
     let units = ties_through (column u 1) (column v 1) (column g 1) (equal_ties (column u 1) (column g 1) (both _ _ h)) (equal_ties (column v 1) (column g 1) (both _ _ k)) in
@@ -231,18 +233,18 @@ module _ (s : State) (m : Content) (k : KeepsIn s m) where
     abbrev is_own : Row → Row → Bool
     is_own r g = is_of (bytes (column r 1)) g && is_named p g
 
-    one_shelf : (r : Row) → IsRowIn shelf_shape r → (gs : List Row) → map (λ (o : Output). o.1) (met 7 3 mine_shelves_tests mine_shelves_shows mine_shelves_order shelf_key (Text p ∷ []) gs r) ≡ map (out r) (filter (is_own r) gs)
+    one_shelf : (r : Row) → IsRowIn shelf_shape r → (gs : List Row) → map (λ (o : Output). o.1) (met 7 3 shelves_first_tests shelves_first_shows shelves_first_order shelf_key (Text p ∷ []) gs r) ≡ map (out r) (filter (is_own r) gs)
     one_shelf r wf [] = refl
     one_shelf r wf (g ∷ gs) = go (is_own r g) refl (one_shelf r wf gs)
       where
         name : column r 1 ≡ Text (bytes (column r 1))
         name = name_at r wf
 
-        meet : meets 7 3 mine_shelves_tests mine_shelves_shows mine_shelves_order shelf_key (Text p ∷ []) r g ≡ is_own r g
+        meet : meets 7 3 shelves_first_tests shelves_first_shows shelves_first_order shelf_key (Text p ∷ []) r g ≡ is_own r g
         meet = ap₂ ◌&&◌ (equal_is (column g 1) (column r 1) (ap is_null name) ∙ ap (λ v. is_eq (value_cmp (column g 1) v)) name) (one_test (column g 2) p)
 
-        go : (b : Bool) → is_own r g ≡ b → map (λ (o : Output). o.1) (met 7 3 mine_shelves_tests mine_shelves_shows mine_shelves_order shelf_key (Text p ∷ []) gs r) ≡ map (out r) (filter (is_own r) gs)
-            → map (λ (o : Output). o.1) (met 7 3 mine_shelves_tests mine_shelves_shows mine_shelves_order shelf_key (Text p ∷ []) (g ∷ gs) r) ≡ map (out r) (cond b (g ∷ filter (is_own r) gs) (filter (is_own r) gs))
+        go : (b : Bool) → is_own r g ≡ b → map (λ (o : Output). o.1) (met 7 3 shelves_first_tests shelves_first_shows shelves_first_order shelf_key (Text p ∷ []) gs r) ≡ map (out r) (filter (is_own r) gs)
+            → map (λ (o : Output). o.1) (met 7 3 shelves_first_tests shelves_first_shows shelves_first_order shelf_key (Text p ∷ []) (g ∷ gs) r) ≡ map (out r) (cond b (g ∷ filter (is_own r) gs) (filter (is_own r) gs))
         go true e more = rw (meet, e) (ap (λ l. out r g ∷ l) more)
         go false e more = rw (meet, e) more
 
@@ -262,17 +264,22 @@ module _ (s : State) (m : Content) (k : KeepsIn s m) where
         ∙ sym (map-map shelf_line_cells (line_with (seen_shelf r)) own)
 
     shelves_shown : (rs : List Row) → AllByRecursion (IsRowIn shelf_shape) rs
-        → map (λ (o : Output). o.1) (flat_map (met 7 3 mine_shelves_tests mine_shelves_shows mine_shelves_order shelf_key (Text p ∷ []) (sort_by (by_columns grant_key) (s.now.trees 3))) rs) ≡ map shelf_line_cells (flat_map (lines_beside m p) (map seen_shelf rs))
+        → map (λ (o : Output). o.1) (flat_map (met 7 3 shelves_first_tests shelves_first_shows shelves_first_order shelf_key (Text p ∷ []) (sort_by (by_columns grant_key) (s.now.trees 3))) rs) ≡ map shelf_line_cells (flat_map (lines_beside m p) (map seen_shelf rs))
     shelves_shown [] all = refl
     shelves_shown (r ∷ rs) all =
-        map-append _ (met 7 3 mine_shelves_tests mine_shelves_shows mine_shelves_order shelf_key (Text p ∷ []) (sort_by (by_columns grant_key) (s.now.trees 3)) r) _
+        map-append _ (met 7 3 shelves_first_tests shelves_first_shows shelves_first_order shelf_key (Text p ∷ []) (sort_by (by_columns grant_key) (s.now.trees 3)) r) _
         ∙ ap₂ ◌++◌ (one_shelf r all.0 (sort_by (by_columns grant_key) (s.now.trees 3)) ∙ shelf_shown r all.0) (shelves_shown rs all.1)
         ∙ sym (map-append shelf_line_cells (lines_beside m p (seen_shelf r)) _)
+
+    -- an answer of the join from the shelves is the lines
+    lines_answered : (rows : List Row) → IsAnswer (plain_query (inner 7 (inner 3 end)) shelves_first_tests shelves_first_shows shelves_first_order) (overlay s.now.trees []) (Text p ∷ []) rows → rows ≡ map shelf_line_cells (shelf_lines m p)
+    lines_answered rows a =
+        let whole = joins_many 7 3 shelves_first_tests shelves_first_shows shelves_first_order shelf_key (3 ∷ []) (Text p ∷ [])
+        (λ g h u v. thens (value_cmp (column g 1) (column h 1)) (value_cmp (column g 2) (column h 2)) (value_cmp (column u 3) (column v 3)))
+        grant_key (inside p) s.now.trees rows (k.books.tidy ShelfKept).apart (k.books.tidy GrantKept).apart a in
+        whole ∙ shelves_shown sorted wf_all ∙ ap (λ ss. map shelf_line_cells (flat_map (lines_beside m p) ss)) all_rows
 
     pub find_mine_shelves : (new : State) (rows : List Row) → Shown mine_shelves_text (Text p ∷ []) s new rows → rows ≡ map shelf_line_cells (shelf_lines m p)
     find_mine_shelves new rows h =
         let got = reads_as mine_shelves_text (Text p ∷ []) s new books_schema k.books.same_schema _ mine_shelves_is.0 mine_shelves_plain mine_shelves_is.1 rows h in
-        let whole = joins_many 7 3 mine_shelves_tests mine_shelves_shows mine_shelves_order shelf_key (3 ∷ []) (Text p ∷ [])
-        (λ g h u v. thens (value_cmp (column g 1) (column h 1)) (value_cmp (column g 2) (column h 2)) (value_cmp (column u 3) (column v 3)))
-        grant_key (inside p) s.now.trees rows (k.books.tidy ShelfKept).apart (k.books.tidy GrantKept).apart (got.answer Null) in
-        whole ∙ shelves_shown sorted wf_all ∙ ap (λ ss. map shelf_line_cells (flat_map (lines_beside m p) ss)) all_rows
+        lines_answered rows (turned_answer 7 3 shelves_first_tests shelves_first_shows shelves_first_order mine_shelves_tests mine_shelves_shows mine_shelves_order (Text p ∷ []) (λ r g. refl) (λ r g. refl) refl s.now.trees rows (got.answer Null))

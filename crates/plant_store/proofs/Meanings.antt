@@ -569,18 +569,28 @@ unfolding understood everything
 mine_plain = (refl, refl)
 
 abbrev pub mine_shelves_tests : List Term
-mine_shelves_tests = op2 (Compare Eq Binary) (col 2 1) (col 1 1) ∷ op2 (Compare Eq Binary) (col 2 2) (col 0 0) ∷ []
+mine_shelves_tests = op2 (Compare Eq Binary) (col 1 1) (col 2 1) ∷ op2 (Compare Eq Binary) (col 1 2) (col 0 0) ∷ []
 
 abbrev pub mine_shelves_shows : List Term
-mine_shelves_shows = col 1 1 ∷ col 1 2 ∷ col 1 3 ∷ col 1 4 ∷ col 1 5 ∷ col 1 6 ∷ col 1 7 ∷ col 2 4 ∷ []
+mine_shelves_shows = col 2 1 ∷ col 2 2 ∷ col 2 3 ∷ col 2 4 ∷ col 2 5 ∷ col 2 6 ∷ col 2 7 ∷ col 1 4 ∷ []
 
 abbrev pub mine_shelves_order : List (Term × Key)
-mine_shelves_order = (col 1 1, ascending Binary) ∷ (col 1 2, ascending Binary) ∷ (col 2 3, ascending Binary) ∷ []
+mine_shelves_order = (col 2 1, ascending Binary) ∷ (col 2 2, ascending Binary) ∷ (col 1 3, ascending Binary) ∷ []
+
+-- the same join, from the shelves
+abbrev pub shelves_first_tests : List Term
+shelves_first_tests = op2 (Compare Eq Binary) (col 2 1) (col 1 1) ∷ op2 (Compare Eq Binary) (col 2 2) (col 0 0) ∷ []
+
+abbrev pub shelves_first_shows : List Term
+shelves_first_shows = col 1 1 ∷ col 1 2 ∷ col 1 3 ∷ col 1 4 ∷ col 1 5 ∷ col 1 6 ∷ col 1 7 ∷ col 2 4 ∷ []
+
+abbrev pub shelves_first_order : List (Term × Key)
+shelves_first_order = (col 1 1, ascending Binary) ∷ (col 1 2, ascending Binary) ∷ (col 2 3, ascending Binary) ∷ []
 
 abbrev pub mine_shelves_names : List (List ℕ)
 mine_shelves_names = codes "unit" ∷ codes "tag" ∷ codes "one_shot" ∷ codes "start_s" ∷ codes "until_s" ∷ codes "person" ∷ codes "words" ∷ codes "end_s" ∷ []
 
-pub mine_shelves_is : (command_of (understood books_schema mine_shelves_text) ≡ Select (record { lets = []; body = plain_query (inner 7 (inner 3 end)) mine_shelves_tests mine_shelves_shows mine_shelves_order }) mine_shelves_names)
+pub mine_shelves_is : (command_of (understood books_schema mine_shelves_text) ≡ Select (record { lets = []; body = plain_query (inner 3 (inner 7 end)) mine_shelves_tests mine_shelves_shows mine_shelves_order }) mine_shelves_names)
     × (reads_listing books_schema mine_shelves_text ≡ false)
 unfolding understood everything
 mine_shelves_is = (refl, refl)

@@ -25,7 +25,7 @@ use Rattle.plant_store.proofs.OfficeMeaning.{is_refused, is_understood, query}
 use Rattle.plant_store.proofs.ThreeColumns.{IsColumn}
 use Rattle.plant_store.specs.Changes.{CanTell}
 use Rattle.plant_store.specs.Keeping.{Keeps, KeepsIn}
-use Rattle.plant_store.specs.Opening.{IsThisOffice, has_office, is_office, office_cells, office_in, office_shown, place_named}
+use Rattle.plant_store.specs.Opening.{IsOffice, IsThisOffice, has_office, is_office, office_cells, office_in, office_shown, place_named}
 use Rattle.plant_store.specs.Texts.{office_row_text}
 use Rattle.plant_tables.proofs.Laws.{reads, shows}
 use Rattle.plant_tables.specs.Tables.{column_of}
@@ -81,7 +81,7 @@ one_shown x all rows same order = (
       one_permutation x (map (columns 3) rows) turned,
 )
 
-module _ (admin : Name) (old new : State) (t : Table) (is_there : office_in old.now.schema ≡ Some t) (has : is_office t ≡ true) (rows : List Row) (h : Shown office_row_text [] old new rows) where
+module _ (n : ℕ) (admin : Name) (old new : State) (t : Table) (is_there : office_in old.now.schema ≡ Some t) (has : is_office t ≡ true) (rows : List Row) (h : Shown office_row_text [] old new rows) where
   id : IsColumn t (codes "id")
   id = found_column t (codes "id") (and_parts _ _ has).0
 
@@ -129,18 +129,18 @@ module _ (admin : Name) (old new : State) (t : Table) (is_there : office_in old.
       ∙ ap (λ o. map (three a (place_of t (unwrap_or o 0)) (place_named t (codes "admin"))) rs) schema_no.has
       ∙ ap (λ o. map (three a b (place_of t (unwrap_or o 0))) rs) by.has
 
-  this_row : (map (columns 3) rows ≡ office_cells admin ∷ []) ↔ (map (office_shown t) (old.now.trees t.tree) ≡ office_cells admin ∷ [])
+  this_row : (map (columns 3) rows ≡ office_cells n admin ∷ []) ↔ (map (office_shown t) (old.now.trees t.tree) ≡ office_cells n admin ∷ [])
   this_row =
-      let it = one_shown (office_cells admin) (map (three a b c) (old.now.trees t.tree)) rows (columns_each a b c (old.now.trees t.tree)) some_order in
+      let it = one_shown (office_cells n admin) (map (three a b c) (old.now.trees t.tree)) rows (columns_each a b c (old.now.trees t.tree)) some_order in
       (λ e. by_names (old.now.trees t.tree) ∙ it.0 e, λ e. it.1 (sym (by_names (old.now.trees t.tree)) ∙ e))
 
   -- the rows that are shown tell whether it is this office
-  pub office_told : (map (columns 3) rows ≡ office_cells admin ∷ []) ↔ IsThisOffice admin old.now
+  pub office_told : (map (columns 3) rows ≡ office_cells n admin ∷ []) ↔ IsOffice n admin old.now
   office_told = (
     λ e. record { table = t; is_there = is_there; has_columns = has; row = this_row.0 e },
     λ it.
         let same : it.table ≡ t = let e = sym it.is_there ∙ is_there in cc in
-        this_row.1 (subst (λ (u : Table). map (office_shown u) (old.now.trees u.tree) ≡ office_cells admin ∷ []) same it.row),
+        this_row.1 (subst (λ (u : Table). map (office_shown u) (old.now.trees u.tree) ≡ office_cells n admin ∷ []) same it.row),
   )
 
 -- ---- the books of this office

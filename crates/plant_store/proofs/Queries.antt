@@ -47,7 +47,7 @@ if_ok (Err e) f h = tt
 
 -- ---- the tests
 
-one_test : (v : Value) (u : List ℕ) → (equal Binary v (Text u) && true) ≡ is_eq (value_cmp v (Text u))
+pub one_test : (v : Value) (u : List ℕ) → (equal Binary v (Text u) && true) ≡ is_eq (value_cmp v (Text u))
 one_test v u = and_true _ ∙ equal_is v (Text u) refl
 
 two_tests : (v w : Value) (u p : List ℕ) → (equal Binary v (Text u) && (equal Binary w (Text p) && true)) ≡ (is_eq (value_cmp v (Text u)) && is_eq (value_cmp w (Text p)))

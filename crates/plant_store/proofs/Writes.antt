@@ -274,7 +274,7 @@ remove_shelf_applies u a old new books count h =
 
 -- ---- several changes
 
-changed_by-append : (xs ys : List Change) (rows : UnitRows) → changed_by (xs ++ ys) rows ≡ changed_by ys (changed_by xs rows)
+pub changed_by-append : (xs ys : List Change) (rows : UnitRows) → changed_by (xs ++ ys) rows ≡ changed_by ys (changed_by xs rows)
 changed_by-append [] ys rows = refl
 changed_by-append (x ∷ xs) ys rows = changed_by-append xs ys (changed_by (x ∷ []) rows)
 

@@ -8,3 +8,6 @@ pub mod Mine
 pub mod Shelves
 pub mod Counting
 pub mod Opening
+pub mod OldTables
+pub mod Upgrading
+pub mod OldRules

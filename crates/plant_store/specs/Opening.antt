@@ -32,12 +32,16 @@ place_named t name = place_of t (unwrap_or (column_named t name) 0)
 abbrev pub office_shown : Table → Row → Row
 office_shown t r = column r (place_named t (codes "id")) ∷ column r (place_named t (codes "schema_no")) ∷ column r (place_named t (codes "admin")) ∷ []
 
-abbrev pub office_cells : Name → Row
-office_cells admin = number 1 ∷ number schema_no ∷ Text admin ∷ []
+abbrev pub office_cells : ℕ → Name → Row
+office_cells schema admin = number 1 ∷ number schema ∷ Text admin ∷ []
 
--- there is the office's table with its columns, and it has one row, this schema's and this person's
-pub record IsThisOffice (admin : Name) (db : Database) : Type 0 where
+-- there is the office's table with its columns, and it has one row, of a schema's number and a person's name
+pub record IsOffice (schema : ℕ) (admin : Name) (db : Database) : Type 0 where
   pub table : Table
   pub is_there : office_in db.schema ≡ Some table
   pub has_columns : is_office table ≡ true
-  pub row : map (office_shown table) (db.trees table.tree) ≡ office_cells admin ∷ []
+  pub row : map (office_shown table) (db.trees table.tree) ≡ office_cells schema admin ∷ []
+
+-- the same of this schema
+abbrev pub IsThisOffice : Name → Database → Type 0
+IsThisOffice admin db = IsOffice schema_no admin db

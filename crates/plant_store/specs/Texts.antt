@@ -140,4 +140,14 @@ mine_text = codes "SELECT grants.unit, grants.role_no, grants.end_s, units.last_
 
 -- the shelves of the units in which a person has grants, each beside the end of each of these grants
 abbrev pub mine_shelves_text : List ℕ
-mine_shelves_text = codes "SELECT shelves.unit, shelves.tag, shelves.one_shot, shelves.start_s, shelves.until_s, shelves.person, shelves.words, grants.end_s FROM shelves INNER JOIN grants ON grants.unit = shelves.unit WHERE grants.person = ?1 ORDER BY shelves.unit, shelves.tag, grants.role_no"
+mine_shelves_text = codes "SELECT shelves.unit, shelves.tag, shelves.one_shot, shelves.start_s, shelves.until_s, shelves.person, shelves.words, grants.end_s FROM grants INNER JOIN shelves ON grants.unit = shelves.unit WHERE grants.person = ?1 ORDER BY shelves.unit, shelves.tag, grants.role_no"
+
+-- what is read of schema 1 alone: the codes of all units, and a unit's own row and its grants
+abbrev pub old_codes_text : List ℕ
+old_codes_text = codes "SELECT unit FROM units ORDER BY unit"
+
+abbrev pub old_units_of_text : List ℕ
+old_units_of_text = codes "SELECT last_s, matrix_no, matrix_rev FROM units WHERE unit = ?1 ORDER BY unit"
+
+abbrev pub old_grants_of_text : List ℕ
+old_grants_of_text = codes "SELECT person, role_no FROM grants WHERE unit = ?1 ORDER BY unit, person, role_no"

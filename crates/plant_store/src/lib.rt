@@ -2,9 +2,12 @@
 //! code. Each statement is a fixed text, and one unit's calls look at that unit's rows alone.
 #![tactic(auto)]
 
+mod laws;
 mod make;
+mod migration;
 mod mine;
 mod numbers;
+mod old_rows;
 mod opening;
 mod part;
 mod read;
@@ -13,4 +16,6 @@ mod tables;
 mod unit;
 mod write;
 
+pub use laws::old_histories;
+pub use migration::{MigrateRefused, migrate};
 pub use tables::{StoreFault, Tables, Unopened};

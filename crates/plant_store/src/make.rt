@@ -132,6 +132,23 @@ fn make_office<S: Alter>(tx: &mut Transaction<'_, S>, admin: &Person) -> Result<
     Ok(())
 }
 
+/// Makes all tables, within a transaction.
+pub fn make_tables<S: Alter>(tx: &mut Transaction<'_, S>, admin: &Person) -> Result<(), Error>
+    ensures same_reference { tx.new.conn.ghost_name ≡ tx.old.conn.ghost_name }
+    ensures made { HasCleanDisk (state S.Store tx.new.conn.now) → IsTrue tx.old.conn.now.in_transaction → (state S.Store tx.old.conn.now).now.schema ≡ no_schema
+        → OnOk result (AreNew admin.now (state S.Store tx.new.conn.now).now) }
+    ensures inside { HasCleanDisk (state S.Store tx.new.conn.now) → IsTrue tx.old.conn.now.in_transaction → OnOk result (IsTrue tx.new.conn.now.in_transaction) }
+    ensures kept { HasCleanDisk (state S.Store tx.new.conn.now) → IsTrue tx.old.conn.now.in_transaction → KeepsCommit (state S.Store tx.old.conn.now) (state S.Store tx.new.conn.now) }
+    ensures survives { Survives (state S.Store tx.old.conn.now) (state S.Store tx.new.conn.now) (λ _. ⊥) }
+{
+    make_grants(tx)?;
+    make_shelves(tx)?;
+    make_events(tx)?;
+    make_changes(tx)?;
+    make_office(tx, admin)?;
+    Ok(())
+}
+
 /// Makes all tables in a database that has none: all of them, or nothing.
 pub fn make_all<S: Alter>(conn: &mut Connection<S>, admin: &Person) -> Result<(), Error>
     requires { conn.old.in_transaction ≡ false }
@@ -142,11 +159,7 @@ pub fn make_all<S: Alter>(conn: &mut Connection<S>, admin: &Person) -> Result<()
 {
     let _settled = conn.is_autocommit();
     let mut tx = conn.transaction();
-    make_grants(&mut tx)?;
-    make_shelves(&mut tx)?;
-    make_events(&mut tx)?;
-    make_changes(&mut tx)?;
-    make_office(&mut tx, admin)?;
+    make_tables(&mut tx, admin)?;
     tx.commit()?;
     Ok(())
 }

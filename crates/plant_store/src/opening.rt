@@ -1,13 +1,14 @@
-//! Whether a database is this office's books.
+//! Whether a database is an office's books.
 
 ghost use Rattle.std.specs.Prelude.{◌≡◌, ◌↔◌, [], ◌∷◌, false, map, true, IsTrue, IfOk, Ok};
 ghost use Rattle.sqlite.specs.Held.{state};
 ghost use Rattle.sqlite_value.specs.Order.{column};
 ghost use Rattle.sqlite_value.specs.declared.value.Value.TheVariants.{Text as TextValue};
 ghost use Rattle.plant_store.specs.Changes.{CanTell};
+ghost use Rattle.plant_store.specs.OldTables.{AreOldBooks};
 ghost use Rattle.plant_columns.specs.Codes as codings;
 ghost use Rattle.plant_store.specs.Opening as opening;
-ghost use Rattle.plant_store.specs.Opening.{IsThisOffice, office_cells};
+ghost use Rattle.plant_store.specs.Opening.{IsOffice, office_cells};
 ghost use Rattle.plant_columns.specs.Shown.{columns};
 ghost use Rattle.plant_columns.specs.Tables.{AreBooks};
 
@@ -60,46 +61,56 @@ fn is_text(row: &Row, at: usize, text: &[u8]) -> bool
     }
 }
 
-/// Whether the row is this schema's and this person's.
-fn is_row_of(row: &Row, admin: &Person) -> bool
-    ensures { IsTrue result ↔ (columns 3 row.now ≡ office_cells admin.now) }
+/// Whether the row is of this schema's number and this person's name.
+fn is_row_of(row: &Row, schema: u32, admin: &Person) -> bool
+    ensures { IsTrue result ↔ (columns 3 row.now ≡ office_cells schema admin.now) }
 {
-    is_number(row, 0, 1) && is_number(row, 1, 2) && is_text(row, 2, admin.as_bytes())
+    is_number(row, 0, 1) && is_number(row, 1, schema) && is_text(row, 2, admin.as_bytes())
 }
 
-/// Whether these rows of the office's table are this schema's and this person's one row.
-fn is_office_row(rows: &[Row], admin: &Person) -> bool
-    ensures { IsTrue result ↔ (map (columns 3) rows.now ≡ office_cells admin.now ∷ []) }
+/// Whether these rows of the office's table are one row, of this schema's number and this person's name.
+fn is_office_row(rows: &[Row], schema: u32, admin: &Person) -> bool
+    ensures { IsTrue result ↔ (map (columns 3) rows.now ≡ office_cells schema admin.now ∷ []) }
 {
     match rows {
-        [row] => is_row_of(row, admin),
+        [row] => is_row_of(row, schema, admin),
         _ => false,
     }
 }
 
-/// Whether the office's table has this schema's and this person's one row, where the table is there with its columns.
-fn has_its_row<S: Alter>(conn: &mut Connection<S>, admin: &Person) -> Result<bool, Error>
+/// Whether the office's table has one row, of this schema's number and this person's name, where the table is there with its columns.
+fn has_its_row<S: Alter>(
+    conn: &mut Connection<S>,
+    schema: u32,
+    admin: &Person,
+) -> Result<bool, Error>
     requires { conn.old.in_transaction ≡ false }
     ensures mode { conn.new.in_transaction ≡ false }
-    ensures row { CanTell (state S.Store conn.new) → opening.has_office (state S.Store conn.old).now.schema ≡ true → IfOk result (λ is. IsTrue is ↔ IsThisOffice admin.now (state S.Store conn.old).now) }
+    ensures row { CanTell (state S.Store conn.new) → opening.has_office (state S.Store conn.old).now.schema ≡ true → IfOk result (λ is. IsTrue is ↔ IsOffice schema admin.now (state S.Store conn.old).now) }
     ensures same { CanTell (state S.Store conn.new) → AreBooks (state S.Store conn.old).now → (state S.Store conn.new).now ≡ (state S.Store conn.old).now }
+    ensures old_same { CanTell (state S.Store conn.new) → AreOldBooks (state S.Store conn.old).now → (state S.Store conn.new).now ≡ (state S.Store conn.old).now }
     ensures told { CanTell (state S.Store conn.new) → CanTell (state S.Store conn.old) }
 {
     let rows = ask(conn, "SELECT id, schema_no, admin FROM office", &[])?;
-    Ok(is_office_row(rows.as_slice(), admin))
+    Ok(is_office_row(rows.as_slice(), schema, admin))
 }
 
-/// Whether the database has the office's table with its columns, and there this schema's and this person's one row.
-pub fn is_office_of<S: Alter>(conn: &mut Connection<S>, admin: &Person) -> Result<bool, Error>
+/// Whether the database has the office's table with its columns, and there one row, of this schema's number and this person's name.
+pub fn is_office_of<S: Alter>(
+    conn: &mut Connection<S>,
+    schema: u32,
+    admin: &Person,
+) -> Result<bool, Error>
     requires { conn.old.in_transaction ≡ false }
     ensures mode { conn.new.in_transaction ≡ false }
-    ensures row { CanTell (state S.Store conn.new) → IfOk result (λ is. IsTrue is ↔ IsThisOffice admin.now (state S.Store conn.old).now) }
+    ensures row { CanTell (state S.Store conn.new) → IfOk result (λ is. IsTrue is ↔ IsOffice schema admin.now (state S.Store conn.old).now) }
     ensures missing { opening.has_office (state S.Store conn.old).now.schema ≡ false → result ≡ Ok false }
     ensures same { CanTell (state S.Store conn.new) → AreBooks (state S.Store conn.old).now → (state S.Store conn.new).now ≡ (state S.Store conn.old).now }
+    ensures old_same { CanTell (state S.Store conn.new) → AreOldBooks (state S.Store conn.old).now → (state S.Store conn.new).now ≡ (state S.Store conn.old).now }
     ensures told { CanTell (state S.Store conn.new) → CanTell (state S.Store conn.old) }
 {
     if !has_office(conn.schema()) {
         return Ok(false);
     }
-    has_its_row(conn, admin)
+    has_its_row(conn, schema, admin)
 }

@@ -10,6 +10,7 @@ ghost use Rattle.sqlite.proofs.Callers.{IsPlain};
 ghost use Rattle.plant_model.specs.Histories.{same_number};
 ghost use Rattle.plant_types.specs.Names.{same_name};
 ghost use Rattle.plant_store.specs.Changes.{CanTell};
+ghost use Rattle.plant_store.specs.OldTables.{AreOldBooks};
 ghost use Rattle.plant_columns.specs.Tables.{AreBooks, rows_seen};
 ghost use Rattle.plant_columns.specs.Tables.Kept.{UnitKept, GrantKept, AlarmKept, ShelfKept, BandKept, CellKept, EventKept, RecordKept, ChangeKept};
 
@@ -91,6 +92,8 @@ pub fn alarms_of<S: Alter>(
     ensures rows { HasCleanDisk (state S.Store conn.new) → AreBooks (state S.Store conn.old).now → IfOk result (λ rows. rows ≡ rows_seen unit.now (state S.Store conn.old).now.trees AlarmKept) }
     ensures same { CanTell (state S.Store conn.new) → AreBooks (state S.Store conn.old).now → (state S.Store conn.new).now ≡ (state S.Store conn.old).now }
     ensures told { CanTell (state S.Store conn.new) → CanTell (state S.Store conn.old) }
+    ensures old_rows { HasCleanDisk (state S.Store conn.new) → AreOldBooks (state S.Store conn.old).now → IfOk result (λ rows. rows ≡ rows_seen unit.now (state S.Store conn.old).now.trees AlarmKept) }
+    ensures old_same { CanTell (state S.Store conn.new) → AreOldBooks (state S.Store conn.old).now → (state S.Store conn.new).now ≡ (state S.Store conn.old).now }
 {
     let rows = ask(
         conn,
@@ -111,6 +114,8 @@ pub fn shelves_of<S: Alter>(
     ensures rows { HasCleanDisk (state S.Store conn.new) → AreBooks (state S.Store conn.old).now → IfOk result (λ rows. rows ≡ rows_seen unit.now (state S.Store conn.old).now.trees ShelfKept) }
     ensures same { CanTell (state S.Store conn.new) → AreBooks (state S.Store conn.old).now → (state S.Store conn.new).now ≡ (state S.Store conn.old).now }
     ensures told { CanTell (state S.Store conn.new) → CanTell (state S.Store conn.old) }
+    ensures old_rows { HasCleanDisk (state S.Store conn.new) → AreOldBooks (state S.Store conn.old).now → IfOk result (λ rows. rows ≡ rows_seen unit.now (state S.Store conn.old).now.trees ShelfKept) }
+    ensures old_same { CanTell (state S.Store conn.new) → AreOldBooks (state S.Store conn.old).now → (state S.Store conn.new).now ≡ (state S.Store conn.old).now }
 {
     let rows = ask(
         conn,
@@ -131,6 +136,8 @@ pub fn bands_of<S: Alter>(
     ensures rows { HasCleanDisk (state S.Store conn.new) → AreBooks (state S.Store conn.old).now → IfOk result (λ rows. rows ≡ rows_seen unit.now (state S.Store conn.old).now.trees BandKept) }
     ensures same { CanTell (state S.Store conn.new) → AreBooks (state S.Store conn.old).now → (state S.Store conn.new).now ≡ (state S.Store conn.old).now }
     ensures told { CanTell (state S.Store conn.new) → CanTell (state S.Store conn.old) }
+    ensures old_rows { HasCleanDisk (state S.Store conn.new) → AreOldBooks (state S.Store conn.old).now → IfOk result (λ rows. rows ≡ rows_seen unit.now (state S.Store conn.old).now.trees BandKept) }
+    ensures old_same { CanTell (state S.Store conn.new) → AreOldBooks (state S.Store conn.old).now → (state S.Store conn.new).now ≡ (state S.Store conn.old).now }
 {
     let rows = ask(
         conn,
@@ -151,6 +158,8 @@ pub fn cells_of<S: Alter>(
     ensures rows { HasCleanDisk (state S.Store conn.new) → AreBooks (state S.Store conn.old).now → IfOk result (λ rows. rows ≡ rows_seen unit.now (state S.Store conn.old).now.trees CellKept) }
     ensures same { CanTell (state S.Store conn.new) → AreBooks (state S.Store conn.old).now → (state S.Store conn.new).now ≡ (state S.Store conn.old).now }
     ensures told { CanTell (state S.Store conn.new) → CanTell (state S.Store conn.old) }
+    ensures old_rows { HasCleanDisk (state S.Store conn.new) → AreOldBooks (state S.Store conn.old).now → IfOk result (λ rows. rows ≡ rows_seen unit.now (state S.Store conn.old).now.trees CellKept) }
+    ensures old_same { CanTell (state S.Store conn.new) → AreOldBooks (state S.Store conn.old).now → (state S.Store conn.new).now ≡ (state S.Store conn.old).now }
 {
     let rows = ask(
         conn,
@@ -171,6 +180,8 @@ pub fn events_of<S: Alter>(
     ensures rows { HasCleanDisk (state S.Store conn.new) → AreBooks (state S.Store conn.old).now → IfOk result (λ rows. rows ≡ rows_seen unit.now (state S.Store conn.old).now.trees EventKept) }
     ensures same { CanTell (state S.Store conn.new) → AreBooks (state S.Store conn.old).now → (state S.Store conn.new).now ≡ (state S.Store conn.old).now }
     ensures told { CanTell (state S.Store conn.new) → CanTell (state S.Store conn.old) }
+    ensures old_rows { HasCleanDisk (state S.Store conn.new) → AreOldBooks (state S.Store conn.old).now → IfOk result (λ rows. rows ≡ rows_seen unit.now (state S.Store conn.old).now.trees EventKept) }
+    ensures old_same { CanTell (state S.Store conn.new) → AreOldBooks (state S.Store conn.old).now → (state S.Store conn.new).now ≡ (state S.Store conn.old).now }
 {
     let rows = ask(
         conn,
@@ -191,6 +202,8 @@ pub fn records_of<S: Alter>(
     ensures rows { HasCleanDisk (state S.Store conn.new) → AreBooks (state S.Store conn.old).now → IfOk result (λ rows. rows ≡ rows_seen unit.now (state S.Store conn.old).now.trees RecordKept) }
     ensures same { CanTell (state S.Store conn.new) → AreBooks (state S.Store conn.old).now → (state S.Store conn.new).now ≡ (state S.Store conn.old).now }
     ensures told { CanTell (state S.Store conn.new) → CanTell (state S.Store conn.old) }
+    ensures old_rows { HasCleanDisk (state S.Store conn.new) → AreOldBooks (state S.Store conn.old).now → IfOk result (λ rows. rows ≡ rows_seen unit.now (state S.Store conn.old).now.trees RecordKept) }
+    ensures old_same { CanTell (state S.Store conn.new) → AreOldBooks (state S.Store conn.old).now → (state S.Store conn.new).now ≡ (state S.Store conn.old).now }
 {
     let rows = ask(
         conn,
@@ -211,6 +224,8 @@ pub fn changes_of<S: Alter>(
     ensures rows { HasCleanDisk (state S.Store conn.new) → AreBooks (state S.Store conn.old).now → IfOk result (λ rows. rows ≡ rows_seen unit.now (state S.Store conn.old).now.trees ChangeKept) }
     ensures same { CanTell (state S.Store conn.new) → AreBooks (state S.Store conn.old).now → (state S.Store conn.new).now ≡ (state S.Store conn.old).now }
     ensures told { CanTell (state S.Store conn.new) → CanTell (state S.Store conn.old) }
+    ensures old_rows { HasCleanDisk (state S.Store conn.new) → AreOldBooks (state S.Store conn.old).now → IfOk result (λ rows. rows ≡ rows_seen unit.now (state S.Store conn.old).now.trees ChangeKept) }
+    ensures old_same { CanTell (state S.Store conn.new) → AreOldBooks (state S.Store conn.old).now → (state S.Store conn.new).now ≡ (state S.Store conn.old).now }
 {
     let rows = ask(
         conn,

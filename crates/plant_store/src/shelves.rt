@@ -118,7 +118,7 @@ fn lines<S: Alter>(
 {
     let rows = ask(
         conn,
-        "SELECT shelves.unit, shelves.tag, shelves.one_shot, shelves.start_s, shelves.until_s, shelves.person, shelves.words, grants.end_s FROM shelves INNER JOIN grants ON grants.unit = shelves.unit WHERE grants.person = ?1 ORDER BY shelves.unit, shelves.tag, grants.role_no",
+        "SELECT shelves.unit, shelves.tag, shelves.one_shot, shelves.start_s, shelves.until_s, shelves.person, shelves.words, grants.end_s FROM grants INNER JOIN shelves ON grants.unit = shelves.unit WHERE grants.person = ?1 ORDER BY shelves.unit, shelves.tag, grants.role_no",
         &single(person),
     )?;
     read_all(alloc, rows.as_slice())

@@ -23,7 +23,7 @@ use std::alloc::Global;
 use std::marker::Model;
 use thiserror::Error;
 
-fn fault_of(error: &SqlError) -> Fault
+pub fn fault_of(error: &SqlError) -> Fault
     ensures { Names error.now result }
 {
     match error {
@@ -32,8 +32,11 @@ fn fault_of(error: &SqlError) -> Fault
     }
 }
 
+/// This schema's number.
+const SCHEMA: u32 = 2;
+
 /// Whether the database has no table, no index and no view.
-fn is_blank(schema: &Schema) -> bool
+pub fn is_blank(schema: &Schema) -> bool
     ensures { IsTrue result ↔ (schema.now ≡ no_schema) }
 {
     schema.tables.as_slice().is_empty()
@@ -149,7 +152,7 @@ impl<S: Alter> Tables<S> {
         ensures left { (m : Content) → Keeps (state S.Store conn) m → IfErr result (λ e. Keeps (state S.Store e.conn) m) }
         ensures back { IfErr result (λ e. (e.admin ≡ admin) × (e.conn.in_transaction ≡ false)) }
     {
-        match is_office_of(&mut conn, &admin) {
+        match is_office_of(&mut conn, SCHEMA, &admin) {
             Ok(true) => Ok(Tables {
                 conn,
                 admin,
@@ -166,6 +169,21 @@ impl<S: Alter> Tables<S> {
                 admin,
                 fault: StoreFault::Fault(fault_of(&error)),
             }),
+        }
+    }
+
+    /// The books in these tables, where they were just made.
+    pub(crate) fn of(alloc: Global, conn: Connection<S>, admin: Person) -> Tables<S>
+        requires { conn.in_transaction ≡ false }
+        ensures same { result.0.0 ≡ conn }
+        ensures admin { result.0.1 ≡ admin }
+        ensures count { result.1 ≡ 0 }
+    {
+        Tables {
+            conn,
+            admin,
+            stores: 0,
+            alloc,
         }
     }
 

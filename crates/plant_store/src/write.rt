@@ -41,7 +41,7 @@ pub fn run<S: Alter>(
 }
 
 /// Puts the unit's own row.
-fn put_unit<S: Alter>(
+pub fn put_unit<S: Alter>(
     tx: &mut Transaction<'_, S>,
     unit: &UnitCode,
     row: &UnitRow,
@@ -61,7 +61,7 @@ fn put_unit<S: Alter>(
 }
 
 /// Puts a grant.
-fn put_grant<S: Alter>(
+pub fn put_grant<S: Alter>(
     tx: &mut Transaction<'_, S>,
     unit: &UnitCode,
     row: &GrantRow,
@@ -81,7 +81,7 @@ fn put_grant<S: Alter>(
 }
 
 /// Puts an alarm.
-fn put_alarm<S: Alter>(
+pub fn put_alarm<S: Alter>(
     tx: &mut Transaction<'_, S>,
     unit: &UnitCode,
     row: &AlarmRow,
@@ -101,7 +101,7 @@ fn put_alarm<S: Alter>(
 }
 
 /// Puts a shelf.
-fn put_shelf<S: Alter>(
+pub fn put_shelf<S: Alter>(
     tx: &mut Transaction<'_, S>,
     unit: &UnitCode,
     row: &ShelfRow,
@@ -122,7 +122,7 @@ fn put_shelf<S: Alter>(
 }
 
 /// Puts a limit of a matrix.
-fn put_band<S: Alter>(
+pub fn put_band<S: Alter>(
     tx: &mut Transaction<'_, S>,
     unit: &UnitCode,
     row: &BandRow,
@@ -143,7 +143,7 @@ fn put_band<S: Alter>(
 }
 
 /// Puts a cell of a matrix.
-fn put_cell<S: Alter>(
+pub fn put_cell<S: Alter>(
     tx: &mut Transaction<'_, S>,
     unit: &UnitCode,
     row: &CellRow,
@@ -163,7 +163,7 @@ fn put_cell<S: Alter>(
 }
 
 /// Puts an event.
-fn put_event<S: Alter>(
+pub fn put_event<S: Alter>(
     tx: &mut Transaction<'_, S>,
     unit: &UnitCode,
     event: &Event,
@@ -183,7 +183,7 @@ fn put_event<S: Alter>(
 }
 
 /// Puts a record.
-fn put_record<S: Alter>(
+pub fn put_record<S: Alter>(
     tx: &mut Transaction<'_, S>,
     unit: &UnitCode,
     row: &RecordEntry,
@@ -203,7 +203,7 @@ fn put_record<S: Alter>(
 }
 
 /// Puts a change.
-fn put_change<S: Alter>(
+pub fn put_change<S: Alter>(
     tx: &mut Transaction<'_, S>,
     unit: &UnitCode,
     row: &ChangeEntry,

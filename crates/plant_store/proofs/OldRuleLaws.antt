@@ -1,0 +1,179 @@
+-- Histories of schema 1 are histories of today: a quota of 2,000 refuses nothing, and without ends what stands is held.
+use Rattle.std.proofs.Common.{◌≡◌, Bool, true, false, List, [], ◌∷◌, ◌++◌, Option, None, Some, refl, sym, ap, ap₂, ◌∙◌, subst, true≢false, not, arith, ◌<◌, ℕ, nat_cmp, Ordering, Less, Equal, Greater, is_eq}
+use Rattle.std.specs.Cmp.{ranks}
+use Rattle.std.specs.List.{list_all, list_any}
+use Rattle.std.specs.Ordering.{MatchOrdering}
+use Rattle.std.specs.Prelude.{is_none, is_some, nat_le, nat_lt, ◌&&◌, ◌||◌}
+use Rattle.std.proofs.lemmas.Bool.Decides.{nat_tests}
+use Rattle.plant_alarm.specs.Shelves.{is_one_shot, is_timed}
+use Rattle.plant_model.specs.Alarms.{quota, said_of_quota}
+use Rattle.plant_model.specs.Facts.{facts, limit_of, others_shelved, shelf_now}
+use Rattle.plant_model.specs.Grants.{held, stands}
+use Rattle.plant_model.specs.Histories.{latest, same_number}
+use Rattle.plant_model.specs.Laws.{has_no_end}
+use Rattle.plant_model.specs.Legality.{IsLegal}
+use Rattle.plant_model.specs.Refusals.{first_refusal, holds_some, lacks_role, own_refusals, refusals, role_needed}
+use Rattle.plant_model.specs.Replies.{reply}
+use Rattle.plant_model.specs.Rows.{alarm_row}
+use Rattle.plant_model.specs.Verdicts.{changes_history, is_opening, refused_or, verdict}
+use Rattle.plant_model.specs.declared.call.Call.{Call}
+use Rattle.plant_model.specs.declared.call.Request.{Request}
+use Rattle.plant_model.specs.declared.call.Request.TheVariants.{Alarms, Approve, ChangeOf, Floods, Grant, Import, MyShelves, MyUnits, OneShotShelve, OpenUnit, PlaceInService, Propose, RecordOf, Register, Reject, RemoveFromService, Shelves, Standing, Status, TimedShelve, Unshelve, Withdraw, WithdrawChange}
+use Rattle.plant_model.specs.declared.reply.Refused.{Refused}
+use Rattle.plant_model.specs.declared.reply.Refused.TheVariants.{AlarmUnknown, EndNotAhead, MomentBehind, NotGranted, ShelfQuota}
+use Rattle.plant_model.proofs.EndLaws.{without_ends}
+use Rattle.plant_model.proofs.QuotaLaws.{few_others}
+use Rattle.plant_store.specs.OldRules.{WasLegal, OldHistoriesAreLegal, OldVerdictsStay, is_of_old, old_lacks_role, old_own_refusals, old_refusals, old_verdict}
+use Rattle.plant_types.specs.Names.{Name}
+use Rattle.plant_types.specs.Roles.{Pair, all_roles}
+use Rattle.plant_types.specs.declared.role.Role.{Role}
+
+-- ---- lists of refusals
+
+refused_alike : (xs : List (Bool × Refused)) (ys zs : List (Bool × Refused)) → first_refusal ys ≡ first_refusal zs → first_refusal (xs ++ ys) ≡ first_refusal (xs ++ zs)
+refused_alike [] ys zs e = e
+refused_alike ((true, r) ∷ xs) ys zs e = refl
+refused_alike ((false, r) ∷ xs) ys zs e = refused_alike xs ys zs e
+
+-- a last refusal whose condition does not hold, where the first does not
+last_of_three : (b c q : Bool) (x y v : Refused) → (b ≡ false → q ≡ false) → first_refusal ((b, x) ∷ (c, y) ∷ (q, v) ∷ []) ≡ first_refusal ((b, x) ∷ (c, y) ∷ [])
+last_of_three true c q x y v h = refl
+last_of_three false true q x y v h = refl
+last_of_three false false true x y v h = absurd (true≢false (h refl))
+last_of_three false false false x y v h = refl
+
+last_of_four : (b c d q : Bool) (x y z v : Refused) → (b ≡ false → q ≡ false) → first_refusal ((b, x) ∷ (c, y) ∷ (d, z) ∷ (q, v) ∷ []) ≡ first_refusal ((b, x) ∷ (c, y) ∷ (d, z) ∷ [])
+last_of_four true c d q x y z v h = refl
+last_of_four false true d q x y z v h = refl
+last_of_four false false true q x y z v h = refl
+last_of_four false false false true x y z v h = absurd (true≢false (h refl))
+last_of_four false false false false x y z v h = refl
+
+ended : (b c : Bool) (x y z : Refused) → first_refusal ((b, x) ∷ (c, y) ∷ (false, z) ∷ []) ≡ first_refusal ((b, x) ∷ (c, y) ∷ [])
+ended true c x y z = refl
+ended false true x y z = refl
+ended false false x y z = refl
+
+-- ---- the quota and the ends of such a history
+
+no_end : (q : Request) → is_of_old q ≡ true → has_no_end q ≡ true
+no_end (Grant u p t) e = e
+no_end (OpenUnit u s m q) e = refl
+no_end (Withdraw u p r) e = refl
+no_end (Register u a l m) e = refl
+no_end (Import u file) e = refl
+no_end (TimedShelve u a d w) e = refl
+no_end (OneShotShelve u a w) e = refl
+no_end (Unshelve u a) e = refl
+no_end (RemoveFromService u a w) e = refl
+no_end (PlaceInService u a) e = refl
+no_end (Propose u x) e = refl
+no_end (WithdrawChange u n) e = refl
+no_end (Approve u n) e = refl
+no_end (Reject u n) e = refl
+no_end (Status u a) e = refl
+no_end (RecordOf u a) e = refl
+no_end (ChangeOf u n) e = refl
+no_end (Shelves u) e = refl
+no_end (Standing u) e = refl
+no_end (Alarms u) e = refl
+no_end (Floods u begin until) e = refl
+no_end MyUnits e = refl
+no_end MyShelves e = refl
+
+both : (a b : Bool) → a ≡ true → b ≡ true → (a && b) ≡ true
+both true true h k = refl
+both true false h k = k
+both false b h k = h
+
+no_ends : (h : List Call) → WasLegal h → list_all (λ (c : Call). has_no_end c.request) h ≡ true
+no_ends [] was = absurd was
+no_ends (c ∷ []) was = both (has_no_end c.request) true (no_end c.request was.2) refl
+no_ends (c ∷ d ∷ before) was = both (has_no_end c.request) _ (no_end c.request was.2) (no_ends (d ∷ before) was.3)
+
+equal_by : (m n : ℕ) → same_number m n ≡ true → m ≡ n
+equal_by m n h = go (nat_cmp m n) (ranks m n) h
+  where
+    go : (o : Ordering) → MatchOrdering o (m < n) (m ≡ n) (n < m) → is_eq o ≡ true → m ≡ n
+    go Less r e = absurd (true≢false (sym e))
+    go Equal r e = r
+    go Greater r e = absurd (true≢false (sym e))
+
+opened_with : (q : Request) → is_opening q ≡ true → is_of_old q ≡ true → said_of_quota q ≡ Some 2000
+opened_with (OpenUnit u s m n) o e = ap Some (equal_by n 2000 e)
+opened_with _ o e = cc
+
+says_nothing : (q : Request) → (not (is_opening q)) ≡ true → said_of_quota q ≡ None
+says_nothing (OpenUnit u s m n) o = absurd (true≢false (sym o))
+says_nothing _ o = refl
+
+first_of : (a b : Bool) → (a && b) ≡ true → a ≡ true
+first_of true b h = refl
+first_of false b h = h
+
+quota_said : (h : List Call) → WasLegal h → latest (λ (c : Call) before. said_of_quota c.request) h ≡ Some 2000
+quota_said [] was = absurd was
+quota_said (c ∷ []) was = rw (opened_with c.request was.0 was.2) refl
+quota_said (c ∷ d ∷ before) was = rw (says_nothing c.request (first_of _ _ was.0)) (quota_said (d ∷ before) was.3)
+
+quota_is : (h : List Call) → WasLegal h → quota h ≡ 2000
+quota_is h was = rw (quota_said h was) refl
+
+-- ---- one call
+
+some_of : {A : Type 0} (o : Option A) → is_none o ≡ false → is_some o ≡ true
+some_of None e = cc
+some_of (Some x) e = refl
+
+not_full : (n q : ℕ) → q ≡ 2000 → n < 2000 → nat_le q n ≡ false
+not_full n q e lt = grind (arith, nat_tests)
+
+module _ (h : List Call) (was : WasLegal h) (legal : IsLegal h) where
+  alike : (t : ℕ) (k : Pair) → held h t k ≡ stands h k
+  alike t k = without_ends h (no_ends h was) t k
+
+  no_quota : (a : Name) (t : ℕ) → is_none (alarm_row h a) ≡ false → nat_le (quota h) (others_shelved (facts h) a t) ≡ false
+  no_quota a t known = not_full (others_shelved (facts h) a t) (quota h) (quota_is h was) (few_others h legal a t (some_of (alarm_row h a) known))
+
+  same_any : (t : ℕ) (p : Name) (rs : List Role) → list_any (λ r. held h t (p, r)) rs ≡ list_any (λ r. stands h (p, r)) rs
+  same_any t p [] = refl
+  same_any t p (r ∷ rs) = ap₂ ◌||◌ (alike t (p, r)) (same_any t p rs)
+
+  same_some : (t : ℕ) (p : Name) → holds_some (facts h) t p ≡ list_any (λ r. stands h (p, r)) all_roles
+  unfolding holds_some
+  same_some t p = same_any t p all_roles
+
+  same_lack : (t : ℕ) (p : Name) (o : Option Role) → lacks_role (facts h) t p o ≡ old_lacks_role (facts h) p o
+  same_lack t p None = refl
+  same_lack t p (Some r) = rw (alike t (p, r)) refl
+
+  same_own : (p : Name) (t : ℕ) (q : Request) → is_of_old q ≡ true → first_refusal (own_refusals (facts h) p t q) ≡ first_refusal (old_own_refusals (facts h) p t q)
+  same_own p t (Grant u q (r, None)) e = rw (alike t (q, r)) (ended (nat_le 500 (facts h).pairs) (stands h (q, r)) _ _ EndNotAhead)
+  same_own p t (Grant u q (r, Some end)) e = absurd (true≢false (sym e))
+  same_own p t (TimedShelve u a d w) e = last_of_four (is_none (alarm_row h a)) (nat_lt (limit_of (facts h) a) d) (is_timed (shelf_now (facts h) a t)) _ AlarmUnknown _ _ (ShelfQuota (quota h)) (no_quota a t)
+  same_own p t (OneShotShelve u a w) e = last_of_three (is_none (alarm_row h a)) (is_one_shot (shelf_now (facts h) a t)) _ AlarmUnknown _ (ShelfQuota (quota h)) (no_quota a t)
+  same_own p t _ e = refl
+
+  same_refusal : (c : Call) → is_of_old c.request ≡ true → first_refusal (refusals (facts h) c) ≡ first_refusal (old_refusals (facts h) c)
+  same_refusal c e =
+      let none : Bool × Refused = (not (list_any (λ r. stands h (c.person, r)) all_roles), NotGranted) in
+      let behind : Bool × Refused = (nat_lt c.moment (facts h).unit.last_s, MomentBehind (facts h).unit.last_s) in
+      let own = own_refusals (facts h) c.person c.moment c.request in
+      let old_own = old_own_refusals (facts h) c.person c.moment c.request in
+      ap (λ b. first_refusal ((not b, NotGranted) ∷ lacks_role (facts h) c.moment c.person (role_needed c.request) ++ behind ∷ own)) (same_some c.moment c.person)
+      ∙ ap (λ l. first_refusal (none ∷ l ++ behind ∷ own)) (same_lack c.moment c.person (role_needed c.request))
+      ∙ refused_alike (none ∷ old_lacks_role (facts h) c.person (role_needed c.request)) (behind ∷ own) (behind ∷ old_own) (refused_alike (behind ∷ []) own old_own (same_own c.person c.moment c.request e))
+
+  same_verdict : (c : Call) → is_of_old c.request ≡ true → verdict h c ≡ old_verdict h c
+  same_verdict c e = ap (λ r. refused_or r (reply (facts h) c.moment c.request)) (same_refusal c e)
+
+pub legal_still : OldHistoriesAreLegal
+legal_still [] was = was
+legal_still (c ∷ []) was = (was.0, was.1)
+legal_still (c ∷ d ∷ before) was =
+    let legal = legal_still (d ∷ before) was.3 in
+    let same = same_verdict (d ∷ before) was.3 legal c was.2 in
+    (subst (λ v. (not (is_opening c.request) && changes_history v c) ≡ true) (sym same) was.0, was.1, legal)
+
+pub verdicts_stay : OldVerdictsStay
+verdicts_stay h was c e = same_verdict h was (legal_still h was) c e

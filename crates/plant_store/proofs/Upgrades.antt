@@ -1,0 +1,366 @@
+-- Rows that rise are the same after they were put into tables without rows; and units are taken over one after another.
+use Rattle.std.proofs.Common.{◌≡◌, ◌≢◌, ℕ, ◌<◌, ◌+◌, get_or, zero, suc, Bool, true, false, cond, List, [], ◌∷◌, ◌++◌, map, filter, take, length, Option, None, Some, refl, sym, ap, ap₂, ◌∙◌, subst, true≢false, Ordering, Less, Equal, Greater, is_eq, nat_cmp, T, ◌&&◌, arith}
+use Rattle.std.specs.Cmp.{IsTotalOrder}
+use Rattle.std.specs.Cmp.Lexicographic.{nat_list_cmp_total}
+use Rattle.std.specs.FinMap.{contains_key, get}
+use Rattle.std.specs.FinMap.Entries.{below_all}
+use Rattle.std.specs.List.{AllByRecursion, flat_map}
+use Rattle.std.specs.Ordering.{is_lt, ordering_reverse}
+use Rattle.std.specs.Prelude.{is_some, unwrap_or, ◌||◌}
+use Rattle.std.proofs.lemmas.Cmp.{nat_cmp_total, tied_itself}
+use Rattle.std.proofs.lemmas.List.{append-nil, append_assoc, take_more}
+use Rattle.sqlite.specs.Effect.{Database}
+use Rattle.sqlite.specs.Tree.{Trees}
+use Rattle.sqlite_keyed.specs.Lists.{sort_by}
+use Rattle.sqlite_keyed.proofs.ListLemmas.{all-append, ascending-map}
+use Rattle.sqlite_trees.specs.Tree.{IsAscending}
+use Rattle.sqlite_value.specs.declared.value.Value.TheVariants.{Text}
+use Rattle.sqlite_value.specs.Order.{Row, bytes, column, value_cmp}
+use Rattle.sqlite_value.proofs.OrderLemmas.{then-Equal, value_cmp-Text}
+use Rattle.plant_alarm.specs.declared.event.Event.{Event}
+use Rattle.plant_books.specs.Contents.{Content, rows_in}
+use Rattle.plant_columns.specs.Tables.{AreSeen, shape}
+use Rattle.plant_columns.specs.Tables.Kept.{AlarmKept, BandKept, CellKept, ChangeKept, EventKept, GrantKept, RecordKept, ShelfKept, UnitKept}
+use Rattle.plant_model.specs.declared.rows.AlarmRow.{AlarmRow}
+use Rattle.plant_model.specs.declared.rows.BandRow.{BandRow}
+use Rattle.plant_model.specs.declared.rows.CellRow.{CellRow}
+use Rattle.plant_model.specs.declared.rows.Change.{Change}
+use Rattle.plant_model.specs.declared.rows.Change.TheVariants.{Put}
+use Rattle.plant_model.specs.declared.rows.ChangeEntry.{ChangeEntry}
+use Rattle.plant_model.specs.declared.rows.GrantRow.{GrantRow}
+use Rattle.plant_model.specs.declared.rows.RecordEntry.{RecordEntry}
+use Rattle.plant_model.specs.declared.rows.Row.TheVariants.{Alarm as AlarmPut, Band as BandPut, Cell as CellPut, Change as ChangePut, Event as EventPut, Grant as GrantPut, Record as RecordPut, Shelf as ShelfPut, Unit as UnitPut}
+use Rattle.plant_model.specs.declared.rows.ShelfRow.{ShelfRow}
+use Rattle.plant_model.specs.declared.rows.UnitRow.{UnitRow}
+use Rattle.plant_model.specs.declared.rows.UnitRows.{UnitRows}
+use Rattle.plant_model.specs.Matrices.{band_cmp, cell_cmp}
+use Rattle.plant_model.specs.RowChanges.{changed_by, no_rows}
+use Rattle.plant_model.specs.RowFacts.{alarm_tag, band_key, cell_key, change_number, event_number, pair_of, record_tag, shelf_tag}
+use Rattle.plant_columns.proofs.ShapeLaws.{band_total, cell_total}
+use Rattle.plant_store.specs.declared.migration.TableKind.TheVariants.{Alarms, Bands, Cells, Changes, Events, Grants, Records, Shelves, Units}
+use Rattle.plant_store.specs.declared.old_rows.CodeLine.{CodeLine}
+use Rattle.plant_store.specs.Changes.{Applies, IsOfficeOf}
+use Rattle.plant_store.specs.Keeping.{HaveRows, has_any}
+use Rattle.plant_store.specs.Making.{AreNew}
+use Rattle.plant_store.specs.OldTables.{AreOldBooks, old_pair_of, old_own_key, old_rows, old_unit_shape}
+use Rattle.plant_store.specs.Upgrading.{AreTakenOver, HaveOldRows, all_kinds, is_among, old_codes, puts_all, puts_of, upgraded_grant, upgraded_rows, upgraded_unit}
+use Rattle.plant_store.proofs.Contents.{nothing_at, same_codes}
+use Rattle.plant_store.proofs.OldQueries.{old_good, old_unit_good}
+use Rattle.plant_store.proofs.Writes.{changed_by-append}
+use Rattle.plant_tables.specs.Kept.{by_columns, is_of}
+use Rattle.plant_tables.specs.Shape.{IsRowIn, rows_in as rows_of}
+use Rattle.plant_tables.proofs.Joins.{strict-sort}
+use Rattle.plant_tables.proofs.Kept.{all-sort, sort-filter}
+use Rattle.plant_tables.proofs.Keys.{by_columns_total}
+use Rattle.plant_tables.proofs.Shapes.{named, rises}
+use Rattle.plant_types.proofs.Orders.{name_total, pair_total}
+use Rattle.plant_types.specs.Names.{Name, name_cmp, same_name}
+use Rattle.plant_types.specs.Roles.{pair_cmp}
+use Rattle.plant_types.specs.Tables.{IsInOrder, put_row}
+
+-- ---- rows that rise, put one after another
+
+first : (a b : Bool) → T (a && b) → T a
+first true b p = tt
+first false b p = absurd p
+
+second : (a b : Bool) → T (a && b) → T b
+second true b p = p
+second false b p = absurd p
+
+less_by : (o : Ordering) → T (is_lt o) → o ≡ Less
+less_by Less h = refl
+less_by Equal h = absurd h
+less_by Greater h = absurd h
+
+module _ {K X : Type 0} (R : K → K → Ordering) (key : X → K) where
+  abbrev Rise : List X → Type 0
+  Rise = IsAscending (λ a b. R (key a) (key b) ≡ Less)
+
+  abbrev filled : List X → List X → List X
+  filled [] ys = ys
+  filled (x ∷ xs) ys = filled xs (put_row R key x ys)
+
+  below : (x : X) (xs : List X) → T (below_all R (key x) (map (λ r. (key r, r)) xs)) → AllByRecursion (λ y. R (key x) (key y) ≡ Less) xs
+  below x [] h = tt
+  below x (y ∷ ys) h = (less_by (R (key x) (key y)) (first _ _ h), below x ys (second _ _ h))
+
+  pub rise : (xs : List X) → IsInOrder R key xs → Rise xs
+  rise [] h = tt
+  rise (x ∷ xs) h = (below x xs (first _ _ h), rise xs (second _ _ h))
+
+  module _ (o : IsTotalOrder R) where
+    at_end : (x : X) (ys : List X) → AllByRecursion (λ y. R (key y) (key x) ≡ Less) ys → put_row R key x ys ≡ ys ++ x ∷ []
+    at_end x [] all = refl
+    at_end x (y ∷ ys) all =
+        let up : R (key x) (key y) ≡ Greater = o.antisymm (key x) (key y) ∙ ap ordering_reverse all.0 in
+        rw up (ap (λ l. y ∷ l) (at_end x ys all.1))
+
+    filled_end : (xs ys : List X) → AllByRecursion (λ y. AllByRecursion (λ x. R (key y) (key x) ≡ Less) xs) ys → Rise xs → filled xs ys ≡ ys ++ xs
+    filled_end [] ys across up = sym (append-nil ys)
+    filled_end (x ∷ xs) ys across up =
+        ap (filled xs) (at_end x ys (firsts ys across))
+        ∙ filled_end xs (ys ++ x ∷ []) (all-append (λ y. AllByRecursion (λ z. R (key y) (key z) ≡ Less) xs) ys (x ∷ []) (rests ys across) (up.0, tt)) up.1
+        ∙ append_assoc ys (x ∷ []) xs
+      where
+        firsts : (zs : List X) → AllByRecursion (λ y. AllByRecursion (λ z. R (key y) (key z) ≡ Less) (x ∷ xs)) zs → AllByRecursion (λ y. R (key y) (key x) ≡ Less) zs
+        firsts [] all = tt
+        firsts (z ∷ zs) all = (all.0.0, firsts zs all.1)
+
+        rests : (zs : List X) → AllByRecursion (λ y. AllByRecursion (λ z. R (key y) (key z) ≡ Less) (x ∷ xs)) zs → AllByRecursion (λ y. AllByRecursion (λ z. R (key y) (key z) ≡ Less) xs) zs
+        rests [] all = tt
+        rests (z ∷ zs) all = (all.0.1, rests zs all.1)
+
+    pub filled_none : (xs : List X) → Rise xs → filled xs [] ≡ xs
+    filled_none xs up = filled_end xs [] tt up
+
+-- ---- the puts of each table's rows
+
+puts_units : (xs : List UnitRow) → Rise nat_cmp (λ (r : UnitRow). 0) xs → changed_by (map (λ r. Put (UnitPut r)) xs) no_rows ≡ record no_rows { units = xs }
+puts_units [] up = refl
+puts_units (x ∷ []) up = refl
+puts_units (x ∷ y ∷ xs) up = absurd (cc up.0.0)
+
+puts_grants : (xs : List GrantRow) (rows : UnitRows) → changed_by (map (λ r. Put (GrantPut r)) xs) rows ≡ record rows { grants = filled pair_cmp pair_of xs rows.grants }
+puts_grants [] rows = refl
+puts_grants (x ∷ xs) rows = puts_grants xs (record rows { grants = put_row pair_cmp pair_of x rows.grants })
+
+puts_alarms : (xs : List AlarmRow) (rows : UnitRows) → changed_by (map (λ r. Put (AlarmPut r)) xs) rows ≡ record rows { alarms = filled name_cmp alarm_tag xs rows.alarms }
+puts_alarms [] rows = refl
+puts_alarms (x ∷ xs) rows = puts_alarms xs (record rows { alarms = put_row name_cmp alarm_tag x rows.alarms })
+
+puts_shelves : (xs : List ShelfRow) (rows : UnitRows) → changed_by (map (λ r. Put (ShelfPut r)) xs) rows ≡ record rows { shelves = filled name_cmp shelf_tag xs rows.shelves }
+puts_shelves [] rows = refl
+puts_shelves (x ∷ xs) rows = puts_shelves xs (record rows { shelves = put_row name_cmp shelf_tag x rows.shelves })
+
+puts_events : (xs : List Event) (rows : UnitRows) → changed_by (map (λ r. Put (EventPut r)) xs) rows ≡ record rows { events = filled nat_cmp event_number xs rows.events }
+puts_events [] rows = refl
+puts_events (x ∷ xs) rows = puts_events xs (record rows { events = put_row nat_cmp event_number x rows.events })
+
+puts_bands : (xs : List BandRow) (rows : UnitRows) → changed_by (map (λ r. Put (BandPut r)) xs) rows ≡ record rows { bands = filled band_cmp band_key xs rows.bands }
+puts_bands [] rows = refl
+puts_bands (x ∷ xs) rows = puts_bands xs (record rows { bands = put_row band_cmp band_key x rows.bands })
+
+puts_cells : (xs : List CellRow) (rows : UnitRows) → changed_by (map (λ r. Put (CellPut r)) xs) rows ≡ record rows { cells = filled cell_cmp cell_key xs rows.cells }
+puts_cells [] rows = refl
+puts_cells (x ∷ xs) rows = puts_cells xs (record rows { cells = put_row cell_cmp cell_key x rows.cells })
+
+puts_records : (xs : List RecordEntry) (rows : UnitRows) → changed_by (map (λ r. Put (RecordPut r)) xs) rows ≡ record rows { records = filled name_cmp record_tag xs rows.records }
+puts_records [] rows = refl
+puts_records (x ∷ xs) rows = puts_records xs (record rows { records = put_row name_cmp record_tag x rows.records })
+
+puts_changes : (xs : List ChangeEntry) (rows : UnitRows) → changed_by (map (λ r. Put (ChangePut r)) xs) rows ≡ record rows { changes = filled nat_cmp change_number xs rows.changes }
+puts_changes [] rows = refl
+puts_changes (x ∷ xs) rows = puts_changes xs (record rows { changes = put_row nat_cmp change_number x rows.changes })
+
+-- the rows of each table rise
+pub record AreRising (rows : UnitRows) : Type 0 where
+  pub units : Rise nat_cmp (λ (r : UnitRow). 0) rows.units
+  pub grants : Rise pair_cmp pair_of rows.grants
+  pub alarms : Rise name_cmp alarm_tag rows.alarms
+  pub shelves : Rise name_cmp shelf_tag rows.shelves
+  pub events : Rise nat_cmp event_number rows.events
+  pub bands : Rise band_cmp band_key rows.bands
+  pub cells : Rise cell_cmp cell_key rows.cells
+  pub records : Rise name_cmp record_tag rows.records
+  pub changes : Rise nat_cmp change_number rows.changes
+
+then : (xs ys : List Change) (a b c : UnitRows) → changed_by xs a ≡ b → changed_by ys b ≡ c → changed_by (xs ++ ys) a ≡ c
+then xs ys a b c p q = changed_by-append xs ys a ∙ ap (changed_by ys) p ∙ q
+
+pub all_put : (rows : UnitRows) → AreRising rows → changed_by (puts_all rows all_kinds) no_rows ≡ rows
+all_put rows up =
+    let r1 : UnitRows = record no_rows { units = rows.units } in
+    let r2 : UnitRows = record r1 { grants = rows.grants } in
+    let r3 : UnitRows = record r2 { alarms = rows.alarms } in
+    let r4 : UnitRows = record r3 { shelves = rows.shelves } in
+    let r5 : UnitRows = record r4 { events = rows.events } in
+    let r6 : UnitRows = record r5 { bands = rows.bands } in
+    let r7 : UnitRows = record r6 { cells = rows.cells } in
+    let r8 : UnitRows = record r7 { records = rows.records } in
+    then (puts_of rows Units) _ no_rows r1 rows (puts_units rows.units up.units)
+    (then (puts_of rows Grants) _ r1 r2 rows (puts_grants rows.grants r1 ∙ ap (λ l. record r1 { grants = l }) (filled_none pair_cmp pair_of pair_total rows.grants up.grants))
+    (then (puts_of rows Alarms) _ r2 r3 rows (puts_alarms rows.alarms r2 ∙ ap (λ l. record r2 { alarms = l }) (filled_none name_cmp alarm_tag name_total rows.alarms up.alarms))
+    (then (puts_of rows Shelves) _ r3 r4 rows (puts_shelves rows.shelves r3 ∙ ap (λ l. record r3 { shelves = l }) (filled_none name_cmp shelf_tag name_total rows.shelves up.shelves))
+    (then (puts_of rows Events) _ r4 r5 rows (puts_events rows.events r4 ∙ ap (λ l. record r4 { events = l }) (filled_none nat_cmp event_number nat_cmp_total rows.events up.events))
+    (then (puts_of rows Bands) _ r5 r6 rows (puts_bands rows.bands r5 ∙ ap (λ l. record r5 { bands = l }) (filled_none band_cmp band_key band_total rows.bands up.bands))
+    (then (puts_of rows Cells) _ r6 r7 rows (puts_cells rows.cells r6 ∙ ap (λ l. record r6 { cells = l }) (filled_none cell_cmp cell_key cell_total rows.cells up.cells))
+    (then (puts_of rows Records) _ r7 r8 rows (puts_records rows.records r7 ∙ ap (λ l. record r7 { records = l }) (filled_none name_cmp record_tag name_total rows.records up.records))
+    (then (puts_of rows Changes) [] r8 rows rows (puts_changes rows.changes r8 ∙ ap (λ l. record r8 { changes = l }) (filled_none nat_cmp change_number nat_cmp_total rows.changes up.changes)) refl))))))))
+
+-- ---- the rows of a store of schema 1 rise
+
+old_rise : (u : Name) (db : Database) → AreOldBooks db → AreRising (upgraded_rows u db.trees)
+old_rise u db books = record {
+  units = ascending-map (λ (a b : UnitRow). nat_cmp 0 0 ≡ Less) upgraded_unit (old_rows u db.trees UnitKept) (rise nat_cmp old_own_key _ (rises _ (old_good UnitKept) u (db.trees 1) (books.tidy UnitKept)));
+  grants = ascending-map (λ a b. pair_cmp (pair_of a) (pair_of b) ≡ Less) upgraded_grant (old_rows u db.trees GrantKept) (rise pair_cmp old_pair_of _ (rises _ (old_good GrantKept) u (db.trees 3) (books.tidy GrantKept)));
+  alarms = rise name_cmp alarm_tag _ (rises _ (old_good AlarmKept) u (db.trees 5) (books.tidy AlarmKept));
+  shelves = rise name_cmp shelf_tag _ (rises _ (old_good ShelfKept) u (db.trees 7) (books.tidy ShelfKept));
+  events = rise nat_cmp event_number _ (rises _ (old_good EventKept) u (db.trees 13) (books.tidy EventKept));
+  bands = rise band_cmp band_key _ (rises _ (old_good BandKept) u (db.trees 9) (books.tidy BandKept));
+  cells = rise cell_cmp cell_key _ (rises _ (old_good CellKept) u (db.trees 11) (books.tidy CellKept));
+  records = rise name_cmp record_tag _ (rises _ (old_good RecordKept) u (db.trees 15) (books.tidy RecordKept));
+  changes = rise nat_cmp change_number _ (rises _ (old_good ChangeKept) u (db.trees 17) (books.tidy ChangeKept));
+}
+
+-- a unit without rows has, after the puts, the rows that it had in the old store
+pub unit_taken : (u : Name) (db : Database) → AreOldBooks db → (old new : Database) → AreSeen u old no_rows → Applies u (puts_all (upgraded_rows u db.trees) all_kinds) old new → AreSeen u new (upgraded_rows u db.trees)
+unit_taken u db books old new none it = subst (AreSeen u new) (all_put (upgraded_rows u db.trees) (old_rise u db books)) (it.mine no_rows none)
+
+-- ---- the codes of the units
+
+abbrev code : Row → Name
+code r = bytes (column r 1)
+
+abbrev unit_key : List ℕ
+unit_key = 1 ∷ []
+
+all_true : (rows : List Row) → filter (λ r. true) rows ≡ rows
+all_true [] = refl
+all_true (r ∷ rows) = ap (λ l. r ∷ l) (all_true rows)
+
+module _ (db : Database) (books : AreOldBooks db) where
+  abbrev sorted : List Row
+  sorted = sort_by (by_columns unit_key) (db.trees 1)
+
+  well_formed : AllByRecursion (IsRowIn old_unit_shape) sorted
+  well_formed = all-sort (by_columns unit_key) (by_columns_total unit_key) (IsRowIn old_unit_shape) (db.trees 1) (books.tidy UnitKept).each
+
+  codes_are : old_codes db.trees ≡ map code sorted
+  codes_are = ap (λ rs. map code (sort_by (by_columns unit_key) rs)) (all_true (db.trees 1))
+
+  name_at : (r : Row) → IsRowIn old_unit_shape r → column r 1 ≡ Text (code r)
+  name_at r h = named old_unit_shape old_unit_good r h
+
+  -- a code is among them exactly where the unit has a row of its own
+  among : (u : Name) (rs : List Row) → AllByRecursion (IsRowIn old_unit_shape) rs → is_among (map code rs) u ≡ has_any (map old_unit_shape.read (filter (is_of u) rs))
+  among u [] all = refl
+  among u (r ∷ rs) all =
+      let same : is_of u r ≡ same_name (code r) u = ap (λ v. is_eq (value_cmp v (Text u))) (name_at r all.0) ∙ ap is_eq (value_cmp-Text (code r) u) in
+      go (same_name (code r) u) (is_of u r) same (among u rs all.1)
+    where
+      go : (b c : Bool) → c ≡ b → is_among (map code rs) u ≡ has_any (map old_unit_shape.read (filter (is_of u) rs))
+          → (b || is_among (map code rs) u) ≡ has_any (map old_unit_shape.read (cond c (r ∷ filter (is_of u) rs) (filter (is_of u) rs)))
+      go true true e more = refl
+      go true false e more = absurd (true≢false (sym e))
+      go false true e more = absurd (true≢false e)
+      go false false e more = more
+
+  pub code_known : (u : Name) → is_among (old_codes db.trees) u ≡ has_any (old_rows u db.trees UnitKept)
+  code_known u =
+      ap (λ cs. is_among cs u) codes_are ∙ among u sorted well_formed
+      ∙ ap (λ rs. has_any (map old_unit_shape.read rs)) (sym (sort-filter (by_columns unit_key) (by_columns_total unit_key) (is_of u) (db.trees 1)))
+
+  less_code : (a b : Row) → IsRowIn old_unit_shape a → IsRowIn old_unit_shape b → by_columns unit_key a b ≡ Less → name_cmp (code a) (code b) ≡ Less
+  less_code a b p q h = sym (then-Equal _ ∙ ap₂ value_cmp (name_at a p) (name_at b q) ∙ value_cmp-Text (code a) (code b)) ∙ h
+
+  codes_up : (rs : List Row) → AllByRecursion (IsRowIn old_unit_shape) rs → IsAscending (λ a b. by_columns unit_key a b ≡ Less) rs → IsAscending (λ a b. name_cmp a b ≡ Less) (map code rs)
+  codes_up [] all up = tt
+  codes_up (r ∷ rs) all up = (above rs all.1 up.0, codes_up rs all.1 up.1)
+    where
+      above : (qs : List Row) → AllByRecursion (IsRowIn old_unit_shape) qs → AllByRecursion (λ q. by_columns unit_key r q ≡ Less) qs → AllByRecursion (λ c. name_cmp (code r) c ≡ Less) (map code qs)
+      above [] all h = tt
+      above (q ∷ qs) more h = (less_code r q all.0 more.0 h.0, above qs more.1 h.1)
+
+  pub codes_rise : IsAscending (λ a b. name_cmp a b ≡ Less) (old_codes db.trees)
+  codes_rise = subst (IsAscending (λ a b. name_cmp a b ≡ Less)) (sym codes_are) (codes_up sorted well_formed (strict-sort (by_columns unit_key) (by_columns_total unit_key) (db.trees 1) (books.tidy UnitKept).apart))
+
+-- ---- lists, one element longer
+
+pub mapped : {A B : Type 0} (f : A → B) (xs : List A) (x : A) → map f (xs ++ x ∷ []) ≡ map f xs ++ f x ∷ []
+mapped f [] x = refl
+mapped f (y ∷ ys) x = ap (λ l. f y ∷ l) (mapped f ys x)
+
+pub mapped_more : {A B : Type 0} (f : A → B) (xs : List A) (i : ℕ) (x : A) → i < length xs → x ≡ get_or xs i x → map f (take (i + 1) xs) ≡ map f (take i xs) ++ f x ∷ []
+mapped_more f xs i x lt is = ap (map f) (take_more xs i x lt ∙ ap (λ y. take i xs ++ y ∷ []) (sym is)) ∙ mapped f (take i xs) x
+
+pub joined : {A B : Type 0} (f : A → List B) (xs : List A) (x : A) → flat_map f (xs ++ x ∷ []) ≡ flat_map f xs ++ f x
+joined f [] x = append-nil (f x)
+joined f (y ∷ ys) x = ap (λ l. f y ++ l) (joined f ys x) ∙ sym (append_assoc (f y) (flat_map f ys) (f x))
+
+-- ---- one unit after another
+
+abbrev pub units_of : List CodeLine → List Name
+units_of lines = map (λ (l : CodeLine). l.unit) lines
+
+-- a code that comes later is not among those before it
+pub not_before : (lines : List CodeLine) (k : ℕ) (d : CodeLine) → IsAscending (λ a b. name_cmp a b ≡ Less) (units_of lines) → k < length lines → is_among (units_of (take k lines)) (get_or lines k d).unit ≡ false
+not_before [] k d up h = absurd (omega arith)
+not_before (l ∷ ls) zero d up h = refl
+not_before (l ∷ ls) (suc k) d up h =
+    let far : name_cmp l.unit (get_or ls k d).unit ≡ Less = reach ls k up.0 (omega arith) in
+    rw far (not_before ls k d up.1 (omega arith))
+  where
+    reach : (qs : List CodeLine) (n : ℕ) → AllByRecursion (λ c. name_cmp l.unit c ≡ Less) (units_of qs) → n < length qs → name_cmp l.unit (get_or qs n d).unit ≡ Less
+    reach [] n all h = absurd (omega arith)
+    reach (q ∷ qs) zero all h = all.0
+    reach (q ∷ qs) (suc n) all h = reach qs n all.1 (omega arith)
+
+among_more : (us : List Name) (x u : Name) → is_among (us ++ x ∷ []) u ≡ (is_among us u || same_name x u)
+among_more [] x u = go (same_name x u)
+  where
+    go : (b : Bool) → (b || false) ≡ b
+    go true = refl
+    go false = refl
+among_more (k ∷ us) x u = go (same_name k u) (among_more us x u)
+  where
+    go : (b : Bool) → is_among (us ++ x ∷ []) u ≡ (is_among us u || same_name x u) → (b || is_among (us ++ x ∷ []) u) ≡ ((b || is_among us u) || same_name x u)
+    go true h = refl
+    go false h = h
+
+differs : (x u : Name) → same_name x u ≡ false → u ≢ x
+differs x u h e = true≢false (sym (subst (λ y. same_name x y ≡ true) (sym e) (ap is_eq (tied_itself nat_list_cmp_total x))) ∙ h)
+
+pub taken_next : (us : List Name) (x : Name) (db : Database) → AreOldBooks db → (old new : Database) → is_among us x ≡ false → AreTakenOver us db.trees old → Applies x (puts_all (upgraded_rows x db.trees) all_kinds) old new
+    → AreTakenOver (us ++ x ∷ []) db.trees new
+taken_next us x db books old new fresh so_far it = record {
+  books = it.books;
+  taken = λ u h. taken u (same_name x u) (is_among us u) refl refl (sym (among_more us x u) ∙ h);
+  others = λ u h. others u (same_name x u) (is_among us u) refl refl (sym (among_more us x u) ∙ h);
+}
+  where
+    mine : AreSeen x new (upgraded_rows x db.trees)
+    mine = unit_taken x db books old new (so_far.others x fresh) it
+
+    taken : (u : Name) (b c : Bool) → same_name x u ≡ b → is_among us u ≡ c → (is_among us u || same_name x u) ≡ true → AreSeen u new (upgraded_rows u db.trees)
+    taken u true c e f h = subst (λ y. AreSeen y new (upgraded_rows y db.trees)) (same_codes x u e) mine
+    taken u false true e f h = λ i. it.others u (differs x u e) i ∙ so_far.taken u f i
+    taken u false false e f h = absurd (true≢false (sym (sym (ap₂ ◌||◌ f e) ∙ h)))
+
+    others : (u : Name) (b c : Bool) → same_name x u ≡ b → is_among us u ≡ c → (is_among us u || same_name x u) ≡ false → AreSeen u new no_rows
+    others u true true e f h = absurd (true≢false (sym (ap₂ ◌||◌ f e) ∙ h))
+    others u true false e f h = absurd (true≢false (sym (ap₂ ◌||◌ f e) ∙ h))
+    others u false true e f h = absurd (true≢false (sym (ap₂ ◌||◌ f e) ∙ h))
+    others u false false e f h = λ i. it.others u (differs x u e) i ∙ so_far.others u f i
+
+pub none_taken : (admin : Name) (trees : Trees) (db : Database) → AreNew admin db → AreTakenOver [] trees db
+none_taken admin trees db it = record {
+  books = it.books;
+  taken = λ u h. absurd (true≢false (sym h));
+  others = λ u h i. ap (rows_of (shape i) u) (it.empty i) ∙ nothing_at i;
+}
+
+-- ---- all units
+
+no_content : (o : Option UnitRows) → is_some o ≡ false → unwrap_or o no_rows ≡ no_rows
+no_content None h = refl
+no_content (Some rows) h = absurd (true≢false h)
+
+any_map : {A B : Type 0} (f : A → B) (xs : List A) → has_any (map f xs) ≡ has_any xs
+any_map f [] = refl
+any_map f (x ∷ xs) = refl
+
+pub all_taken : (m : Content) (db new : Database) → HaveOldRows m db → AreTakenOver (old_codes db.trees) db.trees new → IsOfficeOf m.admin new → HaveRows m new
+all_taken m db new h it office = record {
+  books = it.books;
+  office = office;
+  seen = λ u. seen u (is_among (old_codes db.trees) u) refl;
+  opened = h.opened;
+}
+  where
+    known : (u : Name) → is_among (old_codes db.trees) u ≡ contains_key m.units u
+    known u = code_known db h.books u ∙ sym (any_map upgraded_unit (old_rows u db.trees UnitKept)) ∙ ap (λ (rows : UnitRows). has_any rows.units) (h.seen u) ∙ sym (h.opened u)
+
+    seen : (u : Name) (b : Bool) → is_among (old_codes db.trees) u ≡ b → AreSeen u new (rows_in m u)
+    seen u true e = subst (AreSeen u new) (h.seen u) (it.taken u e)
+    seen u false e = subst (AreSeen u new) (sym (no_content (get m.units u) (sym (known u) ∙ e))) (it.others u e)

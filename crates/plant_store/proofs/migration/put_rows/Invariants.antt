@@ -1,0 +1,20 @@
+use Rattle.std.proofs.Common.{◌≡◌, map, take, IsTrue}
+use Rattle.sqlite.specs.State.{HasCleanDisk, KeepsCommit, Survives}
+use Rattle.sqlite.specs.Held.{state}
+use Rattle.plant_columns.specs.Tables.{AreBooks}
+use Rattle.plant_model.specs.declared.rows.Change.TheVariants.{Put}
+use Rattle.plant_store.specs.Changes.{Applies}
+use Rattle.plant_store.proofs.migration.put_rows.Given as goal
+
+-- what has been put so far
+abbrev pub invariant-loop-row : goal.invariant-loop-row
+invariant-loop-row g l =
+    let old = state g.N.Store l.fn.tx.conn.now in
+    let now = state g.N.Store l.tx.conn.now in
+    record {
+      same_reference : l.tx.conn.ghost_name ≡ l.fn.tx.conn.ghost_name;
+      made : HasCleanDisk now → IsTrue l.fn.tx.conn.now.in_transaction → AreBooks old.now → Applies l.unit (map (λ r. Put (g.T.OldRow.becomes r)) (take l.row-index l.rows)) old.now now.now;
+      inside : HasCleanDisk now → IsTrue l.fn.tx.conn.now.in_transaction → IsTrue l.tx.conn.now.in_transaction;
+      kept : HasCleanDisk now → IsTrue l.fn.tx.conn.now.in_transaction → KeepsCommit old now;
+      survives : Survives old now (λ _. ⊥);
+    }

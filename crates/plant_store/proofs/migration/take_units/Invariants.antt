@@ -1,0 +1,27 @@
+use Rattle.std.proofs.Common.{◌≡◌, [], false, take, IsTrue}
+use Rattle.sqlite.specs.State.{HasCleanDisk, KeepsCommit, Survives}
+use Rattle.sqlite.specs.Held.{state}
+use Rattle.plant_store.specs.Changes.{CanTell}
+use Rattle.plant_store.specs.OldTables.{AreOldBooks}
+use Rattle.plant_store.specs.Upgrading.{AreTakenOver, old_codes}
+use Rattle.plant_store.proofs.Upgrades.{units_of}
+use Rattle.plant_store.proofs.migration.take_units.Given as goal
+
+-- the units that have been taken over so far
+abbrev pub invariant-loop-line : goal.invariant-loop-line
+invariant-loop-line g l =
+    let had = state g.O.Store l.fn.from in
+    let has = state g.O.Store l.from in
+    let old = state g.N.Store l.fn.tx.conn.now in
+    let now = state g.N.Store l.tx.conn.now in
+    record {
+      mode : l.from.in_transaction ≡ false;
+      same : CanTell has → AreOldBooks had.now → has.now ≡ had.now;
+      told : CanTell has → CanTell had;
+      same_reference : l.tx.conn.ghost_name ≡ l.fn.tx.conn.ghost_name;
+      made : CanTell has → AreOldBooks had.now → units_of l.lines ≡ old_codes had.now.trees → HasCleanDisk now → IsTrue l.fn.tx.conn.now.in_transaction → AreTakenOver [] had.now.trees old.now
+          → AreTakenOver (units_of (take l.line-index l.lines)) had.now.trees now.now × (now.now.trees 0 ≡ old.now.trees 0);
+      inside : HasCleanDisk now → IsTrue l.fn.tx.conn.now.in_transaction → IsTrue l.tx.conn.now.in_transaction;
+      kept : HasCleanDisk now → IsTrue l.fn.tx.conn.now.in_transaction → KeepsCommit old now;
+      survives : Survives old now (λ _. ⊥);
+    }

@@ -1,0 +1,37 @@
+use Rattle.std.proofs.Common.{◌≡◌, List, [], ◌∷◌, map, ap, refl, sym, ◌∙◌}
+use Rattle.sqlite.specs.Held.{state}
+use Rattle.sqlite_value.specs.declared.value.Value.TheVariants.{Text}
+use Rattle.sqlite_value.specs.Order.{Row, bytes, column}
+use Rattle.plant_store.specs.declared.old_rows.CodeLine.{CodeLine}
+use Rattle.plant_store.specs.OldTables.{old_books_schema}
+use Rattle.plant_store.proofs.OldMeanings.{old_codes_plain}
+use Rattle.plant_store.proofs.OldQueries.{find_old_codes}
+use Rattle.plant_store.proofs.Queries.{if_ok}
+use Rattle.plant_columns.specs.Shown.{columns}
+use Rattle.plant_types.specs.Names.{Name}
+use Rattle.plant_store.proofs.old_rows.old_codes_of.Goals as goal
+
+told : (rows : List Row) (cs : List Name) (lines : List CodeLine) → rows ≡ map (λ c. Text c ∷ []) cs → map (columns 1) rows ≡ map (λ (l : CodeLine). Text l.unit ∷ []) lines → map (λ (l : CodeLine). l.unit) lines ≡ cs
+told rows cs lines shown said = sym (back lines) ∙ ap (map first) (sym said ∙ ap (map (columns 1)) shown) ∙ again cs
+  where
+    first : Row → Name
+    first r = bytes (column r 0)
+
+    back : (ls : List CodeLine) → map (λ r. bytes (column r 0)) (map (λ (l : CodeLine). Text l.unit ∷ []) ls) ≡ map (λ (l : CodeLine). l.unit) ls
+    back [] = refl
+    back (l ∷ ls) = ap (λ t. l.unit ∷ t) (back ls)
+
+    again : (xs : List Name) → map first (map (columns 1) (map (λ c. Text c ∷ []) xs)) ≡ xs
+    again [] = refl
+    again (x ∷ xs) = ap (λ t. x ∷ t) (again xs)
+
+pub returns-clause-rows : goal.returns-clause-rows
+returns-clause-rows g c clean books =
+    let shown = find_old_codes (state g.S.Store c.args.conn.now) (state g.S.Store c.ask.new.conn) books c.in_ok-rows.rows.items (c.in_ok-rows.ensures.rows clean) in
+    if_ok c.read_all.result (λ read. told c.in_ok-rows.rows.items _ read shown) (rw c.as_slice.ensures.value at c.read_all.ensures)
+
+pub returns-clause-same : goal.returns-clause-same
+returns-clause-same g c told books = c.ask.ensures.same told old_books_schema books.same_schema old_codes_plain
+
+pub returns-in_err-rows-clause-same : goal.returns-in_err-rows-clause-same
+returns-in_err-rows-clause-same g c told books = c.ask.ensures.same told old_books_schema books.same_schema old_codes_plain

@@ -1,0 +1,102 @@
+-- The tables of schema 1, from which a plant may come: those of this schema, but that a unit's row has no quota, and a grant no end.
+use Rattle.sqlite.specs.Effect.{Database}
+use Rattle.sqlite.specs.Schema.{Schema}
+use Rattle.sqlite.specs.Tree.{Trees}
+use Rattle.sqlite_value.specs.declared.value.Value.TheVariants.{Null, Text}
+use Rattle.sqlite_value.specs.Order.{Row, bytes, column}
+use Rattle.std.specs.Ordering.{nat_cmp}
+use Rattle.std.specs.Prelude.{List, [], codes, ℕ, ◌∷◌}
+use Rattle.plant_alarm.specs.declared.event.Event.{Event}
+use Rattle.plant_columns.specs.Codes.{number, number_in, role, role_in}
+use Rattle.plant_columns.specs.Tables.{Kept, KeyOf, alarm_shape, band_shape, by_person, cell_shape, change_shape, event_shape, key_index, number_column, office_table, record_shape, shelf_shape, text_column}
+use Rattle.plant_columns.specs.Tables.Kept.{AlarmKept, BandKept, CellKept, ChangeKept, EventKept, GrantKept, RecordKept, ShelfKept, UnitKept}
+use Rattle.plant_model.specs.declared.rows.AlarmRow.{AlarmRow}
+use Rattle.plant_model.specs.declared.rows.BandRow.{BandRow}
+use Rattle.plant_model.specs.declared.rows.CellRow.{CellRow}
+use Rattle.plant_model.specs.declared.rows.ChangeEntry.{ChangeEntry}
+use Rattle.plant_model.specs.declared.rows.RecordEntry.{RecordEntry}
+use Rattle.plant_model.specs.declared.rows.ShelfRow.{ShelfRow}
+use Rattle.plant_store.specs.declared.old_rows.OldGrantRow.{OldGrantRow}
+use Rattle.plant_store.specs.declared.old_rows.OldUnitRow.{OldUnitRow}
+use Rattle.plant_tables.specs.Shape.{AreTables, Shape, seen, table_in}
+use Rattle.plant_types.specs.Names.{Name}
+use Rattle.plant_types.specs.Roles.{Pair, pair_cmp}
+
+abbrev pub old_schema_no : ℕ
+old_schema_no = 1
+
+-- the row of an office of that schema
+abbrev pub old_office_row : Name → Row
+old_office_row admin = number 1 ∷ Null ∷ number old_schema_no ∷ Text admin ∷ []
+
+-- a unit has one row of its own
+abbrev pub old_own_key : OldUnitRow → ℕ
+old_own_key r = 0
+
+abbrev pub old_pair_of : OldGrantRow → Pair
+old_pair_of g = (g.person, g.role_no)
+
+abbrev pub old_unit_shape : Shape OldUnitRow ℕ
+old_unit_shape = record {
+  name = codes "units";
+  place = 1;
+  tree = 1;
+  columns = text_column (codes "unit") ∷ number_column (codes "last_s") ∷ number_column (codes "matrix_no") ∷ number_column (codes "matrix_rev") ∷ [];
+  keys = [];
+  order = nat_cmp;
+  key = old_own_key;
+  cells = λ r. number r.last_s ∷ number r.matrix_no ∷ number r.matrix_rev ∷ [];
+  read = λ r. record { last_s = number_in (column r 2); matrix_no = number_in (column r 3); matrix_rev = number_in (column r 4) };
+}
+
+abbrev pub old_grant_shape : Shape OldGrantRow Pair
+old_grant_shape = record {
+  name = codes "grants";
+  place = 2;
+  tree = 3;
+  columns = text_column (codes "unit") ∷ text_column (codes "person") ∷ number_column (codes "role_no") ∷ [];
+  keys = 2 ∷ 3 ∷ [];
+  order = pair_cmp;
+  key = old_pair_of;
+  cells = λ g. Text g.person ∷ role g.role_no ∷ [];
+  read = λ r. record { person = bytes (column r 2); role_no = role_in (column r 3) };
+}
+
+abbrev pub OldRowOf : Kept → Type 0
+OldRowOf UnitKept = OldUnitRow
+OldRowOf GrantKept = OldGrantRow
+OldRowOf AlarmKept = AlarmRow
+OldRowOf ShelfKept = ShelfRow
+OldRowOf BandKept = BandRow
+OldRowOf CellKept = CellRow
+OldRowOf EventKept = Event
+OldRowOf RecordKept = RecordEntry
+OldRowOf ChangeKept = ChangeEntry
+
+abbrev pub old_shape : (i : Kept) → Shape (OldRowOf i) (KeyOf i)
+old_shape UnitKept = old_unit_shape
+old_shape GrantKept = old_grant_shape
+old_shape AlarmKept = alarm_shape
+old_shape ShelfKept = shelf_shape
+old_shape BandKept = band_shape
+old_shape CellKept = cell_shape
+old_shape EventKept = event_shape
+old_shape RecordKept = record_shape
+old_shape ChangeKept = change_shape
+
+abbrev pub old_books_schema : Schema
+old_books_schema = record {
+  tables = office_table ∷ table_in old_unit_shape ∷ table_in old_grant_shape ∷ table_in alarm_shape ∷ table_in shelf_shape ∷ table_in band_shape ∷ table_in cell_shape ∷ table_in event_shape ∷ table_in record_shape ∷ table_in change_shape ∷ [];
+  indexes = key_index (codes "sqlite_autoindex_units_1") old_unit_shape ∷ key_index (codes "sqlite_autoindex_grants_1") old_grant_shape ∷ key_index (codes "sqlite_autoindex_alarms_1") alarm_shape ∷ key_index (codes "sqlite_autoindex_shelves_1") shelf_shape
+      ∷ key_index (codes "sqlite_autoindex_bands_1") band_shape ∷ key_index (codes "sqlite_autoindex_cells_1") cell_shape ∷ key_index (codes "sqlite_autoindex_events_1") event_shape
+      ∷ key_index (codes "sqlite_autoindex_records_1") record_shape ∷ key_index (codes "sqlite_autoindex_changes_1") change_shape ∷ by_person ∷ [];
+  views = [];
+}
+
+-- a database with that schema that only its own statements have written
+abbrev pub AreOldBooks : Database → Type 0
+AreOldBooks db = AreTables OldRowOf KeyOf old_shape old_books_schema db
+
+-- what its tables have of a unit
+abbrev pub old_rows : Name → Trees → (i : Kept) → List (OldRowOf i)
+old_rows unit trees = seen OldRowOf KeyOf old_shape unit trees
