@@ -121,14 +121,14 @@ ann 09:30:00 GET /units/U1/standing
 PT-101                   Unacknowledged -  2026-03-01T09:00:00Z ---"#;
 
 /// Three events of an alarm, in one file.
-const THREE_ROWS: &str = r#"ann 09:30:00 POST /units/U1/imports
+pub(crate) const THREE_ROWS: &str = r#"ann 09:30:00 POST /units/U1/imports
 > seq,moment,tag,event
 > 1,2026-03-01T09:00:00Z,PT-101,ACT
 > 2,2026-03-01T09:05:00Z,PT-101,RTN
 > 3,2026-03-01T09:06:00Z,PT-101,ACK
 200 {"new":3,"repeated":0}"#;
 
-const IMPORTED_TWICE: &str = r#"ann 09:30:00 GET /units/U1/alarms/PT-101
+pub(crate) const IMPORTED_TWICE: &str = r#"ann 09:30:00 GET /units/U1/alarms/PT-101
 200 {"limit":3600,"limit_revision":0,"out_of_service":false,"shelf":"Unshelved","shelf_left":0,"state":"Normal","suppressed":false,"suppressed_or_shelved":false,"tag":"PT-101"}
 
 ann 09:30:00 POST /units/U1/imports

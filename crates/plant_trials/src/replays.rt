@@ -3,7 +3,7 @@
 use crate::exchanges::Exchanges;
 use plant_books::Plain;
 use plant_office::{Books, Office};
-use plant_store::Tables;
+use plant_store::{Tables, Unopened};
 use plant_types::Person;
 use plant_wire::{End, FromRead, ToWrite, session};
 use sqlite::{Connection, MemStore};
@@ -27,7 +27,7 @@ pub(crate) fn tables(rt: &(impl Abort + AllocGlobal)) -> Tables<MemStore> {
     let connection = Connection::open_in_memory(rt.alloc()).expect(rt, "a database");
     match Tables::create(rt.alloc(), connection, root(rt)) {
         Ok(tables) => tables,
-        Err(_) => rt.panic("no tables"),
+        Err(Unopened { fault, .. }) => rt.panic(fault),
     }
 }
 

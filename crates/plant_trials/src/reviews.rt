@@ -3,7 +3,8 @@
 use crate::examples::BASE;
 
 /// An engineer who approves nothing of his own, a second approver, and a second unit with an engineer and an alarm.
-const STAFFED: &str = r#"ste 08:00:00 POST /units/U1/grants {"person":"abe","role":"Engineer"}
+pub(crate) const STAFFED: &str =
+    r#"ste 08:00:00 POST /units/U1/grants {"person":"abe","role":"Engineer"}
 200 {"done":true}
 
 ste 08:00:00 POST /units/U1/grants {"person":"amy","role":"Approver"}
@@ -19,7 +20,7 @@ eve 08:00:00 POST /units/U2/alarms {"tag":"FT-7","latching":false,"max":3600}
 200 {"done":true}"#;
 
 /// Three proposals of one record: approved, taken back and rejected.
-const REVIEWED: &str =
+pub(crate) const REVIEWED: &str =
     r#"abe 09:00:00 POST /units/U1/changes {"kind":"record","base":0,"tag":"PT-101","cause":"seal leak","consequence":"loss of pressure","action":"close XV-7","severity":2,"response":120}
 200 {"number":1}
 
@@ -65,7 +66,7 @@ eve 09:00:00 POST /units/U1/changes {"kind":"record","base":1,"tag":"PT-101","ca
 abe 09:00:00 POST /units/U1/changes/3/reject
 200 {"done":true}"#;
 
-const RECORDED: &str = r#"vic 09:00:00 GET /units/U1/alarms/PT-101/record
+pub(crate) const RECORDED: &str = r#"vic 09:00:00 GET /units/U1/alarms/PT-101/record
 200 {"action":"close XV-7","cause":"seal leak","change":1,"consequence":"loss of pressure","priority":"P1","response":120,"revision":1,"severity":2,"tag":"PT-101"}
 
 vic 09:00:00 GET /units/U1/alarms

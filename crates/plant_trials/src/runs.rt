@@ -13,6 +13,7 @@ pub(crate) fn call_of(rt: &(impl Abort + AllocGlobal), request: &[u8]) -> Option
     match next_call(rt.alloc(), request) {
         Cut::Call(call, _) => Some(call),
         Cut::Malformed(_, _) => None,
+        Cut::Fault => rt.panic("memory"),
         _ => rt.panic("not a request"),
     }
 }
@@ -23,18 +24,18 @@ pub(crate) fn bytes_of(rt: &(impl Abort + AllocGlobal), answer: &Answer) -> Vec<
 }
 
 /// The office's answer to one call.
-fn served<B: Books>(office: &mut Office<B>, call: &Call) -> Answer {
+pub(crate) fn served<B: Books>(office: &mut Office<B>, call: &Call) -> Answer {
     office.serve(call)
 }
 
 /// The calls among some requests, and the answers that are wanted to them, one after another.
 #[derive(Drop)]
-struct Calls {
-    calls: Vec<Call>,
-    answers: Vec<u8>,
+pub(crate) struct Calls {
+    pub(crate) calls: Vec<Call>,
+    pub(crate) answers: Vec<u8>,
 }
 
-fn calls_of(rt: &(impl Abort + AllocGlobal), wanted: &Exchanges) -> Calls {
+pub(crate) fn calls_of(rt: &(impl Abort + AllocGlobal), wanted: &Exchanges) -> Calls {
     let mut calls = Vec::new(rt.alloc());
     let mut answers = Vec::new(rt.alloc());
     let mut last = BEGIN;
@@ -65,7 +66,7 @@ fn serve_all<B: Books + Drop>(
 }
 
 /// The answers to the calls, made in one run, and the books after them.
-fn run_all<B: Books + Drop>(
+pub(crate) fn run_all<B: Books + Drop>(
     rt: &(impl Abort + AllocGlobal),
     books: B,
     calls: &[Call],
@@ -75,14 +76,25 @@ fn run_all<B: Books + Drop>(
     (answers, office.into_books())
 }
 
+/// An answer as bytes, the same on both sides.
+pub(crate) fn alike(rt: &(impl Abort + AllocGlobal), ours: &Answer, theirs: &Answer) -> Vec<u8> {
+    let bytes = bytes_of(rt, ours);
+    assert_eq!(rt; text(&bytes), text(&bytes_of(rt, theirs)));
+    bytes
+}
+
 /// The answers as bytes, each of them the same on both sides.
-fn alike(rt: &(impl Abort + AllocGlobal), ran: &[Answer], served: &[Answer]) -> Vec<u8> {
+pub(crate) fn all_alike(
+    rt: &(impl Abort + AllocGlobal),
+    ran: &[Answer],
+    served: &[Answer],
+) -> Vec<u8> {
     let mut answers = Vec::new(rt.alloc());
     assert_eq!(rt; ran.len(), served.len());
     for (ours, theirs) in ran.iter().zip(served) {
-        let bytes = bytes_of(rt, ours);
-        assert_eq!(rt; text(&bytes), text(&bytes_of(rt, theirs)));
-        answers.extend_from_slice(&bytes).expect(rt, "memory");
+        answers
+            .extend_from_slice(&alike(rt, ours, theirs))
+            .expect(rt, "memory");
     }
     answers
 }
@@ -110,7 +122,7 @@ pub(crate) fn is_run<B: Books + Drop>(
     assert_eq!(rt; calls.len(), count, "{title}");
     let (ran, mut ours) = run_all(rt, ours, &calls);
     let (served, mut theirs) = serve_all(rt, theirs, &calls);
-    let found = alike(rt, &ran, &served);
+    let found = all_alike(rt, &ran, &served);
     assert_eq!(rt; text(&found), text(&answers), "{title}");
     assert!(rt;
         hold_alike(rt, &mut ours, &mut theirs, &wanted.units),
