@@ -1,17 +1,17 @@
-ghost use Rattle.std.specs.Prelude.{◌≡◌, ◌&&◌, ◌||◌, ℕ, option_map};
+ghost use Rattle.std.specs.Prelude.{◌≡◌, ◌&&◌, ◌||◌, ℕ, length, option_map};
 ghost use Rattle.plant_books.specs.Asking as asked;
-ghost use Rattle.plant_books.specs.Asking.{change_named, counted_in, is_wanted};
+ghost use Rattle.plant_books.specs.Asking.{change_named, counted_in, is_crowded_for, is_wanted};
 ghost use Rattle.plant_model.specs.Histories.{same_number};
-ghost use Rattle.plant_model.specs.Parts.{counted_for, is_source, of_proposal, selected};
+ghost use Rattle.plant_model.specs.Parts.{counted_for, is_crowded as is_crowded_in, is_source, of_proposal, selected};
 ghost use Rattle.plant_model.specs.RowFacts.{unit_read};
 ghost use Rattle.plant_model.specs.Worlds.{unit_named};
 ghost use Rattle.plant_model.specs.declared.rows.UnitRows.{UnitRows};
-ghost use Rattle.plant_types.specs.Names.{Name};
+ghost use Rattle.plant_types.specs.Names.{Name, same_name};
 ghost use Rattle.plant_types.specs.Roles.{Pair};
 
-use plant_model::Request;
+use plant_model::{Request, UnitRow};
 use plant_ration::ChangeKind;
-use plant_types::{Tag, UnitCode};
+use plant_types::{Table, Tag, UnitCode};
 
 /// Which of a unit's alarms, of its shelves or of its records a request looks at.
 #[derive(Clone, Copy)]
@@ -22,7 +22,7 @@ pub enum Wanted<'a> {
     Every,
 }
 
-/// What of a unit is counted for a request.
+/// What of a unit is counted for a request: changes by the number of the last.
 #[derive(Clone, Copy, Debug, PartialEq, Eq)]
 pub enum Counted {
     Nothing,
@@ -91,9 +91,40 @@ fn wanted_by(kind: &ChangeKind) -> Wanted<'_>
     }
 }
 
-/// The alarms that the request looks at.
-pub fn wanted_alarms(request: &Request) -> Wanted<'_>
-    ensures { (rows : UnitRows) (a : Name) → (selected rows request.now).alarm a ≡ is_wanted result a }
+/// Whether the request shelves an alarm.
+pub fn is_shelving(request: &Request) -> bool
+    ensures { result ≡ asked.is_shelving request.now }
+{
+    matches!(
+        request,
+        Request::TimedShelve { .. } | Request::OneShotShelve { .. }
+    )
+}
+
+/// Whether a unit that keeps this many shelves is crowded: its quota may be used up.
+pub fn is_crowded(units: &Table<UnitRow>, shelves: u64) -> bool
+    ensures { (rows : UnitRows) → rows.units ≡ units.now → length rows.shelves ≡ shelves → is_crowded_in rows ≡ result }
+{
+    match units.as_slice().first() {
+        Some(unit) => unit.quota.get() <= shelves,
+        None => true,
+    }
+}
+
+/// That of the tag, or every one in a crowded unit.
+fn wanted_in(tag: &Tag, crowded: bool) -> Wanted<'_>
+    ensures { (a : Name) → is_wanted result a ≡ (crowded || same_name tag.now a) }
+{
+    if crowded {
+        Wanted::Every
+    } else {
+        Wanted::One(tag)
+    }
+}
+
+/// The alarms that the request looks at. `crowded` says whether it shelves in a crowded unit.
+pub fn wanted_alarms(request: &Request, crowded: bool) -> Wanted<'_>
+    ensures { (rows : UnitRows) → is_crowded_for rows request.now ≡ crowded → (a : Name) → (selected rows request.now).alarm a ≡ is_wanted result a }
 {
     match request {
         Request::Register { tag, .. }
@@ -102,10 +133,11 @@ pub fn wanted_alarms(request: &Request) -> Wanted<'_>
         | Request::PlaceInService { tag, .. }
         | Request::Status { tag, .. }
         | Request::RecordOf { tag, .. } => Wanted::One(tag),
+        Request::TimedShelve { tag, .. } | Request::OneShotShelve { tag, .. } => {
+            wanted_in(tag, crowded)
+        }
         Request::Propose { proposal, .. } => wanted_by(&proposal.kind),
         Request::Import { .. }
-        | Request::TimedShelve { .. }
-        | Request::OneShotShelve { .. }
         | Request::Approve { .. }
         | Request::Shelves { .. }
         | Request::Alarms { .. }
@@ -122,9 +154,9 @@ pub fn wanted_alarms(request: &Request) -> Wanted<'_>
     }
 }
 
-/// The shelves that the request looks at.
-pub fn wanted_shelves(request: &Request) -> Wanted<'_>
-    ensures { (rows : UnitRows) (a : Name) → (selected rows request.now).shelf a ≡ is_wanted result a }
+/// The shelves that the request looks at. `crowded` says whether it shelves in a crowded unit.
+pub fn wanted_shelves(request: &Request, crowded: bool) -> Wanted<'_>
+    ensures { (rows : UnitRows) → is_crowded_for rows request.now ≡ crowded → (a : Name) → (selected rows request.now).shelf a ≡ is_wanted result a }
 {
     match request {
         Request::Register { tag, .. }
@@ -132,11 +164,11 @@ pub fn wanted_shelves(request: &Request) -> Wanted<'_>
         | Request::RemoveFromService { tag, .. }
         | Request::PlaceInService { tag, .. }
         | Request::Status { tag, .. } => Wanted::One(tag),
-        Request::TimedShelve { .. }
-        | Request::OneShotShelve { .. }
-        | Request::Shelves { .. }
-        | Request::Alarms { .. }
-        | Request::Standing { .. } => Wanted::Every,
+        Request::TimedShelve { tag, .. } | Request::OneShotShelve { tag, .. } => {
+            wanted_in(tag, crowded)
+        }
+        Request::Shelves { .. } | Request::Alarms { .. } | Request::Standing { .. } =>
+            Wanted::Every,
         _ => Wanted::Nothing,
     }
 }

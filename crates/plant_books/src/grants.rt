@@ -1,23 +1,72 @@
-ghost use Rattle.std.specs.Prelude.{◌≡◌, IfErr, IfOk, Some};
+ghost use Rattle.std.specs.Prelude.{◌≡◌, IfErr, IfOk, Some, option_copied};
 ghost use Rattle.plant_books.specs.Contents as contents;
 ghost use Rattle.plant_books.specs.Contents.{is_held_in, roles_in};
+ghost use Rattle.plant_model.specs.Grants as grants;
+ghost use Rattle.plant_model.specs.RowFacts.{held_by, holds_by, pair_of};
+ghost use Rattle.plant_types.specs.Roles.{pair_cmp, same_pair};
+ghost use Rattle.plant_types.specs.Tables.{row_at};
 ghost use Rattle.plant_types.specs.declared.fault.Fault.TheVariants.{Memory};
 
 use plant_model::{GrantRow, UnitRows};
 use plant_types::{Fault, Moment, Person, Role, Table};
 use std::alloc::Global;
 
+/// Whether the moment lies before the end. Without an end it does.
+pub fn is_before(now: Moment, end: Option<Moment>) -> bool
+    ensures { result ≡ grants.is_before now end }
+{
+    match end {
+        Some(end) => now.seconds() < end.seconds(),
+        None => true,
+    }
+}
+
+/// Whether the row is the grant of the pair.
+pub fn is_pair(row: &GrantRow, person: &Person, role: Role) -> bool
+    ensures { result ≡ same_pair (person.now, role) (pair_of row.now) }
+{
+    *person == row.person && role.is(row.role_no)
+}
+
+fn grant_of<'a>(grants: &'a [GrantRow], person: &Person, role: Role) -> Option<&'a GrantRow>
+    ensures { option_copied result ≡ row_at pair_cmp pair_of (person.now, role) grants.now }
+{
+    grants.iter().find(|row| is_pair(row, person, role))
+}
+
+/// Whether the pair is held at the moment by these grants.
+pub fn is_held_by(grants: &[GrantRow], person: &Person, role: Role, now: Moment) -> bool
+    ensures { result ≡ held_by grants.now now (person.now, role) }
+{
+    match grant_of(grants, person, role) {
+        Some(row) => is_before(now, row.end_s),
+        None => false,
+    }
+}
+
+const ROLES: [Role; 6] = [
+    Role::Viewer,
+    Role::Operator,
+    Role::Maintainer,
+    Role::Engineer,
+    Role::Approver,
+    Role::Steward,
+];
+
+/// Whether the person holds some role at the moment by these grants.
+pub fn holds_some_by(grants: &[GrantRow], person: &Person, now: Moment) -> bool
+    ensures { result ≡ holds_by grants.now now person.now }
+{
+    ROLES
+        .iter()
+        .any(|role| is_held_by(grants, person, *role, now))
+}
+
 /// Whether it is a grant of the person whose end is not yet there.
-fn is_held_by(grant: &GrantRow, person: &Person, now: Moment) -> bool
+fn is_of_holder(grant: &GrantRow, person: &Person, now: Moment) -> bool
     ensures { result ≡ contents.is_held_by now person.now grant.now }
 {
-    if *person != grant.person {
-        return false;
-    }
-    match grant.end_s {
-        None => true,
-        Some(end) => now.seconds() < end.seconds(),
-    }
+    *person == grant.person && is_before(now, grant.end_s)
 }
 
 /// Whether the person holds a role in the unit of these rows at the moment.
@@ -27,7 +76,7 @@ pub fn holds_role(rows: &UnitRows, person: &Person, now: Moment) -> bool
     rows.grants
         .as_slice()
         .iter()
-        .any(|grant| is_held_by(grant, person, now))
+        .any(|grant| is_of_holder(grant, person, now))
 }
 
 /// The roles that the person holds in the unit of these rows at the moment, in the order of the grants.
@@ -42,7 +91,7 @@ pub fn roles_held(
 {
     let mut roles = Table::new(alloc);
     for grant in rows.grants.as_slice() {
-        if is_held_by(grant, person, now) {
+        if is_of_holder(grant, person, now) {
             roles.push(grant.role_no)?;
         }
     }

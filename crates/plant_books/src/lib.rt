@@ -13,9 +13,12 @@ mod plain;
 mod rows;
 
 pub use asking::{
-    Counted, Wanted, is_number, unit_of, wanted_alarms, wanted_change, wanted_count,
-    wanted_records, wanted_shelves, wants_all_grants, wants_events, wants_matrix, wants_sources,
+    Counted, Wanted, is_crowded, is_number, is_shelving, unit_of, wanted_alarms, wanted_change,
+    wanted_count, wanted_records, wanted_shelves, wants_all_grants, wants_events, wants_matrix,
+    wants_sources,
 };
 pub use books::{Books, MineShelf, MineUnit};
+pub use grants::{holds_some_by, is_before, is_held_by, is_pair};
 pub use opened::{alarm_of, last_return};
+pub use parts::part_of_grants;
 pub use plain::Plain;

@@ -32,13 +32,13 @@ pub(crate) fn at(rt: &impl Abort, seconds: u64) -> Moment {
     Moment::of_seconds(seconds).expect(rt, "a moment")
 }
 
-/// The unit's own row with this last moment.
-pub(crate) fn own_row(rt: &impl Abort, last: u64) -> Row {
+/// The unit's own row with this last moment and this quota.
+pub(crate) fn own_row(rt: &impl Abort, last: u64, quota: u64) -> Row {
     Row::Unit(UnitRow {
         last_s: at(rt, last),
         matrix_no: 0,
         matrix_rev: 0,
-        quota: Quota::new(20).expect(rt, "a quota"),
+        quota: Quota::new(quota).expect(rt, "a quota"),
     })
 }
 
@@ -133,7 +133,7 @@ pub(crate) fn push_own(
     changes: &mut Table<Change>,
     last: u64,
 ) -> Result<(), Fault> {
-    push(changes, own_row(rt, last))
+    push(changes, own_row(rt, last, 20))
 }
 
 fn push_band(changes: &mut Table<Change>, matrix_no: u32, limit_s: u64) -> Result<(), Fault> {
@@ -193,6 +193,13 @@ fn push_later(rt: &impl Abort, alloc: Global, changes: &mut Table<Change>) -> Re
 pub(crate) fn later(rt: &impl Abort, alloc: Global) -> Result<Table<Change>, Fault> {
     let mut changes = Table::new(alloc);
     push_later(rt, alloc, &mut changes)?;
+    Ok(changes)
+}
+
+/// A quota of two shelves.
+pub(crate) fn small_quota(rt: &impl Abort, alloc: Global) -> Result<Table<Change>, Fault> {
+    let mut changes = Table::new(alloc);
+    push(&mut changes, own_row(rt, 150, 2))?;
     Ok(changes)
 }
 

@@ -1,7 +1,7 @@
 //! What a call looks at.
 
 use crate::fixtures::{
-    at, code, later, opened, opening, person, plain, put, rationale, tag, words,
+    at, code, later, opened, opening, person, plain, put, rationale, small_quota, tag, words,
 };
 use plant_books::{Books, Plain};
 use plant_model::{Call, Request, UnitPart};
@@ -89,17 +89,39 @@ fn gives_the_part_that_a_call_looks_at(rt: HostRuntime) {
     let mut books = changed(&rt, alloc);
     let one = part(&rt, alloc, &mut books, b"ste", status(&rt, alloc));
     assert!(rt; sizes(&one) == Some([1, 1, 1, 0]));
+    let number = part(&rt, alloc, &mut books, b"ste", register(&rt, alloc));
+    assert!(rt; sizes(&number) == Some([1, 0, 0, 2]));
+    let own = part(&rt, alloc, &mut books, b"ste", shelving(&rt, alloc));
+    assert!(rt; sizes(&own) == Some([1, 1, 1, 0]));
+}
+
+#[test]
+fn gives_a_stranger_nothing(rt: HostRuntime) {
+    let alloc = rt.alloc();
+    let mut books = changed(&rt, alloc);
     let number = part(&rt, alloc, &mut books, b"ann", register(&rt, alloc));
-    assert!(rt; sizes(&number) == Some([0, 0, 0, 2]));
-    let all = part(&rt, alloc, &mut books, b"bob", shelving(&rt, alloc));
-    assert!(rt; sizes(&all) == Some([0, 2, 2, 0]));
+    assert!(rt; sizes(&number) == Some([0, 0, 0, 0]));
+    let own = part(&rt, alloc, &mut books, b"bob", shelving(&rt, alloc));
+    assert!(rt; sizes(&own) == Some([0, 0, 0, 0]));
+    let grants = part(&rt, alloc, &mut books, b"bob", withdrawal(&rt, alloc));
+    assert!(rt; sizes(&grants) == Some([0, 0, 0, 0]));
+}
+
+#[test]
+fn gives_all_shelves_where_the_quota_may_be_used_up(rt: HostRuntime) {
+    let alloc = rt.alloc();
+    let mut books = changed(&rt, alloc);
+    let quota = small_quota(&rt, alloc).expect(&rt, "memory");
+    put(&rt, alloc, &mut books, b"U1", &quota);
+    let all = part(&rt, alloc, &mut books, b"ste", shelving(&rt, alloc));
+    assert!(rt; sizes(&all) == Some([1, 2, 2, 0]));
 }
 
 #[test]
 fn gives_all_grants_to_a_withdrawal(rt: HostRuntime) {
     let alloc = rt.alloc();
     let mut books = changed(&rt, alloc);
-    let grants = part(&rt, alloc, &mut books, b"bob", withdrawal(&rt, alloc));
+    let grants = part(&rt, alloc, &mut books, b"ste", withdrawal(&rt, alloc));
     assert!(rt; sizes(&grants) == Some([2, 0, 0, 0]));
     let none = part(&rt, alloc, &mut books, b"bob", elsewhere(&rt, alloc));
     assert!(rt; sizes(&none).is_none());

@@ -3,4 +3,4 @@
 
 mod words;
 
-pub use words::{Line, LineError, Service, line_of};
+pub use words::{Line, LineError, Service, Task, line_of};

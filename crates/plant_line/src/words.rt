@@ -1,4 +1,4 @@
-ghost use Rattle.std.specs.Prelude.{◌≡◌, None, Some, Err, IfOk, IfErr};
+ghost use Rattle.std.specs.Prelude.{◌≡◌, None, Some, Err, IfOk, IfErr, IfSome};
 ghost use Rattle.plant_types.specs.Text as names;
 
 use clap::builder::ValueParser;
@@ -15,6 +15,8 @@ pub enum LineError {
     Text { text: String, is_error: bool },
     /// The name is no person's.
     NotAPerson,
+    /// A file is to be migrated, and no file to migrate it to is named.
+    NoDb,
     /// Memory was wanted.
     Memory,
 }
@@ -43,15 +45,32 @@ pub struct Service {
     pub idle: Option<u64>,
 }
 
+/// What the program does.
+#[derive(Drop)]
+pub enum Task {
+    /// It serves the office.
+    Serve {
+        /// The file that keeps the tables, or none where memory keeps them.
+        db: Option<String>,
+        /// The port to serve, or none for one session over the standard streams.
+        service: Option<Service>,
+    },
+    /// It copies the tables of a file of the older schema to a new file, and serves nothing.
+    Migrate {
+        /// The file of the older schema.
+        old: String,
+        /// The new file.
+        new: String,
+    },
+}
+
 /// What the program's words ask for.
 #[derive(Drop)]
 pub struct Line {
     /// The administrator, who alone may open units.
     pub admin: Person,
-    /// The file that keeps the tables, or none where memory keeps them.
-    pub db: Option<String>,
-    /// The port to serve, or none for one session over the standard streams.
-    pub service: Option<Service>,
+    /// What the program does.
+    pub task: Task,
 }
 
 /// The person of this name.
@@ -74,6 +93,23 @@ fn path_of(alloc: Global, path: Option<&str>) -> Result<Option<String>, LineErro
             Ok(path) => Ok(Some(path)),
             Err(_) => Err(LineError::Memory),
         },
+    }
+}
+
+/// The task for these files and this port: a migration if an older file is named, whatever the port.
+fn task_of(
+    old: Option<String>,
+    db: Option<String>,
+    service: Option<Service>,
+) -> Result<Task, LineError>
+    ensures serves { old ≡ None → result ≡ Ok (Task.Serve db service) }
+    ensures migrates { IfSome old (λ o. IfSome db (λ n. result ≡ Ok (Task.Migrate o n))) }
+    ensures refused { IfSome old (λ _. db ≡ None → result ≡ Err LineError.NoDb) }
+{
+    match (old, db) {
+        (None, db) => Ok(Task::Serve { db, service }),
+        (Some(old), Some(new)) => Ok(Task::Migrate { old, new }),
+        (Some(_), None) => Err(LineError::NoDb),
     }
 }
 
@@ -119,17 +155,20 @@ fn store_args<'a>(alloc: Global, command: Command<'a>) -> Result<Command<'a>, Al
     let admin = Arg::new(alloc, "admin")
         .long("admin")
         .value_name("NAME")
-        .help("The administrator, who alone may open units")
+        .help("The administrator, who alone opens units")
         .required(true)
         .action(ArgAction::Set);
     let db = Arg::new(alloc, "db")
         .long("db")
         .value_name("FILE")
-        .help(
-            "The file that keeps the tables, created if missing; without it they are kept in memory",
-        )
+        .help("Keeps the tables in FILE, created if missing [default: in memory]")
         .action(ArgAction::Set);
-    command.arg(admin)?.arg(db)
+    let migrate = Arg::new(alloc, "migrate")
+        .long("migrate")
+        .value_name("OLD")
+        .help("Copies OLD, a file of the schema before, to the new FILE and ends")
+        .action(ArgAction::Set);
+    command.arg(admin)?.arg(db)?.arg(migrate)
 }
 
 fn service_args<'a>(alloc: Global, command: Command<'a>) -> Result<Command<'a>, AllocError> {
@@ -138,18 +177,18 @@ fn service_args<'a>(alloc: Global, command: Command<'a>) -> Result<Command<'a>, 
         "port",
         "N",
         65_535,
-        "Listens on this port of 127.0.0.1 and serves its connections one after the other",
+        "Serves connections to port N of 127.0.0.1, one after the other",
     );
     let connections = number_arg(
         alloc,
         "connections",
         "N",
         1_000,
-        "How many connections the port serves [default: 1]",
+        "Ends after N connections [default: 1]",
     );
     let forever = Arg::new(alloc, "forever")
         .long("forever")
-        .help("Serves the port until the program is stopped")
+        .help("Serves connections until the program is stopped")
         .action(ArgAction::SetTrue)
         .requires_arg("port")?
         .conflicts_with("connections")?;
@@ -158,16 +197,43 @@ fn service_args<'a>(alloc: Global, command: Command<'a>) -> Result<Command<'a>, 
         "idle",
         "SECONDS",
         3_600,
-        "Gives up a connection of the port that is silent for so long [default: never; 30 with --forever]",
+        "Gives up a silent connection [default: never; 30 with --forever]",
     );
     command.arg(port)?.arg(connections)?.arg(forever)?.arg(idle)
 }
 
+/// The program's version, and the toolchain that it is proved with, as `rt version` prints it.
+const VERSION: &str = "1.0.0\nrattle-kit-13b logic dac8208d650f15bf";
+
+const ABOUT: &str =
+    "Answers the control rooms of a plant, over standard input and output or over a port";
+
+/// What each exit status means.
+const STATUSES: &str = "Exit statuses:
+  0  all requests answered, all connections served, OLD copied, help or version
+  2  the command line is wrong, or NAME is not a person's name
+  3  the books were not opened, or OLD was not copied
+  4  without a port: the input ended within a request, or its bytes are not requests
+  5  without a port: a read failed, or a million were made
+  6  without a port: a write failed
+  7  out of memory, or an argument is not UTF-8
+  8  listening or accepting failed";
+
 fn office_command<'a>(alloc: Global) -> Result<Command<'a>, AllocError> {
-    let command = Command::new(alloc, "shelfoffice").about(
-        "Answers the control rooms of a plant: requests on standard input, answers on standard output, or both on a port",
-    );
+    let command = Command::new(alloc, "shelfoffice")
+        .version(VERSION)
+        .about(ABOUT)
+        .after_help(STATUSES);
     service_args(alloc, store_args(alloc, command)?)
+}
+
+/// What the options ask for. The name is read before the files.
+fn asked_of(alloc: Global, matches: &ArgMatches<'_>) -> Result<Line, LineError> {
+    let admin = person_of(alloc, matches.get_str("admin").unwrap_or("").as_bytes())?;
+    let old = path_of(alloc, matches.get_str("migrate"))?;
+    let db = path_of(alloc, matches.get_str("db"))?;
+    let task = task_of(old, db, service_of(matches))?;
+    Ok(Line { admin, task })
 }
 
 /// What the program's words ask for, the program's own name first.
@@ -176,11 +242,7 @@ pub fn line_of<S: AsStr>(alloc: Global, words: &[S]) -> Result<Line, LineError> 
         return Err(LineError::Memory);
     };
     match command.try_get_matches_from(words) {
-        Ok(matches) => Ok(Line {
-            admin: person_of(alloc, matches.get_str("admin").unwrap_or("").as_bytes())?,
-            db: path_of(alloc, matches.get_str("db"))?,
-            service: service_of(&matches),
-        }),
+        Ok(matches) => asked_of(alloc, &matches),
         Err(error) => Err(text_of(alloc, &error)),
     }
 }

@@ -49,7 +49,7 @@ use Rattle.std.proofs.lemmas.List.Folds.{list_any-append}
 use Rattle.std.specs.Cmp.{eq_by_cmp_equiv}
 use Rattle.std.specs.List.{find, list_all, list_any}
 use Rattle.std.specs.Ordering.{nat_cmp}
-use Rattle.std.specs.Prelude.{Bool, Err, List, None, Ok, Option, Some, [], false, filter_map, is_ok, is_some, length, nat_le, nat_lt, not, option_map, unwrap_or, ℕ, ◌&&◌, ◌||◌, ◌∷◌}
+use Rattle.std.specs.Prelude.{Bool, Err, List, None, Ok, Option, Some, [], false, filter_map, is_some, length, nat_le, nat_lt, not, option_map, unwrap_or, ℕ, ◌&&◌, ◌||◌, ◌∷◌}
 
 -- the members of the events after an import
 module _ (h : List Call) (p : Name) (t : ℕ) (u : Name) (rows : List Event) (fit : is_fit (events h ++ rows) ≡ true) where

@@ -1,17 +1,17 @@
 -- The part that a call looks at gives the verdict, the reply and the changes of all rows.
-use Rattle.plant_alarm.specs.Shelves.{is_unshelved, shelf_state}
+use Rattle.plant_alarm.specs.Shelves.{is_one_shot, is_timed, is_unshelved, shelf_state}
 use Rattle.plant_alarm.specs.declared.event.Event.{Event}
 use Rattle.plant_alarm.specs.declared.shelf.ShelfState.{ShelfState}
 use Rattle.plant_model.proofs.PartLists.{cells_within, filter-true, itself_number, limits_within, map-same, or_later, or_true, passes_number, row_at-filter, row_at-key, source_found, then-same}
 use Rattle.plant_model.specs.Events.{flood_lines, rows_of_file}
-use Rattle.plant_model.specs.Facts.{Facts, limit_of}
+use Rattle.plant_model.specs.Facts.{Facts, others_shelved}
 use Rattle.plant_model.specs.Grants.{is_before}
 use Rattle.plant_model.specs.Histories.{same_number}
-use Rattle.plant_model.specs.Parts.{Selection, every, is_source, of_approval, of_content, of_number, of_records, part_of, rows_selected, selected}
-use Rattle.plant_model.specs.Refusals.{first_refusal, holds_some, lacks_role, own_refusals, role_needed}
+use Rattle.plant_model.specs.Parts.{Selection, every, is_crowded, is_source, of_approval, of_content, of_number, of_records, part_of, part_of_holder, part_of_stranger, rows_selected, selected}
+use Rattle.plant_model.specs.Refusals.{first_refusal, holds_some, lacks_role, own_refusals, refusals_of_holder, role_needed}
 use Rattle.plant_model.specs.Replies.{change_reply, import_reply, record_reply, reply, status_reply}
 use Rattle.plant_model.specs.RowChanges.{changes_for, placed_in, taken_out}
-use Rattle.plant_model.specs.RowFacts.{alarm_tag, change_found, change_number, change_read, facts_in, facts_of, has_cells, kind_read, matrix_read, pair_of, record_found, record_from, record_read, record_tag, sheet_read, shelf_tag, unit_read}
+use Rattle.plant_model.specs.RowFacts.{alarm_tag, change_found, change_number, change_read, facts_from, facts_in, facts_of, has_cells, held_by, holds_by, kind_read, last_number, matrix_read, pair_of, record_found, record_from, record_read, record_tag, sheet_read, shelf_tag, unit_read}
 use Rattle.plant_model.specs.Shelves.{shelf_left, shelf_row_as}
 use Rattle.plant_model.specs.Verdicts.{refused_or, verdict_of}
 use Rattle.plant_model.specs.declared.call.Call.{Call}
@@ -20,7 +20,7 @@ use Rattle.plant_model.specs.declared.call.Request.TheVariants.{Alarms, Approve,
 use Rattle.plant_model.specs.declared.reply.ChangeRow.{ChangeRow}
 use Rattle.plant_model.specs.declared.reply.Full.TheVariants.{Alarms as TooManyAlarms}
 use Rattle.plant_model.specs.declared.reply.RecordRow.{RecordRow}
-use Rattle.plant_model.specs.declared.reply.Refused.TheVariants.{AlarmTaken, AlarmUnknown, AlreadyOutOfService, ConditionNotShelved, MomentBehind, NotGranted, NotOutOfService, RecordUnknown, RoleLacking, UnitFull}
+use Rattle.plant_model.specs.declared.reply.Refused.TheVariants.{AlarmTaken, AlarmUnknown, AlreadyOutOfService, ConditionAlreadyShelved, ConditionNotShelved, MomentBehind, NotGranted, NotOutOfService, RecordUnknown, RoleLacking, ShelfQuota, ShelvingTimeOutOfRange, UnitFull}
 use Rattle.plant_model.specs.declared.reply.Reply.TheVariants.{Floods as FloodsOf}
 use Rattle.plant_model.specs.declared.rows.AlarmRow.{AlarmRow}
 use Rattle.plant_model.specs.declared.rows.Change.{Change}
@@ -44,11 +44,24 @@ use Rattle.plant_types.specs.Roles.{pair_cmp, role_no}
 use Rattle.plant_types.specs.Tables.{row_at}
 use Rattle.plant_types.specs.declared.role.Role.{Role}
 use Rattle.plant_types.specs.declared.role.Role.TheVariants.{Approver, Engineer, Maintainer, Operator, Steward, Viewer}
-use Rattle.std.proofs.Common.{ap, refl, ◌∙◌}
+use Rattle.std.proofs.Common.{ap, arith, refl, sym, ◌∙◌, ◌≤◌}
+use Rattle.std.proofs.lemmas.Bool.Decides.{nat_tests}
+use Rattle.std.proofs.lemmas.List.Sums.{count_by-le-length, length-filter}
 use Rattle.std.specs.List.{cons_option, list_any, range_with_len}
 use Rattle.std.specs.Option.{option_to_list}
 use Rattle.std.specs.Ordering.{is_eq, nat_cmp}
-use Rattle.std.specs.Prelude.{Bool, List, None, Option, Some, [], cond, false, filter, filter_map, is_none, is_some, length, map, nat_le, nat_lt, not, option_and_then, option_map, true, unwrap_or, ℕ, ◌++◌, ◌+◌, ◌||◌, ◌∷◌, ◌≡◌}
+use Rattle.std.specs.Prelude.{Bool, Err, List, None, Option, Some, [], cond, count_by, false, filter, filter_map, if◌then◌else◌, is_none, is_some, length, map, nat_le, nat_lt, not, option_and_then, option_map, true, unwrap_or, ℕ, ◌++◌, ◌+◌, ◌||◌, ◌∷◌, ◌≡◌}
+
+-- fewer rows than the quota, fewer of any kind
+fewer : (q n k : ℕ) → nat_le q n ≡ false → k ≤ n → nat_le q k ≡ false
+fewer q n k e le = grind (arith, nat_tests)
+
+few_kept : {A : Type 0} (p q : A → Bool) (xs : List A) → count_by q (filter p xs) ≤ length xs
+few_kept p q xs =
+    let some = count_by-le-length q (filter p xs) in
+    let kept = length-filter p xs in
+    let all = count_by-le-length p xs in
+    omega (arith, some, kept, all)
 
 or_every : (a : Bool) → (a || true) ≡ true
 or_every true = refl
@@ -76,7 +89,7 @@ module _ (rows : UnitRows) (p : Name) (t : ℕ) where
   asked q = record { person = p; moment = t; request = q }
 
   abbrev of_part : Request → Facts
-  of_part q = facts_in (part_of (asked q) rows)
+  of_part q = facts_in (part_of_holder (asked q) rows)
 
   own_held : (q : Request) (r : Role) → (of_part q).held t (p, r) ≡ (facts_of rows).held t (p, r)
   own_held q r = ap (held_by_row t) (own_grant p (selected rows q) r rows.grants)
@@ -100,6 +113,9 @@ module _ (rows : UnitRows) (p : Name) (t : ℕ) where
 
   abbrev state_now : Option AlarmRow → Option ShelfRow → ShelfState
   state_now alarm shelf = shelf_state (shelf_left shelf) (option_and_then (λ r. r.return_s) alarm) t
+
+  abbrev longest : Option AlarmRow → ℕ
+  longest o = unwrap_or (option_map (λ r. r.max_s) o) 0
 
   abbrev removed : Option AlarmRow → Bool
   removed o = unwrap_or (option_map (λ r. is_some r.out_s) o) false
@@ -141,6 +157,24 @@ module _ (rows : UnitRows) (p : Name) (t : ℕ) where
 
     records_there : ((n : ℕ) → is_source rows every n ≡ true → s.change n ≡ true) → filter_map (record_read within) (filter (λ (r : RecordEntry). true) rows.records) ≡ filter_map (record_read rows) rows.records
     records_there chosen = ap (filter_map (record_read within)) (filter-true rows.records) ∙ records_read rows.records chosen
+
+  -- a shelving's own alarm and shelf, and how the others stand to the quota
+  own_alarm : (m : Bool) (a : Name) → row_at name_cmp alarm_tag a (filter (λ (r : AlarmRow). m || same_name a r.tag) rows.alarms) ≡ row_at name_cmp alarm_tag a rows.alarms
+  own_alarm m a = row_at-filter name_cmp alarm_tag a (λ r. m || same_name a r.tag) (λ r e. or_later m _ e) rows.alarms
+
+  own_shelf : (m : Bool) (a : Name) → row_at name_cmp shelf_tag a (filter (λ (r : ShelfRow). m || same_name a r.tag) rows.shelves) ≡ row_at name_cmp shelf_tag a rows.shelves
+  own_shelf m a = row_at-filter name_cmp shelf_tag a (λ r. m || same_name a r.tag) (λ r e. or_later m _ e) rows.shelves
+
+  -- with these alarms and shelves the quota is used up by others than the tag's
+  abbrev quota_used : List AlarmRow → List ShelfRow → Name → Bool
+  quota_used alarms shelves a = nat_le (unit_read rows).quota (others_shelved (facts_of (record rows { alarms = alarms; shelves = shelves })) a t)
+
+  quota_same : (m : Bool) (a : Name) → is_crowded rows ≡ m
+      → quota_used (filter (λ r. m || same_name a r.tag) rows.alarms) (filter (λ r. m || same_name a r.tag) rows.shelves) a ≡ quota_used rows.alarms rows.shelves a
+  quota_same true a is = λ i. quota_used (filter-true rows.alarms i) (filter-true rows.shelves i) a
+  quota_same false a is =
+      fewer (unit_read rows).quota (length rows.shelves) _ is (few_kept (λ (r : ShelfRow). same_name a r.tag) _ rows.shelves)
+      ∙ sym (fewer (unit_read rows).quota (length rows.shelves) _ is (count_by-le-length _ rows.shelves))
 
   -- the record of one alarm
   rationale_there : (a : Name) (s : Selection) → ((n : ℕ) → is_source rows (same_name a) n ≡ true → s.change n ≡ true) → option_and_then (record_read (within s)) (row_at name_cmp record_tag a (filter (λ (r : RecordEntry). same_name a r.tag) rows.records)) ≡ option_and_then (record_read rows) (record_found rows a)
@@ -217,8 +251,15 @@ module _ (rows : UnitRows) (p : Name) (t : ℕ) where
   own_same (Register u a l max) = ap (λ o. (nat_le 2000 (length rows.alarms), UnitFull TooManyAlarms) ∷ (is_some o, AlarmTaken) ∷ []) (alarm_there a)
   own_same (Import u file) = λ i. own_refusals (with_events (filter-true rows.alarms i) (filter-true rows.events i)) p t (Import u file)
   own_same (Floods u begin until) = refl
-  own_same (TimedShelve u a d w) = λ i. own_refusals (with_shelves (filter-true rows.alarms i) (filter-true rows.shelves i)) p t (TimedShelve u a d w)
-  own_same (OneShotShelve u a w) = λ i. own_refusals (with_shelves (filter-true rows.alarms i) (filter-true rows.shelves i)) p t (OneShotShelve u a w)
+  own_same (TimedShelve u a d w) = λ i.
+      (is_none (own_alarm (is_crowded rows) a i), AlarmUnknown)
+      ∷ (nat_lt (longest (own_alarm (is_crowded rows) a i)) d, ShelvingTimeOutOfRange (longest (own_alarm (is_crowded rows) a i)))
+      ∷ (is_timed (state_now (own_alarm (is_crowded rows) a i) (own_shelf (is_crowded rows) a i)), ConditionAlreadyShelved)
+      ∷ (quota_same (is_crowded rows) a refl i, ShelfQuota (unit_read rows).quota) ∷ []
+  own_same (OneShotShelve u a w) = λ i.
+      (is_none (own_alarm (is_crowded rows) a i), AlarmUnknown)
+      ∷ (is_one_shot (state_now (own_alarm (is_crowded rows) a i) (own_shelf (is_crowded rows) a i)), ConditionAlreadyShelved)
+      ∷ (quota_same (is_crowded rows) a refl i, ShelfQuota (unit_read rows).quota) ∷ []
   own_same (Unshelve u a) = λ i. (is_none (alarm_there a i), AlarmUnknown) ∷ (is_unshelved (state_now (alarm_there a i) (shelf_there a i)), ConditionNotShelved) ∷ []
   own_same (RemoveFromService u a w) = ap (λ o. (is_none o, AlarmUnknown) ∷ (removed o, AlreadyOutOfService) ∷ []) (alarm_there a)
   own_same (PlaceInService u a) = ap (λ o. (is_none o, AlarmUnknown) ∷ (not (removed o), NotOutOfService) ∷ []) (alarm_there a)
@@ -260,39 +301,66 @@ module _ (rows : UnitRows) (p : Name) (t : ℕ) where
   reply_same MyUnits = refl
   reply_same MyShelves = refl
 
-  -- the verdict from the part is the verdict from all rows
-  pub part_verdict : (q : Request) → verdict_of (of_part q) (asked q) ≡ verdict_of (facts_of rows) (asked q)
-  part_verdict q = λ i.
+  -- for one who holds a role the verdict from the part is the verdict from all rows
+  holder_verdict : (q : Request) → verdict_of (of_part q) (asked q) ≡ verdict_of (facts_of rows) (asked q)
+  holder_verdict q = λ i.
       refused_or (first_refusal ((not (own_roles q i), NotGranted) ∷ (own_lack q (role_needed q) i ++ (nat_lt t (unit_read rows).last_s, MomentBehind (unit_read rows).last_s) ∷ own_same q i))) (reply_same q i)
-
-  limit_same : (a : Name) → limit_of (with_shelves (filter (λ (r : AlarmRow). true) rows.alarms) (filter (λ (r : ShelfRow). true) rows.shelves)) a ≡ limit_of (facts_of rows) a
-  limit_same a = λ i. limit_of (with_shelves (filter-true rows.alarms i) (filter-true rows.shelves i)) a
 
   abbrev alarm_changed : (AlarmRow → AlarmRow) → Option AlarmRow → List Change
   alarm_changed g o = Put (UnitPut (record (unit_read rows) { last_s = t })) ∷ map (λ r. Put (AlarmPut (g r))) (option_to_list o)
 
   -- and so are the changes
-  pub part_changes : (q : Request) → changes_for (of_part q) (asked q) ≡ changes_for (facts_of rows) (asked q)
-  part_changes (OpenUnit u s m k) = refl
-  part_changes (Grant u q r) = refl
-  part_changes (Withdraw u q r) = refl
-  part_changes (Register u a l max) = refl
-  part_changes (Import u file) = λ i. changes_for (with_events (filter-true rows.alarms i) (filter-true rows.events i)) (asked (Import u file))
-  part_changes (Floods u begin until) = refl
-  part_changes (TimedShelve u a d w) = refl
-  part_changes (OneShotShelve u a w) = ap (λ max. Put (UnitPut (record (unit_read rows) { last_s = t })) ∷ Put (ShelfPut (shelf_row_as true t (t + max) p w a)) ∷ []) (limit_same a)
-  part_changes (Unshelve u a) = refl
-  part_changes (RemoveFromService u a w) = ap (alarm_changed (taken_out p t w)) (alarm_there a)
-  part_changes (PlaceInService u a) = ap (alarm_changed placed_in) (alarm_there a)
-  part_changes (Propose u x) = refl
-  part_changes (WithdrawChange u n) = ap (λ c. changes_for (with_change c) (asked (WithdrawChange u n))) (numbered_there n)
-  part_changes (Approve u n) = ap (λ f. changes_for f (asked (Approve u n))) (approval_same n)
-  part_changes (Reject u n) = ap (λ c. changes_for (with_change c) (asked (Reject u n))) (numbered_there n)
-  part_changes (Status u a) = refl
-  part_changes (RecordOf u a) = refl
-  part_changes (ChangeOf u n) = refl
-  part_changes (Shelves u) = refl
-  part_changes (Alarms u) = refl
-  part_changes (Standing u) = refl
-  part_changes MyUnits = refl
-  part_changes MyShelves = refl
+  holder_changes : (q : Request) → changes_for (of_part q) (asked q) ≡ changes_for (facts_of rows) (asked q)
+  holder_changes (OpenUnit u s m k) = refl
+  holder_changes (Grant u q r) = refl
+  holder_changes (Withdraw u q r) = refl
+  holder_changes (Register u a l max) = refl
+  holder_changes (Import u file) = λ i. changes_for (with_events (filter-true rows.alarms i) (filter-true rows.events i)) (asked (Import u file))
+  holder_changes (Floods u begin until) = refl
+  holder_changes (TimedShelve u a d w) = refl
+  holder_changes (OneShotShelve u a w) = ap (λ max. Put (UnitPut (record (unit_read rows) { last_s = t })) ∷ Put (ShelfPut (shelf_row_as true t (t + max) p w a)) ∷ []) (ap longest (own_alarm (is_crowded rows) a))
+  holder_changes (Unshelve u a) = refl
+  holder_changes (RemoveFromService u a w) = ap (alarm_changed (taken_out p t w)) (alarm_there a)
+  holder_changes (PlaceInService u a) = ap (alarm_changed placed_in) (alarm_there a)
+  holder_changes (Propose u x) = refl
+  holder_changes (WithdrawChange u n) = ap (λ c. changes_for (with_change c) (asked (WithdrawChange u n))) (numbered_there n)
+  holder_changes (Approve u n) = ap (λ f. changes_for f (asked (Approve u n))) (approval_same n)
+  holder_changes (Reject u n) = ap (λ c. changes_for (with_change c) (asked (Reject u n))) (numbered_there n)
+  holder_changes (Status u a) = refl
+  holder_changes (RecordOf u a) = refl
+  holder_changes (ChangeOf u n) = refl
+  holder_changes (Shelves u) = refl
+  holder_changes (Alarms u) = refl
+  holder_changes (Standing u) = refl
+  holder_changes MyUnits = refl
+  holder_changes MyShelves = refl
+
+  -- one who holds no role is refused, whatever else the rows are
+  stranger_refused : (f : Facts) (c : Call) → holds_some f c.moment c.person ≡ false → verdict_of f c ≡ Err NotGranted
+  stranger_refused f c none = ap (λ b. refused_or (first_refusal ((not b, NotGranted) ∷ refusals_of_holder f c)) (reply f c.moment c.request)) none
+
+  rows_hold : (some : UnitRows) (m n : ℕ) → holds_some (facts_from some m n) t p ≡ holds_by some.grants t p
+  unfolding holds_some
+  rows_hold some m n = refl
+
+  -- the caller's own grants tell whether the caller holds a role
+  pub own_holds : holds_by (filter (λ g. same_name p g.person) rows.grants) t p ≡ holds_by rows.grants t p
+  own_holds = λ i. own Viewer i || (own Operator i || (own Maintainer i || (own Engineer i || (own Approver i || (own Steward i || false))))) where
+    own : (r : Role) → held_by (filter (λ g. same_name p g.person) rows.grants) t (p, r) ≡ held_by rows.grants t (p, r)
+    own r = ap (held_by_row t) (row_at-filter pair_cmp pair_of (p, r) (λ g. same_name p g.person)
+        (λ g e. ap is_eq (then_Equal (name_cmp p g.person) (nat_cmp (role_no r) (role_no g.role_no)) (tied _ true e refl)).0) rows.grants)
+
+  pub part_verdict : (q : Request) → verdict_of (facts_in (part_of (asked q) rows)) (asked q) ≡ verdict_of (facts_of rows) (asked q)
+  part_verdict q = by (holds_by rows.grants t p) refl where
+    by : (b : Bool) → holds_by rows.grants t p ≡ b → verdict_of (facts_in (if b then part_of_holder (asked q) rows else part_of_stranger (asked q) rows)) (asked q) ≡ verdict_of (facts_of rows) (asked q)
+    by true some = holder_verdict q
+    by false none =
+        stranger_refused (facts_in (part_of_stranger (asked q) rows)) (asked q) (rows_hold (part_of_stranger (asked q) rows).rows 0 0 ∙ own_holds ∙ none)
+        ∙ sym (stranger_refused (facts_of rows) (asked q) (rows_hold rows (length rows.alarms) (last_number rows.changes) ∙ none))
+
+  -- the changes matter where the call is accepted, and so by one who holds a role
+  pub part_changes : (q : Request) → holds_by rows.grants t p ≡ true → changes_for (facts_in (part_of (asked q) rows)) (asked q) ≡ changes_for (facts_of rows) (asked q)
+  part_changes q some = ap (λ b. changes_for (facts_in (if b then part_of_holder (asked q) rows else part_of_stranger (asked q) rows)) (asked q)) some ∙ holder_changes q
+
+  pub stranger_verdict : (q : Request) → holds_by rows.grants t p ≡ false → verdict_of (facts_of rows) (asked q) ≡ Err NotGranted
+  stranger_verdict q none = stranger_refused (facts_of rows) (asked q) (rows_hold rows (length rows.alarms) (last_number rows.changes) ∙ none)

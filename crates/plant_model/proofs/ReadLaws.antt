@@ -3,14 +3,13 @@ use Rattle.plant_model.proofs.Base.{plain}
 use Rattle.plant_model.proofs.FactLaws.{AreReadable, draft_bound, facts_told, not_true}
 use Rattle.plant_model.proofs.HistoryLaws.{change_with, changes_told, numbers_of_changes, when_Some}
 use Rattle.plant_model.proofs.MatrixLaws.{number_bound}
-use Rattle.plant_model.proofs.ServiceLaws.{is_some-map}
 use Rattle.plant_model.specs.Changes.{Draft, change, draft, kind_of_change, matrix, matrix_in, no_matrix, proposals, said_of_draft, said_of_matrix}
 use Rattle.plant_model.specs.Facts.{facts}
 use Rattle.plant_model.specs.Histories.{latest}
 use Rattle.plant_model.specs.Legality.{IsLegal, has_matrix, is_matrix_kind, may_follow}
 use Rattle.plant_model.specs.Matrices.{numbered_matrix, when_number}
-use Rattle.plant_model.specs.RowFacts.{facts_from, facts_of}
-use Rattle.plant_model.specs.Rows.{alarm_rows, change_entry, change_rows, changes_of}
+use Rattle.plant_model.specs.RowFacts.{change_number, facts_from, facts_of, last_number}
+use Rattle.plant_model.specs.Rows.{alarm_rows, change_entry, change_rows}
 use Rattle.plant_model.specs.Verdicts.{is_opening}
 use Rattle.plant_model.specs.declared.call.Request.{Request}
 use Rattle.plant_model.specs.declared.call.Request.TheVariants.{Approve, OpenUnit, Propose}
@@ -21,8 +20,7 @@ use Rattle.plant_types.specs.Names.{Name}
 use Rattle.plant_types.specs.Options.{or_else, when}
 use Rattle.plant_types.specs.Tables.{put_row}
 use Rattle.std.specs.FinMap.Entries.{by_order}
-use Rattle.std.specs.Ordering.{is_eq}
-use Rattle.std.specs.Prelude.{is_some, max, not}
+use Rattle.std.specs.Prelude.{is_some, max, not, ◌-◌}
 use Rattle.plant_import.proofs.Placed.{there}
 use Rattle.plant_model.proofs.Base.{at, x}
 use Rattle.plant_model.proofs.FactLaws.{is_same_number, same_number_of}
@@ -44,7 +42,7 @@ use Rattle.plant_types.proofs.TableLaws.{IsInOrder-rows, IsInOrder-told, Tells, 
 use Rattle.plant_types.specs.Tables.{IsInOrder, in_order, row_at}
 use Rattle.std.proofs.Common.{eqb→eq, T, ap, append_assoc, arith, cond, inl, inr, length-append, refl, subst, sym, ◌∙◌, ◌⊎◌}
 use Rattle.std.proofs.lemmas.Bool.Decides.{nat_tests}
-use Rattle.std.specs.Cmp.{IsTotalOrder}
+use Rattle.std.specs.Cmp.{IsTotalOrder, nat_cmp_is}
 use Rattle.std.specs.FinMap.{get}
 use Rattle.std.specs.FinMap.Entries.{below_all}
 use Rattle.std.specs.List.{cons_option, enumerate_from, list_all, list_any, range_with_len, slice_get}
@@ -468,15 +466,6 @@ numbers_told h =
 abbrev numbers_kept : List Call → List ℕ
 numbers_kept h = filter_map (numbered_draft h) (in_order nat_cmp (numbers_of_changes h))
 
-length-put-new : (n : ℕ) (rows : List ℕ) → row_at nat_cmp (λ k. k) n rows ≡ None → length (put_row nat_cmp (λ k. k) n rows) ≡ suc (length rows)
-length-put-new n [] none = refl
-length-put-new n (e ∷ es) none =
-    elim (nat_cmp n e) as (λ v. cond (is_eq v) (Some e) (row_at nat_cmp (λ k. k) n es) ≡ None → length (by_order v (n ∷ e ∷ es) (n ∷ es) (e ∷ put_row nat_cmp (λ k. k) n es)) ≡ suc (length (e ∷ es))) [
-      | Less ↦ λ _. refl
-      | Equal ↦ λ no. cc
-      | Greater ↦ λ rest. ap suc (length-put-new n es rest)
-    ] none
-
 next_free : (h : List Call) → draft h (proposals h + 1) ≡ None
 next_free h =
     elim (draft h (proposals h + 1)) as (λ o. draft h (proposals h + 1) ≡ o → o ≡ None) [
@@ -491,38 +480,68 @@ number_anew n k d rest =
       | false ↦ λ e. refl
     ] refl
 
-counted_step : (h : List Call) (p : Name) (t : ℕ) (q : Request) → length (numbers_kept h) ≡ proposals h → length (numbers_kept (record { person = p; moment = t; request = q } ∷ h)) ≡ proposals (record { person = p; moment = t; request = q } ∷ h)
-counted_step h p t (Propose u x) before =
+-- the next number comes behind those before
+next_put : (s k : ℕ) → put_row nat_cmp (λ n. n) (s + k) (range_with_len s k) ≡ range_with_len s (suc k)
+next_put s zero = ap (λ n. n ∷ []) (let e : s + 0 ≡ s = omega arith in e)
+next_put s (suc k) =
+    let above : s < s + suc k = omega arith in
+    let moved : s + suc k ≡ (s + 1) + k = omega arith in
+    let next : ℕ = s + suc k in
+    let rest : List ℕ = range_with_len (s + 1) k in
+    ap (λ v. by_order v (next ∷ s ∷ rest) (next ∷ rest) (s ∷ put_row nat_cmp (λ n. n) next rest)) (sym (nat_cmp_is next s Greater above))
+    ∙ ap (λ n. s ∷ put_row nat_cmp (λ n. n) n rest) moved
+    ∙ ap (λ ns. s ∷ ns) (next_put (s + 1) k)
+
+kept_step : (h : List Call) (p : Name) (t : ℕ) (q : Request) → numbers_kept h ≡ range_with_len 1 (proposals h) → numbers_kept (record { person = p; moment = t; request = q } ∷ h) ≡ range_with_len 1 (proposals (record { person = p; moment = t; request = q } ∷ h))
+kept_step h p t (Propose u x) before =
     let c : List Call = record { person = p; moment = t; request = Propose u x } ∷ h in
     let n : ℕ = proposals h + 1 in
     let put : put_row nat_cmp (λ k. k) n (numbers_kept h) ≡ numbers_kept c = put-rows (numbered_draft h) (numbered_draft c) (numbers_of_changes h) (numbers_of_changes c) n (numbers_told h) (numbers_told c) (λ k. number_anew n k (record { proposer = p; proposed = t; kind = x.kind; base = x.base }) (draft h k)) in
-    let free : row_at nat_cmp (λ k. k) n (numbers_kept h) ≡ None = row_at-rows (numbered_draft h) (numbers_of_changes h) (numbers_told h) n ∙ ap (option_map (λ d. n)) (next_free h) in
-    ap length (sym put) ∙ length-put-new n (numbers_kept h) free ∙ ap suc before ∙ (let e : suc (proposals h) ≡ proposals h + 1 = omega arith in e)
-counted_step h p t _ before = before
+    let one : n ≡ 1 + proposals h = omega arith in
+    let next : suc (proposals h) ≡ n = omega arith in
+    sym put ∙ ap (put_row nat_cmp (λ k. k) n) before ∙ ap (λ m. put_row nat_cmp (λ k. k) m (range_with_len 1 (proposals h))) one ∙ next_put 1 (proposals h) ∙ ap (range_with_len 1) next
+kept_step h p t _ before = before
 
-counted_all : (h : List Call) → length (numbers_kept h) ≡ proposals h
-counted_all [] = refl
-counted_all (c ∷ h) = counted_step h c.person c.moment c.request (counted_all h)
+-- the numbers of the changes are those from 1 to the number of proposals
+kept_all : (h : List Call) → numbers_kept h ≡ range_with_len 1 (proposals h)
+kept_all [] = refl
+kept_all (c ∷ h) = kept_step h c.person c.moment c.request (kept_all h)
+
+numbers_shown : (h : List Call) (ks : List ℕ) → map change_number (map change_entry (filter_map (change h) ks)) ≡ filter_map (numbered_draft h) ks
+numbers_shown h [] = refl
+numbers_shown h (k ∷ ks) = by (draft h k) (numbers_shown h ks) where
+  by : (o : Option Draft) → map change_number (map change_entry (filter_map (change h) ks)) ≡ filter_map (numbered_draft h) ks
+      → map change_number (map change_entry (cons_option (option_map (change_with h k) o) (filter_map (change h) ks))) ≡ cons_option (option_map (λ d. k) o) (filter_map (numbered_draft h) ks)
+  by None same = same
+  by (Some d) same = ap (λ ns. k ∷ ns) same
+
+last_mapped : {A B : Type 0} (f : A → B) (xs : List A) (i : ℕ) → option_map f (slice_get xs i) ≡ slice_get (map f xs) i
+last_mapped f [] i = refl
+last_mapped f (x ∷ xs) zero = refl
+last_mapped f (x ∷ xs) (suc i) = last_mapped f xs i
 
 length-map : {A B : Type 0} (f : A → B) (xs : List A) → length (map f xs) ≡ length xs
 length-map f [] = refl
 length-map f (x ∷ xs) = ap suc (length-map f xs)
 
-as_long : {X Y : Type 0} (o : Option X) (p : Option Y) (xs : List X) (ys : List Y) → is_some o ≡ is_some p → length xs ≡ length ys → length (cons_option o xs) ≡ length (cons_option p ys)
-as_long None None xs ys e same = same
-as_long (Some x) (Some y) xs ys e same = ap suc same
-as_long None (Some y) xs ys e same = cc
-as_long (Some x) None xs ys e same = cc
+length-numbers : (s n : ℕ) → length (range_with_len s n) ≡ n
+length-numbers s zero = refl
+length-numbers s (suc n) = ap suc (length-numbers (s + 1) n)
 
-length-as : {X Y : Type 0} (f : ℕ → Option X) (g : ℕ → Option Y) → ((k : ℕ) → is_some (f k) ≡ is_some (g k)) → (ks : List ℕ) → length (filter_map f ks) ≡ length (filter_map g ks)
-length-as f g same [] = refl
-length-as f g same (k ∷ ks) = as_long (f k) (g k) (filter_map f ks) (filter_map g ks) (same k) (length-as f g same ks)
+last_in_range : (s k : ℕ) → slice_get (range_with_len s (suc k)) k ≡ Some (s + k)
+last_in_range s zero = ap (λ n. Some n) (let e : s ≡ s + 0 = omega arith in e)
+last_in_range s (suc k) = last_in_range (s + 1) k ∙ ap (λ n. Some n) (let e : (s + 1) + k ≡ s + suc k = omega arith in e)
 
-pub change_count : (h : List Call) → length (change_rows h) ≡ proposals h
+last_of_numbers : (n : ℕ) → unwrap_or (slice_get (range_with_len 1 n) (n - 1)) 0 ≡ n
+last_of_numbers zero = refl
+last_of_numbers (suc k) = ap (λ o. unwrap_or o 0) (ap (slice_get (range_with_len 1 (suc k))) (let e : suc k - 1 ≡ k = omega arith in e) ∙ last_in_range 1 k) ∙ (let e : 1 + k ≡ suc k = omega arith in e)
+
+pub change_count : (h : List Call) → last_number (change_rows h) ≡ proposals h
 change_count h =
-    length-map change_entry (changes_of h)
-    ∙ length-as (change h) (numbered_draft h) (λ k. is_some-map (change_with h k) (draft h k) ∙ sym (is_some-map (λ d. k) (draft h k))) (in_order nat_cmp (numbers_of_changes h))
-    ∙ counted_all h
+    let numbers : map change_number (change_rows h) ≡ range_with_len 1 (proposals h) = numbers_shown h (in_order nat_cmp (numbers_of_changes h)) ∙ kept_all h in
+    let many : length (change_rows h) ≡ proposals h = sym (length-map change_number (change_rows h)) ∙ ap length numbers ∙ length-numbers 1 (proposals h) in
+    ap (λ o. unwrap_or o 0) (last_mapped change_number (change_rows h) (length (change_rows h) - 1) ∙ (λ i. slice_get (numbers i) (many i - 1)))
+    ∙ last_of_numbers (proposals h)
 
 -- the rows of a legal history tell its facts
 pub facts-rows : (h : List Call) → IsLegal h → facts_of (rows_of h) ≡ facts h

@@ -1,5 +1,5 @@
 -- The shelf that a verdict sees is the one that the alarm's events leave.
-use Rattle.std.proofs.Common.{List, None, Option, Some, [], ap, arith, refl, sym, ℕ, ◌<◌, ◌∙◌, ◌≡◌, ◌≤◌, Bool}
+use Rattle.std.proofs.Common.{List, None, Option, Some, ap, arith, refl, sym, ◌∙◌, ◌≡◌, Bool}
 use Rattle.std.proofs.Common.{get_or, inl, inr, suc}
 use Rattle.std.proofs.lemmas.Bool.Decides.{leb_tells}
 use Rattle.std.proofs.lemmas.List.Kept.{IsNonDecreasingBy-filter}

@@ -1,5 +1,5 @@
 -- Whose a history is: its unit's, opened by the administrator, with values of their sets.
-use Rattle.std.specs.Prelude.{Bool, IsTrue, List, Some, [], is_none, nat_le, not, true, ℕ, ◌&&◌, ◌∷◌, ◌||◌, ◌≡◌}
+use Rattle.std.specs.Prelude.{Bool, List, Some, [], is_none, nat_le, not, true, ◌&&◌, ◌∷◌, ◌||◌, ◌≡◌}
 use Rattle.std.specs.FinMap.{get}
 use Rattle.plant_ration.specs.Matrix.{is_matrix}
 use Rattle.plant_model.specs.Verdicts.{is_opening}

@@ -1,6 +1,7 @@
 -- The part of a unit's rows that a call looks at: the unit's row, the caller's grants, and what its request selects.
 use Rattle.plant_model.specs.Histories.{same_number}
-use Rattle.plant_model.specs.RowFacts.{unit_read}
+use Rattle.plant_model.specs.RowChanges.{no_rows}
+use Rattle.plant_model.specs.RowFacts.{holds_by, last_number, unit_read}
 use Rattle.plant_model.specs.declared.call.Request.TheVariants.{Approve, ChangeOf, Propose, RecordOf, Reject, WithdrawChange}
 use Rattle.plant_ration.specs.declared.change.ChangeKind.{ChangeKind}
 use Rattle.plant_ration.specs.declared.change.ChangeKind.TheVariants.{Limit, Matrix, Rationale}
@@ -14,7 +15,7 @@ use Rattle.plant_model.specs.declared.rows.UnitPart.{UnitPart}
 use Rattle.plant_model.specs.declared.rows.UnitRows.{UnitRows}
 use Rattle.plant_types.specs.Names.{Name, same_name}
 use Rattle.plant_types.specs.Roles.{Pair}
-use Rattle.std.specs.Prelude.{Bool, false, filter, length, true, ℕ, ◌||◌}
+use Rattle.std.specs.Prelude.{Bool, false, filter, if◌then◌else◌, length, nat_le, true, ℕ, ◌||◌}
 
 pub record Selection : Type 0 where
   pub pair : Pair → Bool
@@ -65,6 +66,14 @@ of_proposal rows (Limit a max) = of_content rows a
 abbrev pub all_shelves : Selection
 all_shelves = record nothing { alarm = every; shelf = every }
 
+-- so many shelves are kept that the quota may be used up
+abbrev pub is_crowded : UnitRows → Bool
+is_crowded rows = nat_le (unit_read rows).quota (length rows.shelves)
+
+-- for a shelving the alarm and the shelf of its tag, and those of all others where the quota may be used up
+abbrev pub of_shelving : UnitRows → Name → Selection
+of_shelving rows a = record nothing { alarm = λ b. is_crowded rows || same_name a b; shelf = λ b. is_crowded rows || same_name a b }
+
 abbrev pub all_alarms : Selection
 all_alarms = record nothing { alarm = every; shelf = every; rationale = every }
 
@@ -73,8 +82,8 @@ selected rows (Grant u p t) = record nothing { pair = every }
 selected rows (Withdraw u p r) = record nothing { pair = every }
 selected rows (Register u a l m) = of_tag a
 selected rows (Import u file) = record nothing { alarm = every; event = true }
-selected rows (TimedShelve u a d w) = all_shelves
-selected rows (OneShotShelve u a w) = all_shelves
+selected rows (TimedShelve u a d w) = of_shelving rows a
+selected rows (OneShotShelve u a w) = of_shelving rows a
 selected rows (Unshelve u a) = of_tag a
 selected rows (RemoveFromService u a w) = of_tag a
 selected rows (PlaceInService u a) = of_tag a
@@ -91,10 +100,10 @@ selected rows (Standing u) = all_alarms
 selected rows (Floods u begin until) = record nothing { event = true }
 selected rows _ = nothing
 
--- how many alarms or changes there are, for the calls that need the number
+-- how many alarms there are, or the number of the last change, for the calls that need it
 abbrev pub counted_for : UnitRows → Request → ℕ
 counted_for rows (Register u a l m) = length rows.alarms
-counted_for rows (Propose u x) = length rows.changes
+counted_for rows (Propose u x) = last_number rows.changes
 counted_for rows _ = 0
 
 abbrev pub rows_selected : Name → Selection → UnitRows → UnitRows
@@ -111,5 +120,16 @@ rows_selected p s rows =
       changes = filter (λ r. s.change r.number) rows.changes;
     }
 
+abbrev pub part_of_holder : Call → UnitRows → UnitPart
+part_of_holder c rows = record { rows = rows_selected c.person (selected rows c.request) rows; count = counted_for rows c.request }
+
+-- of one who holds no role: the unit's row and the caller's grants, which have ended
+abbrev pub part_of_stranger : Call → UnitRows → UnitPart
+part_of_stranger c rows =
+    record {
+      rows = record no_rows { units = rows.units; grants = filter (λ g. same_name c.person g.person) rows.grants };
+      count = 0;
+    }
+
 abbrev pub part_of : Call → UnitRows → UnitPart
-part_of c rows = record { rows = rows_selected c.person (selected rows c.request) rows; count = counted_for rows c.request }
+part_of c rows = if holds_by rows.grants c.moment c.person then part_of_holder c rows else part_of_stranger c rows

@@ -27,10 +27,10 @@ use Rattle.plant_model.specs.declared.rows.UnitPart.{UnitPart}
 use Rattle.plant_model.specs.declared.rows.UnitRow.{UnitRow}
 use Rattle.plant_model.specs.declared.rows.UnitRows.{UnitRows}
 use Rattle.plant_types.specs.Names.{Name, name_cmp}
-use Rattle.plant_types.specs.Roles.{Pair, pair_cmp, same_pair}
+use Rattle.plant_types.specs.Roles.{Pair, all_roles, pair_cmp, same_pair}
 use Rattle.plant_types.specs.Tables.{row_at}
 use Rattle.std.specs.List.{list_any, slice_get}
-use Rattle.std.specs.Prelude.{count_by, false, length, option_map, unwrap_or, ℕ}
+use Rattle.std.specs.Prelude.{count_by, false, length, option_map, unwrap_or, ℕ, ◌-◌}
 
 -- the keys of rows
 abbrev pub pair_of : GrantRow → Pair
@@ -100,13 +100,24 @@ no_unit = record { last_s = 0; matrix_no = 0; matrix_rev = 0; quota = 0 }
 abbrev pub unit_read : UnitRows → UnitRow
 unit_read rows = unwrap_or (slice_get rows.units 0) no_unit
 
+-- the number of the last change, 0 where there is none: changes are numbered from 1, so it is how many there are
+abbrev pub last_number : List ChangeEntry → ℕ
+last_number changes = unwrap_or (option_map change_number (slice_get changes (length changes - 1))) 0
+
+-- the pair is held at the moment by these grants, and the person holds some role by them
+abbrev pub held_by : List GrantRow → ℕ → Pair → Bool
+held_by grants t k = unwrap_or (option_map (λ g. is_before t g.end_s) (row_at pair_cmp pair_of k grants)) false
+
+abbrev pub holds_by : List GrantRow → ℕ → Name → Bool
+holds_by grants t p = list_any (λ r. held_by grants t (p, r)) all_roles
+
 -- the facts, with the numbers of alarms and of changes beside the rows
 abbrev pub facts_from : UnitRows → ℕ → ℕ → Facts
 facts_from rows alarm_count change_count =
     record {
       unit = unit_read rows;
       stands = λ k. list_any (λ g. same_pair k (pair_of g)) rows.grants;
-      held = λ t k. unwrap_or (option_map (λ g. is_before t g.end_s) (row_at pair_cmp pair_of k rows.grants)) false;
+      held = held_by rows.grants;
       pairs = length rows.grants;
       stewards = count_by is_steward_row rows.grants;
       alarm_count = alarm_count;
@@ -126,7 +137,7 @@ facts_from rows alarm_count change_count =
 
 -- from all rows of a unit, and from the part that a call looks at
 abbrev pub facts_of : UnitRows → Facts
-facts_of rows = facts_from rows (length rows.alarms) (length rows.changes)
+facts_of rows = facts_from rows (length rows.alarms) (last_number rows.changes)
 
 abbrev pub facts_in : UnitPart → Facts
 facts_in part = facts_from part.rows part.count part.count

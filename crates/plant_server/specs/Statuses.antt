@@ -8,7 +8,10 @@ use Rattle.plant_wire.specs.declared.reads.End.TheVariants.{BrokenInput, Closed,
 use Rattle.plant_wire.specs.declared.streams.Failed.{Failed}
 use Rattle.plant_line.specs.declared.words.Service.{Service}
 use Rattle.plant_line.specs.declared.words.LineError.{LineError}
-use Rattle.plant_line.specs.declared.words.LineError.TheVariants.{Memory, NotAPerson, Text}
+use Rattle.plant_line.specs.declared.words.LineError.TheVariants.{Memory, NoDb, NotAPerson, Text}
+use Rattle.plant_line.specs.declared.words.Task.{Task}
+use Rattle.plant_line.specs.declared.words.Task.TheVariants.{Migrate, Serve}
+use Rattle.plant_store.specs.declared.tables.StoreFault.{StoreFault}
 
 -- how a session ended, as a status: 0 where all was answered
 abbrev pub status_of : End → ℕ
@@ -26,12 +29,18 @@ unready = 3
 abbrev pub unfollowed : LineError → ℕ
 unfollowed (Text text is_error) = if is_error then 2 else 0
 unfollowed NotAPerson = 2
+unfollowed NoDb = 2
 unfollowed Memory = 7
 
 -- all connections were served, or listening or accepting failed
 abbrev pub served : Result (Unit {0}) Failed → ℕ
 served (Ok u) = 0
 served (Err e) = 8
+
+-- an older file was migrated, or not
+abbrev pub status_of_migration : Result (Unit {0}) StoreFault → ℕ
+status_of_migration (Ok u) = 0
+status_of_migration (Err e) = unready
 
 -- One session over an inlet and an outlet, and its end. r and o are what was left to read and what was written
 -- before, r' and o' after.
@@ -51,10 +60,16 @@ abbrev pub IsServed : Option Service → Option (List ℕ) → Option (List ℕ)
 IsServed None r r' o o' n = IsStreamed r r' o o' Whatever n
 IsServed (Some service) r r' o o' n = IsOfPort n
 
--- what a line's words ask for was done, or no books were opened for it
-abbrev pub IsFollowed : Option Service → Option (List ℕ) → Option (List ℕ) → Option (List ℕ) → Option (List ℕ) → ℕ → Type 0
-IsFollowed service r r' o o' n = (n ≡ unready) ⊎ IsServed service r r' o o' n
+-- an older file was to be migrated
+abbrev pub IsOfMigration : ℕ → Type 0
+IsOfMigration n = (outcome : Result (Unit {0}) StoreFault) × (n ≡ status_of_migration outcome)
 
--- a status of the program: that of a session or of a port, that no books were opened, or that the words can't be followed
+-- what a line's words ask for was done, or no books were opened for it; a migration reads no request
+abbrev pub IsFollowed : Task → Option (List ℕ) → Option (List ℕ) → Option (List ℕ) → Option (List ℕ) → ℕ → Type 0
+IsFollowed (Serve db service) r r' o o' n = (n ≡ unready) ⊎ IsServed service r r' o o' n
+IsFollowed (Migrate old new) r r' o o' n = (r' ≡ r) × IsOfMigration n
+
+-- a status of the program: that of a session, of a port or of a migration, that no books were opened, or that the words
+-- can't be followed
 abbrev pub IsStatus : ℕ → Type 0
-IsStatus n = ((end : End) × (n ≡ status_of end)) ⊎ (IsOfPort n ⊎ ((n ≡ unready) ⊎ ((error : LineError) × (n ≡ unfollowed error))))
+IsStatus n = ((end : End) × (n ≡ status_of end)) ⊎ (IsOfPort n ⊎ (IsOfMigration n ⊎ ((n ≡ unready) ⊎ ((error : LineError) × (n ≡ unfollowed error)))))

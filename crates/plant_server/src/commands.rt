@@ -1,15 +1,17 @@
-ghost use Rattle.std.specs.Prelude.{◌≡◌, IfErr, IfOk};
+ghost use Rattle.std.specs.Prelude.{◌≡◌, ◌⊎◌, IfErr, IfOk};
 ghost use Rattle.plant_server.specs.Statuses as statuses;
-ghost use Rattle.plant_server.specs.Statuses.{IsFollowed, IsOfPort, IsServed, IsStreamed, Whatever};
+ghost use Rattle.plant_server.specs.Statuses.{IsFollowed, IsOfMigration, IsOfPort, IsServed, IsStreamed, Whatever};
 ghost use Rattle.plant_wire.specs.Ran.{Ran};
 
 use crate::books::in_memory;
 use crate::files::{close_file, in_file};
+use crate::migrations::migrate_file;
 use crate::sockets::Port;
 use plant_connections::{end_name, say, serve_connections};
-use plant_line::{Line, LineError, Service, line_of};
+use plant_line::{Line, LineError, Service, Task, line_of};
 use plant_office::{Books, Office};
 use plant_store::{StoreFault, Tables};
+use plant_types::Person;
 use plant_wire::{End, Failed, FromRead, Inlet, Outlet, ToWrite, session};
 use sqlite::{Alter, Unknown};
 use std::alloc::Global;
@@ -165,16 +167,18 @@ fn serve_opened<S: Alter + Drop, I: Inlet, O: Outlet + Write, E: Write>(
     }
 }
 
-fn run<I: Inlet, O: Outlet + Write, E: Write>(
+/// Serves the books of a file, or new books in memory, and gives the status.
+fn serve<I: Inlet, O: Outlet + Write, E: Write>(
     rt: &HostRuntime,
-    line: Line,
+    admin: Person,
+    db: Option<String>,
+    service: Option<Service>,
     inlet: &mut I,
     outlet: &mut O,
     errors: &mut E,
 ) -> u8
-    ensures { IsFollowed line.service (I.remaining inlet.old) (I.remaining inlet.new) (O.written outlet.old) (O.written outlet.new) result }
+    ensures { (result ≡ statuses.unready) ⊎ IsServed service (I.remaining inlet.old) (I.remaining inlet.new) (O.written outlet.old) (O.written outlet.new) result }
 {
-    let Line { admin, db, service } = line;
     match db {
         None => {
             let opened = in_memory(rt.alloc(), admin);
@@ -188,6 +192,56 @@ fn run<I: Inlet, O: Outlet + Write, E: Write>(
                 close_file(books);
             }
             status
+        }
+    }
+}
+
+/// Says whether the older file was migrated, and gives the status.
+fn status_of_migration(
+    output: &mut impl Write,
+    errors: &mut impl Write,
+    outcome: Result<(), StoreFault>,
+) -> u8
+    ensures { result ≡ statuses.status_of_migration outcome }
+{
+    match outcome {
+        Ok(()) => {
+            say(output, b"migrated\n");
+            0
+        }
+        Err(fault) => unready(errors, &fault),
+    }
+}
+
+/// Migrates an older file to a new one, and gives the status.
+fn migrate_and_say(
+    rt: &HostRuntime,
+    admin: Person,
+    old: &str,
+    new: &str,
+    output: &mut impl Write,
+    errors: &mut impl Write,
+) -> u8
+    ensures { IsOfMigration result }
+{
+    let outcome = migrate_file(rt, old, new, admin);
+    status_of_migration(output, errors, outcome)
+}
+
+fn run<I: Inlet, O: Outlet + Write, E: Write>(
+    rt: &HostRuntime,
+    line: Line,
+    inlet: &mut I,
+    outlet: &mut O,
+    errors: &mut E,
+) -> u8
+    ensures { IsFollowed line.task (I.remaining inlet.old) (I.remaining inlet.new) (O.written outlet.old) (O.written outlet.new) result }
+{
+    let Line { admin, task } = line;
+    match task {
+        Task::Serve { db, service } => serve(rt, admin, db, service, inlet, outlet, errors),
+        Task::Migrate { old, new } => {
+            migrate_and_say(rt, admin, old.as_str(), new.as_str(), outlet, errors)
         }
     }
 }
@@ -210,15 +264,19 @@ fn unfollowed(output: &mut impl Write, errors: &mut impl Write, error: &LineErro
             say(errors, b"admin: not a person name\n");
             2
         }
+        LineError::NoDb => {
+            say(errors, b"migrate: no db\n");
+            2
+        }
         LineError::Memory => 7,
     }
 }
 
 /// Does what the words ask for, the program's own name first, and answers the exit status: 0 where the input ended
-/// and every request was answered, where all connections of the port were served, or for help; 2 where the command
-/// line is wrong; 3 where the file keeps no books of this administrator or can't be opened; 4, 5, 6 or 7 where the
-/// session over the streams ended by broken input, a failed read, a failed write, or for lack of memory; 8 where
-/// listening on the port or accepting a connection failed.
+/// and every request was answered, where all connections of the port were served, where the older file was migrated,
+/// or for help; 2 where the command line is wrong; 3 where the file keeps no books of this administrator or can't be
+/// opened, or can't be migrated; 4, 5, 6 or 7 where the session over the streams ended by broken input, a failed read,
+/// a failed write, or for lack of memory; 8 where listening on the port or accepting a connection failed.
 pub fn command<S: AsStr, I: Read + Drop, O: Write + Drop, E: Write + Drop>(
     rt: &HostRuntime,
     words: &[S],

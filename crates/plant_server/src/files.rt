@@ -1,12 +1,13 @@
 //! Books that a file keeps.
 
-ghost use Rattle.std.specs.Prelude.{◌≡◌, false, IsTrue, IfErr, IfOk};
+ghost use Rattle.std.specs.Prelude.{◌≡◌, false, true, IsTrue, IfErr, IfOk};
 ghost use Rattle.sqlite.specs.Effect.{Database};
-ghost use Rattle.sqlite.specs.Files.{file_state, IsOpened};
+ghost use Rattle.sqlite.specs.Files.{file_state, IsBlankAs, IsOpened};
 ghost use Rattle.sqlite.specs.Opening.{is_open_error};
 ghost use Rattle.sqlite.specs.Start.{FindsIn};
 ghost use Rattle.sqlite.specs.State.{HasCleanDisk};
 ghost use Rattle.sqlite.specs.declared.error.Error.{Error as EngineError};
+ghost use Rattle.sqlite_store.specs.FileStore.{view};
 ghost use Rattle.sqlite_wal.specs.Files.{image_at};
 ghost use Rattle.plant_books.specs.Contents.{Content};
 ghost use Rattle.plant_server.specs.Files as files;
@@ -21,11 +22,11 @@ use sqlite::{Connection, Error, ErrorCode, FileFrom, FileStore, Start, Unknown};
 use std::fs;
 use std::io::ErrorKind;
 
-const STORE: StoreFault = StoreFault::Fault(Fault::Store);
+pub const STORE: StoreFault = StoreFault::Fault(Fault::Store);
 
 const MEMORY: StoreFault = StoreFault::Fault(Fault::Memory);
 
-fn fault_of(error: &Error) -> StoreFault
+pub fn fault_of(error: &Error) -> StoreFault
     ensures { result ≡ files.fault_of error.now }
 {
     match error {
@@ -35,8 +36,9 @@ fn fault_of(error: &Error) -> StoreFault
     }
 }
 
-/// The database at this path, which is made where it is not there.
-fn connect<S: Start>(
+/// The database at this path. If there is none, a new one is made, with a checksum in each page in the form of SQLite's
+/// extension cksumvfs. A database that is there keeps its form.
+pub fn connect<S: Start>(
     rt: &HostRuntime,
     path: &str,
     start: S,
@@ -44,9 +46,10 @@ fn connect<S: Start>(
     ensures mode { IfOk result (λ conn. conn.in_transaction ≡ false) }
     ensures opened { IfOk result (λ conn. HasCleanDisk (file_state conn) → IsOpened conn) }
     ensures found { IfOk result (λ conn. HasCleanDisk (file_state conn) → FindsIn (image_at S.Start) (file_state conn)) }
+    ensures sums { IfOk result (λ conn. HasCleanDisk (file_state conn) → IsBlankAs true (image_at S.Start) → (view conn.store).has_sums ≡ true) }
     ensures refused { IfErr result (λ e. (error : EngineError) × IsTrue (is_open_error error) × (e ≡ files.fault_of error)) }
 {
-    match Connection::open_from(rt, path, false, start) {
+    match Connection::open_from(rt, path, true, start) {
         Ok(conn) => Ok(conn),
         Err((error, _)) => Err(fault_of(&error)),
     }
@@ -73,7 +76,7 @@ fn open_file<S: Start>(
 }
 
 /// How many bytes there are of this name, where there is something, be it a link to nothing.
-fn length_of(rt: &HostRuntime, path: &str) -> Result<Option<u64>, StoreFault> {
+pub fn length_of(rt: &HostRuntime, path: &str) -> Result<Option<u64>, StoreFault> {
     match fs::symlink_metadata(rt, path) {
         Ok(found) => Ok(Some(found.len())),
         Err(error) if error.kind() == ErrorKind::NotFound => Ok(None),
@@ -83,7 +86,7 @@ fn length_of(rt: &HostRuntime, path: &str) -> Result<Option<u64>, StoreFault> {
 
 /// Whether there is a file of this name. One that is there and empty, or of which only the log is there, keeps no books:
 /// it is told so before the engine would write to it.
-fn is_there(rt: &HostRuntime, path: &str) -> Result<bool, StoreFault> {
+pub fn is_there(rt: &HostRuntime, path: &str) -> Result<bool, StoreFault> {
     let log = beside(rt, path, "-wal")?;
     match (length_of(rt, path)?, length_of(rt, &log)?) {
         (None, None) => Ok(false),
@@ -93,12 +96,12 @@ fn is_there(rt: &HostRuntime, path: &str) -> Result<bool, StoreFault> {
 }
 
 /// The name of a file beside this one.
-fn beside(rt: &HostRuntime, path: &str, ending: &str) -> Result<String, StoreFault> {
+pub fn beside(rt: &HostRuntime, path: &str, ending: &str) -> Result<String, StoreFault> {
     format!(in rt.alloc(); "{path}{ending}").map_err(|_| MEMORY)
 }
 
 /// Removes a file, if it is there.
-fn remove(rt: &HostRuntime, path: &str) -> Result<(), StoreFault> {
+pub fn remove(rt: &HostRuntime, path: &str) -> Result<(), StoreFault> {
     match fs::remove_file(rt, path) {
         Ok(()) => Ok(()),
         Err(error) if error.kind() == ErrorKind::NotFound => Ok(()),
@@ -115,19 +118,38 @@ fn make_whole(rt: &HostRuntime, path: &str, admin: Person) -> Result<(), StoreFa
     }
 }
 
-/// Makes new books in a file of this name: whole under a name beside it, then renamed. What a start that was cut off
-/// left under that name goes first.
-fn make_file(rt: &HostRuntime, path: &str, admin: Person) -> Result<(), StoreFault> {
-    let new = beside(rt, path, ".new")?;
-    let log = beside(rt, path, ".new-wal")?;
-    remove(rt, &new)?;
-    remove(rt, &log)?;
-    make_whole(rt, &new, admin)?;
-    remove(rt, &log)?;
+/// The name under which a new file is made, and that of its log.
+#[derive(Drop)]
+pub struct NewNames {
+    pub file: String,
+    pub log: String,
+}
+
+/// The names for a new file at this path.
+pub fn new_names(rt: &HostRuntime, path: &str) -> Result<NewNames, StoreFault> {
+    Ok(NewNames {
+        file: beside(rt, path, ".new")?,
+        log: beside(rt, path, ".new-wal")?,
+    })
+}
+
+/// Gives a new file, which is whole and closed, the name that it is for. A file of that name is not replaced.
+pub fn put_in_place(rt: &HostRuntime, new: &NewNames, path: &str) -> Result<(), StoreFault> {
+    remove(rt, &new.log)?;
     if length_of(rt, path)?.is_some() {
         return Err(STORE);
     }
-    fs::rename(rt, &new, path).map_err(|_| STORE)
+    fs::rename(rt, &new.file, path).map_err(|_| STORE)
+}
+
+/// Makes new books in a file of this name: whole under a name beside it, then renamed. What a start that was cut off
+/// left under that name goes first.
+fn make_file(rt: &HostRuntime, path: &str, admin: Person) -> Result<(), StoreFault> {
+    let new = new_names(rt, path)?;
+    remove(rt, &new.file)?;
+    remove(rt, &new.log)?;
+    make_whole(rt, &new.file, admin)?;
+    put_in_place(rt, &new, path)
 }
 
 /// The books of the file at this path, which is made where neither it nor its log is there. A start that is cut off

@@ -1,9 +1,11 @@
-//! The program's command: sessions over its streams or over the connections of a port, and its exit status.
+//! The program's command: sessions over its streams or over the connections of a port, or the migration of an older
+//! file, and its exit status.
 #![tactic(auto)]
 
 mod books;
 mod commands;
 mod files;
+mod migrations;
 mod sockets;
 
 pub use commands::command;

@@ -1,12 +1,12 @@
 -- What each text means under the schema, found by running the resolver's meaning.
-use Rattle.std.proofs.Common.{◌≡◌, Ok, refl, List, ℕ, [], ◌∷◌, false, codes, pos}
+use Rattle.std.proofs.Common.{◌≡◌, Ok, refl, List, ℕ, [], ◌∷◌, false, codes, pos, true}
 use Rattle.std.specs.Fmt.{digits}
 use Rattle.sqlite.specs.Collation.TheVariants.{Binary}
 use Rattle.sqlite.specs.Change.{created, indexed}
 use Rattle.sqlite.specs.Command.TheVariants.{Insert, InsertOr, Delete, Select, CreateTable, CreateIndex}
 use Rattle.sqlite.specs.Compile.{table_defined_by, index_defined_by}
 use Rattle.sqlite.specs.Listing.{understood, reads_listing}
-use Rattle.sqlite.specs.Query.{inner, end}
+use Rattle.sqlite.specs.Query.{Query, inner, end}
 use Rattle.sqlite.specs.Source.TheVariants.{Values}
 use Rattle.sqlite.specs.Term.{Term, lit, col, op2}
 use Rattle.sqlite.proofs.Callers.{IsPlain, command_of, statement_of}
@@ -17,7 +17,7 @@ use Rattle.sqlite_tied.specs.Compute.{everything}
 use Rattle.sqlite_value.specs.declared.keys.Key.{Key}
 use Rattle.sqlite_value.specs.declared.value.Value.TheVariants.{Null, Int}
 use Rattle.sqlite_value.specs.Keys.{ascending}
-use Rattle.plant_store.specs.Texts.{office_text, units_text, grants_text, alarms_text, shelves_text, bands_text, cells_text, events_text, by_person_text, put_office_text, office_row_text, put_unit_text, put_grant_text, put_alarm_text, put_shelf_text, put_band_text, put_cell_text, put_event_text, remove_grant_text, remove_shelf_text, units_of_text, grants_of_text, alarms_of_text, shelves_of_text, bands_of_text, cells_of_text, events_of_text, own_grants_text, alarm_at_text, shelf_at_text, tags_of_text, mine_shelves_text, mine_text, records_text, changes_text, put_record_text, put_change_text, records_of_text, changes_of_text, record_at_text, bands_at_text, cells_at_text, change_at_text, numbers_of_text}
+use Rattle.plant_store.specs.Texts.{office_text, units_text, grants_text, alarms_text, shelves_text, bands_text, cells_text, events_text, by_person_text, put_office_text, office_row_text, put_unit_text, put_grant_text, put_alarm_text, put_shelf_text, put_band_text, put_cell_text, put_event_text, remove_grant_text, remove_shelf_text, units_of_text, grants_of_text, alarms_of_text, shelves_of_text, bands_of_text, cells_of_text, events_of_text, own_grants_text, alarm_at_text, shelf_at_text, tags_of_text, shelf_tags_text, mine_shelves_text, mine_text, records_text, changes_text, put_record_text, put_change_text, records_of_text, changes_of_text, record_at_text, bands_at_text, cells_at_text, change_at_text, last_change_text}
 use Rattle.plant_columns.specs.Tables.{office_table, unit_shape, grant_shape, alarm_shape, shelf_shape, band_shape, cell_shape, event_shape, by_person, no_schema, office_schema, units_schema, grants_schema, alarms_schema, shelves_schema, bands_schema, cells_schema, events_schema, books_schema, record_shape, change_shape, records_schema, changes_schema}
 use Rattle.plant_tables.specs.Kept.{plain_query}
 use Rattle.plant_tables.specs.Shape.{table_in}
@@ -545,13 +545,30 @@ pub tags_of_plain : IsPlain (understood books_schema tags_of_text)
 unfolding understood everything
 tags_of_plain = (refl, refl)
 
-pub numbers_of_is : (command_of (understood books_schema numbers_of_text) ≡ Select (record { lets = []; body = plain_query (inner 17 end) by_unit (col 1 2 ∷ []) order_2 }) (codes "number" ∷ [])) × (reads_listing books_schema numbers_of_text ≡ false)
+pub shelf_tags_is : (command_of (understood books_schema shelf_tags_text) ≡ Select (record { lets = []; body = plain_query (inner 7 end) by_unit (col 1 2 ∷ []) order_2 }) (codes "tag" ∷ [])) × (reads_listing books_schema shelf_tags_text ≡ false)
 unfolding understood everything
-numbers_of_is = (refl, refl)
+shelf_tags_is = (refl, refl)
 
-pub numbers_of_plain : IsPlain (understood books_schema numbers_of_text)
+pub shelf_tags_plain : IsPlain (understood books_schema shelf_tags_text)
 unfolding understood everything
-numbers_of_plain = (refl, refl)
+shelf_tags_plain = (refl, refl)
+
+abbrev pub falling : Key
+falling = record { collation = Binary; descending = true }
+
+abbrev pub falling_2 : List (Term × Key)
+falling_2 = (col 1 1, falling) ∷ (col 1 2, falling) ∷ []
+
+abbrev pub last_change_query : Query
+last_change_query = record (plain_query (inner 17 end) by_unit (col 1 2 ∷ []) falling_2) { limit = lit (Int (pos 1)) }
+
+pub last_change_is : (command_of (understood books_schema last_change_text) ≡ Select (record { lets = []; body = last_change_query }) (codes "number" ∷ [])) × (reads_listing books_schema last_change_text ≡ false)
+unfolding understood everything
+last_change_is = (refl, refl)
+
+pub last_change_plain : IsPlain (understood books_schema last_change_text)
+unfolding understood everything
+last_change_plain = (refl, refl)
 
 abbrev pub mine_tests : List Term
 mine_tests = op2 (Compare Eq Binary) (col 2 1) (col 1 1) ∷ op2 (Compare Eq Binary) (col 1 2) (col 0 0) ∷ []

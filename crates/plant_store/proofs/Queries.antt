@@ -13,6 +13,7 @@ use Rattle.sqlite_value.specs.Order.{Row, column, value_cmp}
 use Rattle.sqlite_value.proofs.OrderLemmas.{value_cmp-Text}
 use Rattle.plant_model.specs.Histories.{same_number}
 use Rattle.plant_model.specs.declared.rows.AlarmRow.{AlarmRow}
+use Rattle.plant_model.specs.declared.rows.ShelfRow.{ShelfRow}
 use Rattle.plant_model.specs.declared.rows.ChangeEntry.{ChangeEntry}
 use Rattle.plant_types.specs.Names.{Name, same_name}
 use Rattle.plant_tables.specs.Kept.{is_of}
@@ -23,8 +24,8 @@ use Rattle.plant_columns.specs.Codes.{number}
 use Rattle.plant_columns.specs.Shown.{columns}
 use Rattle.plant_columns.specs.Tables.{AreBooks, books_schema, rows_seen, unit_shape, grant_shape, alarm_shape, shelf_shape, band_shape, cell_shape, event_shape, record_shape, change_shape}
 use Rattle.plant_columns.specs.Tables.Kept.{UnitKept, GrantKept, AlarmKept, ShelfKept, BandKept, CellKept, EventKept, RecordKept, ChangeKept}
-use Rattle.plant_store.specs.Texts.{units_of_text, grants_of_text, alarms_of_text, shelves_of_text, bands_of_text, cells_of_text, events_of_text, own_grants_text, alarm_at_text, shelf_at_text, tags_of_text, records_of_text, changes_of_text, record_at_text, bands_at_text, cells_at_text, change_at_text, numbers_of_text}
-use Rattle.plant_store.proofs.Meanings.{by_unit, by_two, order_1, order_2, order_3, order_4, unit_shows, grant_shows, alarm_shows, shelf_shows, band_shows, cell_shows, event_shows, unit_names, grant_names, alarm_names, shelf_names, band_names, cell_names, event_names, units_of_is, grants_of_is, alarms_of_is, shelves_of_is, bands_of_is, cells_of_is, events_of_is, own_grants_is, alarm_at_is, shelf_at_is, tags_of_is, units_of_plain, grants_of_plain, alarms_of_plain, shelves_of_plain, bands_of_plain, cells_of_plain, events_of_plain, own_grants_plain, alarm_at_plain, shelf_at_plain, tags_of_plain, record_shows, record_names, change_shows, change_names, records_of_is, records_of_plain, changes_of_is, changes_of_plain, record_at_is, record_at_plain, bands_at_is, bands_at_plain, cells_at_is, cells_at_plain, change_at_is, change_at_plain, numbers_of_is, numbers_of_plain}
+use Rattle.plant_store.specs.Texts.{units_of_text, grants_of_text, alarms_of_text, shelves_of_text, bands_of_text, cells_of_text, events_of_text, own_grants_text, alarm_at_text, shelf_at_text, tags_of_text, shelf_tags_text, records_of_text, changes_of_text, record_at_text, bands_at_text, cells_at_text, change_at_text}
+use Rattle.plant_store.proofs.Meanings.{by_unit, by_two, order_1, order_2, order_3, order_4, unit_shows, grant_shows, alarm_shows, shelf_shows, band_shows, cell_shows, event_shows, unit_names, grant_names, alarm_names, shelf_names, band_names, cell_names, event_names, units_of_is, grants_of_is, alarms_of_is, shelves_of_is, bands_of_is, cells_of_is, events_of_is, own_grants_is, alarm_at_is, shelf_at_is, tags_of_is, shelf_tags_is, units_of_plain, grants_of_plain, alarms_of_plain, shelves_of_plain, bands_of_plain, cells_of_plain, events_of_plain, own_grants_plain, alarm_at_plain, shelf_at_plain, tags_of_plain, shelf_tags_plain, record_shows, record_names, change_shows, change_names, records_of_is, records_of_plain, changes_of_is, changes_of_plain, record_at_is, record_at_plain, bands_at_is, bands_at_plain, cells_at_is, cells_at_plain, change_at_is, change_at_plain}
 use Rattle.plant_columns.proofs.ShapeLaws.{good, numbers}
 
 -- ---- what was shown is read back
@@ -174,11 +175,11 @@ find_tags u old new books rows h =
     finds_rows alarm_shape (good AlarmKept) books_schema tags_of_text by_unit _ order_2 _ tags_of_is.0 tags_of_is.1 tags_of_plain (Text u ∷ []) refl (is_of u) (λ r. one_test (column r 1) u) old new books.same_schema (books.tidy AlarmKept).apart rows h
     ∙ shown_kept alarm_shape (good AlarmKept) _ (λ (r : AlarmRow). Text r.tag ∷ []) (λ id v x. refl) (is_of u) (old.now.trees 5) (books.tidy AlarmKept).each
 
--- the numbers of a unit's changes
-pub find_numbers : (u : Name) (old new : State) → AreBooks old.now → (rows : List Row) → Shown numbers_of_text (Text u ∷ []) old new rows → rows ≡ map (λ (r : ChangeEntry). number r.number ∷ []) (rows_seen u old.now.trees ChangeKept)
-find_numbers u old new books rows h =
-    finds_rows change_shape (good ChangeKept) books_schema numbers_of_text by_unit _ order_2 _ numbers_of_is.0 numbers_of_is.1 numbers_of_plain (Text u ∷ []) refl (is_of u) (λ r. one_test (column r 1) u) old new books.same_schema (books.tidy ChangeKept).apart rows h
-    ∙ shown_kept change_shape (good ChangeKept) _ (λ (r : ChangeEntry). number r.number ∷ []) (λ id v x. refl) (is_of u) (old.now.trees 17) (books.tidy ChangeKept).each
+-- the tags of a unit's shelves
+pub find_shelf_tags : (u : Name) (old new : State) → AreBooks old.now → (rows : List Row) → Shown shelf_tags_text (Text u ∷ []) old new rows → rows ≡ map (λ (r : ShelfRow). Text r.tag ∷ []) (rows_seen u old.now.trees ShelfKept)
+find_shelf_tags u old new books rows h =
+    finds_rows shelf_shape (good ShelfKept) books_schema shelf_tags_text by_unit _ order_2 _ shelf_tags_is.0 shelf_tags_is.1 shelf_tags_plain (Text u ∷ []) refl (is_of u) (λ r. one_test (column r 1) u) old new books.same_schema (books.tidy ShelfKept).apart rows h
+    ∙ shown_kept shelf_shape (good ShelfKept) _ (λ (r : ShelfRow). Text r.tag ∷ []) (λ id v x. refl) (is_of u) (old.now.trees 7) (books.tidy ShelfKept).each
 
 pub length_mapped : {A B : Type 0} (f : A → B) (xs : List A) → Rattle.std.proofs.Common.length (map f xs) ≡ Rattle.std.proofs.Common.length xs
 length_mapped f [] = refl

@@ -1,6 +1,6 @@
 -- The part of a unit's rows that a call looks at, from the lists that were read.
 use Rattle.std.proofs.Common.{◌≡◌, ℕ, Bool, true, false, List, filter, Option, None, Some, sym, ap, ◌∙◌}
-use Rattle.std.specs.Prelude.{option_map, ◌||◌}
+use Rattle.std.specs.Prelude.{if◌then◌else◌, option_map, ◌||◌}
 use Rattle.sqlite.specs.State.{State}
 use Rattle.sqlite_keyed.proofs.ListLemmas.{filter_same}
 use Rattle.plant_books.specs.Contents.{Content, part_in, rows_in}
@@ -16,8 +16,10 @@ use Rattle.plant_model.specs.declared.rows.ShelfRow.{ShelfRow}
 use Rattle.plant_model.specs.declared.rows.UnitPart.{UnitPart}
 use Rattle.plant_model.specs.declared.rows.UnitRow.{UnitRow}
 use Rattle.plant_model.specs.declared.rows.UnitRows.{UnitRows}
-use Rattle.plant_model.specs.Parts.{Selection, counted_for, part_of, selected}
-use Rattle.plant_model.specs.RowFacts.{pair_of}
+use Rattle.plant_model.proofs.PartLaws.{own_holds}
+use Rattle.plant_model.specs.Parts.{Selection, counted_for, part_of, part_of_holder, part_of_stranger, selected}
+use Rattle.plant_model.specs.RowChanges.{no_rows}
+use Rattle.plant_model.specs.RowFacts.{holds_by, pair_of}
 use Rattle.plant_types.specs.Names.{Name, same_name}
 use Rattle.plant_types.specs.Roles.{Pair}
 use Rattle.plant_books.specs.Asking.{is_wanted}
@@ -50,7 +52,7 @@ events_are s false h rows = sym (filter_same (λ (e : Event). s.event) (λ e. fa
 events_are s true h rows = sym (filter_same (λ (e : Event). s.event) (λ e. true) (λ e. h) rows ∙ passing_all rows)
 
 module _ (s : State) (m : Content) (u : Name) (k : KeepsIn s m) where
-  seen_grants : (c : Call) (all : Bool) → ((p : Pair) → (selected (rows_in m u) c.request).pair p ≡ all) → filter (λ g. same_name c.person g.person || all) (rows_seen u s.now.trees GrantKept) ≡ (part_of c (rows_in m u)).rows.grants
+  seen_grants : (c : Call) (all : Bool) → ((p : Pair) → (selected (rows_in m u) c.request).pair p ≡ all) → filter (λ g. same_name c.person g.person || all) (rows_seen u s.now.trees GrantKept) ≡ (part_of_holder c (rows_in m u)).rows.grants
   seen_grants c all h = filter_same (λ g. same_name c.person g.person || all) (λ g. same_name c.person g.person || (selected (rows_in m u) c.request).pair (pair_of g)) (λ g. ap (λ b. same_name c.person g.person || b) (sym (h (pair_of g)))) (rows_seen u s.now.trees GrantKept)
       ∙ ap (filter (λ g. same_name c.person g.person || (selected (rows_in m u) c.request).pair (pair_of g))) (k.seen u GrantKept)
 
@@ -59,26 +61,26 @@ module _ (s : State) (m : Content) (u : Name) (k : KeepsIn s m) where
       → records ≡ filter (λ r. (selected (rows_in m u) c.request).rationale r.tag) (rows_in m u).records
   records_asked c w h records is = is ∙ records_are (selected (rows_in m u) c.request) w h _ ∙ ap (filter (λ r. (selected (rows_in m u) c.request).rationale r.tag)) (k.seen u RecordKept)
 
-  pub part_found : (c : Call) (units : List UnitRow) → units ≡ rows_seen u s.now.trees UnitKept → has_any units ≡ true
+  pub part_found : (c : Call) (units : List UnitRow) → units ≡ rows_seen u s.now.trees UnitKept
       → (all : Bool) → ((rows : UnitRows) (p : Pair) → (selected rows c.request).pair p ≡ all) → (grants : List GrantRow) → grants ≡ filter (λ g. same_name c.person g.person || all) (rows_seen u s.now.trees GrantKept)
-      → (tags : Wanted) → ((rows : UnitRows) (a : Name) → (selected rows c.request).alarm a ≡ is_wanted tags a) → (alarms : List AlarmRow) → alarms ≡ alarms_with tags (rows_seen u s.now.trees AlarmKept)
-      → (shelved : Wanted) → ((rows : UnitRows) (a : Name) → (selected rows c.request).shelf a ≡ is_wanted shelved a) → (shelves : List ShelfRow) → shelves ≡ shelves_with shelved (rows_seen u s.now.trees ShelfKept)
+      → (tags : Wanted) → ((a : Name) → (selected (rows_in m u) c.request).alarm a ≡ is_wanted tags a) → (alarms : List AlarmRow) → alarms ≡ alarms_with tags (rows_seen u s.now.trees AlarmKept)
+      → (shelved : Wanted) → ((a : Name) → (selected (rows_in m u) c.request).shelf a ≡ is_wanted shelved a) → (shelves : List ShelfRow) → shelves ≡ shelves_with shelved (rows_seen u s.now.trees ShelfKept)
       → (told : Bool) → ((rows : UnitRows) → (selected rows c.request).event ≡ told) → (events : List Event) → events ≡ events_with told (rows_seen u s.now.trees EventKept)
       → (records : List RecordEntry) → records ≡ filter (λ r. (selected (rows_in m u) c.request).rationale r.tag) (rows_in m u).records
       → (bands : List BandRow) → bands ≡ filter (λ r. (selected (rows_in m u) c.request).matrix r.matrix_no) (rows_seen u s.now.trees BandKept)
       → (cells : List CellRow) → cells ≡ filter (λ r. (selected (rows_in m u) c.request).matrix r.matrix_no) (rows_seen u s.now.trees CellKept)
       → (changes : List ChangeEntry) → changes ≡ filter (λ r. (selected (rows_in m u) c.request).change r.number) (rows_seen u s.now.trees ChangeKept)
       → (count : ℕ) → ((rows : UnitRows) → rows.alarms ≡ rows_seen u s.now.trees AlarmKept → rows.changes ≡ rows_seen u s.now.trees ChangeKept → count ≡ counted_for rows c.request)
-      → ◌≡◌ {A = Option UnitPart} (Some (record { rows = record { units = units; grants = grants; alarms = alarms; shelves = shelves; events = events; bands = bands; cells = cells; records = records; changes = changes }; count = count })) (part_in m c u)
-  part_found c units us any all ha grants gs tags ts alarms as_ shelved hs shelves ss told he events es records rs bands bs cells ls changes cs count ns =
+      → ◌≡◌ {A = UnitPart} (record { rows = record { units = units; grants = grants; alarms = alarms; shelves = shelves; events = events; bands = bands; cells = cells; records = records; changes = changes }; count = count }) (part_of_holder c (rows_in m u))
+  part_found c units us all ha grants gs tags ts alarms as_ shelved hs shelves ss told he events es records rs bands bs cells ls changes cs count ns =
       let rows = rows_in m u in
       let chosen = selected rows c.request in
-      let same : ◌≡◌ {A = UnitPart} (record { rows = record { units = units; grants = grants; alarms = alarms; shelves = shelves; events = events; bands = bands; cells = cells; records = records; changes = changes }; count = count }) (part_of c rows) = λ i. record {
+      λ i. record {
         rows = record {
           units = (us ∙ k.seen u UnitKept) i;
           grants = (gs ∙ seen_grants c all (ha rows)) i;
-          alarms = (as_ ∙ alarms_are chosen tags (ts rows) _ ∙ ap (filter (λ r. chosen.alarm r.tag)) (k.seen u AlarmKept)) i;
-          shelves = (ss ∙ shelves_are chosen shelved (hs rows) _ ∙ ap (filter (λ r. chosen.shelf r.tag)) (k.seen u ShelfKept)) i;
+          alarms = (as_ ∙ alarms_are chosen tags ts _ ∙ ap (filter (λ r. chosen.alarm r.tag)) (k.seen u AlarmKept)) i;
+          shelves = (ss ∙ shelves_are chosen shelved hs _ ∙ ap (filter (λ r. chosen.shelf r.tag)) (k.seen u ShelfKept)) i;
           events = (es ∙ events_are chosen told (he rows) _ ∙ ap (filter (λ e. chosen.event)) (k.seen u EventKept)) i;
           bands = (bs ∙ ap (filter (λ r. chosen.matrix r.matrix_no)) (k.seen u BandKept)) i;
           cells = (ls ∙ ap (filter (λ r. chosen.matrix r.matrix_no)) (k.seen u CellKept)) i;
@@ -86,8 +88,28 @@ module _ (s : State) (m : Content) (u : Name) (k : KeepsIn s m) where
           changes = (cs ∙ ap (filter (λ r. chosen.change r.number)) (k.seen u ChangeKept)) i;
         };
         count = (ns rows (sym (k.seen u AlarmKept)) (sym (k.seen u ChangeKept))) i;
+      }
+
+  -- the caller's grants tell whether the caller holds a role in the unit
+  own_tell : (c : Call) (own : List GrantRow) → own ≡ filter (λ g. same_name c.person g.person) (rows_seen u s.now.trees GrantKept) → holds_by own c.moment c.person ≡ holds_by (rows_in m u).grants c.moment c.person
+  own_tell c own is = ap (λ gs. holds_by gs c.moment c.person) (is ∙ ap (filter (λ (g : GrantRow). same_name c.person g.person)) (k.seen u GrantKept)) ∙ own_holds (rows_in m u) c.person c.moment
+
+  -- the part of one who holds a role, and of one who holds none
+  pub holder_found : (c : Call) (units : List UnitRow) → units ≡ rows_seen u s.now.trees UnitKept → has_any units ≡ true → (own : List GrantRow) → own ≡ filter (λ g. same_name c.person g.person) (rows_seen u s.now.trees GrantKept) → holds_by own c.moment c.person ≡ true
+      → (part : UnitPart) → part ≡ part_of_holder c (rows_in m u) → ◌≡◌ {A = Option UnitPart} (Some part) (part_in m c u)
+  holder_found c units us any own os held part is =
+      ap Some (is ∙ sym (ap (λ b. if b then part_of_holder c (rows_in m u) else part_of_stranger c (rows_in m u)) (sym (own_tell c own os) ∙ held)))
+      ∙ sym (ap (option_map (part_of c)) (kept_rows s m u k (ap has_any (sym us) ∙ any)))
+
+  pub stranger_found : (c : Call) (units : List UnitRow) → units ≡ rows_seen u s.now.trees UnitKept → has_any units ≡ true → (own : List GrantRow) → own ≡ filter (λ g. same_name c.person g.person) (rows_seen u s.now.trees GrantKept) → holds_by own c.moment c.person ≡ false
+      → (part : UnitPart) → part.rows ≡ record no_rows { units = units; grants = own } → part.count ≡ 0 → ◌≡◌ {A = Option UnitPart} (Some part) (part_in m c u)
+  stranger_found c units us any own os held part rows none =
+      let whole : ◌≡◌ {A = UnitPart} part (part_of_stranger c (rows_in m u)) = λ i. record {
+        rows = (rows ∙ (λ j. record no_rows { units = (us ∙ k.seen u UnitKept) j; grants = (os ∙ ap (filter (λ (g : GrantRow). same_name c.person g.person)) (k.seen u GrantKept)) j })) i;
+        count = none i;
       } in
-      ap Some same ∙ sym (ap (option_map (part_of c)) (kept_rows s m u k (ap has_any (sym us) ∙ any)))
+      ap Some (whole ∙ sym (ap (λ b. if b then part_of_holder c (rows_in m u) else part_of_stranger c (rows_in m u)) (sym (own_tell c own os) ∙ held)))
+      ∙ sym (ap (option_map (part_of c)) (kept_rows s m u k (ap has_any (sym us) ∙ any)))
 
   pub no_part : (c : Call) (units : List UnitRow) → units ≡ rows_seen u s.now.trees UnitKept → has_any units ≡ false → ◌≡◌ {A = Option UnitPart} None (part_in m c u)
   no_part c units us any = sym (ap (option_map (part_of c)) (never_opened s m u k (ap has_any (sym us) ∙ any)))

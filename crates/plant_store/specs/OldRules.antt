@@ -40,7 +40,7 @@ old_refusals f c =
 abbrev pub old_verdict : List Call → Call → Result Reply Refused
 old_verdict h c = refused_or (first_refusal (old_refusals (facts h) c)) (reply (facts h) c.moment c.request)
 
--- a request of schema 1, told as one of today: an opening gives the greatest quota, and a grant has no end
+-- a request of schema 1 as the request of today that it stands for: an opening gives the greatest quota, a grant has no end
 abbrev pub is_of_old : Request → Bool
 is_of_old (OpenUnit u s m q) = same_number q greatest_quota
 is_of_old (Grant u p t) = is_none t.1

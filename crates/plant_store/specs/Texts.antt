@@ -127,12 +127,15 @@ cells_at_text = codes "SELECT matrix_no, severity, band_no, cell_no FROM cells W
 abbrev pub change_at_text : List ℕ
 change_at_text = codes "SELECT number, proposer, proposed_s, kind_no, tag, base, cause, consequence, remedy, severity, response_s, max_s, state_no, decider, decided_s FROM changes WHERE unit = ?1 AND number = ?2 ORDER BY unit, number"
 
--- a unit's tags, and the numbers of its changes
+-- the tags of a unit's alarms and of its shelves, and the number of its last change
 abbrev pub tags_of_text : List ℕ
 tags_of_text = codes "SELECT tag FROM alarms WHERE unit = ?1 ORDER BY unit, tag"
 
-abbrev pub numbers_of_text : List ℕ
-numbers_of_text = codes "SELECT number FROM changes WHERE unit = ?1 ORDER BY unit, number"
+abbrev pub shelf_tags_text : List ℕ
+shelf_tags_text = codes "SELECT tag FROM shelves WHERE unit = ?1 ORDER BY unit, tag"
+
+abbrev pub last_change_text : List ℕ
+last_change_text = codes "SELECT number FROM changes WHERE unit = ?1 ORDER BY unit DESC, number DESC LIMIT 1"
 
 -- a person's grants in all units, each beside its unit's last moment
 abbrev pub mine_text : List ℕ

@@ -557,9 +557,9 @@ fn take_into_blank<O: Alter, N: Alter>(
 /// Takes a plant's store of schema 1 over into a database that has no table: all its rows, with the greatest quota for
 /// each unit and no end for any grant. The old store is only read; the new one is written in one transaction.
 ///
-/// Refused as `NotThisStore`, which is looked at first, where the old database is no store of schema 1 with this
-/// administrator. A fault of the store where the new database has a table, where a row of the old store cannot be read as
-/// a row of its table, or where one of the two connections fails.
+/// Refused as `NotThisStore` where the old database is no store of schema 1 with this administrator; the new one is not
+/// looked at then. A fault of the store where the new database has a table, where a row of the old store cannot be read
+/// as a row of its table, or where one of the two connections fails.
 pub fn migrate<O: Alter, N: Alter>(
     alloc: Global,
     mut old: Connection<O>,

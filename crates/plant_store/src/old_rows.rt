@@ -91,7 +91,7 @@ pub fn old_codes_of<S: Alter>(
     read_all(alloc, rows.as_slice())
 }
 
-/// The unit's own row, where there is one.
+/// The unit's own row, if it has one.
 pub fn old_units_of<S: Alter>(
     alloc: Global,
     conn: &mut Connection<S>,

@@ -3,52 +3,56 @@
 ghost use Rattle.std.specs.Prelude.{◌≡◌, ◌||◌, false, filter, IfOk, Some};
 ghost use Rattle.sqlite.specs.Held.{state};
 ghost use Rattle.sqlite.specs.State.{HasCleanDisk};
-ghost use Rattle.plant_model.specs.Parts.{counted_for};
+ghost use Rattle.plant_model.specs.Parts.{counted_for, part_of_holder};
 ghost use Rattle.plant_model.specs.Worlds.{unit_named};
 ghost use Rattle.plant_types.specs.Names.{same_name};
 ghost use Rattle.plant_model.specs.declared.rows.UnitRows.{UnitRows as Rows};
 ghost use Rattle.plant_types.specs.Names.{Name};
-ghost use Rattle.plant_books.specs.Contents.{Content, part_in};
+ghost use Rattle.plant_books.specs.Asking.{is_crowded_for};
+ghost use Rattle.plant_books.specs.Contents.{Content, part_in, rows_in};
 ghost use Rattle.plant_store.specs.Changes.{CanTell};
 ghost use Rattle.plant_store.specs.Keeping.{KeepsIn};
 ghost use Rattle.plant_columns.specs.Tables.{AreBooks, rows_seen};
-ghost use Rattle.plant_columns.specs.Tables.Kept.{GrantKept, AlarmKept, ShelfKept, EventKept, RecordKept, ChangeKept};
+ghost use Rattle.plant_columns.specs.Tables.Kept.{UnitKept, GrantKept, AlarmKept, ShelfKept, EventKept, RecordKept, ChangeKept};
 ghost use Rattle.plant_store.specs.Wanted.{alarms_with, events_with, records_with, shelves_with};
 
 use crate::numbers::{some_bands, some_cells, some_changes};
 use crate::read::{
-    alarm_at, alarms_of, count_of_alarms, count_of_changes, events_of, grants_of, own_grants,
-    record_at, records_of, shelf_at, shelves_of, units_of,
+    alarm_at, alarms_of, count_of_alarms, count_of_shelves, events_of, grants_of,
+    last_change_number, own_grants, record_at, records_of, shelf_at, shelves_of, units_of,
 };
 use crate::unit::has_row;
 use plant_alarm::Event;
 use plant_books::{
-    Counted, Wanted, unit_of, wanted_alarms, wanted_count, wanted_records, wanted_shelves,
-    wants_all_grants, wants_events,
+    Counted, Wanted, holds_some_by, is_crowded, is_shelving, part_of_grants, unit_of,
+    wanted_alarms, wanted_count, wanted_records, wanted_shelves, wants_all_grants, wants_events,
 };
-use plant_model::{AlarmRow, Call, GrantRow, RecordEntry, Request, ShelfRow, UnitPart, UnitRows};
-use plant_types::{Person, Table, UnitCode};
+use plant_model::{
+    AlarmRow, Call, GrantRow, RecordEntry, Request, ShelfRow, UnitPart, UnitRow, UnitRows,
+};
+use plant_types::{Table, UnitCode};
 use sqlite::{Alter, Connection, Error};
 use std::alloc::Global;
 
-/// All grants of the unit, or the person's alone.
+/// All grants of the unit where they are wanted, or those that are the caller's own.
 pub fn some_grants<S: Alter>(
     alloc: Global,
     conn: &mut Connection<S>,
     unit: &UnitCode,
-    person: &Person,
+    own: Table<GrantRow>,
     all: bool,
 ) -> Result<Table<GrantRow>, Error>
     requires { conn.old.in_transaction ≡ false }
     ensures mode { conn.new.in_transaction ≡ false }
-    ensures rows { HasCleanDisk (state S.Store conn.new) → AreBooks (state S.Store conn.old).now → IfOk result (λ rows. rows ≡ filter (λ g. same_name person.now g.person || all) (rows_seen unit.now (state S.Store conn.old).now.trees GrantKept)) }
+    ensures rows { HasCleanDisk (state S.Store conn.new) → AreBooks (state S.Store conn.old).now → IfOk result (λ rows. (p : Name) → own ≡ filter (λ g. same_name p g.person) (rows_seen unit.now (state S.Store conn.old).now.trees GrantKept)
+        → rows ≡ filter (λ g. same_name p g.person || all) (rows_seen unit.now (state S.Store conn.old).now.trees GrantKept)) }
     ensures same { CanTell (state S.Store conn.new) → AreBooks (state S.Store conn.old).now → (state S.Store conn.new).now ≡ (state S.Store conn.old).now }
     ensures told { CanTell (state S.Store conn.new) → CanTell (state S.Store conn.old) }
 {
     if all {
         grants_of(alloc, conn, unit)
     } else {
-        own_grants(alloc, conn, unit, person)
+        Ok(own)
     }
 }
 
@@ -132,7 +136,7 @@ pub fn some_events<S: Alter>(
     }
 }
 
-/// The number of the unit's alarms or of its changes, for a call that needs it.
+/// How many alarms the unit has, or the number of its last change, for a call that needs it.
 fn count_for<S: Alter>(
     conn: &mut Connection<S>,
     unit: &UnitCode,
@@ -147,11 +151,81 @@ fn count_for<S: Alter>(
     match wanted_count(request) {
         Counted::Nothing => Ok(0),
         Counted::Alarms => count_of_alarms(conn, unit),
-        Counted::Changes => count_of_changes(conn, unit),
+        Counted::Changes => last_change_number(conn, unit),
     }
 }
 
-/// The unit's part that the call looks at, where the unit was opened.
+/// Whether the request shelves where so many shelves are kept that the unit's quota may be used up.
+fn crowded_for<S: Alter>(
+    conn: &mut Connection<S>,
+    unit: &UnitCode,
+    units: &Table<UnitRow>,
+    request: &Request,
+) -> Result<bool, Error>
+    requires { conn.old.in_transaction ≡ false }
+    ensures mode { conn.new.in_transaction ≡ false }
+    ensures rows { HasCleanDisk (state S.Store conn.new) → AreBooks (state S.Store conn.old).now → IfOk result (λ crowded. (rows : Rows) → rows.units ≡ units.now → rows.shelves ≡ rows_seen unit.now (state S.Store conn.old).now.trees ShelfKept → is_crowded_for rows request.now ≡ crowded) }
+    ensures same { CanTell (state S.Store conn.new) → AreBooks (state S.Store conn.old).now → (state S.Store conn.new).now ≡ (state S.Store conn.old).now }
+    ensures told { CanTell (state S.Store conn.new) → CanTell (state S.Store conn.old) }
+{
+    if is_shelving(request) {
+        Ok(is_crowded(units, count_of_shelves(conn, unit)?))
+    } else {
+        Ok(false)
+    }
+}
+
+/// The part of a caller who holds a role, with the unit's own row and the caller's grants, which were read before.
+fn holders_part<S: Alter>(
+    alloc: Global,
+    conn: &mut Connection<S>,
+    unit: &UnitCode,
+    call: &Call,
+    units: Table<UnitRow>,
+    own: Table<GrantRow>,
+) -> Result<UnitPart, Error>
+    requires { conn.old.in_transaction ≡ false }
+    ensures mode { conn.new.in_transaction ≡ false }
+    ensures found { CanTell (state S.Store conn.new) → (m : Content) → KeepsIn (state S.Store conn.old) m
+        → units ≡ rows_seen unit.now (state S.Store conn.old).now.trees UnitKept → own ≡ filter (λ g. same_name call.now.person g.person) (rows_seen unit.now (state S.Store conn.old).now.trees GrantKept)
+        → IfOk result (λ part. part ≡ part_of_holder call.now (rows_in m unit.now)) }
+    ensures same { CanTell (state S.Store conn.new) → AreBooks (state S.Store conn.old).now → (state S.Store conn.new).now ≡ (state S.Store conn.old).now }
+    ensures told { CanTell (state S.Store conn.new) → CanTell (state S.Store conn.old) }
+{
+    let request = &call.request;
+    let all = wants_all_grants(request);
+    let grants = some_grants(alloc, conn, unit, own, all)?;
+    let crowded = crowded_for(conn, unit, &units, request)?;
+    let tags = wanted_alarms(request, crowded);
+    let alarms = some_alarms(alloc, conn, unit, tags)?;
+    let shelved = wanted_shelves(request, crowded);
+    let shelves = some_shelves(alloc, conn, unit, shelved)?;
+    let told = wants_events(request);
+    let events = some_events(alloc, conn, unit, told)?;
+    let recorded = wanted_records(request);
+    let records = some_records(alloc, conn, unit, recorded)?;
+    let bands = some_bands(alloc, conn, unit, &units, request)?;
+    let cells = some_cells(alloc, conn, unit, &units, request)?;
+    let changes = some_changes(alloc, conn, unit, &records, request)?;
+    let count = count_for(conn, unit, request)?;
+    Ok(UnitPart {
+        rows: UnitRows {
+            units,
+            grants,
+            alarms,
+            shelves,
+            events,
+            bands,
+            cells,
+            records,
+            changes,
+        },
+        count,
+    })
+}
+
+/// The unit's part that the call looks at, where the unit was opened. Of a caller who holds no role nothing is read but
+/// the unit's own row and the caller's grants.
 fn unit_part<S: Alter>(
     alloc: Global,
     conn: &mut Connection<S>,
@@ -168,35 +242,12 @@ fn unit_part<S: Alter>(
     if !has_row(&units) {
         return Ok(None);
     }
-    let request = &call.request;
-    let all = wants_all_grants(request);
-    let grants = some_grants(alloc, conn, unit, &call.person, all)?;
-    let tags = wanted_alarms(request);
-    let alarms = some_alarms(alloc, conn, unit, tags)?;
-    let shelved = wanted_shelves(request);
-    let shelves = some_shelves(alloc, conn, unit, shelved)?;
-    let told = wants_events(request);
-    let events = some_events(alloc, conn, unit, told)?;
-    let recorded = wanted_records(request);
-    let records = some_records(alloc, conn, unit, recorded)?;
-    let bands = some_bands(alloc, conn, unit, &units, request)?;
-    let cells = some_cells(alloc, conn, unit, &units, request)?;
-    let changes = some_changes(alloc, conn, unit, &records, request)?;
-    let count = count_for(conn, unit, request)?;
-    Ok(Some(UnitPart {
-        rows: UnitRows {
-            units,
-            grants,
-            alarms,
-            shelves,
-            events,
-            bands,
-            cells,
-            records,
-            changes,
-        },
-        count,
-    }))
+    let own = own_grants(alloc, conn, unit, &call.person)?;
+    if !holds_some_by(own.as_slice(), &call.person, call.moment) {
+        return Ok(Some(part_of_grants(alloc, units, own)));
+    }
+    let part = holders_part(alloc, conn, unit, call, units, own)?;
+    Ok(Some(part))
 }
 
 /// The part of its unit's rows that the call looks at, where it names a unit that was opened.

@@ -8,6 +8,7 @@ ghost use Rattle.sqlite.specs.State.{HasCleanDisk, Shown as IsShown};
 ghost use Rattle.sqlite.specs.Values.{bound};
 ghost use Rattle.sqlite.proofs.Callers.{IsPlain};
 ghost use Rattle.plant_model.specs.Histories.{same_number};
+ghost use Rattle.plant_model.specs.RowFacts.{last_number};
 ghost use Rattle.plant_types.specs.Names.{same_name};
 ghost use Rattle.plant_store.specs.Changes.{CanTell};
 ghost use Rattle.plant_store.specs.OldTables.{AreOldBooks};
@@ -15,7 +16,7 @@ ghost use Rattle.plant_columns.specs.Tables.{AreBooks, rows_seen};
 ghost use Rattle.plant_columns.specs.Tables.Kept.{UnitKept, GrantKept, AlarmKept, ShelfKept, BandKept, CellKept, EventKept, RecordKept, ChangeKept};
 
 use plant_alarm::Event;
-use plant_columns::decode::read_all;
+use plant_columns::decode::{read_all, wide};
 use plant_columns::encode::{numbered, pair, single};
 use plant_model::{
     AlarmRow, BandRow, CellRow, ChangeEntry, GrantRow, RecordEntry, ShelfRow, UnitRow,
@@ -41,7 +42,7 @@ pub fn ask<S: Alter>(
     conn.query_all(sql, cells)
 }
 
-/// The unit's own row, where there is one.
+/// The unit's own row, if it has one.
 pub fn units_of<S: Alter>(
     alloc: Global,
     conn: &mut Connection<S>,
@@ -398,18 +399,37 @@ pub fn count_of_alarms<S: Alter>(conn: &mut Connection<S>, unit: &UnitCode) -> R
     Ok(tags.as_slice().len() as u64)
 }
 
-/// How many changes the unit has.
-pub fn count_of_changes<S: Alter>(conn: &mut Connection<S>, unit: &UnitCode) -> Result<u64, Error>
+/// How many shelves the unit keeps.
+pub fn count_of_shelves<S: Alter>(conn: &mut Connection<S>, unit: &UnitCode) -> Result<u64, Error>
     requires { conn.old.in_transaction ≡ false }
     ensures mode { conn.new.in_transaction ≡ false }
-    ensures rows { HasCleanDisk (state S.Store conn.new) → AreBooks (state S.Store conn.old).now → IfOk result (λ n. n ≡ length (rows_seen unit.now (state S.Store conn.old).now.trees ChangeKept)) }
+    ensures rows { HasCleanDisk (state S.Store conn.new) → AreBooks (state S.Store conn.old).now → IfOk result (λ n. n ≡ length (rows_seen unit.now (state S.Store conn.old).now.trees ShelfKept)) }
     ensures same { CanTell (state S.Store conn.new) → AreBooks (state S.Store conn.old).now → (state S.Store conn.new).now ≡ (state S.Store conn.old).now }
     ensures told { CanTell (state S.Store conn.new) → CanTell (state S.Store conn.old) }
 {
-    let numbers = ask(
+    let tags = ask(
         conn,
-        "SELECT number FROM changes WHERE unit = ?1 ORDER BY unit, number",
+        "SELECT tag FROM shelves WHERE unit = ?1 ORDER BY unit, tag",
         &single(unit),
     )?;
-    Ok(numbers.as_slice().len() as u64)
+    Ok(tags.as_slice().len() as u64)
+}
+
+/// The number of the unit's last change, 0 where it has none.
+pub fn last_change_number<S: Alter>(conn: &mut Connection<S>, unit: &UnitCode) -> Result<u64, Error>
+    requires { conn.old.in_transaction ≡ false }
+    ensures mode { conn.new.in_transaction ≡ false }
+    ensures rows { HasCleanDisk (state S.Store conn.new) → AreBooks (state S.Store conn.old).now → IfOk result (λ n. n ≡ last_number (rows_seen unit.now (state S.Store conn.old).now.trees ChangeKept)) }
+    ensures same { CanTell (state S.Store conn.new) → AreBooks (state S.Store conn.old).now → (state S.Store conn.new).now ≡ (state S.Store conn.old).now }
+    ensures told { CanTell (state S.Store conn.new) → CanTell (state S.Store conn.old) }
+{
+    let rows = ask(
+        conn,
+        "SELECT number FROM changes WHERE unit = ?1 ORDER BY unit DESC, number DESC LIMIT 1",
+        &single(unit),
+    )?;
+    match rows.as_slice().first() {
+        Some(row) => wide(row, 0),
+        None => Ok(0),
+    }
 }

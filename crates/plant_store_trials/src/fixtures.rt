@@ -33,7 +33,7 @@ pub(crate) fn tag(rt: &impl Abort, alloc: Global, bytes: &[u8]) -> Tag {
         .expect(rt, "a tag")
 }
 
-fn words(rt: &impl Abort, alloc: Global, bytes: &[u8]) -> Words {
+pub(crate) fn words(rt: &impl Abort, alloc: Global, bytes: &[u8]) -> Words {
     Words::read(alloc, bytes)
         .expect(rt, "memory")
         .expect(rt, "words")

@@ -1,9 +1,11 @@
 //! What a call looks at.
 
-use crate::fixtures::{call, counts, opened, tag, unit};
+use crate::fixtures::{call, counts, opened, push_shelf, put, tag, unit, words};
 use plant_books::Books;
 use plant_model::{BandRow, ChangeEntry, ChangeTopic, Request, UnitPart};
-use plant_types::Seconds;
+use plant_store::Tables;
+use plant_types::{Seconds, Table};
+use sqlite::MemStore;
 use std::alloc::Global;
 use std::process::Abort;
 
@@ -14,6 +16,32 @@ fn part(rt: &impl Abort, alloc: Global, request: Request) -> UnitPart {
         .part(&call(rt, alloc, request))
         .expect(rt, "a part")
         .expect(rt, "the unit was opened")
+}
+
+/// What a shelving of LT-2 by `ann` looks at.
+fn shelving_part(rt: &impl Abort, alloc: Global, books: &mut Tables<MemStore>) -> UnitPart {
+    let request = Request::OneShotShelve {
+        unit: unit(rt, alloc, b"U1"),
+        tag: tag(rt, alloc, b"LT-2"),
+        words: words(rt, alloc, b"noise"),
+    };
+    books
+        .part(&call(rt, alloc, request))
+        .expect(rt, "a part")
+        .expect(rt, "the unit was opened")
+}
+
+#[test]
+fn gives_a_shelving_its_own_shelf_or_all(rt: HostRuntime) {
+    let alloc = rt.alloc();
+    let mut books = opened(&rt, alloc);
+    let own = shelving_part(&rt, alloc, &mut books);
+    assert!(rt; counts(&own.rows) == [1, 2, 1, 0, 0, 0, 0, 0, 0]);
+    let mut list = Table::new(alloc);
+    push_shelf(&rt, alloc, &mut list, b"LT-2");
+    put(&rt, alloc, &mut books, b"U1", &list);
+    let all = shelving_part(&rt, alloc, &mut books);
+    assert!(rt; counts(&all.rows) == [1, 2, 2, 2, 0, 0, 0, 0, 0]);
 }
 
 /// Whether these are the bands of the matrix in force, and of the matrix that is wanted.

@@ -1,15 +1,14 @@
-//! Both keepers hold the same rows after each call.
+//! Whether two keepers hold the same rows.
 
-use crate::examples::{BASE, SHELVED};
-use crate::exchanges::{Exchanges, Mark};
-use crate::replays::{after, lists, replays_on, tables, text};
+use crate::sessions::{after, replays_on};
 use plant_alarm::Event;
+use plant_examples::{BEGIN, Exchanges, Failure, between};
 use plant_model::{
     AlarmRow, BandRow, CellRow, ChangeEntry, GrantRow, RecordEntry, ShelfRow, UnitRow, UnitRows,
 };
 use plant_office::Books;
-use plant_types::{Table, UnitCode};
-use std::process::Abort;
+use plant_types::{Fault, Table, UnitCode};
+use std::alloc::Global;
 
 /// A row that can be compared with another.
 trait Same: Drop {
@@ -191,95 +190,71 @@ fn are_same_rows(ours: &Option<UnitRows>, theirs: &Option<UnitRows>) -> bool {
         && are_same(changes, &theirs.changes)
 }
 
-/// The rows of a unit, if it was opened.
-fn rows(rt: &impl Abort, books: &mut impl Books, unit: &UnitCode) -> Option<UnitRows> {
-    books.rows(unit).expect(rt, "rows")
+/// Whether both keepers hold the same rows of this unit.
+fn hold_unit_alike(
+    ours: &mut impl Books,
+    theirs: &mut impl Books,
+    unit: &UnitCode,
+) -> Result<bool, Fault> {
+    let ours = ours.rows(unit)?;
+    let theirs = theirs.rows(unit)?;
+    Ok(are_same_rows(&ours, &theirs))
 }
 
 /// Whether both keepers hold the same rows of each of the units.
-pub(crate) fn hold_alike(
-    rt: &impl Abort,
+pub fn hold_alike(
     ours: &mut impl Books,
     theirs: &mut impl Books,
     units: &[UnitCode],
-) -> bool {
+) -> Result<bool, Fault> {
     for unit in units {
-        if !are_same_rows(&rows(rt, ours, unit), &rows(rt, theirs, unit)) {
-            return false;
+        if !hold_unit_alike(ours, theirs, unit)? {
+            return Ok(false);
         }
     }
-    true
+    Ok(true)
 }
 
-/// The requests and the answers from one mark to the next.
-pub(crate) fn between<'a>(
-    rt: &impl Abort,
-    wanted: &'a Exchanges,
-    last: Mark,
-    next: Mark,
-) -> (&'a [u8], &'a [u8]) {
-    let requests = wanted.requests.as_bytes().get(last.asked..next.asked);
-    let answers = wanted.answers.as_bytes().get(last.answered..next.answered);
-    (
-        requests.expect(rt, "a request"),
-        answers.expect(rt, "an answer"),
-    )
+/// Both keepers hold the same rows of each of the units.
+pub fn check_rows(
+    ours: &mut impl Books,
+    theirs: &mut impl Books,
+    units: &[UnitCode],
+) -> Result<(), Failure> {
+    if hold_alike(ours, theirs, units)? {
+        Ok(())
+    } else {
+        Err(Failure::Rows)
+    }
 }
-
-/// The mark before all exchanges.
-pub(crate) const BEGIN: Mark = Mark {
-    asked: 0,
-    answered: 0,
-};
 
 /// After each request both keepers hold the same rows of each unit that the example names.
-pub(crate) fn are_kept_alike<A: Books + Drop, B: Books + Drop>(
-    rt: &(impl Abort + AllocGlobal),
+pub fn check_keepers<A: Books + Drop, B: Books + Drop>(
+    alloc: Global,
     mut ours: A,
     mut theirs: B,
     wanted: &Exchanges,
-    title: &str,
-) {
+) -> Result<(), Failure> {
     let mut last = BEGIN;
     for mark in &wanted.marks {
-        let (request, answer) = between(rt, wanted, last, *mark);
-        ours = after(rt, ours, request, answer, title);
-        theirs = after(rt, theirs, request, answer, title);
-        assert!(rt;
-            hold_alike(rt, &mut ours, &mut theirs, &wanted.units),
-            "{title}: {}",
-            text(request)
-        );
+        let (request, answer) = between(wanted, last, *mark)?;
+        ours = after(alloc, ours, request, answer)?;
+        theirs = after(alloc, theirs, request, answer)?;
+        check_rows(&mut ours, &mut theirs, &wanted.units)?;
         last = *mark;
     }
+    Ok(())
 }
 
 /// Whether both keepers hold the same rows, one after these exchanges and the other after those.
-pub(crate) fn are_left_alike<A: Books + Drop, B: Books + Drop>(
-    rt: &(impl Abort + AllocGlobal),
+pub fn are_left_alike<A: Books + Drop, B: Books + Drop>(
+    alloc: Global,
     ours: A,
     theirs: B,
     these: &Exchanges,
     those: &Exchanges,
-) -> bool {
-    let alloc = rt.alloc();
+) -> Result<bool, Fault> {
     let (_, _, mut ours) = replays_on(alloc, ours, these.requests.as_bytes(), b"");
     let (_, _, mut theirs) = replays_on(alloc, theirs, those.requests.as_bytes(), b"");
-    hold_alike(rt, &mut ours, &mut theirs, &these.units)
-}
-
-#[test]
-fn tells_rows_that_differ(rt: HostRuntime) {
-    let base = Exchanges::of(&rt, &[BASE]);
-    for (parts, is_alike) in [
-        ([BASE].as_slice(), true),
-        ([BASE, SHELVED].as_slice(), false),
-        ([].as_slice(), false),
-    ] {
-        let other = Exchanges::of(&rt, parts);
-        assert_eq!(rt;
-            are_left_alike(&rt, lists(&rt), tables(&rt), &base, &other),
-            is_alike
-        );
-    }
+    hold_alike(&mut ours, &mut theirs, &these.units)
 }

@@ -1,42 +1,15 @@
-//! Whole sessions over the office, as tests alone: worked examples, streams that are cut, streams without the calls of
-//! others, and requests that are no calls, each generic in the keeper of the units; and the program's command.
+//! What the trials of whole sessions share: sessions over an office of their own, the calls of a session in one run, and the
+//! comparison of what two keepers hold. What does not pass is an `Err`: a test ends there, nothing here does.
 #![tactic(auto)]
 
-#[cfg(test)]
-mod commands;
-#[cfg(test)]
-mod cuts;
-#[cfg(test)]
-mod events;
-#[cfg(test)]
-mod examples;
-#[cfg(test)]
-mod exchanges;
-#[cfg(test)]
-mod faults;
-#[cfg(test)]
-mod files;
-#[cfg(test)]
-mod full;
-#[cfg(test)]
-mod interruptions;
-#[cfg(test)]
 mod keepers;
-#[cfg(test)]
-mod largest;
-#[cfg(test)]
-mod malformed;
-#[cfg(test)]
-mod purges;
-#[cfg(test)]
-mod reopenings;
-#[cfg(test)]
-mod replays;
-#[cfg(test)]
-mod reviews;
-#[cfg(test)]
 mod runs;
-#[cfg(test)]
-mod sockets;
-#[cfg(test)]
-mod worked;
+mod sessions;
+
+pub use keepers::{are_left_alike, check_keepers, check_rows, hold_alike};
+pub use runs::{
+    Calls, alike, all_alike, bytes_of, call_of, calls_of, check_example, check_run, run_all, served,
+};
+pub use sessions::{
+    after, check_answers, check_session, lists, replays, replays_on, root, tables, text,
+};

@@ -1,102 +1,118 @@
-//! The calls of the worked examples, made one by one and all in one run.
+//! The calls of a session, made one by one and all in one run.
 
-use crate::exchanges::Exchanges;
-use crate::keepers::{BEGIN, between, hold_alike};
-use crate::replays::text;
+use crate::keepers::{check_keepers, check_rows};
+use crate::sessions::{check_answers, check_session, lists, tables};
+use plant_examples::{BEGIN, Exchanges, Failure, between};
 use plant_model::{Answer, Call};
 use plant_office::{Books, Office};
 use plant_wire::{Cut, next_call, render};
-use std::process::Abort;
+use std::alloc::Global;
 
 /// The call that a request is, or nothing where it is malformed.
-pub(crate) fn call_of(rt: &(impl Abort + AllocGlobal), request: &[u8]) -> Option<Call> {
-    match next_call(rt.alloc(), request) {
-        Cut::Call(call, _) => Some(call),
-        Cut::Malformed(_, _) => None,
-        Cut::Fault => rt.panic("memory"),
-        _ => rt.panic("not a request"),
+pub fn call_of(alloc: Global, request: &[u8]) -> Result<Option<Call>, Failure> {
+    match next_call(alloc, request) {
+        Cut::Call(call, _) => Ok(Some(call)),
+        Cut::Malformed(_, _) => Ok(None),
+        Cut::Fault => Err(Failure::Memory),
+        _ => Err(Failure::Notation),
     }
 }
 
 /// The bytes of an answer.
-pub(crate) fn bytes_of(rt: &(impl Abort + AllocGlobal), answer: &Answer) -> Vec<u8> {
-    render(rt.alloc(), answer).expect(rt, "memory")
+pub fn bytes_of(alloc: Global, answer: &Answer) -> Result<Vec<u8>, Failure> {
+    Ok(render(alloc, answer)?)
 }
 
 /// The office's answer to one call.
-pub(crate) fn served<B: Books>(office: &mut Office<B>, call: &Call) -> Answer {
+pub fn served<B: Books>(office: &mut Office<B>, call: &Call) -> Answer {
     office.serve(call)
 }
 
 /// The calls among some requests, and the answers that are wanted to them, one after another.
 #[derive(Drop)]
-pub(crate) struct Calls {
-    pub(crate) calls: Vec<Call>,
-    pub(crate) answers: Vec<u8>,
+pub struct Calls {
+    pub calls: Vec<Call>,
+    pub answers: Vec<u8>,
 }
 
-pub(crate) fn calls_of(rt: &(impl Abort + AllocGlobal), wanted: &Exchanges) -> Calls {
-    let mut calls = Vec::new(rt.alloc());
-    let mut answers = Vec::new(rt.alloc());
+impl Calls {
+    /// Adds a call and its answer, unless the request is malformed.
+    fn add(&mut self, alloc: Global, request: &[u8], answer: &[u8]) -> Result<(), Failure> {
+        if let Some(call) = call_of(alloc, request)? {
+            self.calls.push(call)?;
+            self.answers.extend_from_slice(answer)?;
+        }
+        Ok(())
+    }
+}
+
+/// The calls of these exchanges.
+pub fn calls_of(alloc: Global, wanted: &Exchanges) -> Result<Calls, Failure> {
+    let mut all = Calls {
+        calls: Vec::new(alloc),
+        answers: Vec::new(alloc),
+    };
     let mut last = BEGIN;
     for mark in &wanted.marks {
-        let (request, answer) = between(rt, wanted, last, *mark);
-        if let Some(call) = call_of(rt, request) {
-            calls.push(call).expect(rt, "memory");
-            answers.extend_from_slice(answer).expect(rt, "memory");
-        }
+        let (request, answer) = between(wanted, last, *mark)?;
+        all.add(alloc, request, answer)?;
         last = *mark;
     }
-    Calls { calls, answers }
+    Ok(all)
+}
+
+/// The answers to the calls, made one by one.
+fn serve_each<B: Books>(
+    alloc: Global,
+    office: &mut Office<B>,
+    calls: &[Call],
+) -> Result<Vec<Answer>, Failure> {
+    let mut answers = Vec::new(alloc);
+    for call in calls {
+        answers.push(served(office, call))?;
+    }
+    Ok(answers)
 }
 
 /// The answers to the calls, made one by one, and the books after them.
 fn serve_all<B: Books + Drop>(
-    rt: &(impl Abort + AllocGlobal),
+    alloc: Global,
     books: B,
     calls: &[Call],
-) -> (Vec<Answer>, B) {
-    let mut office = Office::new(rt.alloc(), books);
-    let mut answers = Vec::new(rt.alloc());
-    for call in calls {
-        let answer = served(&mut office, call);
-        answers.push(answer).expect(rt, "memory");
-    }
+) -> (Result<Vec<Answer>, Failure>, B) {
+    let mut office = Office::new(alloc, books);
+    let answers = serve_each(alloc, &mut office, calls);
     (answers, office.into_books())
 }
 
-/// The answers to the calls, made in one run, and the books after them.
-pub(crate) fn run_all<B: Books + Drop>(
-    rt: &(impl Abort + AllocGlobal),
+/// The answers to the calls, made in one run, or nothing where memory ran out; and the books after them.
+pub fn run_all<B: Books + Drop>(
+    alloc: Global,
     books: B,
     calls: &[Call],
-) -> (Vec<Answer>, B) {
-    let mut office = Office::new(rt.alloc(), books);
-    let answers = office.run(calls).expect(rt, "memory");
+) -> (Option<Vec<Answer>>, B) {
+    let mut office = Office::new(alloc, books);
+    let answers = office.run(calls).ok();
     (answers, office.into_books())
 }
 
 /// An answer as bytes, the same on both sides.
-pub(crate) fn alike(rt: &(impl Abort + AllocGlobal), ours: &Answer, theirs: &Answer) -> Vec<u8> {
-    let bytes = bytes_of(rt, ours);
-    assert_eq!(rt; text(&bytes), text(&bytes_of(rt, theirs)));
-    bytes
+pub fn alike(alloc: Global, ours: &Answer, theirs: &Answer) -> Result<Vec<u8>, Failure> {
+    let bytes = bytes_of(alloc, ours)?;
+    check_answers(alloc, &bytes, &bytes_of(alloc, theirs)?)?;
+    Ok(bytes)
 }
 
 /// The answers as bytes, each of them the same on both sides.
-pub(crate) fn all_alike(
-    rt: &(impl Abort + AllocGlobal),
-    ran: &[Answer],
-    served: &[Answer],
-) -> Vec<u8> {
-    let mut answers = Vec::new(rt.alloc());
-    assert_eq!(rt; ran.len(), served.len());
-    for (ours, theirs) in ran.iter().zip(served) {
-        answers
-            .extend_from_slice(&alike(rt, ours, theirs))
-            .expect(rt, "memory");
+pub fn all_alike(alloc: Global, ran: &[Answer], served: &[Answer]) -> Result<Vec<u8>, Failure> {
+    if ran.len() != served.len() {
+        return Err(Failure::Ended);
     }
-    answers
+    let mut answers = Vec::new(alloc);
+    for (ours, theirs) in ran.iter().zip(served) {
+        answers.extend_from_slice(&alike(alloc, ours, theirs)?)?;
+    }
+    Ok(answers)
 }
 
 /// How many of the requests are malformed, by the answers that are wanted.
@@ -109,23 +125,37 @@ fn malformed(wanted: &Exchanges) -> usize {
         .saturating_sub(1)
 }
 
+/// The calls of these exchanges: all but the malformed requests.
+fn all_calls_of(alloc: Global, wanted: &Exchanges) -> Result<Calls, Failure> {
+    let found = calls_of(alloc, wanted)?;
+    if found.calls.len() == wanted.marks.len().saturating_sub(malformed(wanted)) {
+        Ok(found)
+    } else {
+        Err(Failure::Notation)
+    }
+}
+
 /// In one run the calls are answered as one by one and as wanted, and leave the same rows.
-pub(crate) fn is_run<B: Books + Drop>(
-    rt: &(impl Abort + AllocGlobal),
+pub fn check_run<B: Books + Drop>(
+    alloc: Global,
     ours: B,
     theirs: B,
     wanted: &Exchanges,
-    title: &str,
-) {
-    let Calls { calls, answers } = calls_of(rt, wanted);
-    let count = wanted.marks.len().saturating_sub(malformed(wanted));
-    assert_eq!(rt; calls.len(), count, "{title}");
-    let (ran, mut ours) = run_all(rt, ours, &calls);
-    let (served, mut theirs) = serve_all(rt, theirs, &calls);
-    let found = all_alike(rt, &ran, &served);
-    assert_eq!(rt; text(&found), text(&answers), "{title}");
-    assert!(rt;
-        hold_alike(rt, &mut ours, &mut theirs, &wanted.units),
-        "{title}"
-    );
+) -> Result<(), Failure> {
+    let Calls { calls, answers } = all_calls_of(alloc, wanted)?;
+    let (ran, mut ours) = run_all(alloc, ours, &calls);
+    let ran = ran.ok_or(Failure::Memory)?;
+    let (served, mut theirs) = serve_all(alloc, theirs, &calls);
+    let found = all_alike(alloc, &ran, &served?)?;
+    check_answers(alloc, &found, &answers)?;
+    check_rows(&mut ours, &mut theirs, &wanted.units)
+}
+
+/// Over each keeper the exchanges are answered as wanted, also in one run, and both keep the same rows.
+pub fn check_example(alloc: Global, wanted: &Exchanges) -> Result<(), Failure> {
+    check_session(alloc, lists(alloc)?, wanted)?;
+    check_session(alloc, tables(alloc)?, wanted)?;
+    check_keepers(alloc, lists(alloc)?, tables(alloc)?, wanted)?;
+    check_run(alloc, lists(alloc)?, lists(alloc)?, wanted)?;
+    check_run(alloc, tables(alloc)?, tables(alloc)?, wanted)
 }

@@ -19,75 +19,17 @@ use Rattle.plant_types.proofs.Orders.{name_total, same_names}
 use Rattle.plant_types.proofs.TableLaws.{tied}
 use Rattle.plant_types.specs.Names.{Name, name_cmp, same_name}
 use Rattle.plant_types.specs.Tables.{IsInOrder}
+use Rattle.plant_unit.proofs.RowsFound.{After as TagsAfter, Ordered as TagsOrdered, Parts as TagsParts, after_more, greater, later, lesser, ordered, turned, back}
 use Rattle.plant_unit.specs.Summaries.{summaries, summary_of, with_summary}
 
-first : (a b : Bool) → T (a && b) → T a
-first true b p = tt
-first false b p = p
-
-second : (a b : Bool) → T (a && b) → T b
-second true b p = p
-second false b p = absurd p
-
-less : (r : Ordering) → T (is_lt r) → r ≡ Less
-less Less p = refl
-less Equal p = absurd p
-less Greater p = absurd p
-
-lesser : (r : Ordering) → is_lt r ≡ true → r ≡ Less
-lesser Less e = refl
-lesser Equal e = cc
-lesser Greater e = cc
-
-greater : (r : Ordering) → is_lt r ≡ false → is_eq r ≡ false → r ≡ Greater
-greater Less e f = cc
-greater Equal e f = cc
-greater Greater e f = refl
-
--- tags after another
 abbrev After : Name → List AlarmRow → Type 0
-After a [] = Unit {0}
-After a (r ∷ rows) = (name_cmp a r.tag ≡ Less) × After a rows
+After = TagsAfter alarm_tag
 
 abbrev pub Ordered : List AlarmRow → Type 0
-Ordered [] = Unit {0}
-Ordered (r ∷ rows) = After r.tag rows × Ordered rows
-
-after_of : (a : Name) (rows : List AlarmRow) → T (below_all name_cmp a (map (λ r. (alarm_tag r, r)) rows)) → After a rows
-after_of a [] h = tt
-after_of a (r ∷ rows) h = (less (name_cmp a r.tag) (first _ _ h), after_of a rows (second _ _ h))
-
-pub ordered : (rows : List AlarmRow) → IsInOrder name_cmp alarm_tag rows → Ordered rows
-ordered [] h = tt
-ordered (r ∷ rows) h = (after_of r.tag rows (first _ _ h), ordered rows (second _ _ h))
-
-turned : (a b : Name) → name_cmp a b ≡ Less → name_cmp b a ≡ Greater
-turned a b e = name_total.antisymm b a ∙ ap ordering_reverse e
-
-back : (a b : Name) → name_cmp a b ≡ Greater → name_cmp b a ≡ Less
-back a b e = name_total.antisymm b a ∙ ap ordering_reverse e
-
-after_at : (a : Name) (rows : List AlarmRow) → After a rows → (k : ℕ) (d : AlarmRow) → k < length rows → name_cmp a (get_or rows k d).tag ≡ Less
-after_at a [] h k d lt = absurd (omega arith)
-after_at a (r ∷ rows) h zero d lt = h.0
-after_at a (r ∷ rows) h (suc k) d lt = after_at a rows h.1 k d (omega arith)
-
--- the tags before a place are smaller, and the others aren't
-pub parted : (rows : List AlarmRow) (t : Name) → IsInOrder name_cmp alarm_tag rows → IsPartitionedBy (λ r. is_lt (name_cmp r.tag t)) rows
-parted rows t order = by rows (ordered rows order)
-  where
-    by : (xs : List AlarmRow) → Ordered xs → (i j : ℕ) (d : AlarmRow) → i ≤ j → j < length xs → is_lt (name_cmp (get_or xs j d).tag t) ≡ true → is_lt (name_cmp (get_or xs i d).tag t) ≡ true
-    by [] h i j d le lt e = absurd (omega arith)
-    by (x ∷ xs) h zero zero d le lt e = e
-    by (x ∷ xs) h zero (suc j) d le lt e = ap is_lt (name_total.trans x.tag (get_or xs j d).tag t (after_at x.tag xs h.0 j d (omega arith)) (lesser (name_cmp (get_or xs j d).tag t) e))
-    by (x ∷ xs) h (suc i) zero d le lt e = absurd (omega arith)
-    by (x ∷ xs) h (suc i) (suc j) d le lt e = by xs h.1 i j d (omega arith) (omega arith) e
+Ordered = TagsOrdered alarm_tag
 
 abbrev pub Parts : Name → List AlarmRow → ℕ → Type 0
-Parts t rows p = IsPartitionPoint (λ r. is_lt (name_cmp r.tag t) ≡ true) (λ r. is_lt (name_cmp r.tag t) ≡ false) rows p
-
-later : (t : Name) (r : AlarmRow) (rows : List AlarmRow) (p : ℕ) → Parts t (r ∷ rows) (suc p) → Parts t rows p
-later t r rows p h = (λ k d low high. h.0 (suc k) d (omega arith) (omega arith), λ k d low high. h.1 (suc k) d (omega arith) (omega arith))
+Parts = TagsParts alarm_tag
 
 -- the events of an alarm, with one more
 of_alarm-append : (a : Name) (xs ys : List Event) → of_alarm a (xs ++ ys) ≡ of_alarm a xs ++ of_alarm a ys
@@ -114,10 +56,6 @@ module _ (es : List Event) (e : Event) where
   all_after [] h = refl
   all_after (r ∷ rows) h = λ i. others es e r (ap is_eq (turned e.tag r.tag h.0)) i ∷ all_after rows h.1 i
 
-  after_more : (a : Name) (rows : List AlarmRow) → name_cmp e.tag a ≡ Less → After a rows → After e.tag rows
-  after_more a [] lt h = tt
-  after_more a (r ∷ rows) lt h = (name_total.trans e.tag a r.tag lt h.0, after_more a rows lt h.1)
-
   -- the alarm of its tag stands at the place
   pub set_own : (rows : List AlarmRow) (p : ℕ) (r : AlarmRow) → Ordered rows → Parts e.tag rows p → Some r ≡ slice_get rows p → same_name r.tag e.tag ≡ true
       → set (summaries rows es) p (summary r.latching (of_alarm r.tag es ++ e ∷ [])) ≡ summaries rows (es ++ e ∷ [])
@@ -130,7 +68,7 @@ module _ (es : List Event) (e : Event) where
       λ i. here i ∷ rest i
   set_own (x ∷ rows) (suc p) r order h is t =
       let here : summary_of es x ≡ summary_of (es ++ e ∷ []) x = sym (others es e x (before_it x (h.0 0 x (omega arith) (omega arith)))) in
-      let rest = set_own rows p r order.1 (later e.tag x rows p h) is t in
+      let rest = set_own rows p r order.1 (later alarm_tag e.tag x rows p h) is t in
       λ i. here i ∷ rest i
 
   -- no alarm has its tag
@@ -139,10 +77,10 @@ module _ (es : List Event) (e : Event) where
   none_own (x ∷ rows) zero order h away =
       let other : same_name x.tag e.tag ≡ false = away x refl in
       let below : name_cmp e.tag x.tag ≡ Less = back x.tag e.tag (greater (name_cmp x.tag e.tag) (h.1 0 x (omega arith) (omega arith)) other) in
-      λ i. sym (others es e x other) i ∷ sym (all_after rows (after_more x.tag rows below order.0)) i
+      λ i. sym (others es e x other) i ∷ sym (all_after rows (after_more alarm_tag e.tag x.tag rows below order.0)) i
   none_own (x ∷ rows) (suc p) order h away =
       let here : summary_of es x ≡ summary_of (es ++ e ∷ []) x = sym (others es e x (before_it x (h.0 0 x (omega arith) (omega arith)))) in
-      let rest = none_own rows p order.1 (later e.tag x rows p h) away in
+      let rest = none_own rows p order.1 (later alarm_tag e.tag x rows p h) away in
       λ i. here i ∷ rest i
 
 pub summary_at : (es : List Event) (rows : List AlarmRow) (p : ℕ) (r : AlarmRow) → Some r ≡ slice_get rows p → slice_get (summaries rows es) p ≡ Some (summary_of es r)
@@ -171,12 +109,12 @@ pub added_own : (alarms : List AlarmRow) (es : List Event) (e : Event) (old new 
     → ((fs : List Event) → slice_get old p ≡ Some (summary r.latching fs) → new ≡ set old p (summary r.latching (fs ++ e ∷ []))) → new ≡ summaries alarms (es ++ e ∷ [])
 added_own alarms es e old new p r order parts is t so adds =
     adds (of_alarm r.tag es) (ap (λ l. slice_get l p) so ∙ summary_at es alarms p r is)
-    ∙ ap (λ l. set l p (summary r.latching (of_alarm r.tag es ++ e ∷ []))) so ∙ set_own es e alarms p r (ordered alarms order) (parts order) is t
+    ∙ ap (λ l. set l p (summary r.latching (of_alarm r.tag es ++ e ∷ []))) so ∙ set_own es e alarms p r (ordered alarm_tag alarms order) (parts order) is t
 
 pub added_other : (alarms : List AlarmRow) (es : List Event) (e : Event) (old : List Summary) (p : ℕ) (r : AlarmRow) → IsInOrder name_cmp alarm_tag alarms → (IsInOrder name_cmp alarm_tag alarms → Parts e.tag alarms p)
     → Some r ≡ slice_get alarms p → same_name r.tag e.tag ≡ false → old ≡ summaries alarms es → old ≡ summaries alarms (es ++ e ∷ [])
 added_other alarms es e old p r order parts is f so =
-    so ∙ none_own es e alarms p (ordered alarms order) (parts order) (λ x there. let same : x ≡ r = some_same x r (there ∙ sym is) in ap (λ (y : AlarmRow). same_name y.tag e.tag) same ∙ f)
+    so ∙ none_own es e alarms p (ordered alarm_tag alarms order) (parts order) (λ x there. let same : x ≡ r = some_same x r (there ∙ sym is) in ap (λ (y : AlarmRow). same_name y.tag e.tag) same ∙ f)
   where
     some_same : (x y : AlarmRow) → Some x ≡ Some y → x ≡ y
     some_same x y e = cc
@@ -184,13 +122,7 @@ added_other alarms es e old p r order parts is f so =
 pub added_none : (alarms : List AlarmRow) (es : List Event) (e : Event) (old : List Summary) (p : ℕ) → IsInOrder name_cmp alarm_tag alarms → (IsInOrder name_cmp alarm_tag alarms → Parts e.tag alarms p)
     → None ≡ slice_get alarms p → old ≡ summaries alarms es → old ≡ summaries alarms (es ++ e ∷ [])
 added_none alarms es e old p order parts is so =
-    so ∙ none_own es e alarms p (ordered alarms order) (parts order) (λ x there. absurd (none_some x (is ∙ sym there)))
+    so ∙ none_own es e alarms p (ordered alarm_tag alarms order) (parts order) (λ x there. absurd (none_some x (is ∙ sym there)))
   where
     none_some : (x : AlarmRow) → None ≡ Some x → ⊥
     none_some x e = cc
-
-pub get_some : (xs : List AlarmRow) (p : ℕ) (x : AlarmRow) → true ≡ nat_lt p (length xs) → x ≡ get_or xs p x → Some x ≡ slice_get xs p
-get_some xs p x within is = ap (λ (y : AlarmRow). let o : Option AlarmRow = Some y in o) is ∙ sym (slice_get-get_or xs p x (ltb-true p (length xs) (sym within)))
-
-pub get_none : (xs : List AlarmRow) (p : ℕ) → false ≡ nat_lt p (length xs) → None ≡ slice_get xs p
-get_none xs p past = sym (slice_get_past xs p (ltb-false p (length xs) (sym past)))

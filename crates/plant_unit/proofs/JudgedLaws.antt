@@ -17,14 +17,15 @@ use Rattle.plant_model.proofs.ChangeLaws.{opening_turns}
 use Rattle.plant_model.proofs.FactLaws.{not_true}
 use Rattle.plant_model.proofs.ReadLaws.{facts-rows}
 use Rattle.plant_unit.proofs.KeptLaws.{part_kept_of}
-use Rattle.plant_model.proofs.PartLaws.{part_changes, part_verdict}
+use Rattle.plant_model.proofs.PartLaws.{part_changes, part_verdict, stranger_verdict}
 use Rattle.plant_model.proofs.WorldLaws.{not_granted, refused_changes}
 use Rattle.plant_unit.specs.Additions.{AreKept}
 use Rattle.plant_model.specs.Facts.{facts}
 use Rattle.plant_model.specs.Legality.{IsLegal}
-use Rattle.plant_model.specs.Parts.{none, part_of}
+use Rattle.plant_model.specs.Parts.{none, part_of, part_of_holder, part_of_stranger}
 use Rattle.plant_model.specs.RowChanges.{changed_by, changes_for, no_rows, puts_unit}
-use Rattle.plant_model.specs.RowFacts.{facts_in}
+use Rattle.plant_model.specs.RowFacts.{facts_in, holds_by}
+use Rattle.plant_model.specs.declared.rows.UnitRows.{UnitRows}
 use Rattle.plant_model.specs.Rows.{rows_of, unit_row}
 use Rattle.plant_model.specs.Verdicts.{changes_history, is_opening, verdict, verdict_of}
 use Rattle.plant_types.specs.Names.{Name}
@@ -53,13 +54,27 @@ judged h legal c v plain j =
 
 -- the facts of the part give what the facts of the history give
 part_judged : (h : List Call) → IsLegal h → (c : Call) (v : Verdict) → IsJudged (facts_in (part_of c (rows_of h))) c v → IsJudged (facts h) c v
-part_judged h legal c v j =
-    let verdicts : verdict_of (facts_in (part_of c (rows_of h))) c ≡ verdict h c = part_verdict (rows_of h) c.person c.moment c.request ∙ ap (λ f. verdict_of f c) (facts-rows h legal) in
-    let changes : changes_for (facts_in (part_of c (rows_of h))) c ≡ changes_for (facts h) c = part_changes (rows_of h) c.person c.moment c.request ∙ ap (λ f. changes_for f c) (facts-rows h legal) in
-    record {
-      answer = j.answer ∙ verdicts;
-      changes = j.changes ∙ (λ i. if changes_history (verdicts i) c then changes i else []);
-    }
+part_judged h legal c v j = by (holds_by (rows_of h).grants c.moment c.person) refl where
+  rows : UnitRows
+  rows = rows_of h
+
+  verdicts : verdict_of (facts_in (part_of c rows)) c ≡ verdict h c
+  verdicts = part_verdict rows c.person c.moment c.request ∙ ap (λ f. verdict_of f c) (facts-rows h legal)
+
+  by : (b : Bool) → holds_by rows.grants c.moment c.person ≡ b → IsJudged (facts h) c v
+  by true some =
+      let changes : changes_for (facts_in (part_of c rows)) c ≡ changes_for (facts h) c = part_changes rows c.person c.moment c.request some ∙ ap (λ f. changes_for f c) (facts-rows h legal) in
+      record {
+        answer = j.answer ∙ verdicts;
+        changes = j.changes ∙ (λ i. if changes_history (verdicts i) c then changes i else []);
+      }
+  by false none =
+      let refused : verdict h c ≡ Err NotGranted = sym (ap (λ f. verdict_of f c) (facts-rows h legal)) ∙ stranger_verdict rows c.person c.moment c.request none in
+      let unchanged : changes_history (verdict h c) c ≡ false = not_true _ (refused_changes (verdict h c) c NotGranted refused) in
+      record {
+        answer = j.answer ∙ verdicts;
+        changes = j.changes ∙ none_if (changes_for (facts_in (part_of c rows)) c) (changes_history (verdict_of (facts_in (part_of c rows)) c) c) (ap (λ x. changes_history x c) verdicts ∙ unchanged) ∙ sym (none_if (changes_for (facts h) c) (changes_history (verdict h c) c) unchanged);
+      }
 
 -- a code that was never opened
 judged_unopened : (c : Call) → IsVerdictOn [] c (IsRefused NotGranted)
@@ -89,11 +104,17 @@ part_kept h part c o some left =
     let known : IsPartOf (Some part) h c = subst (λ x. IsPartOf x h c) some left in
     subst (λ (x : UnitPart). AreKept x) (sym known.0) (part_kept_of h known.1 c.person c.moment c.request)
 
+part_units : (c : Call) (rows : UnitRows) → (part_of c rows).rows.units ≡ rows.units
+part_units c rows = by (holds_by rows.grants c.moment c.person) where
+  by : (b : Bool) → (if b then part_of_holder c rows else part_of_stranger c rows).rows.units ≡ rows.units
+  by true = refl
+  by false = refl
+
 -- a part of a history's rows has the unit's row
 pub has_unit : (h : List Call) (part : UnitPart) (c : Call) (o : Option UnitPart) → o ≡ Some part → IsPartOf o h c → slice_get part.rows.units 0 ≡ None → ⊥
 has_unit h part c o some left none =
     let is : part ≡ part_of c (rows_of h) = (subst (λ x. IsPartOf x h c) some left).0 in
-    let no : None ≡ Some (unit_row h) = sym none ∙ ap (λ x. slice_get x.rows.units 0) is in
+    let no : None ≡ Some (unit_row h) = sym none ∙ ap (λ x. slice_get x.rows.units 0) is ∙ ap (λ us. slice_get us 0) (part_units c (rows_of h)) in
     cc
 
 -- an opening

@@ -2,7 +2,7 @@
 use Rattle.plant_alarm.specs.declared.event.Event.{Event}
 use Rattle.plant_model.proofs.CountLaws.{few_limits, few_matrices, few_proposals, few_records}
 use Rattle.plant_model.proofs.FactLaws.{alarm_in, change_entry_in, not_true, revision_in, same_number_of, sheet_source}
-use Rattle.plant_model.proofs.HistoryLaws.{alarm_of, alarms_told, change_with, record_with, tags_of_alarms, tags_of_records}
+use Rattle.plant_model.proofs.HistoryLaws.{alarm_of, alarms_told, change_with, record_with, records_told, shelves_told, tag_of_record, tags_of_alarms, tags_of_records, tags_of_shelves}
 use Rattle.plant_model.proofs.PartLaws.{matrix_there}
 use Rattle.plant_model.proofs.PartLists.{or_later, or_true}
 use Rattle.plant_model.proofs.QuotaLaws.{few_alarms}
@@ -14,9 +14,9 @@ use Rattle.plant_model.specs.Events.{events}
 use Rattle.plant_model.specs.Histories.{same_number}
 use Rattle.plant_model.specs.Legality.{IsLegal}
 use Rattle.plant_model.specs.Matrices.{matrix_numbered}
-use Rattle.plant_model.specs.Parts.{Selection, counted_for, every, is_source, none, of_proposal, part_of, rows_selected, selected}
-use Rattle.plant_model.specs.RowFacts.{alarm_tag, cells_at, change_found, change_number, has_cells, matrix_read, record_found, record_tag, unit_read}
-use Rattle.plant_model.specs.Rows.{alarm_row, alarm_rows, cell_rows, change_entry, change_rows, max_of_kind, record_entry, record_rows, rows_of, sheet_of_kind, tag_of_kind, topic}
+use Rattle.plant_model.specs.Parts.{Selection, counted_for, every, is_source, none, of_proposal, part_of, part_of_holder, part_of_stranger, rows_selected, selected}
+use Rattle.plant_model.specs.RowFacts.{alarm_tag, cells_at, change_found, change_number, has_cells, holds_by, matrix_read, record_found, record_tag, shelf_tag, unit_read}
+use Rattle.plant_model.specs.Rows.{alarm_row, alarm_rows, cell_rows, change_entry, change_rows, max_of_kind, record_entry, record_rows, records_of, rows_of, shelf_rows, sheet_of_kind, tag_of_kind, topic}
 use Rattle.plant_model.specs.declared.call.Call.{Call}
 use Rattle.plant_model.specs.declared.call.Request.{Request}
 use Rattle.plant_model.specs.declared.call.Request.TheVariants.{Alarms, Approve, ChangeOf, Floods, MyShelves, MyUnits, Grant, Import, OneShotShelve, OpenUnit, PlaceInService, Propose, RecordOf, Register, Reject, RemoveFromService, Shelves, Standing, Status, TimedShelve, Unshelve, Withdraw, WithdrawChange}
@@ -34,14 +34,16 @@ use Rattle.plant_ration.specs.declared.change.Sheet.{Sheet}
 use Rattle.plant_types.proofs.Orders.{name_total, number_total, same_names, same_numbers}
 use Rattle.plant_types.proofs.TableLaws.{IsInOrder-rows}
 use Rattle.plant_types.specs.Names.{Name, name_cmp, same_name}
-use Rattle.plant_types.specs.Tables.{in_order, row_at}
+use Rattle.plant_model.specs.Shelves.{shelf}
+use Rattle.plant_types.specs.Tables.{IsInOrder, in_order, row_at}
+use Rattle.std.specs.FinMap.Entries.{below_all}
 use Rattle.plant_unit.proofs.EventBounds.{few_events}
 use Rattle.plant_unit.specs.Additions.{AreKept}
 use Rattle.plant_unit.specs.Readings.{has_its_sheet, has_kind, has_sheet, is_left_out, is_matrix_at}
 use Rattle.std.proofs.Common.{ap, arith, cond, inl, inr, refl, subst, sym, ◌∙◌, ◌⊎◌}
 use Rattle.std.specs.List.{cons_option, list_all, list_any}
 use Rattle.std.specs.Ordering.{nat_cmp}
-use Rattle.std.specs.Prelude.{Bool, List, None, Option, Some, [], false, filter, filter_map, is_some, length, map, max, option_map, true, unwrap_or, ℕ, ◌&&◌, ◌<◌, ◌==◌, ◌||◌, ◌∷◌, ◌≡◌, ◌≤◌}
+use Rattle.std.specs.Prelude.{Bool, List, None, Option, Some, T, [], false, filter, filter_map, if◌then◌else◌, is_some, length, map, max, option_map, true, unwrap_or, ℕ, ◌&&◌, ◌<◌, ◌==◌, ◌||◌, ◌∷◌, ◌≡◌, ◌≤◌}
 use Rattle.plant_import.specs.Merging.{IsRising}
 use Rattle.plant_model.proofs.EventLaws.{events_rise}
 
@@ -76,6 +78,30 @@ or_either false b e = inr e
 
 fits : (n : ℕ) → n ≤ 20000 → n < 4294967295
 fits n few = omega (arith, few)
+
+-- the records of a history stand in the order of their tags
+both : (a b : Bool) → T a → T b → T (a && b)
+both true b p q = q
+both false b p q = p
+
+first : (a b : Bool) → T (a && b) → T a
+first true b p = tt
+first false b p = p
+
+second : (a b : Bool) → T (a && b) → T b
+second true b p = p
+second false b p = absurd p
+
+below_entries : (k : Name) (rows : List RecordRow) → T (below_all name_cmp k (map (λ r. (tag_of_record r, r)) rows)) → T (below_all name_cmp k (map (λ r. (record_tag r, r)) (map record_entry rows)))
+below_entries k [] h = tt
+below_entries k (r ∷ rows) h = both _ _ (first _ _ h) (below_entries k rows (second _ _ h))
+
+entries_rise : (rows : List RecordRow) → IsInOrder name_cmp tag_of_record rows → IsInOrder name_cmp record_tag (map record_entry rows)
+entries_rise [] h = tt
+entries_rise (r ∷ rows) h = both _ _ (below_entries r.tag rows (first _ _ h)) (entries_rise rows (second _ _ h))
+
+records_rise : (h : List Call) → IsInOrder name_cmp record_tag (record_rows h)
+records_rise h = entries_rise (records_of h) (IsInOrder-rows (record_of h) (tags_of_records h) (records_told h))
 
 -- A source of a record is a change of a record
 module _ (h : List Call) (n : ℕ) (m : Grid) (is : kind_of_change h n ≡ Some (Matrix m)) where
@@ -234,12 +260,14 @@ module _ (h : List Call) (legal : IsLegal h) (p : Name) (t : ℕ) (q : Request) 
     by true = of_alarm_row (latching h a)
     by false = omega arith
 
-  pub part_kept_of : AreKept (part_of c (rows_of h))
-  part_kept_of =
+  holder_kept : AreKept (part_of_holder c (rows_of h))
+  holder_kept =
       record {
         events_rise = rises_left s.event (events h) (events_rise h legal);
         events_few = few_left s.event (events h) (few_events h legal);
         alarms_in_order = left_in_order name_cmp alarm_tag (λ r. s.alarm r.tag) (alarm_rows h) (IsInOrder-rows (alarm_row h) (tags_of_alarms h) (alarms_told h));
+        shelves_in_order = left_in_order name_cmp shelf_tag (λ r. s.shelf r.tag) (shelf_rows h) (IsInOrder-rows (shelf h) (tags_of_shelves h) (shelves_told h));
+        records_in_order = left_in_order name_cmp record_tag (λ r. s.rationale r.tag) (record_rows h) (records_rise h);
         matrix_whole = matrix_whole;
         changes_whole = changes_whole;
         records_whole = records_among (in_order name_cmp (tags_of_records h));
@@ -248,3 +276,26 @@ module _ (h : List Call) (legal : IsLegal h) (p : Name) (t : ℕ) (q : Request) 
         record_fits = λ a. fits _ (revision_left a);
         limit_fits = λ a. fits _ (limit_left a);
       }
+
+  stranger_kept : AreKept (part_of_stranger c (rows_of h))
+  stranger_kept =
+      record {
+        events_rise = λ i j d lt le. absurd (omega arith);
+        events_few = omega arith;
+        alarms_in_order = tt;
+        shelves_in_order = tt;
+        records_in_order = tt;
+        matrix_whole = refl;
+        changes_whole = λ n c e. cc;
+        records_whole = refl;
+        count_fits = omega arith;
+        matrix_fits = fits (matrix_revision h) (few_matrices h legal);
+        record_fits = λ a. omega arith;
+        limit_fits = λ a. omega arith;
+      }
+
+  pub part_kept_of : AreKept (part_of c (rows_of h))
+  part_kept_of = by (holds_by (rows_of h).grants t p) where
+    by : (b : Bool) → AreKept (if b then part_of_holder c (rows_of h) else part_of_stranger c (rows_of h))
+    by true = holder_kept
+    by false = stranger_kept

@@ -1,4 +1,5 @@
 pub mod MatrixLaws
+pub mod RowsFound
 pub mod AlarmLists
 pub mod EventBounds
 pub mod KeptLaws

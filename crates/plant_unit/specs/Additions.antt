@@ -4,7 +4,7 @@ use Rattle.plant_import.specs.Merging.{IsRising, fresh}
 use Rattle.plant_import.specs.declared.merging.Merged.{Merged}
 use Rattle.plant_model.specs.Facts.{Facts, limit_revision_of}
 use Rattle.plant_model.specs.Refusals.{file_refusals, first_refusal}
-use Rattle.plant_model.specs.RowFacts.{alarm_tag, change_found, facts_in, unit_read}
+use Rattle.plant_model.specs.RowFacts.{alarm_tag, change_found, facts_in, record_tag, shelf_tag, unit_read}
 use Rattle.plant_model.specs.declared.reply.Refused.{Refused}
 use Rattle.plant_model.specs.declared.rows.ChangeEntry.{ChangeEntry}
 use Rattle.plant_model.specs.declared.rows.UnitPart.{UnitPart}
@@ -27,10 +27,12 @@ addition f t rows = addition_or (first_refusal (file_refusals f t (Ok rows))) (r
 
 -- what the parts of a legal history keep
 pub record AreKept (part : UnitPart) : Type 0 where
-  -- events in rising number, not too many to be counted, and alarms in the order of their tags
+  -- events in rising number, not too many to be counted; alarms, shelves and records in the order of their tags
   pub events_rise : IsRising part.rows.events
   pub events_few : length part.rows.events ≤ 4294967295
   pub alarms_in_order : IsInOrder name_cmp alarm_tag part.rows.alarms
+  pub shelves_in_order : IsInOrder name_cmp shelf_tag part.rows.shelves
+  pub records_in_order : IsInOrder name_cmp record_tag part.rows.records
   -- the matrix in force, where the part has cells of it, is a matrix
   pub matrix_whole : (is_left_out part.rows (unit_read part.rows).matrix_no || is_matrix_at part.rows (unit_read part.rows).matrix_no) ≡ true
   -- a change has what its kind needs: the columns, or the rows of a matrix

@@ -15,18 +15,12 @@ ghost use Rattle.plant_model.specs.RowFacts.{alarm_tag};
 ghost use Rattle.plant_unit.specs.Summaries as told;
 ghost use Rattle.plant_unit.specs.Summaries.{is_named, summary_of};
 
+use crate::found::place_of;
 use plant_alarm::{Event, Summary};
 use plant_import::events_after;
 use plant_model::{AlarmRow, Change, Row};
-use plant_types::{Duplicate, Fault, Table, Tag};
+use plant_types::{Duplicate, Fault, Table};
 use std::alloc::Global;
-
-/// How many of the alarms, which stand in the order of their tags, have a smaller tag.
-fn place_of(alarms: &[AlarmRow], tag: &Tag) -> usize
-    ensures { IsInOrder name_cmp alarm_tag alarms.now → IsPartitionPoint (λ r. is_lt (name_cmp r.tag tag.now) ≡ true) (λ r. is_lt (name_cmp r.tag tag.now) ≡ false) alarms.now result }
-{
-    alarms.partition_point(|alarm| alarm.tag < *tag)
-}
 
 /// Brings the summary at a place forward by one more event of its alarm.
 fn add_at(summaries: &mut Table<Summary>, place: usize, event: &Event, latching: bool)

@@ -4,24 +4,17 @@ ghost use Rattle.std.specs.Prelude.{◌≡◌, ℕ, Some, ◌&&◌, not, count_b
 ghost use Rattle.std.specs.List.{list_any};
 ghost use Rattle.plant_types.specs.Names.{name_cmp, same_name};
 ghost use Rattle.plant_types.specs.Tables.{row_at};
-ghost use Rattle.plant_types.specs.Roles.{pair_cmp, same_pair, all_roles};
+ghost use Rattle.plant_types.specs.Roles.{same_pair};
 ghost use Rattle.plant_alarm.specs.Shelves.{is_unshelved, shelf_state};
-ghost use Rattle.plant_model.specs.Grants as grants;
 ghost use Rattle.plant_model.specs.Shelves as shelves;
 ghost use Rattle.plant_model.specs.Facts.{is_steward_row, others_shelved, returned, shelf_now};
 ghost use Rattle.plant_model.specs.Refusals.{holds_some};
 ghost use Rattle.plant_model.specs.RowFacts.{alarm_tag, facts_in, pair_of, shelf_tag};
 
 use plant_alarm::{Shelf, ShelfState, shelf_at};
-use plant_books::last_return;
+use plant_books::{holds_some_by, is_held_by, is_pair, last_return};
 use plant_model::{GrantRow, ShelfRow, UnitPart};
 use plant_types::{Moment, Person, Role, Tag};
-
-fn is_pair(row: &GrantRow, person: &Person, role: Role) -> bool
-    ensures { result ≡ same_pair (person.now, role) (pair_of row.now) }
-{
-    *person == row.person && role.is(row.role_no)
-}
 
 /// Whether the pair stands.
 pub fn stands(grants: &[GrantRow], person: &Person, role: Role) -> bool
@@ -30,47 +23,19 @@ pub fn stands(grants: &[GrantRow], person: &Person, role: Role) -> bool
     grants.iter().any(|row| is_pair(row, person, role))
 }
 
-fn grant_of<'a>(grants: &'a [GrantRow], person: &Person, role: Role) -> Option<&'a GrantRow>
-    ensures { option_copied result ≡ row_at pair_cmp pair_of (person.now, role) grants.now }
-{
-    grants.iter().find(|row| is_pair(row, person, role))
-}
-
-/// Whether the moment lies before the end, where there is one.
-pub fn is_before(now: Moment, end: Option<Moment>) -> bool
-    ensures { result ≡ grants.is_before now end }
-{
-    match end {
-        Some(end) => now.seconds() < end.seconds(),
-        None => true,
-    }
-}
-
 /// Whether the pair is held at the moment.
 pub fn is_held(part: &UnitPart, person: &Person, role: Role, now: Moment) -> bool
     ensures { result ≡ (facts_in part.now).held now (person.now, role) }
 {
-    match grant_of(part.rows.grants.as_slice(), person, role) {
-        Some(row) => is_before(now, row.end_s),
-        None => false,
-    }
+    is_held_by(part.rows.grants.as_slice(), person, role, now)
 }
-
-const ROLES: [Role; 6] = [
-    Role::Viewer,
-    Role::Operator,
-    Role::Maintainer,
-    Role::Engineer,
-    Role::Approver,
-    Role::Steward,
-];
 
 /// Whether the person holds some role at the moment.
 #[tactic(auto, unfolding(plant_model::specs::Refusals::holds_some))]
 pub fn holds_any(part: &UnitPart, person: &Person, now: Moment) -> bool
     ensures { result ≡ holds_some (facts_in part.now) now person.now }
 {
-    ROLES.iter().any(|role| is_held(part, person, *role, now))
+    holds_some_by(part.rows.grants.as_slice(), person, now)
 }
 
 /// How many Steward pairs stand.

@@ -6,6 +6,7 @@ mod changes;
 mod decisions;
 mod facts;
 mod floods;
+mod found;
 mod imports;
 mod judgement;
 mod matrices;

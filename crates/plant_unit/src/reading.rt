@@ -11,6 +11,7 @@ ghost use Rattle.plant_model.specs.declared.rows.UnitRows.{UnitRows as TheRows};
 ghost use Rattle.plant_unit.specs.Additions.{AreKept};
 ghost use Rattle.plant_unit.specs.Readings.{change_whole, kind_found, sheet_found};
 
+use crate::found::row_of;
 use crate::matrices::matrix_of;
 use plant_model::{
     ChangeEntry, ChangeRow, ChangeTopic, RecordEntry, RecordRow, UnitPart, UnitRows,
@@ -52,9 +53,9 @@ pub fn revision_of(part: &UnitPart, tag: &Tag) -> u32
 
 /// The priority of an alarm, where it has a record.
 pub fn priority_of(part: &UnitPart, tag: &Tag) -> Option<Cell>
-    ensures { result ≡ (facts_in part.now).priority tag.now }
+    ensures { AreKept part.now → result ≡ (facts_in part.now).priority tag.now }
 {
-    match record_of(part.rows.records.as_slice(), tag) {
+    match row_of(part.rows.records.as_slice(), tag) {
         Some(row) => Some(row.cell_no),
         None => None,
     }

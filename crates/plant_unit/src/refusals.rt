@@ -9,12 +9,12 @@ ghost use Rattle.plant_model.specs.Refusals.{first_refusal, over_quota, own_refu
 ghost use Rattle.plant_unit.specs.Judged.{holder_refusals, is_import, is_on_change};
 ghost use Rattle.plant_model.specs.declared.call.Request.TheVariants.{ChangeOf, Grant, OneShotShelve, PlaceInService, RecordOf, Register, RemoveFromService, Status, TimedShelve, Unshelve, Withdraw};
 
-use crate::facts::{holds_any, is_before, is_held, others_shelved, stands, state_now, stewards};
+use crate::facts::{holds_any, is_held, others_shelved, stands, state_now, stewards};
 use crate::floods::is_aligned;
 use crate::proposals::{approval_refusal, proposal_refusal, rejection_refusal, withdrawal_refusal};
 use crate::reading::{entry_of, has_rationale};
 use plant_alarm::ShelfState;
-use plant_books::alarm_of;
+use plant_books::{alarm_of, is_before};
 use plant_model::{Call, Full, Refused, Request, UnitPart, UnitRow};
 use plant_types::{Fault, Moment, Person, Role, Seconds, Tag, Tenure};
 use std::alloc::Global;

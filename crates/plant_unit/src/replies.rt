@@ -14,11 +14,12 @@ ghost use Rattle.plant_unit.specs.Judged.{is_import};
 ghost use Rattle.plant_model.specs.declared.call.Request.TheVariants.{Alarms as AlarmsCall, ChangeOf as ChangeCall, Floods as FloodsCall, RecordOf as RecordCall, Shelves as ShelvesCall, Standing as StandingCall, Status as StatusCall};
 
 use crate::decisions::next_number;
-use crate::facts::{shelf_of, state_now, state_of};
+use crate::facts::{state_now, state_of};
 use crate::floods::flood_lines;
+use crate::found::row_of;
 use crate::reading::{change_of, priority_of, rationale_of};
 use plant_alarm::ShelfState;
-use plant_books::{alarm_of, last_return};
+use plant_books::alarm_of;
 use plant_model::{
     AlarmLine, AlarmRow, Reply, Request, ShelfLine, ShelfRow, StandingLine, StatusRow, UnitPart,
 };
@@ -72,21 +73,30 @@ pub fn shelf_line(
     }))
 }
 
+/// When the alarm of a tag last returned to normal.
+fn returned_at(part: &UnitPart, tag: &Tag) -> Option<Moment>
+    ensures { AreKept part.now → result ≡ returned (facts_in part.now) tag.now }
+{
+    match row_of(part.rows.alarms.as_slice(), tag) {
+        Some(alarm) => alarm.return_s,
+        None => None,
+    }
+}
+
 fn line(
     alloc: Global,
     part: &UnitPart,
     row: &ShelfRow,
     now: Moment,
 ) -> Result<Option<ShelfLine>, Fault>
-    ensures value { IfOk result (λ l. l ≡ line_of row.now (shelf_state (shelves.shelf_left (Some row.now)) (returned (facts_in part.now) row.now.tag) now)) }
+    ensures value { AreKept part.now → IfOk result (λ l. l ≡ line_of row.now (shelf_state (shelves.shelf_left (Some row.now)) (returned (facts_in part.now) row.now.tag) now)) }
     ensures err { IfErr result (λ e. e ≡ Memory) }
 {
-    let returned = last_return(part.rows.alarms.as_slice(), &row.tag);
-    shelf_line(alloc, row, returned, now)
+    shelf_line(alloc, row, returned_at(part, &row.tag), now)
 }
 
 fn lines(alloc: Global, part: &UnitPart, now: Moment) -> Result<Table<ShelfLine>, Fault>
-    ensures value { IfOk result (λ lines. lines ≡ shelf_lines (facts_in part.now) now) }
+    ensures value { AreKept part.now → IfOk result (λ lines. lines ≡ shelf_lines (facts_in part.now) now) }
     ensures err { IfErr result (λ e. e ≡ Memory) }
 {
     let shelves = part.rows.shelves.as_slice();
@@ -105,7 +115,7 @@ fn shelves_reply(
     unit: &UnitCode,
     now: Moment,
 ) -> Result<Reply, Fault>
-    ensures value { IfOk result (λ r. r ≡ reply (facts_in part.now) now (ShelvesCall unit.now)) }
+    ensures value { AreKept part.now → IfOk result (λ r. r ≡ reply (facts_in part.now) now (ShelvesCall unit.now)) }
     ensures err { IfErr result (λ e. e ≡ Memory) }
 {
     Ok(Reply::Shelves {
@@ -116,9 +126,9 @@ fn shelves_reply(
 }
 
 fn is_shelved(part: &UnitPart, alarm: &AlarmRow, now: Moment) -> bool
-    ensures { result ≡ not (is_unshelved (shelf_state (shelves.shelf_left ((facts_in part.now).shelf alarm.now.tag)) alarm.now.return_s now)) }
+    ensures { AreKept part.now → result ≡ not (is_unshelved (shelf_state (shelves.shelf_left ((facts_in part.now).shelf alarm.now.tag)) alarm.now.return_s now)) }
 {
-    let shelf = shelf_of(part.rows.shelves.as_slice(), &alarm.tag);
+    let shelf = row_of(part.rows.shelves.as_slice(), &alarm.tag);
     !matches!(state_of(shelf, alarm.return_s, now), ShelfState::Unshelved)
 }
 
@@ -128,7 +138,7 @@ fn alarm_line(
     alarm: &AlarmRow,
     now: Moment,
 ) -> Result<AlarmLine, Fault>
-    ensures value { IfOk result (λ l. l ≡ replies.alarm_line (facts_in part.now) now alarm.now) }
+    ensures value { AreKept part.now → IfOk result (λ l. l ≡ replies.alarm_line (facts_in part.now) now alarm.now) }
     ensures err { IfErr result (λ e. e ≡ Memory) }
 {
     Ok(AlarmLine {
@@ -149,7 +159,7 @@ fn standing_line(
     alarm: &AlarmRow,
     now: Moment,
 ) -> Result<Option<StandingLine>, Fault>
-    ensures value { IfOk result (λ l. l ≡ replies.standing_line (facts_in part.now) now alarm.now) }
+    ensures value { AreKept part.now → IfOk result (λ l. l ≡ replies.standing_line (facts_in part.now) now alarm.now) }
     ensures err { IfErr result (λ e. e ≡ Memory) }
 {
     let Some(since) = alarm.active_s else {
@@ -168,7 +178,7 @@ fn standing_line(
 }
 
 fn alarm_lines(alloc: Global, part: &UnitPart, now: Moment) -> Result<Table<AlarmLine>, Fault>
-    ensures value { IfOk result (λ lines. lines ≡ replies.alarm_lines (facts_in part.now) now) }
+    ensures value { AreKept part.now → IfOk result (λ lines. lines ≡ replies.alarm_lines (facts_in part.now) now) }
     ensures err { IfErr result (λ e. e ≡ Memory) }
 {
     let alarms = part.rows.alarms.as_slice();
@@ -180,7 +190,7 @@ fn alarm_lines(alloc: Global, part: &UnitPart, now: Moment) -> Result<Table<Alar
 }
 
 fn standing_lines(alloc: Global, part: &UnitPart, now: Moment) -> Result<Table<StandingLine>, Fault>
-    ensures value { IfOk result (λ lines. lines ≡ replies.standing_lines (facts_in part.now) now) }
+    ensures value { AreKept part.now → IfOk result (λ lines. lines ≡ replies.standing_lines (facts_in part.now) now) }
     ensures err { IfErr result (λ e. e ≡ Memory) }
 {
     let alarms = part.rows.alarms.as_slice();
@@ -199,7 +209,7 @@ fn alarms_reply(
     unit: &UnitCode,
     now: Moment,
 ) -> Result<Reply, Fault>
-    ensures value { IfOk result (λ r. r ≡ reply (facts_in part.now) now (AlarmsCall unit.now)) }
+    ensures value { AreKept part.now → IfOk result (λ r. r ≡ reply (facts_in part.now) now (AlarmsCall unit.now)) }
     ensures err { IfErr result (λ e. e ≡ Memory) }
 {
     Ok(Reply::Alarms {
@@ -215,7 +225,7 @@ fn standing_reply(
     unit: &UnitCode,
     now: Moment,
 ) -> Result<Reply, Fault>
-    ensures value { IfOk result (λ r. r ≡ reply (facts_in part.now) now (StandingCall unit.now)) }
+    ensures value { AreKept part.now → IfOk result (λ r. r ≡ reply (facts_in part.now) now (StandingCall unit.now)) }
     ensures err { IfErr result (λ e. e ≡ Memory) }
 {
     Ok(Reply::Standing {

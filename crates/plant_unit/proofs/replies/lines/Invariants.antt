@@ -5,7 +5,8 @@ use Rattle.plant_model.specs.Facts.{returned}
 use Rattle.plant_model.specs.Replies.{line_of}
 use Rattle.plant_model.specs.RowFacts.{facts_in}
 use Rattle.plant_model.specs.Shelves.{shelf_left}
+use Rattle.plant_unit.specs.Additions.{AreKept}
 use Rattle.plant_unit.proofs.replies.lines.Given as goal
 
 abbrev pub invariant-loop-row : goal.invariant-loop-row
-invariant-loop-row l = l.lines ≡ filter_map (λ s. line_of s (shelf_state (shelf_left (Some s)) (returned (facts_in l.part) s.tag) l.now)) (take l.row-index l.shelves)
+invariant-loop-row l = AreKept l.part → l.lines ≡ filter_map (λ s. line_of s (shelf_state (shelf_left (Some s)) (returned (facts_in l.part) s.tag) l.now)) (take l.row-index l.shelves)

@@ -2,7 +2,8 @@ use Rattle.std.proofs.Common.{◌≡◌, take}
 use Rattle.std.specs.Prelude.{filter_map}
 use Rattle.plant_model.specs.Replies.{standing_line}
 use Rattle.plant_model.specs.RowFacts.{facts_in}
+use Rattle.plant_unit.specs.Additions.{AreKept}
 use Rattle.plant_unit.proofs.replies.standing_lines.Given as goal
 
 abbrev pub invariant-loop-alarm : goal.invariant-loop-alarm
-invariant-loop-alarm l = l.lines ≡ filter_map (standing_line (facts_in l.part) l.now) (take l.alarm-index l.alarms)
+invariant-loop-alarm l = AreKept l.part → l.lines ≡ filter_map (standing_line (facts_in l.part) l.now) (take l.alarm-index l.alarms)

@@ -1,0 +1,130 @@
+//! Calls over tables in which a statement may take only so many steps.
+
+use plant_examples::{BASE, BEGIN, Exchanges, Mark, SHELVED, between};
+use plant_model::{Answer, Call};
+use plant_office::{Books, Office};
+use plant_store::Tables;
+use plant_trials::{after, bytes_of, call_of, check_rows, lists, tables, text};
+use plant_types::Fault;
+use sqlite::MemStore;
+use std::process::Abort;
+
+/// The answer to a call of which each statement may take so many steps, and the books after it, without that limit.
+fn limited(
+    rt: &(impl Abort + AllocGlobal),
+    mut books: Tables<MemStore>,
+    steps: u64,
+    call: &Call,
+) -> (Answer, Tables<MemStore>) {
+    books.set_steps(Some(steps));
+    let mut office = Office::new(rt.alloc(), books);
+    let answer = office.serve(call);
+    let mut books = office.into_books();
+    books.set_steps(None);
+    (answer, books)
+}
+
+/// The books after the exchanges between these marks.
+fn after_marks<B: Books + Drop>(
+    rt: &(impl Abort + AllocGlobal),
+    books: B,
+    wanted: &Exchanges,
+    last: Mark,
+    next: Mark,
+) -> B {
+    let (requests, answers) = between(wanted, last, next).expect(rt, "exchanges");
+    after(rt.alloc(), books, requests, answers).expect(rt, "answers")
+}
+
+/// Tables after the exchanges before this mark.
+fn tables_before(
+    rt: &(impl Abort + AllocGlobal),
+    wanted: &Exchanges,
+    mark: Mark,
+) -> Tables<MemStore> {
+    let tables = tables(rt.alloc()).expect(rt, "tables");
+    after_marks(rt, tables, wanted, BEGIN, mark)
+}
+
+/// The call between these marks.
+fn call_between(
+    rt: &(impl Abort + AllocGlobal),
+    wanted: &Exchanges,
+    last: Mark,
+    next: Mark,
+) -> Call {
+    let (request, _) = between(wanted, last, next).expect(rt, "exchanges");
+    let call = call_of(rt.alloc(), request).expect(rt, "memory");
+    call.expect(rt, "a call")
+}
+
+/// The answer is the one that is wanted between these marks.
+fn is_wanted(
+    rt: &(impl Abort + AllocGlobal),
+    wanted: &Exchanges,
+    last: Mark,
+    next: Mark,
+    answer: &Answer,
+) {
+    let (_, due) = between(wanted, last, next).expect(rt, "exchanges");
+    let bytes = bytes_of(rt.alloc(), answer).expect(rt, "memory");
+    assert_eq!(rt; text(&bytes), text(due));
+}
+
+/// The books hold what they held before the call between these marks, as lists do; the call is then answered as wanted, and leaves
+/// the same rows as over lists.
+fn goes_on(
+    rt: &(impl Abort + AllocGlobal),
+    mut books: Tables<MemStore>,
+    wanted: &Exchanges,
+    last: Mark,
+    next: Mark,
+) {
+    let lists = lists(rt.alloc()).expect(rt, "lists");
+    let mut ours = after_marks(rt, lists, wanted, BEGIN, last);
+    check_rows(&mut ours, &mut books, &wanted.units).expect(rt, "after a fault");
+    let mut ours = after_marks(rt, ours, wanted, last, next);
+    let mut books = after_marks(rt, books, wanted, last, next);
+    check_rows(&mut ours, &mut books, &wanted.units).expect(rt, "after the call");
+}
+
+/// Whether the call passes with so many steps, answered as wanted. Otherwise it is a fault that leaves the rows as they
+/// were, and the same call without a limit is then answered as wanted and leaves the same rows as over lists.
+fn passes(
+    rt: &(impl Abort + AllocGlobal),
+    wanted: &Exchanges,
+    last: Mark,
+    next: Mark,
+    steps: u64,
+) -> bool {
+    let call = call_between(rt, wanted, last, next);
+    let books = tables_before(rt, wanted, last);
+    let (answer, books) = limited(rt, books, steps, &call);
+    if matches!(answer, Answer::Fault(Fault::Store)) {
+        goes_on(rt, books, wanted, last, next);
+        return false;
+    }
+    is_wanted(rt, wanted, last, next, &answer);
+    true
+}
+
+/// The number of steps with which the call between these marks passes.
+fn steps_of(rt: &(impl Abort + AllocGlobal), wanted: &Exchanges, last: Mark, next: Mark) -> u64 {
+    for steps in 0..10_000u64 {
+        if passes(rt, wanted, last, next, steps) {
+            return steps;
+        }
+    }
+    rt.panic("no end")
+}
+
+/// Each changing call of the base office, interrupted at each step: without a step none passes.
+#[test]
+fn changes_nothing_where_a_call_is_interrupted(rt: HostRuntime) {
+    let wanted = Exchanges::of(rt.alloc(), &[BASE, SHELVED]).expect(&rt, "exchanges");
+    let mut last = BEGIN;
+    for mark in &wanted.marks {
+        assert!(rt; steps_of(&rt, &wanted, last, *mark) > 0);
+        last = *mark;
+    }
+}

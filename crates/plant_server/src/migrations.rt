@@ -1,0 +1,176 @@
+//! The migration of a file of the older schema: its tables are copied to a new file.
+
+ghost use Rattle.std.specs.Prelude.{◌≡◌, false};
+
+use crate::files::{
+    NewNames, STORE, beside, connect, fault_of, is_there, length_of, new_names, put_in_place,
+    remove,
+};
+use plant_store::{StoreFault, Tables, migrate};
+use plant_types::Person;
+use sqlite::{Alter, Connection, File, FileStore, Unknown};
+use std::alloc::Global;
+use std::fs;
+use std::io::ErrorKind;
+use std::os::unix::fs::MetadataExt;
+
+/// Whether there is a file of this name, or a log of it.
+fn is_taken(rt: &HostRuntime, path: &str) -> Result<bool, StoreFault> {
+    let log = beside(rt, path, "-wal")?;
+    Ok(length_of(rt, path)?.is_some() || length_of(rt, &log)?.is_some())
+}
+
+/// Whether the file at this path, which may be a link to it, is the one of this name.
+fn is_same_file(rt: &HostRuntime, path: &str, name: &str) -> Result<bool, StoreFault> {
+    let Ok(file) = fs::metadata(rt, path) else {
+        return Err(STORE);
+    };
+    match fs::symlink_metadata(rt, name) {
+        Ok(found) => Ok(found.dev() == file.dev() && found.ino() == file.ino()),
+        Err(error) if error.kind() == ErrorKind::NotFound => Ok(false),
+        Err(_) => Err(STORE),
+    }
+}
+
+/// Removes what a start or a migration that was cut off left of a new file. Where that is the older file itself, nothing
+/// is removed.
+fn clear(rt: &HostRuntime, old_path: &str, new: &NewNames) -> Result<(), StoreFault> {
+    if is_same_file(rt, old_path, &new.file)? || is_same_file(rt, old_path, &new.log)? {
+        return Err(STORE);
+    }
+    remove(rt, &new.file)?;
+    remove(rt, &new.log)
+}
+
+/// Removes what was made of a new file that can't be finished. What can't be removed is removed by the next try.
+fn discard(rt: &HostRuntime, new: &NewNames) {
+    let _ = remove(rt, &new.file);
+    let _ = remove(rt, &new.log);
+}
+
+/// Copies the tables of the older database to the new one, and hands the older one back.
+fn copy_tables<N: Alter + Drop>(
+    alloc: Global,
+    old: Connection<FileStore<File>>,
+    new: Connection<N>,
+    admin: Person,
+) -> (Connection<FileStore<File>>, Result<Tables<N>, StoreFault>)
+    requires older { old.in_transaction ≡ false }
+    requires newer { new.in_transaction ≡ false }
+{
+    match migrate(alloc, old, new, admin) {
+        Ok((old, books)) => (old, Ok(books)),
+        Err(refused) => (refused.old, Err(refused.fault)),
+    }
+}
+
+/// Makes the new file under this name, and hands the older database back.
+fn copy_to_file(
+    rt: &HostRuntime,
+    old: Connection<FileStore<File>>,
+    path: &str,
+    admin: Person,
+) -> (
+    Connection<FileStore<File>>,
+    Result<Tables<FileStore<File>>, StoreFault>,
+)
+    requires { old.in_transaction ≡ false }
+{
+    match connect(rt, path, Unknown) {
+        Ok(conn) => copy_tables(rt.alloc(), old, conn, admin),
+        Err(fault) => (old, Err(fault)),
+    }
+}
+
+/// Makes the new file under the name beside it, and hands the older database back. Where it can't be made, nothing of it
+/// is left.
+fn make_new(
+    rt: &HostRuntime,
+    old: Connection<FileStore<File>>,
+    old_path: &str,
+    new: &NewNames,
+    admin: Person,
+) -> (
+    Connection<FileStore<File>>,
+    Result<Tables<FileStore<File>>, StoreFault>,
+)
+    requires { old.in_transaction ≡ false }
+{
+    if let Err(fault) = clear(rt, old_path, new) {
+        return (old, Err(fault));
+    }
+    let (old, made) = copy_to_file(rt, old, &new.file, admin);
+    if made.is_err() {
+        discard(rt, new);
+    }
+    (old, made)
+}
+
+/// Closes the new file, which is whole then. Where that fails, nothing of it is left.
+fn close_whole(
+    rt: &HostRuntime,
+    books: Tables<FileStore<File>>,
+    new: &NewNames,
+) -> Result<(), StoreFault> {
+    match books.close().close() {
+        Ok(()) => Ok(()),
+        Err(error) => {
+            discard(rt, new);
+            Err(fault_of(&error))
+        }
+    }
+}
+
+/// Opens the older file and makes the new one from it. The older one is only read, and stays locked meanwhile. The engine
+/// makes a log where there is none: that goes again before the lock does.
+fn make_from(
+    rt: &HostRuntime,
+    old_path: &str,
+    new: &NewNames,
+    admin: Person,
+) -> Result<(), StoreFault> {
+    let log = beside(rt, old_path, "-wal")?;
+    let had_log = length_of(rt, &log)?.is_some();
+    let old = connect(rt, old_path, Unknown)?;
+    let (old, made) = make_new(rt, old, old_path, new, admin);
+    if !had_log {
+        let _ = remove(rt, &log);
+    }
+    drop(old);
+    close_whole(rt, made?, new)
+}
+
+/// Makes sure that the name of the file at this path is on the disk.
+fn sync_folder(rt: &HostRuntime, path: &str) -> Result<(), StoreFault> {
+    let Ok(mut folder) = fs::canonicalize(rt, path) else {
+        return Err(STORE);
+    };
+    folder.pop();
+    match fs::File::open(rt, folder.as_str()) {
+        Ok(folder) => folder.sync_all().map_err(|_| STORE),
+        Err(_) => Err(STORE),
+    }
+}
+
+/// Copies the tables of the older file to a new one, of which the name must be free. The new one is there once it is whole,
+/// or not at all.
+pub fn migrate_file(
+    rt: &HostRuntime,
+    old_path: &str,
+    new_path: &str,
+    admin: Person,
+) -> Result<(), StoreFault> {
+    if !is_there(rt, old_path)? {
+        return Err(StoreFault::NotThisStore);
+    }
+    if is_taken(rt, new_path)? {
+        return Err(STORE);
+    }
+    let new = new_names(rt, new_path)?;
+    make_from(rt, old_path, &new, admin)?;
+    if let Err(fault) = put_in_place(rt, &new, new_path) {
+        discard(rt, &new);
+        return Err(fault);
+    }
+    sync_folder(rt, new_path)
+}

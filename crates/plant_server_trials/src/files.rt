@@ -1,0 +1,131 @@
+//! The program's command over files: one that is made, one that is found again, and those that are refused.
+
+use crate::commands::{Written, is_text, said};
+use std::alloc::Global;
+use std::fs;
+use std::process::Abort;
+
+/// Opens U1, with `ste` as its steward.
+const OPENING: &[u8] =
+    b"POST /units/U1 HTTP/1.1\r\nX-Person: root\r\nX-Moment: 2026-03-01T08:00:00Z\r\nContent-Length: 65\r\n\r\n{\"steward\":\"ste\",\"bands\":[300],\"cells\":[[\"P3\",\"P4\"],[\"P1\",\"P2\"]]}";
+
+const DONE: &str =
+    "HTTP/1.1 200 OK\r\nContent-Type: application/json\r\nContent-Length: 13\r\n\r\n{\"done\":true}";
+
+/// Asks for the units of `ste`.
+const ASKING: &[u8] =
+    b"GET /units HTTP/1.1\r\nX-Person: ste\r\nX-Moment: 2026-03-01T08:00:00Z\r\n\r\n";
+
+const OWN_UNIT: &str =
+    "HTTP/1.1 200 OK\r\nContent-Type: application/json\r\nContent-Length: 45\r\n\r\n{\"units\":[{\"roles\":[\"Steward\"],\"unit\":\"U1\"}]}";
+
+/// What the command says to requests over a file.
+fn said_over(rt: &HostRuntime, admin: &str, path: &str, requests: &[u8]) -> Written {
+    said(
+        rt,
+        &["shelfoffice", "--admin", admin, "--db", path],
+        requests,
+    )
+}
+
+/// Whether everything was answered so, and the session ended with its input.
+fn is_answered(said: &Written, answers: &str) -> bool {
+    said.status == 0 && is_text(&said.output, answers) && is_text(&said.errors, "end: Closed\n")
+}
+
+/// Whether no books were opened, for this reason.
+fn is_unready(said: &Written, reason: &str) -> bool {
+    said.status == 3 && said.output.is_empty() && is_text(&said.errors, reason)
+}
+
+/// Removes what a test left.
+fn remove(rt: &HostRuntime, path: &str) -> bool {
+    fs::remove_file(rt, path).is_ok()
+}
+
+#[test]
+fn finds_the_file_that_it_made(rt: HostRuntime) {
+    let path = "made.db";
+    assert!(rt; is_answered(&said_over(&rt, "root", path, OPENING), DONE));
+    assert!(rt; !fs::exists(&rt, "made.db.new").unwrap_or(true));
+    assert!(rt; !fs::exists(&rt, "made.db.new-wal").unwrap_or(true));
+    assert!(rt; is_answered(&said_over(&rt, "root", path, ASKING), OWN_UNIT));
+    assert!(rt;
+        is_unready(
+            &said_over(&rt, "eve", path, ASKING),
+            "store: not this store\n"
+        )
+    );
+    assert!(rt; is_answered(&said_over(&rt, "root", path, ASKING), OWN_UNIT));
+    assert!(rt; remove(&rt, path));
+}
+
+/// Bytes of a page of a file.
+const PAGE: usize = 4096;
+
+/// The bytes with one bit turned, in the byte at this place.
+fn turned(stop: &impl Abort, alloc: Global, bytes: &[u8], turned_at: usize) -> Vec<u8> {
+    let mut turned = Vec::new(alloc);
+    for (place, byte) in bytes.iter().enumerate() {
+        let bit = u8::from(place == turned_at);
+        turned.push(*byte ^ bit).expect(stop, "memory");
+    }
+    turned
+}
+
+/// Whichever page has a bit turned, nothing is answered from the file.
+#[test]
+fn answers_nothing_from_a_damaged_file(rt: HostRuntime) {
+    let path = "damaged.db";
+    assert!(rt; is_answered(&said_over(&rt, "root", path, OPENING), DONE));
+    let whole = fs::read(&rt, path).expect(&rt, "a file");
+    for place in (PAGE / 2..whole.len()).step_by(PAGE) {
+        let bytes = turned(&rt, rt.alloc(), &whole, place);
+        fs::write(&rt, path, bytes.as_slice()).expect(&rt, "a file");
+        let refused = said_over(&rt, "root", path, ASKING);
+        assert!(rt; is_unready(&refused, "store: fault\n"), "{place}");
+    }
+    fs::write(&rt, path, whole.as_slice()).expect(&rt, "a file");
+    assert!(rt; is_answered(&said_over(&rt, "root", path, ASKING), OWN_UNIT));
+    assert!(rt; remove(&rt, path));
+}
+
+/// What a start that was cut off left beside the file is no file of books, and goes.
+#[test]
+fn begins_where_a_start_was_cut_off(rt: HostRuntime) {
+    let path = "cut.db";
+    for (name, text) in [("cut.db.new", "half"), ("cut.db.new-wal", "a log")] {
+        assert!(rt; fs::write(&rt, name, text).is_ok());
+    }
+    assert!(rt; is_answered(&said_over(&rt, "root", path, OPENING), DONE));
+    assert!(rt; !fs::exists(&rt, "cut.db.new").unwrap_or(true));
+    assert!(rt; !fs::exists(&rt, "cut.db.new-wal").unwrap_or(true));
+    assert!(rt; is_answered(&said_over(&rt, "root", path, ASKING), OWN_UNIT));
+    assert!(rt; remove(&rt, path));
+}
+
+#[test]
+fn refuses_files_of_others(rt: HostRuntime) {
+    for (path, text) in [
+        ("empty.db", ""),
+        (
+            "text.db",
+            "This file is no database, and longer than the first page's head, which has a hundred bytes: so it is read whole.\n",
+        ),
+    ] {
+        assert!(rt; fs::write(&rt, path, text).is_ok());
+        assert!(rt;
+            is_unready(
+                &said_over(&rt, "root", path, ASKING),
+                "store: not this store\n"
+            )
+        );
+        assert!(rt;
+            is_unready(
+                &said_over(&rt, "root", path, ASKING),
+                "store: not this store\n"
+            )
+        );
+        assert!(rt; remove(&rt, path));
+    }
+}

@@ -1,0 +1,135 @@
+//! Connections over real sockets. A client sends its whole stream and closes its sending side before it is served, so
+//! that client and office run in one thread.
+
+use crate::commands::{is_text, said_to};
+use plant_examples::{BASE, Exchanges, LOOKED_AT, SHELVED, numbered};
+use plant_office::{Books, Office};
+use plant_server::{Port, serve_connections};
+use plant_trials::{lists, tables};
+use plant_wire::Failed;
+use std::alloc::Global;
+use std::io::{Read, Write};
+use std::net::{Shutdown, SocketAddr, TcpStream};
+use std::process::Abort;
+use std::time::Duration;
+
+/// The exchanges of these texts.
+fn exchanges(rt: &(impl Abort + AllocGlobal), texts: &[&str]) -> Exchanges {
+    Exchanges::of(rt.alloc(), texts).expect(rt, "exchanges")
+}
+
+/// A port that listens on a free number, and its address.
+fn listening(stop: &impl Abort, rt: &HostRuntime, idle: Option<Duration>) -> (Port, SocketAddr) {
+    let port = Port::listen(rt, 0, idle).expect(stop, "a port");
+    let address = port.address().expect(stop, "an address");
+    (port, address)
+}
+
+/// A client that has sent these bytes.
+fn client(stop: &impl Abort, rt: &HostRuntime, address: SocketAddr, bytes: &[u8]) -> TcpStream {
+    let mut stream = TcpStream::connect(rt, address).expect(stop, "a connection");
+    stream.write_all(bytes).expect(stop, "a write");
+    stream
+}
+
+/// A client that has sent these bytes and sends no more.
+fn whole_client(
+    stop: &impl Abort,
+    rt: &HostRuntime,
+    address: SocketAddr,
+    bytes: &[u8],
+) -> TcpStream {
+    let stream = client(stop, rt, address, bytes);
+    stream.shutdown(Shutdown::Write).expect(stop, "an end");
+    stream
+}
+
+/// What a client was answered.
+fn answers(stop: &impl Abort, alloc: Global, mut stream: TcpStream) -> Vec<u8> {
+    let mut bytes = Vec::new(alloc);
+    stream.read_to_end(&mut bytes).expect(stop, "a read");
+    bytes
+}
+
+/// Serves so many connections over these books, and gives what was answered and the log's lines.
+fn log_of<B: Books + Drop>(
+    rt: &HostRuntime,
+    port: &mut Port,
+    books: B,
+    n: u64,
+) -> (Vec<u8>, Result<(), Failed>) {
+    let alloc = rt.alloc();
+    let mut office = Office::new(alloc, books);
+    let mut log = Vec::new(alloc);
+    let outcome = serve_connections(alloc, port, n, &mut office, &mut log);
+    drop(office.into_books());
+    (log, outcome)
+}
+
+#[test]
+fn answers_the_first_shelf_over_a_socket(rt: HostRuntime) {
+    let wanted = exchanges(&rt, &[BASE, SHELVED, LOOKED_AT]);
+    let (mut port, address) = listening(&rt, &rt, None);
+    let stream = whole_client(&rt, &rt, address, wanted.requests.as_bytes());
+    let (log, outcome) = log_of(&rt, &mut port, tables(rt.alloc()).expect(&rt, "tables"), 1);
+    assert!(rt; outcome.is_ok());
+    assert!(rt; is_text(&log, "connection 1 Closed\n"));
+    let answered = answers(&rt, rt.alloc(), stream);
+    assert_eq!(rt; answered.len(), 1568);
+    assert!(rt; answered.as_slice() == wanted.answers.as_bytes());
+}
+
+/// The beginning of a request.
+const BEGUN: &[u8] = b"POST /units/U1/alarms/PT-101/timed-shelve HTTP/1.1\r\nX-Person: ann\r\n";
+
+#[test]
+fn serves_three_though_the_second_hangs_up(rt: HostRuntime) {
+    let opened = exchanges(&rt, &[BASE]);
+    let shelved = exchanges(&rt, &[SHELVED, LOOKED_AT]);
+    let (mut port, address) = listening(&rt, &rt, None);
+    let first = whole_client(&rt, &rt, address, opened.requests.as_bytes());
+    let second = client(&rt, &rt, address, BEGUN);
+    drop(second);
+    let third = whole_client(&rt, &rt, address, shelved.requests.as_bytes());
+    let (log, outcome) = log_of(&rt, &mut port, lists(rt.alloc()).expect(&rt, "lists"), 3);
+    assert!(rt; outcome.is_ok());
+    let lines = "connection 1 Closed\nconnection 2 BrokenInput\nconnection 3 Closed\n";
+    assert!(rt; is_text(&log, lines));
+    assert!(rt; answers(&rt, rt.alloc(), first).as_slice() == opened.answers.as_bytes());
+    assert!(rt; answers(&rt, rt.alloc(), third).as_slice() == shelved.answers.as_bytes());
+}
+
+#[test]
+fn gives_a_silent_client_up(rt: HostRuntime) {
+    let opened = exchanges(&rt, &[BASE]);
+    let (mut port, address) = listening(&rt, &rt, Some(Duration::from_secs(1)));
+    let silent = client(&rt, &rt, address, b"");
+    let next = whole_client(&rt, &rt, address, opened.requests.as_bytes());
+    let (log, outcome) = log_of(&rt, &mut port, lists(rt.alloc()).expect(&rt, "lists"), 2);
+    assert!(rt; outcome.is_ok());
+    assert!(rt; is_text(&log, "connection 1 ReadFailed\nconnection 2 Closed\n"));
+    assert!(rt; answers(&rt, rt.alloc(), silent).is_empty());
+    assert!(rt; answers(&rt, rt.alloc(), next).as_slice() == opened.answers.as_bytes());
+}
+
+/// The command line for a port and a store.
+fn line_for(rt: &(impl Abort + AllocGlobal), port: usize, store: &str) -> String {
+    let begin = "shelfoffice --admin root --port ";
+    numbered(rt.alloc(), begin, port, store).expect(rt, "memory")
+}
+
+/// A taken port is reported only after the store was opened.
+#[test]
+fn needs_a_free_port(rt: HostRuntime) {
+    let (_port, address) = listening(&rt, &rt, None);
+    let number = address.port();
+    for (store, status, errors) in [
+        ("", 8, "net: failed\n"),
+        (" --db no-folder/plant.db", 3, "store: fault\n"),
+    ] {
+        let refused = said_to(&rt, &rt, &line_for(&rt, usize::from(number), store));
+        assert_eq!(rt; refused.status, status);
+        assert!(rt; refused.output.is_empty());
+        assert!(rt; is_text(&refused.errors, errors));
+    }
+}

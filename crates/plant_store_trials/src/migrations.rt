@@ -1,0 +1,355 @@
+//! Stores of schema 1 that are migrated, and what is refused.
+
+ghost use Rattle.std.specs.Prelude.{◌≡◌, false};
+
+use crate::fixtures::{counts, made_by, opened, person, rows};
+use crate::older::{
+    ROWS, SCHEMA, assert_alike, blank, count_of_tables, migrated, number, older, refused, run,
+    with_each,
+};
+use plant_model::UnitRows;
+use plant_store::{StoreFault, Tables, migrate};
+use plant_types::Fault;
+use sqlite::{Connection, FileStore, Files, MemStore, Options};
+use sqlite_disk::Memory;
+use std::alloc::Global;
+use std::process::Abort;
+
+/// An alarm of U2, by its number.
+const ALARM: &str =
+    "INSERT INTO alarms VALUES ('U2', 'A-' || ?1, 0, 3600, 0, 1, 0, NULL, NULL, NULL, NULL, NULL)";
+
+#[test]
+fn copies_the_rows_of_each_table(rt: HostRuntime) {
+    let alloc = rt.alloc();
+    let full = with_each(&rt, older(&rt, alloc, ""), ALARM, 2_000);
+    let (mut old, books) = migrated(&rt, alloc, full, blank(&rt, alloc));
+    let mut new = books.close();
+    assert_alike(&rt, alloc, &mut old, &mut new);
+    assert!(rt; number(&rt, &mut new, "SELECT count(tag) FROM alarms") == 2_002);
+}
+
+/// Whether the unit has a quota of 2,000, and no grant of it ends.
+fn is_without_ends(rows: &UnitRows) -> bool {
+    let [own] = rows.units.as_slice() else {
+        return false;
+    };
+    let mut ends = false;
+    for grant in rows.grants.as_slice() {
+        ends = ends || grant.end_s.is_some();
+    }
+    own.quota.get() == 2_000 && !ends
+}
+
+#[test]
+fn gives_units_a_quota_and_grants_no_end(rt: HostRuntime) {
+    let alloc = rt.alloc();
+    let (_, mut books) = migrated(&rt, alloc, older(&rt, alloc, ""), blank(&rt, alloc));
+    let rows = rows(&rt, alloc, &mut books);
+    assert!(rt; counts(&rows) == [1, 6, 2, 2, 3, 2, 6, 1, 2]);
+    assert!(rt; is_without_ends(&rows));
+    let again = Tables::open(alloc, books.close(), person(&rt, alloc, b"root"));
+    assert!(rt; again.is_ok());
+}
+
+/// A copy of these bytes.
+fn copied(rt: &impl Abort, alloc: Global, bytes: &[u8]) -> Vec<u8> {
+    let mut copy = Vec::new(alloc);
+    copy.extend_from_slice(bytes).expect(rt, "memory");
+    copy
+}
+
+/// A connection over files.
+fn over(rt: &impl Abort, alloc: Global, files: Files<Memory>) -> Connection<FileStore<Memory>>
+    ensures { result.in_transaction ≡ false }
+{
+    assert!(rt; files.may_be_used());
+    let Ok(conn) = Connection::open_files(alloc, files, Options::new(7)) else {
+        rt.panic("no connection")
+    };
+    if conn.is_autocommit() {
+        conn
+    } else {
+        rt.panic("a transaction")
+    }
+}
+
+/// Files with a store of schema 1, of which the rows are still in the log.
+fn older_files(rt: &impl Abort, alloc: Global) -> Files<Memory> {
+    let files = Files {
+        log: Memory::new(alloc),
+        db: Memory::new(alloc),
+    };
+    let mut conn = over(rt, alloc, files);
+    run(rt, &mut conn, SCHEMA);
+    run(rt, &mut conn, ROWS);
+    conn.into_store().close()
+}
+
+/// The same with all rows in the database file.
+fn closed_files(rt: &impl Abort, alloc: Global) -> Files<Memory> {
+    match over(rt, alloc, older_files(rt, alloc)).close_files() {
+        Ok(files) => files,
+        Err(_) => rt.panic("not closed"),
+    }
+}
+
+/// The bytes of files before a migration and after it, the log's and then the file's.
+fn bytes_around(
+    rt: &impl Abort,
+    alloc: Global,
+    files: Files<Memory>,
+) -> ((Vec<u8>, Vec<u8>), (Vec<u8>, Vec<u8>)) {
+    let log = copied(rt, alloc, files.log.bytes());
+    let db = copied(rt, alloc, files.db.bytes());
+    let (old, books) = migrated(rt, alloc, over(rt, alloc, files), blank(rt, alloc));
+    drop(books);
+    let files = old.into_store().close();
+    let new_log = copied(rt, alloc, files.log.bytes());
+    let new_db = copied(rt, alloc, files.db.bytes());
+    ((log, db), (new_log, new_db))
+}
+
+#[test]
+fn leaves_the_older_files_as_they_are(rt: HostRuntime) {
+    let alloc = rt.alloc();
+    let (before, behind) = bytes_around(&rt, alloc, older_files(&rt, alloc));
+    assert!(rt; before.0.len() > 4_096);
+    assert!(rt; before.0 == behind.0);
+    assert!(rt; before.1 == behind.1);
+}
+
+/// The engine writes the head of a new log where there is none to be read, and no row.
+#[test]
+fn leaves_a_closed_file_as_it_is(rt: HostRuntime) {
+    let alloc = rt.alloc();
+    let (before, behind) = bytes_around(&rt, alloc, closed_files(&rt, alloc));
+    assert!(rt; before.1.len() > 4_096);
+    assert!(rt; before.1 == behind.1);
+    assert!(rt; behind.0.len() < 56);
+}
+
+/// What makes another database of a store of schema 1.
+const OTHERS: [&str; 6] = [
+    "UPDATE office SET schema_no = 2",
+    "UPDATE office SET schema_no = 0",
+    "UPDATE office SET admin = 'ste'",
+    "UPDATE office SET id = 2",
+    "DELETE FROM office",
+    "DROP TABLE office",
+];
+
+#[test]
+fn refuses_what_is_no_store_of_schema_1(rt: HostRuntime) {
+    let alloc = rt.alloc();
+    for statement in OTHERS.iter() {
+        let other = older(&rt, alloc, statement);
+        let back = refused(&rt, alloc, other, blank(&rt, alloc), b"root");
+        assert!(rt;
+            matches!(back.fault, StoreFault::NotThisStore),
+            "{statement}"
+        );
+        assert!(rt; count_of_tables(&back.new) == 0, "{statement}");
+    }
+    let newer = opened(&rt, alloc).close();
+    let back = refused(&rt, alloc, newer, blank(&rt, alloc), b"root");
+    assert!(rt; matches!(back.fault, StoreFault::NotThisStore));
+    let back = refused(&rt, alloc, blank(&rt, alloc), blank(&rt, alloc), b"root");
+    assert!(rt; matches!(back.fault, StoreFault::NotThisStore));
+}
+
+#[test]
+fn refuses_another_person_and_hands_all_back(rt: HostRuntime) {
+    let alloc = rt.alloc();
+    let back = refused(&rt, alloc, older(&rt, alloc, ""), blank(&rt, alloc), b"ste");
+    assert!(rt; matches!(back.fault, StoreFault::NotThisStore));
+    assert!(rt; back.admin == person(&rt, alloc, b"ste"));
+    assert!(rt; count_of_tables(&back.new) == 0);
+    let (mut old, books) = migrated(&rt, alloc, back.old, back.new);
+    assert_alike(&rt, alloc, &mut old, &mut books.close());
+}
+
+/// Whether the books in this database are those of `opened`.
+fn are_opened(rt: &impl Abort, alloc: Global, conn: Connection<MemStore>) -> bool
+    requires { conn.in_transaction ≡ false }
+{
+    let Ok(mut books) = Tables::open(alloc, conn, person(rt, alloc, b"root")) else {
+        return false;
+    };
+    counts(&rows(rt, alloc, &mut books)) == [1, 3, 2, 1, 2, 2, 3, 2, 4]
+}
+
+/// A store of schema 1 is asked for first.
+#[test]
+fn refuses_a_database_with_books(rt: HostRuntime) {
+    let alloc = rt.alloc();
+    let books = opened(&rt, alloc).close();
+    let back = refused(&rt, alloc, blank(&rt, alloc), books, b"root");
+    assert!(rt; matches!(back.fault, StoreFault::NotThisStore));
+    let back = refused(&rt, alloc, older(&rt, alloc, ""), back.new, b"root");
+    assert!(rt; matches!(back.fault, StoreFault::Fault(Fault::Store)));
+    assert!(rt; are_opened(&rt, alloc, back.new));
+    let (mut old, books) = migrated(&rt, alloc, back.old, blank(&rt, alloc));
+    assert_alike(&rt, alloc, &mut old, &mut books.close());
+}
+
+/// One table each of those that a store has.
+const TABLES: [&str; 10] = [
+    "CREATE TABLE office (id INTEGER) STRICT",
+    "CREATE TABLE units (id INTEGER) STRICT",
+    "CREATE TABLE grants (id INTEGER) STRICT",
+    "CREATE TABLE alarms (id INTEGER) STRICT",
+    "CREATE TABLE shelves (id INTEGER) STRICT",
+    "CREATE TABLE bands (id INTEGER) STRICT",
+    "CREATE TABLE cells (id INTEGER) STRICT",
+    "CREATE TABLE events (id INTEGER) STRICT",
+    "CREATE TABLE records (id INTEGER) STRICT",
+    "CREATE TABLE changes (id INTEGER) STRICT",
+];
+
+#[test]
+fn refuses_a_database_with_one_of_the_tables(rt: HostRuntime) {
+    let alloc = rt.alloc();
+    for statement in TABLES.iter() {
+        let other = made_by(&rt, alloc, statement);
+        let back = refused(&rt, alloc, older(&rt, alloc, ""), other, b"root");
+        assert!(rt;
+            matches!(back.fault, StoreFault::Fault(Fault::Store)),
+            "{statement}"
+        );
+        assert!(rt; count_of_tables(&back.new) == 1, "{statement}");
+    }
+}
+
+/// Statements after which some row of a store of schema 1 can't be read, or a table is missing.
+const SPOILED: [&str; 16] = [
+    "UPDATE units SET unit = 'u1' WHERE unit = 'U1'",
+    "UPDATE units SET last_s = -1 WHERE unit = 'U2'",
+    "UPDATE units SET matrix_rev = 4294967296 WHERE unit = 'U2'",
+    "UPDATE grants SET role_no = 7 WHERE person = 'vic'",
+    "UPDATE grants SET person = '' WHERE person = 'vic'",
+    "UPDATE alarms SET state_no = 0 WHERE tag = 'PT-101'",
+    "UPDATE shelves SET words = '' WHERE tag = 'PT-101'",
+    "UPDATE bands SET limit_s = -300 WHERE matrix_no = 2",
+    "UPDATE cells SET cell_no = 5 WHERE matrix_no = 2",
+    "UPDATE events SET kind_no = 7 WHERE seq = 3",
+    "UPDATE records SET rev = -1",
+    "UPDATE changes SET state_no = 5 WHERE number = 2",
+    "DROP TABLE units",
+    "DROP TABLE grants",
+    "DROP TABLE records",
+    "DROP TABLE changes",
+];
+
+#[test]
+fn copies_nothing_of_a_store_that_is_spoiled(rt: HostRuntime) {
+    let alloc = rt.alloc();
+    for statement in SPOILED.iter() {
+        let spoiled = older(&rt, alloc, statement);
+        let back = refused(&rt, alloc, spoiled, blank(&rt, alloc), b"root");
+        assert!(rt;
+            matches!(back.fault, StoreFault::Fault(Fault::Store)),
+            "{statement}"
+        );
+        assert!(rt; count_of_tables(&back.new) == 0, "{statement}");
+    }
+}
+
+/// Whether this store is migrated where each statement on it may take so many steps, and each on the new one as many as
+/// are given. If not, it is a fault of the store after which the new database has no table, and without limits the same
+/// call migrates it.
+fn passes(
+    rt: &impl Abort,
+    alloc: Global,
+    mut old: Connection<MemStore>,
+    steps: Option<u64>,
+    new_steps: Option<u64>,
+) -> bool
+    requires { old.in_transaction ≡ false }
+{
+    let mut new = blank(rt, alloc);
+    old.set_step_limit(steps);
+    new.set_step_limit(new_steps);
+    let mut back = match migrate(alloc, old, new, person(rt, alloc, b"root")) {
+        Ok(_) => return true,
+        Err(back) => back,
+    };
+    assert!(rt; matches!(back.fault, StoreFault::Fault(Fault::Store)));
+    assert!(rt; count_of_tables(&back.new) == 0);
+    back.old.set_step_limit(None);
+    back.new.set_step_limit(None);
+    let (mut old, books) = migrated(rt, alloc, back.old, back.new);
+    assert_alike(rt, alloc, &mut old, &mut books.close());
+    false
+}
+
+/// With how many steps a statement on the older store the migration passes.
+fn steps_of(rt: &impl Abort, alloc: Global) -> u64 {
+    for steps in 0..10_000u64 {
+        if passes(rt, alloc, older(rt, alloc, ""), Some(steps), None) {
+            return steps;
+        }
+    }
+    rt.panic("no end")
+}
+
+/// A further row of each table, by its number.
+const FURTHER: [&str; 9] = [
+    "INSERT INTO units VALUES ('N' || ?1, 825667200, 0, 0)",
+    "INSERT INTO grants VALUES ('U1', 'p' || ?1, 1)",
+    "INSERT INTO alarms VALUES ('U1', 'A-' || ?1, 0, 3600, 0, 1, 0, NULL, NULL, NULL, NULL, NULL)",
+    "INSERT INTO shelves VALUES ('U1', 'A-' || ?1, 0, 825667200, 825670800, 'ann', 'wiring')",
+    "INSERT INTO bands VALUES ('U1', 10 + ?1, 1, 300)",
+    "INSERT INTO cells VALUES ('U1', 10 + ?1, 1, 1, 1)",
+    "INSERT INTO events VALUES ('U1', 10 + ?1, 825667300, 'LT-2', 3)",
+    "INSERT INTO records VALUES ('U1', 'A-' || ?1, 1, 1, 1)",
+    "INSERT INTO changes VALUES ('U1', 10 + ?1, 'eve', 825667300, 2, NULL, 0, NULL, NULL, NULL, NULL, NULL, NULL, 1, NULL, NULL)",
+];
+
+/// Each statement that reads the older store is interrupted in turn: its table has more rows than all others.
+#[test]
+fn copies_nothing_where_a_read_is_interrupted(rt: HostRuntime) {
+    let alloc = rt.alloc();
+    let steps = steps_of(&rt, alloc);
+    assert!(rt; steps > 0 && steps < 100);
+    for statement in FURTHER.iter() {
+        let longer = with_each(&rt, older(&rt, alloc, ""), statement, 100);
+        assert!(rt;
+            !passes(&rt, alloc, longer, Some(steps), None),
+            "{statement}"
+        );
+    }
+}
+
+/// With each number of steps a statement on the new database, from none on, nothing is written or all.
+#[test]
+fn copies_nothing_where_a_write_is_interrupted(rt: HostRuntime) {
+    let alloc = rt.alloc();
+    for steps in 0..10_000u64 {
+        if passes(&rt, alloc, older(&rt, alloc, ""), None, Some(steps)) {
+            return;
+        }
+    }
+    rt.panic("no end")
+}
+
+/// A migration that runs out of memory and is made again: nothing was written then. `scripts/refuse-each` runs this test
+/// once for each of its allocations, and refuses that one.
+#[test]
+fn migrates_again_without_memory(rt: HostRuntime) {
+    let alloc = rt.alloc();
+    let admin = person(&rt, alloc, b"root");
+    let (old, new) = (older(&rt, alloc, ""), blank(&rt, alloc));
+    let back = match migrate(alloc, old, new, admin) {
+        Ok((mut old, books)) => {
+            assert_alike(&rt, alloc, &mut old, &mut books.close());
+            return;
+        }
+        Err(back) => back,
+    };
+    let _ = rt.eprintln("a call answers a fault");
+    assert!(rt; matches!(back.fault, StoreFault::Fault(Fault::Memory)));
+    assert!(rt; count_of_tables(&back.new) == 0);
+    let (mut old, books) = migrated(&rt, alloc, back.old, back.new);
+    assert_alike(&rt, alloc, &mut old, &mut books.close());
+}

@@ -1,0 +1,61 @@
+//! Rows found by their tags, in a table that stands in the order of the tags.
+
+ghost use Rattle.std.specs.Prelude.{◌≡◌, true, false, option_copied};
+ghost use Rattle.std.specs.List.Sorted.{IsPartitionPoint};
+ghost use Rattle.std.specs.Ordering.{is_lt};
+ghost use Rattle.plant_model.specs.RowFacts.{alarm_tag, record_tag, shelf_tag};
+ghost use Rattle.plant_types.specs.Names.{Name, name_cmp};
+ghost use Rattle.plant_types.specs.Tables.{IsInOrder, row_at};
+
+use plant_model::{AlarmRow, RecordEntry, ShelfRow};
+use plant_types::Tag;
+
+/// A row of an alarm, of which its table has one at most.
+pub trait Tagged: Drop {
+    ghost key: { Self → Name };
+
+    /// The alarm's tag.
+    fn tag(&self) -> &Tag
+        ensures { result.now ≡ key self.now };
+}
+
+impl Tagged for AlarmRow {
+    ghost key = { alarm_tag };
+
+    fn tag(&self) -> &Tag {
+        &self.tag
+    }
+}
+
+impl Tagged for ShelfRow {
+    ghost key = { shelf_tag };
+
+    fn tag(&self) -> &Tag {
+        &self.tag
+    }
+}
+
+impl Tagged for RecordEntry {
+    ghost key = { record_tag };
+
+    fn tag(&self) -> &Tag {
+        &self.tag
+    }
+}
+
+/// How many of the rows have a smaller tag.
+pub fn place_of<T: Tagged>(rows: &[T], tag: &Tag) -> usize
+    ensures { IsInOrder name_cmp T.key rows.now → IsPartitionPoint (λ r. is_lt (name_cmp (T.key r) tag.now) ≡ true) (λ r. is_lt (name_cmp (T.key r) tag.now) ≡ false) rows.now result }
+{
+    rows.partition_point(|row| *row.tag() < *tag)
+}
+
+/// The row of the tag.
+pub fn row_of<'a, T: Tagged>(rows: &'a [T], tag: &Tag) -> Option<&'a T>
+    ensures { IsInOrder name_cmp T.key rows.now → option_copied result ≡ row_at name_cmp T.key tag.now rows.now }
+{
+    match rows.get(place_of(rows, tag)) {
+        Some(row) if *row.tag() == *tag => Some(row),
+        _ => None,
+    }
+}
