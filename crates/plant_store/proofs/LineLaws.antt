@@ -35,6 +35,15 @@ joins_run u l h (v ∷ vs) = go (same_name l.unit v.unit) refl
     go true e = rw (alike, e, h) (ap (λ (rs : List Role). (let w : MineUnit = record { unit = u.unit; roles = rs; last = u.last } in w) ∷ vs) (append_assoc u.roles (l.role_no ∷ []) v.roles))
     go false e = rw (alike, e, h) refl
 
+-- a line of another unit begins a run of its own
+pub other_run : (u : MineUnit) (l : Line) → same_name u.unit l.unit ≡ false → (vs : List MineUnit) → put_run u (put_run (started l) vs) ≡ u ∷ put_run (started l) vs
+other_run u l h [] = rw h refl
+other_run u l h (v ∷ vs) = go (same_name l.unit v.unit)
+  where
+    go : (b : Bool) → put_run u (cond b ((record { unit = l.unit; roles = l.role_no ∷ v.roles; last = l.last_s }) ∷ vs) (started l ∷ v ∷ vs)) ≡ u ∷ cond b ((record { unit = l.unit; roles = l.role_no ∷ v.roles; last = l.last_s }) ∷ vs) (started l ∷ v ∷ vs)
+    go true = rw h refl
+    go false = rw h refl
+
 -- ---- the runs of lines whose units rise
 
 abbrev pub NotAbove : Name → Name → Type 0

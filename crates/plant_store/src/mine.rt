@@ -106,7 +106,8 @@ fn join(
         return Ok(unit);
     }
     push(units, unit)?;
-    start(alloc, line)
+    let next = start(alloc, line)?;
+    Ok(next)
 }
 
 /// The lines unit by unit, without those of grants that have ended.

@@ -7,3 +7,4 @@ pub mod Moment
 pub mod Spelling
 pub mod Numbers
 pub mod Tenure
+pub mod Hashing

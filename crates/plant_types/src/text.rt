@@ -3,6 +3,7 @@ ghost use Rattle.std.specs.Cmp.Lexicographic.{slice_cmp, nat_list_cmp_total};
 ghost use Rattle.plant_types.specs.Names.{same_name};
 ghost use Rattle.std.specs.Ordering.{nat_cmp};
 ghost use Rattle.std.specs.Cmp;
+ghost use Rattle.std.specs.Hash as fed;
 ghost use Rattle.std.specs.Prelude.{◌≡◌, ℕ, Bool, IfOk, IfErr, IsTrue};
 ghost use Rattle.std.specs.List.{list_all};
 ghost use Rattle.plant_types.specs.Text as text;
@@ -10,9 +11,11 @@ ghost use Rattle.plant_types.specs.Text.{is_text, text_of};
 ghost use Rattle.plant_types.specs.declared.fault.Fault.TheVariants.{Memory};
 
 use crate::Fault;
+use smallvec::SmallVec;
 use std::alloc::Global;
 use std::cmp::Ordering;
 use std::fmt;
+use std::hash::{Hash, Hasher};
 use std::marker::{Model, PhantomData};
 
 /// A set of bytes, and how many of them a text may have.
@@ -31,10 +34,11 @@ pub trait Alphabet {
 }
 
 /// A text of one set of bytes, neither empty nor too long. Contracts see it as its bytes, and
-/// texts are compared as their bytes are.
+/// texts are compared as their bytes are. One of up to 32 bytes, so each code, tag and name of a
+/// person, lies in place and needs no memory of its own.
 #[derive(Drop)]
 pub struct Text<C: Alphabet> {
-    bytes: Vec<u8>,
+    bytes: SmallVec<u8, 32>,
     alphabet: PhantomData<C>,
 }
 
@@ -61,7 +65,7 @@ impl<C: Alphabet> Text<C> {
             return Ok(None);
         }
         Ok(Some(Text {
-            bytes: bytes.to_vec(alloc)?,
+            bytes: SmallVec::from_slice(alloc, bytes)?,
             alphabet: PhantomData,
         }))
     }
@@ -71,7 +75,7 @@ impl<C: Alphabet> Text<C> {
         ensures value { result.now ≡ self.now }
         ensures is_text { IsTrue (is_text C.admits C.longest result.now) }
     {
-        &self.bytes
+        self.bytes.as_slice()
     }
 
     /// The same text again.
@@ -80,7 +84,7 @@ impl<C: Alphabet> Text<C> {
         ensures err { IfErr result (λ e. e ≡ Memory) }
     {
         Ok(Text {
-            bytes: self.bytes.to_vec(alloc)?,
+            bytes: SmallVec::from_slice(alloc, self.as_bytes())?,
             alphabet: PhantomData,
         })
     }
@@ -130,6 +134,18 @@ impl<C: Alphabet> Ord for Text<C> {
 
     fn cmp(&self, other: &Self) -> Ordering {
         self.as_bytes().cmp(other.as_bytes())
+    }
+}
+
+impl<C: Alphabet> Hash for Text<C> {
+    ghost use Rattle.plant_types.specs.Hashing.{alike_names};
+
+    ghost hash_input = { fed.slice fed.u8 };
+
+    ghost respects_eq = { alike_names };
+
+    fn hash<H: Hasher>(&self, state: &mut H) {
+        self.as_bytes().hash(state);
     }
 }
 

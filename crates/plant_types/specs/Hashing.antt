@@ -1,0 +1,17 @@
+-- Names that are the same feed a hasher alike.
+use Rattle.std.proofs.Common.{ap}
+use Rattle.std.specs.FinMap.{nat_cmp-IsAntisymmetric, slice_cmp-IsAntisymmetric}
+use Rattle.std.specs.Hash as fed
+use Rattle.std.specs.Ordering.{is_eq}
+use Rattle.std.specs.Prelude.{refl, true, ◌≡◌}
+use Rattle.std.specs.declared.cmp.Ordering.{Ordering}
+use Rattle.std.specs.declared.cmp.Ordering.TheVariants.{Equal, Greater, Less}
+use Rattle.plant_types.specs.Names.{Name, name_cmp, same_name}
+
+equal_if : (o : Ordering) → is_eq o ≡ true → o ≡ Equal
+equal_if Less h = cc
+equal_if Equal h = refl
+equal_if Greater h = cc
+
+pub alike_names : (a b : Name) → same_name a b ≡ true → fed.slice fed.u8 a ≡ fed.slice fed.u8 b
+alike_names a b h = ap (fed.slice fed.u8) (slice_cmp-IsAntisymmetric nat_cmp-IsAntisymmetric a b (equal_if (name_cmp a b) h))
