@@ -51,7 +51,7 @@ ascending-reverse : {X : Type 0} (R : X → X → Type 0) (xs : List X) → IsAs
 ascending-reverse R [] up = tt
 ascending-reverse R (x ∷ xs) up = subst (IsAscending (λ a b. R b a)) (sym (turn_step x xs)) (ascending-append (λ a b. R b a) (reverse xs) (x ∷ []) (ascending-reverse R xs up.1) (tt, tt) (all_weaker _ (λ a. AllByRecursion (λ b. R b a) (x ∷ [])) (λ a h. (h, tt)) (reverse xs) (all-reverse (R x) xs up.0)))
 
--- LIMIT 1 takes the first, where there is one
+-- LIMIT 1 keeps the first row, if there is a row
 one_first : {X : Type 0} (xs : List X) → take 1 xs ≡ option_to_list (slice_get xs 0)
 one_first [] = refl
 one_first (x ∷ xs) = refl
@@ -64,7 +64,7 @@ first_mapped f (x ∷ xs) = refl
 
 module _ (tree : ℕ) (tests project : List Term) (order : List (Term × Key)) (key : List ℕ) (params : Row)
     (falls : ◌≡◌ {A = Row → Row → Ordering} (λ r s. output_cmp (plain_query (inner tree end) tests project order) (shows tree tests project order params r) (shows tree tests project order params s)) (λ r s. by_columns key s r)) where
-  -- the whole answer is that of the rising order, the other way round
+  -- the answer in falling order is the answer in rising order, reversed
   falling_answer : (trees : Trees) (rows : List Row) → AreApart key (trees tree) → Reads tree tests project order trees params rows
       → rows ≡ map (λ r. (shows tree tests project order params r).1) (reverse (kept (by_columns key) (passes tree tests project order params) (trees tree)))
   falling_answer trees rows apart it =
@@ -80,7 +80,7 @@ module _ (tree : ℕ) (tests project : List Term) (order : List (Term × Key)) (
       sorted_unique (output_cmp q) (output_cmp_total q) (map show (reverse sorted)) it.ordered (ascending-map (λ a b. output_cmp q a b ≡ Less) show (reverse sorted) fall) (IsPermutation-trans _ _ _ (IsPermutation-map show (reverse sorted) some moved) it.same) it.sorted in
       it.rows_are ∙ ap (map (λ (o : Output). o.1)) ordered ∙ map-map (λ (o : Output). o.1) show (reverse sorted)
 
-  -- with LIMIT 1, its first row, where there is one
+  -- with LIMIT 1, the first of those rows, if there is one
   one_falling : (trees : Trees) (rows : List Row) → AreApart key (trees tree) → IsAnswer (record (plain_query (inner tree end) tests project order) { limit = lit (Int (pos 1)) }) (overlay trees []) params rows
       → rows ≡ map (λ r. (shows tree tests project order params r).1) (option_to_list (slice_get (reverse (kept (by_columns key) (passes tree tests project order params) (trees tree))) 0))
   one_falling trees rows apart a =

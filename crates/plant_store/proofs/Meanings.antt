@@ -3,7 +3,7 @@ use Rattle.std.proofs.Common.{◌≡◌, Ok, refl, List, ℕ, [], ◌∷◌, fal
 use Rattle.std.specs.Fmt.{digits}
 use Rattle.sqlite.specs.Collation.TheVariants.{Binary}
 use Rattle.sqlite.specs.Change.{created, indexed}
-use Rattle.sqlite.specs.Command.TheVariants.{Insert, InsertOr, Delete, Select, CreateTable, CreateIndex}
+use Rattle.sqlite.specs.Command.TheVariants.{Insert, InsertOr, Delete, Select, Update, CreateTable, CreateIndex}
 use Rattle.sqlite.specs.Compile.{table_defined_by, index_defined_by}
 use Rattle.sqlite.specs.Listing.{understood, reads_listing}
 use Rattle.sqlite.specs.Query.{Query, inner, end}
@@ -17,7 +17,7 @@ use Rattle.sqlite_tied.specs.Compute.{everything}
 use Rattle.sqlite_value.specs.declared.keys.Key.{Key}
 use Rattle.sqlite_value.specs.declared.value.Value.TheVariants.{Null, Int}
 use Rattle.sqlite_value.specs.Keys.{ascending}
-use Rattle.plant_store.specs.Texts.{office_text, units_text, grants_text, alarms_text, shelves_text, bands_text, cells_text, events_text, by_person_text, put_office_text, office_row_text, put_unit_text, put_grant_text, put_alarm_text, put_shelf_text, put_band_text, put_cell_text, put_event_text, remove_grant_text, remove_shelf_text, units_of_text, grants_of_text, alarms_of_text, shelves_of_text, bands_of_text, cells_of_text, events_of_text, own_grants_text, alarm_at_text, shelf_at_text, tags_of_text, shelf_tags_text, mine_shelves_text, mine_text, records_text, changes_text, put_record_text, put_change_text, records_of_text, changes_of_text, record_at_text, bands_at_text, cells_at_text, change_at_text, last_change_text}
+use Rattle.plant_store.specs.Texts.{office_text, units_text, grants_text, alarms_text, shelves_text, bands_text, cells_text, events_text, by_person_text, put_office_text, office_row_text, over_unit_text, over_alarm_text, over_change_text, put_unit_text, put_grant_text, put_alarm_text, put_shelf_text, put_band_text, put_cell_text, put_event_text, remove_grant_text, remove_shelf_text, units_of_text, grants_of_text, alarms_of_text, shelves_of_text, bands_of_text, cells_of_text, events_of_text, own_grants_text, alarm_at_text, shelf_at_text, tags_of_text, shelf_tags_text, mine_shelves_text, mine_text, records_text, changes_text, put_record_text, put_change_text, records_of_text, changes_of_text, record_at_text, bands_at_text, cells_at_text, change_at_text, last_change_text}
 use Rattle.plant_columns.specs.Tables.{office_table, unit_shape, grant_shape, alarm_shape, shelf_shape, band_shape, cell_shape, event_shape, by_person, no_schema, office_schema, units_schema, grants_schema, alarms_schema, shelves_schema, bands_schema, cells_schema, events_schema, books_schema, record_shape, change_shape, records_schema, changes_schema}
 use Rattle.plant_tables.specs.Kept.{plain_query}
 use Rattle.plant_tables.specs.Shape.{table_in}
@@ -334,6 +334,41 @@ order_3 = (col 1 1, ascending Binary) ∷ (col 1 2, ascending Binary) ∷ (col 1
 
 abbrev pub order_4 : List (Term × Key)
 order_4 = (col 1 1, ascending Binary) ∷ (col 1 2, ascending Binary) ∷ (col 1 3, ascending Binary) ∷ (col 1 4, ascending Binary) ∷ []
+
+-- ---- a row written over: its rowid is shown, and then the row as it is to be
+
+abbrev pub over_unit_shows : List Term
+over_unit_shows = col 1 0 ∷ col 1 0 ∷ col 1 1 ∷ col 0 1 ∷ col 0 2 ∷ col 0 3 ∷ col 0 4 ∷ []
+
+abbrev pub over_alarm_shows : List Term
+over_alarm_shows = col 1 0 ∷ col 1 0 ∷ col 1 1 ∷ col 1 2 ∷ col 0 2 ∷ col 0 3 ∷ col 0 4 ∷ col 0 5 ∷ col 0 6 ∷ col 0 7 ∷ col 0 8 ∷ col 0 9 ∷ col 0 10 ∷ col 0 11 ∷ []
+
+abbrev pub over_change_shows : List Term
+over_change_shows = col 1 0 ∷ col 1 0 ∷ col 1 1 ∷ col 1 2 ∷ col 0 2 ∷ col 0 3 ∷ col 0 4 ∷ col 0 5 ∷ col 0 6 ∷ col 0 7 ∷ col 0 8 ∷ col 0 9 ∷ col 0 10 ∷ col 0 11 ∷ col 0 12 ∷ col 0 13 ∷ col 0 14 ∷ col 0 15 ∷ []
+
+pub over_unit_is : command_of (understood books_schema over_unit_text) ≡ Update 1 (record { lets = []; body = plain_query (inner 1 end) by_unit over_unit_shows [] })
+unfolding understood everything
+over_unit_is = refl
+
+pub over_unit_plain : IsPlain (understood books_schema over_unit_text)
+unfolding understood everything
+over_unit_plain = (refl, refl)
+
+pub over_alarm_is : command_of (understood books_schema over_alarm_text) ≡ Update 3 (record { lets = []; body = plain_query (inner 5 end) by_two over_alarm_shows [] })
+unfolding understood everything
+over_alarm_is = refl
+
+pub over_alarm_plain : IsPlain (understood books_schema over_alarm_text)
+unfolding understood everything
+over_alarm_plain = (refl, refl)
+
+pub over_change_is : command_of (understood books_schema over_change_text) ≡ Update 9 (record { lets = []; body = plain_query (inner 17 end) by_two over_change_shows [] })
+unfolding understood everything
+over_change_is = refl
+
+pub over_change_plain : IsPlain (understood books_schema over_change_text)
+unfolding understood everything
+over_change_plain = (refl, refl)
 
 -- ---- a row taken out
 

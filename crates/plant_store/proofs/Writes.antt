@@ -57,7 +57,7 @@ office_apart EventKept e = omega arith
 office_apart RecordKept e = omega arith
 office_apart ChangeKept e = omega arith
 
-edits_apply : (i : Kept) (u : Name) (change : List (RowOf i) → List (RowOf i)) (cs : List Change) (old new : Database) → Edits RowOf KeyOf shape books_schema i u change old new
+pub edits_apply : (i : Kept) (u : Name) (change : List (RowOf i) → List (RowOf i)) (cs : List Change) (old new : Database) → Edits RowOf KeyOf shape books_schema i u change old new
     → ((rows : UnitRows) → AreSeen u old rows → rows_at i (changed_by cs rows) ≡ change (rows_at i rows)) → ((rows : UnitRows) (j : Kept) → j ≢ i → rows_at j (changed_by cs rows) ≡ rows_at j rows)
     → Applies u cs old new
 edits_apply i u change cs old new it here elsewhere = record {
@@ -93,11 +93,11 @@ one_at_most r (x ∷ y ∷ rows) h = absurd h
 
 -- ---- the puts
 
-pub put_unit_applies : (u : Name) (x : UnitRow) (old new : State) → AreBooks old.now → (count : ℕ) → Executes put_unit_text (Text u ∷ (shape UnitKept).cells x) old new (Ok count)
-    → Applies u (Put (UnitPut x) ∷ []) old.now new.now
-put_unit_applies u x old new books count h =
-    edits_apply UnitKept u (put_row nat_cmp own_key x) (Put (UnitPut x) ∷ []) old.now new.now (put_in_table UnitKept put_unit_text put_unit_terms 6 put_unit_is put_unit_plain u x refl old new books count h)
-    (λ rows seen. sym (one_at_most x rows.units (subst (IsInOrder nat_cmp own_key) (seen UnitKept) (rises unit_shape (good UnitKept) u (old.now.trees 1) (books.tidy UnitKept))))) away
+-- a put into one table is the put of a unit
+pub unit_edited : (u : Name) (x : UnitRow) (old new : Database) → AreBooks old → Edits RowOf KeyOf shape books_schema UnitKept u (put_row nat_cmp own_key x) old new → Applies u (Put (UnitPut x) ∷ []) old new
+unit_edited u x old new books it =
+    edits_apply UnitKept u (put_row nat_cmp own_key x) (Put (UnitPut x) ∷ []) old new it
+    (λ rows seen. sym (one_at_most x rows.units (subst (IsInOrder nat_cmp own_key) (seen UnitKept) (rises unit_shape (good UnitKept) u (old.trees 1) (books.tidy UnitKept))))) away
   where
     away : (rows : UnitRows) (j : Kept) → j ≢ UnitKept → rows_at j (changed_by (Put (UnitPut x) ∷ []) rows) ≡ rows_at j rows
     away rows UnitKept h = absurd (h refl)
@@ -109,6 +109,10 @@ put_unit_applies u x old new books count h =
     away rows EventKept h = refl
     away rows RecordKept h = refl
     away rows ChangeKept h = refl
+
+pub put_unit_applies : (u : Name) (x : UnitRow) (old new : State) → AreBooks old.now → (count : ℕ) → Executes put_unit_text (Text u ∷ (shape UnitKept).cells x) old new (Ok count)
+    → Applies u (Put (UnitPut x) ∷ []) old.now new.now
+put_unit_applies u x old new books count h = unit_edited u x old.now new.now books (put_in_table UnitKept put_unit_text put_unit_terms 6 put_unit_is put_unit_plain u x refl old new books count h)
 
 away_grants : (rows after : UnitRows) → ◌≡◌ {A = UnitRows} after (record rows { grants = after.grants }) → (j : Kept) → j ≢ GrantKept → rows_at j after ≡ rows_at j rows
 away_grants rows after e UnitKept h = ap (λ (r : UnitRows). r.units) e
@@ -204,11 +208,12 @@ put_grant_applies u x old new books count h =
     edits_apply GrantKept u (put_row (shape GrantKept).order (shape GrantKept).key x) (Put (GrantPut x) ∷ []) old.now new.now (put_in_table GrantKept put_grant_text put_grant_terms 5 put_grant_is put_grant_plain u x refl old new books count h)
     (λ rows seen. refl) (λ rows. away_grants rows _ refl)
 
+pub alarm_edited : (u : Name) (x : AlarmRow) (old new : Database) → Edits RowOf KeyOf shape books_schema AlarmKept u (put_row (shape AlarmKept).order (shape AlarmKept).key x) old new → Applies u (Put (AlarmPut x) ∷ []) old new
+alarm_edited u x old new it = edits_apply AlarmKept u (put_row (shape AlarmKept).order (shape AlarmKept).key x) (Put (AlarmPut x) ∷ []) old new it (λ rows seen. refl) (λ rows. away_alarms rows _ refl)
+
 pub put_alarm_applies : (u : Name) (x : AlarmRow) (old new : State) → AreBooks old.now → (count : ℕ) → Executes put_alarm_text (Text u ∷ (shape AlarmKept).cells x) old new (Ok count)
     → Applies u (Put (AlarmPut x) ∷ []) old.now new.now
-put_alarm_applies u x old new books count h =
-    edits_apply AlarmKept u (put_row (shape AlarmKept).order (shape AlarmKept).key x) (Put (AlarmPut x) ∷ []) old.now new.now (put_in_table AlarmKept put_alarm_text put_alarm_terms 13 put_alarm_is put_alarm_plain u x refl old new books count h)
-    (λ rows seen. refl) (λ rows. away_alarms rows _ refl)
+put_alarm_applies u x old new books count h = alarm_edited u x old.now new.now (put_in_table AlarmKept put_alarm_text put_alarm_terms 13 put_alarm_is put_alarm_plain u x refl old new books count h)
 
 pub put_shelf_applies : (u : Name) (x : ShelfRow) (old new : State) → AreBooks old.now → (count : ℕ) → Executes put_shelf_text (Text u ∷ (shape ShelfKept).cells x) old new (Ok count)
     → Applies u (Put (ShelfPut x) ∷ []) old.now new.now
@@ -240,11 +245,12 @@ put_record_applies u x old new books count h =
     edits_apply RecordKept u (put_row (shape RecordKept).order (shape RecordKept).key x) (Put (RecordPut x) ∷ []) old.now new.now (put_in_table RecordKept put_record_text put_record_terms 6 put_record_is put_record_plain u x refl old new books count h)
     (λ rows seen. refl) (λ rows. away_records rows _ refl)
 
+pub change_edited : (u : Name) (x : ChangeEntry) (old new : Database) → Edits RowOf KeyOf shape books_schema ChangeKept u (put_row (shape ChangeKept).order (shape ChangeKept).key x) old new → Applies u (Put (ChangePut x) ∷ []) old new
+change_edited u x old new it = edits_apply ChangeKept u (put_row (shape ChangeKept).order (shape ChangeKept).key x) (Put (ChangePut x) ∷ []) old new it (λ rows seen. refl) (λ rows. away_changes rows _ refl)
+
 pub put_change_applies : (u : Name) (x : ChangeEntry) (old new : State) → AreBooks old.now → (count : ℕ) → Executes put_change_text (Text u ∷ (shape ChangeKept).cells x) old new (Ok count)
     → Applies u (Put (ChangePut x) ∷ []) old.now new.now
-put_change_applies u x old new books count h =
-    edits_apply ChangeKept u (put_row (shape ChangeKept).order (shape ChangeKept).key x) (Put (ChangePut x) ∷ []) old.now new.now (put_in_table ChangeKept put_change_text put_change_terms 17 put_change_is put_change_plain u x refl old new books count h)
-    (λ rows seen. refl) (λ rows. away_changes rows _ refl)
+put_change_applies u x old new books count h = change_edited u x old.now new.now (put_in_table ChangeKept put_change_text put_change_terms 17 put_change_is put_change_plain u x refl old new books count h)
 
 -- ---- the removes: a row of the key stands for the one that goes
 

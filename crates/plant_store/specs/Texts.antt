@@ -42,6 +42,16 @@ put_office_text = codes "INSERT INTO office (id, schema_no, admin) VALUES (1, 2,
 abbrev pub office_row_text : List ℕ
 office_row_text = codes "SELECT id, schema_no, admin FROM office"
 
+-- all cells but the key of the row of a key, where there is one
+abbrev pub over_unit_text : List ℕ
+over_unit_text = codes "UPDATE units SET last_s = ?2, matrix_no = ?3, matrix_rev = ?4, quota = ?5 WHERE unit = ?1"
+
+abbrev pub over_alarm_text : List ℕ
+over_alarm_text = codes "UPDATE alarms SET latching = ?3, max_s = ?4, max_rev = ?5, state_no = ?6, suppressed = ?7, active_s = ?8, return_s = ?9, out_s = ?10, out_by = ?11, out_words = ?12 WHERE unit = ?1 AND tag = ?2"
+
+abbrev pub over_change_text : List ℕ
+over_change_text = codes "UPDATE changes SET proposer = ?3, proposed_s = ?4, kind_no = ?5, tag = ?6, base = ?7, cause = ?8, consequence = ?9, remedy = ?10, severity = ?11, response_s = ?12, max_s = ?13, state_no = ?14, decider = ?15, decided_s = ?16 WHERE unit = ?1 AND number = ?2"
+
 -- a row put in the place of the row of its key
 abbrev pub put_unit_text : List ℕ
 put_unit_text = codes "INSERT OR REPLACE INTO units (unit, last_s, matrix_no, matrix_rev, quota) VALUES (?1, ?2, ?3, ?4, ?5)"

@@ -1,6 +1,6 @@
 //! The statements that write, each inside a transaction.
 
-ghost use Rattle.std.specs.Prelude.{◌≡◌, ℕ, [], ◌∷◌, false, IsTrue, Ok, OnOk, OnErr};
+ghost use Rattle.std.specs.Prelude.{◌≡◌, ℕ, [], ◌∷◌, false, IfOk, IsTrue, Ok, OnOk, OnErr};
 ghost use Rattle.sqlite.specs.Held.{state};
 ghost use Rattle.sqlite.specs.State.{Executes, HasCleanDisk, KeepsCommit, Survives};
 ghost use Rattle.sqlite.specs.Values.{bound};
@@ -40,6 +40,22 @@ pub fn run<S: Alter>(
     Ok(())
 }
 
+/// Runs one statement, and tells how many rows it wrote.
+fn run_counting<S: Alter>(
+    tx: &mut Transaction<'_, S>,
+    sql: &str,
+    cells: &[ValueRef<'_>],
+) -> Result<usize, Error>
+    ensures same_reference { tx.new.conn.ghost_name ≡ tx.old.conn.ghost_name }
+    ensures made { HasCleanDisk (state S.Store tx.new.conn.now) → IsTrue tx.old.conn.now.in_transaction
+        → IfOk result (λ count. Executes sql.now (bound cells.now) (state S.Store tx.old.conn.now) (state S.Store tx.new.conn.now) (Ok count)) }
+    ensures inside { HasCleanDisk (state S.Store tx.new.conn.now) → IsTrue tx.old.conn.now.in_transaction → OnOk result (IsTrue tx.new.conn.now.in_transaction) }
+    ensures kept { HasCleanDisk (state S.Store tx.new.conn.now) → IsTrue tx.old.conn.now.in_transaction → KeepsCommit (state S.Store tx.old.conn.now) (state S.Store tx.new.conn.now) }
+    ensures survives { Survives (state S.Store tx.old.conn.now) (state S.Store tx.new.conn.now) (λ _. ⊥) }
+{
+    tx.execute(sql, cells)
+}
+
 /// Puts the unit's own row.
 pub fn put_unit<S: Alter>(
     tx: &mut Transaction<'_, S>,
@@ -53,10 +69,19 @@ pub fn put_unit<S: Alter>(
     ensures kept { HasCleanDisk (state S.Store tx.new.conn.now) → IsTrue tx.old.conn.now.in_transaction → KeepsCommit (state S.Store tx.old.conn.now) (state S.Store tx.new.conn.now) }
     ensures survives { Survives (state S.Store tx.old.conn.now) (state S.Store tx.new.conn.now) (λ _. ⊥) }
 {
+    let cells = unit_cells(unit, row);
+    let written = run_counting(
+        tx,
+        "UPDATE units SET last_s = ?2, matrix_no = ?3, matrix_rev = ?4, quota = ?5 WHERE unit = ?1",
+        &cells,
+    )?;
+    if written != 0 {
+        return Ok(());
+    }
     run(
         tx,
         "INSERT OR REPLACE INTO units (unit, last_s, matrix_no, matrix_rev, quota) VALUES (?1, ?2, ?3, ?4, ?5)",
-        &unit_cells(unit, row),
+        &cells,
     )
 }
 
@@ -93,10 +118,19 @@ pub fn put_alarm<S: Alter>(
     ensures kept { HasCleanDisk (state S.Store tx.new.conn.now) → IsTrue tx.old.conn.now.in_transaction → KeepsCommit (state S.Store tx.old.conn.now) (state S.Store tx.new.conn.now) }
     ensures survives { Survives (state S.Store tx.old.conn.now) (state S.Store tx.new.conn.now) (λ _. ⊥) }
 {
+    let cells = alarm_cells(unit, row);
+    let written = run_counting(
+        tx,
+        "UPDATE alarms SET latching = ?3, max_s = ?4, max_rev = ?5, state_no = ?6, suppressed = ?7, active_s = ?8, return_s = ?9, out_s = ?10, out_by = ?11, out_words = ?12 WHERE unit = ?1 AND tag = ?2",
+        &cells,
+    )?;
+    if written != 0 {
+        return Ok(());
+    }
     run(
         tx,
         "INSERT OR REPLACE INTO alarms (unit, tag, latching, max_s, max_rev, state_no, suppressed, active_s, return_s, out_s, out_by, out_words) VALUES (?1, ?2, ?3, ?4, ?5, ?6, ?7, ?8, ?9, ?10, ?11, ?12)",
-        &alarm_cells(unit, row),
+        &cells,
     )
 }
 
@@ -215,10 +249,19 @@ pub fn put_change<S: Alter>(
     ensures kept { HasCleanDisk (state S.Store tx.new.conn.now) → IsTrue tx.old.conn.now.in_transaction → KeepsCommit (state S.Store tx.old.conn.now) (state S.Store tx.new.conn.now) }
     ensures survives { Survives (state S.Store tx.old.conn.now) (state S.Store tx.new.conn.now) (λ _. ⊥) }
 {
+    let cells = change_cells(unit, row);
+    let written = run_counting(
+        tx,
+        "UPDATE changes SET proposer = ?3, proposed_s = ?4, kind_no = ?5, tag = ?6, base = ?7, cause = ?8, consequence = ?9, remedy = ?10, severity = ?11, response_s = ?12, max_s = ?13, state_no = ?14, decider = ?15, decided_s = ?16 WHERE unit = ?1 AND number = ?2",
+        &cells,
+    )?;
+    if written != 0 {
+        return Ok(());
+    }
     run(
         tx,
         "INSERT OR REPLACE INTO changes (unit, number, proposer, proposed_s, kind_no, tag, base, cause, consequence, remedy, severity, response_s, max_s, state_no, decider, decided_s) VALUES (?1, ?2, ?3, ?4, ?5, ?6, ?7, ?8, ?9, ?10, ?11, ?12, ?13, ?14, ?15, ?16)",
-        &change_cells(unit, row),
+        &cells,
     )
 }
 

@@ -1,4 +1,4 @@
--- Several tables, each with its shape, in one schema: what a put into one or a remove out of one leaves of all.
+-- Several tables, each with its shape, in one schema: what a put into one, a change of a row or a remove out of one leaves of all.
 use Rattle.std.proofs.Common.{◌≡◌, ◌≢◌, ◌⊎◌, inl, inr, ℕ, ◌<◌, zero, suc, List, [], ◌∷◌, slice_get, None, Some, Option, refl, sym, ap, ◌∙◌, subst, Ordering, Less, Equal, Greater, nat_cmp, arith}
 use Rattle.std.specs.Cmp.{ranks}
 use Rattle.std.specs.Ordering.{MatchOrdering}
@@ -12,6 +12,7 @@ use Rattle.plant_types.specs.Tables.{put_row, remove_row}
 use Rattle.plant_tables.specs.Shape.{Shape, table_in, IsRowIn, rows_in, seen, AreTables}
 use Rattle.plant_tables.specs.Tidy.{IsTidy}
 use Rattle.plant_tables.proofs.Changes.{KeepsOthers}
+use Rattle.plant_tables.proofs.Updated.{Leaves, SetsRow, mine_after_set, others_after_set, tidy_after_set}
 use Rattle.plant_tables.proofs.Shapes.{IsShape, PutsRow, RemovesRow, tidy_after_put, mine_after_put, others_after_put, tidy_after_out, mine_after_out, others_after_out}
 
 same_or_not : (m n : ℕ) → (m ≡ n) ⊎ (m ≢ n)
@@ -74,6 +75,25 @@ module _ {I : Type 0} (X K : I → Type 0) (shape : (i : I) → Shape (X i) (K i
       tables = record { same_schema = it.same_schema; tidy = tidy_all i old new it.others was (tidy_after_put (shape i) good schema u x old new it (was.tidy i)) };
       mine = mine_after_put (shape i) good schema u x old new it (was.tidy i);
       other_units = λ v other. others_after_put (shape i) good schema u v x old new it other;
+      other_tables = λ j other. elsewhere i j old.trees new.trees it.others other;
+      others = it.others;
+    }
+
+    pub set_edits : (i : I) → IsShape (shape i) → (u : List ℕ) (x : X i) (old new : Database) → AreTables X K shape schema old → SetsRow schema (shape i) u x old new
+        → Edits i u (put_row (shape i).order (shape i).key x) old new
+    set_edits i good u x old new was it = record {
+      tables = record { same_schema = it.same_schema; tidy = tidy_all i old new it.others was (tidy_after_set (shape i) good schema u x old new it (was.tidy i)) };
+      mine = mine_after_set (shape i) good schema u x old new it (was.tidy i);
+      other_units = λ v other. others_after_set (shape i) good schema u x old new it (was.tidy i) v other;
+      other_tables = λ j other. elsewhere i j old.trees new.trees it.others other;
+      others = it.others;
+    }
+
+    pub no_edits : (i : I) (u : List ℕ) (old new : Database) → AreTables X K shape schema old → Leaves schema (shape i).tree old new → Edits i u (λ rows. rows) old new
+    no_edits i u old new was it = record {
+      tables = record { same_schema = it.same_schema; tidy = tidy_all i old new it.others was (subst (IsTidy (IsRowIn (shape i)) (1 ∷ (shape i).keys)) (sym it.rows) (was.tidy i)) };
+      mine = ap (rows_in (shape i) u) it.rows;
+      other_units = λ v other. ap (rows_in (shape i) v) it.rows;
       other_tables = λ j other. elsewhere i j old.trees new.trees it.others other;
       others = it.others;
     }

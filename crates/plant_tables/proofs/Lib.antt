@@ -9,4 +9,5 @@ pub mod Shared
 pub mod JoinsMany
 pub mod Asking
 pub mod Shapes
+pub mod Updated
 pub mod Family

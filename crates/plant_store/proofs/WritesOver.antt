@@ -1,0 +1,141 @@
+-- A row is written over the one of its key where there is one, and put anew where there is none.
+use Rattle.std.proofs.Common.{arith, ◌≡◌, ℕ, true, false, List, [], ◌∷◌, Ok, refl, sym, ap, ap₂, ◌∙◌, subst, is_eq, Ordering, Less, Equal, Greater, true≢false}
+use Rattle.std.proofs.lemmas.Bool.Decides.{nat_tests}
+use Rattle.std.specs.FinMap.{slice_cmp-IsAntisymmetric, nat_cmp-IsAntisymmetric}
+use Rattle.std.specs.Ordering.{ordering_then}
+use Rattle.std.specs.Prelude.{nat_eq}
+use Rattle.sqlite.specs.Command.TheVariants.{Update}
+use Rattle.sqlite.specs.Effect.{Database}
+use Rattle.sqlite.specs.Listing.{understood}
+use Rattle.sqlite.specs.Query.{inner, end}
+use Rattle.sqlite.specs.State.{State, Executes}
+use Rattle.sqlite.specs.Term.{Term}
+use Rattle.sqlite.proofs.Callers.{IsPlain, command_of}
+use Rattle.sqlite_schema.specs.Rules.{agree}
+use Rattle.sqlite_value.specs.declared.value.Value.{Value}
+use Rattle.sqlite_value.specs.declared.value.Value.TheVariants.{Text}
+use Rattle.sqlite_value.specs.Keys.{first_key, plain}
+use Rattle.sqlite_value.specs.Order.{Row, value_cmp}
+use Rattle.sqlite_value.proofs.OrderLemmas.{value_cmp-Text}
+use Rattle.plant_model.specs.declared.rows.AlarmRow.{AlarmRow}
+use Rattle.plant_model.specs.declared.rows.Change.TheVariants.{Put}
+use Rattle.plant_model.specs.declared.rows.ChangeEntry.{ChangeEntry}
+use Rattle.plant_model.specs.declared.rows.Row.TheVariants.{Alarm as AlarmPut, Change as ChangePut, Unit as UnitPut}
+use Rattle.plant_model.specs.declared.rows.UnitRow.{UnitRow}
+use Rattle.plant_types.specs.Names.{Name}
+use Rattle.plant_types.specs.Tables.{put_row}
+use Rattle.plant_tables.specs.Kept.{by_columns, plain_query}
+use Rattle.plant_tables.specs.Shape.{row_in}
+use Rattle.plant_tables.proofs.Family.{Edits, no_edits, set_edits}
+use Rattle.plant_tables.proofs.Keys.{agree_is}
+use Rattle.plant_tables.proofs.Laws.{passes, shows}
+use Rattle.plant_tables.proofs.Updated.{equal_when, leaves, sets_some}
+use Rattle.plant_columns.specs.Codes.{number}
+use Rattle.plant_columns.specs.Tables.{AreBooks, Kept, KeyOf, RowOf, alarm_shape, books_schema, change_shape, shape, unit_shape}
+use Rattle.plant_columns.specs.Tables.Kept.{AlarmKept, ChangeKept, UnitKept}
+use Rattle.plant_columns.proofs.ShapeLaws.{all_listed, good, listed, numbers}
+use Rattle.plant_store.specs.Changes.{Applies}
+use Rattle.plant_store.specs.Texts.{over_alarm_text, over_change_text, over_unit_text, put_alarm_text, put_change_text, put_unit_text}
+use Rattle.plant_store.proofs.Meanings.{by_two, by_unit, over_alarm_is, over_alarm_plain, over_alarm_shows, over_change_is, over_change_plain, over_change_shows, over_unit_is, over_unit_plain, over_unit_shows}
+use Rattle.plant_store.proofs.Writes.{alarm_edited, applies_then, change_edited, edits_apply, free, put_alarm_applies, put_change_applies, put_unit_applies, unit_edited}
+
+-- ---- cells of a key that tie are the same
+
+same_text : (a b : List ℕ) → is_eq (value_cmp (Text a) (Text b)) ≡ true → a ≡ b
+same_text a b h = slice_cmp-IsAntisymmetric nat_cmp-IsAntisymmetric a b (sym (value_cmp-Text a b) ∙ equal_when _ h)
+
+same_number : (m n : ℕ) → is_eq (value_cmp (number m) (number n)) ≡ true → m ≡ n
+same_number m n h = nat_cmp-IsAntisymmetric m n (sym (numbers m n) ∙ equal_when _ h)
+
+both_tie : (a b : Ordering) → is_eq (ordering_then a b) ≡ true → (is_eq a ≡ true) × (is_eq b ≡ true)
+both_tie Less b h = absurd (true≢false (sym h))
+both_tie Equal b h = (refl, h)
+both_tie Greater b h = absurd (true≢false (sym h))
+
+-- ---- in one table
+
+written_over : (i : Kept) (text : List ℕ) (tests terms : List Term) → command_of (understood books_schema text) ≡ Update (shape i).place (record { lets = []; body = plain_query (inner (shape i).tree end) tests terms [] }) → IsPlain (understood books_schema text)
+    → (u : Name) (x : RowOf i)
+    → ((id : Value) (y : Row) → passes (shape i).tree tests terms [] (Text u ∷ (shape i).cells x) y ≡ agree plain (1 ∷ (shape i).keys) y (1 ∷ (shape i).keys) (row_in (shape i) id u x))
+    → ((id : Value) (v : Name) (y : RowOf i) → is_eq (by_columns (1 ∷ (shape i).keys) (row_in (shape i) id u x) (row_in (shape i) id v y)) ≡ true
+    → (shows (shape i).tree tests terms [] (Text u ∷ (shape i).cells x) (row_in (shape i) id v y)).1 ≡ id ∷ row_in (shape i) id u x)
+    → (old new : State) → AreBooks old.now → (count : ℕ) → nat_eq count 0 ≡ false → Executes text (Text u ∷ (shape i).cells x) old new (Ok count)
+    → Edits RowOf KeyOf shape books_schema i u (put_row (shape i).order (shape i).key x) old.now new.now
+written_over i text tests terms is plain_text u x same shown old new books count some h =
+    set_edits RowOf KeyOf shape books_schema all_listed i (good i) u x old.now new.now books
+    (sets_some (shape i) (good i) books_schema free (listed i) text tests terms is plain_text (Text u ∷ (shape i).cells x) u x
+    (λ id y. same id y ∙ agree_is (1 ∷ (shape i).keys) y (row_in (shape i) id u x) ((good i).keyed id u x)) shown old new books.same_schema (books.tidy i) count some h)
+
+none_written : (i : Kept) (text : List ℕ) (tests terms : List Term) → command_of (understood books_schema text) ≡ Update (shape i).place (record { lets = []; body = plain_query (inner (shape i).tree end) tests terms [] }) → IsPlain (understood books_schema text)
+    → (u : Name) (params : Row) (old new : State) → AreBooks old.now → Executes text params old new (Ok 0) → Applies u [] old.now new.now
+none_written i text tests terms is plain_text u params old new books h =
+    edits_apply i u (λ rows. rows) [] old.now new.now
+    (no_edits RowOf KeyOf shape books_schema all_listed i u old.now new.now books (leaves (shape i) books_schema free (listed i) text tests terms is plain_text params old new books.same_schema h))
+    (λ rows seen. refl) (λ rows j other. refl)
+
+is_zero : (n : ℕ) → nat_eq n 0 ≡ true → n ≡ 0
+is_zero n e = grind (arith, nat_tests)
+
+-- ---- a unit's own row
+
+unit_shown : (u : Name) (x : UnitRow) (id : Value) (v : Name) (y : UnitRow) → is_eq (by_columns (1 ∷ []) (row_in unit_shape id u x) (row_in unit_shape id v y)) ≡ true
+    → (shows 1 by_unit over_unit_shows [] (Text u ∷ unit_shape.cells x) (row_in unit_shape id v y)).1 ≡ id ∷ row_in unit_shape id u x
+unit_shown u x id v y tie =
+    let unit : v ≡ u = sym (same_text u v (both_tie (value_cmp (Text u) (Text v)) Equal tie).0) in
+    ap (λ w. (shows 1 by_unit over_unit_shows [] (Text u ∷ unit_shape.cells x) (row_in unit_shape id w y)).1) unit
+
+pub unit_over : (u : Name) (x : UnitRow) (old new : State) → AreBooks old.now → (count : ℕ) → nat_eq count 0 ≡ false → Executes over_unit_text (Text u ∷ unit_shape.cells x) old new (Ok count) → Applies u (Put (UnitPut x) ∷ []) old.now new.now
+unfolding first_key
+unit_over u x old new books count some h =
+    unit_edited u x old.now new.now books (written_over UnitKept over_unit_text by_unit over_unit_shows over_unit_is over_unit_plain u x (λ id y. refl) (unit_shown u x) old new books count some h)
+
+pub unit_anew : (u : Name) (x : UnitRow) (old between new : State) → AreBooks old.now → (n : ℕ) → nat_eq n 0 ≡ true → Executes over_unit_text (Text u ∷ unit_shape.cells x) old between (Ok n)
+    → (count : ℕ) → Executes put_unit_text (Text u ∷ unit_shape.cells x) between new (Ok count) → Applies u (Put (UnitPut x) ∷ []) old.now new.now
+unit_anew u x old between new books n none h count k =
+    let zero = subst (λ (m : ℕ). Executes over_unit_text (Text u ∷ unit_shape.cells x) old between (Ok m)) (is_zero n none) h in
+    let left = none_written UnitKept over_unit_text by_unit over_unit_shows over_unit_is over_unit_plain u (Text u ∷ unit_shape.cells x) old between books zero in
+    applies_then u [] (Put (UnitPut x) ∷ []) old.now between.now new.now left (put_unit_applies u x between new left.books count k)
+
+-- ---- an alarm
+
+alarm_shown : (u : Name) (x : AlarmRow) (id : Value) (v : Name) (y : AlarmRow) → is_eq (by_columns (1 ∷ 2 ∷ []) (row_in alarm_shape id u x) (row_in alarm_shape id v y)) ≡ true
+    → (shows 5 by_two over_alarm_shows [] (Text u ∷ alarm_shape.cells x) (row_in alarm_shape id v y)).1 ≡ id ∷ row_in alarm_shape id u x
+alarm_shown u x id v y tie =
+    let both = both_tie (value_cmp (Text u) (Text v)) (ordering_then (value_cmp (Text x.tag) (Text y.tag)) Equal) tie in
+    let unit : v ≡ u = sym (same_text u v both.0) in
+    let tag : y.tag ≡ x.tag = sym (same_text x.tag y.tag (both_tie (value_cmp (Text x.tag) (Text y.tag)) Equal both.1).0) in
+    ap₂ (λ w t. (shows 5 by_two over_alarm_shows [] (Text u ∷ alarm_shape.cells x) (row_in alarm_shape id w (record y { tag = t }))).1) unit tag
+
+pub alarm_over : (u : Name) (x : AlarmRow) (old new : State) → AreBooks old.now → (count : ℕ) → nat_eq count 0 ≡ false → Executes over_alarm_text (Text u ∷ alarm_shape.cells x) old new (Ok count) → Applies u (Put (AlarmPut x) ∷ []) old.now new.now
+unfolding first_key
+alarm_over u x old new books count some h =
+    alarm_edited u x old.now new.now (written_over AlarmKept over_alarm_text by_two over_alarm_shows over_alarm_is over_alarm_plain u x (λ id y. refl) (alarm_shown u x) old new books count some h)
+
+pub alarm_anew : (u : Name) (x : AlarmRow) (old between new : State) → AreBooks old.now → (n : ℕ) → nat_eq n 0 ≡ true → Executes over_alarm_text (Text u ∷ alarm_shape.cells x) old between (Ok n)
+    → (count : ℕ) → Executes put_alarm_text (Text u ∷ alarm_shape.cells x) between new (Ok count) → Applies u (Put (AlarmPut x) ∷ []) old.now new.now
+alarm_anew u x old between new books n none h count k =
+    let zero = subst (λ (m : ℕ). Executes over_alarm_text (Text u ∷ alarm_shape.cells x) old between (Ok m)) (is_zero n none) h in
+    let left = none_written AlarmKept over_alarm_text by_two over_alarm_shows over_alarm_is over_alarm_plain u (Text u ∷ alarm_shape.cells x) old between books zero in
+    applies_then u [] (Put (AlarmPut x) ∷ []) old.now between.now new.now left (put_alarm_applies u x between new left.books count k)
+
+-- ---- a change
+
+change_shown : (u : Name) (x : ChangeEntry) (id : Value) (v : Name) (y : ChangeEntry) → is_eq (by_columns (1 ∷ 2 ∷ []) (row_in change_shape id u x) (row_in change_shape id v y)) ≡ true
+    → (shows 17 by_two over_change_shows [] (Text u ∷ change_shape.cells x) (row_in change_shape id v y)).1 ≡ id ∷ row_in change_shape id u x
+change_shown u x id v y tie =
+    let both = both_tie (value_cmp (Text u) (Text v)) (ordering_then (value_cmp (number x.number) (number y.number)) Equal) tie in
+    let unit : v ≡ u = sym (same_text u v both.0) in
+    let n : y.number ≡ x.number = sym (same_number x.number y.number (both_tie (value_cmp (number x.number) (number y.number)) Equal both.1).0) in
+    ap₂ (λ w m. (shows 17 by_two over_change_shows [] (Text u ∷ change_shape.cells x) (row_in change_shape id w (record y { number = m }))).1) unit n
+
+pub change_over : (u : Name) (x : ChangeEntry) (old new : State) → AreBooks old.now → (count : ℕ) → nat_eq count 0 ≡ false → Executes over_change_text (Text u ∷ change_shape.cells x) old new (Ok count) → Applies u (Put (ChangePut x) ∷ []) old.now new.now
+unfolding first_key
+change_over u x old new books count some h =
+    change_edited u x old.now new.now (written_over ChangeKept over_change_text by_two over_change_shows over_change_is over_change_plain u x (λ id y. refl) (change_shown u x) old new books count some h)
+
+pub change_anew : (u : Name) (x : ChangeEntry) (old between new : State) → AreBooks old.now → (n : ℕ) → nat_eq n 0 ≡ true → Executes over_change_text (Text u ∷ change_shape.cells x) old between (Ok n)
+    → (count : ℕ) → Executes put_change_text (Text u ∷ change_shape.cells x) between new (Ok count) → Applies u (Put (ChangePut x) ∷ []) old.now new.now
+change_anew u x old between new books n none h count k =
+    let zero = subst (λ (m : ℕ). Executes over_change_text (Text u ∷ change_shape.cells x) old between (Ok m)) (is_zero n none) h in
+    let left = none_written ChangeKept over_change_text by_two over_change_shows over_change_is over_change_plain u (Text u ∷ change_shape.cells x) old between books zero in
+    applies_then u [] (Put (ChangePut x) ∷ []) old.now between.now new.now left (put_change_applies u x between new left.books count k)
