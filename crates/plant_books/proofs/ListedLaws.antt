@@ -5,7 +5,7 @@ use Rattle.std.specs.FinMap.Entries.{below_all, by_order, find as found, is_sort
 use Rattle.std.specs.FinMap.{entries, entries-insert, entries_sorted, get, get-entries, keys, len-empty, len-entries}
 use Rattle.std.specs.List.{cons_option, flat_map}
 use Rattle.std.specs.Ordering.{eq_by_cmp, is_eq, is_lt, ordering_reverse}
-use Rattle.std.specs.Prelude.{Err, Ok, OnOk, Option, Result, filter_map, option_map, unwrap_or, ◌&&◌}
+use Rattle.std.specs.Prelude.{Err, IfSome, Ok, OnOk, Option, Result, filter_map, option_map, unwrap_or, ◌&&◌}
 use Rattle.std.specs.declared.cmp.Ordering.TheVariants.{Equal, Greater, Less}
 use Rattle.plant_books.specs.declared.opened.OpenedUnit.{OpenedUnit}
 use Rattle.plant_model.specs.declared.call.Call.{Call}
@@ -14,6 +14,8 @@ use Rattle.plant_model.specs.declared.rows.UnitRows.{UnitRows}
 use Rattle.plant_types.specs.declared.fault.Fault.{Fault}
 use Rattle.plant_books.specs.Contents.{Content, after_changes, no_units, part_in, rows_in, with_rows}
 use Rattle.plant_books.specs.Listed.{IsListed, rows_at, unit_cmp}
+use Rattle.plant_books.specs.Order.{AreInOrder}
+use Rattle.plant_books.proofs.OrderLaws.{AllInOrder, changed_in_order, or_none_in_order, put_all_in_order, rows_in_order}
 use Rattle.plant_model.proofs.Base.{lt}
 use Rattle.plant_model.specs.Parts.{part_of}
 use Rattle.plant_model.specs.RowChanges.{changed_by, no_rows}
@@ -47,11 +49,12 @@ put_entry o (e ∷ es) =
       | Greater ↦ λ p. ap (λ xs. entry e ∷ xs) (put_entry o es)
     ] refl
 
-pub put_listed : (admin u : Name) (rows : UnitRows) (opened : List OpenedUnit) (m : Content) → IsListed admin opened m → IsListed admin (put_row unit_cmp (λ o. o) record { unit = u; rows = rows } opened) (with_rows m u rows)
-put_listed admin u rows opened m h =
+pub put_listed : (admin u : Name) (rows : UnitRows) (opened : List OpenedUnit) (m : Content) → AreInOrder rows → IsListed admin opened m → IsListed admin (put_row unit_cmp (λ o. o) record { unit = u; rows = rows } opened) (with_rows m u rows)
+put_listed admin u rows opened m order h =
     record {
       admin = h.admin;
       units = put_entry record { unit = u; rows = rows } opened ∙ ap (put name_cmp u rows) h.units ∙ sym (entries-insert name_total m.units u rows);
+      ordered = put_all_in_order record { unit = u; rows = rows } opened order h.ordered;
     }
 
 no_length : {A : Type 0} (es : List A) → length es ≡ 0 → [] ≡ es
@@ -63,6 +66,7 @@ none_listed admin opened none =
     record {
       admin = refl;
       units = ap (map entry) none ∙ no_length (entries (no_units admin).units) (sym (len-entries (no_units admin).units) ∙ len-empty name_cmp UnitRows);
+      ordered = subst AllInOrder (sym none) tt;
     }
 
 -- what is told of each code with what is found there, is told of each unit of the list with its rows
@@ -138,5 +142,5 @@ made_listed (Ok x) admin u opened left m cs h is =
     let there = ap (λ o. changed_by cs (unwrap_or o no_rows)) (rows_listed admin u opened m h) in
     subst (λ os. IsListed admin os (after_changes m u cs)) (sym is)
     (subst (λ (rows : UnitRows). IsListed admin (put_row unit_cmp (λ o. o) record { unit = u; rows = rows } opened) (after_changes m u cs)) (sym there)
-    (put_listed admin u (changed_by cs (rows_in m u)) opened m h))
+    (put_listed admin u (changed_by cs (rows_in m u)) opened m (changed_in_order cs (rows_in m u) (or_none_in_order (get m.units u) (subst (λ o. IfSome o AreInOrder) (rows_listed admin u opened m h) (rows_in_order u opened h.ordered)))) h))
 made_listed (Err e) admin u opened left m cs h is = tt

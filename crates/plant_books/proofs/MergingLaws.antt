@@ -1,5 +1,5 @@
 -- Events put one after another, and all at once in rising number.
-use Rattle.std.proofs.Common.{◌≡◌, ℕ, ◌+◌, ◌<◌, ◌≤◌, List, [], ◌∷◌, ◌++◌, append_assoc, arith, drop, get_or, length, refl, sym, ap, subst, ◌∙◌, suc, take, zero}
+use Rattle.std.proofs.Common.{◌≡◌, ℕ, ◌+◌, ◌-◌, ◌<◌, ◌≤◌, List, [], ◌∷◌, ◌++◌, None, Option, Some, append_assoc, arith, drop, get_or, length, refl, slice_get, sym, ap, subst, ◌∙◌, suc, take, zero}
 use Rattle.std.proofs.Math.Nat.{lt_trans}
 use Rattle.std.proofs.Math.Seq.{drop-cons, drop-length, take-suc}
 use Rattle.std.proofs.lemmas.Cmp.{ranked}
@@ -150,6 +150,36 @@ with_more e x es rows h above = ap (with_events es) (put_more e x rows h) ∙ wi
 
 with_first : (e : Event) (es : List Event) → IsAbove e.seq es → with_events (e ∷ es) [] ≡ e ∷ with_events es []
 with_first e es above = with_passed e.seq e es [] (same_bound e.seq) above
+
+-- an event above the last of events that rise is put at the end
+below_last : (n m : ℕ) (rows : List Event) (l : Event) → IsAbove m rows → Some l ≡ slice_get rows n → m < l.seq
+below_last n m [] l above is = absurd (cc is)
+below_last zero m (q ∷ qs) l above is = let same : l ≡ q = cc is in subst (λ (e : Event). m < e.seq) (sym same) above.0
+below_last (suc n) m (q ∷ qs) l above is = lt_trans above.0 (below_last n q.seq qs l above.1 is)
+
+end_at : (r : Event) (n : ℕ) (rows : List Event) (l : Event) → length rows ≡ suc n → IsRising rows → Some l ≡ slice_get rows n → l.seq < r.seq → put_in r rows ≡ rows ++ r ∷ []
+end_at r n [] l len h is lt = absurd (omega (arith, len))
+end_at r zero (p ∷ []) l len h is lt = let same : l ≡ p = cc is in put_more r p [] (subst (λ (e : Event). e.seq < r.seq) same lt)
+end_at r zero (p ∷ q ∷ ps) l len h is lt = absurd (omega (arith, len))
+end_at r (suc n) (p ∷ ps) l len h is lt =
+    put_more r p ps (lt_trans (below_last n p.seq ps l h is) lt)
+    ∙ ap (λ xs. p ∷ xs) (end_at r n ps l (omega (arith, len)) (rising_above p.seq ps h) is lt)
+
+pub put_end : (r : Event) (rows : List Event) (l : Event) → IsRising rows → Some l ≡ slice_get rows (length rows - 1) → l.seq < r.seq → put_in r rows ≡ rows ++ r ∷ []
+put_end r [] l h is lt = absurd (cc is)
+put_end r (p ∷ ps) l h is lt =
+    let one : length (p ∷ ps) - 1 ≡ length ps = omega arith in
+    end_at r (length ps) (p ∷ ps) l refl h (subst (λ n. ◌≡◌ {A = Option Event} (Some l) (slice_get (p ∷ ps) n)) one is) lt
+
+no_last : (p : Event) (ps : List Event) → ◌≡◌ {A = Option Event} None (slice_get (p ∷ ps) (length ps)) → ⊥
+no_last p [] is = cc
+no_last p (q ∷ qs) is = no_last q qs is
+
+pub put_first : (r : Event) (rows : List Event) → ◌≡◌ {A = Option Event} None (slice_get rows (length rows - 1)) → put_in r rows ≡ rows ++ r ∷ []
+put_first r [] is = refl
+put_first r (p ∷ ps) is =
+    let one : length (p ∷ ps) - 1 ≡ length ps = omega arith in
+    absurd (no_last p ps (subst (λ n. ◌≡◌ {A = Option Event} None (slice_get (p ∷ ps) n)) one is))
 
 -- one event after another
 pub rises_on : (events rows new : List Event) (e : Event) (i : ℕ) → i < length events → e ≡ get_or events i e → rows ≡ with_events (take i events) [] → new ≡ put_in e rows → new ≡ with_events (take (i + 1) events) []

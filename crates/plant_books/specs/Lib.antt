@@ -3,3 +3,4 @@ pub mod Counting
 pub mod Asking
 pub mod Listed
 pub mod Changing
+pub mod Order

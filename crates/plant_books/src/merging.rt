@@ -4,6 +4,9 @@ ghost use Rattle.std.specs.Prelude.{◌≡◌, [], ◌∷◌, ◌++◌, ◌≤�
 ghost use Rattle.plant_alarm.specs.declared.event.Event.{Event as EventOf};
 ghost use Rattle.plant_books.specs.Changing as changing;
 ghost use Rattle.plant_books.specs.Changing.{IsAbove, IsRising};
+ghost use Rattle.plant_model.specs.RowFacts.{event_number};
+ghost use Rattle.plant_types.specs.Tables.{put_row};
+ghost use Rattle.std.specs.Ordering.{nat_cmp};
 ghost use Rattle.plant_types.specs.declared.fault.Fault.TheVariants.{Memory};
 
 use crate::keyed::put;
@@ -12,6 +15,17 @@ use plant_types::{Duplicate, Fault, Table};
 use std::alloc::Global;
 use std::cmp::Ordering;
 
+/// Puts an event among others in rising number: at the end, where it is above the last.
+fn put_rising(events: &mut Table<Event>, event: Event) -> Result<(), Fault>
+    ensures ok { IsRising events.old → OnOk result (events.new ≡ put_row nat_cmp event_number event events.old) }
+    ensures memory { IfErr result (λ e. e ≡ Memory) }
+{
+    match events.as_slice().last() {
+        Some(last) if event.seq <= last.seq => put(events, event),
+        _ => events.push(event),
+    }
+}
+
 /// The events in rising number, of each number the last.
 fn rising(alloc: Global, events: &[Event]) -> Result<Table<Event>, Fault>
     ensures value { IfOk result (λ rows. rows ≡ changing.with_events events.now []) }
@@ -19,7 +33,7 @@ fn rising(alloc: Global, events: &[Event]) -> Result<Table<Event>, Fault>
 {
     let mut rows = Table::new(alloc);
     for event in events {
-        put(&mut rows, event.duplicate(alloc)?)?;
+        put_rising(&mut rows, event.duplicate(alloc)?)?;
     }
     Ok(rows)
 }

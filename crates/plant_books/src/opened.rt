@@ -1,7 +1,8 @@
-ghost use Rattle.std.specs.Prelude.{◌≡◌, IfErr, IfOk, OnErr, OnOk, Some, filter_map, flat_map, is_some, map, option_copied, option_map, unwrap_or, ◌++◌};
+ghost use Rattle.std.specs.Prelude.{◌≡◌, IfErr, IfOk, IfSome, OnErr, OnOk, Some, filter_map, flat_map, is_some, map, option_copied, option_map, unwrap_or, ◌++◌};
 ghost use Rattle.plant_books.specs.Contents as contents;
 ghost use Rattle.plant_books.specs.Contents.{is_held_in, mine_shelf, mine_unit, shelves_mine};
 ghost use Rattle.plant_books.specs.Listed.{rows_at, unit_cmp};
+ghost use Rattle.plant_books.specs.Order.{AreInOrder};
 ghost use Rattle.plant_model.specs.Parts.{part_of as the_part};
 ghost use Rattle.plant_model.specs.RowChanges.{changed_by, no_rows};
 ghost use Rattle.plant_model.specs.RowFacts.{alarm_tag, unit_read};
@@ -77,7 +78,7 @@ pub fn part_at(
     unit: &UnitCode,
     call: &Call,
 ) -> Result<Option<UnitPart>, Fault>
-    ensures value { IfOk result (λ part. part ≡ option_map (the_part call.now) (rows_at units.now unit.now)) }
+    ensures value { IfSome (rows_at units.now unit.now) AreInOrder → IfOk result (λ part. part ≡ option_map (the_part call.now) (rows_at units.now unit.now)) }
     ensures memory { IfErr result (λ e. e ≡ Memory) }
 {
     match rows_of(units, unit) {

@@ -1,7 +1,9 @@
-ghost use Rattle.std.specs.Prelude.{◌≡◌, ◌||◌, IfErr, IfOk, filter};
+ghost use Rattle.std.specs.Prelude.{◌≡◌, ◌||◌, ℕ, IfErr, IfOk, false, filter};
 ghost use Rattle.plant_books.specs.Asking.{is_crowded_for, is_wanted};
+ghost use Rattle.plant_books.specs.Order.{AreInOrder};
 ghost use Rattle.plant_model.specs.Parts.{counted_for, is_source as is_source_of, part_of as the_part, part_of_holder as holders_part, rows_selected, selected};
 ghost use Rattle.plant_model.specs.RowChanges.{no_rows};
+ghost use Rattle.plant_model.specs.declared.rows.UnitRows.{UnitRows as TheRows};
 ghost use Rattle.plant_model.specs.RowFacts.{last_number as last_number_of, pair_of, unit_read};
 ghost use Rattle.plant_types.specs.Names.{same_name};
 ghost use Rattle.plant_types.specs.declared.fault.Fault.TheVariants.{Memory};
@@ -11,11 +13,11 @@ use crate::asking::{
     wanted_count, wanted_records, wanted_shelves, wants_all_grants, wants_events, wants_matrix,
     wants_sources,
 };
+use crate::found::rows_wanted;
 use crate::grants::holds_some_by;
 use plant_alarm::Event;
 use plant_model::{
-    AlarmRow, BandRow, Call, CellRow, ChangeEntry, GrantRow, RecordEntry, Request, ShelfRow,
-    UnitPart, UnitRow, UnitRows,
+    BandRow, Call, CellRow, ChangeEntry, GrantRow, Request, UnitPart, UnitRow, UnitRows,
 };
 use plant_types::{Duplicate, Fault, Person, Table};
 use std::alloc::Global;
@@ -33,42 +35,6 @@ fn grants_asked(alloc: Global, rows: &UnitRows, call: &Call) -> Result<Table<Gra
         }
     }
     Ok(asked)
-}
-
-/// The alarms that are wanted.
-fn alarms_asked(
-    alloc: Global,
-    alarms: &Table<AlarmRow>,
-    wanted: &Wanted,
-) -> Result<Table<AlarmRow>, Fault>
-    ensures value { IfOk result (λ rows. rows ≡ filter (λ r. is_wanted wanted.now r.tag) alarms.now) }
-    ensures memory { IfErr result (λ e. e ≡ Memory) }
-{
-    let mut rows = Table::new(alloc);
-    for alarm in alarms.as_slice() {
-        if wanted.has(&alarm.tag) {
-            rows.push(alarm.duplicate(alloc)?)?;
-        }
-    }
-    Ok(rows)
-}
-
-/// The shelves that are wanted.
-fn shelves_asked(
-    alloc: Global,
-    shelves: &Table<ShelfRow>,
-    wanted: &Wanted,
-) -> Result<Table<ShelfRow>, Fault>
-    ensures value { IfOk result (λ rows. rows ≡ filter (λ r. is_wanted wanted.now r.tag) shelves.now) }
-    ensures memory { IfErr result (λ e. e ≡ Memory) }
-{
-    let mut rows = Table::new(alloc);
-    for shelf in shelves.as_slice() {
-        if wanted.has(&shelf.tag) {
-            rows.push(shelf.duplicate(alloc)?)?;
-        }
-    }
-    Ok(rows)
 }
 
 /// The events, where they are wanted.
@@ -101,12 +67,22 @@ fn is_matrix_asked(rows: &UnitRows, request: &Request, number: u32) -> bool
     named || wants_matrix(request) && matrix_in_force(rows) == number
 }
 
+/// Whether the request looks at some matrix.
+fn wants_some_matrix(request: &Request) -> bool
+    ensures { result ≡ false → (rows : TheRows) (n : ℕ) → (selected rows request.now).matrix n ≡ false }
+{
+    wants_matrix(request) || wanted_change(request).is_some()
+}
+
 /// The limits of the matrices that the request looks at.
 fn bands_asked(alloc: Global, rows: &UnitRows, request: &Request) -> Result<Table<BandRow>, Fault>
     ensures value { IfOk result (λ asked. asked ≡ filter (λ r. (selected rows.now request.now).matrix r.matrix_no) rows.now.bands) }
     ensures memory { IfErr result (λ e. e ≡ Memory) }
 {
     let mut asked = Table::new(alloc);
+    if !wants_some_matrix(request) {
+        return Ok(asked);
+    }
     for band in rows.bands.as_slice() {
         if is_matrix_asked(rows, request, band.matrix_no) {
             asked.push(*band)?;
@@ -121,30 +97,15 @@ fn cells_asked(alloc: Global, rows: &UnitRows, request: &Request) -> Result<Tabl
     ensures memory { IfErr result (λ e. e ≡ Memory) }
 {
     let mut asked = Table::new(alloc);
+    if !wants_some_matrix(request) {
+        return Ok(asked);
+    }
     for cell in rows.cells.as_slice() {
         if is_matrix_asked(rows, request, cell.matrix_no) {
             asked.push(*cell)?;
         }
     }
     Ok(asked)
-}
-
-/// The records that are wanted.
-fn records_asked(
-    alloc: Global,
-    records: &Table<RecordEntry>,
-    wanted: &Wanted,
-) -> Result<Table<RecordEntry>, Fault>
-    ensures value { IfOk result (λ rows. rows ≡ filter (λ r. is_wanted wanted.now r.tag) records.now) }
-    ensures memory { IfErr result (λ e. e ≡ Memory) }
-{
-    let mut rows = Table::new(alloc);
-    for record in records.as_slice() {
-        if wanted.has(&record.tag) {
-            rows.push(record.duplicate(alloc)?)?;
-        }
-    }
-    Ok(rows)
 }
 
 /// Whether a record that is wanted came from the change of a number.
@@ -163,6 +124,13 @@ fn is_change_asked(rows: &UnitRows, request: &Request, number: u32) -> bool
     named || wants_sources(request) && is_source(rows, &wanted_records(request), number)
 }
 
+/// Whether the request looks at some change.
+fn wants_some_change(request: &Request) -> bool
+    ensures { result ≡ false → (rows : TheRows) (n : ℕ) → (selected rows request.now).change n ≡ false }
+{
+    wants_sources(request) || wanted_change(request).is_some()
+}
+
 /// The changes that the request looks at.
 fn changes_asked(
     alloc: Global,
@@ -173,6 +141,9 @@ fn changes_asked(
     ensures memory { IfErr result (λ e. e ≡ Memory) }
 {
     let mut asked = Table::new(alloc);
+    if !wants_some_change(request) {
+        return Ok(asked);
+    }
     for change in rows.changes.as_slice() {
         if is_change_asked(rows, request, change.number) {
             asked.push(change.duplicate(alloc)?)?;
@@ -190,7 +161,7 @@ fn is_crowded_by(rows: &UnitRows, request: &Request) -> bool
 
 /// The rows that the call looks at.
 fn rows_asked(alloc: Global, rows: &UnitRows, call: &Call) -> Result<UnitRows, Fault>
-    ensures value { IfOk result (λ asked. asked ≡ rows_selected call.now.person (selected rows.now call.now.request) rows.now) }
+    ensures value { AreInOrder rows.now → IfOk result (λ asked. asked ≡ rows_selected call.now.person (selected rows.now call.now.request) rows.now) }
     ensures memory { IfErr result (λ e. e ≡ Memory) }
 {
     let request = &call.request;
@@ -198,12 +169,12 @@ fn rows_asked(alloc: Global, rows: &UnitRows, call: &Call) -> Result<UnitRows, F
     Ok(UnitRows {
         units: rows.units.duplicate(alloc)?,
         grants: grants_asked(alloc, rows, call)?,
-        alarms: alarms_asked(alloc, &rows.alarms, &wanted_alarms(request, crowded))?,
-        shelves: shelves_asked(alloc, &rows.shelves, &wanted_shelves(request, crowded))?,
+        alarms: rows_wanted(alloc, &rows.alarms, &wanted_alarms(request, crowded))?,
+        shelves: rows_wanted(alloc, &rows.shelves, &wanted_shelves(request, crowded))?,
         events: events_asked(alloc, &rows.events, wants_events(request))?,
         bands: bands_asked(alloc, rows, request)?,
         cells: cells_asked(alloc, rows, request)?,
-        records: records_asked(alloc, &rows.records, &wanted_records(request))?,
+        records: rows_wanted(alloc, &rows.records, &wanted_records(request))?,
         changes: changes_asked(alloc, rows, request)?,
     })
 }
@@ -231,7 +202,7 @@ fn count_asked(rows: &UnitRows, call: &Call) -> u64
 
 /// The part of a caller who holds a role.
 fn part_of_holder(alloc: Global, rows: &UnitRows, call: &Call) -> Result<UnitPart, Fault>
-    ensures value { IfOk result (λ part. part ≡ holders_part call.now rows.now) }
+    ensures value { AreInOrder rows.now → IfOk result (λ part. part ≡ holders_part call.now rows.now) }
     ensures memory { IfErr result (λ e. e ≡ Memory) }
 {
     Ok(UnitPart {
@@ -282,7 +253,7 @@ pub fn part_of_grants(alloc: Global, units: Table<UnitRow>, grants: Table<GrantR
 /// The part of a unit's rows that the call looks at: of a caller who holds no role the unit's own row and the
 /// caller's grants alone.
 pub fn part_of(alloc: Global, rows: &UnitRows, call: &Call) -> Result<UnitPart, Fault>
-    ensures value { IfOk result (λ part. part ≡ the_part call.now rows.now) }
+    ensures value { AreInOrder rows.now → IfOk result (λ part. part ≡ the_part call.now rows.now) }
     ensures memory { IfErr result (λ e. e ≡ Memory) }
 {
     if holds_some_by(rows.grants.as_slice(), &call.person, call.moment) {

@@ -1,13 +1,18 @@
-ghost use Rattle.std.specs.Prelude.{◌≡◌};
+ghost use Rattle.std.specs.Prelude.{◌≡◌, IsTrue};
+ghost use Rattle.std.specs.Cmp.{IsTotalOrder};
 ghost use Rattle.std.specs.Ordering.{nat_cmp};
 ghost use Rattle.plant_model.specs.Matrices.{band_cmp, cell_cmp};
 ghost use Rattle.plant_model.specs.RowFacts.{alarm_tag, band_key, cell_key, change_number, event_number, pair_of, record_tag, shelf_tag};
+ghost use Rattle.plant_books.specs.Order.{AreInOrder};
 ghost use Rattle.plant_types.specs.Names.{name_cmp};
 ghost use Rattle.plant_types.specs.Roles.{pair_cmp};
+ghost use Rattle.plant_types.specs.Tables.{IsInOrder};
 
 use crate::keyed::Keyed;
 use plant_alarm::Event;
-use plant_model::{AlarmRow, BandRow, CellRow, ChangeEntry, GrantRow, RecordEntry, ShelfRow};
+use plant_model::{
+    AlarmRow, BandRow, CellRow, ChangeEntry, GrantRow, RecordEntry, ShelfRow, UnitRows,
+};
 use plant_types::{Person, Role};
 use std::cmp::Ordering;
 
@@ -74,6 +79,24 @@ impl Keyed for ChangeEntry {
     fn key_cmp(&self, other: &ChangeEntry) -> Ordering {
         self.number.cmp(&other.number)
     }
+}
+
+/// Whether the keys of the rows rise.
+fn rise<T: Keyed>(rows: &[T]) -> bool
+    ensures { IsTotalOrder T.order → IsTrue result → IsInOrder T.order (λ r. r) rows.now }
+{
+    rows.is_sorted_by(|row, next| row.key_cmp(next).is_lt())
+}
+
+/// Whether the rows of a unit stand in the order of their keys.
+pub fn are_in_order(rows: &UnitRows) -> bool
+    ensures { IsTrue result → AreInOrder rows.now }
+{
+    let alarms = rise(rows.alarms.as_slice());
+    let shelves = rise(rows.shelves.as_slice());
+    let records = rise(rows.records.as_slice());
+    let changes = rise(rows.changes.as_slice());
+    alarms && shelves && records && changes
 }
 
 /// How a person with a role compares with the pair of a grant: by person, and then by role.

@@ -19,7 +19,7 @@ use Rattle.plant_types.proofs.Orders.{name_total, same_names}
 use Rattle.plant_types.proofs.TableLaws.{tied}
 use Rattle.plant_types.specs.Names.{Name, name_cmp, same_name}
 use Rattle.plant_types.specs.Tables.{IsInOrder}
-use Rattle.plant_unit.proofs.RowsFound.{After as TagsAfter, Ordered as TagsOrdered, Parts as TagsParts, after_more, greater, later, lesser, ordered, turned, back}
+use Rattle.plant_books.proofs.RowsFound.{After as TagsAfter, Ordered as TagsOrdered, Parts as TagsParts, after_more, greater, later, lesser, ordered, turned, back}
 use Rattle.plant_unit.specs.Summaries.{summaries, summary_of, with_summary}
 
 abbrev After : Name → List AlarmRow → Type 0

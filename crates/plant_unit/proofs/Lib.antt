@@ -1,5 +1,4 @@
 pub mod MatrixLaws
-pub mod RowsFound
 pub mod AlarmLists
 pub mod EventBounds
 pub mod KeptLaws

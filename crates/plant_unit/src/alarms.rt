@@ -15,8 +15,8 @@ ghost use Rattle.plant_model.specs.RowFacts.{alarm_tag};
 ghost use Rattle.plant_unit.specs.Summaries as told;
 ghost use Rattle.plant_unit.specs.Summaries.{is_named, summary_of};
 
-use crate::found::place_of;
 use plant_alarm::{Event, Summary};
+use plant_books::place_of;
 use plant_import::events_after;
 use plant_model::{AlarmRow, Change, Row};
 use plant_types::{Duplicate, Fault, Table};

@@ -6,7 +6,6 @@ mod changes;
 mod decisions;
 mod facts;
 mod floods;
-mod found;
 mod imports;
 mod judgement;
 mod matrices;

@@ -11,8 +11,8 @@ ghost use Rattle.plant_model.specs.declared.rows.UnitRows.{UnitRows as TheRows};
 ghost use Rattle.plant_unit.specs.Additions.{AreKept};
 ghost use Rattle.plant_unit.specs.Readings.{change_whole, kind_found, sheet_found};
 
-use crate::found::row_of;
 use crate::matrices::matrix_of;
+use plant_books::row_of;
 use plant_model::{
     ChangeEntry, ChangeRow, ChangeTopic, RecordEntry, RecordRow, UnitPart, UnitRows,
 };

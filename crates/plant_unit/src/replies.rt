@@ -16,10 +16,9 @@ ghost use Rattle.plant_model.specs.declared.call.Request.TheVariants.{Alarms as 
 use crate::decisions::next_number;
 use crate::facts::{state_now, state_of};
 use crate::floods::flood_lines;
-use crate::found::row_of;
 use crate::reading::{change_of, priority_of, rationale_of};
 use plant_alarm::ShelfState;
-use plant_books::alarm_of;
+use plant_books::{alarm_of, row_of};
 use plant_model::{
     AlarmLine, AlarmRow, Reply, Request, ShelfLine, ShelfRow, StandingLine, StatusRow, UnitPart,
 };

@@ -1,14 +1,19 @@
 //! Rows found by their tags, in a table that stands in the order of the tags.
 
-ghost use Rattle.std.specs.Prelude.{◌≡◌, true, false, option_copied};
+ghost use Rattle.std.specs.Prelude.{◌≡◌, IfErr, IfOk, true, false, filter, option_copied};
+ghost use Rattle.std.specs.Option.{option_to_list};
 ghost use Rattle.std.specs.List.Sorted.{IsPartitionPoint};
 ghost use Rattle.std.specs.Ordering.{is_lt};
+ghost use Rattle.plant_books.specs.Asking.{is_wanted};
 ghost use Rattle.plant_model.specs.RowFacts.{alarm_tag, record_tag, shelf_tag};
 ghost use Rattle.plant_types.specs.Names.{Name, name_cmp};
 ghost use Rattle.plant_types.specs.Tables.{IsInOrder, row_at};
+ghost use Rattle.plant_types.specs.declared.fault.Fault.TheVariants.{Memory};
 
+use crate::asking::Wanted;
 use plant_model::{AlarmRow, RecordEntry, ShelfRow};
-use plant_types::Tag;
+use plant_types::{Duplicate, Fault, Table, Tag};
+use std::alloc::Global;
 
 /// A row of an alarm, of which its table has one at most.
 pub trait Tagged: Drop {
@@ -57,5 +62,33 @@ pub fn row_of<'a, T: Tagged>(rows: &'a [T], tag: &Tag) -> Option<&'a T>
     match rows.get(place_of(rows, tag)) {
         Some(row) if *row.tag() == *tag => Some(row),
         _ => None,
+    }
+}
+
+/// A table of a copy of the row, if there is one.
+fn one_copy<T: Tagged + Duplicate>(alloc: Global, row: Option<&T>) -> Result<Table<T>, Fault>
+    ensures value { IfOk result (λ rows. rows ≡ option_to_list (option_copied row.entry)) }
+    ensures memory { IfErr result (λ e. e ≡ Memory) }
+{
+    let mut rows = Table::new(alloc);
+    if let Some(row) = row {
+        rows.push(row.duplicate(alloc)?)?;
+    }
+    Ok(rows)
+}
+
+/// Copies of the rows of the tags that are wanted.
+pub fn rows_wanted<T: Tagged + Duplicate>(
+    alloc: Global,
+    rows: &Table<T>,
+    wanted: &Wanted<'_>,
+) -> Result<Table<T>, Fault>
+    ensures value { IsInOrder name_cmp T.key rows.now → IfOk result (λ found. found ≡ filter (λ r. is_wanted wanted.now (T.key r)) rows.now) }
+    ensures memory { IfErr result (λ e. e ≡ Memory) }
+{
+    match wanted {
+        Wanted::Nothing => Ok(Table::new(alloc)),
+        Wanted::One(tag) => one_copy(alloc, row_of(rows.as_slice(), tag)),
+        Wanted::Every => rows.duplicate(alloc),
     }
 }

@@ -1,0 +1,28 @@
+use Rattle.std.proofs.Common.{ap, refl, subst, sym, true, ◌∙◌, ◌≡◌}
+use Rattle.std.specs.Option.{option_to_list}
+use Rattle.std.specs.Prelude.{IfOk, option_copied}
+use Rattle.plant_books.proofs.OrderLaws.{one_passes}
+use Rattle.plant_books.proofs.PassingLaws.{none_passes, passing_as, passing_every}
+use Rattle.plant_books.proofs.RowsFound.{ordered}
+use Rattle.plant_books.specs.Asking.{is_wanted}
+use Rattle.plant_types.specs.Names.{name_cmp}
+use Rattle.plant_types.specs.Tables.{row_at}
+use Rattle.plant_books.proofs.found.rows_wanted.Goals as goal
+
+pub returns-in-Nothing-clause-value : goal.returns-in-Nothing-clause-value
+returns-in-Nothing-clause-value g c order = c.new.ensures ∙ sym (none_passes (λ r. ap (λ w. is_wanted w (g.T.Tagged.key r)) c.in-Nothing.is) c.args.rows.now)
+
+pub returns-in-One-clause-value : goal.returns-in-One-clause-value
+returns-in-One-clause-value g c order =
+    let tag = c.in-One.tag.now in
+    let rows = c.args.rows.now in
+    let found : option_copied c.row_of.result ≡ row_at name_cmp g.T.Tagged.key tag rows = (rw c.as_slice.ensures at c.row_of.ensures) order in
+    subst (λ xs. IfOk c.one_copy.result (λ found. found ≡ xs))
+    (ap option_to_list found ∙ sym (one_passes g.T.Tagged.key tag rows (ordered g.T.Tagged.key rows order)) ∙ sym (passing_as (λ r. ap (λ w. is_wanted w (g.T.Tagged.key r)) c.in-One.is) rows))
+    c.one_copy.ensures.value
+
+pub returns-in-Every-clause-value : goal.returns-in-Every-clause-value
+returns-in-Every-clause-value g c order =
+    subst (λ xs. IfOk c.duplicate.result (λ found. found ≡ xs))
+    (sym (passing_every true c.args.rows.now refl) ∙ sym (passing_as (λ r. ap (λ w. is_wanted w (g.T.Tagged.key r)) c.in-Every.is) c.args.rows.now))
+    c.duplicate.ensures.value
