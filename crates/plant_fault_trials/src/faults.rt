@@ -96,8 +96,8 @@ fn serves_through_faults<B: Books + Drop>(
     hold_the_same(rt, &mut ours, &mut theirs, &wanted.units, "in the end");
 }
 
-/// Our answers to the calls, made in one run, and our books after it. If there is no room for the answers, our books hold what they
-/// held, and the run is made again.
+/// Makes the calls in one run and gives their answers and our books. A run that has no room for its answers must leave our books as
+/// they were; it is then made again.
 fn our_run<B: Books + Drop>(
     rt: &(impl Abort + AllocGlobal + Eprint),
     ours: B,
@@ -114,7 +114,7 @@ fn our_run<B: Books + Drop>(
     all_answers(rt, ours, calls)
 }
 
-/// The answers to the calls, made in one run, and the books after it. If there is no room for the answers, the test ends.
+/// Makes the calls in one run and gives their answers and the books. The test ends if there is no room for the answers.
 fn all_answers<B: Books + Drop>(
     rt: &(impl Abort + AllocGlobal),
     books: B,

@@ -1,4 +1,4 @@
-//! Rows that differ are told from those that are the same.
+//! Comparing two keepers finds a difference between their rows, and finds none where there is none.
 
 use plant_examples::{BASE, Exchanges, SHELVED};
 use plant_trials::{are_left_alike, lists, tables};

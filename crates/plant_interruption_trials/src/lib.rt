@@ -1,0 +1,8 @@
+//! Offices that are interrupted, as tests alone: calls whose statements may take only so many steps, and offices whose files are
+//! closed and opened again.
+#![tactic(auto)]
+
+#[cfg(test)]
+mod interruptions;
+#[cfg(test)]
+mod reopenings;
