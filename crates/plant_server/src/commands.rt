@@ -9,6 +9,7 @@ use crate::migrations::migrate_file;
 use crate::sockets::Port;
 use plant_connections::{end_name, say, serve_connections};
 use plant_line::{Line, LineError, Service, Task, line_of};
+use plant_mirror::{Copies, Mirror, ROWS_AT_HAND};
 use plant_office::{Books, Office};
 use plant_store::{StoreFault, Tables};
 use plant_types::Person;
@@ -120,7 +121,25 @@ fn serve_all<B: Books>(
     served(errors, outcome)
 }
 
-/// Serves a port or the streams over these books, and gives the status and the books after it.
+/// Serves a port or the streams by an office, and gives the status.
+fn serve_office<B: Books, I: Inlet, O: Outlet + Write, E: Write>(
+    rt: &HostRuntime,
+    office: &mut Office<B>,
+    service: Option<Service>,
+    inlet: &mut I,
+    outlet: &mut O,
+    errors: &mut E,
+) -> u8
+    ensures { IsServed service (I.remaining inlet.old) (I.remaining inlet.new) (O.written outlet.old) (O.written outlet.new) result }
+{
+    match service {
+        None => serve_streams(rt.alloc(), office, inlet, outlet, errors),
+        Some(service) => serve_all(rt, office, service, outlet, errors),
+    }
+}
+
+/// Serves a port or the streams over these books, with rows at hand if there is memory for them, and gives the status and the
+/// books after it.
 fn serve_books<S: Alter + Drop, I: Inlet, O: Outlet + Write, E: Write>(
     rt: &HostRuntime,
     books: Tables<S>,
@@ -132,14 +151,15 @@ fn serve_books<S: Alter + Drop, I: Inlet, O: Outlet + Write, E: Write>(
     ensures { IsServed service (I.remaining inlet.old) (I.remaining inlet.new) (O.written outlet.old) (O.written outlet.new) result.0 }
 {
     let alloc = rt.alloc();
-    let mut office = Office::new(alloc, books);
-    match service {
-        None => {
-            let status = serve_streams(alloc, &mut office, inlet, outlet, errors);
-            (status, office.into_books())
+    match Copies::new(alloc, ROWS_AT_HAND) {
+        Ok(copies) => {
+            let mut office = Office::new(alloc, Mirror::new(alloc, copies, books));
+            let status = serve_office(rt, &mut office, service, inlet, outlet, errors);
+            (status, office.into_books().into_books())
         }
-        Some(service) => {
-            let status = serve_all(rt, &mut office, service, outlet, errors);
+        Err(_) => {
+            let mut office = Office::new(alloc, books);
+            let status = serve_office(rt, &mut office, service, inlet, outlet, errors);
             (status, office.into_books())
         }
     }

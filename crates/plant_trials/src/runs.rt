@@ -1,8 +1,9 @@
 //! The calls of a session, made one by one and all in one run.
 
 use crate::keepers::{check_keepers, check_rows};
-use crate::sessions::{check_answers, check_session, lists, tables};
+use crate::sessions::{check_answers, check_session, lists, mirrored, tables};
 use plant_examples::{BEGIN, Exchanges, Failure, between};
+use plant_mirror::ROWS_AT_HAND;
 use plant_model::{Answer, Call};
 use plant_office::{Books, Office};
 use plant_wire::{Cut, next_call, render};
@@ -151,11 +152,26 @@ pub fn check_run<B: Books + Drop>(
     check_rows(&mut ours, &mut theirs, &wanted.units)
 }
 
+/// So few that each example has units for which there is no room beside another.
+const FEW_ROWS: u128 = 12;
+
+/// With rows at hand, many or few, a keeper answers as wanted and holds what it holds without them.
+fn check_mirrors(alloc: Global, wanted: &Exchanges) -> Result<(), Failure> {
+    for limit in [ROWS_AT_HAND, FEW_ROWS] {
+        let ours = mirrored(alloc, lists(alloc)?, limit)?;
+        check_keepers(alloc, ours, lists(alloc)?, wanted)?;
+        let ours = mirrored(alloc, tables(alloc)?, limit)?;
+        check_keepers(alloc, ours, lists(alloc)?, wanted)?;
+    }
+    Ok(())
+}
+
 /// Over each keeper the exchanges are answered as wanted, also in one run, and both keep the same rows.
 pub fn check_example(alloc: Global, wanted: &Exchanges) -> Result<(), Failure> {
     check_session(alloc, lists(alloc)?, wanted)?;
     check_session(alloc, tables(alloc)?, wanted)?;
     check_keepers(alloc, lists(alloc)?, tables(alloc)?, wanted)?;
     check_run(alloc, lists(alloc)?, lists(alloc)?, wanted)?;
-    check_run(alloc, tables(alloc)?, tables(alloc)?, wanted)
+    check_run(alloc, tables(alloc)?, tables(alloc)?, wanted)?;
+    check_mirrors(alloc, wanted)
 }

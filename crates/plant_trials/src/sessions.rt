@@ -2,6 +2,7 @@
 
 use plant_books::Plain;
 use plant_examples::{Exchanges, Failure};
+use plant_mirror::{Copies, Mirror};
 use plant_office::{Books, Office};
 use plant_store::{StoreFault, Tables, Unopened};
 use plant_types::Person;
@@ -35,6 +36,16 @@ pub fn tables(alloc: Global) -> Result<Tables<MemStore>, Failure> {
         Ok(tables) => Ok(tables),
         Err(Unopened { fault, .. }) => Err(failure_of(fault)),
     }
+}
+
+/// These books with rows at hand, of which there may be so many.
+pub fn mirrored<B: Books + Drop>(
+    alloc: Global,
+    books: B,
+    limit: u128,
+) -> Result<Mirror<B>, Failure> {
+    let copies = Copies::new(alloc, limit)?;
+    Ok(Mirror::new(alloc, copies, books))
 }
 
 /// What a session answers to requests that come in two reads, how it ends, and the books as it leaves them.

@@ -1,0 +1,151 @@
+-- Copies of rows: what is found among them, and how they stay true.
+use Rattle.std.proofs.Common.{List, None, Some, [], ap, arith, cond, false, refl, subst, suc, sym, take, true, zero, ℕ, ◌+◌, ◌-◌, ◌≤◌, ◌∙◌, ◌∷◌, ◌≡◌}
+use Rattle.std.specs.FinMap.{get, get-insert}
+use Rattle.std.specs.List.{AllByRecursion, IsDistinct}
+use Rattle.std.specs.Map.{keys_of, lookup, lookup_entry, remove_entry}
+use Rattle.std.specs.Option.{option_map_or}
+use Rattle.std.specs.Prelude.{Option, length, slice_get, unwrap_or}
+use Rattle.std.specs.Cmp.{eq_by_cmp_equiv}
+use Rattle.lru.specs.LruCache.{LruCache, last_entry, promoted, put_entries}
+use Rattle.plant_books.specs.Contents.{Content, after_changes, rows_in}
+use Rattle.plant_books.specs.Order.{AreInOrder}
+use Rattle.plant_mirror.specs.Copies.{AreCopies, Copy, IsCopy, row_count, rows_of_all}
+use Rattle.plant_model.proofs.WorldLaws.{same_of}
+use Rattle.plant_model.specs.RowChanges.{changed_by, no_rows}
+use Rattle.plant_model.specs.declared.rows.Change.{Change}
+use Rattle.plant_model.specs.declared.rows.UnitRows.{UnitRows}
+use Rattle.plant_types.proofs.Orders.{name_total}
+use Rattle.plant_types.specs.Names.{Name, same_name}
+
+abbrev There : Type 0
+There = Name → Option UnitRows
+
+-- ---- what is found is there
+
+pub found_there : (u : Name) (there : There) (es : List Copy) (rows : UnitRows) → AreCopies there es → lookup (same_name u) es ≡ Some rows → (there u ≡ Some rows) × AreInOrder rows
+found_there u there [] rows h e = absurd (cc e)
+found_there u there (c ∷ es) rows h e =
+    elim (same_name u c.0) as (λ b. same_name u c.0 ≡ b → cond b (Some c.1) (lookup (same_name u) es) ≡ Some rows → (there u ≡ Some rows) × AreInOrder rows) [
+      | true ↦ λ p q. let same : c.1 ≡ rows = cc q in (ap there (same_of _ _ p) ∙ h.0.same ∙ q, subst AreInOrder same h.0.ordered)
+      | false ↦ λ p q. found_there u there es rows h.1 q
+    ] refl e
+
+entry_there : (u : Name) (there : There) (es : List Copy) (c : Copy) → AreCopies there es → lookup_entry (same_name u) es ≡ Some c → IsCopy there c × (same_name u c.0 ≡ true)
+entry_there u there [] c h e = absurd (cc e)
+entry_there u there (d ∷ es) c h e =
+    elim (same_name u d.0) as (λ b. same_name u d.0 ≡ b → cond b (Some d) (lookup_entry (same_name u) es) ≡ Some c → IsCopy there c × (same_name u c.0 ≡ true)) [
+      | true ↦ λ p q. let same : d ≡ c = cc q in (subst (IsCopy there) same h.0, subst (λ (x : Copy). same_name u x.0 ≡ true) same p)
+      | false ↦ λ p q. entry_there u there es c h.1 q
+    ] refl e
+
+-- rows that were taken out are those that are there
+pub taken_there : (u : Name) (there : There) (es : List Copy) (c : Copy) → AreCopies there es → Some c ≡ lookup_entry (same_name u) es → (u ≡ c.0) × (there u ≡ Some c.1) × AreInOrder c.1
+taken_there u there es c h e =
+    let it = entry_there u there es c h (sym e) in
+    let same : u ≡ c.0 = same_of u c.0 it.1 in
+    (same, ap there same ∙ it.0.same, it.0.ordered)
+
+-- ---- a part of true copies is true
+
+pub true_removed : (u : Name) (there : There) (es : List Copy) → AreCopies there es → AreCopies there (remove_entry (same_name u) es)
+true_removed u there [] h = tt
+true_removed u there (c ∷ es) h =
+    elim (same_name u c.0) as (λ b. AreCopies there (cond b es (c ∷ remove_entry (same_name u) es))) [
+      | true ↦ h.1
+      | false ↦ (h.0, true_removed u there es h.1)
+    ]
+
+pub true_taken : (n : ℕ) (there : There) (es : List Copy) → AreCopies there es → AreCopies there (take n es)
+true_taken zero there es h = tt
+true_taken (suc n) there [] h = tt
+true_taken (suc n) there (c ∷ es) h = (h.0, true_taken n there es h.1)
+
+pub true_promoted : (u : Name) (there : There) (es : List Copy) → AreCopies there es → AreCopies there (promoted (same_name u) es)
+true_promoted u there es h = by (lookup_entry (same_name u) es) refl
+  where
+    by : (o : Option Copy) → lookup_entry (same_name u) es ≡ o → AreCopies there (option_map_or (λ c. c ∷ remove_entry (same_name u) es) o es)
+    by None e = h
+    by (Some c) e = ((entry_there u there es c h e).0, true_removed u there es h)
+
+pub true_put : (there : There) (c : LruCache Name UnitRows) (u : Name) (rows : UnitRows) → AreCopies there c.entries → there u ≡ Some rows → AreInOrder rows → AreCopies there (put_entries same_name c u rows)
+true_put there c u rows h is order = by (lookup_entry (same_name u) c.entries) refl
+  where
+    by : (o : Option Copy) → lookup_entry (same_name u) c.entries ≡ o → AreCopies there (option_map_or (λ (e : Copy). (e.0, rows) ∷ remove_entry (same_name u) c.entries) o ((u, rows) ∷ take (c.cap - 1) c.entries))
+    by None e = (record { same = is; ordered = order }, true_taken (c.cap - 1) there c.entries h)
+    by (Some d) e = (record { same = ap there (sym (same_of u d.0 (entry_there u there c.entries d h e).1)) ∙ is; ordered = order }, true_removed u there c.entries h)
+
+-- ---- without a unit's copy the others stay true where its rows change
+
+others_true : (u v : Name) (there after : There) (es : List Copy) → u ≡ v → AllByRecursion (λ w. same_name v w ≡ false) (keys_of es) → ((w : Name) → same_name u w ≡ false → after w ≡ there w) → AreCopies there es → AreCopies after es
+others_true u v there after [] e apart same h = tt
+others_true u v there after (c ∷ es) e apart same h = (record { same = same c.0 (ap (λ x. same_name x c.0) e ∙ apart.0) ∙ h.0.same; ordered = h.0.ordered }, others_true u v there after es e apart.1 same h.1)
+
+pub true_without : (u : Name) (there after : There) (es : List Copy) → IsDistinct same_name (keys_of es) → ((w : Name) → same_name u w ≡ false → after w ≡ there w) → AreCopies there es → AreCopies after (remove_entry (same_name u) es)
+unfolding IsDistinct
+true_without u there after [] apart same h = tt
+true_without u there after (c ∷ es) apart same h =
+    elim (same_name u c.0) as (λ b. same_name u c.0 ≡ b → AreCopies after (cond b es (c ∷ remove_entry (same_name u) es))) [
+      | true ↦ λ p. others_true u c.0 there after es (same_of u c.0 p) apart.0 same h.1
+      | false ↦ λ p. (record { same = same c.0 p ∙ h.0.same; ordered = h.0.ordered }, true_without u there after es apart.1 same h.1)
+    ] refl
+
+-- ---- how many rows there are
+
+pub count_removed : (u : Name) (es : List Copy) (c : Copy) → lookup_entry (same_name u) es ≡ Some c → rows_of_all es ≡ row_count c.1 + rows_of_all (remove_entry (same_name u) es)
+count_removed u [] c e = absurd (cc e)
+count_removed u (d ∷ es) c e =
+    elim (same_name u d.0) as (λ b. cond b (Some d) (lookup_entry (same_name u) es) ≡ Some c → row_count d.1 + rows_of_all es ≡ row_count c.1 + rows_of_all (cond b es (d ∷ remove_entry (same_name u) es))) [
+      | true ↦ λ q. let same : d ≡ c = cc q in ap (λ (x : Copy). row_count x.1 + rows_of_all es) same
+      | false ↦ λ q. let rest = count_removed u es c q in omega (arith, rest)
+    ] e
+
+pub count_promoted : (u : Name) (es : List Copy) → rows_of_all (promoted (same_name u) es) ≡ rows_of_all es
+count_promoted u es = by (lookup_entry (same_name u) es) refl
+  where
+    by : (o : Option Copy) → lookup_entry (same_name u) es ≡ o → rows_of_all (option_map_or (λ c. c ∷ remove_entry (same_name u) es) o es) ≡ rows_of_all es
+    by None e = refl
+    by (Some c) e = sym (count_removed u es c e)
+
+pub count_taken : (n : ℕ) (es : List Copy) → rows_of_all (take n es) ≤ rows_of_all es
+count_taken zero es = omega arith
+count_taken (suc n) [] = omega arith
+count_taken (suc n) (c ∷ es) = let rest = count_taken n es in omega (arith, rest)
+
+at_last : (n : ℕ) (es : List Copy) (c : Copy) → length es ≡ suc n → Some c ≡ slice_get es n → rows_of_all es ≡ rows_of_all (take n es) + row_count c.1
+at_last n [] c l e = absurd (omega (arith, l))
+at_last zero (d ∷ []) c l e = let same : c ≡ d = cc e in let many = ap (λ (x : Copy). row_count x.1) same in omega (arith, many)
+at_last zero (d ∷ f ∷ es) c l e = absurd (omega (arith, l))
+at_last (suc n) (d ∷ es) c l e = let rest = at_last n es c (omega (arith, l)) e in omega (arith, rest)
+
+pub count_last : (es : List Copy) (c : Copy) → Some c ≡ last_entry es → rows_of_all es ≡ rows_of_all (take (length es - 1) es) + row_count c.1
+count_last [] c e = absurd (cc e)
+count_last (d ∷ es) c e =
+    let one : length (d ∷ es) - 1 ≡ length es = omega arith in
+    subst (λ n. rows_of_all (d ∷ es) ≡ rows_of_all (take n (d ∷ es)) + row_count c.1) (sym one)
+    (at_last (length es) (d ∷ es) c refl (subst (λ n. ◌≡◌ {A = Option Copy} (Some c) (slice_get (d ∷ es) n)) one e))
+
+pub count_rest : (u : Name) (es : List Copy) → rows_of_all (remove_entry (same_name u) es) ≤ rows_of_all es
+count_rest u [] = omega arith
+count_rest u (d ∷ es) =
+    elim (same_name u d.0) as (λ b. rows_of_all (cond b es (d ∷ remove_entry (same_name u) es)) ≤ row_count d.1 + rows_of_all es) [
+      | true ↦ omega arith
+      | false ↦ let rest = count_rest u es in omega (arith, rest)
+    ]
+
+pub count_put : (c : LruCache Name UnitRows) (u : Name) (rows : UnitRows) → rows_of_all (put_entries same_name c u rows) ≤ row_count rows + rows_of_all c.entries
+count_put c u rows = by (lookup_entry (same_name u) c.entries) refl
+  where
+    by : (o : Option Copy) → lookup_entry (same_name u) c.entries ≡ o → rows_of_all (option_map_or (λ (e : Copy). (e.0, rows) ∷ remove_entry (same_name u) c.entries) o ((u, rows) ∷ take (c.cap - 1) c.entries)) ≤ row_count rows + rows_of_all c.entries
+    by None e = let rest = count_taken (c.cap - 1) c.entries in omega (arith, rest)
+    by (Some d) e = let rest = count_removed u c.entries d e in omega (arith, rest)
+
+-- ---- what changes of a unit leave of the others, and what they make of the unit
+
+pub others_stay : (m : Content) (u : Name) (cs : List Change) (v : Name) → same_name u v ≡ false → get (after_changes m u cs).units v ≡ get m.units v
+others_stay m u cs v e = get-insert name_total m.units u (changed_by cs (rows_in m u)) v ∙ ap (λ b. cond b (Some (changed_by cs (rows_in m u))) (get m.units v)) ((eq_by_cmp_equiv name_total).symm v u ∙ e)
+
+pub unit_after : (m : Content) (u : Name) (cs : List Change) → get (after_changes m u cs).units u ≡ Some (changed_by cs (rows_in m u))
+unit_after m u cs = get-insert name_total m.units u (changed_by cs (rows_in m u)) u ∙ ap (λ b. cond b (Some (changed_by cs (rows_in m u))) (get m.units u)) ((eq_by_cmp_equiv name_total).refl u)
+
+pub changed_there : (m : Content) (u : Name) (cs : List Change) (rows after : UnitRows) → get m.units u ≡ Some rows → after ≡ changed_by cs rows → get (after_changes m u cs).units u ≡ Some after
+changed_there m u cs rows after e is = unit_after m u cs ∙ ap (λ o. Some (changed_by cs (unwrap_or o no_rows))) e ∙ ap (λ x. Some x) (sym is)

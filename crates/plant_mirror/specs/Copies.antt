@@ -1,0 +1,35 @@
+-- Copies of units' rows, beside the books that keep them.
+use Rattle.std.specs.FinMap.{get}
+use Rattle.std.specs.Prelude.{List, Option, Some, [], length, ℕ, ◌+◌, ◌∷◌, ◌≡◌}
+use Rattle.plant_books.specs.Contents.{Content}
+use Rattle.plant_books.specs.Order.{AreInOrder}
+use Rattle.plant_model.specs.declared.rows.UnitRows.{UnitRows}
+use Rattle.plant_types.specs.Names.{Name}
+
+-- the code of a unit with its rows
+abbrev pub Copy : Type 0
+Copy = Name × UnitRows
+
+-- how many rows a unit has
+abbrev pub row_count : UnitRows → ℕ
+row_count rows =
+    length rows.units + length rows.grants + length rows.alarms + length rows.shelves + length rows.events
+    + length rows.bands + length rows.cells + length rows.records + length rows.changes
+
+abbrev pub rows_of_all : List Copy → ℕ
+rows_of_all [] = 0
+rows_of_all (copy ∷ copies) = row_count copy.1 + rows_of_all copies
+
+-- a copy of what there is of its unit, its rows in the order of their keys
+pub record IsCopy (there : Name → Option UnitRows) (copy : Copy) : Type 0 where
+  pub same : there copy.0 ≡ Some copy.1
+  pub ordered : AreInOrder copy.1
+
+abbrev pub AreCopies : (Name → Option UnitRows) → List Copy → Type 0
+AreCopies there [] = Unit {0}
+AreCopies there (copy ∷ copies) = IsCopy there copy × AreCopies there copies
+
+-- the books below hold the content, and under what their keeper knows of its premise the copies are true of it
+pub record IsMirrored (below : Content → Type 0) (can_tell : Type 0) (copies : List Copy) (m : Content) : Type 0 where
+  pub held : below m
+  pub copied : can_tell → AreCopies (get m.units) copies

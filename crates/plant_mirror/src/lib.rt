@@ -1,0 +1,8 @@
+//! A keeper over any keeper of books, which has the rows of units at hand in memory.
+#![tactic(auto)]
+
+mod copies;
+mod mirror;
+
+pub use copies::{Copies, ROWS_AT_HAND};
+pub use mirror::Mirror;
