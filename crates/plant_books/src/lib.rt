@@ -22,7 +22,7 @@ pub use books::{Books, MineShelf, MineUnit};
 pub use changes::after_changes;
 pub use found::{Tagged, place_of, row_of};
 pub use grants::{holds_some_by, is_before, is_held_by, is_pair};
-pub use opened::{alarm_of, last_return};
+pub use opened::{alarm_of, last_return, push_shelves};
 pub use parts::{part_of, part_of_grants};
 pub use plain::Plain;
 pub use rows::are_in_order;

@@ -1,4 +1,5 @@
 ghost use Rattle.std.specs.Prelude.{◌≡◌, IfErr, IfOk, IfSome, OnErr, OnOk, Some, filter_map, flat_map, is_some, map, option_copied, option_map, unwrap_or, ◌++◌};
+ghost use Rattle.std.specs.List.{AllByRecursion};
 ghost use Rattle.plant_books.specs.Contents as contents;
 ghost use Rattle.plant_books.specs.Contents.{is_held_in, mine_shelf, mine_unit, shelves_mine};
 ghost use Rattle.plant_books.specs.Listed.{rows_at, unit_cmp};
@@ -8,11 +9,12 @@ ghost use Rattle.plant_model.specs.RowChanges.{changed_by, no_rows};
 ghost use Rattle.plant_model.specs.RowFacts.{alarm_tag, unit_read};
 ghost use Rattle.plant_types.specs.Options.{when};
 ghost use Rattle.plant_types.specs.Names.{name_cmp};
-ghost use Rattle.plant_types.specs.Tables.{put_row, row_at};
+ghost use Rattle.plant_types.specs.Tables.{IsInOrder, put_row, row_at};
 ghost use Rattle.plant_types.specs.declared.fault.Fault.TheVariants.{Memory};
 
 use crate::books::{MineShelf, MineUnit};
 use crate::changes::after_changes;
+use crate::found::row_of;
 use crate::grants::{holds_role, roles_held};
 use crate::keyed::{Keyed, put};
 use crate::parts::part_of;
@@ -156,21 +158,32 @@ pub fn last_return(alarms: &[AlarmRow], tag: &Tag) -> Option<Moment>
     }
 }
 
-/// Puts the unit's shelves at the end.
-fn push_shelves(
+/// When the alarm of the tag last returned to normal, of alarms in the order of their tags.
+fn return_of(alarms: &[AlarmRow], tag: &Tag) -> Option<Moment>
+    ensures { IsInOrder name_cmp alarm_tag alarms.now → result ≡ contents.last_return alarms.now tag.now }
+{
+    match row_of(alarms, tag) {
+        Some(alarm) => alarm.return_s,
+        None => None,
+    }
+}
+
+/// Puts the shelves of a unit at the end.
+pub fn push_shelves(
     alloc: Global,
     mine: &mut Table<MineShelf>,
-    opened: &OpenedUnit,
+    unit: &UnitCode,
+    rows: &UnitRows,
 ) -> Result<(), Fault>
-    ensures pushed { OnOk result (mine.new ≡ mine.old ++ map (mine_shelf opened.now.unit opened.now.rows) opened.now.rows.shelves) }
+    ensures pushed { AreInOrder rows.now → OnOk result (mine.new ≡ mine.old ++ map (mine_shelf unit.now rows.now) rows.now.shelves) }
     ensures memory { IfErr result (λ e. e ≡ Memory) }
 {
-    let alarms = opened.rows.alarms.as_slice();
-    for shelf in opened.rows.shelves.as_slice() {
+    let alarms = rows.alarms.as_slice();
+    for shelf in rows.shelves.as_slice() {
         mine.push(MineShelf {
-            unit: opened.unit.duplicate(alloc)?,
+            unit: unit.duplicate(alloc)?,
             shelf: shelf.duplicate(alloc)?,
-            last_return: last_return(alarms, &shelf.tag),
+            last_return: return_of(alarms, &shelf.tag),
         })?;
     }
     Ok(())
@@ -183,13 +196,13 @@ pub fn shelves_held(
     person: &Person,
     now: Moment,
 ) -> Result<Table<MineShelf>, Fault>
-    ensures value { IfOk result (λ mine. mine ≡ flat_map (λ o. shelves_mine now person.now o.unit (Some o.rows)) units.now) }
+    ensures value { AllByRecursion (λ o. AreInOrder o.rows) units.now → IfOk result (λ mine. mine ≡ flat_map (λ o. shelves_mine now person.now o.unit (Some o.rows)) units.now) }
     ensures memory { IfErr result (λ e. e ≡ Memory) }
 {
     let mut mine = Table::new(alloc);
     for opened in units.as_slice() {
         if holds_role(&opened.rows, person, now) {
-            push_shelves(alloc, &mut mine, opened)?;
+            push_shelves(alloc, &mut mine, &opened.unit, &opened.rows)?;
         }
     }
     Ok(mine)

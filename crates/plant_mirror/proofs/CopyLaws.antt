@@ -1,21 +1,24 @@
 -- Copies of rows: what is found among them, and how they stay true.
-use Rattle.std.proofs.Common.{List, None, Some, [], ap, arith, cond, false, refl, subst, suc, sym, take, true, zero, ℕ, ◌+◌, ◌-◌, ◌≤◌, ◌∙◌, ◌∷◌, ◌≡◌}
+use Rattle.std.proofs.Common.{List, None, Some, [], ap, arith, cond, drop, false, map, refl, subst, suc, sym, take, true, zero, ℕ, ◌++◌, ◌+◌, ◌-◌, ◌≤◌, ◌∙◌, ◌∷◌, ◌≡◌}
+use Rattle.std.proofs.lemmas.List.{append_assoc, append-nil}
 use Rattle.std.specs.FinMap.{get, get-insert}
-use Rattle.std.specs.List.{AllByRecursion, IsDistinct}
+use Rattle.std.specs.List.{AllByRecursion, IsDistinct, cons_option, flat_map, list_any}
 use Rattle.std.specs.Map.{keys_of, lookup, lookup_entry, remove_entry}
 use Rattle.std.specs.Option.{option_map_or}
-use Rattle.std.specs.Prelude.{Option, length, slice_get, unwrap_or}
+use Rattle.std.specs.Prelude.{Option, filter_map, length, slice_get, unwrap_or}
 use Rattle.std.specs.Cmp.{eq_by_cmp_equiv}
 use Rattle.lru.specs.LruCache.{LruCache, last_entry, promoted, put_entries}
-use Rattle.plant_books.specs.Contents.{Content, after_changes, rows_in}
+use Rattle.plant_books.specs.Contents.{Content, after_changes, is_held_by, is_held_in, mine_shelf, rows_in, shelves_mine}
 use Rattle.plant_books.specs.Order.{AreInOrder}
-use Rattle.plant_mirror.specs.Copies.{AreCopies, Copy, IsCopy, row_count, rows_of_all}
+use Rattle.plant_books.specs.declared.books.MineShelf.{MineShelf}
+use Rattle.plant_mirror.specs.Copies.{AreCopies, Copy, IsCopy, row_count, rows_of_all, shelves_there}
 use Rattle.plant_model.proofs.WorldLaws.{same_of}
 use Rattle.plant_model.specs.RowChanges.{changed_by, no_rows}
 use Rattle.plant_model.specs.declared.rows.Change.{Change}
 use Rattle.plant_model.specs.declared.rows.UnitRows.{UnitRows}
 use Rattle.plant_types.proofs.Orders.{name_total}
 use Rattle.plant_types.specs.Names.{Name, same_name}
+use Rattle.plant_types.specs.Options.{when}
 
 abbrev There : Type 0
 There = Name → Option UnitRows
@@ -149,3 +152,43 @@ unit_after m u cs = get-insert name_total m.units u (changed_by cs (rows_in m u)
 
 pub changed_there : (m : Content) (u : Name) (cs : List Change) (rows after : UnitRows) → get m.units u ≡ Some rows → after ≡ changed_by cs rows → get (after_changes m u cs).units u ≡ Some after
 changed_there m u cs rows after e is = unit_after m u cs ∙ ap (λ o. Some (changed_by cs (unwrap_or o no_rows))) e ∙ ap (λ x. Some x) (sym is)
+
+-- ---- shelves of units one after another
+
+none_left : (us : List Name) (i : ℕ) → length us ≤ i → drop i us ≡ []
+none_left [] zero h = refl
+none_left [] (suc i) h = refl
+none_left (u ∷ us) zero h = absurd (omega (arith, h))
+none_left (u ∷ us) (suc i) h = none_left us i (omega (arith, h))
+
+pub all_told : (f : Name → List MineShelf) (mine all : List MineShelf) (us : List Name) (i : ℕ) → length us ≤ i → mine ++ flat_map f (drop i us) ≡ all → mine ≡ all
+all_told f mine all us i h told = sym (append-nil mine) ∙ ap (λ xs. mine ++ flat_map f xs) (sym (none_left us i h)) ∙ told
+
+pub more_told : (f : Name → List MineShelf) (mine more all : List MineShelf) (us : List Name) (i : ℕ) (u : Name) → drop i us ≡ u ∷ drop (i + 1) us → f u ≡ more → mine ++ flat_map f (drop i us) ≡ all → (mine ++ more) ++ flat_map f (drop (i + 1) us) ≡ all
+more_told f mine more all us i u e is told =
+    append_assoc mine more (flat_map f (drop (i + 1) us))
+    ∙ ap (λ xs. mine ++ (xs ++ flat_map f (drop (i + 1) us))) (sym is)
+    ∙ ap (λ xs. mine ++ flat_map f xs) (sym e)
+    ∙ told
+
+-- those of the units that are held are those that the person may see
+pub held_shelves : (there : There) (t : ℕ) (p : Name) (us : List Name) → flat_map (λ u. shelves_there u (there u)) (filter_map (λ u. when (is_held_in t p (there u)) u) us) ≡ flat_map (λ u. shelves_mine t p u (there u)) us
+held_shelves there t p [] = refl
+held_shelves there t p (u ∷ us) = by (there u) refl (held_shelves there t p us)
+  where
+    seen : List Name → List MineShelf
+    seen vs = flat_map (λ v. shelves_there v (there v)) vs
+
+    rest : List Name
+    rest = filter_map (λ v. when (is_held_in t p (there v)) v) us
+
+    mine : List MineShelf
+    mine = flat_map (λ v. shelves_mine t p v (there v)) us
+
+    by : (o : Option UnitRows) → there u ≡ o → seen rest ≡ mine → seen (cons_option (when (is_held_in t p o) u) rest) ≡ shelves_mine t p u o ++ mine
+    by None e same = same
+    by (Some rows) e same =
+        elim (list_any (is_held_by t p) rows.grants) as (λ b. seen (cons_option (when b u) rest) ≡ cond b (map (mine_shelf u rows) rows.shelves) [] ++ mine) [
+          | true ↦ λ i. shelves_there u (e i) ++ same i
+          | false ↦ same
+        ]

@@ -1,8 +1,9 @@
 -- Copies of units' rows, beside the books that keep them.
 use Rattle.std.specs.FinMap.{get}
-use Rattle.std.specs.Prelude.{List, Option, Some, [], length, ℕ, ◌+◌, ◌∷◌, ◌≡◌}
-use Rattle.plant_books.specs.Contents.{Content}
+use Rattle.std.specs.Prelude.{List, None, Option, Some, [], length, map, ℕ, ◌+◌, ◌∷◌, ◌≡◌}
+use Rattle.plant_books.specs.Contents.{Content, mine_shelf}
 use Rattle.plant_books.specs.Order.{AreInOrder}
+use Rattle.plant_books.specs.declared.books.MineShelf.{MineShelf}
 use Rattle.plant_model.specs.declared.rows.UnitRows.{UnitRows}
 use Rattle.plant_types.specs.Names.{Name}
 
@@ -33,3 +34,8 @@ AreCopies there (copy ∷ copies) = IsCopy there copy × AreCopies there copies
 pub record IsMirrored (below : Content → Type 0) (can_tell : Type 0) (copies : List Copy) (m : Content) : Type 0 where
   pub held : below m
   pub copied : can_tell → AreCopies (get m.units) copies
+
+-- the shelves of a unit, each with the moment at which its alarm last returned to normal
+abbrev pub shelves_there : Name → Option UnitRows → List MineShelf
+shelves_there u None = []
+shelves_there u (Some rows) = map (mine_shelf u rows) rows.shelves

@@ -1,5 +1,5 @@
 ghost use Rattle.std.specs.Map.{lookup, lookup_entry, remove_entry};
-ghost use Rattle.std.specs.Prelude.{◌≡◌, ◌≤◌, ◌+◌, [], false, IfErr, IfOk, Option, Some, option_copied};
+ghost use Rattle.std.specs.Prelude.{◌≡◌, ◌≤◌, ◌+◌, [], false, flat_map, IfErr, IfOk, IfSome, Option, Some, option_copied};
 ghost use Rattle.plant_books.specs.Order.{AreInOrder};
 ghost use Rattle.plant_mirror.specs.Copies as copies;
 ghost use Rattle.plant_mirror.specs.Copies.{AreCopies};
@@ -8,8 +8,9 @@ ghost use Rattle.plant_types.specs.Names.{Name, same_name};
 ghost use Rattle.plant_types.specs.declared.fault.Fault.TheVariants.{Memory};
 
 use lru::LruCache;
+use plant_books::{MineShelf, push_shelves};
 use plant_model::UnitRows;
-use plant_types::{Fault, UnitCode};
+use plant_types::{Fault, Table, UnitCode};
 use std::alloc::Global;
 
 /// How many rows the program keeps at hand at most, those of all units together.
@@ -65,6 +66,25 @@ impl Copies {
         ensures { option_copied result ≡ lookup (same_name unit.now) self.now.units.entries }
     {
         self.units.peek(unit)
+    }
+
+    /// The shelves of these units, one unit after another, if the rows of each are at hand.
+    pub fn shelves_of(
+        &self,
+        alloc: Global,
+        units: &[UnitCode],
+    ) -> Result<Option<Table<MineShelf>>, Fault>
+        ensures found { (there : Name → Option TheRows) → AreCopies there self.now.units.entries → IfOk result (λ found. IfSome found (λ mine. mine ≡ flat_map (λ u. copies.shelves_there u (there u)) units.now)) }
+        ensures memory { IfErr result (λ e. e ≡ Memory) }
+    {
+        let mut mine = Table::new(alloc);
+        for unit in units {
+            let Some(rows) = self.rows_of(unit) else {
+                return Ok(None);
+            };
+            push_shelves(alloc, &mut mine, unit, rows)?;
+        }
+        Ok(Some(mine))
     }
 
     /// Takes the unit's rows out, with the code that they were kept under.

@@ -144,6 +144,10 @@ impl<B: Books> Books for Mirror<B> {
     }
 
     fn mine_shelves(&mut self, person: &Person, now: Moment) -> Result<Table<MineShelf>, Fault> {
+        let units = self.books.held(person, now)?;
+        if let Some(shelves) = self.copies.shelves_of(self.alloc, units.as_slice())? {
+            return Ok(shelves);
+        }
         self.books.mine_shelves(person, now)
     }
 

@@ -1,7 +1,9 @@
-//! Whole sessions over both keepers, as tests alone: the worked examples, streams cut in two and ended early, and streams without
-//! the calls of others.
+//! Whole sessions over both keepers, as tests alone: the worked examples, streams cut in two and ended early, streams without
+//! the calls of others, and what is asked of the books below rows at hand.
 #![tactic(auto)]
 
+#[cfg(test)]
+mod asked;
 #[cfg(test)]
 mod cuts;
 #[cfg(test)]

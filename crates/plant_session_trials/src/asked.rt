@@ -1,0 +1,153 @@
+//! What is asked of rows at hand is answered without the books below, and a change asks them once.
+
+ghost use Rattle.std.specs.Prelude.{◌≡◌};
+
+use plant_books::{Books, MineShelf, MineUnit};
+use plant_examples::{BASE, Exchanges, LOOKED_AT, SHELVED};
+use plant_mirror::ROWS_AT_HAND;
+use plant_model::{Call, Change, UnitPart, UnitRows};
+use plant_trials::{after, lists, mirrored};
+use plant_types::{Fault, Moment, Person, Table, UnitCode};
+use std::process::Abort;
+
+/// A viewer's requests of each kind that reads of a unit, but for its shelves, and one of a stranger.
+const READ: &str = r#"vic 10:30:00 GET /units/U1/alarms/PT-101
+200 {"limit":3600,"limit_revision":0,"out_of_service":false,"shelf":"TimedShelved","shelf_left":1800,"state":"Normal","suppressed":false,"suppressed_or_shelved":true,"tag":"PT-101"}
+
+vic 10:30:00 GET /units/U1/alarms/PT-101/record
+409 {"name":"RecordUnknown","refused":24}
+
+vic 10:30:00 GET /units/U1/changes/1
+409 {"name":"ChangeUnknown","refused":17}
+
+vic 10:30:00 GET /units/U1/alarms
+200 ALARMS U1 AT 2026-03-01T10:30:00Z COUNT 2
+LT-2                     Normal         -  ---  86400
+PT-101                   Normal         -  S--   3600
+
+vic 10:30:00 GET /units/U1/standing
+200 STANDING U1 AT 2026-03-01T10:30:00Z COUNT 0
+
+vic 10:30:00 GET /units/U1/floods/2026-03-01T10:00:00Z/2026-03-01T10:10:00Z
+200 FLOODS U1 FROM 2026-03-01T10:00:00Z TO 2026-03-01T10:10:00Z COUNT 0
+
+vic 10:30:00 GET /shelves
+200 MINE vic AT 2026-03-01T10:30:00Z COUNT 1
+U1       PT-101                   timed    2026-03-01T10:00:00Z   1800 ann                              pump test
+
+bob 10:30:00 GET /units/U1/alarms/PT-101
+403 {"name":"NotGranted","refused":3}"#;
+
+/// The shelf is ended, and then none is listed.
+const ENDED: &str = r#"ann 10:45:00 POST /units/U1/alarms/PT-101/unshelve
+200 {"done":true}
+
+vic 10:45:00 GET /units/U1/shelves
+200 SHELVES U1 AT 2026-03-01T10:45:00Z COUNT 0
+
+vic 10:45:00 GET /shelves
+200 MINE vic AT 2026-03-01T10:45:00Z COUNT 0"#;
+
+/// How often rows, parts and shelves were asked for, and how often they were changed.
+#[derive(Clone, Copy, PartialEq, Eq, Debug)]
+struct Count {
+    asked: u64,
+    changed: u64,
+}
+
+/// Books that count what they are asked for. What a person's grants tell is not counted.
+#[derive(Drop)]
+struct Counting<B: Books> {
+    books: B,
+    count: Count,
+}
+
+impl<B: Books> Counting<B> {
+    fn count_asked(&mut self)
+        ensures { self.new.books ≡ self.old.books }
+    {
+        self.count.asked = self.count.asked.saturating_add(1);
+    }
+
+    fn count_change(&mut self)
+        ensures { self.new.books ≡ self.old.books }
+    {
+        self.count.changed = self.count.changed.saturating_add(1);
+    }
+}
+
+impl<B: Books> Books for Counting<B> {
+    ghost holds = { λ t m. B.holds t.books m };
+
+    ghost can_tell = { λ t. B.can_tell t.books };
+
+    ghost stores = { λ t. B.stores t.books };
+
+    fn administrator(&self) -> &Person {
+        self.books.administrator()
+    }
+
+    fn taken(&mut self, unit: &UnitCode) -> Result<bool, Fault> {
+        self.count_asked();
+        self.books.taken(unit)
+    }
+
+    fn rows(&mut self, unit: &UnitCode) -> Result<Option<UnitRows>, Fault> {
+        self.count_asked();
+        self.books.rows(unit)
+    }
+
+    fn part(&mut self, call: &Call) -> Result<Option<UnitPart>, Fault> {
+        self.count_asked();
+        self.books.part(call)
+    }
+
+    fn held(&mut self, person: &Person, now: Moment) -> Result<Table<UnitCode>, Fault> {
+        self.books.held(person, now)
+    }
+
+    fn mine_units(&mut self, person: &Person, now: Moment) -> Result<Table<MineUnit>, Fault> {
+        self.books.mine_units(person, now)
+    }
+
+    fn mine_shelves(&mut self, person: &Person, now: Moment) -> Result<Table<MineShelf>, Fault> {
+        self.count_asked();
+        self.books.mine_shelves(person, now)
+    }
+
+    fn apply(&mut self, unit: &UnitCode, changes: &Table<Change>) -> Result<(), Fault> {
+        self.count_change();
+        self.books.apply(unit, changes)
+    }
+}
+
+/// What the books below are asked for while these exchanges are answered as wanted.
+fn count_of(rt: &(impl Abort + AllocGlobal), texts: &[&str]) -> Count {
+    let wanted = Exchanges::of(rt.alloc(), texts).expect(rt, "exchanges");
+    let below = Counting {
+        books: lists(rt.alloc()).expect(rt, "lists"),
+        count: Count {
+            asked: 0,
+            changed: 0,
+        },
+    };
+    let books = mirrored(rt.alloc(), below, ROWS_AT_HAND).expect(rt, "books with rows at hand");
+    let (requests, answers) = (wanted.requests.as_bytes(), wanted.answers.as_bytes());
+    let books = after(rt.alloc(), books, requests, answers).expect(rt, "answers");
+    books.into_books().count
+}
+
+#[test]
+fn reads_of_rows_at_hand_ask_nothing(rt: HostRuntime) {
+    let once = count_of(&rt, &[BASE, SHELVED]);
+    assert!(rt; once.asked > 0, "nothing was asked for");
+    assert_eq!(rt; count_of(&rt, &[BASE, SHELVED, READ, LOOKED_AT]), once);
+}
+
+#[test]
+fn a_change_of_rows_at_hand_asks_once(rt: HostRuntime) {
+    let before = count_of(&rt, &[BASE, SHELVED]);
+    let after = count_of(&rt, &[BASE, SHELVED, ENDED]);
+    assert_eq!(rt; after.asked, before.asked);
+    assert_eq!(rt; after.changed, before.changed.saturating_add(1));
+}
