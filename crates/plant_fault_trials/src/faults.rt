@@ -1,12 +1,15 @@
 //! Calls that run out of memory and are made again. `scripts/refuse-each` runs a test here once for each of its allocations, and
-//! refuses that one. Ours are the books that are tested; theirs are lists that had every call before the one that ours get.
+//! refuses that one. Ours are the books that are tested; theirs are lists that have had every call but the next one of ours.
 
 use plant_books::Plain;
 use plant_examples::{BASE, Exchanges, IMPORTED_TWICE, RECORDED, REVIEWED, STAFFED, THREE_ROWS};
+use plant_mirror::{Mirror, ROWS_AT_HAND};
 use plant_model::{Answer, Call};
 use plant_office::{Books, Office};
 use plant_store::Tables;
-use plant_trials::{Calls, alike, all_alike, calls_of, hold_alike, lists, run_all, served, tables};
+use plant_trials::{
+    Calls, alike, all_alike, calls_of, hold_alike, lists, mirrored, run_all, served, tables,
+};
 use plant_types::{Fault, UnitCode};
 use sqlite::MemStore;
 use std::process::Abort;
@@ -82,22 +85,34 @@ fn after_one<B: Books + Drop>(
     (ours, theirs)
 }
 
-/// Ours get each call before theirs; both answer alike, and hold the same rows in the end.
+/// Ours get each call before theirs; both answer alike, and hold the same rows in the end, as they are given back.
 fn serves_through_faults<B: Books + Drop>(
     rt: &(impl Abort + AllocGlobal + Eprint),
     mut ours: B,
     wanted: &Exchanges,
-) {
+) -> (B, Plain) {
     let mut theirs = empty_lists(rt);
     let Calls { calls, answers: _ } = calls_of(rt.alloc(), wanted).expect(rt, "calls");
     for call in &calls {
         (ours, theirs) = after_one(rt, ours, theirs, call, &wanted.units);
     }
     hold_the_same(rt, &mut ours, &mut theirs, &wanted.units, "in the end");
+    (ours, theirs)
 }
 
-/// Makes the calls in one run and gives their answers and our books. A run that has no room for its answers must leave our books as
-/// they were; it is then made again.
+/// Ours have rows at hand, and the books below them hold the same in the end.
+fn serves_at_hand<B: Books + Drop>(
+    rt: &(impl Abort + AllocGlobal + Eprint),
+    below: B,
+    wanted: &Exchanges,
+) {
+    let (ours, mut theirs) = serves_through_faults(rt, at_hand(rt, below), wanted);
+    let mut below = ours.into_books();
+    hold_the_same(rt, &mut below, &mut theirs, &wanted.units, "below");
+}
+
+/// Makes the calls in one run, and gives their answers and our books. Where there is no room for the answers, our books must hold
+/// what they held, and the run is made again.
 fn our_run<B: Books + Drop>(
     rt: &(impl Abort + AllocGlobal + Eprint),
     ours: B,
@@ -152,8 +167,8 @@ fn place_of_fault(rt: &impl Eprint, answers: &[Answer]) -> usize {
     answers.len()
 }
 
-/// A run in which a call runs out of memory answers the other calls, and leaves the rows, as where that call is not made. Then
-/// the calls from that one on are made again.
+/// Where a call of a run lacks memory, the other calls are answered as if it had not been made, and so are the rows that they
+/// leave. The calls from that one on are then made again.
 fn runs_through_faults<B: Books + Drop>(
     rt: &(impl Abort + AllocGlobal + Eprint),
     ours: B,
@@ -193,6 +208,11 @@ fn imports(rt: &(impl Abort + AllocGlobal)) -> Exchanges {
     Exchanges::of(rt.alloc(), &[BASE, THREE_ROWS, IMPORTED_TWICE]).expect(rt, "exchanges")
 }
 
+/// These books with rows at hand.
+fn at_hand<B: Books + Drop>(rt: &(impl Abort + AllocGlobal), below: B) -> Mirror<B> {
+    mirrored(rt.alloc(), below, ROWS_AT_HAND).expect(rt, "books with rows at hand")
+}
+
 /// Tables that had no call yet.
 fn empty_tables(rt: &(impl Abort + AllocGlobal)) -> Tables<MemStore> {
     tables(rt.alloc()).expect(rt, "tables")
@@ -200,12 +220,12 @@ fn empty_tables(rt: &(impl Abort + AllocGlobal)) -> Tables<MemStore> {
 
 #[test]
 fn serves_a_review_over_lists(rt: HostRuntime) {
-    serves_through_faults(&rt, empty_lists(&rt), &review(&rt));
+    drop(serves_through_faults(&rt, empty_lists(&rt), &review(&rt)));
 }
 
 #[test]
 fn serves_a_review_over_tables(rt: HostRuntime) {
-    serves_through_faults(&rt, empty_tables(&rt), &review(&rt));
+    drop(serves_through_faults(&rt, empty_tables(&rt), &review(&rt)));
 }
 
 #[test]
@@ -220,12 +240,12 @@ fn runs_a_review_over_tables(rt: HostRuntime) {
 
 #[test]
 fn serves_imports_over_lists(rt: HostRuntime) {
-    serves_through_faults(&rt, empty_lists(&rt), &imports(&rt));
+    drop(serves_through_faults(&rt, empty_lists(&rt), &imports(&rt)));
 }
 
 #[test]
 fn serves_imports_over_tables(rt: HostRuntime) {
-    serves_through_faults(&rt, empty_tables(&rt), &imports(&rt));
+    drop(serves_through_faults(&rt, empty_tables(&rt), &imports(&rt)));
 }
 
 #[test]
@@ -236,4 +256,34 @@ fn runs_imports_over_lists(rt: HostRuntime) {
 #[test]
 fn runs_imports_over_tables(rt: HostRuntime) {
     runs_through_faults(&rt, empty_tables(&rt), &imports(&rt));
+}
+
+#[test]
+fn serves_a_review_at_hand_over_lists(rt: HostRuntime) {
+    serves_at_hand(&rt, empty_lists(&rt), &review(&rt));
+}
+
+#[test]
+fn serves_a_review_at_hand_over_tables(rt: HostRuntime) {
+    serves_at_hand(&rt, empty_tables(&rt), &review(&rt));
+}
+
+#[test]
+fn serves_imports_at_hand_over_lists(rt: HostRuntime) {
+    serves_at_hand(&rt, empty_lists(&rt), &imports(&rt));
+}
+
+#[test]
+fn serves_imports_at_hand_over_tables(rt: HostRuntime) {
+    serves_at_hand(&rt, empty_tables(&rt), &imports(&rt));
+}
+
+#[test]
+fn runs_a_review_at_hand_over_tables(rt: HostRuntime) {
+    runs_through_faults(&rt, at_hand(&rt, empty_tables(&rt)), &review(&rt));
+}
+
+#[test]
+fn runs_imports_at_hand_over_tables(rt: HostRuntime) {
+    runs_through_faults(&rt, at_hand(&rt, empty_tables(&rt)), &imports(&rt));
 }

@@ -130,7 +130,7 @@ fn file(rt: &(impl Abort + AllocGlobal), first: u32, last: u32) -> String {
 }
 
 /// The books after one request, in the notation of the examples and with a file, which is answered so.
-fn after_one<B: Books + Drop>(
+pub fn after_one<B: Books + Drop>(
     rt: &(impl Abort + AllocGlobal),
     books: B,
     line: &str,
@@ -157,7 +157,8 @@ fn after_import<B: Books + Drop>(
     after_one(rt, books, line, &file(rt, first, last), answer)
 }
 
-const TEN_THOUSAND: &str = r#"200 {"new":10000,"repeated":0}"#;
+/// The answer to a file of 10,000 new rows.
+pub const TEN_THOUSAND: &str = r#"200 {"new":10000,"repeated":0}"#;
 
 /// The first and the last number of files that come once there are 100,000 events, and their answers.
 const FILES_WHEN_FULL: [(u32, u32, &str); 4] = [

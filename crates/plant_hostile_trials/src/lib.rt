@@ -1,5 +1,5 @@
-//! Hostile requests and the largest ones, as tests alone: requests that are not calls, the largest list and the largest body, and
-//! a unit that is full.
+//! Hostile requests and the largest ones, as tests alone: requests that are not calls, the largest list and the largest body, a
+//! unit that is full, and weeks of as many events as a unit may have.
 #![tactic(auto)]
 
 #[cfg(test)]
@@ -8,3 +8,5 @@ mod full;
 mod largest;
 #[cfg(test)]
 mod malformed;
+#[cfg(test)]
+mod mixes;

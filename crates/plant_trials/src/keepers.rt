@@ -1,4 +1,4 @@
-//! Whether two keepers hold the same rows.
+//! Two keepers compared by the rows that they hold.
 
 use crate::sessions::{after, replays_on};
 use plant_alarm::Event;
