@@ -9,6 +9,7 @@ use std::alloc::Global;
 use std::io;
 use std::io::{Read, Write};
 use std::process::Abort;
+use std::time::{Duration, Instant};
 
 /// A reader of one byte a read.
 #[derive(Drop)]
@@ -96,4 +97,34 @@ fn stops_where_a_writer_takes_nothing(rt: HostRuntime) {
     let (answers, end) = written(&rt, alloc, joined(&rt, alloc, &[STATUS]), 0);
     assert_eq!(rt; end, End::WriteFailed);
     assert!(rt; answers.is_empty());
+}
+
+/// A head of 4,000 empty fields, as large as a head can be, and a body of 400,000 bytes.
+fn large_head_and_body(rt: &impl Abort, alloc: Global) -> Vec<u8> {
+    let mut out = joined(
+        rt,
+        alloc,
+        &[b"POST /nothing HTTP/1.1\r\nContent-Length: 400000\r\n"],
+    );
+    for _ in 0..4000u32 {
+        out.extend_from_slice(b"a:\r\n").expect(rt, "memory");
+    }
+    out.extend_from_slice(b"\r\n").expect(rt, "memory");
+    for _ in 0..400_000u32 {
+        out.push(b'b').expect(rt, "memory");
+    }
+    out
+}
+
+/// A body that comes byte by byte costs no more behind a large head, which is read once and not again at each byte.
+#[test]
+fn reads_a_head_once(rt: HostRuntime) {
+    let alloc = rt.alloc();
+    let request = large_head_and_body(&rt, alloc);
+    let begin = Instant::now(&rt).expect(&rt, "a clock");
+    let (answers, end) = written(&rt, alloc, request, 4096);
+    let taken = begin.elapsed(&rt).expect(&rt, "a clock");
+    assert_eq!(rt; end, End::Closed);
+    assert!(rt; answers.as_slice() == NO_ROUTE);
+    assert!(rt; taken < Duration::from_secs(5), "too long");
 }
