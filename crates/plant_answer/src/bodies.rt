@@ -6,7 +6,7 @@ ghost use Rattle.plant_answer.specs.Names as names;
 ghost use Rattle.plant_answer.specs.Bodies as spec;
 ghost use Rattle.plant_answer.specs.Bodies.{unit_object};
 
-use crate::json::{push_number, push_quoted, push_string, push_truth};
+use crate::json::{BODY_ROOM, push_number, push_quoted, push_string, push_truth};
 use crate::names::{fault_name, role_name, shelf_left, shelf_name, state_name};
 use plant_model::{StatusRow, UnitLine};
 use plant_types::{Fault, Role};
@@ -18,7 +18,7 @@ pub fn imported_body(alloc: Global, fresh: u32, repeated: u64) -> Result<Vec<u8>
     ensures value { IfOk result (λ out. out.items ≡ spec.imported_body fresh repeated) }
     ensures err { IfErr result (λ e. e ≡ Memory) }
 {
-    let mut out = Vec::new(alloc);
+    let mut out = Vec::with_capacity(alloc, BODY_ROOM)?;
     push_number(&mut out, b"{\"new\":", u64::from(fresh))?;
     push_number(&mut out, b",\"repeated\":", repeated)?;
     out.push(b'}')?;
@@ -31,7 +31,7 @@ pub fn number_body(alloc: Global, number: u32) -> Result<Vec<u8>, Fault>
     ensures value { IfOk result (λ out. out.items ≡ spec.number_body number) }
     ensures err { IfErr result (λ e. e ≡ Memory) }
 {
-    let mut out = Vec::new(alloc);
+    let mut out = Vec::with_capacity(alloc, BODY_ROOM)?;
     push_number(&mut out, b"{\"number\":", u64::from(number))?;
     out.push(b'}')?;
     Ok(out)
@@ -43,7 +43,7 @@ pub fn status_body(alloc: Global, row: &StatusRow) -> Result<Vec<u8>, Fault>
     ensures value { IfOk result (λ out. out.items ≡ spec.status_body row.now) }
     ensures err { IfErr result (λ e. e ≡ Memory) }
 {
-    let mut out = Vec::new(alloc);
+    let mut out = Vec::with_capacity(alloc, BODY_ROOM)?;
     push_number(&mut out, b"{\"limit\":", row.limit.get())?;
     push_number(
         &mut out,
@@ -121,7 +121,7 @@ pub fn fault_body(alloc: Global, fault: &Fault) -> Result<Vec<u8>, Fault>
     ensures value { IfOk result (λ out. out.items ≡ spec.fault_body fault.now) }
     ensures err { IfErr result (λ e. e ≡ Memory) }
 {
-    let mut out = Vec::new(alloc);
+    let mut out = Vec::with_capacity(alloc, BODY_ROOM)?;
     push_string(&mut out, b"{\"fault\":", fault_name(fault))?;
     out.push(b'}')?;
     Ok(out)

@@ -7,7 +7,9 @@ ghost use Rattle.plant_answer.specs.Names as names;
 ghost use Rattle.plant_answer.specs.Changes as spec;
 ghost use Rattle.plant_answer.specs.Changes.{sheet_object, row_list, matrix_object, limit_object, content_object, tag_of};
 
-use crate::json::{push_decimal, push_number, push_quoted, push_string, push_string_or_null};
+use crate::json::{
+    BODY_ROOM, push_decimal, push_number, push_quoted, push_string, push_string_or_null,
+};
 use crate::names::{cell_name, change_state_name, kind_name};
 use plant_model::{ChangeRow, RecordRow};
 use plant_ration::{Cell, ChangeKind, Matrix, Sheet};
@@ -21,7 +23,7 @@ pub fn record_body(alloc: Global, row: &RecordRow) -> Result<Vec<u8>, Fault>
     ensures value { IfOk result (λ out. out.items ≡ spec.record_body row.now) }
     ensures err { IfErr result (λ e. e ≡ Memory) }
 {
-    let mut out = Vec::new(alloc);
+    let mut out = Vec::with_capacity(alloc, BODY_ROOM)?;
     push_string(&mut out, b"{\"action\":", row.action.as_bytes())?;
     push_string(&mut out, b",\"cause\":", row.cause.as_bytes())?;
     push_number(&mut out, b",\"change\":", u64::from(row.change))?;
@@ -170,7 +172,7 @@ pub fn change_body(alloc: Global, row: &ChangeRow) -> Result<Vec<u8>, Fault>
     ensures value { IfOk result (λ out. out.items ≡ spec.change_body row.now) }
     ensures err { IfErr result (λ e. e ≡ Memory) }
 {
-    let mut out = Vec::new(alloc);
+    let mut out = Vec::with_capacity(alloc, BODY_ROOM)?;
     push_number(&mut out, b"{\"base\":", u64::from(row.base))?;
     out.extend_from_slice(b",\"content\":")?;
     push_content(&mut out, &row.kind)?;

@@ -1,25 +1,46 @@
-ghost use Rattle.std.specs.Prelude.{◌≡◌, ◌++◌, IfErr, OnOk, option_map, decimal};
-ghost use Rattle.std.specs.List.{flat_map};
+ghost use Rattle.std.specs.Prelude.{◌≡◌, ◌++◌, IfErr, OnOk, option_map, decimal, ◌==◌, ◌||◌, not};
+ghost use Rattle.std.specs.List.{flat_map, list_all};
 ghost use Rattle.plant_types.specs.declared.fault.Fault.TheVariants.{Memory};
 ghost use Rattle.plant_answer.specs.Json.{escaped, quoted, quoted_or_null, truth};
 
 use itoa::Buffer;
 use plant_types::Fault;
 
+/// Bytes of room for an object: most take fewer.
+pub(crate) const BODY_ROOM: usize = 256;
+
+/// Whether the byte has a backslash before it in a string.
+fn is_escaped(b: u8) -> bool
+    ensures { result ≡ (b == 34 || b == 92) }
+{
+    b == b'"' || b == b'\\'
+}
+
 fn push_escaped(out: &mut Vec<u8>, b: u8) -> Result<(), Fault>
     ensures value { OnOk result (out.new.items ≡ out.old.items ++ escaped b) }
     ensures err { IfErr result (λ e. e ≡ Memory) }
 {
-    if b == b'"' || b == b'\\' {
+    if is_escaped(b) {
         out.push(b'\\')?;
     }
     Ok(out.push(b)?)
 }
 
+/// Whether no byte of the text is escaped.
+fn is_plain(text: &[u8]) -> bool
+    ensures { result ≡ list_all (λ b. not (b == 34 || b == 92)) text.now }
+{
+    text.iter().all(|b| !is_escaped(*b))
+}
+
+#[tactic(auto, using(crate::proofs::Plain::plain_text))]
 fn push_all_escaped(out: &mut Vec<u8>, text: &[u8]) -> Result<(), Fault>
     ensures value { OnOk result (out.new.items ≡ out.old.items ++ flat_map escaped text.now) }
     ensures err { IfErr result (λ e. e ≡ Memory) }
 {
+    if is_plain(text) {
+        return Ok(out.extend_from_slice(text)?);
+    }
     for b in text {
         push_escaped(out, *b)?;
     }

@@ -5,7 +5,7 @@ ghost use Rattle.plant_answer.specs.Answers as answers;
 ghost use Rattle.plant_answer.specs.Bodies as bodies;
 ghost use Rattle.plant_answer.specs.Bodies.{bad_file_object, refusal_value, value_member};
 
-use crate::json::{push_number, push_string};
+use crate::json::{BODY_ROOM, push_number, push_string};
 use crate::names::{change_state_name, file_cause_name, full_name, role_name};
 use http::StatusCode;
 use plant_import::BadFile;
@@ -134,7 +134,7 @@ pub fn refusal_body(alloc: Global, refused: &Refused) -> Result<Vec<u8>, Fault>
     ensures value { IfOk result (λ out. out.items ≡ bodies.refusal_body refused.now) }
     ensures err { IfErr result (λ e. e ≡ Memory) }
 {
-    let mut out = Vec::new(alloc);
+    let mut out = Vec::with_capacity(alloc, BODY_ROOM)?;
     push_string(&mut out, b"{\"name\":", name_of(refused))?;
     push_number(&mut out, b",\"refused\":", number_of(refused))?;
     push_value(&mut out, refused)?;

@@ -1,4 +1,5 @@
-ghost use Rattle.std.specs.Prelude.{◌≡◌, ◌++◌, IfOk, IfErr, OnOk};
+ghost use Rattle.std.specs.Prelude.{◌≡◌, ◌++◌, IfOk, IfErr, OnOk, codes, unwrap_or};
+ghost use Rattle.http.specs.StatusCode.{reason_phrase};
 ghost use Rattle.plant_types.specs.declared.fault.Fault.TheVariants.{Memory};
 ghost use Rattle.plant_answer.specs.Response as spec;
 ghost use Rattle.plant_answer.specs.Response.{status_line, media_type};
@@ -28,13 +29,29 @@ impl Media {
     }
 }
 
+/// The phrase of a status.
+fn phrase(status: StatusCode) -> &'static str
+    ensures { result.now ≡ unwrap_or (reason_phrase status) (codes "<unknown status code>") }
+{
+    match status.canonical_reason() {
+        Some(reason) => reason,
+        None => "<unknown status code>",
+    }
+}
+
 #[tactic(auto, unfolding(crate::specs::Response::status_line))]
-fn push_status(out: &mut Vec<u8>, alloc: Global, status: StatusCode) -> Result<(), Fault>
+fn push_status(out: &mut Vec<u8>, status: StatusCode) -> Result<(), Fault>
     ensures value { OnOk result (out.new.items ≡ out.old.items ++ status_line status) }
     ensures err { IfErr result (λ e. e ≡ Memory) }
 {
-    Ok(out.extend_from_slice(status.to_string(alloc)?.as_bytes())?)
+    let mut buffer = Buffer::new();
+    out.extend_from_slice(buffer.format(status.as_u16()).as_bytes())?;
+    out.extend_from_slice(b" ")?;
+    Ok(out.extend_from_slice(phrase(status).as_bytes())?)
 }
+
+/// Bytes of room for what stands before a body.
+const HEAD_ROOM: usize = 128;
 
 /// The bytes of a whole answer: its status, the type and the length of its body, and the body.
 #[tactic(auto, unfolding(crate::specs::Response::response))]
@@ -48,8 +65,9 @@ pub fn response(
     ensures err { IfErr result (λ e. e ≡ Memory) }
 {
     let mut buffer = Buffer::new();
-    let mut out = Vec::from_slice(alloc, b"HTTP/1.1 ")?;
-    push_status(&mut out, alloc, status)?;
+    let mut out = Vec::with_capacity(alloc, body.len().saturating_add(HEAD_ROOM))?;
+    out.extend_from_slice(b"HTTP/1.1 ")?;
+    push_status(&mut out, status)?;
     out.extend_from_slice(b"\r\nContent-Type: ")?;
     out.extend_from_slice(media.name().as_bytes())?;
     out.extend_from_slice(b"\r\nContent-Length: ")?;

@@ -5,7 +5,7 @@ ghost use Rattle.plant_report.specs.Texts as texts;
 ghost use Rattle.plant_report.specs.Texts.{alarm_columns, standing_columns};
 
 use crate::columns::{push_column, push_last, push_last_right, push_left, push_moment};
-use crate::heading::push_heading;
+use crate::heading::{push_heading, room_for};
 use itoa::Buffer;
 use plant_alarm::AlarmState;
 use plant_model::{AlarmLine, StandingLine};
@@ -24,7 +24,7 @@ pub fn standing_text(
     ensures value { IfOk result (λ text. text.items ≡ texts.standing_text unit.now at lines.now) }
     ensures err { IfErr result (λ e. e ≡ Memory) }
 {
-    let mut text = Vec::new(alloc);
+    let mut text = Vec::with_capacity(alloc, room_for(lines.len()))?;
     push_heading(&mut text, b"STANDING", unit.as_bytes(), at, lines.len())?;
     for line in lines {
         push_standing(&mut text, line)?;
@@ -57,7 +57,7 @@ pub fn alarm_text(
     ensures value { IfOk result (λ text. text.items ≡ texts.alarm_text unit.now at lines.now) }
     ensures err { IfErr result (λ e. e ≡ Memory) }
 {
-    let mut text = Vec::new(alloc);
+    let mut text = Vec::with_capacity(alloc, room_for(lines.len()))?;
     push_heading(&mut text, b"ALARMS", unit.as_bytes(), at, lines.len())?;
     for line in lines {
         push_alarm(&mut text, line)?;

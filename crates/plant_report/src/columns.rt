@@ -1,10 +1,17 @@
-ghost use Rattle.std.specs.Prelude.{◌≡◌, [], ◌∷◌, ◌++◌, OnOk, IfErr, ◌-◌, length, replicate};
+ghost use Rattle.std.specs.Prelude.{◌≡◌, [], ◌∷◌, ◌++◌, OnOk, IfErr, ◌-◌, ◌≤◌, length, replicate};
 ghost use Rattle.plant_types.specs.declared.fault.Fault.TheVariants.{Memory};
+ghost use Rattle.plant_report.specs.declared.columns.TheConstants.{WIDEST};
 ghost use Rattle.plant_report.specs.Columns.{left, right, line as line_of};
 ghost use Rattle.plant_report.specs.Moments.{moment_text};
 
 use crate::moments;
 use plant_types::{Fault, Moment};
+
+/// The width of the widest column.
+const WIDEST: usize = 32;
+
+/// As many spaces as fill it up.
+const SPACES: [u8; WIDEST] = [b' '; WIDEST];
 
 /// Adds a column and the space after it.
 pub fn push_column(text: &mut Vec<u8>, column: &[u8]) -> Result<(), Fault>
@@ -17,6 +24,7 @@ pub fn push_column(text: &mut Vec<u8>, column: &[u8]) -> Result<(), Fault>
 
 /// Adds a column, filled up with spaces on the right, and the space after it.
 pub fn push_left(text: &mut Vec<u8>, width: usize, column: &[u8]) -> Result<(), Fault>
+    requires { width ≤ WIDEST }
     ensures value { OnOk result (text.new.items ≡ text.old.items ++ (left width column.now ++ 32 ∷ [])) }
     ensures err { IfErr result (λ e. e ≡ Memory) }
 {
@@ -27,6 +35,7 @@ pub fn push_left(text: &mut Vec<u8>, width: usize, column: &[u8]) -> Result<(), 
 
 /// Adds a column, filled up with spaces on the left, and the space after it.
 pub fn push_right(text: &mut Vec<u8>, width: usize, column: &[u8]) -> Result<(), Fault>
+    requires { width ≤ WIDEST }
     ensures value { OnOk result (text.new.items ≡ text.old.items ++ (right width column.now ++ 32 ∷ [])) }
     ensures err { IfErr result (λ e. e ≡ Memory) }
 {
@@ -53,6 +62,7 @@ pub fn push_last(text: &mut Vec<u8>, column: &[u8]) -> Result<(), Fault>
 
 /// Adds the last column, filled up with spaces on the left, and ends the line.
 pub fn push_last_right(text: &mut Vec<u8>, width: usize, column: &[u8]) -> Result<(), Fault>
+    requires { width ≤ WIDEST }
     ensures value { OnOk result (text.new.items ≡ text.old.items ++ line_of (right width column.now ∷ [])) }
     ensures err { IfErr result (λ e. e ≡ Memory) }
 {
@@ -62,6 +72,7 @@ pub fn push_last_right(text: &mut Vec<u8>, width: usize, column: &[u8]) -> Resul
 
 /// Adds the spaces that fill a column up.
 fn push_padding(text: &mut Vec<u8>, width: usize, column: &[u8]) -> Result<(), Fault>
+    requires { width ≤ WIDEST }
     ensures value { OnOk result (text.new.items ≡ text.old.items ++ replicate (width - length column.now) 32) }
     ensures err { IfErr result (λ e. e ≡ Memory) }
 {
@@ -69,11 +80,9 @@ fn push_padding(text: &mut Vec<u8>, width: usize, column: &[u8]) -> Result<(), F
 }
 
 fn push_spaces(text: &mut Vec<u8>, count: usize) -> Result<(), Fault>
+    requires { count ≤ WIDEST }
     ensures value { OnOk result (text.new.items ≡ text.old.items ++ replicate count 32) }
     ensures err { IfErr result (λ e. e ≡ Memory) }
 {
-    for _ in 0..count {
-        text.push(b' ')?;
-    }
-    Ok(())
+    Ok(text.extend_from_slice(&SPACES[..count])?)
 }

@@ -5,6 +5,7 @@ ghost use Rattle.plant_report.specs.Texts as texts;
 ghost use Rattle.plant_report.specs.Texts.{flood_columns, flood_heading};
 
 use crate::columns::{push_column, push_last, push_last_right, push_moment, push_right};
+use crate::heading::room_for;
 use itoa::Buffer;
 use plant_model::FloodLine;
 use plant_types::{Fault, Moment, UnitCode};
@@ -22,7 +23,7 @@ pub fn flood_text(
     ensures value { IfOk result (λ text. text.items ≡ texts.flood_text unit.now begin until lines.now) }
     ensures err { IfErr result (λ e. e ≡ Memory) }
 {
-    let mut text = Vec::new(alloc);
+    let mut text = Vec::with_capacity(alloc, room_for(lines.len()))?;
     push_flood_heading(&mut text, unit, begin, until, lines.len())?;
     for line in lines {
         push_flood(&mut text, line)?;

@@ -6,6 +6,14 @@ use crate::columns::{push_column, push_last, push_moment};
 use itoa::Buffer;
 use plant_types::{Fault, Moment};
 
+/// Bytes of room for a line: most lines take fewer.
+const LINE_ROOM: usize = 128;
+
+/// Bytes of room for a text of so many lines, and its heading.
+pub fn room_for(lines: usize) -> usize {
+    lines.saturating_add(1).saturating_mul(LINE_ROOM)
+}
+
 /// Adds the first line of a text: what it lists, whose, at which moment, and how many lines follow.
 pub fn push_heading(
     text: &mut Vec<u8>,

@@ -5,7 +5,7 @@ ghost use Rattle.plant_report.specs.Texts as texts;
 ghost use Rattle.plant_report.specs.Texts.{shelf_columns, mine_columns};
 
 use crate::columns::{push_last, push_left, push_moment, push_right};
-use crate::heading::push_heading;
+use crate::heading::{push_heading, room_for};
 use itoa::Buffer;
 use plant_model::{MineLine, ShelfLine};
 use plant_types::{Fault, Moment, Person, UnitCode};
@@ -22,7 +22,7 @@ pub fn shelf_text(
     ensures value { IfOk result (λ text. text.items ≡ texts.shelf_text unit.now at lines.now) }
     ensures err { IfErr result (λ e. e ≡ Memory) }
 {
-    let mut text = Vec::new(alloc);
+    let mut text = Vec::with_capacity(alloc, room_for(lines.len()))?;
     push_heading(&mut text, b"SHELVES", unit.as_bytes(), at, lines.len())?;
     for line in lines {
         push_shelf(&mut text, line)?;
@@ -42,7 +42,7 @@ pub fn mine_text(
     ensures value { IfOk result (λ text. text.items ≡ texts.mine_text person.now at lines.now) }
     ensures err { IfErr result (λ e. e ≡ Memory) }
 {
-    let mut text = Vec::new(alloc);
+    let mut text = Vec::with_capacity(alloc, room_for(lines.len()))?;
     push_heading(&mut text, b"MINE", person.as_bytes(), at, lines.len())?;
     for line in lines {
         push_mine(&mut text, line)?;

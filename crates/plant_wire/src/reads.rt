@@ -66,6 +66,10 @@ fn drop_front(alloc: Global, buffer: &mut Vec<u8>, n: usize) -> Result<(), Alloc
     if n == 0 {
         return Ok(());
     }
+    if n == buffer.len() {
+        buffer.clear();
+        return Ok(());
+    }
     let rest = Vec::from_slice(alloc, bytes_from(buffer, n))?;
     *buffer = rest;
     Ok(())

@@ -2,11 +2,11 @@ ghost use Rattle.std.specs.Prelude.{◌≡◌, IfErr};
 ghost use Rattle.plant_model.specs.declared.reply.Answer.TheVariants as answers;
 ghost use Rattle.plant_answer.specs.Answers.{text_of};
 ghost use Rattle.plant_call.specs.Cut.{WaitsBelow};
-ghost use Rattle.plant_wire.specs.Causes.{cause_text};
+ghost use Rattle.plant_wire.specs.Causes as spec;
 ghost use Rattle.plant_wire.specs.Ran.{Ran};
 ghost use Rattle.plant_wire.specs.Step.{Stalls, IsPut, IsAnswer, IsStep, IsRest};
 
-use crate::causes::render_cause;
+use crate::causes::cause_text;
 use crate::faults::fault_text;
 use crate::put::{bytes_from, put_all};
 use crate::streams::Outlet;
@@ -52,17 +52,16 @@ fn put_text<O: Outlet>(outlet: &mut O, text: &[u8]) -> Result<(), Stop>
     }
 }
 
-fn put_cause<O: Outlet>(alloc: Global, outlet: &mut O, cause: Cause) -> Result<(), Stop>
-    ensures does { IsPut (O.written outlet.old) (O.written outlet.new) (cause_text cause) result }
+/// The answer to a request that is no call takes no memory, so that only a write that fails can stop it.
+fn put_cause<O: Outlet>(outlet: &mut O, cause: Cause) -> Result<(), Stop>
+    ensures does { IsPut (O.written outlet.old) (O.written outlet.new) (spec.cause_text cause) result }
     ensures stalls { Stalls (O.failures outlet.old) (O.failures outlet.new) result }
+    ensures only { IfErr result (λ stop. stop ≡ Stop.WriteFailed) }
 {
-    match render_cause(alloc, cause) {
-        Ok(text) => put_text(outlet, &text),
-        Err(_) => Err(Stop::Fault),
-    }
+    put_text(outlet, cause_text(cause))
 }
 
-/// The answer to a call that got a fault takes no memory, so that only a write that fails can stop it.
+/// Nor does the answer to a call that got a fault.
 fn put_fault<O: Outlet>(outlet: &mut O, fault: &Fault) -> Result<(), Stop>
     ensures does { IsPut (O.written outlet.old) (O.written outlet.new) (text_of (answers.Fault fault.now)) result }
     ensures stalls { Stalls (O.failures outlet.old) (O.failures outlet.new) result }
@@ -114,11 +113,11 @@ fn answer_next<O: Outlet, B: Books>(
     match cut {
         Cut::More => Ok(Step::Waits(wanted)),
         Cut::Fault => Err(Stop::Fault),
-        Cut::Broken(cause) => match put_cause(alloc, outlet, cause) {
+        Cut::Broken(cause) => match put_cause(outlet, cause) {
             Ok(()) => Ok(Step::Broken),
             Err(stop) => Err(stop),
         },
-        Cut::Malformed(cause, n) => match put_cause(alloc, outlet, cause) {
+        Cut::Malformed(cause, n) => match put_cause(outlet, cause) {
             Ok(()) => Ok(Step::Took(n)),
             Err(stop) => Err(stop),
         },
