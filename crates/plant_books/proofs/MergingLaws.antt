@@ -10,7 +10,8 @@ use Rattle.std.specs.declared.cmp.Ordering.TheVariants.{Equal, Greater, Less}
 use Rattle.plant_alarm.specs.declared.event.Event.{Event}
 use Rattle.plant_books.specs.Changing.{IsAbove, IsRising, with_events}
 use Rattle.plant_model.specs.RowFacts.{event_number}
-use Rattle.plant_types.specs.Tables.{put_row}
+use Rattle.plant_import.proofs.Placed.{AllAbove, Rises, rises_of}
+use Rattle.plant_types.specs.Tables.{IsInOrder, put_row}
 
 abbrev put_in : Event → List Event → List Event
 put_in e rows = put_row nat_cmp event_number e rows
@@ -103,7 +104,7 @@ rising_put r (p ∷ ps) h =
     (λ same. subst IsRising (sym (put_same r p ps same)) (subst (λ m. IsAbove m ps) (sym same) h))
     (λ more. subst IsRising (sym (put_more r p ps more)) (above_put p.seq r ps more h))
 
-rising_with : (es ps : List Event) → IsRising ps → IsRising (with_events es ps)
+pub rising_with : (es ps : List Event) → IsRising ps → IsRising (with_events es ps)
 rising_with [] ps h = h
 rising_with (e ∷ es) ps h = rising_with es (put_in e ps) (rising_put e ps h)
 
@@ -182,11 +183,11 @@ put_first r (p ∷ ps) is =
     absurd (no_last p ps (subst (λ n. ◌≡◌ {A = Option Event} None (slice_get (p ∷ ps) n)) one is))
 
 -- one event after another
-pub rises_on : (events rows new : List Event) (e : Event) (i : ℕ) → i < length events → e ≡ get_or events i e → rows ≡ with_events (take i events) [] → new ≡ put_in e rows → new ≡ with_events (take (i + 1) events) []
-rises_on events rows new e i h is before put =
+pub rises_on : (events first rows new : List Event) (e : Event) (i : ℕ) → i < length events → e ≡ get_or events i e → rows ≡ with_events (take i events) first → new ≡ put_in e rows → new ≡ with_events (take (i + 1) events) first
+rises_on events first rows new e i h is before put =
     let next : suc i ≡ i + 1 = omega arith in
     let more : take (i + 1) events ≡ take i events ++ e ∷ [] = ap (λ n. take n events) (sym next) ∙ take-suc events i e h ∙ ap (λ x. take i events ++ x ∷ []) (sym is) in
-    put ∙ ap (put_in e) before ∙ sym (with_push (take i events) [] e) ∙ sym (ap (λ xs. with_events xs []) more)
+    put ∙ ap (put_in e) before ∙ sym (with_push (take i events) first e) ∙ sym (ap (λ xs. with_events xs first) more)
 
 -- copies of the first kept events stand in front, and the event and the later ones are still to be put among the others
 abbrev pub GoesOn : List Event → List Event → Event → List Event → ℕ → Type 0
@@ -252,3 +253,14 @@ pub merges_all : (all copied fresh kept rest : List Event) (i : ℕ) → i ≡ l
     → IsRising fresh → copied ≡ with_events fresh kept
 merges_all all copied fresh kept rest i end before push rises =
     push ∙ ap (λ xs. all ++ with_events xs rest) (sym (ap (λ n. drop n fresh) end ∙ drop-length fresh)) ∙ before rises
+
+-- events in the order of their numbers rise
+in_order_above : (n : ℕ) (es : List Event) → AllAbove event_number n es → Rises event_number es → IsAbove n es
+in_order_above n [] h rises = tt
+in_order_above n (e ∷ es) h rises = (h.0, in_order_above e.seq es rises.0 rises.1)
+
+pub in_order_rise : (es : List Event) → IsInOrder nat_cmp event_number es → IsRising es
+in_order_rise es h = by es (rises_of event_number es h) where
+  by : (xs : List Event) → Rises event_number xs → IsRising xs
+  by [] rises = tt
+  by (e ∷ es) rises = in_order_above e.seq es rises.0 rises.1

@@ -1,9 +1,13 @@
 -- Which rows a request asks for.
-use Rattle.std.specs.Prelude.{Bool, None, Option, Some, false, length, true, ℕ, ◌&&◌}
+use Rattle.std.specs.Prelude.{Bool, List, [], None, Option, Some, false, length, true, ℕ, ◌&&◌}
 use Rattle.plant_books.specs.declared.asking.Counted.{Counted}
-use Rattle.plant_books.specs.declared.asking.Counted.TheVariants.{Alarms, Changes, Nothing as CountsNothing}
+use Rattle.plant_books.specs.declared.asking.Counted.TheVariants.{Alarms, Changes, Events, Nothing as CountsNothing}
 use Rattle.plant_books.specs.declared.asking.Wanted.{Wanted}
 use Rattle.plant_books.specs.declared.asking.Wanted.TheVariants.{Every, Nothing, One}
+use Rattle.plant_books.specs.declared.asking.WantedEvents.{WantedEvents}
+use Rattle.plant_books.specs.declared.asking.WantedEvents.TheVariants.{Beside, Every as EveryEvent, Nothing as NoEvents}
+use Rattle.plant_alarm.specs.declared.event.Event.{Event}
+use Rattle.plant_import.specs.Needed.{needed}
 use Rattle.plant_model.specs.Histories.{same_number}
 use Rattle.plant_model.specs.declared.call.Request.{Request}
 use Rattle.plant_model.specs.Parts.{is_crowded}
@@ -17,6 +21,12 @@ abbrev pub is_wanted : Wanted → Name → Bool
 is_wanted Nothing a = false
 is_wanted (One b) a = same_name b.now a
 is_wanted Every a = true
+
+-- the events that are wanted, of all
+abbrev pub events_wanted : WantedEvents → List Event → List Event
+events_wanted NoEvents es = []
+events_wanted (Beside rows) es = needed es rows.now
+events_wanted EveryEvent es = es
 
 -- a request that shelves an alarm
 abbrev pub is_shelving : Request → Bool
@@ -41,8 +51,9 @@ abbrev pub is_number : Option ℕ → ℕ → Bool
 is_number None n = false
 is_number (Some m) n = same_number m n
 
--- how many alarms there are, or the number of the last change
+-- how many alarms or events there are, or the number of the last change
 abbrev pub counted_in : Counted → UnitRows → ℕ
 counted_in CountsNothing rows = 0
 counted_in Alarms rows = length rows.alarms
+counted_in Events rows = length rows.events
 counted_in Changes rows = last_number rows.changes

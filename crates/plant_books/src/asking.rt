@@ -1,6 +1,8 @@
-ghost use Rattle.std.specs.Prelude.{◌≡◌, ◌&&◌, ◌||◌, ℕ, length, option_map};
+ghost use Rattle.std.specs.Prelude.{◌≡◌, ◌&&◌, ◌||◌, ℕ, List, length, option_map};
+ghost use Rattle.plant_alarm.specs.declared.event.Event.{Event as TheEvent};
+ghost use Rattle.plant_model.specs.Events.{rows_of_file};
 ghost use Rattle.plant_books.specs.Asking as asked;
-ghost use Rattle.plant_books.specs.Asking.{change_named, counted_in, is_crowded_for, is_wanted};
+ghost use Rattle.plant_books.specs.Asking.{change_named, counted_in, events_wanted, is_crowded_for, is_wanted};
 ghost use Rattle.plant_model.specs.Histories.{same_number};
 ghost use Rattle.plant_model.specs.Parts.{counted_for, is_crowded as is_crowded_in, is_source, of_proposal, selected};
 ghost use Rattle.plant_model.specs.RowFacts.{unit_read};
@@ -9,6 +11,8 @@ ghost use Rattle.plant_model.specs.declared.rows.UnitRows.{UnitRows};
 ghost use Rattle.plant_types.specs.Names.{Name, same_name};
 ghost use Rattle.plant_types.specs.Roles.{Pair};
 
+use plant_alarm::Event;
+use plant_import::FileRead;
 use plant_model::{Request, UnitRow};
 use plant_ration::ChangeKind;
 use plant_types::{Table, Tag, UnitCode};
@@ -22,11 +26,21 @@ pub enum Wanted<'a> {
     Every,
 }
 
+/// Which of a unit's events a request looks at.
+#[derive(Clone, Copy)]
+pub enum WantedEvents<'a> {
+    Nothing,
+    /// Those that these rows of a file are seen beside.
+    Beside(&'a [Event]),
+    Every,
+}
+
 /// What of a unit is counted for a request: changes by the number of the last.
 #[derive(Clone, Copy, Debug, PartialEq, Eq)]
 pub enum Counted {
     Nothing,
     Alarms,
+    Events,
     Changes,
 }
 
@@ -186,11 +200,25 @@ pub fn wanted_records(request: &Request) -> Wanted<'_>
     }
 }
 
-/// Whether the request looks at the unit's events.
-pub fn wants_events(request: &Request) -> bool
-    ensures { (rows : UnitRows) → (selected rows request.now).event ≡ result }
+/// The rows of a file, none where it can't be read.
+fn rows_of(file: &FileRead) -> &[Event]
+    ensures { result.now ≡ rows_of_file file.now }
 {
-    matches!(request, Request::Import { .. } | Request::Floods { .. })
+    match file {
+        Ok(rows) => rows.as_slice(),
+        Err(_) => &[],
+    }
+}
+
+/// The events that the request looks at.
+pub fn wanted_events(request: &Request) -> WantedEvents<'_>
+    ensures { (rows : UnitRows) (es : List TheEvent) → (selected rows request.now).events es ≡ events_wanted result es }
+{
+    match request {
+        Request::Import { file, .. } => WantedEvents::Beside(rows_of(file)),
+        Request::Floods { .. } => WantedEvents::Every,
+        _ => WantedEvents::Nothing,
+    }
 }
 
 /// The number of the change that the request looks at, with its matrix where it is of one.
@@ -230,6 +258,7 @@ pub fn wanted_count(request: &Request) -> Counted
 {
     match request {
         Request::Register { .. } => Counted::Alarms,
+        Request::Import { .. } => Counted::Events,
         Request::Propose { .. } => Counted::Changes,
         _ => Counted::Nothing,
     }

@@ -1,14 +1,16 @@
 ghost use Rattle.std.specs.Prelude.{◌≡◌, ◌∷◌, [], IfErr, IfOk, OnErr, OnOk};
 ghost use Rattle.plant_model.specs.RowChanges.{changed, changed_by, put as row_put, removed};
-ghost use Rattle.plant_model.specs.RowFacts.{pair_of, shelf_tag};
+ghost use Rattle.plant_model.specs.RowFacts.{event_number, pair_of, shelf_tag};
+ghost use Rattle.plant_books.specs.Order.{AreInOrder};
+ghost use Rattle.std.specs.Ordering.{nat_cmp};
 ghost use Rattle.plant_books.specs.Changing.{whole};
 ghost use Rattle.plant_types.specs.Names.{name_cmp};
 ghost use Rattle.plant_types.specs.Roles.{pair_cmp};
-ghost use Rattle.plant_types.specs.Tables.{remove_row};
+ghost use Rattle.plant_types.specs.Tables.{IsInOrder, remove_row};
 ghost use Rattle.plant_types.specs.declared.fault.Fault.TheVariants.{Memory};
 
 use crate::keyed::put;
-use crate::merging::with_events;
+use crate::merging::put_events;
 use crate::rows::compare_pair;
 use plant_alarm::Event;
 use plant_model::{Change, GrantRow, Key, Row, ShelfRow, UnitRow, UnitRows};
@@ -36,6 +38,7 @@ fn one_row(alloc: Global, row: UnitRow) -> Result<Table<UnitRow>, Fault>
 #[tactic(auto, using(crate::proofs::MergingLaws::with_push))]
 fn put_row(alloc: Global, changing: &mut Changing, row: Row) -> Result<(), Fault>
     ensures ok { OnOk result (whole changing.new ≡ row_put row (whole changing.old)) }
+    ensures events { OnOk result (changing.new.rows.events ≡ changing.old.rows.events) }
     ensures memory { IfErr result (λ e. e ≡ Memory) }
 {
     let rows = &mut changing.rows;
@@ -75,7 +78,8 @@ fn without_shelf(shelves: Table<ShelfRow>, tag: &Tag) -> Table<ShelfRow>
 
 /// The rows without that of a key.
 fn without(rows: UnitRows, key: &Key) -> UnitRows
-    ensures { result ≡ removed key.now rows }
+    ensures value { result ≡ removed key.now rows }
+    ensures events { result.events ≡ rows.events }
 {
     match key {
         Key::Grant(person, role) => UnitRows {
@@ -92,6 +96,7 @@ fn without(rows: UnitRows, key: &Key) -> UnitRows
 /// The rows after one change.
 fn after_change(alloc: Global, mut changing: Changing, change: &Change) -> Result<Changing, Fault>
     ensures value { IfOk result (λ after. whole after ≡ changed change.now (whole changing)) }
+    ensures events { IfOk result (λ after. after.rows.events ≡ changing.rows.events) }
     ensures memory { IfErr result (λ e. e ≡ Memory) }
 {
     match change {
@@ -108,24 +113,21 @@ fn after_change(alloc: Global, mut changing: Changing, change: &Change) -> Resul
 
 /// The rows with the events that wait beside them.
 fn settled(alloc: Global, changing: Changing) -> Result<UnitRows, Fault>
-    ensures value { IfOk result (λ rows. rows ≡ whole changing) }
+    ensures value { IsInOrder nat_cmp event_number changing.rows.events → IfOk result (λ rows. rows ≡ whole changing) }
     ensures memory { IfErr result (λ e. e ≡ Memory) }
 {
-    let Changing { rows, fresh } = changing;
-    if fresh.is_empty() {
-        return Ok(rows);
-    }
-    let events = with_events(alloc, rows.events.as_slice(), fresh.as_slice())?;
-    Ok(UnitRows { events, ..rows })
+    let Changing { mut rows, fresh } = changing;
+    put_events(alloc, &mut rows.events, fresh.as_slice())?;
+    Ok(rows)
 }
 
-/// The rows after the changes, in their order.
+/// The rows, which stand in the order of their keys, after the changes, in their order.
 pub fn after_changes(
     alloc: Global,
     rows: UnitRows,
     changes: &Table<Change>,
 ) -> Result<UnitRows, Fault>
-    ensures value { IfOk result (λ after. after ≡ changed_by changes.now rows) }
+    ensures value { AreInOrder rows → IfOk result (λ after. after ≡ changed_by changes.now rows) }
     ensures memory { IfErr result (λ e. e ≡ Memory) }
 {
     let mut after = Changing {

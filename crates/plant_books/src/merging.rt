@@ -26,15 +26,24 @@ fn put_rising(events: &mut Table<Event>, event: Event) -> Result<(), Fault>
     }
 }
 
+/// Puts copies of events among others in rising number, one after another.
+fn put_each(alloc: Global, rows: &mut Table<Event>, events: &[Event]) -> Result<(), Fault>
+    ensures value { IsRising rows.old → OnOk result (rows.new ≡ changing.with_events events.now rows.old) }
+    ensures memory { IfErr result (λ e. e ≡ Memory) }
+{
+    for event in events {
+        put_rising(rows, event.duplicate(alloc)?)?;
+    }
+    Ok(())
+}
+
 /// The events in rising number, of each number the last.
 fn rising(alloc: Global, events: &[Event]) -> Result<Table<Event>, Fault>
     ensures value { IfOk result (λ rows. rows ≡ changing.with_events events.now []) }
     ensures memory { IfErr result (λ e. e ≡ Memory) }
 {
     let mut rows = Table::new(alloc);
-    for event in events {
-        put_rising(&mut rows, event.duplicate(alloc)?)?;
-    }
+    put_each(alloc, &mut rows, events)?;
     Ok(rows)
 }
 
@@ -88,12 +97,25 @@ fn merged(alloc: Global, kept: &[Event], fresh: &[Event]) -> Result<Table<Event>
     Ok(all)
 }
 
-/// The kept events with these put among them, one after another. Its time is that of going over the kept events once.
+/// Whether the first of some events has a greater number than the last of others.
+fn begin_after(events: &[Event], others: &[Event]) -> bool {
+    match (others.last(), events.first()) {
+        (Some(last), Some(first)) => last.seq < first.seq,
+        _ => true,
+    }
+}
+
+/// Puts events among the kept ones, which stand in rising number, one after another. Its time is that of the new events where they
+/// come after all others, else that of going over the kept events once.
 #[tactic(auto, using(crate::proofs::MergingLaws::with_alone, crate::proofs::MergingLaws::rising_alone))]
-pub fn with_events(alloc: Global, kept: &[Event], fresh: &[Event]) -> Result<Table<Event>, Fault>
-    ensures value { IfOk result (λ all. all ≡ changing.with_events fresh.now kept.now) }
+pub fn put_events(alloc: Global, kept: &mut Table<Event>, fresh: &[Event]) -> Result<(), Fault>
+    ensures value { IsRising kept.old → OnOk result (kept.new ≡ changing.with_events fresh.now kept.old) }
     ensures memory { IfErr result (λ e. e ≡ Memory) }
 {
     let rising = rising(alloc, fresh)?;
-    merged(alloc, kept, rising.as_slice())
+    if begin_after(rising.as_slice(), kept.as_slice()) {
+        return put_each(alloc, kept, rising.as_slice());
+    }
+    *kept = merged(alloc, kept.as_slice(), rising.as_slice())?;
+    Ok(())
 }

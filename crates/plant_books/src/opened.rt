@@ -216,7 +216,7 @@ pub fn change_unit(
     unit: &UnitCode,
     changes: &Table<Change>,
 ) -> Result<(), Fault>
-    ensures made { OnOk result (units.new ≡ put_row unit_cmp (λ o. o) (record {
+    ensures made { AllByRecursion (λ o. AreInOrder o.rows) units.old → OnOk result (units.new ≡ put_row unit_cmp (λ o. o) (record {
       unit = unit.now;
       rows = changed_by changes.now (unwrap_or (rows_at units.old unit.now) no_rows);
     }) units.old) }

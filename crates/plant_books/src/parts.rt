@@ -1,25 +1,28 @@
 ghost use Rattle.std.specs.Prelude.{◌≡◌, ◌||◌, ℕ, IfErr, IfOk, false, filter};
-ghost use Rattle.plant_books.specs.Asking.{is_crowded_for, is_wanted};
+ghost use Rattle.plant_books.specs.Asking.{events_wanted, is_crowded_for, is_wanted};
 ghost use Rattle.plant_books.specs.Order.{AreInOrder};
 ghost use Rattle.plant_model.specs.Parts.{counted_for, is_source as is_source_of, part_of as the_part, part_of_holder as holders_part, rows_selected, selected};
 ghost use Rattle.plant_model.specs.RowChanges.{no_rows};
 ghost use Rattle.plant_model.specs.declared.rows.UnitRows.{UnitRows as TheRows};
-ghost use Rattle.plant_model.specs.RowFacts.{last_number as last_number_of, pair_of, unit_read};
+ghost use Rattle.plant_model.specs.RowFacts.{event_number, last_number as last_number_of, pair_of, unit_read};
+ghost use Rattle.plant_types.specs.Tables.{IsInOrder};
+ghost use Rattle.std.specs.Ordering.{nat_cmp};
 ghost use Rattle.plant_types.specs.Names.{same_name};
 ghost use Rattle.plant_types.specs.declared.fault.Fault.TheVariants.{Memory};
 
 use crate::asking::{
-    Counted, Wanted, is_crowded, is_number, is_shelving, wanted_alarms, wanted_change,
-    wanted_count, wanted_records, wanted_shelves, wants_all_grants, wants_events, wants_matrix,
-    wants_sources,
+    Counted, Wanted, WantedEvents, is_crowded, is_number, is_shelving, wanted_alarms,
+    wanted_change, wanted_count, wanted_events, wanted_records, wanted_shelves, wants_all_grants,
+    wants_matrix, wants_sources,
 };
 use crate::found::rows_wanted;
 use crate::grants::holds_some_by;
 use plant_alarm::Event;
+use plant_import::needed;
 use plant_model::{
     BandRow, Call, CellRow, ChangeEntry, GrantRow, Request, UnitPart, UnitRow, UnitRows,
 };
-use plant_types::{Duplicate, Fault, Person, Table};
+use plant_types::{Duplicate, Fault, Person, Table, duplicated};
 use std::alloc::Global;
 
 /// The grants that the call looks at: those of its caller, or of all persons.
@@ -37,15 +40,19 @@ fn grants_asked(alloc: Global, rows: &UnitRows, call: &Call) -> Result<Table<Gra
     Ok(asked)
 }
 
-/// The events, where they are wanted.
-fn events_asked(alloc: Global, events: &Table<Event>, wanted: bool) -> Result<Table<Event>, Fault>
-    ensures value { IfOk result (λ rows. rows ≡ filter (λ _. wanted) events.now) }
+/// The events that are wanted, of all in rising number.
+pub fn events_asked(
+    alloc: Global,
+    events: &Table<Event>,
+    wanted: WantedEvents<'_>,
+) -> Result<Table<Event>, Fault>
+    ensures value { IsInOrder nat_cmp event_number events.now → IfOk result (λ asked. asked ≡ events_wanted wanted.entry events.now) }
     ensures memory { IfErr result (λ e. e ≡ Memory) }
 {
-    if wanted {
-        events.duplicate(alloc)
-    } else {
-        Ok(Table::new(alloc))
+    match wanted {
+        WantedEvents::Nothing => Ok(Table::new(alloc)),
+        WantedEvents::Beside(rows) => duplicated(alloc, needed(alloc, events.as_slice(), rows)?),
+        WantedEvents::Every => events.duplicate(alloc),
     }
 }
 
@@ -171,7 +178,7 @@ fn rows_asked(alloc: Global, rows: &UnitRows, call: &Call) -> Result<UnitRows, F
         grants: grants_asked(alloc, rows, call)?,
         alarms: rows_wanted(alloc, &rows.alarms, &wanted_alarms(request, crowded))?,
         shelves: rows_wanted(alloc, &rows.shelves, &wanted_shelves(request, crowded))?,
-        events: events_asked(alloc, &rows.events, wants_events(request))?,
+        events: events_asked(alloc, &rows.events, wanted_events(request))?,
         bands: bands_asked(alloc, rows, request)?,
         cells: cells_asked(alloc, rows, request)?,
         records: rows_wanted(alloc, &rows.records, &wanted_records(request))?,
@@ -189,13 +196,14 @@ fn last_number(changes: &[ChangeEntry]) -> u64
     }
 }
 
-/// How many alarms there are, or the number of the last change, for the call that needs it.
+/// How many alarms or events there are, or the number of the last change, for the call that needs it.
 fn count_asked(rows: &UnitRows, call: &Call) -> u64
     ensures { result ≡ counted_for rows.now call.now.request }
 {
     match wanted_count(&call.request) {
         Counted::Nothing => 0,
         Counted::Alarms => rows.alarms.len() as u64,
+        Counted::Events => rows.events.len() as u64,
         Counted::Changes => last_number(rows.changes.as_slice()),
     }
 }

@@ -94,9 +94,10 @@ pub fn are_in_order(rows: &UnitRows) -> bool
 {
     let alarms = rise(rows.alarms.as_slice());
     let shelves = rise(rows.shelves.as_slice());
+    let events = rise(rows.events.as_slice());
     let records = rise(rows.records.as_slice());
     let changes = rise(rows.changes.as_slice());
-    alarms && shelves && records && changes
+    alarms && shelves && events && records && changes
 }
 
 /// How a person with a role compares with the pair of a grant: by person, and then by role.

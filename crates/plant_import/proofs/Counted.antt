@@ -30,7 +30,7 @@ ties m n = eq_by_cmp nat_cmp m n
 same_of : (m n : ℕ) → ties m n ≡ true → m ≡ n
 same_of m n t = same_numbers m n (tied (nat_cmp m n) true t refl)
 
-turned : (m n : ℕ) → ties m n ≡ ties n m
+pub turned : (m n : ℕ) → ties m n ≡ ties n m
 turned m n = (eq_by_cmp_equiv nat_cmp_total).symm m n
 
 -- a number that is there already
@@ -145,11 +145,11 @@ whole_or_none true true false k h = cc
 whole_or_none true false t k h = cc
 whole_or_none false m t k h = refl
 
-or_parts : (a b : Bool) → (a || b) ≡ false → (a ≡ false) × (b ≡ false)
+pub or_parts : (a b : Bool) → (a || b) ≡ false → (a ≡ false) × (b ≡ false)
 or_parts true b e = cc
 or_parts false b e = (refl, e)
 
-same_by_number : (e : Event) (others : List Event) → list_any (clashes e) others ≡ false → list_any (same_event e) others ≡ list_any (has_number e.seq) others
+pub same_by_number : (e : Event) (others : List Event) → list_any (clashes e) others ≡ false → list_any (same_event e) others ≡ list_any (has_number e.seq) others
 same_by_number e [] h = refl
 same_by_number e (x ∷ xs) h =
     let parts = or_parts (clashes e x) (list_any (clashes e) xs) h in
@@ -157,11 +157,11 @@ same_by_number e (x ∷ xs) h =
     λ i. here i || same_by_number e xs parts.1 i
 
 -- what no fault of the rows says of the first
-none_first : (o p : Option BadFile) → or_else o p ≡ None → (o ≡ None) × (p ≡ None)
+pub none_first : (o p : Option BadFile) → or_else o p ≡ None → (o ≡ None) × (p ≡ None)
 none_first None p h = (refl, h)
 none_first (Some x) p h = cc
 
-none_mapped : (line : ℕ) (o : Option Cause) → option_map (bad line) o ≡ None → o ≡ None
+pub none_mapped : (line : ℕ) (o : Option Cause) → option_map (bad line) o ≡ None → o ≡ None
 none_mapped line None h = refl
 none_mapped line (Some x) h = cc
 
@@ -171,7 +171,7 @@ third_none false true c x y z rest h = cc
 third_none false false true x y z rest h = cc
 third_none false false false x y z rest h = refl
 
-no_clash : (tags : List Name) (now : ℕ) (others : List Event) (e : Event) → merge_fault tags now others e ≡ None → list_any (clashes e) others ≡ false
+pub no_clash : (tags : List Name) (now : ℕ) (others : List Event) (e : Event) → merge_fault tags now others e ≡ None → list_any (clashes e) others ≡ false
 unfolding merge_fault
 no_clash tags now others e h = third_none (not (list_any (same_name e.tag) tags)) (nat_lt now e.moment) (list_any (clashes e) others) TagUnknown MomentAhead SequenceClash ((list_any (out_of_order e) others, MomentOutOfOrder) ∷ []) h
 

@@ -10,3 +10,5 @@ pub mod Risings
 pub mod Nearest
 pub mod Examples
 pub mod FileLaws
+pub mod NeededLaws
+pub mod LaterLaws

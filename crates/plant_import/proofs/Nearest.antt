@@ -61,14 +61,14 @@ same_any p e (x ∷ xs) h t = by (same_event e x) refl h (same_any p e xs)
         or_true false = refl
 
 -- one event of another number
-other_number : (e x : Event) → (e.seq ≡ x.seq → ⊥) → (same_event e x ≡ false) × (clashes e x ≡ false)
+pub other_number : (e x : Event) → (e.seq ≡ x.seq → ⊥) → (same_event e x ≡ false) × (clashes e x ≡ false)
 other_number e x h = (rw (ne_eqb e.seq x.seq h) refl, rw (ne_eqb e.seq x.seq h) refl)
 
 or_none : (b : Bool) → (b || false) ≡ b
 or_none true = refl
 or_none false = refl
 
-order_below : (e x : Event) → x.seq < e.seq → out_of_order e x ≡ nat_lt e.moment x.moment
+pub order_below : (e x : Event) → x.seq < e.seq → out_of_order e x ≡ nat_lt e.moment x.moment
 order_below e x lt = rw (le-ltb e.seq x.seq (omega arith), lt-ltb x.seq e.seq lt) refl
 
 pub order_above : (e x : Event) → e.seq < x.seq → out_of_order e x ≡ nat_lt x.moment e.moment

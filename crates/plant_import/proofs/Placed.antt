@@ -35,7 +35,7 @@ less_of m n h =
 is_less : (m n : ℕ) → m < n → T (is_lt (nat_cmp m n))
 is_less m n lt = subst (λ r. T (is_lt r)) (nat_cmp_is m n Less lt) tt
 
-other : (m n : ℕ) → n < m → eq_by_cmp nat_cmp m n ≡ false
+pub other : (m n : ℕ) → n < m → eq_by_cmp nat_cmp m n ≡ false
 other m n lt = sym (ap is_eq (nat_cmp_is m n Greater lt))
 
 pub other_above : (m n : ℕ) → m < n → eq_by_cmp nat_cmp m n ≡ false

@@ -5,6 +5,7 @@ mod bad_file;
 mod fields;
 pub mod laws;
 mod merging;
+mod needs;
 mod numbers;
 mod reading;
 mod records;
@@ -12,5 +13,6 @@ mod standing;
 
 pub use bad_file::{BadFile, Cause};
 pub use merging::{Merged, merge};
+pub use needs::{has_late, needed};
 pub use numbers::{count_new, events_after};
 pub use reading::{FileRead, read_file};

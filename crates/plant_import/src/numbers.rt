@@ -26,7 +26,7 @@ fn is_at(events: &[Event], place: usize, number: Number) -> bool
 }
 
 /// Whether one of the events, which stand in rising number, has this number.
-fn has_number(events: &[Event], number: Number) -> bool
+pub fn has_number(events: &[Event], number: Number) -> bool
     ensures { IsInOrder nat_cmp event_number events.now → result ≡ list_any (numbers.has_number number) events.now }
 {
     is_at(events, place_of(events, number), number)

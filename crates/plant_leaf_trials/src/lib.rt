@@ -15,6 +15,8 @@ mod matrices;
 #[cfg(test)]
 mod merges;
 #[cfg(test)]
+mod needs;
+#[cfg(test)]
 mod numbers;
 #[cfg(test)]
 mod types;

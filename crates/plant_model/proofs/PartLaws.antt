@@ -11,7 +11,7 @@ use Rattle.plant_model.specs.Parts.{Selection, every, is_crowded, is_source, of_
 use Rattle.plant_model.specs.Refusals.{first_refusal, holds_some, lacks_role, own_refusals, refusals_of_holder, role_needed}
 use Rattle.plant_model.specs.Replies.{change_reply, import_reply, record_reply, reply, status_reply}
 use Rattle.plant_model.specs.RowChanges.{changes_for, placed_in, taken_out}
-use Rattle.plant_model.specs.RowFacts.{alarm_tag, change_found, change_number, change_read, facts_from, facts_in, facts_of, has_cells, held_by, holds_by, kind_read, last_number, matrix_read, pair_of, record_found, record_from, record_read, record_tag, sheet_read, shelf_tag, unit_read}
+use Rattle.plant_model.specs.RowFacts.{alarm_tag, change_found, change_number, change_read, facts_among, facts_from, facts_of, has_cells, held_by, holds_by, kind_read, last_number, matrix_read, pair_of, record_found, record_from, record_read, record_tag, sheet_read, shelf_tag, unit_read}
 use Rattle.plant_model.specs.Shelves.{shelf_left, shelf_row_as}
 use Rattle.plant_model.specs.Verdicts.{refused_or, verdict_of}
 use Rattle.plant_model.specs.declared.call.Call.{Call}
@@ -32,6 +32,7 @@ use Rattle.plant_model.specs.declared.rows.GrantRow.{GrantRow}
 use Rattle.plant_model.specs.declared.rows.RecordEntry.{RecordEntry}
 use Rattle.plant_model.specs.declared.rows.Row.TheVariants.{Alarm as AlarmPut, Shelf as ShelfPut, Unit as UnitPut}
 use Rattle.plant_model.specs.declared.rows.ShelfRow.{ShelfRow}
+use Rattle.plant_model.specs.declared.rows.UnitPart.{UnitPart}
 use Rattle.plant_model.specs.declared.rows.UnitRows.{UnitRows}
 use Rattle.plant_ration.specs.Grid.{Grid}
 use Rattle.plant_ration.specs.declared.change.ChangeKind.{ChangeKind}
@@ -89,7 +90,7 @@ module _ (rows : UnitRows) (p : Name) (t : ℕ) where
   asked q = record { person = p; moment = t; request = q }
 
   abbrev of_part : Request → Facts
-  of_part q = facts_in (part_of_holder (asked q) rows)
+  of_part q = facts_among (part_of_holder (asked q) rows) rows.events
 
   own_held : (q : Request) (r : Role) → (of_part q).held t (p, r) ≡ (facts_of rows).held t (p, r)
   own_held q r = ap (held_by_row t) (own_grant p (selected rows q) r rows.grants)
@@ -182,15 +183,15 @@ module _ (rows : UnitRows) (p : Name) (t : ℕ) where
       ap (option_and_then (record_read (within s))) (entry_there a)
       ∙ then-same (record_read (within s)) (record_read rows) (record_found rows a) (λ r e. record_there s r (chosen r.change_no (source_found a rows.records r e)))
 
-  -- the facts of these grants, alarms, shelves, events and records among the rows
+  -- the facts of these grants, alarms, shelves and records among the rows
   abbrev with_grants : List GrantRow → Facts
   with_grants grants = facts_of (record rows { grants = grants })
 
   abbrev with_shelves : List AlarmRow → List ShelfRow → Facts
   with_shelves alarms shelves = facts_of (record rows { alarms = alarms; shelves = shelves })
 
-  abbrev with_events : List AlarmRow → List Event → Facts
-  with_events alarms es = facts_of (record rows { alarms = alarms; events = es })
+  abbrev with_alarms : List AlarmRow → Facts
+  with_alarms alarms = facts_of (record rows { alarms = alarms })
 
   abbrev with_records : List AlarmRow → List ShelfRow → List RecordEntry → Facts
   with_records alarms shelves records = facts_of (record rows { alarms = alarms; shelves = shelves; records = records })
@@ -249,7 +250,7 @@ module _ (rows : UnitRows) (p : Name) (t : ℕ) where
   own_same (Grant u q r) = ap (λ gs. own_refusals (with_grants gs) p t (Grant u q r)) (all_grants p rows.grants)
   own_same (Withdraw u q r) = ap (λ gs. own_refusals (with_grants gs) p t (Withdraw u q r)) (all_grants p rows.grants)
   own_same (Register u a l max) = ap (λ o. (nat_le 2000 (length rows.alarms), UnitFull TooManyAlarms) ∷ (is_some o, AlarmTaken) ∷ []) (alarm_there a)
-  own_same (Import u file) = λ i. own_refusals (with_events (filter-true rows.alarms i) (filter-true rows.events i)) p t (Import u file)
+  own_same (Import u file) = ap (λ alarms. own_refusals (with_alarms alarms) p t (Import u file)) (filter-true rows.alarms)
   own_same (Floods u begin until) = refl
   own_same (TimedShelve u a d w) = λ i.
       (is_none (own_alarm (is_crowded rows) a i), AlarmUnknown)
@@ -281,8 +282,8 @@ module _ (rows : UnitRows) (p : Name) (t : ℕ) where
   reply_same (Grant u q r) = refl
   reply_same (Withdraw u q r) = refl
   reply_same (Register u a l max) = refl
-  reply_same (Import u file) = ap (λ es. import_reply es (rows_of_file file)) (filter-true rows.events)
-  reply_same (Floods u begin until) = ap (λ es. FloodsOf u begin until (flood_lines es begin until)) (filter-true rows.events)
+  reply_same (Import u file) = refl
+  reply_same (Floods u begin until) = refl
   reply_same (TimedShelve u a d w) = refl
   reply_same (OneShotShelve u a w) = refl
   reply_same (Unshelve u a) = refl
@@ -315,7 +316,7 @@ module _ (rows : UnitRows) (p : Name) (t : ℕ) where
   holder_changes (Grant u q r) = refl
   holder_changes (Withdraw u q r) = refl
   holder_changes (Register u a l max) = refl
-  holder_changes (Import u file) = λ i. changes_for (with_events (filter-true rows.alarms i) (filter-true rows.events i)) (asked (Import u file))
+  holder_changes (Import u file) = ap (λ alarms. changes_for (with_alarms alarms) (asked (Import u file))) (filter-true rows.alarms)
   holder_changes (Floods u begin until) = refl
   holder_changes (TimedShelve u a d w) = refl
   holder_changes (OneShotShelve u a w) = ap (λ max. Put (UnitPut (record (unit_read rows) { last_s = t })) ∷ Put (ShelfPut (shelf_row_as true t (t + max) p w a)) ∷ []) (ap longest (own_alarm (is_crowded rows) a))
@@ -343,6 +344,10 @@ module _ (rows : UnitRows) (p : Name) (t : ℕ) where
   unfolding holds_some
   rows_hold some m n = refl
 
+  part_holds : (part : UnitPart) (es : List Event) → holds_some (facts_among part es) t p ≡ holds_by part.rows.grants t p
+  unfolding holds_some
+  part_holds part es = refl
+
   -- the caller's own grants tell whether the caller holds a role
   pub own_holds : holds_by (filter (λ g. same_name p g.person) rows.grants) t p ≡ holds_by rows.grants t p
   own_holds = λ i. own Viewer i || (own Operator i || (own Maintainer i || (own Engineer i || (own Approver i || (own Steward i || false))))) where
@@ -350,17 +355,18 @@ module _ (rows : UnitRows) (p : Name) (t : ℕ) where
     own r = ap (held_by_row t) (row_at-filter pair_cmp pair_of (p, r) (λ g. same_name p g.person)
         (λ g e. ap is_eq (then_Equal (name_cmp p g.person) (nat_cmp (role_no r) (role_no g.role_no)) (tied _ true e refl)).0) rows.grants)
 
-  pub part_verdict : (q : Request) → verdict_of (facts_in (part_of (asked q) rows)) (asked q) ≡ verdict_of (facts_of rows) (asked q)
+  -- the verdict from the part, with all events beside it, is the verdict from all rows
+  pub part_verdict : (q : Request) → verdict_of (facts_among (part_of (asked q) rows) rows.events) (asked q) ≡ verdict_of (facts_of rows) (asked q)
   part_verdict q = by (holds_by rows.grants t p) refl where
-    by : (b : Bool) → holds_by rows.grants t p ≡ b → verdict_of (facts_in (if b then part_of_holder (asked q) rows else part_of_stranger (asked q) rows)) (asked q) ≡ verdict_of (facts_of rows) (asked q)
+    by : (b : Bool) → holds_by rows.grants t p ≡ b → verdict_of (facts_among (if b then part_of_holder (asked q) rows else part_of_stranger (asked q) rows) rows.events) (asked q) ≡ verdict_of (facts_of rows) (asked q)
     by true some = holder_verdict q
     by false none =
-        stranger_refused (facts_in (part_of_stranger (asked q) rows)) (asked q) (rows_hold (part_of_stranger (asked q) rows).rows 0 0 ∙ own_holds ∙ none)
+        stranger_refused (facts_among (part_of_stranger (asked q) rows) rows.events) (asked q) (part_holds (part_of_stranger (asked q) rows) rows.events ∙ own_holds ∙ none)
         ∙ sym (stranger_refused (facts_of rows) (asked q) (rows_hold rows (length rows.alarms) (last_number rows.changes) ∙ none))
 
   -- the changes matter where the call is accepted, and so by one who holds a role
-  pub part_changes : (q : Request) → holds_by rows.grants t p ≡ true → changes_for (facts_in (part_of (asked q) rows)) (asked q) ≡ changes_for (facts_of rows) (asked q)
-  part_changes q some = ap (λ b. changes_for (facts_in (if b then part_of_holder (asked q) rows else part_of_stranger (asked q) rows)) (asked q)) some ∙ holder_changes q
+  pub part_changes : (q : Request) → holds_by rows.grants t p ≡ true → changes_for (facts_among (part_of (asked q) rows) rows.events) (asked q) ≡ changes_for (facts_of rows) (asked q)
+  part_changes q some = ap (λ b. changes_for (facts_among (if b then part_of_holder (asked q) rows else part_of_stranger (asked q) rows) rows.events) (asked q)) some ∙ holder_changes q
 
   pub stranger_verdict : (q : Request) → holds_by rows.grants t p ≡ false → verdict_of (facts_of rows) (asked q) ≡ Err NotGranted
   stranger_verdict q none = stranger_refused (facts_of rows) (asked q) (rows_hold rows (length rows.alarms) (last_number rows.changes) ∙ none)

@@ -1,4 +1,7 @@
 -- The part of a unit's rows that a call looks at: the unit's row, the caller's grants, and what its request selects.
+use Rattle.plant_alarm.specs.declared.event.Event.{Event}
+use Rattle.plant_import.specs.Needed.{needed}
+use Rattle.plant_model.specs.Events.{rows_of_file}
 use Rattle.plant_model.specs.Histories.{same_number}
 use Rattle.plant_model.specs.RowChanges.{no_rows}
 use Rattle.plant_model.specs.RowFacts.{holds_by, last_number, unit_read}
@@ -15,13 +18,13 @@ use Rattle.plant_model.specs.declared.rows.UnitPart.{UnitPart}
 use Rattle.plant_model.specs.declared.rows.UnitRows.{UnitRows}
 use Rattle.plant_types.specs.Names.{Name, same_name}
 use Rattle.plant_types.specs.Roles.{Pair}
-use Rattle.std.specs.Prelude.{Bool, false, filter, if◌then◌else◌, length, nat_le, true, ℕ, ◌||◌}
+use Rattle.std.specs.Prelude.{Bool, List, [], false, filter, if◌then◌else◌, length, nat_le, true, ℕ, ◌||◌}
 
 pub record Selection : Type 0 where
   pub pair : Pair → Bool
   pub alarm : Name → Bool
   pub shelf : Name → Bool
-  pub event : Bool
+  pub events : List Event → List Event
   pub matrix : ℕ → Bool
   pub rationale : Name → Bool
   pub change : ℕ → Bool
@@ -32,8 +35,14 @@ none k = false
 abbrev pub every : {A : Type 0} → A → Bool
 every k = true
 
+abbrev pub no_events : List Event → List Event
+no_events es = []
+
+abbrev pub all_events : List Event → List Event
+all_events es = es
+
 abbrev pub nothing : Selection
-nothing = record { pair = none; alarm = none; shelf = none; event = false; matrix = none; rationale = none; change = none }
+nothing = record { pair = none; alarm = none; shelf = none; events = no_events; matrix = none; rationale = none; change = none }
 
 -- the alarm and the shelf of a tag
 abbrev pub of_tag : Name → Selection
@@ -74,6 +83,10 @@ is_crowded rows = nat_le (unit_read rows).quota (length rows.shelves)
 abbrev pub of_shelving : UnitRows → Name → Selection
 of_shelving rows a = record nothing { alarm = λ b. is_crowded rows || same_name a b; shelf = λ b. is_crowded rows || same_name a b }
 
+-- for an import all alarms, and the events that its rows are seen beside
+abbrev pub of_import : List Event → Selection
+of_import rows = record nothing { alarm = every; events = λ es. needed es rows }
+
 abbrev pub all_alarms : Selection
 all_alarms = record nothing { alarm = every; shelf = every; rationale = every }
 
@@ -81,7 +94,7 @@ abbrev pub selected : UnitRows → Request → Selection
 selected rows (Grant u p t) = record nothing { pair = every }
 selected rows (Withdraw u p r) = record nothing { pair = every }
 selected rows (Register u a l m) = of_tag a
-selected rows (Import u file) = record nothing { alarm = every; event = true }
+selected rows (Import u file) = of_import (rows_of_file file)
 selected rows (TimedShelve u a d w) = of_shelving rows a
 selected rows (OneShotShelve u a w) = of_shelving rows a
 selected rows (Unshelve u a) = of_tag a
@@ -97,12 +110,13 @@ selected rows (ChangeOf u n) = of_number n
 selected rows (Alarms u) = all_alarms
 selected rows (Shelves u) = all_shelves
 selected rows (Standing u) = all_alarms
-selected rows (Floods u begin until) = record nothing { event = true }
+selected rows (Floods u begin until) = record nothing { events = all_events }
 selected rows _ = nothing
 
--- how many alarms there are, or the number of the last change, for the calls that need it
+-- how many alarms or events there are, or the number of the last change, for the calls that need it
 abbrev pub counted_for : UnitRows → Request → ℕ
 counted_for rows (Register u a l m) = length rows.alarms
+counted_for rows (Import u file) = length rows.events
 counted_for rows (Propose u x) = last_number rows.changes
 counted_for rows _ = 0
 
@@ -113,7 +127,7 @@ rows_selected p s rows =
       grants = filter (λ g. same_name p g.person || s.pair (pair_of g)) rows.grants;
       alarms = filter (λ r. s.alarm r.tag) rows.alarms;
       shelves = filter (λ r. s.shelf r.tag) rows.shelves;
-      events = filter (λ r. s.event) rows.events;
+      events = s.events rows.events;
       bands = filter (λ r. s.matrix r.matrix_no) rows.bands;
       cells = filter (λ r. s.matrix r.matrix_no) rows.cells;
       records = filter (λ r. s.rationale r.tag) rows.records;

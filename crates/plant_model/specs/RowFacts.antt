@@ -1,4 +1,5 @@
 -- The facts that a verdict looks at, read from rows.
+use Rattle.plant_alarm.specs.declared.event.Event.{Event}
 use Rattle.plant_model.specs.Histories.{same_number}
 use Rattle.plant_model.specs.declared.reply.ChangeRow.{ChangeRow}
 use Rattle.plant_model.specs.declared.reply.RecordRow.{RecordRow}
@@ -141,3 +142,7 @@ facts_of rows = facts_from rows (length rows.alarms) (last_number rows.changes)
 
 abbrev pub facts_in : UnitPart → Facts
 facts_in part = facts_from part.rows part.count part.count
+
+-- from a part, with these as all events of the unit: an import's part has some of them
+abbrev pub facts_among : UnitPart → List Event → Facts
+facts_among part es = record (facts_in part) { events = es }

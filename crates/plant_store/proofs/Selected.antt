@@ -17,9 +17,11 @@ use Rattle.plant_model.specs.declared.rows.UnitPart.{UnitPart}
 use Rattle.plant_model.specs.declared.rows.UnitRow.{UnitRow}
 use Rattle.plant_model.specs.declared.rows.UnitRows.{UnitRows}
 use Rattle.plant_model.proofs.PartLaws.{own_holds}
-use Rattle.plant_model.specs.Parts.{Selection, counted_for, part_of, part_of_holder, part_of_stranger, selected}
+use Rattle.plant_model.specs.Parts.{Selection, counted_for, of_proposal, part_of, part_of_holder, part_of_stranger, selected}
 use Rattle.plant_model.specs.RowChanges.{no_rows}
-use Rattle.plant_model.specs.RowFacts.{holds_by, pair_of}
+use Rattle.plant_model.specs.RowFacts.{event_number, holds_by, pair_of}
+use Rattle.plant_types.specs.Tables.{IsInOrder}
+use Rattle.std.specs.Ordering.{nat_cmp}
 use Rattle.plant_types.specs.Names.{Name, same_name}
 use Rattle.plant_types.specs.Roles.{Pair}
 use Rattle.plant_books.specs.Asking.{is_wanted}
@@ -28,7 +30,13 @@ use Rattle.plant_books.specs.declared.asking.Wanted.TheVariants.{Every, Nothing,
 use Rattle.plant_store.specs.Keeping.{KeepsIn, has_any}
 use Rattle.plant_columns.specs.Tables.{rows_seen}
 use Rattle.plant_columns.specs.Tables.Kept.{UnitKept, GrantKept, AlarmKept, ShelfKept, BandKept, CellKept, EventKept, RecordKept, ChangeKept}
-use Rattle.plant_store.specs.Wanted.{alarms_with, events_with, records_with, shelves_with}
+use Rattle.plant_store.specs.Wanted.{alarms_with, events_with, looks_at_events, records_with, shelves_with}
+use Rattle.plant_alarm.specs.declared.event.EventKind.TheVariants.{Act}
+use Rattle.plant_model.specs.declared.call.Request.{Request}
+use Rattle.plant_model.specs.declared.call.Request.TheVariants.{Floods, Import, Propose}
+use Rattle.plant_ration.specs.declared.change.ChangeKind.{ChangeKind}
+use Rattle.plant_ration.specs.declared.change.ChangeKind.TheVariants.{Limit, Matrix, Rationale}
+use Rattle.std.proofs.Common.{[], arith, length, refl, ◌∷◌}
 use Rattle.plant_store.proofs.Contents.{kept_rows, never_opened}
 use Rattle.plant_store.proofs.Queries.{passing_all, passing_none}
 
@@ -47,9 +55,33 @@ records_are s Nothing h rows = sym (filter_same (λ (r : RecordEntry). s.rationa
 records_are s (One tag) h rows = sym (filter_same (λ (r : RecordEntry). s.rationale r.tag) (λ r. same_name tag.now r.tag) (λ r. h r.tag) rows)
 records_are s Every h rows = sym (filter_same (λ (r : RecordEntry). s.rationale r.tag) (λ r. true) (λ r. h r.tag) rows ∙ passing_all rows)
 
-events_are : (s : Selection) (wanted : Bool) → s.event ≡ wanted → (rows : List Event) → events_with wanted rows ≡ filter (λ e. s.event) rows
-events_are s false h rows = sym (filter_same (λ (e : Event). s.event) (λ e. false) (λ e. h) rows ∙ passing_none rows)
-events_are s true h rows = sym (filter_same (λ (e : Event). s.event) (λ e. true) (λ e. h) rows ∙ passing_all rows)
+-- what a request looks at of the events that were read for it
+none_asked : (rows : UnitRows) (q : Request) (es : List Event) → looks_at_events q ≡ false → (selected rows q).events es ≡ []
+none_asked rows (Import u file) es none = absurd (let no : true ≡ false = none in cc)
+none_asked rows (Floods u begin until) es none = absurd (let no : true ≡ false = none in cc)
+none_asked rows (Propose u x) es none = by x.kind where
+  by : (k : ChangeKind) → (of_proposal rows k).events es ≡ []
+  by (Rationale a s) = refl
+  by (Matrix m) = refl
+  by (Limit a max) = refl
+none_asked rows _ es none = refl
+
+events_are : (rows : UnitRows) (q : Request) (told : Bool) → told ≡ looks_at_events q → (seen : List Event) → (selected rows q).events (events_with told seen) ≡ (selected rows q).events seen
+events_are rows q true is seen = refl
+events_are rows q false is seen = none_asked rows q [] (sym is) ∙ sym (none_asked rows q seen (sym is))
+
+pub read_in_order : (told : Bool) (seen : List Event) → IsInOrder nat_cmp event_number seen → IsInOrder nat_cmp event_number (events_with told seen)
+read_in_order true seen h = h
+read_in_order false seen h = tt
+
+-- events are counted for requests that look at them
+some_event : Event
+some_event = record { seq = 0; moment = 0; tag = []; kind = Act }
+
+pub counts_events : (q : Request) → ((rows : UnitRows) → counted_for rows q ≡ length rows.events) → looks_at_events q ≡ true
+counts_events (Import u file) counts = refl
+counts_events (Floods u begin until) counts = refl
+counts_events _ counts = absurd (let no = counts (record no_rows { events = some_event ∷ [] }) in omega (arith, no))
 
 module _ (s : State) (m : Content) (u : Name) (k : KeepsIn s m) where
   seen_grants : (c : Call) (all : Bool) → ((p : Pair) → (selected (rows_in m u) c.request).pair p ≡ all) → filter (λ g. same_name c.person g.person || all) (rows_seen u s.now.trees GrantKept) ≡ (part_of_holder c (rows_in m u)).rows.grants
@@ -65,14 +97,14 @@ module _ (s : State) (m : Content) (u : Name) (k : KeepsIn s m) where
       → (all : Bool) → ((rows : UnitRows) (p : Pair) → (selected rows c.request).pair p ≡ all) → (grants : List GrantRow) → grants ≡ filter (λ g. same_name c.person g.person || all) (rows_seen u s.now.trees GrantKept)
       → (tags : Wanted) → ((a : Name) → (selected (rows_in m u) c.request).alarm a ≡ is_wanted tags a) → (alarms : List AlarmRow) → alarms ≡ alarms_with tags (rows_seen u s.now.trees AlarmKept)
       → (shelved : Wanted) → ((a : Name) → (selected (rows_in m u) c.request).shelf a ≡ is_wanted shelved a) → (shelves : List ShelfRow) → shelves ≡ shelves_with shelved (rows_seen u s.now.trees ShelfKept)
-      → (told : Bool) → ((rows : UnitRows) → (selected rows c.request).event ≡ told) → (events : List Event) → events ≡ events_with told (rows_seen u s.now.trees EventKept)
+      → (told : Bool) → told ≡ looks_at_events c.request → (all_events : List Event) → all_events ≡ events_with told (rows_seen u s.now.trees EventKept) → (events : List Event) → ((rows : UnitRows) → events ≡ (selected rows c.request).events all_events)
       → (records : List RecordEntry) → records ≡ filter (λ r. (selected (rows_in m u) c.request).rationale r.tag) (rows_in m u).records
       → (bands : List BandRow) → bands ≡ filter (λ r. (selected (rows_in m u) c.request).matrix r.matrix_no) (rows_seen u s.now.trees BandKept)
       → (cells : List CellRow) → cells ≡ filter (λ r. (selected (rows_in m u) c.request).matrix r.matrix_no) (rows_seen u s.now.trees CellKept)
       → (changes : List ChangeEntry) → changes ≡ filter (λ r. (selected (rows_in m u) c.request).change r.number) (rows_seen u s.now.trees ChangeKept)
-      → (count : ℕ) → ((rows : UnitRows) → rows.alarms ≡ rows_seen u s.now.trees AlarmKept → rows.changes ≡ rows_seen u s.now.trees ChangeKept → count ≡ counted_for rows c.request)
+      → (count : ℕ) → ((rows : UnitRows) → rows.alarms ≡ rows_seen u s.now.trees AlarmKept → rows.changes ≡ rows_seen u s.now.trees ChangeKept → (looks_at_events c.request ≡ true → rows.events ≡ all_events) → count ≡ counted_for rows c.request)
       → ◌≡◌ {A = UnitPart} (record { rows = record { units = units; grants = grants; alarms = alarms; shelves = shelves; events = events; bands = bands; cells = cells; records = records; changes = changes }; count = count }) (part_of_holder c (rows_in m u))
-  part_found c units us all ha grants gs tags ts alarms as_ shelved hs shelves ss told he events es records rs bands bs cells ls changes cs count ns =
+  part_found c units us all ha grants gs tags ts alarms as_ shelved hs shelves ss told he all_events ae events es records rs bands bs cells ls changes cs count ns =
       let rows = rows_in m u in
       let chosen = selected rows c.request in
       λ i. record {
@@ -81,13 +113,13 @@ module _ (s : State) (m : Content) (u : Name) (k : KeepsIn s m) where
           grants = (gs ∙ seen_grants c all (ha rows)) i;
           alarms = (as_ ∙ alarms_are chosen tags ts _ ∙ ap (filter (λ r. chosen.alarm r.tag)) (k.seen u AlarmKept)) i;
           shelves = (ss ∙ shelves_are chosen shelved hs _ ∙ ap (filter (λ r. chosen.shelf r.tag)) (k.seen u ShelfKept)) i;
-          events = (es ∙ events_are chosen told (he rows) _ ∙ ap (filter (λ e. chosen.event)) (k.seen u EventKept)) i;
+          events = (es rows ∙ ap chosen.events ae ∙ events_are rows c.request told he _ ∙ ap chosen.events (k.seen u EventKept)) i;
           bands = (bs ∙ ap (filter (λ r. chosen.matrix r.matrix_no)) (k.seen u BandKept)) i;
           cells = (ls ∙ ap (filter (λ r. chosen.matrix r.matrix_no)) (k.seen u CellKept)) i;
           records = rs i;
           changes = (cs ∙ ap (filter (λ r. chosen.change r.number)) (k.seen u ChangeKept)) i;
         };
-        count = (ns rows (sym (k.seen u AlarmKept)) (sym (k.seen u ChangeKept))) i;
+        count = (ns rows (sym (k.seen u AlarmKept)) (sym (k.seen u ChangeKept)) (λ looks. sym (ae ∙ ap (λ b. events_with b (rows_seen u s.now.trees EventKept)) (he ∙ looks) ∙ k.seen u EventKept))) i;
       }
 
   -- the caller's grants tell whether the caller holds a role in the unit

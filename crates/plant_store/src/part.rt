@@ -1,9 +1,9 @@
 //! The part of a unit's rows that a call looks at.
 
-ghost use Rattle.std.specs.Prelude.{◌≡◌, ◌||◌, false, filter, IfOk, Some};
+ghost use Rattle.std.specs.Prelude.{◌≡◌, ◌||◌, false, filter, true, IfOk, Some};
 ghost use Rattle.sqlite.specs.Held.{state};
 ghost use Rattle.sqlite.specs.State.{HasCleanDisk};
-ghost use Rattle.plant_model.specs.Parts.{counted_for, part_of_holder};
+ghost use Rattle.plant_model.specs.Parts.{counted_for, part_of_holder, selected};
 ghost use Rattle.plant_model.specs.Worlds.{unit_named};
 ghost use Rattle.plant_types.specs.Names.{same_name};
 ghost use Rattle.plant_model.specs.declared.rows.UnitRows.{UnitRows as Rows};
@@ -14,6 +14,10 @@ ghost use Rattle.plant_store.specs.Changes.{CanTell};
 ghost use Rattle.plant_store.specs.Keeping.{KeepsIn};
 ghost use Rattle.plant_columns.specs.Tables.{AreBooks, rows_seen};
 ghost use Rattle.plant_columns.specs.Tables.Kept.{UnitKept, GrantKept, AlarmKept, ShelfKept, EventKept, RecordKept, ChangeKept};
+ghost use Rattle.plant_store.specs.Wanted as wanted;
+ghost use Rattle.plant_model.specs.RowFacts.{event_number};
+ghost use Rattle.plant_types.specs.Tables.{IsInOrder};
+ghost use Rattle.std.specs.Ordering.{nat_cmp};
 ghost use Rattle.plant_store.specs.Wanted.{alarms_with, events_with, records_with, shelves_with};
 
 use crate::numbers::{some_bands, some_cells, some_changes};
@@ -24,14 +28,14 @@ use crate::read::{
 use crate::unit::has_row;
 use plant_alarm::Event;
 use plant_books::{
-    Counted, Wanted, holds_some_by, is_crowded, is_shelving, part_of_grants, unit_of,
-    wanted_alarms, wanted_count, wanted_records, wanted_shelves, wants_all_grants, wants_events,
+    Counted, Wanted, events_asked, holds_some_by, is_crowded, is_shelving, part_of_grants, unit_of,
+    wanted_alarms, wanted_count, wanted_events, wanted_records, wanted_shelves, wants_all_grants,
 };
 use plant_model::{
     AlarmRow, Call, GrantRow, RecordEntry, Request, ShelfRow, UnitPart, UnitRow, UnitRows,
 };
 use plant_types::{Table, UnitCode};
-use sqlite::{Alter, Connection, Error};
+use sqlite::{Alter, Connection, Error, ErrorCode};
 use std::alloc::Global;
 
 /// All grants of the unit where they are wanted, or those that are the caller's own.
@@ -136,21 +140,45 @@ pub fn some_events<S: Alter>(
     }
 }
 
-/// How many alarms the unit has, or the number of its last change, for a call that needs it.
+/// Whether the request looks at the unit's events.
+fn looks_at_events(request: &Request) -> bool
+    ensures { result ≡ wanted.looks_at_events request.now }
+{
+    matches!(request, Request::Import { .. } | Request::Floods { .. })
+}
+
+/// Of the unit's events, which stand in rising number, those that the request looks at.
+fn events_for(
+    alloc: Global,
+    events: &Table<Event>,
+    request: &Request,
+) -> Result<Table<Event>, Error>
+    ensures { IsInOrder nat_cmp event_number events.now → IfOk result (λ asked. (rows : Rows) → asked ≡ (selected rows request.now).events events.now) }
+{
+    match events_asked(alloc, events, wanted_events(request)) {
+        Ok(asked) => Ok(asked),
+        Err(_) => Err(Error::SqliteFailure(ErrorCode::OutOfMemory)),
+    }
+}
+
+/// How many alarms the unit has, how many events, or the number of its last change, for a call that needs it. The events were read
+/// where the request looks at them.
 fn count_for<S: Alter>(
     conn: &mut Connection<S>,
     unit: &UnitCode,
     request: &Request,
+    events: &Table<Event>,
 ) -> Result<u64, Error>
     requires { conn.old.in_transaction ≡ false }
     ensures mode { conn.new.in_transaction ≡ false }
-    ensures rows { HasCleanDisk (state S.Store conn.new) → AreBooks (state S.Store conn.old).now → IfOk result (λ n. (rows : Rows) → rows.alarms ≡ rows_seen unit.now (state S.Store conn.old).now.trees AlarmKept → rows.changes ≡ rows_seen unit.now (state S.Store conn.old).now.trees ChangeKept → n ≡ counted_for rows request.now) }
+    ensures rows { HasCleanDisk (state S.Store conn.new) → AreBooks (state S.Store conn.old).now → IfOk result (λ n. (rows : Rows) → rows.alarms ≡ rows_seen unit.now (state S.Store conn.old).now.trees AlarmKept → rows.changes ≡ rows_seen unit.now (state S.Store conn.old).now.trees ChangeKept → (wanted.looks_at_events request.now ≡ true → rows.events ≡ events.now) → n ≡ counted_for rows request.now) }
     ensures same { CanTell (state S.Store conn.new) → AreBooks (state S.Store conn.old).now → (state S.Store conn.new).now ≡ (state S.Store conn.old).now }
     ensures told { CanTell (state S.Store conn.new) → CanTell (state S.Store conn.old) }
 {
     match wanted_count(request) {
         Counted::Nothing => Ok(0),
         Counted::Alarms => count_of_alarms(conn, unit),
+        Counted::Events => Ok(events.len() as u64),
         Counted::Changes => last_change_number(conn, unit),
     }
 }
@@ -200,14 +228,15 @@ fn holders_part<S: Alter>(
     let alarms = some_alarms(alloc, conn, unit, tags)?;
     let shelved = wanted_shelves(request, crowded);
     let shelves = some_shelves(alloc, conn, unit, shelved)?;
-    let told = wants_events(request);
-    let events = some_events(alloc, conn, unit, told)?;
+    let told = looks_at_events(request);
+    let all_events = some_events(alloc, conn, unit, told)?;
+    let events = events_for(alloc, &all_events, request)?;
     let recorded = wanted_records(request);
     let records = some_records(alloc, conn, unit, recorded)?;
     let bands = some_bands(alloc, conn, unit, &units, request)?;
     let cells = some_cells(alloc, conn, unit, &units, request)?;
     let changes = some_changes(alloc, conn, unit, &records, request)?;
-    let count = count_for(conn, unit, request)?;
+    let count = count_for(conn, unit, request, &all_events)?;
     Ok(UnitPart {
         rows: UnitRows {
             units,

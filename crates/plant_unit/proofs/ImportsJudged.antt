@@ -1,17 +1,19 @@
 -- The judgement of an import.
 use Rattle.std.proofs.Common.{ap, append_assoc, arith, refl, subst, sym, ◌∙◌}
 use Rattle.std.proofs.lemmas.Bool.{ltb-false}
-use Rattle.std.specs.Prelude.{Bool, Err, IfOk, List, None, Ok, Option, Result, Some, [], false, if◌then◌else◌, length, nat_lt, not, true, ℕ, ◌++◌, ◌+◌, ◌∷◌, ◌≡◌, ◌≤◌}
+use Rattle.std.specs.Prelude.{Bool, Err, IfOk, List, None, Ok, Option, Result, Some, [], false, filter, if◌then◌else◌, length, map, nat_lt, not, true, ℕ, ◌++◌, ◌+◌, ◌∷◌, ◌≡◌, ◌≤◌}
 use Rattle.plant_alarm.specs.declared.event.Event.{Event}
 use Rattle.plant_import.proofs.Counted.{fresh_count}
 use Rattle.plant_import.specs.Merging.{IsRising, first_fault, fresh, merge, merged_or}
-use Rattle.plant_import.specs.Numbers.{new_numbers}
+use Rattle.plant_import.proofs.NeededLaws.{needed_merge, needed_numbers, needed_rises}
+use Rattle.plant_import.specs.Needed.{needed}
+use Rattle.plant_import.specs.Numbers.{new_numbers, with_events}
 use Rattle.plant_import.specs.declared.bad_file.BadFile.{BadFile}
 use Rattle.plant_import.specs.declared.merging.Merged.{Merged}
 use Rattle.plant_model.specs.Facts.{Facts}
 use Rattle.plant_model.specs.Refusals.{fault_entries, file_refusals, first_refusal, holds_some, lacks_role, own_refusals, refusals, role_needed, tags_of}
 use Rattle.plant_model.specs.Replies.{reply}
-use Rattle.plant_model.specs.RowChanges.{changes_for, import_changes, unit_after}
+use Rattle.plant_model.specs.RowChanges.{changes_for, import_changes, state_put, unit_after}
 use Rattle.plant_model.specs.Verdicts.{changes_history, is_read, refused_or, verdict_of}
 use Rattle.plant_model.specs.declared.call.Call.{Call}
 use Rattle.plant_model.specs.declared.call.Request.TheVariants.{Import}
@@ -23,12 +25,13 @@ use Rattle.plant_model.specs.declared.reply.Reply.TheVariants.{Imported}
 use Rattle.plant_model.specs.declared.reply.Reply.{Reply}
 use Rattle.plant_model.specs.declared.rows.Change.TheVariants.{Put}
 use Rattle.plant_model.specs.declared.rows.Change.{Change}
-use Rattle.plant_model.specs.declared.rows.Row.TheVariants.{Unit as UnitPut}
+use Rattle.plant_model.specs.declared.rows.Row.TheVariants.{Event as EventPut, Unit as UnitPut}
+use Rattle.plant_unit.specs.Summaries.{is_named}
 use Rattle.plant_model.specs.declared.rows.Verdict.TheVariants.{Accepted as IsAccepted, Refused as IsRefused}
 use Rattle.plant_model.specs.declared.rows.Verdict.{Verdict}
 use Rattle.plant_types.specs.Names.{Name}
 use Rattle.plant_types.specs.Options.{or_else}
-use Rattle.plant_unit.specs.Additions.{addition, addition_or, rows_added}
+use Rattle.plant_unit.specs.Additions.{AreAdded, addition, addition_or, rows_added}
 use Rattle.plant_unit.specs.Judged.{IsJudged, IsJudgedOwn, holder_refusals}
 
 -- the refusals of a call: those of its caller, and then its own
@@ -143,14 +146,49 @@ import_judged f c u rows m r cs e is er ec =
     subst (λ (x : Call). IsJudgedOwn f x (IsAccepted r cs)) (asked c q e)
     (own_accepted f (record { person = c.person; moment = c.moment; request = q }) r cs so.none (er few ∙ ap (λ (x : Merged). Imported (length x.fresh) x.repeated) so.is) ec)
 
--- what the code finds of a file
-pub merged_at : (f : Facts) (t : ℕ) (rows kept : List Event) (tags : List Name) (n : ℕ) (b : Bool) (m x : Result Merged BadFile) → IsRising f.events → kept ≡ f.events → (IsRising kept → n ≡ length (new_numbers kept rows))
-    → b ≡ nat_lt 100000 (length kept + n) → b ≡ false → tags ≡ tags_of f → (IsRising kept → m ≡ merge kept rows tags t) → m ≡ x → refused_by x ≡ addition f t rows
-merged_at f t rows kept tags n b m x rises ek en eb room et em ex =
-    let rising : IsRising kept = subst (λ (l : List Event). IsRising l) (sym ek) rises in
-    let count : n ≡ length (new_numbers f.events rows) = en rising ∙ ap (λ l. length (new_numbers l rows)) ek in
-    let free : nat_lt 100000 (length f.events + length (new_numbers f.events rows)) ≡ false = sym (eb ∙ (λ i. nat_lt 100000 (length (ek i) + count i))) ∙ room in
-    merge_added f t rows x free (sym ex ∙ em rising ∙ (λ i. merge (ek i) rows (et i) t))
+-- the rows of a file that adds some are new
+none_fault : (b : Bool) (r : Refused) (o : Option BadFile) → first_refusal ((b, r) ∷ fault_entries o) ≡ None → o ≡ None
+none_fault true r o e = cc
+none_fault false r None e = refl
+none_fault false r (Some fault) e = cc
+
+pub import_added : (f : Facts) (t : ℕ) (rows : List Event) (m : Merged) → IsRising f.events → Ok m ≡ addition f t rows → AreAdded f.events rows m.fresh
+import_added f t rows m rises is =
+    record {
+      rise = rises;
+      fresh_are = import_fresh f t rows m is;
+      tags = tags_of f;
+      now = t;
+      no_fault = none_fault (nat_lt 100000 (length f.events + length (new_numbers f.events rows))) (UnitFull TooManyEvents) (first_fault (tags_of f) t 2 f.events rows) ((adds f t rows m (sym is)).none);
+    }
+
+-- what the code finds of a file beside the events that it needs
+pub counted_at : (f : Facts) (rows kept : List Event) (k n : ℕ) (b : Bool) → IsRising f.events → kept ≡ needed f.events rows → k ≡ length f.events → (IsRising kept → n ≡ length (new_numbers kept rows)) → b ≡ nat_lt 100000 (k + n) → b ≡ nat_lt 100000 (length f.events + length (new_numbers f.events rows))
+counted_at f rows kept k n b rises ek el en eb =
+    let rising : IsRising kept = subst (λ (l : List Event). IsRising l) (sym ek) (needed_rises f.events rows rises) in
+    let count : n ≡ length (new_numbers f.events rows) = en rising ∙ ap (λ l. length (new_numbers l rows)) ek ∙ ap length (needed_numbers f.events rows rises) in
+    eb ∙ (λ i. nat_lt 100000 (el i + count i))
+
+pub merged_at : (f : Facts) (t : ℕ) (rows kept : List Event) (tags : List Name) (k n : ℕ) (b : Bool) (m x : Result Merged BadFile) → IsRising f.events → kept ≡ needed f.events rows → k ≡ length f.events → (IsRising kept → n ≡ length (new_numbers kept rows))
+    → b ≡ nat_lt 100000 (k + n) → b ≡ false → tags ≡ tags_of f → (IsRising kept → m ≡ merge kept rows tags t) → m ≡ x → refused_by x ≡ addition f t rows
+merged_at f t rows kept tags k n b m x rises ek el en eb room et em ex =
+    let rising : IsRising kept = subst (λ (l : List Event). IsRising l) (sym ek) (needed_rises f.events rows rises) in
+    let free : nat_lt 100000 (length f.events + length (new_numbers f.events rows)) ≡ false = sym (counted_at f rows kept k n b rises ek el en eb) ∙ room in
+    merge_added f t rows x free (sym ex ∙ em rising ∙ (λ i. merge (ek i) rows (et i) t) ∙ needed_merge f.events rows (tags_of f) t rises)
+
+-- the changes that the code makes for the alarms are those of the definition
+pub put_all : (f : Facts) (rows added : List Event) (row : Change) (cs events : List Change) → AreAdded f.events rows added → events ≡ row ∷ map (λ e. Put (EventPut e)) added → cs ≡ events ++ map (state_put (with_events f.events added)) (filter (is_named added) f.alarms) → cs ≡ row ∷ import_changes f rows
+put_all f rows added row cs events new ee ec =
+    ec ∙ ap (λ l. l ++ map (state_put (with_events f.events added)) (filter (is_named added) f.alarms)) ee
+    ∙ (λ i. row ∷ (map (λ e. Put (EventPut e)) (new.fresh_are i) ++ map (state_put (with_events f.events (new.fresh_are i))) (filter (is_named (new.fresh_are i)) f.alarms)))
+
+-- one who is not refused for want of a role holds one
+none_holds : (b : Bool) (rest : List (Bool × Refused)) → first_refusal ((not b, NotGranted) ∷ rest) ≡ None → b ≡ true
+none_holds true rest e = refl
+none_holds false rest e = cc
+
+pub holder_holds : (f : Facts) (c : Call) (o : Option Refused) → o ≡ first_refusal (holder_refusals f c) → o ≡ None → holds_some f c.moment c.person ≡ true
+holder_holds f c o is none = none_holds (holds_some f c.moment c.person) (lacks_role f c.moment c.person (role_needed c.request) ++ (nat_lt c.moment f.unit.last_s, MomentBehind f.unit.last_s) ∷ []) (sym is ∙ none)
 
 pub own_result : {E : Type 0} (f : Facts) (c : Call) (r : Result Verdict E) (o : Option Refused) → o ≡ first_refusal (holder_refusals f c) → o ≡ None → IfOk r (IsJudgedOwn f c) → IfOk r (IsJudged f c)
 own_result f c (Ok v) o is none j = own_judged f c v (sym is ∙ none) j

@@ -3,7 +3,7 @@ use Rattle.std.proofs.Common.{ap, refl, subst, sym, ◌∙◌}
 use Rattle.std.specs.List.{slice_get}
 use Rattle.std.specs.Prelude.{Bool, Err, IfOk, List, None, Ok, Option, Result, Some, [], false, if◌then◌else◌, true, ℕ, ◌∷◌, ◌≡◌}
 use Rattle.plant_model.specs.declared.call.Call.{Call}
-use Rattle.plant_model.specs.declared.call.Request.TheVariants.{OpenUnit}
+use Rattle.plant_model.specs.declared.call.Request.TheVariants.{Floods, Import, OpenUnit}
 use Rattle.plant_model.specs.declared.call.Request.{Request}
 use Rattle.plant_model.specs.declared.reply.Refused.TheVariants.{NotGranted}
 use Rattle.plant_model.specs.declared.reply.Reply.TheVariants.{Done}
@@ -16,20 +16,23 @@ use Rattle.plant_model.proofs.AcceptLaws.{accepted_turns}
 use Rattle.plant_model.proofs.ChangeLaws.{opening_turns}
 use Rattle.plant_model.proofs.FactLaws.{not_true}
 use Rattle.plant_model.proofs.ReadLaws.{facts-rows}
-use Rattle.plant_unit.proofs.KeptLaws.{part_kept_of}
+use Rattle.plant_unit.proofs.KeptLaws.{part_events, part_kept_of}
+use Rattle.plant_alarm.specs.declared.event.Event.{Event}
+use Rattle.plant_model.specs.Events.{events}
+use Rattle.plant_model.specs.Refusals.{holds_some}
 use Rattle.plant_model.proofs.PartLaws.{part_changes, part_verdict, stranger_verdict}
 use Rattle.plant_model.proofs.WorldLaws.{not_granted, refused_changes}
-use Rattle.plant_unit.specs.Additions.{AreKept}
-use Rattle.plant_model.specs.Facts.{facts}
+use Rattle.plant_unit.specs.Additions.{AreEventsFor, AreKept}
+use Rattle.plant_model.specs.Facts.{Facts, facts}
 use Rattle.plant_model.specs.Legality.{IsLegal}
 use Rattle.plant_model.specs.Parts.{none, part_of, part_of_holder, part_of_stranger}
 use Rattle.plant_model.specs.RowChanges.{changed_by, changes_for, no_rows, puts_unit}
-use Rattle.plant_model.specs.RowFacts.{facts_in, holds_by}
+use Rattle.plant_model.specs.RowFacts.{facts_among, facts_in, holds_by}
 use Rattle.plant_model.specs.declared.rows.UnitRows.{UnitRows}
 use Rattle.plant_model.specs.Rows.{rows_of, unit_row}
 use Rattle.plant_model.specs.Verdicts.{changes_history, is_opening, verdict, verdict_of}
 use Rattle.plant_types.specs.Names.{Name}
-use Rattle.plant_unit.specs.Judged.{IsJudged, IsOpening, IsPartOf, IsVerdictOn}
+use Rattle.plant_unit.specs.Judged.{IsJudged, IsOpening, IsPartOf, IsVerdictOn, is_import}
 
 changed_if : (h : List Call) (c : Call) (b : Bool) → (b ≡ true → changed_by (changes_for (facts h) c) (rows_of h) ≡ rows_of (c ∷ h)) → changed_by (if b then changes_for (facts h) c else []) (rows_of h) ≡ rows_of (if b then c ∷ h else h)
 changed_if h c true turns = turns refl
@@ -53,17 +56,17 @@ judged h legal c v plain j =
     }
 
 -- the facts of the part give what the facts of the history give
-part_judged : (h : List Call) → IsLegal h → (c : Call) (v : Verdict) → IsJudged (facts_in (part_of c (rows_of h))) c v → IsJudged (facts h) c v
+part_judged : (h : List Call) → IsLegal h → (c : Call) (v : Verdict) → IsJudged (facts_among (part_of c (rows_of h)) (events h)) c v → IsJudged (facts h) c v
 part_judged h legal c v j = by (holds_by (rows_of h).grants c.moment c.person) refl where
   rows : UnitRows
   rows = rows_of h
 
-  verdicts : verdict_of (facts_in (part_of c rows)) c ≡ verdict h c
+  verdicts : verdict_of (facts_among (part_of c rows) (events h)) c ≡ verdict h c
   verdicts = part_verdict rows c.person c.moment c.request ∙ ap (λ f. verdict_of f c) (facts-rows h legal)
 
   by : (b : Bool) → holds_by rows.grants c.moment c.person ≡ b → IsJudged (facts h) c v
   by true some =
-      let changes : changes_for (facts_in (part_of c rows)) c ≡ changes_for (facts h) c = part_changes rows c.person c.moment c.request some ∙ ap (λ f. changes_for f c) (facts-rows h legal) in
+      let changes : changes_for (facts_among (part_of c rows) (events h)) c ≡ changes_for (facts h) c = part_changes rows c.person c.moment c.request some ∙ ap (λ f. changes_for f c) (facts-rows h legal) in
       record {
         answer = j.answer ∙ verdicts;
         changes = j.changes ∙ (λ i. if changes_history (verdicts i) c then changes i else []);
@@ -73,7 +76,7 @@ part_judged h legal c v j = by (holds_by (rows_of h).grants c.moment c.person) r
       let unchanged : changes_history (verdict h c) c ≡ false = not_true _ (refused_changes (verdict h c) c NotGranted refused) in
       record {
         answer = j.answer ∙ verdicts;
-        changes = j.changes ∙ none_if (changes_for (facts_in (part_of c rows)) c) (changes_history (verdict_of (facts_in (part_of c rows)) c) c) (ap (λ x. changes_history x c) verdicts ∙ unchanged) ∙ sym (none_if (changes_for (facts h) c) (changes_history (verdict h c) c) unchanged);
+        changes = j.changes ∙ none_if (changes_for (facts_among (part_of c rows) (events h)) c) (changes_history (verdict_of (facts_among (part_of c rows) (events h)) c) c) (ap (λ x. changes_history x c) verdicts ∙ unchanged) ∙ sym (none_if (changes_for (facts h) c) (changes_history (verdict h c) c) unchanged);
       }
 
 -- a code that was never opened
@@ -91,11 +94,11 @@ judged_unopened c =
 pub judged_none : (h : List Call) (c : Call) (o : Option UnitPart) → o ≡ None → IsPartOf o h c → IsVerdictOn h c (IsRefused NotGranted)
 judged_none h c o none left = subst (λ k. IsVerdictOn k c (IsRefused NotGranted)) (sym (subst (λ x. IsPartOf x h c) none left)) (judged_unopened c)
 
-pub judged_some : (h : List Call) (part : UnitPart) (c : Call) (o : Option UnitPart) (r : Result Verdict Fault) → is_opening c.request ≡ false → o ≡ Some part → IsPartOf o h c → IfOk r (IsJudged (facts_in part) c) → IfOk r (IsVerdictOn h c)
+pub judged_some : (h : List Call) (part : UnitPart) (c : Call) (o : Option UnitPart) (r : Result Verdict Fault) → is_opening c.request ≡ false → o ≡ Some part → IsPartOf o h c → IfOk r (IsJudged (facts_among part (events h)) c) → IfOk r (IsVerdictOn h c)
 judged_some h part c o (Ok v) plain some left j =
     let known : IsPartOf (Some part) h c = subst (λ x. IsPartOf x h c) some left in
     let is : part ≡ part_of c (rows_of h) = known.0 in
-    judged h known.1 c v plain (part_judged h known.1 c v (subst (λ x. IsJudged (facts_in x) c v) is j))
+    judged h known.1 c v plain (part_judged h known.1 c v (subst (λ x. IsJudged (facts_among x (events h)) c v) is j))
 judged_some h part c o (Err x) plain some left j = tt
 
 -- what a legal history keeps is in its parts
@@ -103,6 +106,33 @@ pub part_kept : (h : List Call) (part : UnitPart) (c : Call) (o : Option UnitPar
 part_kept h part c o some left =
     let known : IsPartOf (Some part) h c = subst (λ x. IsPartOf x h c) some left in
     subst (λ (x : UnitPart). AreKept x) (sym known.0) (part_kept_of h known.1 c.person c.moment c.request)
+
+-- the events that a holder's call sees are those of the history
+pub part_seen : (h : List Call) (part : UnitPart) (c : Call) (o : Option UnitPart) → o ≡ Some part → IsPartOf o h c → holds_some (facts_in part) c.moment c.person ≡ true → AreEventsFor part c.request (events h)
+unfolding holds_some
+part_seen h part c o some left =
+    let known : IsPartOf (Some part) h c = subst (λ x. IsPartOf x h c) some left in
+    subst (λ (x : UnitPart). holds_by x.rows.grants c.moment c.person ≡ true → AreEventsFor x c.request (events h)) (sym known.0) (part_events h known.1 c)
+
+-- a call that is no import is judged alike whatever events are beside its part, unless it lists floods
+same_events : (f : Facts) (c : Call) (v : Verdict) (g : Facts) → verdict_of f c ≡ verdict_of g c → changes_for f c ≡ changes_for g c → IsJudged f c v → IsJudged g c v
+same_events f c v g verdicts changes j = record { answer = j.answer ∙ verdicts; changes = j.changes ∙ (λ i. if changes_history (verdicts i) c then changes i else []) }
+
+abbrev judged_so : UnitPart → List Event → Name → ℕ → Request → Type 0
+judged_so part es p t q =
+    (verdict_of (facts_in part) (record { person = p; moment = t; request = q }) ≡ verdict_of (facts_among part es) (record { person = p; moment = t; request = q }))
+    × (changes_for (facts_in part) (record { person = p; moment = t; request = q }) ≡ changes_for (facts_among part es) (record { person = p; moment = t; request = q }))
+
+among_so : (part : UnitPart) (es : List Event) (p : Name) (t : ℕ) (q : Request) → is_import q ≡ false → AreEventsFor part q es → judged_so part es p t q
+unfolding holds_some
+among_so part es p t (Import u file) plain seen = cc
+among_so part es p t (Floods u begin until) plain seen =
+    (ap (λ l. verdict_of (facts_among part l) (record { person = p; moment = t; request = Floods u begin until })) seen, ap (λ l. changes_for (facts_among part l) (record { person = p; moment = t; request = Floods u begin until })) seen)
+among_so part es p t _ plain seen = (refl, refl)
+
+pub judged_among : {E : Type 0} (part : UnitPart) (es : List Event) (c : Call) (r : Result Verdict E) → is_import c.request ≡ false → AreEventsFor part c.request es → IfOk r (IsJudged (facts_in part) c) → IfOk r (IsJudged (facts_among part es) c)
+judged_among part es c (Ok v) plain seen j = let same = among_so part es c.person c.moment c.request plain seen in same_events (facts_in part) c v (facts_among part es) same.0 same.1 j
+judged_among part es c (Err x) plain seen j = tt
 
 part_units : (c : Call) (rows : UnitRows) → (part_of c rows).rows.units ≡ rows.units
 part_units c rows = by (holds_by rows.grants c.moment c.person) where

@@ -3,7 +3,9 @@ use Rattle.plant_alarm.specs.declared.event.Event.{Event}
 use Rattle.plant_model.proofs.CountLaws.{few_limits, few_matrices, few_proposals, few_records}
 use Rattle.plant_model.proofs.FactLaws.{alarm_in, change_entry_in, not_true, revision_in, same_number_of, sheet_source}
 use Rattle.plant_model.proofs.HistoryLaws.{alarm_of, alarms_told, change_with, record_with, records_told, shelves_told, tag_of_record, tags_of_alarms, tags_of_records, tags_of_shelves}
-use Rattle.plant_model.proofs.PartLaws.{matrix_there}
+use Rattle.plant_model.proofs.PartLaws.{matrix_there, own_holds}
+use Rattle.plant_alarm.specs.States.{summary}
+use Rattle.plant_unit.specs.Summaries.{summary_in, summary_of}
 use Rattle.plant_model.proofs.PartLists.{or_later, or_true}
 use Rattle.plant_model.proofs.QuotaLaws.{few_alarms}
 use Rattle.plant_model.proofs.ReadLaws.{change_count, in_force_numbered, left_in_order, proposed_matrix, read_back, row_at-left, shaped}
@@ -38,13 +40,15 @@ use Rattle.plant_model.specs.Shelves.{shelf}
 use Rattle.plant_types.specs.Tables.{IsInOrder, in_order, row_at}
 use Rattle.std.specs.FinMap.Entries.{below_all}
 use Rattle.plant_unit.proofs.EventBounds.{few_events}
-use Rattle.plant_unit.specs.Additions.{AreKept}
+use Rattle.plant_unit.specs.Additions.{AreEventsFor, AreKept}
 use Rattle.plant_unit.specs.Readings.{has_its_sheet, has_kind, has_sheet, is_left_out, is_matrix_at}
 use Rattle.std.proofs.Common.{ap, arith, cond, inl, inr, refl, subst, sym, ◌∙◌, ◌⊎◌}
 use Rattle.std.specs.List.{cons_option, list_all, list_any}
 use Rattle.std.specs.Ordering.{nat_cmp}
 use Rattle.std.specs.Prelude.{Bool, List, None, Option, Some, T, [], false, filter, filter_map, if◌then◌else◌, is_some, length, map, max, option_map, true, unwrap_or, ℕ, ◌&&◌, ◌<◌, ◌==◌, ◌||◌, ◌∷◌, ◌≡◌, ◌≤◌}
 use Rattle.plant_import.specs.Merging.{IsRising}
+use Rattle.plant_import.proofs.NeededLaws.{needed_few, needed_rises}
+use Rattle.plant_model.specs.Events.{rows_of_file}
 use Rattle.plant_model.proofs.EventLaws.{events_rise}
 
 -- Tests of rows that pass a wider one
@@ -56,25 +60,26 @@ filter-none narrow wide never (x ∷ xs) =
       | false ↦ λ _. filter-none narrow wide never xs
     ] refl
 
-whole : (es : List Event) → filter (λ e. true) es ≡ es
-whole [] = refl
-whole (e ∷ es) = ap (λ l. e ∷ l) (whole es)
+no_event_rises : IsRising []
+no_event_rises i j d lt le = absurd (omega arith)
 
-nothing : (es : List Event) → filter (λ e. false) es ≡ []
-nothing [] = refl
-nothing (e ∷ es) = nothing es
-
-rises_left : (b : Bool) (es : List Event) → IsRising es → IsRising (filter (λ e. b) es)
-rises_left true es h = subst (λ (l : List Event). IsRising l) (sym (whole es)) h
-rises_left false es h = subst (λ (l : List Event). IsRising l) (sym (nothing es)) (λ i j d lt le. absurd (omega arith))
-
-few_left : (b : Bool) (es : List Event) → length es ≤ 100000 → length (filter (λ e. b) es) ≤ 4294967295
-few_left true es h = subst (λ (l : List Event). length l ≤ 4294967295) (sym (whole es)) (omega (arith, h))
-few_left false es h = subst (λ (l : List Event). length l ≤ 4294967295) (sym (nothing es)) (omega arith)
+-- the events that a request looks at rise as all do, and are no more
+events_left : (rows : UnitRows) (q : Request) (es : List Event) → IsRising es → length es ≤ 100000 → IsRising ((selected rows q).events es) × (length ((selected rows q).events es) ≤ 4294967295)
+events_left rows (Import u file) es h few = (needed_rises es (rows_of_file file) h, (let le = needed_few es (rows_of_file file) h in omega (arith, few, le)))
+events_left rows (Floods u begin until) es h few = (h, omega (arith, few))
+events_left rows (Propose u x) es h few = by x.kind where
+  by : (k : ChangeKind) → IsRising ((of_proposal rows k).events es) × (length ((of_proposal rows k).events es) ≤ 4294967295)
+  by (Rationale a s) = (no_event_rises, omega arith)
+  by (Matrix m) = (no_event_rises, omega arith)
+  by (Limit a max) = (no_event_rises, omega arith)
+events_left rows _ es h few = (no_event_rises, omega arith)
 
 or_either : (a b : Bool) → (a || b) ≡ true → (a ≡ true) ⊎ (b ≡ true)
 or_either true b e = inl refl
 or_either false b e = inr e
+
+fits_most : (n : ℕ) → n ≤ 100000 → n < 4294967295
+fits_most n few = omega (arith, few)
 
 fits : (n : ℕ) → n ≤ 20000 → n < 4294967295
 fits n few = omega (arith, few)
@@ -237,11 +242,12 @@ module _ (h : List Call) (legal : IsLegal h) (p : Name) (t : ℕ) (q : Request) 
   records_among (a ∷ tags) = record_whole a (sheet h a) refl (filter_map (record_of h) tags) (records_among tags)
 
   -- there is a next number of each kind
-  counted : counted_for (rows_of h) q ≤ 20000
+  counted : counted_for (rows_of h) q ≤ 100000
   counted = by q where
-    by : (q : Request) → counted_for (rows_of h) q ≤ 20000
+    by : (q : Request) → counted_for (rows_of h) q ≤ 100000
     by (Register u a l m) = let few = few_alarms h legal in omega (arith, few)
-    by (Propose u x) = subst (λ n. n ≤ 20000) (sym (change_count h)) (few_proposals h legal)
+    by (Import u file) = few_events h legal
+    by (Propose u x) = let few = subst (λ n. n ≤ 20000) (sym (change_count h)) (few_proposals h legal) in omega (arith, few)
     by _ = omega arith
 
   revision_left : (a : Name) → unwrap_or (option_map (λ (r : RecordEntry). r.rev) (record_found part a)) 0 ≤ 20000
@@ -263,15 +269,15 @@ module _ (h : List Call) (legal : IsLegal h) (p : Name) (t : ℕ) (q : Request) 
   holder_kept : AreKept (part_of_holder c (rows_of h))
   holder_kept =
       record {
-        events_rise = rises_left s.event (events h) (events_rise h legal);
-        events_few = few_left s.event (events h) (few_events h legal);
+        events_rise = (events_left (rows_of h) q (events h) (events_rise h legal) (few_events h legal)).0;
+        events_few = (events_left (rows_of h) q (events h) (events_rise h legal) (few_events h legal)).1;
         alarms_in_order = left_in_order name_cmp alarm_tag (λ r. s.alarm r.tag) (alarm_rows h) (IsInOrder-rows (alarm_row h) (tags_of_alarms h) (alarms_told h));
         shelves_in_order = left_in_order name_cmp shelf_tag (λ r. s.shelf r.tag) (shelf_rows h) (IsInOrder-rows (shelf h) (tags_of_shelves h) (shelves_told h));
         records_in_order = left_in_order name_cmp record_tag (λ r. s.rationale r.tag) (record_rows h) (records_rise h);
         matrix_whole = matrix_whole;
         changes_whole = changes_whole;
         records_whole = records_among (in_order name_cmp (tags_of_records h));
-        count_fits = fits (counted_for (rows_of h) q) counted;
+        count_fits = fits_most (counted_for (rows_of h) q) counted;
         matrix_fits = fits (matrix_revision h) (few_matrices h legal);
         record_fits = λ a. fits _ (revision_left a);
         limit_fits = λ a. fits _ (limit_left a);
@@ -299,3 +305,25 @@ module _ (h : List Call) (legal : IsLegal h) (p : Name) (t : ℕ) (q : Request) 
     by : (b : Bool) → AreKept (if b then part_of_holder c (rows_of h) else part_of_stranger c (rows_of h))
     by true = holder_kept
     by false = stranger_kept
+
+-- ---- the events that a holder's call sees
+
+summaries_told : (h : List Call) (tags : List Name) → map summary_in (filter (λ (r : AlarmRow). true) (filter_map (alarm_row h) tags)) ≡ map (summary_of (events h)) (filter (λ (r : AlarmRow). true) (filter_map (alarm_row h) tags))
+unfolding summary
+summaries_told h [] = refl
+summaries_told h (a ∷ tags) = by (latching h a) (summaries_told h tags) where
+  by : (o : Option Bool) → map summary_in (filter (λ (r : AlarmRow). true) (filter_map (alarm_row h) tags)) ≡ map (summary_of (events h)) (filter (λ (r : AlarmRow). true) (filter_map (alarm_row h) tags))
+      → map summary_in (filter (λ (r : AlarmRow). true) (cons_option (option_map (alarm_of h a) o) (filter_map (alarm_row h) tags))) ≡ map (summary_of (events h)) (filter (λ (r : AlarmRow). true) (cons_option (option_map (alarm_of h a) o) (filter_map (alarm_row h) tags)))
+  by None rest = rest
+  by (Some l) rest = ap (λ ss. summary_of (events h) (alarm_of h a l) ∷ ss) rest
+
+holder_events : (h : List Call) (legal : IsLegal h) (p : Name) (t : ℕ) (q : Request) → AreEventsFor (part_of_holder (record { person = p; moment = t; request = q }) (rows_of h)) q (events h)
+holder_events h legal p t (Import u file) = record { rise = events_rise h legal; needed_are = refl; count_is = refl; told = summaries_told h (in_order name_cmp (tags_of_alarms h)) }
+holder_events h legal p t (Floods u begin until) = refl
+holder_events h legal p t _ = tt
+
+pub part_events : (h : List Call) (legal : IsLegal h) (c : Call) → holds_by (part_of c (rows_of h)).rows.grants c.moment c.person ≡ true → AreEventsFor (part_of c (rows_of h)) c.request (events h)
+part_events h legal c some = by (holds_by (rows_of h).grants c.moment c.person) refl some where
+  by : (b : Bool) → holds_by (rows_of h).grants c.moment c.person ≡ b → holds_by (if b then part_of_holder c (rows_of h) else part_of_stranger c (rows_of h)).rows.grants c.moment c.person ≡ true → AreEventsFor (if b then part_of_holder c (rows_of h) else part_of_stranger c (rows_of h)) c.request (events h)
+  by true e holds = holder_events h legal c.person c.moment c.request
+  by false none holds = absurd (let no : true ≡ false = sym holds ∙ own_holds (rows_of h) c.person c.moment ∙ none in cc)

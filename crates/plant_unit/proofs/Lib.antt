@@ -1,5 +1,6 @@
 pub mod MatrixLaws
 pub mod AlarmLists
+pub mod NamedLaws
 pub mod EventBounds
 pub mod KeptLaws
 pub mod ImportsJudged

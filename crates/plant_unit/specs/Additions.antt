@@ -1,6 +1,11 @@
 -- What a file adds to a unit, or why it is refused.
 use Rattle.plant_alarm.specs.declared.event.Event.{Event}
-use Rattle.plant_import.specs.Merging.{IsRising, fresh}
+use Rattle.plant_import.specs.Merging.{IsRising, first_fault, fresh}
+use Rattle.plant_import.specs.Needed.{needed}
+use Rattle.plant_model.specs.Events.{rows_of_file}
+use Rattle.plant_model.specs.declared.call.Request.{Request}
+use Rattle.plant_model.specs.declared.call.Request.TheVariants.{Floods, Import}
+use Rattle.plant_unit.specs.Summaries.{AreTold}
 use Rattle.plant_import.specs.declared.merging.Merged.{Merged}
 use Rattle.plant_model.specs.Facts.{Facts, limit_revision_of}
 use Rattle.plant_model.specs.Refusals.{file_refusals, first_refusal}
@@ -24,6 +29,28 @@ rows_added kept rows = record { fresh = fresh kept rows; repeated = length rows 
 -- the new rows of a file and the number of its repeated ones, or the first refusal that its rows meet
 abbrev pub addition : Facts → ℕ → List Event → Result Merged Refused
 addition f t rows = addition_or (first_refusal (file_refusals f t (Ok rows))) (rows_added f.events rows)
+
+-- the part of an import: of these events it has those that the file's rows need, and how many there are; the states of its alarms
+-- are told from them
+pub record AreEventsOf (part : UnitPart) (rows es : List Event) : Type 0 where
+  pub rise : IsRising es
+  pub needed_are : part.rows.events ≡ needed es rows
+  pub count_is : part.count ≡ length es
+  pub told : AreTold part.rows.alarms es
+
+-- the events that a request sees in a part: an import those of which it has some, a list of floods those that it has
+abbrev pub AreEventsFor : UnitPart → Request → List Event → Type 0
+AreEventsFor part (Import u file) es = AreEventsOf part (rows_of_file file) es
+AreEventsFor part (Floods u begin until) es = part.rows.events ≡ es
+AreEventsFor part _ es = Unit {0}
+
+-- the new rows of a file without fault
+pub record AreAdded (es rows added : List Event) : Type 0 where
+  pub rise : IsRising es
+  pub fresh_are : added ≡ fresh es rows
+  pub tags : List Name
+  pub now : ℕ
+  pub no_fault : first_fault tags now 2 es rows ≡ None
 
 -- what the parts of a legal history keep
 pub record AreKept (part : UnitPart) : Type 0 where

@@ -4,9 +4,10 @@ use Rattle.plant_alarm.specs.declared.event.Event.{Event}
 use Rattle.plant_alarm.specs.declared.summary.Summary.{Summary}
 use Rattle.plant_floods.specs.Activations.{of_alarm}
 use Rattle.plant_model.specs.declared.rows.AlarmRow.{AlarmRow}
-use Rattle.plant_types.specs.Names.{same_name}
+use Rattle.plant_types.specs.Names.{Name, name_cmp, same_name}
+use Rattle.std.specs.BTreeSet.{BTreeSet, contains}
 use Rattle.std.specs.List.{list_any}
-use Rattle.std.specs.Prelude.{Bool, List, map}
+use Rattle.std.specs.Prelude.{Bool, List, map, ◌≡◌}
 
 -- what an alarm's own events come to
 abbrev pub summary_of : List Event → AlarmRow → Summary
@@ -23,3 +24,15 @@ with_summary r s = record r { state_no = s.state; suppressed = s.suppressed; act
 -- one of the events is the alarm's
 abbrev pub is_named : List Event → AlarmRow → Bool
 is_named es r = list_any (λ e. same_name r.tag e.tag) es
+
+-- what a row's columns say
+abbrev pub summary_in : AlarmRow → Summary
+summary_in r = record { state = r.state_no; suppressed = r.suppressed; active_since = r.active_s; last_return = r.return_s }
+
+-- the columns of each alarm are told from its events
+abbrev pub AreTold : List AlarmRow → List Event → Type 0
+AreTold alarms es = map summary_in alarms ≡ summaries alarms es
+
+-- the set has the tags of the events
+abbrev pub AreNamed : BTreeSet Name → List Event → Type 0
+AreNamed tags es = (a : Name) → contains name_cmp tags a ≡ list_any (λ e. same_name a e.tag) es

@@ -1,4 +1,4 @@
-//! The state of each alarm, told anew from all events.
+//! The states of alarms after an import.
 
 ghost use Rattle.std.specs.Prelude.{◌≡◌, ◌++◌, ◌∷◌, [], IfErr, IfOk, List, OnOk, Some, false, filter, if◌then◌else◌, length, map, option_to_list, slice_get, slice_set, true};
 ghost use Rattle.std.specs.List.Sorted.{IsPartitionPoint};
@@ -13,14 +13,17 @@ ghost use Rattle.plant_import.specs.Numbers.{with_events};
 ghost use Rattle.plant_model.specs.RowChanges.{state_put};
 ghost use Rattle.plant_model.specs.RowFacts.{alarm_tag};
 ghost use Rattle.plant_unit.specs.Summaries as told;
-ghost use Rattle.plant_unit.specs.Summaries.{is_named, summary_of};
+ghost use Rattle.plant_unit.specs.Summaries.{AreNamed, AreTold, is_named, summary_of};
+ghost use Rattle.plant_unit.specs.Additions.{AreAdded};
+ghost use Rattle.plant_import.specs.Needed.{needed};
 
 use plant_alarm::{Event, Summary};
 use plant_books::place_of;
-use plant_import::events_after;
+use plant_import::{events_after, has_late};
 use plant_model::{AlarmRow, Change, Row};
-use plant_types::{Duplicate, Fault, Table};
+use plant_types::{Duplicate, Fault, Table, Tag};
 use std::alloc::Global;
+use std::collections::BTreeSet;
 
 /// Brings the summary at a place forward by one more event of its alarm.
 fn add_at(summaries: &mut Table<Summary>, place: usize, event: &Event, latching: bool)
@@ -59,20 +62,65 @@ fn no_summaries(alloc: Global, alarms: &[AlarmRow]) -> Result<Table<Summary>, Fa
     Ok(summaries)
 }
 
-/// The summaries of alarms, which stand in the order of their tags, from the events of all in rising number.
-fn summaries_of(
+/// The summaries that the rows of alarms have in their columns.
+fn summaries_in(alloc: Global, alarms: &[AlarmRow]) -> Result<Table<Summary>, Fault>
+    ensures value { IfOk result (λ s. s ≡ map told.summary_in alarms.now) }
+    ensures err { IfErr result (λ e. e ≡ Memory) }
+{
+    let mut summaries = Table::new(alloc);
+    for alarm in alarms {
+        summaries.push(Summary {
+            state: alarm.state_no,
+            suppressed: alarm.suppressed,
+            active_since: alarm.active_s,
+            last_return: alarm.return_s,
+        })?;
+    }
+    Ok(summaries)
+}
+
+/// Brings the summaries of alarms, which stand in the order of their tags, forward by more events.
+fn add_events(summaries: &mut Table<Summary>, alarms: &[AlarmRow], events: &[Event])
+    ensures length { length summaries.new ≡ length summaries.old }
+    ensures value { IsInOrder name_cmp alarm_tag alarms.now → (es : List TheEvent) → summaries.old ≡ told.summaries alarms.now es → summaries.new ≡ told.summaries alarms.now (es ++ events.now) }
+{
+    for event in events {
+        add_event(summaries, alarms, event);
+    }
+}
+
+/// The summaries of alarms, told anew from their kept and their new events.
+fn told_anew(
     alloc: Global,
     alarms: &[AlarmRow],
-    events: &[Event],
+    kept: &[Event],
+    fresh: &[Event],
 ) -> Result<Table<Summary>, Fault>
     ensures length { IfOk result (λ s. length s ≡ length alarms.now) }
-    ensures value { IsInOrder name_cmp alarm_tag alarms.now → IfOk result (λ s. s ≡ told.summaries alarms.now events.now) }
+    ensures value { IsRising kept.now → IsInOrder name_cmp alarm_tag alarms.now → IfOk result (λ s. s ≡ told.summaries alarms.now (with_events kept.now fresh.now)) }
     ensures err { IfErr result (λ e. e ≡ Memory) }
 {
     let mut summaries = no_summaries(alloc, alarms)?;
-    for event in events {
-        add_event(&mut summaries, alarms, event);
-    }
+    add_events(
+        &mut summaries,
+        alarms,
+        events_after(alloc, kept, fresh)?.as_slice(),
+    );
+    Ok(summaries)
+}
+
+/// The summaries in the rows of alarms, brought forward by new events that come after all others of their alarms.
+fn told_on(alloc: Global, alarms: &[AlarmRow], fresh: &[Event]) -> Result<Table<Summary>, Fault>
+    ensures length { IfOk result (λ s. length s ≡ length alarms.now) }
+    ensures value { IsInOrder name_cmp alarm_tag alarms.now → (es : List TheEvent) → AreTold alarms.now es → IfOk result (λ s. s ≡ told.summaries alarms.now (es ++ with_events [] fresh.now)) }
+    ensures err { IfErr result (λ e. e ≡ Memory) }
+{
+    let mut summaries = summaries_in(alloc, alarms)?;
+    add_events(
+        &mut summaries,
+        alarms,
+        events_after(alloc, &[], fresh)?.as_slice(),
+    );
     Ok(summaries)
 }
 
@@ -89,61 +137,86 @@ fn with_summary(alloc: Global, alarm: &AlarmRow, summary: &Summary) -> Result<Al
     Ok(row)
 }
 
-/// Whether one of the events is the alarm's.
-fn is_named(events: &[Event], alarm: &AlarmRow) -> bool
-    ensures { result ≡ is_named events.now alarm.now }
+/// The tags of the events.
+fn tags_named(alloc: Global, events: &[Event]) -> Result<BTreeSet<Tag>, Fault>
+    ensures value { IfOk result (λ tags. AreNamed tags events.now) }
+    ensures err { IfErr result (λ e. e ≡ Memory) }
 {
-    events.iter().any(|event| alarm.tag == event.tag)
+    let mut tags = BTreeSet::new(alloc);
+    for event in events {
+        tags.insert(event.tag.copy(alloc)?)?;
+    }
+    Ok(tags)
 }
 
-/// The change of an alarm's row, where one of the new events is its own.
+/// The change of an alarm's row, where the alarm is named.
 fn alarm_change(
     alloc: Global,
-    fresh: &[Event],
+    named: &BTreeSet<Tag>,
     alarm: &AlarmRow,
     summary: &Summary,
 ) -> Result<Option<Change>, Fault>
-    ensures value { (es : List TheEvent) → summary.now ≡ summary_of es alarm.now → IfOk result (λ change. option_to_list change ≡ (if is_named fresh.now alarm.now then state_put es alarm.now ∷ [] else [])) }
+    ensures value { (es fresh : List TheEvent) → AreNamed named.now fresh → summary.now ≡ summary_of es alarm.now → IfOk result (λ change. option_to_list change ≡ (if is_named fresh alarm.now then state_put es alarm.now ∷ [] else [])) }
     ensures err { IfErr result (λ e. e ≡ Memory) }
 {
-    if !is_named(fresh, alarm) {
+    if !named.contains(&alarm.tag) {
         return Ok(None);
     }
     Ok(Some(Change::Put(Row::Alarm(with_summary(alloc, alarm, summary)?))))
 }
 
-/// Adds the changes of the alarms that the new events name.
+/// Adds the changes of the alarms that are named.
 fn push_named(
     alloc: Global,
     changes: &mut Table<Change>,
     alarms: &[AlarmRow],
     summaries: &[Summary],
-    fresh: &[Event],
+    named: &BTreeSet<Tag>,
 ) -> Result<(), Fault>
     requires { length summaries.now ≡ length alarms.now }
-    ensures value { (es : List TheEvent) → summaries.now ≡ told.summaries alarms.now es → OnOk result (changes.new ≡ changes.old ++ map (state_put es) (filter (is_named fresh.now) alarms.now)) }
+    ensures value { (es fresh : List TheEvent) → AreNamed named.now fresh → summaries.now ≡ told.summaries alarms.now es → OnOk result (changes.new ≡ changes.old ++ map (state_put es) (filter (is_named fresh) alarms.now)) }
     ensures err { IfErr result (λ e. e ≡ Memory) }
 {
     for (i, alarm) in alarms.iter().enumerate() {
-        if let Some(change) = alarm_change(alloc, fresh, alarm, &summaries[i])? {
+        if let Some(change) = alarm_change(alloc, named, alarm, &summaries[i])? {
             changes.push(change)?;
         }
     }
     Ok(())
 }
 
-/// Adds the changes of the alarms that new events name: the state of each is told anew from all its events, kept and new.
+/// The summaries of alarms after a file's new rows. They go on from those in the alarms' rows, unless a row comes late.
+fn summaries_after(
+    alloc: Global,
+    alarms: &[AlarmRow],
+    kept: &[Event],
+    rows: &[Event],
+    fresh: &[Event],
+) -> Result<Table<Summary>, Fault>
+    ensures length { IfOk result (λ s. length s ≡ length alarms.now) }
+    ensures value { IsInOrder name_cmp alarm_tag alarms.now → (es : List TheEvent) → kept.now ≡ needed es rows.now → AreAdded es rows.now fresh.now → AreTold alarms.now es → IfOk result (λ s. s ≡ told.summaries alarms.now (with_events es fresh.now)) }
+    ensures err { IfErr result (λ e. e ≡ Memory) }
+{
+    if has_late(alloc, kept, rows)? {
+        told_anew(alloc, alarms, kept, fresh)
+    } else {
+        told_on(alloc, alarms, fresh)
+    }
+}
+
+/// Adds the changes of the alarms that a file's new rows name. `kept` are the events that the file needs.
 pub fn push_alarms(
     alloc: Global,
     changes: &mut Table<Change>,
     alarms: &[AlarmRow],
     kept: &[Event],
+    rows: &[Event],
     fresh: &[Event],
 ) -> Result<(), Fault>
-    ensures value { IsRising kept.now → IsInOrder name_cmp alarm_tag alarms.now → OnOk result (changes.new ≡ changes.old ++ map (state_put (with_events kept.now fresh.now)) (filter (is_named fresh.now) alarms.now)) }
+    ensures value { IsInOrder name_cmp alarm_tag alarms.now → (es : List TheEvent) → kept.now ≡ needed es rows.now → AreAdded es rows.now fresh.now → AreTold alarms.now es → OnOk result (changes.new ≡ changes.old ++ map (state_put (with_events es fresh.now)) (filter (is_named fresh.now) alarms.now)) }
     ensures err { IfErr result (λ e. e ≡ Memory) }
 {
-    let events = events_after(alloc, kept, fresh)?;
-    let summaries = summaries_of(alloc, alarms, events.as_slice())?;
-    push_named(alloc, changes, alarms, summaries.as_slice(), fresh)
+    let summaries = summaries_after(alloc, alarms, kept, rows, fresh)?;
+    let named = tags_named(alloc, fresh)?;
+    push_named(alloc, changes, alarms, summaries.as_slice(), &named)
 }

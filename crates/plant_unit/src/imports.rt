@@ -4,15 +4,16 @@ ghost use Rattle.std.specs.Prelude.{◌≡◌, ◌≤◌, ◌+◌, ◌++◌, ◌
 ghost use Rattle.plant_types.specs.Names.{Name};
 ghost use Rattle.plant_types.specs.declared.fault.Fault.TheVariants.{Memory};
 ghost use Rattle.plant_alarm.specs.declared.event.Event.{Event as TheEvent};
-ghost use Rattle.plant_import.specs.Merging.{IsRising, fresh};
 ghost use Rattle.plant_model.specs.RowChanges as changes;
 ghost use Rattle.plant_model.specs.RowChanges.{unit_after};
-ghost use Rattle.plant_model.specs.RowFacts.{alarm_tag, facts_in, unit_read};
+ghost use Rattle.plant_model.specs.RowFacts.{alarm_tag, facts_among, unit_read};
 ghost use Rattle.plant_model.specs.declared.call.Request.TheVariants.{Import};
 ghost use Rattle.plant_model.specs.declared.reply.Reply.TheVariants.{Imported};
 ghost use Rattle.plant_model.specs.declared.rows.Change.TheVariants.{Put};
 ghost use Rattle.plant_model.specs.declared.rows.Row.TheVariants.{Event as EventPut, Unit as UnitPut};
-ghost use Rattle.plant_unit.specs.Additions.{AreKept, addition};
+ghost use Rattle.plant_types.specs.Names.{name_cmp};
+ghost use Rattle.plant_types.specs.Tables.{IsInOrder};
+ghost use Rattle.plant_unit.specs.Additions.{AreAdded, AreEventsFor, AreEventsOf, AreKept, addition};
 ghost use Rattle.plant_unit.specs.Judged.{IsJudgedOwn};
 
 use crate::alarms::push_alarms;
@@ -34,10 +35,10 @@ fn tags_of(alloc: Global, alarms: &[AlarmRow]) -> Result<Table<Tag>, Fault>
 }
 
 /// Whether so many events are too many for a unit.
-fn is_full(kept: usize, new: usize) -> bool
+fn is_full(kept: u64, new: usize) -> bool
     ensures { result ≡ nat_lt 100000 (kept + new) }
 {
-    kept > 100_000 || new > 100_000 - kept
+    kept > 100_000 || new as u64 > 100_000 - kept
 }
 
 /// The new rows of a file and the number of its repeated ones. Refused, in this order: a file whose new numbers are too
@@ -48,11 +49,11 @@ fn added(
     now: Moment,
     rows: &[Event],
 ) -> Result<Result<Merged, Refused>, Fault>
-    ensures value { AreKept part.now → IfOk result (λ added. added ≡ addition (facts_in part.now) now rows.now) }
+    ensures value { (es : List TheEvent) → AreEventsOf part.now rows.now es → IfOk result (λ added. added ≡ addition (facts_among part.now es) now rows.now) }
     ensures err { IfErr result (λ e. e ≡ Memory) }
 {
     let kept = part.rows.events.as_slice();
-    if is_full(kept.len(), count_new(alloc, kept, rows)?) {
+    if is_full(part.count, count_new(alloc, kept, rows)?) {
         return Ok(Err(Refused::UnitFull(Full::Events)));
     }
     let tags = tags_of(alloc, part.rows.alarms.as_slice())?;
@@ -82,16 +83,17 @@ fn push_events(alloc: Global, changes: &mut Table<Change>, events: &[Event]) -> 
     Ok(())
 }
 
-/// The changes of an import that adds these rows.
+/// The changes of an import of a file that adds these of its rows.
 fn import_changes(
     alloc: Global,
     unit: &UnitRow,
     part: &UnitPart,
     now: Moment,
+    rows: &[Event],
     added: &[Event],
 ) -> Result<Table<Change>, Fault>
     requires { unit_read part.now.rows ≡ unit.now }
-    ensures value { AreKept part.now → (u : Name) (rows : List TheEvent) → added.now ≡ fresh part.now.rows.events rows → IfOk result (λ cs. cs ≡ Put (UnitPut (unit_after (facts_in part.now) now (Import u (Ok rows)))) ∷ changes.import_changes (facts_in part.now) rows) }
+    ensures value { IsInOrder name_cmp alarm_tag part.now.rows.alarms → (u : Name) (es : List TheEvent) → AreEventsOf part.now rows.now es → AreAdded es rows.now added.now → IfOk result (λ cs. cs ≡ Put (UnitPut (unit_after (facts_among part.now es) now (Import u (Ok rows.now)))) ∷ changes.import_changes (facts_among part.now es) rows.now) }
     ensures err { IfErr result (λ e. e ≡ Memory) }
 {
     let mut changes = Table::new(alloc);
@@ -100,13 +102,8 @@ fn import_changes(
     changes.push(Change::Put(Row::Unit(row)))?;
     push_events(alloc, &mut changes, added)?;
     let kept = part.rows.events.as_slice();
-    push_alarms(
-        alloc,
-        &mut changes,
-        part.rows.alarms.as_slice(),
-        kept,
-        added,
-    )?;
+    let alarms = part.rows.alarms.as_slice();
+    push_alarms(alloc, &mut changes, alarms, kept, rows, added)?;
     Ok(changes)
 }
 
@@ -119,7 +116,7 @@ pub fn judge_import(
     file: &FileRead,
 ) -> Result<Verdict, Fault>
     requires { unit_read part.now.rows ≡ unit.now }
-    ensures value { AreKept part.now → (u : Name) → call.now.request ≡ Import u file.now → IfOk result (IsJudgedOwn (facts_in part.now) call.now) }
+    ensures value { AreKept part.now → (u : Name) (es : List TheEvent) → call.now.request ≡ Import u file.now → AreEventsFor part.now call.now.request es → IfOk result (IsJudgedOwn (facts_among part.now es) call.now) }
     ensures err { IfErr result (λ e. e ≡ Memory) }
 {
     let rows = match file {
@@ -131,7 +128,7 @@ pub fn judge_import(
         Ok(merged) => {
             let reply = imported(&merged);
             let fresh = merged.fresh.as_slice();
-            let changes = import_changes(alloc, unit, part, call.moment, fresh)?;
+            let changes = import_changes(alloc, unit, part, call.moment, rows, fresh)?;
             Ok(Verdict::Accepted(reply, changes))
         }
     }

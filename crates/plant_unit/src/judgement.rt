@@ -1,10 +1,12 @@
 ghost use Rattle.std.specs.Prelude.{◌≡◌, List, IfOk, IfErr, option_copied, true, false};
 ghost use Rattle.plant_types.specs.Names.{same_name};
 ghost use Rattle.plant_types.specs.declared.fault.Fault.TheVariants.{Memory};
-ghost use Rattle.plant_model.specs.RowFacts.{facts_in, unit_read};
+ghost use Rattle.plant_alarm.specs.declared.event.Event.{Event as TheEvent};
+ghost use Rattle.plant_model.specs.Refusals.{holds_some};
+ghost use Rattle.plant_model.specs.RowFacts.{facts_among, facts_in, unit_read};
 ghost use Rattle.plant_model.specs.Verdicts.{is_opening};
 ghost use Rattle.plant_model.specs.declared.call.Call.{Call};
-ghost use Rattle.plant_unit.specs.Additions.{AreKept};
+ghost use Rattle.plant_unit.specs.Additions.{AreEventsFor, AreKept};
 ghost use Rattle.plant_unit.specs.Judged.{IsJudged, IsJudgedOwn, IsOpening, IsPartOf, IsVerdictOn, is_import};
 
 use crate::changes::{changes_of, opening_changes};
@@ -39,7 +41,7 @@ fn judge_plain(
 fn judge_part(alloc: Global, unit: &UnitRow, part: &UnitPart, call: &Call) -> Result<Verdict, Fault>
     requires row { unit_read part.now.rows ≡ unit.now }
     requires plain { is_opening call.now.request ≡ false }
-    ensures value { AreKept part.now → IfOk result (IsJudged (facts_in part.now) call.now) }
+    ensures value { AreKept part.now → (es : List TheEvent) → (holds_some (facts_in part.now) call.now.moment call.now.person ≡ true → AreEventsFor part.now call.now.request es) → IfOk result (IsJudged (facts_among part.now es) call.now) }
     ensures err { IfErr result (λ e. e ≡ Memory) }
 {
     if let Some(refused) = holder_refusal(unit, part, call) {

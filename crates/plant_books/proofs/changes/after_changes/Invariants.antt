@@ -4,4 +4,8 @@ use Rattle.plant_model.specs.RowChanges.{changed_by}
 use Rattle.plant_books.proofs.changes.after_changes.Given as goal
 
 abbrev pub invariant-loop-change : goal.invariant-loop-change
-invariant-loop-change l = changed_by (drop l.change-index l.change-items) (whole l.after) ≡ changed_by l.change-items l.fn.rows
+invariant-loop-change l =
+    record {
+      value : changed_by (drop l.change-index l.change-items) (whole l.after) ≡ changed_by l.change-items l.fn.rows;
+      events : l.after.rows.events ≡ l.fn.rows.events;
+    }

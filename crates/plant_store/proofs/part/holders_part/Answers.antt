@@ -13,7 +13,13 @@ use Rattle.plant_store.specs.Keeping.{has_any}
 use Rattle.plant_columns.specs.Tables.{AreBooks, rows_seen}
 use Rattle.plant_columns.specs.Tables.Kept.{UnitKept, GrantKept, AlarmKept, ShelfKept, BandKept, CellKept, EventKept, RecordKept, ChangeKept}
 use Rattle.plant_store.specs.Wanted.{alarms_with, events_with, records_with, shelves_with}
-use Rattle.plant_store.proofs.Selected.{part_found, records_asked}
+use Rattle.plant_store.proofs.Selected.{part_found, read_in_order, records_asked}
+use Rattle.plant_columns.proofs.ShapeLaws.{good}
+use Rattle.plant_columns.specs.Tables.{event_shape}
+use Rattle.plant_tables.proofs.Shapes.{rises}
+use Rattle.plant_model.specs.RowFacts.{event_number}
+use Rattle.plant_types.specs.Tables.{IsInOrder}
+use Rattle.std.specs.Ordering.{nat_cmp}
 use Rattle.plant_store.proofs.part.holders_part.Goals as goal
 
 pub returns-clause-found : goal.returns-clause-found
@@ -63,6 +69,8 @@ returns-clause-found g c told m k units own =
     let records : c.in_ok-records.records ≡ filter (λ (r : RecordEntry). chosen.rationale r.tag) all.records =
     records_asked old m u k call c.wanted_records-recorded.result (c.wanted_records-recorded.ensures all) c.in_ok-records.records
     (c.in_ok-records.ensures.rows t6.0 b5 ∙ ap (λ (d : Database). records_with c.wanted_records-recorded.result (rows_seen u d.trees RecordKept)) e5) in
+    let all_read : c.in_ok-all_events.all_events ≡ events_with c.looks_at_events-told.result (rows_seen u old.now.trees EventKept) = c.in_ok-all_events.ensures.rows t5.0 b4 ∙ ap (λ (d : Database). events_with c.looks_at_events-told.result (rows_seen u d.trees EventKept)) e4 in
+    let in_order : IsInOrder nat_cmp event_number c.in_ok-all_events.all_events = subst (IsInOrder nat_cmp event_number) (sym all_read) (read_in_order c.looks_at_events-told.result (rows_seen u old.now.trees EventKept) (rises event_shape (good EventKept) u (old.now.trees 13) (k.books.tidy EventKept))) in
     part_found old m u k call c.args.units units
     c.wants_all_grants-all.result c.wants_all_grants-all.ensures
     c.in_ok-grants.grants (c.in_ok-grants.ensures.rows t1.0 k.books call.person own)
@@ -70,10 +78,11 @@ returns-clause-found g c told m k units own =
     c.in_ok-alarms.alarms (c.in_ok-alarms.ensures.rows t3.0 b2 ∙ ap (λ (d : Database). alarms_with c.wanted_alarms-tags.result (rows_seen u d.trees AlarmKept)) e2)
     c.wanted_shelves-shelved.result (c.wanted_shelves-shelved.ensures all crowd)
     c.in_ok-shelves.shelves (c.in_ok-shelves.ensures.rows t4.0 b3 ∙ ap (λ (d : Database). shelves_with c.wanted_shelves-shelved.result (rows_seen u d.trees ShelfKept)) e3)
-    c.wants_events-told.result c.wants_events-told.ensures
-    c.in_ok-events.events (c.in_ok-events.ensures.rows t5.0 b4 ∙ ap (λ (d : Database). events_with c.wants_events-told.result (rows_seen u d.trees EventKept)) e4)
+    c.looks_at_events-told.result c.looks_at_events-told.ensures
+    c.in_ok-all_events.all_events all_read
+    c.in_ok-events.events (c.in_ok-events.ensures in_order)
     c.in_ok-records.records records
     c.in_ok-bands.bands (c.in_ok-bands.ensures.rows t7 b6 all (sym (units ∙ k.seen u UnitKept)) ∙ ap (λ (d : Database). filter (λ (r : BandRow). chosen.matrix r.matrix_no) (rows_seen u d.trees BandKept)) e6)
     c.in_ok-cells.cells (c.in_ok-cells.ensures.rows t8 b7 all (sym (units ∙ k.seen u UnitKept)) ∙ ap (λ (d : Database). filter (λ (r : CellRow). chosen.matrix r.matrix_no) (rows_seen u d.trees CellKept)) e7)
     c.in_ok-changes.changes (c.in_ok-changes.ensures.rows t9 b8 all records ∙ ap (λ (d : Database). filter (λ (r : ChangeEntry). chosen.change r.number) (rows_seen u d.trees ChangeKept)) e8)
-    c.in_ok-count.count (λ rows h n. c.in_ok-count.ensures.rows told.0 b9 rows (h ∙ ap (λ (d : Database). rows_seen u d.trees AlarmKept) (sym e9)) (n ∙ ap (λ (d : Database). rows_seen u d.trees ChangeKept) (sym e9)))
+    c.in_ok-count.count (λ rows h n es. c.in_ok-count.ensures.rows told.0 b9 rows (h ∙ ap (λ (d : Database). rows_seen u d.trees AlarmKept) (sym e9)) (n ∙ ap (λ (d : Database). rows_seen u d.trees ChangeKept) (sym e9)) es)

@@ -10,8 +10,9 @@ use Rattle.plant_unit.specs.Summaries as summed
 use Rattle.plant_unit.proofs.alarms.alarm_change.Goals as goal
 
 pub returns-clause-value : goal.returns-clause-value
-returns-clause-value c es is =
+returns-clause-value c es fresh named is =
     let r : AlarmRow = c.args.alarm.now in
     let row : c.in_ok-with_summary.field-0 ≡ summed.with_summary r (summed.summary_of es r) = c.in_ok-with_summary.ensures.value ∙ ap (summed.with_summary r) is in
-    let named : summed.is_named c.args.fresh.now r ≡ true = search rules in
-    ap (λ (x : AlarmRow). let y : Change = Put (AlarmPut x) in y ∷ []) (row ∙ told es r) ∙ sym (ap (λ b. if b then state_put es r ∷ [] else []) named)
+    let has : c.contains.result ≡ true = search rules in
+    let own : summed.is_named fresh r ≡ true = sym (named r.tag) ∙ sym c.contains.ensures ∙ has in
+    ap (λ (x : AlarmRow). let y : Change = Put (AlarmPut x) in y ∷ []) (row ∙ told es r) ∙ sym (ap (λ b. if b then state_put es r ∷ [] else []) own)

@@ -6,4 +6,4 @@ use Rattle.plant_unit.specs.Summaries as told
 use Rattle.plant_unit.proofs.alarms.push_named.Given as goal
 
 abbrev pub invariant-loop-i : goal.invariant-loop-i
-invariant-loop-i l = (es : List Event) → l.summaries ≡ told.summaries l.alarms es → l.changes ≡ l.initial.changes ++ map (state_put es) (filter (told.is_named l.fresh) (take l.i l.alarms))
+invariant-loop-i l = (es fresh : List Event) → told.AreNamed l.named fresh → l.summaries ≡ told.summaries l.alarms es → l.changes ≡ l.initial.changes ++ map (state_put es) (filter (told.is_named fresh) (take l.i l.alarms))

@@ -1,15 +1,20 @@
-use Rattle.std.proofs.Common.{rules}
+use Rattle.std.proofs.Common.{ap, rules, sym, true, ◌∙◌, ◌≡◌}
 use Rattle.std.specs.Prelude.{Err, Ok}
-use Rattle.plant_model.specs.RowFacts.{facts_in}
-use Rattle.plant_unit.proofs.ImportsJudged.{merged_at}
+use Rattle.plant_model.specs.RowFacts.{facts_among}
+use Rattle.plant_unit.proofs.ImportsJudged.{counted_at, full_added, merged_at}
 use Rattle.plant_unit.proofs.imports.added.Goals as goal
 
 pub returns-in-Ok-clause-value : goal.returns-in-Ok-clause-value
-returns-in-Ok-clause-value c kept =
-    merged_at (facts_in c.args.part.now) c.args.now c.args.rows.now c.as_slice-kept.result.now c.as_slice-2.result.now c.in_ok-count_new.field-0 c.is_full.result c.in_ok-merged.field-0 (Ok c.in-Ok.merged) kept.events_rise (search rules)
+returns-in-Ok-clause-value c es of =
+    merged_at (facts_among c.args.part.now es) c.args.now c.args.rows.now c.as_slice-kept.result.now c.as_slice-2.result.now c.args.part.now.count c.in_ok-count_new.field-0 c.is_full.result c.in_ok-merged.field-0 (Ok c.in-Ok.merged) of.rise (c.as_slice-kept.ensures ∙ of.needed_are) of.count_is
     c.in_ok-count_new.ensures.value c.is_full.ensures (search rules) (search rules) c.in_ok-merged.ensures.value c.in-Ok.is
 
 pub returns-clause-value : goal.returns-clause-value
-returns-clause-value c kept =
-    merged_at (facts_in c.args.part.now) c.args.now c.args.rows.now c.as_slice-kept.result.now c.as_slice-2.result.now c.in_ok-count_new.field-0 c.is_full.result c.in_ok-merged.field-0 (Err c.in-Err.fault) kept.events_rise (search rules)
+returns-clause-value c es of =
+    merged_at (facts_among c.args.part.now es) c.args.now c.args.rows.now c.as_slice-kept.result.now c.as_slice-2.result.now c.args.part.now.count c.in_ok-count_new.field-0 c.is_full.result c.in_ok-merged.field-0 (Err c.in-Err.fault) of.rise (c.as_slice-kept.ensures ∙ of.needed_are) of.count_is
     c.in_ok-count_new.ensures.value c.is_full.ensures (search rules) (search rules) c.in_ok-merged.ensures.value c.in-Err.is
+
+pub returns-then-is_full-clause-value : goal.returns-then-is_full-clause-value
+returns-then-is_full-clause-value c es of =
+    let full = counted_at (facts_among c.args.part.now es) c.args.rows.now c.as_slice-kept.result.now c.args.part.now.count c.in_ok-count_new.field-0 c.is_full.result of.rise (c.as_slice-kept.ensures ∙ of.needed_are) of.count_is c.in_ok-count_new.ensures.value c.is_full.ensures in
+    sym (full_added (facts_among c.args.part.now es) c.args.now c.args.rows.now (sym full ∙ c.if-is_full.true))

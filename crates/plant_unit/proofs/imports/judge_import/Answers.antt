@@ -1,16 +1,30 @@
-use Rattle.std.proofs.Common.{ap, rules, sym, ◌∙◌, ◌≡◌}
+use Rattle.std.proofs.Common.{ap, rules, subst, sym, ◌∙◌, ◌≡◌}
 use Rattle.std.specs.Prelude.{Ok}
-use Rattle.plant_model.specs.RowFacts.{facts_in}
+use Rattle.plant_model.specs.RowFacts.{facts_among}
 use Rattle.plant_model.specs.declared.call.Request.TheVariants.{Import}
-use Rattle.plant_unit.proofs.ImportsJudged.{import_fresh, import_judged}
-use Rattle.plant_unit.specs.Additions.{addition}
+use Rattle.plant_model.specs.declared.call.Request.{Request}
+use Rattle.plant_unit.proofs.ImportsJudged.{file_refused, import_added, import_judged, import_refused}
+use Rattle.plant_unit.specs.Additions.{AreAdded, AreEventsFor, AreEventsOf, addition}
 use Rattle.plant_unit.proofs.imports.judge_import.Goals as goal
 
 pub returns-in_ok-changes-in-Ok-2-clause-value : goal.returns-in_ok-changes-in-Ok-2-clause-value
-returns-in_ok-changes-in-Ok-2-clause-value c kept u e =
+returns-in_ok-changes-in-Ok-2-clause-value c kept u es e seen =
     let rows = c.as_slice-rows.result.now in
+    let f = facts_among c.args.part.now es in
+    let t = c.args.call.now.moment in
     let file : c.args.file.now ≡ Ok rows = search rules in
-    let adds : Ok c.in-Ok-2.merged ≡ addition (facts_in c.args.part.now) c.args.call.now.moment rows = sym c.in-Ok-2.is ∙ c.in_ok-refused.ensures.value kept in
-    let fresh = c.as_slice-fresh.ensures ∙ import_fresh (facts_in c.args.part.now) c.args.call.now.moment rows c.in-Ok-2.merged adds in
-    import_judged (facts_in c.args.part.now) c.args.call.now u rows c.in-Ok-2.merged c.imported-reply.result c.in_ok-changes-in-Ok-2.changes (e ∙ ap (Import u) file) adds c.imported-reply.ensures
-    (c.in_ok-changes-in-Ok-2.ensures.value kept u rows fresh)
+    let request : c.args.call.now.request ≡ Import u (Ok rows) = e ∙ ap (Import u) file in
+    let of : AreEventsOf c.args.part.now rows es = subst (λ (q : Request). AreEventsFor c.args.part.now q es) request seen in
+    let is : Ok c.in-Ok-2.merged ≡ addition f t rows = sym c.in-Ok-2.is ∙ c.in_ok-refused.ensures.value es of in
+    let new : AreAdded es rows c.as_slice-fresh.result.now = subst (AreAdded es rows) (sym c.as_slice-fresh.ensures) (import_added f t rows c.in-Ok-2.merged of.rise is) in
+    import_judged f c.args.call.now u rows c.in-Ok-2.merged c.imported-reply.result c.in_ok-changes-in-Ok-2.changes request is c.imported-reply.ensures
+    (c.in_ok-changes-in-Ok-2.ensures.value kept.alarms_in_order u es of new)
+
+pub returns-in-Err-2-clause-value : goal.returns-in-Err-2-clause-value
+returns-in-Err-2-clause-value c kept u es e seen =
+    let rows = c.as_slice-rows.result.now in
+    let f = facts_among c.args.part.now es in
+    let file : c.args.file.now ≡ Ok rows = search rules in
+    let request : c.args.call.now.request ≡ Import u (Ok rows) = e ∙ ap (Import u) file in
+    let of : AreEventsOf c.args.part.now rows es = subst (λ (q : Request). AreEventsFor c.args.part.now q es) request seen in
+    import_refused f c.args.call.now u rows c.in-Err-2.refused request (sym c.in-Err-2.is ∙ c.in_ok-refused.ensures.value es of)

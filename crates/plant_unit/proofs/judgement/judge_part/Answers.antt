@@ -1,18 +1,29 @@
-use Rattle.std.proofs.Common.{rules, sym, ◌∙◌}
-use Rattle.plant_model.specs.RowFacts.{facts_in}
-use Rattle.plant_unit.proofs.ImportsJudged.{own_result, refused_judged}
+use Rattle.std.proofs.Common.{None, ap, false, rules, sym, true, ◌∙◌, ◌≡◌}
+use Rattle.plant_model.specs.Refusals.{holds_some}
+use Rattle.plant_model.specs.RowFacts.{facts_among, facts_in}
+use Rattle.plant_unit.proofs.ImportsJudged.{holder_holds, own_result, refused_judged}
+use Rattle.plant_unit.proofs.JudgedLaws.{judged_among}
+use Rattle.plant_unit.specs.Judged.{is_import}
 use Rattle.plant_unit.proofs.judgement.judge_part.Goals as goal
 
 pub returns-in-Some-clause-value : goal.returns-in-Some-clause-value
-returns-in-Some-clause-value c kept = refused_judged (facts_in c.args.part.now) c.args.call.now c.in-Some.refused (sym c.holder_refusal.ensures ∙ c.in-Some.is)
+unfolding holds_some
+returns-in-Some-clause-value c kept es seen = refused_judged (facts_among c.args.part.now es) c.args.call.now c.in-Some.refused (sym c.holder_refusal.ensures ∙ c.in-Some.is)
 
 pub returns-in-Import-clause-value : goal.returns-in-Import-clause-value
-returns-in-Import-clause-value c kept =
-    own_result (facts_in c.args.part.now) c.args.call.now c.judge_import.result c.holder_refusal.result c.holder_refusal.ensures (search rules) (c.judge_import.ensures.value kept c.in-Import.unit c.in-Import.is)
+unfolding holds_some
+returns-in-Import-clause-value c kept es seen =
+    let none : c.holder_refusal.result ≡ None = search rules in
+    own_result (facts_among c.args.part.now es) c.args.call.now c.judge_import.result c.holder_refusal.result c.holder_refusal.ensures none
+    (c.judge_import.ensures.value kept c.in-Import.unit es c.in-Import.is (seen (holder_holds (facts_in c.args.part.now) c.args.call.now c.holder_refusal.result c.holder_refusal.ensures none)))
 
 pub returns-in_default-request : goal.returns-in_default-request
 returns-in_default-request c =
     record {
-      value = λ kept. own_result (facts_in c.args.part.now) c.args.call.now c.judge_plain.result c.holder_refusal.result c.holder_refusal.ensures (search rules) (c.judge_plain.ensures.value kept);
+      value = λ kept es seen.
+          let none : c.holder_refusal.result ≡ None = search rules in
+          let plain : is_import c.args.call.now.request ≡ false = search rules in
+          judged_among c.args.part.now es c.args.call.now c.judge_plain.result plain (seen (holder_holds (facts_in c.args.part.now) c.args.call.now c.holder_refusal.result c.holder_refusal.ensures none))
+          (own_result (facts_in c.args.part.now) c.args.call.now c.judge_plain.result c.holder_refusal.result c.holder_refusal.ensures none (c.judge_plain.ensures.value kept));
       err = c.judge_plain.ensures.err;
     }

@@ -19,8 +19,8 @@ returns-in-Ok-clause-made g c = λ m h known.
           let old = h.copied (c.apply.ensures.told told) in
           let it = taken_there u (get m.units) c.args.self.now.copies.units.entries (c.in-Some.unit, rows) old c.in-Some.ensures.taken in
           let rest = c.take.ensures.rest (get m.units) (get after.units) (others_stay m u cs) old in
-          let there = changed_there m u cs rows changed it.1 c.in-Ok.ensures.value in
-          let order = subst AreInOrder (sym c.in-Ok.ensures.value) (changed_in_order cs rows it.2) in
+          let there = changed_there m u cs rows changed it.1 (c.in-Ok.ensures.value it.2) in
+          let order = subst AreInOrder (sym (c.in-Ok.ensures.value it.2)) (changed_in_order cs rows it.2) in
           c.keep.ensures.kept (get after.units) (subst (λ v. get after.units v ≡ Some changed) it.0 there) order rest;
     }
 

@@ -1,0 +1,44 @@
+-- The kept events that a file is seen beside. A row meets its fault, or is told to be kept already, by its neighbours among the
+-- numbers; the state of an alarm goes on from the last of its events, as long as no new row comes before that one.
+use Rattle.plant_alarm.specs.declared.event.Event.{Event}
+use Rattle.plant_import.specs.Merging.{IsRising, first_fault, fresh, merge}
+use Rattle.plant_import.specs.Numbers.{has_number, with_events}
+use Rattle.plant_types.specs.Names.{Name, same_name}
+use Rattle.std.specs.List.{list_all, list_any}
+use Rattle.std.specs.Prelude.{Bool, List, None, [], drop, false, filter, if◌then◌else◌, length, nat_lt, not, ℕ, ◌&&◌, ◌++◌, ◌-◌, ◌≡◌}
+
+-- the event has a smaller number than every row
+abbrev pub is_before_all : List Event → Event → Bool
+is_before_all rows k = list_all (λ e. nat_lt k.seq e.seq) rows
+
+-- the events in rising number without those before every row, but for the last of these
+abbrev pub from_last_before : List Event → List Event → List Event
+from_last_before kept rows = drop (length (filter (is_before_all rows) kept) - 1) kept
+
+-- an event of the same alarm has a greater number
+abbrev pub is_overtaken : List Event → Event → Bool
+is_overtaken kept e = list_any (λ k. same_name e.tag k.tag && nat_lt e.seq k.seq) kept
+
+-- the row's number is new, and an event of its alarm has a greater one
+abbrev pub is_late : List Event → Event → Bool
+is_late kept e = is_overtaken kept e && not (list_any (has_number e.seq) kept)
+
+abbrev pub has_late : List Event → List Event → Bool
+has_late kept rows = list_any (is_late kept) rows
+
+-- where a row comes late, the states of alarms are told anew from all events
+abbrev pub needed : List Event → List Event → List Event
+needed kept rows = if has_late kept rows then kept else from_last_before kept rows
+
+-- beside the events that it needs, a file has the same first fault and adds the same rows as beside all
+abbrev pub NeededSuffice : Type 0
+NeededSuffice = (kept rows : List Event) (tags : List Name) (now : ℕ) → IsRising kept → merge (needed kept rows) rows tags now ≡ merge kept rows tags now
+
+-- where no row of a file without fault comes late, the events of an alarm after it are the kept ones, and then the new ones
+abbrev pub NewOnesFollow : Type 0
+NewOnesFollow =
+    (a : Name) (kept rows : List Event) (tags : List Name) (now : ℕ)
+    → IsRising kept
+    → first_fault tags now 2 kept rows ≡ None
+    → has_late kept rows ≡ false
+    → filter (λ e. same_name a e.tag) (with_events kept (fresh kept rows)) ≡ filter (λ e. same_name a e.tag) kept ++ filter (λ e. same_name a e.tag) (with_events [] (fresh kept rows))
