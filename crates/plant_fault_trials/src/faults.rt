@@ -111,8 +111,8 @@ fn serves_at_hand<B: Books + Drop>(
     hold_the_same(rt, &mut below, &mut theirs, &wanted.units, "below");
 }
 
-/// Makes the calls in one run, and gives their answers and our books. Where there is no room for the answers, our books must hold
-/// what they held, and the run is made again.
+/// Makes the calls in one run and returns their answers and our books. If there is no memory for the answers, our books must be
+/// unchanged; the run is then made again.
 fn our_run<B: Books + Drop>(
     rt: &(impl Abort + AllocGlobal + Eprint),
     ours: B,

@@ -1,4 +1,4 @@
--- A file seen beside the events that it needs.
+-- The events that a file needs give the same result as all events.
 use Rattle.std.proofs.Common.{ap, append-nil, append_assoc, arith, drop, get_or, length-append, refl, subst, suc, sym, take, zero, ◌∙◌, ◌⊎◌, inl, inr}
 use Rattle.std.proofs.lemmas.Bool.{cases_lt, le-ltb, lt-ltb, ltb-false, ltb-true}
 use Rattle.std.proofs.lemmas.List.Folds.{list_any-append}
@@ -153,7 +153,7 @@ cut rows kept h = by (length (filter (is_before_all rows) kept)) refl where
   by zero e = whole_cut rows kept
   by (suc n) e = let at : n ≡ suc n - 1 = omega arith in subst (λ k. AreCut rows kept (drop k kept)) at (leads rows kept n (rising_of kept h) e).0
 
--- a row is told alike beside the kept events and beside the near ones
+-- each test of a row gives the same result on the kept events and on the near ones
 pub record SeenSame (kept near : List Event) (e : Event) : Type 0 where
   pub same : list_any (same_event e) kept ≡ list_any (same_event e) near
   pub clash : list_any (clashes e) kept ≡ list_any (clashes e) near
@@ -207,7 +207,7 @@ all_seen rows kept near c =
           rows (all_lower rows c.pre c.low) (above_all rows led.first led.before)
     ])
 
--- the first fault, the new rows and the new numbers of rows that are told alike
+-- rows on which these tests agree have the same first fault, new rows and new numbers
 with_seen : (p : Event → Bool) (kept near before : List Event) → list_any p kept ≡ list_any p near → list_any p (kept ++ before) ≡ list_any p (near ++ before)
 with_seen p kept near before h = list_any-append p kept before ∙ ap (λ b. b || list_any p before) h ∙ sym (list_any-append p near before)
 

@@ -1,5 +1,5 @@
--- The kept events that a file is seen beside. A row meets its fault, or is told to be kept already, by its neighbours among the
--- numbers; the state of an alarm goes on from the last of its events, as long as no new row comes before that one.
+-- The kept events that an import needs. A row's neighbours by number show whether it is faulty, and whether it is kept already. An
+-- alarm's state can be brought forward from its last event, as long as no new row has a smaller number than that event.
 use Rattle.plant_alarm.specs.declared.event.Event.{Event}
 use Rattle.plant_import.specs.Merging.{IsRising, first_fault, fresh, merge}
 use Rattle.plant_import.specs.Numbers.{has_number, with_events}
@@ -11,7 +11,7 @@ use Rattle.std.specs.Prelude.{Bool, List, None, [], drop, false, filter, if◌th
 abbrev pub is_before_all : List Event → Event → Bool
 is_before_all rows k = list_all (λ e. nat_lt k.seq e.seq) rows
 
--- the events in rising number without those before every row, but for the last of these
+-- the events, in rising number, from the last one that comes before every row on; all where none does
 abbrev pub from_last_before : List Event → List Event → List Event
 from_last_before kept rows = drop (length (filter (is_before_all rows) kept) - 1) kept
 
@@ -26,15 +26,15 @@ is_late kept e = is_overtaken kept e && not (list_any (has_number e.seq) kept)
 abbrev pub has_late : List Event → List Event → Bool
 has_late kept rows = list_any (is_late kept) rows
 
--- where a row comes late, the states of alarms are told anew from all events
+-- all events where a row is late, since states are then computed again from all of them
 abbrev pub needed : List Event → List Event → List Event
 needed kept rows = if has_late kept rows then kept else from_last_before kept rows
 
--- beside the events that it needs, a file has the same first fault and adds the same rows as beside all
+-- with the events that it needs, a file has the same first fault and adds the same rows as with all events
 abbrev pub NeededSuffice : Type 0
 NeededSuffice = (kept rows : List Event) (tags : List Name) (now : ℕ) → IsRising kept → merge (needed kept rows) rows tags now ≡ merge kept rows tags now
 
--- where no row of a file without fault comes late, the events of an alarm after it are the kept ones, and then the new ones
+-- if a file has no fault and no late row, an alarm's events after it are its kept events followed by its new ones
 abbrev pub NewOnesFollow : Type 0
 NewOnesFollow =
     (a : Name) (kept rows : List Event) (tags : List Name) (now : ℕ)

@@ -1,4 +1,4 @@
-//! The kept events that a file is seen beside.
+//! The kept events that an import needs.
 
 ghost use Rattle.std.specs.Prelude.{◌≡◌, ◌≤◌, IfErr, IfOk, List, filter, length};
 ghost use Rattle.plant_alarm.specs.declared.event.Event.{Event as TheEvent};
