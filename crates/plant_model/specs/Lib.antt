@@ -1,3 +1,4 @@
+pub mod Kinds
 pub mod Histories
 pub mod Grants
 pub mod Changes

@@ -3,9 +3,12 @@ use Rattle.plant_alarm.specs.declared.event.Event.{Event}
 use Rattle.plant_import.specs.Needed.{needed}
 use Rattle.plant_model.specs.Events.{rows_of_file}
 use Rattle.plant_model.specs.Histories.{same_number}
+use Rattle.plant_model.specs.Kinds.{count_of, kind_of}
+use Rattle.plant_model.specs.declared.kinds.Counted.{Counted}
+use Rattle.plant_model.specs.declared.kinds.Counted.TheVariants.{Alarms as AlarmsCounted, Changes as ChangesCounted, Events as EventsCounted, Nothing}
 use Rattle.plant_model.specs.RowChanges.{no_rows}
 use Rattle.plant_model.specs.RowFacts.{holds_by, last_number, unit_read}
-use Rattle.plant_model.specs.declared.call.Request.TheVariants.{Approve, ChangeOf, Propose, RecordOf, Reject, WithdrawChange}
+use Rattle.plant_model.specs.declared.call.Request.TheVariants.{Alarms, Approve, ChangeOf, Floods, Grant, Import, MyShelves, MyUnits, OneShotShelve, OpenUnit, PlaceInService, Propose, RecordOf, Register, Reject, RemoveFromService, Shelves, Standing, Status, TimedShelve, Unshelve, Withdraw, WithdrawChange}
 use Rattle.plant_ration.specs.declared.change.ChangeKind.{ChangeKind}
 use Rattle.plant_ration.specs.declared.change.ChangeKind.TheVariants.{Limit, Matrix, Rationale}
 use Rattle.std.specs.List.{list_any}
@@ -13,7 +16,6 @@ use Rattle.std.specs.Prelude.{max, ◌&&◌}
 use Rattle.plant_model.specs.RowFacts.{pair_of}
 use Rattle.plant_model.specs.declared.call.Call.{Call}
 use Rattle.plant_model.specs.declared.call.Request.{Request}
-use Rattle.plant_model.specs.declared.call.Request.TheVariants.{Alarms, Floods, Grant, Import, OneShotShelve, PlaceInService, Register, RemoveFromService, Shelves, Standing, Status, TimedShelve, Unshelve, Withdraw}
 use Rattle.plant_model.specs.declared.rows.UnitPart.{UnitPart}
 use Rattle.plant_model.specs.declared.rows.UnitRows.{UnitRows}
 use Rattle.plant_types.specs.Names.{Name, same_name}
@@ -111,14 +113,19 @@ selected rows (Alarms u) = all_alarms
 selected rows (Shelves u) = all_shelves
 selected rows (Standing u) = all_alarms
 selected rows (Floods u begin until) = record nothing { events = all_events }
-selected rows _ = nothing
+selected rows (OpenUnit u s m q) = nothing
+selected rows MyUnits = nothing
+selected rows MyShelves = nothing
 
 -- how many alarms or events there are, or the number of the last change, for the calls that need it
+abbrev pub counted : Counted → UnitRows → ℕ
+counted Nothing rows = 0
+counted AlarmsCounted rows = length rows.alarms
+counted EventsCounted rows = length rows.events
+counted ChangesCounted rows = last_number rows.changes
+
 abbrev pub counted_for : UnitRows → Request → ℕ
-counted_for rows (Register u a l m) = length rows.alarms
-counted_for rows (Import u file) = length rows.events
-counted_for rows (Propose u x) = last_number rows.changes
-counted_for rows _ = 0
+counted_for rows r = counted (count_of (kind_of r)) rows
 
 abbrev pub rows_selected : Name → Selection → UnitRows → UnitRows
 rows_selected p s rows =

@@ -1,7 +1,7 @@
 -- The refusals of a call on a unit, each with its condition, in their order. Results of shelving are named as in OPC 10000-9.
 use Rattle.plant_model.specs.Facts.{limit_revision_of}
 use Rattle.plant_model.specs.Histories.{same_number}
-use Rattle.plant_model.specs.declared.call.Request.TheVariants.{Approve, ChangeOf, Propose, RecordOf, Reject, WithdrawChange}
+use Rattle.plant_model.specs.declared.call.Request.TheVariants.{Alarms, Approve, ChangeOf, Floods, Grant, Import, MyShelves, MyUnits, OneShotShelve, OpenUnit, PlaceInService, Propose, RecordOf, Register, Reject, RemoveFromService, Shelves, Standing, Status, TimedShelve, Unshelve, Withdraw, WithdrawChange}
 use Rattle.plant_model.specs.declared.reply.ChangeRow.{ChangeRow}
 use Rattle.plant_model.specs.declared.reply.Full.TheVariants.{Changes as TooManyChanges}
 use Rattle.plant_model.specs.declared.reply.Refused.TheVariants.{BaseChanged, ChangeUnknown, NotAnAlarm, NotProposed, NotProposer, OutsideMatrix, RecordUnknown, SamePerson}
@@ -27,7 +27,7 @@ use Rattle.plant_model.specs.Grants.{is_before}
 use Rattle.plant_model.specs.RowFacts.{alarm_tag}
 use Rattle.plant_model.specs.declared.call.Call.{Call}
 use Rattle.plant_model.specs.declared.call.Request.{Request}
-use Rattle.plant_model.specs.declared.call.Request.TheVariants.{Floods, Grant, Import, OneShotShelve, PlaceInService, Register, RemoveFromService, Status, TimedShelve, Unshelve, Withdraw}
+pub use Rattle.plant_model.specs.Kinds.{role_needed}
 use Rattle.plant_model.specs.declared.reply.Full.TheVariants.{Alarms as TooManyAlarms, Events as TooManyEvents, Grants as TooManyGrants}
 use Rattle.plant_model.specs.declared.reply.Refused.{Refused}
 use Rattle.plant_model.specs.declared.reply.Refused.TheVariants.{AlarmTaken, AlarmUnknown, AlreadyHeld, AlreadyOutOfService, BadFile as FileRefused, ConditionAlreadyShelved, ConditionNotShelved, EndNotAhead, LastSteward, MomentBehind, NotGranted, NotHeld, NotOutOfService, RangeNotAligned, RoleLacking, ShelfQuota, ShelvingTimeOutOfRange, UnitFull}
@@ -37,23 +37,6 @@ use Rattle.plant_types.specs.declared.role.Role.{Role}
 use Rattle.plant_types.specs.declared.role.Role.TheVariants.{Engineer, Maintainer, Operator, Steward}
 use Rattle.std.specs.List.{list_any}
 use Rattle.std.specs.Prelude.{Bool, Err, List, None, Ok, Option, Result, Some, [], if◌then◌else◌, is_none, is_some, length, map, nat_le, nat_lt, not, true, ℕ, ◌&&◌, ◌++◌, ◌+◌, ◌∷◌}
-
--- the role that a request needs, where it needs one in particular
-abbrev pub role_needed : Request → Option Role
-role_needed (Grant u p t) = Some Steward
-role_needed (Withdraw u p r) = Some Steward
-role_needed (Register u a l m) = Some Engineer
-role_needed (Import u file) = Some Operator
-role_needed (TimedShelve u a d w) = Some Operator
-role_needed (OneShotShelve u a w) = Some Operator
-role_needed (Unshelve u a) = Some Operator
-role_needed (RemoveFromService u a w) = Some Maintainer
-role_needed (PlaceInService u a) = Some Maintainer
-role_needed (Propose u x) = Some Engineer
-role_needed (WithdrawChange u n) = Some Engineer
-role_needed (Approve u n) = Some Approver
-role_needed (Reject u n) = Some Approver
-role_needed _ = None
 
 -- no alarm has this tag
 abbrev pub unknown : Facts → Name → Bool × Refused
@@ -126,7 +109,12 @@ own_refusals f p t (Status u a) = unknown f a ∷ []
 own_refusals f p t (RecordOf u a) = unknown f a ∷ (is_none (f.rationale a), RecordUnknown) ∷ []
 own_refusals f p t (ChangeOf u n) = (is_none (f.change n), ChangeUnknown) ∷ []
 own_refusals f p t (Floods u begin until) = (not (is_aligned begin until), RangeNotAligned) ∷ []
-own_refusals f p t _ = []
+own_refusals f p t (OpenUnit u s m q) = []
+own_refusals f p t (Shelves u) = []
+own_refusals f p t (Alarms u) = []
+own_refusals f p t (Standing u) = []
+own_refusals f p t MyUnits = []
+own_refusals f p t MyShelves = []
 
 abbrev pub lacks_role : Facts → ℕ → Name → Option Role → List (Bool × Refused)
 lacks_role f t p None = []

@@ -1,6 +1,6 @@
 -- The replies to accepted calls.
 use Rattle.plant_model.specs.Shelves.{shelf}
-use Rattle.plant_model.specs.declared.call.Request.TheVariants.{ChangeOf, Propose, RecordOf}
+use Rattle.plant_model.specs.declared.call.Request.TheVariants.{Alarms, Approve, ChangeOf, Floods, Grant, Import, MyShelves, MyUnits, OneShotShelve, OpenUnit, PlaceInService, Propose, RecordOf, Register, Reject, RemoveFromService, Shelves, Standing, Status, TimedShelve, Unshelve, Withdraw, WithdrawChange}
 use Rattle.plant_model.specs.declared.reply.ChangeRow.{ChangeRow}
 use Rattle.plant_model.specs.declared.reply.RecordRow.{RecordRow}
 use Rattle.plant_model.specs.declared.reply.Reply.TheVariants.{ChangeOf as ChangeReply, Number, RecordOf as RecordReply}
@@ -14,7 +14,6 @@ use Rattle.plant_model.specs.Events.{flood_lines, rows_of_file}
 use Rattle.plant_model.specs.Facts.{Facts, returned, shelf_now}
 use Rattle.plant_model.specs.Shelves.{shelf_left}
 use Rattle.plant_model.specs.declared.call.Request.{Request}
-use Rattle.plant_model.specs.declared.call.Request.TheVariants.{Alarms, Floods, Import, Shelves, Standing, Status}
 use Rattle.plant_model.specs.declared.reply.AlarmLine.{AlarmLine}
 use Rattle.plant_model.specs.declared.reply.Reply.{Reply}
 use Rattle.plant_model.specs.declared.reply.Reply.TheVariants.{Alarms as AlarmsOf, Done, Floods as FloodsOf, Imported, Shelves as ShelvesOf, Standing as StandingOf, Status as StatusOf}
@@ -100,4 +99,17 @@ reply f t (Shelves u) = ShelvesOf u t (shelf_lines f t)
 reply f t (Alarms u) = AlarmsOf u t (alarm_lines f t)
 reply f t (Standing u) = StandingOf u t (standing_lines f t)
 reply f t (Floods u begin until) = FloodsOf u begin until (flood_lines f.events begin until)
-reply f t _ = Done
+reply f t (OpenUnit u s m q) = Done
+reply f t (Grant u q r) = Done
+reply f t (Withdraw u q r) = Done
+reply f t (Register u a l m) = Done
+reply f t (TimedShelve u a d w) = Done
+reply f t (OneShotShelve u a w) = Done
+reply f t (Unshelve u a) = Done
+reply f t (RemoveFromService u a w) = Done
+reply f t (PlaceInService u a) = Done
+reply f t (WithdrawChange u n) = Done
+reply f t (Approve u n) = Done
+reply f t (Reject u n) = Done
+reply f t MyUnits = Done
+reply f t MyShelves = Done

@@ -2,7 +2,7 @@
 use Rattle.plant_model.specs.Changes.{change_as, priority_by}
 use Rattle.plant_model.specs.RowFacts.{change_number, record_tag}
 use Rattle.plant_model.specs.Rows.{change_entry}
-use Rattle.plant_model.specs.declared.call.Request.TheVariants.{Approve, Propose, Reject, WithdrawChange}
+use Rattle.plant_model.specs.declared.call.Request.TheVariants.{Alarms, Approve, ChangeOf, Floods, Grant, Import, MyShelves, MyUnits, OneShotShelve, OpenUnit, PlaceInService, Propose, RecordOf, Register, Reject, RemoveFromService, Shelves, Standing, Status, TimedShelve, Unshelve, Withdraw, WithdrawChange}
 use Rattle.plant_model.specs.declared.reply.ChangeRow.{ChangeRow}
 use Rattle.plant_model.specs.declared.reply.RecordRow.{RecordRow}
 use Rattle.plant_model.specs.declared.rows.RecordEntry.{RecordEntry}
@@ -25,7 +25,6 @@ use Rattle.plant_model.specs.Rows.{alarm_as, grant_as}
 use Rattle.plant_model.specs.Shelves.{shelf_row_as}
 use Rattle.plant_model.specs.declared.call.Call.{Call}
 use Rattle.plant_model.specs.declared.call.Request.{Request}
-use Rattle.plant_model.specs.declared.call.Request.TheVariants.{Grant, Import, OneShotShelve, OpenUnit, PlaceInService, Register, RemoveFromService, TimedShelve, Unshelve, Withdraw}
 use Rattle.plant_model.specs.declared.rows.AlarmRow.{AlarmRow}
 use Rattle.plant_model.specs.declared.rows.Change.{Change}
 use Rattle.plant_model.specs.declared.rows.Change.TheVariants.{Put, Remove}
@@ -165,7 +164,15 @@ own_changes f p t (Propose u x) = Put (ChangePut (change_entry (change_as (f.cha
 own_changes f p t (WithdrawChange u n) = for_change (f.change n) (λ c. decision_change Withdrawn p t c ∷ [])
 own_changes f p t (Approve u n) = for_change (f.change n) (approval_changes f p t)
 own_changes f p t (Reject u n) = for_change (f.change n) (λ c. decision_change Rejected p t c ∷ [])
-own_changes f p t _ = []
+own_changes f p t (Status u a) = []
+own_changes f p t (RecordOf u a) = []
+own_changes f p t (ChangeOf u n) = []
+own_changes f p t (Shelves u) = []
+own_changes f p t (Alarms u) = []
+own_changes f p t (Standing u) = []
+own_changes f p t (Floods u begin until) = []
+own_changes f p t MyUnits = []
+own_changes f p t MyShelves = []
 
 -- the unit's row after the call: its last moment, and the matrix in force
 abbrev pub kind_row : ℕ → UnitRow → ℕ → ChangeKind → UnitRow

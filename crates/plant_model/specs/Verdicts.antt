@@ -1,11 +1,9 @@
 -- What a unit answers to a call: the first refusal whose condition holds, else the reply.
-use Rattle.plant_model.specs.declared.call.Request.TheVariants.{ChangeOf, RecordOf}
 use Rattle.plant_model.specs.Facts.{Facts, facts}
 use Rattle.plant_model.specs.Refusals.{first_refusal, refusals}
 use Rattle.plant_model.specs.Replies.{reply}
 use Rattle.plant_model.specs.declared.call.Call.{Call}
-use Rattle.plant_model.specs.declared.call.Request.{Request}
-use Rattle.plant_model.specs.declared.call.Request.TheVariants.{Alarms, Floods, MyShelves, MyUnits, OpenUnit, Shelves, Standing, Status}
+pub use Rattle.plant_model.specs.Kinds.{is_opening, is_read}
 use Rattle.plant_model.specs.declared.reply.Refused.{Refused}
 use Rattle.plant_model.specs.declared.reply.Reply.{Reply}
 use Rattle.std.specs.Prelude.{Bool, Err, List, None, Ok, Option, Result, Some, false, if◌then◌else◌, is_ok, not, true, ◌&&◌, ◌∷◌}
@@ -21,18 +19,6 @@ verdict_of f c = refused_or (first_refusal (refusals f c)) (reply f c.moment c.r
 abbrev pub verdict : List Call → Call → Result Reply Refused
 verdict h c = verdict_of (facts h) c
 
-abbrev pub is_read : Request → Bool
-is_read (Status u a) = true
-is_read (RecordOf u a) = true
-is_read (ChangeOf u n) = true
-is_read (Shelves u) = true
-is_read (Alarms u) = true
-is_read (Standing u) = true
-is_read (Floods u begin until) = true
-is_read MyUnits = true
-is_read MyShelves = true
-is_read _ = false
-
 -- an accepted call that is no read is an entry of the history
 abbrev pub changes_history : Result Reply Refused → Call → Bool
 changes_history v c = is_ok v && not (is_read c.request)
@@ -40,7 +26,3 @@ changes_history v c = is_ok v && not (is_read c.request)
 -- the history after a call: an accepted changing call is put at its front
 abbrev pub after : List Call → Call → List Call
 after h c = if changes_history (verdict h c) c then c ∷ h else h
-
-abbrev pub is_opening : Request → Bool
-is_opening (OpenUnit u s m q) = true
-is_opening _ = false

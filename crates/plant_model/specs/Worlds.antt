@@ -1,5 +1,5 @@
 -- The office: an administrator, and for each opened unit its history.
-use Rattle.plant_model.specs.declared.call.Request.TheVariants.{Approve, ChangeOf, Propose, RecordOf, Reject, WithdrawChange}
+pub use Rattle.plant_model.specs.Kinds.{unit_named}
 use Rattle.plant_model.specs.Facts.{facts}
 use Rattle.plant_model.specs.Grants.{holds_any, roles_held}
 use Rattle.plant_model.specs.Histories.{last_moment}
@@ -8,7 +8,7 @@ use Rattle.plant_model.specs.Replies.{shelf_lines}
 use Rattle.plant_model.specs.Verdicts.{changes_history, is_opening, verdict}
 use Rattle.plant_model.specs.declared.call.Call.{Call}
 use Rattle.plant_model.specs.declared.call.Request.{Request}
-use Rattle.plant_model.specs.declared.call.Request.TheVariants.{Alarms, Floods, Grant, Import, MyShelves, MyUnits, OneShotShelve, OpenUnit, PlaceInService, Register, RemoveFromService, Shelves, Standing, Status, TimedShelve, Unshelve, Withdraw}
+use Rattle.plant_model.specs.declared.call.Request.TheVariants.{MyShelves}
 use Rattle.plant_model.specs.declared.reply.MineLine.{MineLine}
 use Rattle.plant_model.specs.declared.reply.Refused.{Refused}
 use Rattle.plant_model.specs.declared.reply.Refused.TheVariants.{MomentBehind, NotAdministrator, UnitTaken}
@@ -29,32 +29,6 @@ pub record World : Type 0 where
 -- the history of a unit, empty where the code was never opened
 abbrev pub history : World → Name → List Call
 history w u = unwrap_or (get w.units u) []
-
--- the unit that a request names
-abbrev pub unit_named : Request → Option Name
-unit_named (OpenUnit u s m q) = Some u
-unit_named (Grant u p t) = Some u
-unit_named (Withdraw u p r) = Some u
-unit_named (Register u a l max) = Some u
-unit_named (Import u file) = Some u
-unit_named (TimedShelve u a d words) = Some u
-unit_named (OneShotShelve u a words) = Some u
-unit_named (Unshelve u a) = Some u
-unit_named (RemoveFromService u a words) = Some u
-unit_named (PlaceInService u a) = Some u
-unit_named (Propose u x) = Some u
-unit_named (WithdrawChange u n) = Some u
-unit_named (Approve u n) = Some u
-unit_named (Reject u n) = Some u
-unit_named (Status u a) = Some u
-unit_named (RecordOf u a) = Some u
-unit_named (ChangeOf u n) = Some u
-unit_named (Shelves u) = Some u
-unit_named (Alarms u) = Some u
-unit_named (Standing u) = Some u
-unit_named (Floods u begin until) = Some u
-unit_named MyUnits = None
-unit_named MyShelves = None
 
 -- a unit with its history, where the person holds a role in it at the moment
 abbrev pub unit_seen : World → ℕ → Name → Name → Option (Name × List Call)

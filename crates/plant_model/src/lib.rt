@@ -4,11 +4,13 @@
 
 mod call;
 mod copies;
+mod kinds;
 pub mod laws;
 mod reply;
 mod rows;
 
 pub use call::{Call, Request};
+pub use kinds::{CallKind, Counted, Effect};
 pub use reply::{
     AlarmLine, Answer, ChangeRow, FloodLine, Full, MineLine, RecordRow, Refused, Reply, ShelfLine,
     StandingLine, StatusRow, UnitLine,
