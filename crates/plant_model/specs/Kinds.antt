@@ -1,0 +1,161 @@
+-- The kinds of calls, and what all calls of one kind have in common: one line a kind in each table.
+use Rattle.plant_model.specs.declared.call.Request.{Request}
+use Rattle.plant_model.specs.declared.call.Request.TheVariants as request
+use Rattle.plant_model.specs.declared.kinds.CallKind.{CallKind}
+use Rattle.plant_model.specs.declared.kinds.CallKind.TheVariants as kind
+use Rattle.plant_model.specs.declared.kinds.Counted.{Counted}
+use Rattle.plant_model.specs.declared.kinds.Counted.TheVariants as count
+use Rattle.plant_model.specs.declared.kinds.Effect.{Effect}
+use Rattle.plant_model.specs.declared.kinds.Effect.TheVariants.{Changes, Opens, Reads}
+use Rattle.plant_types.specs.Names.{Name}
+use Rattle.plant_types.specs.declared.role.Role.{Role}
+use Rattle.plant_types.specs.declared.role.Role.TheVariants.{Approver, Engineer, Maintainer, Operator, Steward}
+use Rattle.std.specs.Prelude.{Bool, None, Option, Some, false, true}
+
+abbrev pub kind_of : Request → CallKind
+kind_of (request.OpenUnit u s m q) = kind.OpenUnit
+kind_of (request.Grant u p t) = kind.Grant
+kind_of (request.Withdraw u p r) = kind.Withdraw
+kind_of (request.Register u a latching max) = kind.Register
+kind_of (request.Import u file) = kind.Import
+kind_of (request.TimedShelve u a d words) = kind.TimedShelve
+kind_of (request.OneShotShelve u a words) = kind.OneShotShelve
+kind_of (request.Unshelve u a) = kind.Unshelve
+kind_of (request.RemoveFromService u a words) = kind.RemoveFromService
+kind_of (request.PlaceInService u a) = kind.PlaceInService
+kind_of (request.Propose u x) = kind.Propose
+kind_of (request.WithdrawChange u n) = kind.WithdrawChange
+kind_of (request.Approve u n) = kind.Approve
+kind_of (request.Reject u n) = kind.Reject
+kind_of (request.Status u a) = kind.Status
+kind_of (request.RecordOf u a) = kind.RecordOf
+kind_of (request.ChangeOf u n) = kind.ChangeOf
+kind_of (request.Shelves u) = kind.Shelves
+kind_of (request.Alarms u) = kind.Alarms
+kind_of (request.Standing u) = kind.Standing
+kind_of (request.Floods u begin until) = kind.Floods
+kind_of request.MyUnits = kind.MyUnits
+kind_of request.MyShelves = kind.MyShelves
+
+-- the unit that a request names
+abbrev pub unit_named : Request → Option Name
+unit_named (request.OpenUnit u s m q) = Some u
+unit_named (request.Grant u p t) = Some u
+unit_named (request.Withdraw u p r) = Some u
+unit_named (request.Register u a latching max) = Some u
+unit_named (request.Import u file) = Some u
+unit_named (request.TimedShelve u a d words) = Some u
+unit_named (request.OneShotShelve u a words) = Some u
+unit_named (request.Unshelve u a) = Some u
+unit_named (request.RemoveFromService u a words) = Some u
+unit_named (request.PlaceInService u a) = Some u
+unit_named (request.Propose u x) = Some u
+unit_named (request.WithdrawChange u n) = Some u
+unit_named (request.Approve u n) = Some u
+unit_named (request.Reject u n) = Some u
+unit_named (request.Status u a) = Some u
+unit_named (request.RecordOf u a) = Some u
+unit_named (request.ChangeOf u n) = Some u
+unit_named (request.Shelves u) = Some u
+unit_named (request.Alarms u) = Some u
+unit_named (request.Standing u) = Some u
+unit_named (request.Floods u begin until) = Some u
+unit_named request.MyUnits = None
+unit_named request.MyShelves = None
+
+-- what calls of a kind do to their unit's history
+abbrev pub effect_of : CallKind → Effect
+effect_of kind.OpenUnit = Opens
+effect_of kind.Grant = Changes
+effect_of kind.Withdraw = Changes
+effect_of kind.Register = Changes
+effect_of kind.Import = Changes
+effect_of kind.TimedShelve = Changes
+effect_of kind.OneShotShelve = Changes
+effect_of kind.Unshelve = Changes
+effect_of kind.RemoveFromService = Changes
+effect_of kind.PlaceInService = Changes
+effect_of kind.Propose = Changes
+effect_of kind.WithdrawChange = Changes
+effect_of kind.Approve = Changes
+effect_of kind.Reject = Changes
+effect_of kind.Status = Reads
+effect_of kind.RecordOf = Reads
+effect_of kind.ChangeOf = Reads
+effect_of kind.Shelves = Reads
+effect_of kind.Alarms = Reads
+effect_of kind.Standing = Reads
+effect_of kind.Floods = Reads
+effect_of kind.MyUnits = Reads
+effect_of kind.MyShelves = Reads
+
+-- the role that calls of a kind need, where they need one in particular
+abbrev pub role_of : CallKind → Option Role
+role_of kind.OpenUnit = None
+role_of kind.Grant = Some Steward
+role_of kind.Withdraw = Some Steward
+role_of kind.Register = Some Engineer
+role_of kind.Import = Some Operator
+role_of kind.TimedShelve = Some Operator
+role_of kind.OneShotShelve = Some Operator
+role_of kind.Unshelve = Some Operator
+role_of kind.RemoveFromService = Some Maintainer
+role_of kind.PlaceInService = Some Maintainer
+role_of kind.Propose = Some Engineer
+role_of kind.WithdrawChange = Some Engineer
+role_of kind.Approve = Some Approver
+role_of kind.Reject = Some Approver
+role_of kind.Status = None
+role_of kind.RecordOf = None
+role_of kind.ChangeOf = None
+role_of kind.Shelves = None
+role_of kind.Alarms = None
+role_of kind.Standing = None
+role_of kind.Floods = None
+role_of kind.MyUnits = None
+role_of kind.MyShelves = None
+
+-- what of a unit is counted for calls of a kind
+abbrev pub count_of : CallKind → Counted
+count_of kind.OpenUnit = count.Nothing
+count_of kind.Grant = count.Nothing
+count_of kind.Withdraw = count.Nothing
+count_of kind.Register = count.Alarms
+count_of kind.Import = count.Events
+count_of kind.TimedShelve = count.Nothing
+count_of kind.OneShotShelve = count.Nothing
+count_of kind.Unshelve = count.Nothing
+count_of kind.RemoveFromService = count.Nothing
+count_of kind.PlaceInService = count.Nothing
+count_of kind.Propose = count.Changes
+count_of kind.WithdrawChange = count.Nothing
+count_of kind.Approve = count.Nothing
+count_of kind.Reject = count.Nothing
+count_of kind.Status = count.Nothing
+count_of kind.RecordOf = count.Nothing
+count_of kind.ChangeOf = count.Nothing
+count_of kind.Shelves = count.Nothing
+count_of kind.Alarms = count.Nothing
+count_of kind.Standing = count.Nothing
+count_of kind.Floods = count.Nothing
+count_of kind.MyUnits = count.Nothing
+count_of kind.MyShelves = count.Nothing
+
+abbrev pub is_opens : Effect → Bool
+is_opens Opens = true
+is_opens Changes = false
+is_opens Reads = false
+
+abbrev pub is_reads : Effect → Bool
+is_reads Opens = false
+is_reads Changes = false
+is_reads Reads = true
+
+abbrev pub is_opening : Request → Bool
+is_opening r = is_opens (effect_of (kind_of r))
+
+abbrev pub is_read : Request → Bool
+is_read r = is_reads (effect_of (kind_of r))
+
+abbrev pub role_needed : Request → Option Role
+role_needed r = role_of (kind_of r)
