@@ -7,10 +7,11 @@ use Rattle.plant_model.specs.Events.{flood_lines, rows_of_file}
 use Rattle.plant_model.specs.Facts.{Facts, others_shelved}
 use Rattle.plant_model.specs.Grants.{is_before}
 use Rattle.plant_model.specs.Histories.{same_number}
-use Rattle.plant_model.specs.Parts.{Selection, every, is_crowded, is_source, of_approval, of_content, of_number, of_records, part_of, part_of_holder, part_of_stranger, rows_selected, selected}
-use Rattle.plant_model.specs.Refusals.{first_refusal, holds_some, lacks_role, own_refusals, refusals_of_holder, role_needed}
+use Rattle.plant_model.specs.Changes.{no_matrix}
+use Rattle.plant_model.specs.Parts.{Selection, every, is_crowded, is_source, of_approved, of_content, of_number, of_records, of_topic, part_of, part_of_holder, part_of_stranger, rows_selected, selected, with_number}
+use Rattle.plant_model.specs.Refusals.{first_refusal, holds_some, is_open, kind_refusals, lacks_role, of_change, own_refusals, refusals_of_holder, role_needed}
 use Rattle.plant_model.specs.Replies.{change_reply, import_reply, record_reply, reply, status_reply}
-use Rattle.plant_model.specs.RowChanges.{changes_for, placed_in, taken_out}
+use Rattle.plant_model.specs.RowChanges.{approval_changes, approved_row, changes_for, decision_change, for_change, in_force, placed_in, taken_out}
 use Rattle.plant_model.specs.RowFacts.{alarm_tag, change_found, change_number, change_read, facts_among, facts_from, facts_of, has_cells, held_by, holds_by, kind_read, last_number, matrix_read, pair_of, record_found, record_from, record_read, record_tag, sheet_read, shelf_tag, unit_read}
 use Rattle.plant_model.specs.Shelves.{shelf_left, shelf_row_as}
 use Rattle.plant_model.specs.Verdicts.{refused_or, verdict_of}
@@ -20,7 +21,7 @@ use Rattle.plant_model.specs.declared.call.Request.TheVariants.{Alarms, Approve,
 use Rattle.plant_model.specs.declared.reply.ChangeRow.{ChangeRow}
 use Rattle.plant_model.specs.declared.reply.Full.TheVariants.{Alarms as TooManyAlarms}
 use Rattle.plant_model.specs.declared.reply.RecordRow.{RecordRow}
-use Rattle.plant_model.specs.declared.reply.Refused.TheVariants.{AlarmTaken, AlarmUnknown, AlreadyOutOfService, ConditionAlreadyShelved, ConditionNotShelved, MomentBehind, NotGranted, NotOutOfService, RecordUnknown, RoleLacking, ShelfQuota, ShelvingTimeOutOfRange, UnitFull}
+use Rattle.plant_model.specs.declared.reply.Refused.TheVariants.{AlarmTaken, AlarmUnknown, AlreadyOutOfService, ConditionAlreadyShelved, ConditionNotShelved, MomentBehind, NotGranted, NotOutOfService, NotProposed, RecordUnknown, RoleLacking, SamePerson, ShelfQuota, ShelvingTimeOutOfRange, UnitFull}
 use Rattle.plant_model.specs.declared.reply.Reply.TheVariants.{Floods as FloodsOf}
 use Rattle.plant_model.specs.declared.rows.AlarmRow.{AlarmRow}
 use Rattle.plant_model.specs.declared.rows.Change.{Change}
@@ -37,7 +38,10 @@ use Rattle.plant_model.specs.declared.rows.UnitRows.{UnitRows}
 use Rattle.plant_ration.specs.Grid.{Grid}
 use Rattle.plant_ration.specs.declared.change.ChangeKind.{ChangeKind}
 use Rattle.plant_ration.specs.declared.change.ChangeKind.TheVariants.{Limit, Matrix, Rationale}
+use Rattle.plant_model.specs.declared.reply.Refused.{Refused}
+use Rattle.plant_ration.specs.declared.change.ChangeState.TheVariants.{Approved}
 use Rattle.plant_ration.specs.declared.change.Proposal.{Proposal}
+use Rattle.plant_ration.specs.declared.change.Sheet.{Sheet}
 use Rattle.plant_types.proofs.Orders.{then_Equal}
 use Rattle.plant_types.proofs.TableLaws.{tied}
 use Rattle.plant_types.specs.Names.{Name, name_cmp, same_name}
@@ -206,32 +210,87 @@ module _ (rows : UnitRows) (p : Name) (t : ℕ) where
   abbrev with_rationales : List RecordRow → Facts
   with_rationales records = record (facts_of rows) { rationales = records }
 
-  abbrev with_approval : Option ChangeRow → List AlarmRow → List RecordEntry → List RecordRow → Grid → Facts
-  with_approval c alarms entries records m =
-      record (facts_of (record rows { alarms = alarms; records = entries })) { rationales = records; matrix = m; change = λ n. c }
-
   -- a change of a number, and what an approval of it looks at
   numbered_there : (n : ℕ) → option_map (change_read (within (of_number n))) (change_found (within (of_number n)) n) ≡ option_map (change_read rows) (change_found rows n)
   numbered_there n = change_there (of_number n) n (itself_number n) (itself_number n)
 
-  approved_there : (n : ℕ) → option_map (change_read (within (of_approval rows n))) (change_found (within (of_approval rows n)) n) ≡ option_map (change_read rows) (change_found rows n)
-  approved_there n = change_there (of_approval rows n) n (or_later _ _ (itself_number n)) (or_later _ _ (itself_number n))
+  -- a change from the columns that its topic looks at
+  abbrev kind_as : ChangeTopic → Name → Sheet → Grid → ℕ → ChangeKind
+  kind_as RecordTopic a s m max = Rationale a s
+  kind_as MatrixTopic a s m max = Matrix m
+  kind_as LimitTopic a s m max = Limit a max
 
-  abbrev approval_facts : ℕ → Facts
-  approval_facts n = with_approval
-      (option_map (change_read (within (of_approval rows n))) (change_found (within (of_approval rows n)) n))
-      (filter (λ r. true) rows.alarms)
-      (filter (λ r. true) rows.records)
-      (filter_map (record_read (within (of_approval rows n))) (filter (λ r. true) rows.records))
-      (matrix_read (within (of_approval rows n)) (unit_read rows).matrix_no)
+  kind_is : (c : ChangeEntry) (k : ChangeTopic) → kind_read rows c k ≡ kind_as k (unwrap_or c.tag []) (sheet_read c) (matrix_read rows c.number) (unwrap_or c.max_s 0)
+  kind_is c RecordTopic = refl
+  kind_is c MatrixTopic = refl
+  kind_is c LimitTopic = refl
 
-  approval_same : (n : ℕ) → approval_facts n ≡ with_change (option_map (change_read rows) (change_found rows n))
-  approval_same n = λ i. with_approval
-      (approved_there n i)
-      (filter-true rows.alarms i)
-      (filter-true rows.records i)
-      (records_there (of_approval rows n) (λ m e. or_true _ _ e) i)
-      (matrix_there (of_approval rows n) (unit_read rows).matrix_no (or_true _ _ (itself_number (unit_read rows).matrix_no)) i)
+  -- the facts of a selection of the rows
+  abbrev chosen : Selection → Facts
+  chosen s = facts_among (record { rows = rows_selected p s rows; count = 0 }) rows.events
+
+  abbrev approved : ℕ → Option Name → ChangeTopic → Selection
+  approved n tag k = with_number n (of_topic rows tag k)
+
+  matrix_in_force : (n : ℕ) (s : Selection) → s.matrix (unit_read rows).matrix_no ≡ true → matrix_read (within (with_number n s)) (unit_read rows).matrix_no ≡ matrix_read rows (unit_read rows).matrix_no
+  matrix_in_force n s holds = matrix_there (with_number n s) (unit_read rows).matrix_no (or_true _ _ holds)
+
+  sources_there : (n : ℕ) → filter_map (record_read (within (with_number n (of_records rows)))) (filter (λ (r : RecordEntry). true) rows.records) ≡ filter_map (record_read rows) rows.records
+  sources_there n = records_there (with_number n (of_records rows)) (λ m e. or_true _ _ e)
+
+  -- the refusals of a change's kind, and what it brings into force, from what its topic looks at
+  kind_same : (n base : ℕ) (tag : Option Name) (k : ChangeTopic) (s : Sheet) (m : Grid) (max : ℕ) → kind_refusals (chosen (approved n tag k)) base (kind_as k (unwrap_or tag []) s m max) ≡ kind_refusals (facts_of rows) base (kind_as k (unwrap_or tag []) s m max)
+  kind_same n base tag MatrixTopic s m max = ap (λ records. kind_refusals (with_rationales records) base (Matrix m)) (sources_there n)
+  kind_same n base (Some a) RecordTopic s m max = λ i. kind_refusals (with_content None (entry_there a i) (matrix_in_force n (of_content rows a) (itself_number (unit_read rows).matrix_no) i)) base (Rationale a s)
+  kind_same n base None RecordTopic s m max = λ i. kind_refusals (with_content None (row_at name_cmp record_tag [] (filter-true rows.records i)) (matrix_in_force n (of_records rows) (itself_number (unit_read rows).matrix_no) i)) base (Rationale [] s)
+  kind_same n base (Some a) LimitTopic s m max = ap (λ alarm. kind_refusals (with_content alarm None no_matrix.1) base (Limit a max)) (alarm_there a)
+  kind_same n base None LimitTopic s m max = ap (λ alarms. kind_refusals (with_alarms alarms) base (Limit [] max)) (filter-true rows.alarms)
+
+  force_same : (n number : ℕ) (tag : Option Name) (k : ChangeTopic) (s : Sheet) (m : Grid) (max : ℕ) → in_force (chosen (approved n tag k)) number (kind_as k (unwrap_or tag []) s m max) ≡ in_force (facts_of rows) number (kind_as k (unwrap_or tag []) s m max)
+  force_same n number tag MatrixTopic s m max = ap (λ records. in_force (with_rationales records) number (Matrix m)) (sources_there n)
+  force_same n number (Some a) RecordTopic s m max = λ i. in_force (with_content None (entry_there a i) (matrix_in_force n (of_content rows a) (itself_number (unit_read rows).matrix_no) i)) number (Rationale a s)
+  force_same n number None RecordTopic s m max = λ i. in_force (with_content None (row_at name_cmp record_tag [] (filter-true rows.records i)) (matrix_in_force n (of_records rows) (itself_number (unit_read rows).matrix_no) i)) number (Rationale [] s)
+  force_same n number (Some a) LimitTopic s m max = ap (λ alarm. in_force (with_content alarm None no_matrix.1) number (Limit a max)) (alarm_there a)
+  force_same n number None LimitTopic s m max = ap (λ alarms. in_force (with_alarms alarms) number (Limit [] max)) (filter-true rows.alarms)
+
+  -- the refusals and the changes of an approval of a change that is there
+  abbrev refusals_by : Facts → ChangeRow → List (Bool × Refused)
+  refusals_by f c = (same_name p c.proposer, SamePerson) ∷ kind_refusals f c.base c.kind
+
+  refusals_same : (n : ℕ) (c : ChangeEntry) → refusals_by (chosen (approved n c.tag c.kind_no)) (change_read rows c) ≡ refusals_by (facts_of rows) (change_read rows c)
+  refusals_same n c =
+      let kind = kind_is c c.kind_no in
+      ap (λ refusals. (same_name p c.proposer, SamePerson) ∷ refusals)
+      (ap (kind_refusals (chosen (approved n c.tag c.kind_no)) c.base) kind
+      ∙ kind_same n c.base c.tag c.kind_no (sheet_read c) (matrix_read rows c.number) (unwrap_or c.max_s 0)
+      ∙ sym (ap (kind_refusals (facts_of rows) c.base) kind))
+
+  brought_same : (n : ℕ) (c : ChangeEntry) → approval_changes (chosen (approved n c.tag c.kind_no)) p t (change_read rows c) ≡ approval_changes (facts_of rows) p t (change_read rows c)
+  brought_same n c =
+      let kind = kind_is c c.kind_no in
+      ap (λ changes. decision_change Approved p t (change_read rows c) ∷ changes)
+      (ap (in_force (chosen (approved n c.tag c.kind_no)) c.number) kind
+      ∙ force_same n c.number c.tag c.kind_no (sheet_read c) (matrix_read rows c.number) (unwrap_or c.max_s 0)
+      ∙ sym (ap (in_force (facts_of rows) c.number) kind))
+
+  approved_there : (n : ℕ) (o : Option ChangeEntry) → change_found rows n ≡ o → (chosen (of_approved rows n o)).change n ≡ option_map (change_read rows) o
+  approved_there n None e = numbered_there n ∙ ap (option_map (change_read rows)) e
+  approved_there n (Some c) e = change_there (approved n c.tag c.kind_no) n (or_later _ _ (itself_number n)) (or_later _ _ (itself_number n)) ∙ ap (option_map (change_read rows)) e
+
+  abbrev row_after : Option ChangeRow → Change
+  row_after c = Put (UnitPut (approved_row t (unit_read rows) c))
+
+  approval_refused : (n : ℕ) (o : Option ChangeEntry) → change_found rows n ≡ o → of_change ((chosen (of_approved rows n o)).change n) (refusals_by (chosen (of_approved rows n o))) ≡ of_change (option_map (change_read rows) o) (refusals_by (facts_of rows))
+  approval_refused n None e = ap (λ c. of_change c (refusals_by (chosen (of_number n)))) (approved_there n None e)
+  approval_refused n (Some c) e =
+      ap (λ x. of_change x (refusals_by (chosen (approved n c.tag c.kind_no)))) (approved_there n (Some c) e)
+      ∙ ap (λ refusals. (not (is_open c.state_no), NotProposed c.state_no) ∷ refusals) (refusals_same n c)
+
+  approval_made : (n : ℕ) (o : Option ChangeEntry) → change_found rows n ≡ o → row_after ((chosen (of_approved rows n o)).change n) ∷ for_change ((chosen (of_approved rows n o)).change n) (approval_changes (chosen (of_approved rows n o)) p t) ≡ row_after (option_map (change_read rows) o) ∷ for_change (option_map (change_read rows) o) (approval_changes (facts_of rows) p t)
+  approval_made n None e = ap (λ c. row_after c ∷ for_change c (approval_changes (chosen (of_number n)) p t)) (approved_there n None e)
+  approval_made n (Some c) e =
+      ap (λ x. row_after x ∷ for_change x (approval_changes (chosen (approved n c.tag c.kind_no)) p t)) (approved_there n (Some c) e)
+      ∙ ap (λ changes. row_after (Some (change_read rows c)) ∷ changes) (brought_same n c)
 
   -- what a proposal looks at, by its kind
   abbrev proposal : ChangeKind → ℕ → Proposal
@@ -266,7 +325,7 @@ module _ (rows : UnitRows) (p : Name) (t : ℕ) where
   own_same (PlaceInService u a) = ap (λ o. (is_none o, AlarmUnknown) ∷ (not (removed o), NotOutOfService) ∷ []) (alarm_there a)
   own_same (Propose u x) = proposal_same u x.kind x.base
   own_same (WithdrawChange u n) = ap (λ c. own_refusals (with_change c) p t (WithdrawChange u n)) (numbered_there n)
-  own_same (Approve u n) = ap (λ f. own_refusals f p t (Approve u n)) (approval_same n)
+  own_same (Approve u n) = approval_refused n (change_found rows n) refl
   own_same (Reject u n) = ap (λ c. own_refusals (with_change c) p t (Reject u n)) (numbered_there n)
   own_same (Status u a) = ap (λ o. (is_none o, AlarmUnknown) ∷ []) (alarm_there a)
   own_same (RecordOf u a) = λ i. (is_none (alarm_there a i), AlarmUnknown) ∷ (is_none (rationale_there a (selected rows (RecordOf u a)) (λ n e. e) i), RecordUnknown) ∷ []
@@ -325,7 +384,7 @@ module _ (rows : UnitRows) (p : Name) (t : ℕ) where
   holder_changes (PlaceInService u a) = ap (alarm_changed placed_in) (alarm_there a)
   holder_changes (Propose u x) = refl
   holder_changes (WithdrawChange u n) = ap (λ c. changes_for (with_change c) (asked (WithdrawChange u n))) (numbered_there n)
-  holder_changes (Approve u n) = ap (λ f. changes_for f (asked (Approve u n))) (approval_same n)
+  holder_changes (Approve u n) = approval_made n (change_found rows n) refl
   holder_changes (Reject u n) = ap (λ c. changes_for (with_change c) (asked (Reject u n))) (numbered_there n)
   holder_changes (Status u a) = refl
   holder_changes (RecordOf u a) = refl

@@ -7,7 +7,10 @@ use Rattle.plant_model.specs.Kinds.{count_of, kind_of}
 use Rattle.plant_model.specs.declared.kinds.Counted.{Counted}
 use Rattle.plant_model.specs.declared.kinds.Counted.TheVariants.{Alarms as AlarmsCounted, Changes as ChangesCounted, Events as EventsCounted, Nothing}
 use Rattle.plant_model.specs.RowChanges.{no_rows}
-use Rattle.plant_model.specs.RowFacts.{holds_by, last_number, unit_read}
+use Rattle.plant_model.specs.RowFacts.{change_found, holds_by, last_number, unit_read}
+use Rattle.plant_model.specs.declared.rows.ChangeEntry.{ChangeEntry}
+use Rattle.plant_model.specs.declared.rows.ChangeTopic.{ChangeTopic}
+use Rattle.plant_model.specs.declared.rows.ChangeTopic.TheVariants.{Limit as LimitTopic, Matrix as MatrixTopic, Record as RecordTopic}
 use Rattle.plant_model.specs.declared.call.Request.TheVariants.{Alarms, Approve, ChangeOf, Floods, Grant, Import, MyShelves, MyUnits, OneShotShelve, OpenUnit, PlaceInService, Propose, RecordOf, Register, Reject, RemoveFromService, Shelves, Standing, Status, TimedShelve, Unshelve, Withdraw, WithdrawChange}
 use Rattle.plant_ration.specs.declared.change.ChangeKind.{ChangeKind}
 use Rattle.plant_ration.specs.declared.change.ChangeKind.TheVariants.{Limit, Matrix, Rationale}
@@ -20,8 +23,66 @@ use Rattle.plant_model.specs.declared.rows.UnitPart.{UnitPart}
 use Rattle.plant_model.specs.declared.rows.UnitRows.{UnitRows}
 use Rattle.plant_types.specs.Names.{Name, same_name}
 use Rattle.plant_types.specs.Roles.{Pair}
-use Rattle.std.specs.Prelude.{Bool, List, [], false, filter, if◌then◌else◌, length, nat_le, true, ℕ, ◌||◌}
+use Rattle.std.specs.Prelude.{Bool, List, None, Option, Some, [], false, filter, if◌then◌else◌, length, nat_le, true, ℕ, ◌||◌}
 
+-- what a call looks at, beside the unit's own row and the caller's grants
+pub data Scope : Type 0 where
+  -- nothing else
+  NothingElse : Scope
+  AllGrants : Scope
+  -- an alarm with its shelf
+  OneAlarm : Name → Scope
+  -- an alarm with its shelf, and all others where the quota may be used up
+  Shelving : Name → Scope
+  -- an alarm with its record and the change that it came from
+  OneRecord : Name → Scope
+  -- a change with its matrix
+  OneChange : ℕ → Scope
+  -- a change with its matrix, and what it is a change of
+  Approval : ℕ → Scope
+  -- an alarm with its record, and the matrix in force
+  Content : Name → Scope
+  -- all records with the changes that they came from, and the matrix in force
+  AllRecords : Scope
+  -- all alarms, and the events that a file's rows are seen beside
+  File : List Event → Scope
+  -- all alarms and shelves
+  AllShelves : Scope
+  -- all alarms, shelves and records
+  AllAlarms : Scope
+  AllEvents : Scope
+
+abbrev pub scope_of_proposal : ChangeKind → Scope
+scope_of_proposal (Rationale a s) = Content a
+scope_of_proposal (Matrix m) = AllRecords
+scope_of_proposal (Limit a max) = Content a
+
+abbrev pub scope_of : Request → Scope
+scope_of (OpenUnit u s m q) = NothingElse
+scope_of (Grant u p t) = AllGrants
+scope_of (Withdraw u p r) = AllGrants
+scope_of (Register u a l m) = OneAlarm a
+scope_of (Import u file) = File (rows_of_file file)
+scope_of (TimedShelve u a d w) = Shelving a
+scope_of (OneShotShelve u a w) = Shelving a
+scope_of (Unshelve u a) = OneAlarm a
+scope_of (RemoveFromService u a w) = OneAlarm a
+scope_of (PlaceInService u a) = OneAlarm a
+scope_of (Propose u x) = scope_of_proposal x.kind
+scope_of (WithdrawChange u n) = OneChange n
+scope_of (Approve u n) = Approval n
+scope_of (Reject u n) = OneChange n
+scope_of (Status u a) = OneAlarm a
+scope_of (RecordOf u a) = OneRecord a
+scope_of (ChangeOf u n) = OneChange n
+scope_of (Shelves u) = AllShelves
+scope_of (Alarms u) = AllAlarms
+scope_of (Standing u) = AllAlarms
+scope_of (Floods u begin until) = AllEvents
+scope_of MyUnits = NothingElse
+scope_of MyShelves = NothingElse
+
+-- the rows of a scope, beside the unit's own row and the caller's grants: by pair, tag, number of a matrix, number of a change
 pub record Selection : Type 0 where
   pub pair : Pair → Bool
   pub alarm : Name → Bool
@@ -54,68 +115,61 @@ of_tag a = record nothing { alarm = same_name a; shelf = same_name a }
 abbrev pub of_number : ℕ → Selection
 of_number n = record nothing { matrix = same_number n; change = same_number n }
 
--- a record or limit that is proposed: its alarm and record, and the matrix in force
+abbrev pub is_in_force : UnitRows → ℕ → Bool
+is_in_force rows = same_number (unit_read rows).matrix_no
+
+-- the alarm and the record of a tag, and the matrix in force
 abbrev pub of_content : UnitRows → Name → Selection
-of_content rows a = record nothing { alarm = same_name a; rationale = same_name a; matrix = same_number (unit_read rows).matrix_no }
+of_content rows a = record nothing { alarm = same_name a; rationale = same_name a; matrix = is_in_force rows }
 
 -- the changes that records came from
 abbrev pub is_source : UnitRows → (Name → Bool) → ℕ → Bool
 is_source rows tags n = list_any (λ r. tags r.tag && same_number n r.change_no) rows.records
 
--- all alarms and records with their changes, and the matrix in force
+-- all records with their changes, and the matrix in force
 abbrev pub of_records : UnitRows → Selection
-of_records rows = record nothing { alarm = every; rationale = every; matrix = same_number (unit_read rows).matrix_no; change = is_source rows every }
+of_records rows = record nothing { rationale = every; matrix = is_in_force rows; change = is_source rows every }
 
-abbrev pub of_approval : UnitRows → ℕ → Selection
-of_approval rows n = record nothing { alarm = every; rationale = every; matrix = λ m. same_number m (unit_read rows).matrix_no || same_number m n; change = λ m. is_source rows every m || same_number m n }
+-- what a change is of: a change of a record or of a limit that has no tag leaves nothing out
+abbrev pub of_topic : UnitRows → Option Name → ChangeTopic → Selection
+of_topic rows tag MatrixTopic = of_records rows
+of_topic rows (Some a) RecordTopic = of_content rows a
+of_topic rows (Some a) LimitTopic = of_content rows a
+of_topic rows None RecordTopic = record (of_records rows) { alarm = every }
+of_topic rows None LimitTopic = record (of_records rows) { alarm = every }
 
-abbrev pub of_proposal : UnitRows → ChangeKind → Selection
-of_proposal rows (Rationale a s) = of_content rows a
-of_proposal rows (Matrix m) = of_records rows
-of_proposal rows (Limit a max) = of_content rows a
+abbrev pub with_number : ℕ → Selection → Selection
+with_number n s = record s { matrix = λ m. s.matrix m || same_number n m; change = λ m. s.change m || same_number n m }
 
-abbrev pub all_shelves : Selection
-all_shelves = record nothing { alarm = every; shelf = every }
+abbrev pub of_approved : UnitRows → ℕ → Option ChangeEntry → Selection
+of_approved rows n None = of_number n
+of_approved rows n (Some c) = with_number n (of_topic rows c.tag c.kind_no)
 
 -- so many shelves are kept that the quota may be used up
 abbrev pub is_crowded : UnitRows → Bool
 is_crowded rows = nat_le (unit_read rows).quota (length rows.shelves)
 
 -- for a shelving the alarm and the shelf of its tag, and those of all others where the quota may be used up
-abbrev pub of_shelving : UnitRows → Name → Selection
-of_shelving rows a = record nothing { alarm = λ b. is_crowded rows || same_name a b; shelf = λ b. is_crowded rows || same_name a b }
+abbrev pub of_shelving : Bool → Name → Selection
+of_shelving crowded a = record nothing { alarm = λ b. crowded || same_name a b; shelf = λ b. crowded || same_name a b }
 
--- for an import all alarms, and the events that its rows are seen beside
-abbrev pub of_import : List Event → Selection
-of_import rows = record nothing { alarm = every; events = λ es. needed es rows }
-
-abbrev pub all_alarms : Selection
-all_alarms = record nothing { alarm = every; shelf = every; rationale = every }
+abbrev pub selection : UnitRows → Scope → Selection
+selection rows NothingElse = nothing
+selection rows AllGrants = record nothing { pair = every }
+selection rows (OneAlarm a) = of_tag a
+selection rows (Shelving a) = of_shelving (is_crowded rows) a
+selection rows (OneRecord a) = record nothing { alarm = same_name a; rationale = same_name a; change = is_source rows (same_name a) }
+selection rows (OneChange n) = of_number n
+selection rows (Approval n) = of_approved rows n (change_found rows n)
+selection rows (Content a) = of_content rows a
+selection rows AllRecords = of_records rows
+selection rows (File es) = record nothing { alarm = every; events = λ kept. needed kept es }
+selection rows AllShelves = record nothing { alarm = every; shelf = every }
+selection rows AllAlarms = record nothing { alarm = every; shelf = every; rationale = every }
+selection rows AllEvents = record nothing { events = all_events }
 
 abbrev pub selected : UnitRows → Request → Selection
-selected rows (Grant u p t) = record nothing { pair = every }
-selected rows (Withdraw u p r) = record nothing { pair = every }
-selected rows (Register u a l m) = of_tag a
-selected rows (Import u file) = of_import (rows_of_file file)
-selected rows (TimedShelve u a d w) = of_shelving rows a
-selected rows (OneShotShelve u a w) = of_shelving rows a
-selected rows (Unshelve u a) = of_tag a
-selected rows (RemoveFromService u a w) = of_tag a
-selected rows (PlaceInService u a) = of_tag a
-selected rows (Propose u x) = of_proposal rows x.kind
-selected rows (WithdrawChange u n) = of_number n
-selected rows (Approve u n) = of_approval rows n
-selected rows (Reject u n) = of_number n
-selected rows (Status u a) = of_tag a
-selected rows (RecordOf u a) = record nothing { alarm = same_name a; rationale = same_name a; change = is_source rows (same_name a) }
-selected rows (ChangeOf u n) = of_number n
-selected rows (Alarms u) = all_alarms
-selected rows (Shelves u) = all_shelves
-selected rows (Standing u) = all_alarms
-selected rows (Floods u begin until) = record nothing { events = all_events }
-selected rows (OpenUnit u s m q) = nothing
-selected rows MyUnits = nothing
-selected rows MyShelves = nothing
+selected rows r = selection rows (scope_of r)
 
 -- how many alarms or events there are, or the number of the last change, for the calls that need it
 abbrev pub counted : Counted → UnitRows → ℕ
