@@ -1,20 +1,64 @@
--- Which rows a request asks for.
-use Rattle.std.specs.Prelude.{Bool, List, [], None, Option, Some, false, length, true, ℕ, ◌&&◌}
-use Rattle.plant_books.specs.declared.asking.Counted.{Counted}
-use Rattle.plant_books.specs.declared.asking.Counted.TheVariants.{Alarms, Changes, Events, Nothing as CountsNothing}
+-- What a call looks at in a unit's rows, and which rows of each table that is.
+use Rattle.std.specs.Prelude.{Bool, List, [], None, Option, Some, false, option_copied, true, ℕ, ◌≡◌}
+use Rattle.plant_alarm.specs.declared.event.Event.{Event}
+use Rattle.plant_books.specs.declared.asking.Scope.{Scope}
+use Rattle.plant_books.specs.declared.asking.Scope.TheVariants.{AllAlarms, AllEvents, AllGrants, AllRecords, AllShelves, Approval, Content, File, NothingElse, OneAlarm, OneChange, OneRecord, Shelving}
 use Rattle.plant_books.specs.declared.asking.Wanted.{Wanted}
 use Rattle.plant_books.specs.declared.asking.Wanted.TheVariants.{Every, Nothing, One}
 use Rattle.plant_books.specs.declared.asking.WantedEvents.{WantedEvents}
 use Rattle.plant_books.specs.declared.asking.WantedEvents.TheVariants.{Beside, Every as EveryEvent, Nothing as NoEvents}
-use Rattle.plant_alarm.specs.declared.event.Event.{Event}
 use Rattle.plant_import.specs.Needed.{needed}
 use Rattle.plant_model.specs.Histories.{same_number}
+use Rattle.plant_model.specs.Parts.{Scope as Looked, Selection, all_events, every, is_crowded, is_source, nothing, of_approved, of_content, of_number, of_records, of_shelving, of_tag, scope_of}
+use Rattle.plant_model.specs.Parts as looked
+use Rattle.plant_model.specs.RowFacts.{change_found}
 use Rattle.plant_model.specs.declared.call.Request.{Request}
-use Rattle.plant_model.specs.Parts.{is_crowded}
-use Rattle.plant_model.specs.RowFacts.{last_number}
-use Rattle.plant_model.specs.declared.call.Request.TheVariants.{Approve, ChangeOf, OneShotShelve, Reject, TimedShelve, WithdrawChange}
+use Rattle.plant_model.specs.declared.rows.ChangeEntry.{ChangeEntry}
 use Rattle.plant_model.specs.declared.rows.UnitRows.{UnitRows}
 use Rattle.plant_types.specs.Names.{Name, same_name}
+
+-- the rows that a scope takes in of a unit's
+abbrev pub selection_by : UnitRows → Scope → Selection
+selection_by rows NothingElse = nothing
+selection_by rows AllGrants = record nothing { pair = every }
+selection_by rows (OneAlarm tag) = of_tag tag.now
+selection_by rows (Shelving tag crowded) = of_shelving crowded tag.now
+selection_by rows (OneRecord tag) = record nothing { alarm = same_name tag.now; rationale = same_name tag.now; change = is_source rows (same_name tag.now) }
+selection_by rows (OneChange n) = of_number n
+selection_by rows (Approval n change) = of_approved rows n (option_copied change)
+selection_by rows (Content tag) = of_content rows tag.now
+selection_by rows AllRecords = of_records rows
+selection_by rows (File es) = record nothing { alarm = every; events = λ kept. needed kept es.now }
+selection_by rows AllShelves = record nothing { alarm = every; shelf = every }
+selection_by rows AllAlarms = record nothing { alarm = every; shelf = every; rationale = every }
+selection_by rows AllEvents = record nothing { events = all_events }
+
+abbrev pub is_shelving_scope : Looked → Bool
+is_shelving_scope (looked.Shelving a) = true
+is_shelving_scope _ = false
+
+-- a request that shelves an alarm
+abbrev pub is_shelving : Request → Bool
+is_shelving q = is_shelving_scope (scope_of q)
+
+abbrev pub number_of_approval : Looked → Option ℕ
+number_of_approval (looked.Approval n) = Some n
+number_of_approval _ = None
+
+-- the number of the change that a request approves
+abbrev pub number_approved : Request → Option ℕ
+number_approved q = number_of_approval (scope_of q)
+
+-- in a unit of these rows: whether it is crowded, for a shelving, and the change that is approved, for an approval
+pub record IsSeenIn (rows : UnitRows) (q : Request) (crowded : Bool) (approved : Option ChangeEntry) : Type 0 where
+  pub crowding : is_shelving q ≡ true → is_crowded rows ≡ crowded
+  pub found : (n : ℕ) → number_approved q ≡ Some n → change_found rows n ≡ approved
+
+-- the number of the change that a scope takes in with its matrix
+abbrev pub number_named : Scope → Option ℕ
+number_named (OneChange n) = Some n
+number_named (Approval n change) = Some n
+number_named _ = None
 
 -- the tag is among those that are wanted
 abbrev pub is_wanted : Wanted → Name → Bool
@@ -28,32 +72,7 @@ events_wanted NoEvents es = []
 events_wanted (Beside rows) es = needed es rows.now
 events_wanted EveryEvent es = es
 
--- a request that shelves an alarm
-abbrev pub is_shelving : Request → Bool
-is_shelving (TimedShelve u a d w) = true
-is_shelving (OneShotShelve u a w) = true
-is_shelving _ = false
-
--- a shelving where so many shelves are kept that the quota may be used up
-abbrev pub is_crowded_for : UnitRows → Request → Bool
-is_crowded_for rows q = is_shelving q && is_crowded rows
-
--- the number of the change that a request names
-abbrev pub change_named : Request → Option ℕ
-change_named (WithdrawChange u n) = Some n
-change_named (Approve u n) = Some n
-change_named (Reject u n) = Some n
-change_named (ChangeOf u n) = Some n
-change_named _ = None
-
 -- the number is the one, where there is one
 abbrev pub is_number : Option ℕ → ℕ → Bool
 is_number None n = false
 is_number (Some m) n = same_number m n
-
--- how many alarms or events there are, or the number of the last change
-abbrev pub counted_in : Counted → UnitRows → ℕ
-counted_in CountsNothing rows = 0
-counted_in Alarms rows = length rows.alarms
-counted_in Events rows = length rows.events
-counted_in Changes rows = last_number rows.changes

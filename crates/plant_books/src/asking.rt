@@ -1,23 +1,49 @@
-ghost use Rattle.std.specs.Prelude.{◌≡◌, ◌&&◌, ◌||◌, ℕ, List, length, option_map};
+//! What a call looks at, and which rows of each table that is.
+
+ghost use Rattle.std.specs.Prelude.{◌≡◌, ◌&&◌, ◌||◌, ℕ, List, Option, length, option_copied};
 ghost use Rattle.plant_alarm.specs.declared.event.Event.{Event as TheEvent};
-ghost use Rattle.plant_model.specs.Events.{rows_of_file};
 ghost use Rattle.plant_books.specs.Asking as asked;
-ghost use Rattle.plant_books.specs.Asking.{change_named, counted_in, events_wanted, is_crowded_for, is_wanted};
-ghost use Rattle.plant_model.specs.Histories.{same_number};
-ghost use Rattle.plant_model.specs.Parts.{counted_for, is_crowded as is_crowded_in, is_source, of_proposal, selected};
-ghost use Rattle.plant_model.specs.RowFacts.{unit_read};
-ghost use Rattle.plant_model.specs.Worlds.{unit_named};
+ghost use Rattle.plant_books.specs.Asking.{IsSeenIn, events_wanted, is_number, is_wanted, selection_by};
+ghost use Rattle.plant_model.specs.Events.{rows_of_file};
+ghost use Rattle.plant_model.specs.Parts.{is_crowded as is_crowded_in, is_in_force, is_source, of_approved, of_topic, scope_of_proposal, selected, selection};
 ghost use Rattle.plant_model.specs.declared.rows.UnitRows.{UnitRows};
 ghost use Rattle.plant_types.specs.Names.{Name, same_name};
 ghost use Rattle.plant_types.specs.Roles.{Pair};
 
 use plant_alarm::Event;
 use plant_import::FileRead;
-use plant_model::{Request, UnitRow};
+use plant_model::{CallKind, ChangeEntry, ChangeTopic, Request, UnitRow};
 use plant_ration::ChangeKind;
-use plant_types::{Table, Tag, UnitCode};
+use plant_types::{Table, Tag};
 
-/// Which of a unit's alarms, of its shelves or of its records a request looks at.
+/// What a call looks at, beside the unit's own row and the caller's grants.
+#[derive(Clone, Copy)]
+pub enum Scope<'a> {
+    NothingElse,
+    AllGrants,
+    /// An alarm with its shelf.
+    OneAlarm(&'a Tag),
+    /// The same for a shelving, and whether it looks at all others too: where the quota may be used up.
+    Shelving(&'a Tag, bool),
+    /// An alarm with its record and the change that it came from.
+    OneRecord(&'a Tag),
+    /// A change with its matrix.
+    OneChange(u32),
+    /// A change that is to be approved, with its row if it is there, and what it is a change of.
+    Approval(u32, Option<&'a ChangeEntry>),
+    /// An alarm with its record, and the matrix in force.
+    Content(&'a Tag),
+    /// All records with the changes that they came from, and the matrix in force.
+    AllRecords,
+    /// All alarms, and the events that these rows of a file are seen beside.
+    File(&'a [Event]),
+    AllShelves,
+    /// All alarms, shelves and records.
+    AllAlarms,
+    AllEvents,
+}
+
+/// Which of a unit's alarms, of its shelves or of its records a call looks at.
 #[derive(Clone, Copy)]
 pub enum Wanted<'a> {
     Nothing,
@@ -26,22 +52,13 @@ pub enum Wanted<'a> {
     Every,
 }
 
-/// Which of a unit's events a request looks at.
+/// Which of a unit's events a call looks at.
 #[derive(Clone, Copy)]
 pub enum WantedEvents<'a> {
     Nothing,
     /// Those that these rows of a file are seen beside.
     Beside(&'a [Event]),
     Every,
-}
-
-/// What of a unit is counted for a request: changes by the number of the last.
-#[derive(Clone, Copy, Debug, PartialEq, Eq)]
-pub enum Counted {
-    Nothing,
-    Alarms,
-    Events,
-    Changes,
 }
 
 impl Wanted<'_> {
@@ -57,61 +74,13 @@ impl Wanted<'_> {
     }
 }
 
-/// The unit that the request names.
-pub fn unit_of(request: &Request) -> Option<&UnitCode>
-    ensures { option_map (λ u. u.now) result ≡ unit_named request.now }
-{
-    match request {
-        Request::OpenUnit { unit, .. }
-        | Request::Grant { unit, .. }
-        | Request::Withdraw { unit, .. }
-        | Request::Register { unit, .. }
-        | Request::Import { unit, .. }
-        | Request::TimedShelve { unit, .. }
-        | Request::OneShotShelve { unit, .. }
-        | Request::Unshelve { unit, .. }
-        | Request::RemoveFromService { unit, .. }
-        | Request::PlaceInService { unit, .. }
-        | Request::Propose { unit, .. }
-        | Request::WithdrawChange { unit, .. }
-        | Request::Approve { unit, .. }
-        | Request::Reject { unit, .. }
-        | Request::Status { unit, .. }
-        | Request::RecordOf { unit, .. }
-        | Request::ChangeOf { unit, .. }
-        | Request::Shelves { unit }
-        | Request::Alarms { unit }
-        | Request::Standing { unit }
-        | Request::Floods { unit, .. } => Some(unit),
-        Request::MyUnits | Request::MyShelves => None,
-    }
-}
-
-/// Whether the request looks at the grants of all persons, and not of its caller alone.
-pub fn wants_all_grants(request: &Request) -> bool
-    ensures { (rows : UnitRows) (k : Pair) → (selected rows request.now).pair k ≡ result }
-{
-    matches!(request, Request::Grant { .. } | Request::Withdraw { .. })
-}
-
-/// The alarm of a change that is proposed, or every alarm where it is of the matrix.
-fn wanted_by(kind: &ChangeKind) -> Wanted<'_>
-    ensures alarms { (rows : UnitRows) (a : Name) → (of_proposal rows kind.now).alarm a ≡ is_wanted result a }
-    ensures records { (rows : UnitRows) (a : Name) → (of_proposal rows kind.now).rationale a ≡ is_wanted result a }
-{
-    match kind {
-        ChangeKind::Rationale(tag, _) | ChangeKind::Limit(tag, _) => Wanted::One(tag),
-        ChangeKind::Matrix(_) => Wanted::Every,
-    }
-}
-
 /// Whether the request shelves an alarm.
 pub fn is_shelving(request: &Request) -> bool
     ensures { result ≡ asked.is_shelving request.now }
 {
     matches!(
-        request,
-        Request::TimedShelve { .. } | Request::OneShotShelve { .. }
+        request.kind(),
+        CallKind::TimedShelve | CallKind::OneShotShelve
     )
 }
 
@@ -125,78 +94,13 @@ pub fn is_crowded(units: &Table<UnitRow>, shelves: u64) -> bool
     }
 }
 
-/// That of the tag, or every one in a crowded unit.
-fn wanted_in(tag: &Tag, crowded: bool) -> Wanted<'_>
-    ensures { (a : Name) → is_wanted result a ≡ (crowded || same_name tag.now a) }
-{
-    if crowded {
-        Wanted::Every
-    } else {
-        Wanted::One(tag)
-    }
-}
-
-/// The alarms that the request looks at. `crowded` says whether it shelves in a crowded unit.
-pub fn wanted_alarms(request: &Request, crowded: bool) -> Wanted<'_>
-    ensures { (rows : UnitRows) → is_crowded_for rows request.now ≡ crowded → (a : Name) → (selected rows request.now).alarm a ≡ is_wanted result a }
+/// The number of the change that the request approves, if it approves one.
+pub fn number_approved(request: &Request) -> Option<u32>
+    ensures { result ≡ asked.number_approved request.now }
 {
     match request {
-        Request::Register { tag, .. }
-        | Request::Unshelve { tag, .. }
-        | Request::RemoveFromService { tag, .. }
-        | Request::PlaceInService { tag, .. }
-        | Request::Status { tag, .. }
-        | Request::RecordOf { tag, .. } => Wanted::One(tag),
-        Request::TimedShelve { tag, .. } | Request::OneShotShelve { tag, .. } => {
-            wanted_in(tag, crowded)
-        }
-        Request::Propose { proposal, .. } => wanted_by(&proposal.kind),
-        Request::Import { .. }
-        | Request::Approve { .. }
-        | Request::Shelves { .. }
-        | Request::Alarms { .. }
-        | Request::Standing { .. } => Wanted::Every,
-        Request::OpenUnit { .. }
-        | Request::Grant { .. }
-        | Request::Withdraw { .. }
-        | Request::WithdrawChange { .. }
-        | Request::Reject { .. }
-        | Request::ChangeOf { .. }
-        | Request::Floods { .. }
-        | Request::MyUnits
-        | Request::MyShelves => Wanted::Nothing,
-    }
-}
-
-/// The shelves that the request looks at. `crowded` says whether it shelves in a crowded unit.
-pub fn wanted_shelves(request: &Request, crowded: bool) -> Wanted<'_>
-    ensures { (rows : UnitRows) → is_crowded_for rows request.now ≡ crowded → (a : Name) → (selected rows request.now).shelf a ≡ is_wanted result a }
-{
-    match request {
-        Request::Register { tag, .. }
-        | Request::Unshelve { tag, .. }
-        | Request::RemoveFromService { tag, .. }
-        | Request::PlaceInService { tag, .. }
-        | Request::Status { tag, .. } => Wanted::One(tag),
-        Request::TimedShelve { tag, .. } | Request::OneShotShelve { tag, .. } => {
-            wanted_in(tag, crowded)
-        }
-        Request::Shelves { .. } | Request::Alarms { .. } | Request::Standing { .. } =>
-            Wanted::Every,
-        _ => Wanted::Nothing,
-    }
-}
-
-/// The records that the request looks at.
-pub fn wanted_records(request: &Request) -> Wanted<'_>
-    ensures { (rows : UnitRows) (a : Name) → (selected rows request.now).rationale a ≡ is_wanted result a }
-{
-    match request {
-        Request::RecordOf { tag, .. } => Wanted::One(tag),
-        Request::Propose { proposal, .. } => wanted_by(&proposal.kind),
-        Request::Approve { .. } | Request::Alarms { .. } | Request::Standing { .. } =>
-            Wanted::Every,
-        _ => Wanted::Nothing,
+        Request::Approve { number, .. } => Some(*number),
+        _ => None,
     }
 }
 
@@ -210,63 +114,201 @@ fn rows_of(file: &FileRead) -> &[Event]
     }
 }
 
-/// The events that the request looks at.
-pub fn wanted_events(request: &Request) -> WantedEvents<'_>
-    ensures { (rows : UnitRows) (es : List TheEvent) → (selected rows request.now).events es ≡ events_wanted result es }
+/// What a proposal of a change of this kind looks at.
+fn scope_of_kind(kind: &ChangeKind) -> Scope<'_>
+    ensures { (rows : UnitRows) → selection_by rows result ≡ selection rows (scope_of_proposal kind.now) }
+{
+    match kind {
+        ChangeKind::Rationale(tag, _) | ChangeKind::Limit(tag, _) => Scope::Content(tag),
+        ChangeKind::Matrix(_) => Scope::AllRecords,
+    }
+}
+
+/// What the request looks at in a unit that is crowded or not, and in which this is the change that it approves.
+pub fn scope_of<'a>(
+    request: &'a Request,
+    crowded: bool,
+    approved: Option<&'a ChangeEntry>,
+) -> Scope<'a>
+    ensures { (rows : UnitRows) → IsSeenIn rows request.now crowded (option_copied approved.entry) → selection_by rows result ≡ selected rows request.now }
 {
     match request {
-        Request::Import { file, .. } => WantedEvents::Beside(rows_of(file)),
-        Request::Floods { .. } => WantedEvents::Every,
+        Request::Grant { .. } | Request::Withdraw { .. } => Scope::AllGrants,
+        Request::Register { tag, .. }
+        | Request::Unshelve { tag, .. }
+        | Request::RemoveFromService { tag, .. }
+        | Request::PlaceInService { tag, .. }
+        | Request::Status { tag, .. } => Scope::OneAlarm(tag),
+        Request::TimedShelve { tag, .. } | Request::OneShotShelve { tag, .. } => {
+            Scope::Shelving(tag, crowded)
+        }
+        Request::Import { file, .. } => Scope::File(rows_of(file)),
+        Request::Propose { proposal, .. } => scope_of_kind(&proposal.kind),
+        Request::Approve { number, .. } => Scope::Approval(*number, approved),
+        Request::WithdrawChange { number, .. }
+        | Request::Reject { number, .. }
+        | Request::ChangeOf { number, .. } => Scope::OneChange(*number),
+        Request::RecordOf { tag, .. } => Scope::OneRecord(tag),
+        Request::Shelves { .. } => Scope::AllShelves,
+        Request::Alarms { .. } | Request::Standing { .. } => Scope::AllAlarms,
+        Request::Floods { .. } => Scope::AllEvents,
+        Request::OpenUnit { .. } | Request::MyUnits | Request::MyShelves => Scope::NothingElse,
+    }
+}
+
+/// Whether the scope takes in the grants of all persons, and not of the caller alone.
+pub fn wants_all_grants(scope: Scope<'_>) -> bool
+    ensures { (rows : UnitRows) (k : Pair) → (selection_by rows scope.entry).pair k ≡ result }
+{
+    matches!(scope, Scope::AllGrants)
+}
+
+/// That of the tag, or every one in a crowded unit.
+fn wanted_in(tag: &Tag, crowded: bool) -> Wanted<'_>
+    ensures { (a : Name) → is_wanted result a ≡ (crowded || same_name tag.now a) }
+{
+    if crowded {
+        Wanted::Every
+    } else {
+        Wanted::One(tag)
+    }
+}
+
+/// The alarms that a change is of.
+fn alarms_changed(change: &ChangeEntry) -> Wanted<'_>
+    ensures { (rows : UnitRows) (a : Name) → (of_topic rows change.now.tag change.now.kind_no).alarm a ≡ is_wanted result a }
+{
+    match (change.kind_no, &change.tag) {
+        (ChangeTopic::Matrix, _) => Wanted::Nothing,
+        (ChangeTopic::Record | ChangeTopic::Limit, Some(tag)) => Wanted::One(tag),
+        (ChangeTopic::Record | ChangeTopic::Limit, None) => Wanted::Every,
+    }
+}
+
+/// The records that a change is of.
+fn records_changed(change: &ChangeEntry) -> Wanted<'_>
+    ensures { (rows : UnitRows) (a : Name) → (of_topic rows change.now.tag change.now.kind_no).rationale a ≡ is_wanted result a }
+{
+    match (change.kind_no, &change.tag) {
+        (ChangeTopic::Matrix, _) => Wanted::Every,
+        (ChangeTopic::Record | ChangeTopic::Limit, Some(tag)) => Wanted::One(tag),
+        (ChangeTopic::Record | ChangeTopic::Limit, None) => Wanted::Every,
+    }
+}
+
+/// Whether a change is of all records, and so of the changes that they came from.
+fn changes_sources(change: &ChangeEntry) -> bool
+    ensures { (rows : UnitRows) (n : ℕ) → (of_topic rows change.now.tag change.now.kind_no).change n ≡ (result && is_source rows (of_topic rows change.now.tag change.now.kind_no).rationale n) }
+{
+    match (change.kind_no, &change.tag) {
+        (ChangeTopic::Matrix, _) | (ChangeTopic::Record | ChangeTopic::Limit, None) => true,
+        (ChangeTopic::Record | ChangeTopic::Limit, Some(_)) => false,
+    }
+}
+
+/// The alarms that the scope takes in.
+pub fn wanted_alarms<'a>(scope: Scope<'a>) -> Wanted<'a>
+    ensures { (rows : UnitRows) (a : Name) → (selection_by rows scope.entry).alarm a ≡ is_wanted result a }
+{
+    match scope {
+        Scope::OneAlarm(tag) | Scope::OneRecord(tag) | Scope::Content(tag) => Wanted::One(tag),
+        Scope::Shelving(tag, crowded) => wanted_in(tag, crowded),
+        Scope::Approval(_, Some(change)) => alarms_changed(change),
+        Scope::File(_) | Scope::AllShelves | Scope::AllAlarms => Wanted::Every,
+        Scope::NothingElse
+        | Scope::AllGrants
+        | Scope::OneChange(_)
+        | Scope::Approval(_, None)
+        | Scope::AllRecords
+        | Scope::AllEvents => Wanted::Nothing,
+    }
+}
+
+/// The shelves that the scope takes in.
+pub fn wanted_shelves<'a>(scope: Scope<'a>) -> Wanted<'a>
+    ensures { (rows : UnitRows) (a : Name) → (selection_by rows scope.entry).shelf a ≡ is_wanted result a }
+{
+    match scope {
+        Scope::OneAlarm(tag) => Wanted::One(tag),
+        Scope::Shelving(tag, crowded) => wanted_in(tag, crowded),
+        Scope::AllShelves | Scope::AllAlarms => Wanted::Every,
+        Scope::NothingElse
+        | Scope::AllGrants
+        | Scope::OneRecord(_)
+        | Scope::OneChange(_)
+        | Scope::Approval(..)
+        | Scope::Content(_)
+        | Scope::AllRecords
+        | Scope::File(_)
+        | Scope::AllEvents => Wanted::Nothing,
+    }
+}
+
+/// The records that the scope takes in.
+pub fn wanted_records<'a>(scope: Scope<'a>) -> Wanted<'a>
+    ensures { (rows : UnitRows) (a : Name) → (selection_by rows scope.entry).rationale a ≡ is_wanted result a }
+{
+    match scope {
+        Scope::OneRecord(tag) | Scope::Content(tag) => Wanted::One(tag),
+        Scope::Approval(_, Some(change)) => records_changed(change),
+        Scope::AllRecords | Scope::AllAlarms => Wanted::Every,
+        Scope::NothingElse
+        | Scope::AllGrants
+        | Scope::OneAlarm(_)
+        | Scope::Shelving(..)
+        | Scope::OneChange(_)
+        | Scope::Approval(_, None)
+        | Scope::File(_)
+        | Scope::AllShelves
+        | Scope::AllEvents => Wanted::Nothing,
+    }
+}
+
+/// The events that the scope takes in.
+pub fn wanted_events<'a>(scope: Scope<'a>) -> WantedEvents<'a>
+    ensures { (rows : UnitRows) (es : List TheEvent) → (selection_by rows scope.entry).events es ≡ events_wanted result es }
+{
+    match scope {
+        Scope::File(rows) => WantedEvents::Beside(rows),
+        Scope::AllEvents => WantedEvents::Every,
         _ => WantedEvents::Nothing,
     }
 }
 
-/// The number of the change that the request looks at, with its matrix where it is of one.
-pub fn wanted_change(request: &Request) -> Option<u32>
-    ensures { result ≡ change_named request.now }
+/// The number of the change that the scope takes in with its matrix, if it takes in one.
+pub fn wanted_change(scope: Scope<'_>) -> Option<u32>
+    ensures { result ≡ asked.number_named scope.entry }
 {
-    match request {
-        Request::WithdrawChange { number, .. }
-        | Request::Approve { number, .. }
-        | Request::Reject { number, .. }
-        | Request::ChangeOf { number, .. } => Some(*number),
+    match scope {
+        Scope::OneChange(number) | Scope::Approval(number, _) => Some(number),
         _ => None,
     }
 }
 
-/// Whether the request looks at the matrix in force.
-pub fn wants_matrix(request: &Request) -> bool
-    ensures { (rows : UnitRows) (n : ℕ) → (selected rows request.now).matrix n ≡ ((result && same_number (unit_read rows).matrix_no n) || asked.is_number (change_named request.now) n) }
+/// Whether the scope takes in the matrix in force.
+pub fn wants_matrix(scope: Scope<'_>) -> bool
+    ensures { (rows : UnitRows) (n : ℕ) → (selection_by rows scope.entry).matrix n ≡ ((result && is_in_force rows n) || is_number (asked.number_named scope.entry) n) }
 {
-    matches!(request, Request::Propose { .. } | Request::Approve { .. })
+    matches!(
+        scope,
+        Scope::Content(_) | Scope::AllRecords | Scope::Approval(_, Some(_))
+    )
 }
 
-/// Whether the request looks at the changes that the records it looks at came from.
-pub fn wants_sources(request: &Request) -> bool
-    ensures { (rows : UnitRows) (n : ℕ) → (selected rows request.now).change n ≡ ((result && is_source rows (selected rows request.now).rationale n) || asked.is_number (change_named request.now) n) }
+/// Whether the scope takes in the changes that its records came from.
+pub fn wants_sources(scope: Scope<'_>) -> bool
+    ensures { (rows : UnitRows) (n : ℕ) → (selection_by rows scope.entry).change n ≡ ((result && is_source rows (selection_by rows scope.entry).rationale n) || is_number (asked.number_named scope.entry) n) }
 {
-    match request {
-        Request::Propose { proposal, .. } => matches!(proposal.kind, ChangeKind::Matrix(_)),
-        Request::Approve { .. } | Request::RecordOf { .. } => true,
+    match scope {
+        Scope::OneRecord(_) | Scope::AllRecords => true,
+        Scope::Approval(_, Some(change)) => changes_sources(change),
         _ => false,
-    }
-}
-
-/// What is counted for the request.
-pub fn wanted_count(request: &Request) -> Counted
-    ensures { (rows : UnitRows) → counted_for rows request.now ≡ counted_in result rows }
-{
-    match request {
-        Request::Register { .. } => Counted::Alarms,
-        Request::Import { .. } => Counted::Events,
-        Request::Propose { .. } => Counted::Changes,
-        _ => Counted::Nothing,
     }
 }
 
 /// Whether the number is the one, where there is one.
 pub fn is_number(one: Option<u32>, number: u32) -> bool
-    ensures { result ≡ asked.is_number one number }
+    ensures { result ≡ is_number one number }
 {
     match one {
         None => false,

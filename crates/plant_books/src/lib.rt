@@ -14,8 +14,8 @@ mod plain;
 mod rows;
 
 pub use asking::{
-    Counted, Wanted, WantedEvents, is_crowded, is_number, is_shelving, unit_of, wanted_alarms,
-    wanted_change, wanted_count, wanted_events, wanted_records, wanted_shelves, wants_all_grants,
+    Scope, Wanted, WantedEvents, is_crowded, is_number, is_shelving, number_approved, scope_of,
+    wanted_alarms, wanted_change, wanted_events, wanted_records, wanted_shelves, wants_all_grants,
     wants_matrix, wants_sources,
 };
 pub use books::{Books, MineShelf, MineUnit};

@@ -1,18 +1,18 @@
-ghost use Rattle.std.specs.Prelude.{◌≡◌, ◌||◌, ℕ, IfErr, IfOk, false, filter};
-ghost use Rattle.plant_books.specs.Asking.{events_wanted, is_crowded_for, is_wanted};
+ghost use Rattle.std.specs.Prelude.{◌≡◌, ◌||◌, ℕ, IfErr, IfOk, Some, false, filter, option_copied, true};
+ghost use Rattle.plant_books.specs.Asking.{events_wanted, is_shelving as is_shelving_by, is_wanted, number_approved as number_approved_by, selection_by};
 ghost use Rattle.plant_books.specs.Order.{AreInOrder};
-ghost use Rattle.plant_model.specs.Parts.{counted_for, is_source as is_source_of, part_of as the_part, part_of_holder as holders_part, rows_selected, selected};
+ghost use Rattle.plant_model.specs.Parts.{counted_for, is_crowded as is_crowded_in, is_source as is_source_of, part_of as the_part, part_of_holder as holders_part, rows_selected, selected};
 ghost use Rattle.plant_model.specs.RowChanges.{no_rows};
 ghost use Rattle.plant_model.specs.declared.rows.UnitRows.{UnitRows as TheRows};
-ghost use Rattle.plant_model.specs.RowFacts.{event_number, last_number as last_number_of, pair_of, unit_read};
-ghost use Rattle.plant_types.specs.Tables.{IsInOrder};
+ghost use Rattle.plant_model.specs.RowFacts.{change_found, change_number, event_number, last_number as last_number_of, pair_of, unit_read};
+ghost use Rattle.plant_types.specs.Tables.{IsInOrder, row_at};
 ghost use Rattle.std.specs.Ordering.{nat_cmp};
 ghost use Rattle.plant_types.specs.Names.{same_name};
 ghost use Rattle.plant_types.specs.declared.fault.Fault.TheVariants.{Memory};
 
 use crate::asking::{
-    Counted, Wanted, WantedEvents, is_crowded, is_number, is_shelving, wanted_alarms,
-    wanted_change, wanted_count, wanted_events, wanted_records, wanted_shelves, wants_all_grants,
+    Scope, Wanted, WantedEvents, is_crowded, is_number, is_shelving, number_approved, scope_of,
+    wanted_alarms, wanted_change, wanted_events, wanted_records, wanted_shelves, wants_all_grants,
     wants_matrix, wants_sources,
 };
 use crate::found::rows_wanted;
@@ -20,20 +20,25 @@ use crate::grants::holds_some_by;
 use plant_alarm::Event;
 use plant_import::needed;
 use plant_model::{
-    BandRow, Call, CellRow, ChangeEntry, GrantRow, Request, UnitPart, UnitRow, UnitRows,
+    BandRow, Call, CellRow, ChangeEntry, Counted, GrantRow, Request, UnitPart, UnitRow, UnitRows,
 };
 use plant_types::{Duplicate, Fault, Person, Table, duplicated};
 use std::alloc::Global;
 
 /// The grants that the call looks at: those of its caller, or of all persons.
-fn grants_asked(alloc: Global, rows: &UnitRows, call: &Call) -> Result<Table<GrantRow>, Fault>
-    ensures value { IfOk result (λ asked. asked ≡ filter (λ g. same_name call.now.person g.person || (selected rows.now call.now.request).pair (pair_of g)) rows.now.grants) }
+fn grants_asked(
+    alloc: Global,
+    rows: &UnitRows,
+    person: &Person,
+    scope: Scope<'_>,
+) -> Result<Table<GrantRow>, Fault>
+    ensures value { IfOk result (λ asked. asked ≡ filter (λ g. same_name person.now g.person || (selection_by rows.now scope.entry).pair (pair_of g)) rows.now.grants) }
     ensures memory { IfErr result (λ e. e ≡ Memory) }
 {
-    let all = wants_all_grants(&call.request);
+    let all = wants_all_grants(scope);
     let mut asked = Table::new(alloc);
     for grant in rows.grants.as_slice() {
-        if call.person == grant.person || all {
+        if *person == grant.person || all {
             asked.push(grant.duplicate(alloc)?)?;
         }
     }
@@ -66,49 +71,49 @@ fn matrix_in_force(rows: &UnitRows) -> u32
     }
 }
 
-/// Whether the request looks at the matrix of a number.
-fn is_matrix_asked(rows: &UnitRows, request: &Request, number: u32) -> bool
-    ensures { result ≡ (selected rows.now request.now).matrix number }
+/// Whether the scope takes in the matrix of a number.
+fn is_matrix_asked(rows: &UnitRows, scope: Scope<'_>, number: u32) -> bool
+    ensures { result ≡ (selection_by rows.now scope.entry).matrix number }
 {
-    let named = is_number(wanted_change(request), number);
-    named || wants_matrix(request) && matrix_in_force(rows) == number
+    let named = is_number(wanted_change(scope), number);
+    named || wants_matrix(scope) && matrix_in_force(rows) == number
 }
 
-/// Whether the request looks at some matrix.
-fn wants_some_matrix(request: &Request) -> bool
-    ensures { result ≡ false → (rows : TheRows) (n : ℕ) → (selected rows request.now).matrix n ≡ false }
+/// Whether the scope takes in some matrix.
+fn wants_some_matrix(scope: Scope<'_>) -> bool
+    ensures { result ≡ false → (rows : TheRows) (n : ℕ) → (selection_by rows scope.entry).matrix n ≡ false }
 {
-    wants_matrix(request) || wanted_change(request).is_some()
+    wants_matrix(scope) || wanted_change(scope).is_some()
 }
 
-/// The limits of the matrices that the request looks at.
-fn bands_asked(alloc: Global, rows: &UnitRows, request: &Request) -> Result<Table<BandRow>, Fault>
-    ensures value { IfOk result (λ asked. asked ≡ filter (λ r. (selected rows.now request.now).matrix r.matrix_no) rows.now.bands) }
+/// The limits of the matrices that the scope takes in.
+fn bands_asked(alloc: Global, rows: &UnitRows, scope: Scope<'_>) -> Result<Table<BandRow>, Fault>
+    ensures value { IfOk result (λ asked. asked ≡ filter (λ r. (selection_by rows.now scope.entry).matrix r.matrix_no) rows.now.bands) }
     ensures memory { IfErr result (λ e. e ≡ Memory) }
 {
     let mut asked = Table::new(alloc);
-    if !wants_some_matrix(request) {
+    if !wants_some_matrix(scope) {
         return Ok(asked);
     }
     for band in rows.bands.as_slice() {
-        if is_matrix_asked(rows, request, band.matrix_no) {
+        if is_matrix_asked(rows, scope, band.matrix_no) {
             asked.push(*band)?;
         }
     }
     Ok(asked)
 }
 
-/// The cells of the matrices that the request looks at.
-fn cells_asked(alloc: Global, rows: &UnitRows, request: &Request) -> Result<Table<CellRow>, Fault>
-    ensures value { IfOk result (λ asked. asked ≡ filter (λ r. (selected rows.now request.now).matrix r.matrix_no) rows.now.cells) }
+/// The cells of the matrices that the scope takes in.
+fn cells_asked(alloc: Global, rows: &UnitRows, scope: Scope<'_>) -> Result<Table<CellRow>, Fault>
+    ensures value { IfOk result (λ asked. asked ≡ filter (λ r. (selection_by rows.now scope.entry).matrix r.matrix_no) rows.now.cells) }
     ensures memory { IfErr result (λ e. e ≡ Memory) }
 {
     let mut asked = Table::new(alloc);
-    if !wants_some_matrix(request) {
+    if !wants_some_matrix(scope) {
         return Ok(asked);
     }
     for cell in rows.cells.as_slice() {
-        if is_matrix_asked(rows, request, cell.matrix_no) {
+        if is_matrix_asked(rows, scope, cell.matrix_no) {
             asked.push(*cell)?;
         }
     }
@@ -123,67 +128,98 @@ fn is_source(rows: &UnitRows, wanted: &Wanted, number: u32) -> bool
     records.any(|record| wanted.has(&record.tag) && record.change_no == number)
 }
 
-/// Whether the request looks at the change of a number.
-fn is_change_asked(rows: &UnitRows, request: &Request, number: u32) -> bool
-    ensures { result ≡ (selected rows.now request.now).change number }
+/// Whether the scope takes in the change of a number.
+fn is_change_asked(rows: &UnitRows, scope: Scope<'_>, number: u32) -> bool
+    ensures { result ≡ (selection_by rows.now scope.entry).change number }
 {
-    let named = is_number(wanted_change(request), number);
-    named || wants_sources(request) && is_source(rows, &wanted_records(request), number)
+    let named = is_number(wanted_change(scope), number);
+    named || wants_sources(scope) && is_source(rows, &wanted_records(scope), number)
 }
 
-/// Whether the request looks at some change.
-fn wants_some_change(request: &Request) -> bool
-    ensures { result ≡ false → (rows : TheRows) (n : ℕ) → (selected rows request.now).change n ≡ false }
+/// Whether the scope takes in some change.
+fn wants_some_change(scope: Scope<'_>) -> bool
+    ensures { result ≡ false → (rows : TheRows) (n : ℕ) → (selection_by rows scope.entry).change n ≡ false }
 {
-    wants_sources(request) || wanted_change(request).is_some()
+    wants_sources(scope) || wanted_change(scope).is_some()
 }
 
-/// The changes that the request looks at.
+/// The changes that the scope takes in.
 fn changes_asked(
     alloc: Global,
     rows: &UnitRows,
-    request: &Request,
+    scope: Scope<'_>,
 ) -> Result<Table<ChangeEntry>, Fault>
-    ensures value { IfOk result (λ asked. asked ≡ filter (λ r. (selected rows.now request.now).change r.number) rows.now.changes) }
+    ensures value { IfOk result (λ asked. asked ≡ filter (λ r. (selection_by rows.now scope.entry).change r.number) rows.now.changes) }
     ensures memory { IfErr result (λ e. e ≡ Memory) }
 {
     let mut asked = Table::new(alloc);
-    if !wants_some_change(request) {
+    if !wants_some_change(scope) {
         return Ok(asked);
     }
     for change in rows.changes.as_slice() {
-        if is_change_asked(rows, request, change.number) {
+        if is_change_asked(rows, scope, change.number) {
             asked.push(change.duplicate(alloc)?)?;
         }
     }
     Ok(asked)
 }
 
+/// The rows that the scope takes in.
+fn rows_asked(
+    alloc: Global,
+    rows: &UnitRows,
+    person: &Person,
+    scope: Scope<'_>,
+) -> Result<UnitRows, Fault>
+    ensures value { AreInOrder rows.now → IfOk result (λ asked. asked ≡ rows_selected person.now (selection_by rows.now scope.entry) rows.now) }
+    ensures memory { IfErr result (λ e. e ≡ Memory) }
+{
+    Ok(UnitRows {
+        units: rows.units.duplicate(alloc)?,
+        grants: grants_asked(alloc, rows, person, scope)?,
+        alarms: rows_wanted(alloc, &rows.alarms, &wanted_alarms(scope))?,
+        shelves: rows_wanted(alloc, &rows.shelves, &wanted_shelves(scope))?,
+        events: events_asked(alloc, &rows.events, wanted_events(scope))?,
+        bands: bands_asked(alloc, rows, scope)?,
+        cells: cells_asked(alloc, rows, scope)?,
+        records: rows_wanted(alloc, &rows.records, &wanted_records(scope))?,
+        changes: changes_asked(alloc, rows, scope)?,
+    })
+}
+
 /// Whether the request shelves in a crowded unit.
 fn is_crowded_by(rows: &UnitRows, request: &Request) -> bool
-    ensures { is_crowded_for rows.now request.now ≡ result }
+    ensures { is_shelving_by request.now ≡ true → is_crowded_in rows.now ≡ result }
 {
     is_shelving(request) && is_crowded(&rows.units, rows.shelves.len() as u64)
 }
 
-/// The rows that the call looks at.
-fn rows_asked(alloc: Global, rows: &UnitRows, call: &Call) -> Result<UnitRows, Fault>
-    ensures value { AreInOrder rows.now → IfOk result (λ asked. asked ≡ rows_selected call.now.person (selected rows.now call.now.request) rows.now) }
-    ensures memory { IfErr result (λ e. e ≡ Memory) }
+/// The change of a number.
+fn change_at(changes: &[ChangeEntry], number: u32) -> Option<&ChangeEntry>
+    ensures { option_copied result ≡ row_at nat_cmp change_number number changes.now }
 {
-    let request = &call.request;
-    let crowded = is_crowded_by(rows, request);
-    Ok(UnitRows {
-        units: rows.units.duplicate(alloc)?,
-        grants: grants_asked(alloc, rows, call)?,
-        alarms: rows_wanted(alloc, &rows.alarms, &wanted_alarms(request, crowded))?,
-        shelves: rows_wanted(alloc, &rows.shelves, &wanted_shelves(request, crowded))?,
-        events: events_asked(alloc, &rows.events, wanted_events(request))?,
-        bands: bands_asked(alloc, rows, request)?,
-        cells: cells_asked(alloc, rows, request)?,
-        records: rows_wanted(alloc, &rows.records, &wanted_records(request))?,
-        changes: changes_asked(alloc, rows, request)?,
-    })
+    changes.iter().find(|change| number == change.number)
+}
+
+/// The change that the request approves, if it is there.
+fn approved_by<'a>(rows: &'a UnitRows, request: &Request) -> Option<&'a ChangeEntry>
+    ensures { (n : ℕ) → number_approved_by request.now ≡ Some n → change_found rows.now n ≡ option_copied result }
+{
+    match number_approved(request) {
+        Some(number) => change_at(rows.changes.as_slice(), number),
+        None => None,
+    }
+}
+
+/// What the request looks at in a unit of these rows.
+fn scope_in<'a>(rows: &'a UnitRows, request: &'a Request) -> Scope<'a>
+    ensures { selection_by rows.now result ≡ selected rows.now request.now }
+{
+    scope_of(
+        request,
+        is_crowded_by(rows, request),
+        approved_by(rows, request),
+    )
 }
 
 /// The number of the last change, 0 where there is none.
@@ -200,7 +236,7 @@ fn last_number(changes: &[ChangeEntry]) -> u64
 fn count_asked(rows: &UnitRows, call: &Call) -> u64
     ensures { result ≡ counted_for rows.now call.now.request }
 {
-    match wanted_count(&call.request) {
+    match call.request.kind().count() {
         Counted::Nothing => 0,
         Counted::Alarms => rows.alarms.len() as u64,
         Counted::Events => rows.events.len() as u64,
@@ -214,7 +250,7 @@ fn part_of_holder(alloc: Global, rows: &UnitRows, call: &Call) -> Result<UnitPar
     ensures memory { IfErr result (λ e. e ≡ Memory) }
 {
     Ok(UnitPart {
-        rows: rows_asked(alloc, rows, call)?,
+        rows: rows_asked(alloc, rows, &call.person, scope_in(rows, &call.request))?,
         count: count_asked(rows, call),
     })
 }

@@ -2,7 +2,6 @@ ghost use Rattle.std.specs.Prelude.{◌≡◌, ⊤};
 ghost use Rattle.plant_books.specs.Contents.{no_units};
 ghost use Rattle.plant_books.specs.Listed.{IsListed};
 
-use crate::asking::unit_of;
 use crate::books::{Books, MineShelf, MineUnit};
 use crate::opened::{
     OpenedUnit, change_unit, codes_held, copy_of, is_opened, part_at, shelves_held, units_held,
@@ -53,7 +52,7 @@ impl Books for Plain {
     }
 
     fn part(&mut self, call: &Call) -> Result<Option<UnitPart>, Fault> {
-        let Some(unit) = unit_of(&call.request) else {
+        let Some(unit) = call.request.unit() else {
             return Ok(None);
         };
         part_at(self.alloc, &self.units, unit, call)

@@ -8,7 +8,7 @@ ghost use Rattle.plant_types.specs.Names.{Name};
 
 use crate::copies::Copies;
 use plant_books::{
-    Books, MineShelf, MineUnit, after_changes, are_in_order, holds_some_by, part_of, unit_of,
+    Books, MineShelf, MineUnit, after_changes, are_in_order, holds_some_by, part_of,
 };
 use plant_model::{Call, Change, UnitPart, UnitRows};
 use plant_types::{Duplicate, Fault, Moment, Person, Table, UnitCode};
@@ -125,7 +125,7 @@ impl<B: Books> Books for Mirror<B> {
     }
 
     fn part(&mut self, call: &Call) -> Result<Option<UnitPart>, Fault> {
-        let Some(unit) = unit_of(&call.request) else {
+        let Some(unit) = call.request.unit() else {
             return Ok(None);
         };
         self.copies.touch(unit);

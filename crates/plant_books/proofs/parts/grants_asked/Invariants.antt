@@ -1,9 +1,9 @@
 use Rattle.std.proofs.Common.{◌≡◌, take}
 use Rattle.std.specs.Prelude.{filter, ◌||◌}
-use Rattle.plant_model.specs.Parts.{selected}
+use Rattle.plant_books.specs.Asking.{selection_by}
 use Rattle.plant_model.specs.RowFacts.{pair_of}
 use Rattle.plant_types.specs.Names.{same_name}
 use Rattle.plant_books.proofs.parts.grants_asked.Given as goal
 
 abbrev pub invariant-loop-grant : goal.invariant-loop-grant
-invariant-loop-grant l = l.asked ≡ filter (λ g. same_name l.fn.call.person g.person || (selected l.rows l.fn.call.request).pair (pair_of g)) (take l.grant-index l.grant-items)
+invariant-loop-grant l = l.asked ≡ filter (λ g. same_name l.fn.person g.person || (selection_by l.rows l.scope).pair (pair_of g)) (take l.grant-index l.grant-items)
