@@ -17,10 +17,13 @@ use Rattle.plant_model.specs.declared.rows.UnitPart.{UnitPart}
 use Rattle.plant_model.specs.declared.rows.UnitRow.{UnitRow}
 use Rattle.plant_model.specs.declared.rows.UnitRows.{UnitRows}
 use Rattle.plant_model.proofs.PartLaws.{own_holds}
-use Rattle.plant_model.specs.Parts.{Selection, counted_for, of_proposal, part_of, part_of_holder, part_of_stranger, selected}
+use Rattle.plant_model.specs.Histories.{same_number}
+use Rattle.plant_model.specs.Parts.{AllEvents, Approval, File, Scope, Selection, counted_for, of_approved, of_topic, part_of, part_of_holder, part_of_stranger, rows_selected, scope_of, selected, selection}
+use Rattle.plant_model.specs.declared.rows.ChangeTopic.{ChangeTopic}
+use Rattle.plant_model.specs.declared.rows.ChangeTopic.TheVariants.{Limit as LimitTopic, Matrix as MatrixTopic, Record as RecordTopic}
 use Rattle.plant_model.specs.RowChanges.{no_rows}
-use Rattle.plant_model.specs.RowFacts.{event_number, holds_by, pair_of}
-use Rattle.plant_types.specs.Tables.{IsInOrder}
+use Rattle.plant_model.specs.RowFacts.{change_found, change_number, event_number, holds_by, pair_of}
+use Rattle.plant_types.specs.Tables.{IsInOrder, row_at}
 use Rattle.std.specs.Ordering.{nat_cmp}
 use Rattle.plant_types.specs.Names.{Name, same_name}
 use Rattle.plant_types.specs.Roles.{Pair}
@@ -30,12 +33,11 @@ use Rattle.plant_books.specs.declared.asking.Wanted.TheVariants.{Every, Nothing,
 use Rattle.plant_store.specs.Keeping.{KeepsIn, has_any}
 use Rattle.plant_columns.specs.Tables.{rows_seen}
 use Rattle.plant_columns.specs.Tables.Kept.{UnitKept, GrantKept, AlarmKept, ShelfKept, BandKept, CellKept, EventKept, RecordKept, ChangeKept}
-use Rattle.plant_store.specs.Wanted.{alarms_with, events_with, looks_at_events, records_with, shelves_with}
+use Rattle.plant_store.specs.Wanted.{alarms_with, events_with, has_events, looks_at_events, records_with, shelves_with}
 use Rattle.plant_alarm.specs.declared.event.EventKind.TheVariants.{Act}
 use Rattle.plant_model.specs.declared.call.Request.{Request}
-use Rattle.plant_model.specs.declared.call.Request.TheVariants.{Floods, Import, Propose}
-use Rattle.plant_ration.specs.declared.change.ChangeKind.{ChangeKind}
-use Rattle.plant_ration.specs.declared.change.ChangeKind.TheVariants.{Limit, Matrix, Rationale}
+use Rattle.plant_model.specs.declared.call.Request.TheVariants.{Floods, Import}
+use Rattle.std.specs.List.{slice_get}
 use Rattle.std.proofs.Common.{[], arith, length, refl, ◌∷◌}
 use Rattle.plant_store.proofs.Contents.{kept_rows, never_opened}
 use Rattle.plant_store.proofs.Queries.{passing_all, passing_none}
@@ -55,16 +57,26 @@ records_are s Nothing h rows = sym (filter_same (λ (r : RecordEntry). s.rationa
 records_are s (One tag) h rows = sym (filter_same (λ (r : RecordEntry). s.rationale r.tag) (λ r. same_name tag.now r.tag) (λ r. h r.tag) rows)
 records_are s Every h rows = sym (filter_same (λ (r : RecordEntry). s.rationale r.tag) (λ r. true) (λ r. h r.tag) rows ∙ passing_all rows)
 
--- what a request looks at of the events that were read for it
+-- what a scope takes in of the events that were read for it
+no_topic_events : (rows : UnitRows) (tag : Option Name) (k : ChangeTopic) (es : List Event) → (of_topic rows tag k).events es ≡ []
+no_topic_events rows tag MatrixTopic es = refl
+no_topic_events rows (Some a) RecordTopic es = refl
+no_topic_events rows (Some a) LimitTopic es = refl
+no_topic_events rows None RecordTopic es = refl
+no_topic_events rows None LimitTopic es = refl
+
+no_approved_events : (rows : UnitRows) (n : ℕ) (o : Option ChangeEntry) (es : List Event) → (of_approved rows n o).events es ≡ []
+no_approved_events rows n None es = refl
+no_approved_events rows n (Some c) es = no_topic_events rows c.tag c.kind_no es
+
+none_in : (rows : UnitRows) (s : Scope) (es : List Event) → has_events s ≡ false → (selection rows s).events es ≡ []
+none_in rows (File rs) es none = absurd (let no : true ≡ false = none in cc)
+none_in rows AllEvents es none = absurd (let no : true ≡ false = none in cc)
+none_in rows (Approval n) es none = no_approved_events rows n (change_found rows n) es
+none_in rows _ es none = refl
+
 none_asked : (rows : UnitRows) (q : Request) (es : List Event) → looks_at_events q ≡ false → (selected rows q).events es ≡ []
-none_asked rows (Import u file) es none = absurd (let no : true ≡ false = none in cc)
-none_asked rows (Floods u begin until) es none = absurd (let no : true ≡ false = none in cc)
-none_asked rows (Propose u x) es none = by x.kind where
-  by : (k : ChangeKind) → (of_proposal rows k).events es ≡ []
-  by (Rationale a s) = refl
-  by (Matrix m) = refl
-  by (Limit a max) = refl
-none_asked rows _ es none = refl
+none_asked rows q es none = none_in rows (scope_of q) es none
 
 events_are : (rows : UnitRows) (q : Request) (told : Bool) → told ≡ looks_at_events q → (seen : List Event) → (selected rows q).events (events_with told seen) ≡ (selected rows q).events seen
 events_are rows q true is seen = refl
@@ -84,43 +96,54 @@ counts_events (Floods u begin until) counts = refl
 counts_events _ counts = absurd (let no = counts (record no_rows { events = some_event ∷ [] }) in omega (arith, no))
 
 module _ (s : State) (m : Content) (u : Name) (k : KeepsIn s m) where
-  seen_grants : (c : Call) (all : Bool) → ((p : Pair) → (selected (rows_in m u) c.request).pair p ≡ all) → filter (λ g. same_name c.person g.person || all) (rows_seen u s.now.trees GrantKept) ≡ (part_of_holder c (rows_in m u)).rows.grants
-  seen_grants c all h = filter_same (λ g. same_name c.person g.person || all) (λ g. same_name c.person g.person || (selected (rows_in m u) c.request).pair (pair_of g)) (λ g. ap (λ b. same_name c.person g.person || b) (sym (h (pair_of g)))) (rows_seen u s.now.trees GrantKept)
-      ∙ ap (filter (λ g. same_name c.person g.person || (selected (rows_in m u) c.request).pair (pair_of g))) (k.seen u GrantKept)
+  seen_grants : (c : Call) (chosen : Selection) (all : Bool) → ((p : Pair) → chosen.pair p ≡ all) → filter (λ g. same_name c.person g.person || all) (rows_seen u s.now.trees GrantKept) ≡ (rows_selected c.person chosen (rows_in m u)).grants
+  seen_grants c chosen all h = filter_same (λ g. same_name c.person g.person || all) (λ g. same_name c.person g.person || chosen.pair (pair_of g)) (λ g. ap (λ b. same_name c.person g.person || b) (sym (h (pair_of g)))) (rows_seen u s.now.trees GrantKept)
+      ∙ ap (filter (λ g. same_name c.person g.person || chosen.pair (pair_of g))) (k.seen u GrantKept)
 
   -- the records that a call looks at, as they were read
-  pub records_asked : (c : Call) (w : Wanted) → ((a : Name) → (selected (rows_in m u) c.request).rationale a ≡ is_wanted w a) → (records : List RecordEntry) → records ≡ records_with w (rows_seen u s.now.trees RecordKept)
-      → records ≡ filter (λ r. (selected (rows_in m u) c.request).rationale r.tag) (rows_in m u).records
-  records_asked c w h records is = is ∙ records_are (selected (rows_in m u) c.request) w h _ ∙ ap (filter (λ r. (selected (rows_in m u) c.request).rationale r.tag)) (k.seen u RecordKept)
+  pub records_asked : (chosen : Selection) (w : Wanted) → ((a : Name) → chosen.rationale a ≡ is_wanted w a) → (records : List RecordEntry) → records ≡ records_with w (rows_seen u s.now.trees RecordKept)
+      → records ≡ filter (λ r. chosen.rationale r.tag) (rows_in m u).records
+  records_asked chosen w h records is = is ∙ records_are chosen w h _ ∙ ap (filter (λ r. chosen.rationale r.tag)) (k.seen u RecordKept)
 
-  pub part_found : (c : Call) (units : List UnitRow) → units ≡ rows_seen u s.now.trees UnitKept
-      → (all : Bool) → ((rows : UnitRows) (p : Pair) → (selected rows c.request).pair p ≡ all) → (grants : List GrantRow) → grants ≡ filter (λ g. same_name c.person g.person || all) (rows_seen u s.now.trees GrantKept)
-      → (tags : Wanted) → ((a : Name) → (selected (rows_in m u) c.request).alarm a ≡ is_wanted tags a) → (alarms : List AlarmRow) → alarms ≡ alarms_with tags (rows_seen u s.now.trees AlarmKept)
-      → (shelved : Wanted) → ((a : Name) → (selected (rows_in m u) c.request).shelf a ≡ is_wanted shelved a) → (shelves : List ShelfRow) → shelves ≡ shelves_with shelved (rows_seen u s.now.trees ShelfKept)
-      → (told : Bool) → told ≡ looks_at_events c.request → (all_events : List Event) → all_events ≡ events_with told (rows_seen u s.now.trees EventKept) → (events : List Event) → ((rows : UnitRows) → events ≡ (selected rows c.request).events all_events)
-      → (records : List RecordEntry) → records ≡ filter (λ r. (selected (rows_in m u) c.request).rationale r.tag) (rows_in m u).records
-      → (bands : List BandRow) → bands ≡ filter (λ r. (selected (rows_in m u) c.request).matrix r.matrix_no) (rows_seen u s.now.trees BandKept)
-      → (cells : List CellRow) → cells ≡ filter (λ r. (selected (rows_in m u) c.request).matrix r.matrix_no) (rows_seen u s.now.trees CellKept)
-      → (changes : List ChangeEntry) → changes ≡ filter (λ r. (selected (rows_in m u) c.request).change r.number) (rows_seen u s.now.trees ChangeKept)
+  -- the change that is approved, as it was read
+  found_first : (n : ℕ) (changes : List ChangeEntry) → row_at nat_cmp change_number n changes ≡ slice_get (filter (λ r. same_number n r.number) changes) 0
+  found_first n [] = refl
+  found_first n (c ∷ changes) = by (same_number n c.number) where
+    by : (b : Bool) → (if b then Some c else row_at nat_cmp change_number n changes) ≡ slice_get (if b then c ∷ filter (λ r. same_number n r.number) changes else filter (λ r. same_number n r.number) changes) 0
+    by true = refl
+    by false = found_first n changes
+
+  pub approved_found : (n : ℕ) (read : List ChangeEntry) → read ≡ filter (λ r. same_number n r.number) (rows_seen u s.now.trees ChangeKept) → change_found (rows_in m u) n ≡ slice_get read 0
+  approved_found n read is = found_first n (rows_in m u).changes ∙ ap (λ rows. slice_get (filter (λ (r : ChangeEntry). same_number n r.number) rows) 0) (sym (k.seen u ChangeKept)) ∙ ap (λ rows. slice_get rows 0) (sym is)
+
+  pub part_found : (c : Call) (chosen : Selection) → chosen ≡ selected (rows_in m u) c.request → (units : List UnitRow) → units ≡ rows_seen u s.now.trees UnitKept
+      → (all : Bool) → ((p : Pair) → chosen.pair p ≡ all) → (grants : List GrantRow) → grants ≡ filter (λ g. same_name c.person g.person || all) (rows_seen u s.now.trees GrantKept)
+      → (tags : Wanted) → ((a : Name) → chosen.alarm a ≡ is_wanted tags a) → (alarms : List AlarmRow) → alarms ≡ alarms_with tags (rows_seen u s.now.trees AlarmKept)
+      → (shelved : Wanted) → ((a : Name) → chosen.shelf a ≡ is_wanted shelved a) → (shelves : List ShelfRow) → shelves ≡ shelves_with shelved (rows_seen u s.now.trees ShelfKept)
+      → (told : Bool) → told ≡ looks_at_events c.request → (all_events : List Event) → all_events ≡ events_with told (rows_seen u s.now.trees EventKept) → (events : List Event) → events ≡ chosen.events all_events
+      → (records : List RecordEntry) → records ≡ filter (λ r. chosen.rationale r.tag) (rows_in m u).records
+      → (bands : List BandRow) → bands ≡ filter (λ r. chosen.matrix r.matrix_no) (rows_seen u s.now.trees BandKept)
+      → (cells : List CellRow) → cells ≡ filter (λ r. chosen.matrix r.matrix_no) (rows_seen u s.now.trees CellKept)
+      → (changes : List ChangeEntry) → changes ≡ filter (λ r. chosen.change r.number) (rows_seen u s.now.trees ChangeKept)
       → (count : ℕ) → ((rows : UnitRows) → rows.alarms ≡ rows_seen u s.now.trees AlarmKept → rows.changes ≡ rows_seen u s.now.trees ChangeKept → (looks_at_events c.request ≡ true → rows.events ≡ all_events) → count ≡ counted_for rows c.request)
       → ◌≡◌ {A = UnitPart} (record { rows = record { units = units; grants = grants; alarms = alarms; shelves = shelves; events = events; bands = bands; cells = cells; records = records; changes = changes }; count = count }) (part_of_holder c (rows_in m u))
-  part_found c units us all ha grants gs tags ts alarms as_ shelved hs shelves ss told he all_events ae events es records rs bands bs cells ls changes cs count ns =
+  part_found c chosen is units us all ha grants gs tags ts alarms as_ shelved hs shelves ss told he all_events ae events es records rs bands bs cells ls changes cs count ns =
       let rows = rows_in m u in
-      let chosen = selected rows c.request in
-      λ i. record {
+      let whole : ◌≡◌ {A = UnitPart} (record { rows = record { units = units; grants = grants; alarms = alarms; shelves = shelves; events = events; bands = bands; cells = cells; records = records; changes = changes }; count = count }) (record { rows = rows_selected c.person chosen rows; count = counted_for rows c.request }) = λ i. record {
         rows = record {
           units = (us ∙ k.seen u UnitKept) i;
-          grants = (gs ∙ seen_grants c all (ha rows)) i;
+          grants = (gs ∙ seen_grants c chosen all ha) i;
           alarms = (as_ ∙ alarms_are chosen tags ts _ ∙ ap (filter (λ r. chosen.alarm r.tag)) (k.seen u AlarmKept)) i;
           shelves = (ss ∙ shelves_are chosen shelved hs _ ∙ ap (filter (λ r. chosen.shelf r.tag)) (k.seen u ShelfKept)) i;
-          events = (es rows ∙ ap chosen.events ae ∙ events_are rows c.request told he _ ∙ ap chosen.events (k.seen u EventKept)) i;
+          events = (es ∙ ap chosen.events ae ∙ ap (λ (x : Selection). x.events (events_with told (rows_seen u s.now.trees EventKept))) is ∙ events_are rows c.request told he _ ∙ sym (ap (λ (x : Selection). x.events (rows_seen u s.now.trees EventKept)) is) ∙ ap chosen.events (k.seen u EventKept)) i;
           bands = (bs ∙ ap (filter (λ r. chosen.matrix r.matrix_no)) (k.seen u BandKept)) i;
           cells = (ls ∙ ap (filter (λ r. chosen.matrix r.matrix_no)) (k.seen u CellKept)) i;
           records = rs i;
           changes = (cs ∙ ap (filter (λ r. chosen.change r.number)) (k.seen u ChangeKept)) i;
         };
         count = (ns rows (sym (k.seen u AlarmKept)) (sym (k.seen u ChangeKept)) (λ looks. sym (ae ∙ ap (λ b. events_with b (rows_seen u s.now.trees EventKept)) (he ∙ looks) ∙ k.seen u EventKept))) i;
-      }
+      } in
+      whole ∙ ap (λ (x : Selection). record { rows = rows_selected c.person x rows; count = counted_for rows c.request }) is
 
   -- the caller's grants tell whether the caller holds a role in the unit
   own_tell : (c : Call) (own : List GrantRow) → own ≡ filter (λ g. same_name c.person g.person) (rows_seen u s.now.trees GrantKept) → holds_by own c.moment c.person ≡ holds_by (rows_in m u).grants c.moment c.person

@@ -1,15 +1,14 @@
-//! The numbers of the matrices and of the changes that a request looks at, and the rows that a unit has of numbers.
+//! The numbers of the matrices and of the changes that a scope takes in, and the rows that a unit has of numbers.
 
 ghost use Rattle.std.specs.List.{flat_map, list_any};
 ghost use Rattle.std.specs.Prelude.{◌≡◌, ◌++◌, ◌||◌, ℕ, Bool, false, filter, insert, IfOk, List, MatchOption, OnOk};
 ghost use Rattle.sqlite.specs.Held.{state};
 ghost use Rattle.sqlite.specs.State.{HasCleanDisk};
 ghost use Rattle.sqlite.specs.Tree.{Trees};
-ghost use Rattle.plant_books.specs.Asking.{is_number};
+ghost use Rattle.plant_books.specs.Asking.{is_number, selection_by};
 ghost use Rattle.plant_columns.specs.Tables.{AreBooks, rows_seen};
 ghost use Rattle.plant_columns.specs.Tables.Kept.{BandKept, CellKept, ChangeKept};
 ghost use Rattle.plant_model.specs.Histories.{same_number};
-ghost use Rattle.plant_model.specs.Parts.{selected};
 ghost use Rattle.plant_model.specs.RowFacts.{change_number};
 ghost use Rattle.plant_model.specs.declared.rows.UnitRows.{UnitRows as Rows};
 ghost use Rattle.plant_store.specs.Changes.{CanTell};
@@ -17,8 +16,8 @@ ghost use Rattle.plant_store.specs.Mine.{own_row};
 ghost use Rattle.plant_store.specs.Numbers.{AreNumbers, with_number};
 
 use crate::read::{bands_at, cells_at, change_at};
-use plant_books::{wanted_change, wants_matrix, wants_sources};
-use plant_model::{BandRow, CellRow, ChangeEntry, RecordEntry, Request, UnitRow};
+use plant_books::{Scope, wanted_change, wants_matrix, wants_sources};
+use plant_model::{BandRow, CellRow, ChangeEntry, RecordEntry, UnitRow};
 use plant_types::{Table, UnitCode};
 use sqlite::{Alter, Connection, Error, ErrorCode};
 use std::alloc::Global;
@@ -71,15 +70,15 @@ fn matrix_in_force(units: &[UnitRow]) -> u32
     }
 }
 
-/// The numbers of the matrices that the request looks at.
-fn matrix_numbers(alloc: Global, units: &[UnitRow], request: &Request) -> Result<Table<u32>, Error>
-    ensures { (rows : Rows) → rows.units ≡ units.now → IfOk result (λ numbers. AreNumbers numbers (selected rows request.now).matrix) }
+/// The numbers of the matrices that the scope takes in.
+fn matrix_numbers(alloc: Global, units: &[UnitRow], scope: Scope<'_>) -> Result<Table<u32>, Error>
+    ensures { (rows : Rows) → rows.units ≡ units.now → IfOk result (λ numbers. AreNumbers numbers (selection_by rows scope.entry).matrix) }
 {
     let mut numbers = Table::new(alloc);
-    if wants_matrix(request) {
+    if wants_matrix(scope) {
         put(&mut numbers, matrix_in_force(units))?;
     }
-    put_some(&mut numbers, wanted_change(request))?;
+    put_some(&mut numbers, wanted_change(scope))?;
     Ok(numbers)
 }
 
@@ -93,19 +92,19 @@ fn put_sources(numbers: &mut Table<u32>, records: &[RecordEntry]) -> Result<(), 
     Ok(())
 }
 
-/// The numbers of the changes that the request looks at, where it looks at these records.
+/// The numbers of the changes that the scope takes in, where it takes in these records.
 fn change_numbers(
     alloc: Global,
     records: &[RecordEntry],
-    request: &Request,
+    scope: Scope<'_>,
 ) -> Result<Table<u32>, Error>
-    ensures { (rows : Rows) → records.now ≡ filter (λ r. (selected rows request.now).rationale r.tag) rows.records → IfOk result (λ numbers. AreNumbers numbers (selected rows request.now).change) }
+    ensures { (rows : Rows) → records.now ≡ filter (λ r. (selection_by rows scope.entry).rationale r.tag) rows.records → IfOk result (λ numbers. AreNumbers numbers (selection_by rows scope.entry).change) }
 {
     let mut numbers = Table::new(alloc);
-    if wants_sources(request) {
+    if wants_sources(scope) {
         put_sources(&mut numbers, records)?;
     }
-    put_some(&mut numbers, wanted_change(request))?;
+    put_some(&mut numbers, wanted_change(scope))?;
     Ok(numbers)
 }
 
@@ -207,56 +206,56 @@ fn rows_numbered<T: Numbered, S: Alter>(
     Ok(Table::from_vec(rows))
 }
 
-/// The limits of the unit's matrices that the request looks at.
+/// The limits of the unit's matrices that the scope takes in.
 pub fn some_bands<S: Alter>(
     alloc: Global,
     conn: &mut Connection<S>,
     unit: &UnitCode,
     units: &Table<UnitRow>,
-    request: &Request,
+    scope: Scope<'_>,
 ) -> Result<Table<BandRow>, Error>
     requires { conn.old.in_transaction ≡ false }
     ensures mode { conn.new.in_transaction ≡ false }
-    ensures rows { CanTell (state S.Store conn.new) → AreBooks (state S.Store conn.old).now → (rows : Rows) → rows.units ≡ units.now → IfOk result (λ bands. bands ≡ filter (λ r. (selected rows request.now).matrix r.matrix_no) (rows_seen unit.now (state S.Store conn.old).now.trees BandKept)) }
+    ensures rows { CanTell (state S.Store conn.new) → AreBooks (state S.Store conn.old).now → (rows : Rows) → rows.units ≡ units.now → IfOk result (λ bands. bands ≡ filter (λ r. (selection_by rows scope.entry).matrix r.matrix_no) (rows_seen unit.now (state S.Store conn.old).now.trees BandKept)) }
     ensures same { CanTell (state S.Store conn.new) → AreBooks (state S.Store conn.old).now → (state S.Store conn.new).now ≡ (state S.Store conn.old).now }
     ensures told { CanTell (state S.Store conn.new) → CanTell (state S.Store conn.old) }
 {
-    let numbers = matrix_numbers(alloc, units.as_slice(), request)?;
+    let numbers = matrix_numbers(alloc, units.as_slice(), scope)?;
     rows_numbered(alloc, conn, unit, numbers.as_slice())
 }
 
-/// The cells of the unit's matrices that the request looks at.
+/// The cells of the unit's matrices that the scope takes in.
 pub fn some_cells<S: Alter>(
     alloc: Global,
     conn: &mut Connection<S>,
     unit: &UnitCode,
     units: &Table<UnitRow>,
-    request: &Request,
+    scope: Scope<'_>,
 ) -> Result<Table<CellRow>, Error>
     requires { conn.old.in_transaction ≡ false }
     ensures mode { conn.new.in_transaction ≡ false }
-    ensures rows { CanTell (state S.Store conn.new) → AreBooks (state S.Store conn.old).now → (rows : Rows) → rows.units ≡ units.now → IfOk result (λ cells. cells ≡ filter (λ r. (selected rows request.now).matrix r.matrix_no) (rows_seen unit.now (state S.Store conn.old).now.trees CellKept)) }
+    ensures rows { CanTell (state S.Store conn.new) → AreBooks (state S.Store conn.old).now → (rows : Rows) → rows.units ≡ units.now → IfOk result (λ cells. cells ≡ filter (λ r. (selection_by rows scope.entry).matrix r.matrix_no) (rows_seen unit.now (state S.Store conn.old).now.trees CellKept)) }
     ensures same { CanTell (state S.Store conn.new) → AreBooks (state S.Store conn.old).now → (state S.Store conn.new).now ≡ (state S.Store conn.old).now }
     ensures told { CanTell (state S.Store conn.new) → CanTell (state S.Store conn.old) }
 {
-    let numbers = matrix_numbers(alloc, units.as_slice(), request)?;
+    let numbers = matrix_numbers(alloc, units.as_slice(), scope)?;
     rows_numbered(alloc, conn, unit, numbers.as_slice())
 }
 
-/// The unit's changes that the request looks at, where it looks at these records.
+/// The unit's changes that the scope takes in, where it takes in these records.
 pub fn some_changes<S: Alter>(
     alloc: Global,
     conn: &mut Connection<S>,
     unit: &UnitCode,
     records: &Table<RecordEntry>,
-    request: &Request,
+    scope: Scope<'_>,
 ) -> Result<Table<ChangeEntry>, Error>
     requires { conn.old.in_transaction ≡ false }
     ensures mode { conn.new.in_transaction ≡ false }
-    ensures rows { CanTell (state S.Store conn.new) → AreBooks (state S.Store conn.old).now → (rows : Rows) → records.now ≡ filter (λ r. (selected rows request.now).rationale r.tag) rows.records → IfOk result (λ changes. changes ≡ filter (λ r. (selected rows request.now).change r.number) (rows_seen unit.now (state S.Store conn.old).now.trees ChangeKept)) }
+    ensures rows { CanTell (state S.Store conn.new) → AreBooks (state S.Store conn.old).now → (rows : Rows) → records.now ≡ filter (λ r. (selection_by rows scope.entry).rationale r.tag) rows.records → IfOk result (λ changes. changes ≡ filter (λ r. (selection_by rows scope.entry).change r.number) (rows_seen unit.now (state S.Store conn.old).now.trees ChangeKept)) }
     ensures same { CanTell (state S.Store conn.new) → AreBooks (state S.Store conn.old).now → (state S.Store conn.new).now ≡ (state S.Store conn.old).now }
     ensures told { CanTell (state S.Store conn.new) → CanTell (state S.Store conn.old) }
 {
-    let numbers = change_numbers(alloc, records.as_slice(), request)?;
+    let numbers = change_numbers(alloc, records.as_slice(), scope)?;
     rows_numbered(alloc, conn, unit, numbers.as_slice())
 }

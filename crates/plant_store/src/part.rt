@@ -1,14 +1,15 @@
 //! The part of a unit's rows that a call looks at.
 
-ghost use Rattle.std.specs.Prelude.{◌≡◌, ◌||◌, false, filter, true, IfOk, Some};
+ghost use Rattle.std.specs.Prelude.{◌≡◌, ◌||◌, ℕ, false, filter, true, IfOk, Some};
 ghost use Rattle.sqlite.specs.Held.{state};
 ghost use Rattle.sqlite.specs.State.{HasCleanDisk};
-ghost use Rattle.plant_model.specs.Parts.{counted_for, part_of_holder, selected};
+ghost use Rattle.plant_model.specs.Parts.{counted_for, is_crowded as is_crowded_in, part_of_holder};
 ghost use Rattle.plant_model.specs.Worlds.{unit_named};
 ghost use Rattle.plant_types.specs.Names.{same_name};
 ghost use Rattle.plant_model.specs.declared.rows.UnitRows.{UnitRows as Rows};
 ghost use Rattle.plant_types.specs.Names.{Name};
-ghost use Rattle.plant_books.specs.Asking.{is_crowded_for};
+ghost use Rattle.plant_books.specs.Asking.{is_shelving as is_shelving_by, number_approved as number_approved_by, selection_by};
+ghost use Rattle.plant_model.specs.Histories.{same_number};
 ghost use Rattle.plant_books.specs.Contents.{Content, part_in, rows_in};
 ghost use Rattle.plant_store.specs.Changes.{CanTell};
 ghost use Rattle.plant_store.specs.Keeping.{KeepsIn};
@@ -22,17 +23,19 @@ ghost use Rattle.plant_store.specs.Wanted.{alarms_with, events_with, records_wit
 
 use crate::numbers::{some_bands, some_cells, some_changes};
 use crate::read::{
-    alarm_at, alarms_of, count_of_alarms, count_of_shelves, events_of, grants_of,
+    alarm_at, alarms_of, change_at, count_of_alarms, count_of_shelves, events_of, grants_of,
     last_change_number, own_grants, record_at, records_of, shelf_at, shelves_of, units_of,
 };
 use crate::unit::has_row;
 use plant_alarm::Event;
 use plant_books::{
-    Counted, Wanted, events_asked, holds_some_by, is_crowded, is_shelving, part_of_grants, unit_of,
-    wanted_alarms, wanted_count, wanted_events, wanted_records, wanted_shelves, wants_all_grants,
+    Scope, Wanted, events_asked, holds_some_by, is_crowded, is_shelving, number_approved,
+    part_of_grants, scope_of, wanted_alarms, wanted_events, wanted_records, wanted_shelves,
+    wants_all_grants,
 };
 use plant_model::{
-    AlarmRow, Call, GrantRow, RecordEntry, Request, ShelfRow, UnitPart, UnitRow, UnitRows,
+    AlarmRow, Call, CallKind, ChangeEntry, Counted, GrantRow, RecordEntry, Request, ShelfRow,
+    UnitPart, UnitRow, UnitRows,
 };
 use plant_types::{Table, UnitCode};
 use sqlite::{Alter, Connection, Error, ErrorCode};
@@ -144,18 +147,14 @@ pub fn some_events<S: Alter>(
 fn looks_at_events(request: &Request) -> bool
     ensures { result ≡ wanted.looks_at_events request.now }
 {
-    matches!(request, Request::Import { .. } | Request::Floods { .. })
+    matches!(request.kind(), CallKind::Import | CallKind::Floods)
 }
 
-/// Of the unit's events, which stand in rising number, those that the request looks at.
-fn events_for(
-    alloc: Global,
-    events: &Table<Event>,
-    request: &Request,
-) -> Result<Table<Event>, Error>
-    ensures { IsInOrder nat_cmp event_number events.now → IfOk result (λ asked. (rows : Rows) → asked ≡ (selected rows request.now).events events.now) }
+/// Of the unit's events, which stand in rising number, those that the scope takes in.
+fn events_for(alloc: Global, events: &Table<Event>, scope: Scope<'_>) -> Result<Table<Event>, Error>
+    ensures { IsInOrder nat_cmp event_number events.now → IfOk result (λ asked. (rows : Rows) → asked ≡ (selection_by rows scope.entry).events events.now) }
 {
-    match events_asked(alloc, events, wanted_events(request)) {
+    match events_asked(alloc, events, wanted_events(scope)) {
         Ok(asked) => Ok(asked),
         Err(_) => Err(Error::SqliteFailure(ErrorCode::OutOfMemory)),
     }
@@ -175,7 +174,7 @@ fn count_for<S: Alter>(
     ensures same { CanTell (state S.Store conn.new) → AreBooks (state S.Store conn.old).now → (state S.Store conn.new).now ≡ (state S.Store conn.old).now }
     ensures told { CanTell (state S.Store conn.new) → CanTell (state S.Store conn.old) }
 {
-    match wanted_count(request) {
+    match request.kind().count() {
         Counted::Nothing => Ok(0),
         Counted::Alarms => count_of_alarms(conn, unit),
         Counted::Events => Ok(events.len() as u64),
@@ -192,7 +191,7 @@ fn crowded_for<S: Alter>(
 ) -> Result<bool, Error>
     requires { conn.old.in_transaction ≡ false }
     ensures mode { conn.new.in_transaction ≡ false }
-    ensures rows { HasCleanDisk (state S.Store conn.new) → AreBooks (state S.Store conn.old).now → IfOk result (λ crowded. (rows : Rows) → rows.units ≡ units.now → rows.shelves ≡ rows_seen unit.now (state S.Store conn.old).now.trees ShelfKept → is_crowded_for rows request.now ≡ crowded) }
+    ensures rows { HasCleanDisk (state S.Store conn.new) → AreBooks (state S.Store conn.old).now → IfOk result (λ crowded. (rows : Rows) → rows.units ≡ units.now → rows.shelves ≡ rows_seen unit.now (state S.Store conn.old).now.trees ShelfKept → is_shelving_by request.now ≡ true → is_crowded_in rows ≡ crowded) }
     ensures same { CanTell (state S.Store conn.new) → AreBooks (state S.Store conn.old).now → (state S.Store conn.new).now ≡ (state S.Store conn.old).now }
     ensures told { CanTell (state S.Store conn.new) → CanTell (state S.Store conn.old) }
 {
@@ -200,6 +199,25 @@ fn crowded_for<S: Alter>(
         Ok(is_crowded(units, count_of_shelves(conn, unit)?))
     } else {
         Ok(false)
+    }
+}
+
+/// The change that the request approves, if it approves one that is there.
+fn approved_for<S: Alter>(
+    alloc: Global,
+    conn: &mut Connection<S>,
+    unit: &UnitCode,
+    request: &Request,
+) -> Result<Table<ChangeEntry>, Error>
+    requires { conn.old.in_transaction ≡ false }
+    ensures mode { conn.new.in_transaction ≡ false }
+    ensures rows { HasCleanDisk (state S.Store conn.new) → AreBooks (state S.Store conn.old).now → IfOk result (λ rows. (n : ℕ) → number_approved_by request.now ≡ Some n → rows ≡ filter (λ r. same_number n r.number) (rows_seen unit.now (state S.Store conn.old).now.trees ChangeKept)) }
+    ensures same { CanTell (state S.Store conn.new) → AreBooks (state S.Store conn.old).now → (state S.Store conn.new).now ≡ (state S.Store conn.old).now }
+    ensures told { CanTell (state S.Store conn.new) → CanTell (state S.Store conn.old) }
+{
+    match number_approved(request) {
+        Some(number) => change_at(alloc, conn, unit, number),
+        None => Ok(Table::new(alloc)),
     }
 }
 
@@ -221,21 +239,23 @@ fn holders_part<S: Alter>(
     ensures told { CanTell (state S.Store conn.new) → CanTell (state S.Store conn.old) }
 {
     let request = &call.request;
-    let all = wants_all_grants(request);
-    let grants = some_grants(alloc, conn, unit, own, all)?;
     let crowded = crowded_for(conn, unit, &units, request)?;
-    let tags = wanted_alarms(request, crowded);
+    let approved = approved_for(alloc, conn, unit, request)?;
+    let scope = scope_of(request, crowded, approved.as_slice().first());
+    let all = wants_all_grants(scope);
+    let grants = some_grants(alloc, conn, unit, own, all)?;
+    let tags = wanted_alarms(scope);
     let alarms = some_alarms(alloc, conn, unit, tags)?;
-    let shelved = wanted_shelves(request, crowded);
+    let shelved = wanted_shelves(scope);
     let shelves = some_shelves(alloc, conn, unit, shelved)?;
     let told = looks_at_events(request);
     let all_events = some_events(alloc, conn, unit, told)?;
-    let events = events_for(alloc, &all_events, request)?;
-    let recorded = wanted_records(request);
+    let events = events_for(alloc, &all_events, scope)?;
+    let recorded = wanted_records(scope);
     let records = some_records(alloc, conn, unit, recorded)?;
-    let bands = some_bands(alloc, conn, unit, &units, request)?;
-    let cells = some_cells(alloc, conn, unit, &units, request)?;
-    let changes = some_changes(alloc, conn, unit, &records, request)?;
+    let bands = some_bands(alloc, conn, unit, &units, scope)?;
+    let cells = some_cells(alloc, conn, unit, &units, scope)?;
+    let changes = some_changes(alloc, conn, unit, &records, scope)?;
     let count = count_for(conn, unit, request, &all_events)?;
     Ok(UnitPart {
         rows: UnitRows {
@@ -291,7 +311,7 @@ pub fn part_of<S: Alter>(
     ensures same { CanTell (state S.Store conn.new) → AreBooks (state S.Store conn.old).now → (state S.Store conn.new).now ≡ (state S.Store conn.old).now }
     ensures told { CanTell (state S.Store conn.new) → CanTell (state S.Store conn.old) }
 {
-    match unit_of(&call.request) {
+    match call.request.unit() {
         Some(unit) => unit_part(alloc, conn, unit, call),
         None => Ok(None),
     }

@@ -16,7 +16,7 @@ use Rattle.plant_model.specs.Events.{events}
 use Rattle.plant_model.specs.Histories.{same_number}
 use Rattle.plant_model.specs.Legality.{IsLegal}
 use Rattle.plant_model.specs.Matrices.{matrix_numbered}
-use Rattle.plant_model.specs.Parts.{Selection, counted_for, every, is_source, none, of_proposal, part_of, part_of_holder, part_of_stranger, rows_selected, selected}
+use Rattle.plant_model.specs.Parts.{AllEvents, AllRecords, Approval, File, OneChange, OneRecord, Scope, Selection, counted_for, every, is_source, none, of_approved, of_topic, part_of, part_of_holder, part_of_stranger, rows_selected, scope_of, selected, selection}
 use Rattle.plant_model.specs.RowFacts.{alarm_tag, cells_at, change_found, change_number, has_cells, holds_by, matrix_read, record_found, record_tag, shelf_tag, unit_read}
 use Rattle.plant_model.specs.Rows.{alarm_row, alarm_rows, cell_rows, change_entry, change_rows, max_of_kind, record_entry, record_rows, records_of, rows_of, shelf_rows, sheet_of_kind, tag_of_kind, topic}
 use Rattle.plant_model.specs.declared.call.Call.{Call}
@@ -26,6 +26,8 @@ use Rattle.plant_model.specs.declared.reply.RecordRow.{RecordRow}
 use Rattle.plant_model.specs.declared.rows.AlarmRow.{AlarmRow}
 use Rattle.plant_model.specs.declared.rows.CellRow.{CellRow}
 use Rattle.plant_model.specs.declared.rows.ChangeEntry.{ChangeEntry}
+use Rattle.plant_model.specs.declared.rows.ChangeTopic.{ChangeTopic}
+use Rattle.plant_model.specs.declared.rows.ChangeTopic.TheVariants.{Limit as LimitTopic, Matrix as MatrixTopic, Record as RecordTopic}
 use Rattle.plant_model.specs.declared.rows.RecordEntry.{RecordEntry}
 use Rattle.plant_model.specs.declared.rows.UnitRows.{UnitRows}
 use Rattle.plant_ration.specs.Grid.{Grid}
@@ -64,15 +66,28 @@ no_event_rises : IsRising []
 no_event_rises i j d lt le = absurd (omega arith)
 
 -- the events that a request looks at rise as all do, and are no more
+abbrev AreFew : List Event → Type 0
+AreFew es = IsRising es × (length es ≤ 4294967295)
+
+few_of_topic : (rows : UnitRows) (tag : Option Name) (k : ChangeTopic) (es : List Event) → AreFew ((of_topic rows tag k).events es)
+few_of_topic rows tag MatrixTopic es = (no_event_rises, omega arith)
+few_of_topic rows (Some a) RecordTopic es = (no_event_rises, omega arith)
+few_of_topic rows (Some a) LimitTopic es = (no_event_rises, omega arith)
+few_of_topic rows None RecordTopic es = (no_event_rises, omega arith)
+few_of_topic rows None LimitTopic es = (no_event_rises, omega arith)
+
+few_of_approved : (rows : UnitRows) (n : ℕ) (o : Option ChangeEntry) (es : List Event) → AreFew ((of_approved rows n o).events es)
+few_of_approved rows n None es = (no_event_rises, omega arith)
+few_of_approved rows n (Some c) es = few_of_topic rows c.tag c.kind_no es
+
+few_of : (rows : UnitRows) (s : Scope) (es : List Event) → IsRising es → length es ≤ 100000 → AreFew ((selection rows s).events es)
+few_of rows (File file) es h few = (needed_rises es file h, (let le = needed_few es file h in omega (arith, few, le)))
+few_of rows AllEvents es h few = (h, omega (arith, few))
+few_of rows (Approval n) es h few = few_of_approved rows n (change_found rows n) es
+few_of rows _ es h few = (no_event_rises, omega arith)
+
 events_left : (rows : UnitRows) (q : Request) (es : List Event) → IsRising es → length es ≤ 100000 → IsRising ((selected rows q).events es) × (length ((selected rows q).events es) ≤ 4294967295)
-events_left rows (Import u file) es h few = (needed_rises es (rows_of_file file) h, (let le = needed_few es (rows_of_file file) h in omega (arith, few, le)))
-events_left rows (Floods u begin until) es h few = (h, omega (arith, few))
-events_left rows (Propose u x) es h few = by x.kind where
-  by : (k : ChangeKind) → IsRising ((of_proposal rows k).events es) × (length ((of_proposal rows k).events es) ≤ 4294967295)
-  by (Rationale a s) = (no_event_rises, omega arith)
-  by (Matrix m) = (no_event_rises, omega arith)
-  by (Limit a max) = (no_event_rises, omega arith)
-events_left rows _ es h few = (no_event_rises, omega arith)
+events_left rows q es h few = few_of rows (scope_of q) es h few
 
 or_either : (a b : Bool) → (a || b) ≡ true → (a ≡ true) ⊎ (b ≡ true)
 or_either true b e = inl refl
@@ -129,37 +144,32 @@ module _ (h : List Call) (n : ℕ) (m : Grid) (is : kind_of_change h n ≡ Some 
   no_source tags = not_true (is_source (rows_of h) tags n) (λ e. no_source_among tags (in_order name_cmp (tags_of_records h)) e)
 
   -- a matrix that is selected is there with its rows
+  no_source_named : (tags : Name → Bool) (A : Type 0) → is_source (rows_of h) tags n ≡ true → A
+  no_source_named tags A e = absurd (let no : true ≡ false = sym e ∙ no_source tags in cc)
+
+  topic_matrix : (tag : Option Name) (k : ChangeTopic) → (of_topic (rows_of h) tag k).change n ≡ true → (of_topic (rows_of h) tag k).matrix n ≡ true
+  topic_matrix tag MatrixTopic e = no_source_named every _ e
+  topic_matrix (Some a) RecordTopic e = cc
+  topic_matrix (Some a) LimitTopic e = cc
+  topic_matrix None RecordTopic e = no_source_named every _ e
+  topic_matrix None LimitTopic e = no_source_named every _ e
+
+  approved_matrix : (k : ℕ) (o : Option ChangeEntry) → (of_approved (rows_of h) k o).change n ≡ true → (of_approved (rows_of h) k o).matrix n ≡ true
+  approved_matrix k None e = e
+  approved_matrix k (Some c) e = by (or_either ((of_topic (rows_of h) c.tag c.kind_no).change n) (same_number k n) e) where
+    by : ((of_topic (rows_of h) c.tag c.kind_no).change n ≡ true) ⊎ (same_number k n ≡ true) → ((of_topic (rows_of h) c.tag c.kind_no).matrix n || same_number k n) ≡ true
+    by (inl source) = or_true _ _ (topic_matrix c.tag c.kind_no source)
+    by (inr named) = or_later _ _ named
+
+  scope_matrix : (s : Scope) → (selection (rows_of h) s).change n ≡ true → (selection (rows_of h) s).matrix n ≡ true
+  scope_matrix (OneChange k) e = e
+  scope_matrix (Approval k) e = approved_matrix k (change_found (rows_of h) k) e
+  scope_matrix (OneRecord a) e = no_source_named (same_name a) _ e
+  scope_matrix AllRecords e = no_source_named every _ e
+  scope_matrix _ e = cc
+
   named_matrix : (q : Request) → (selected (rows_of h) q).change n ≡ true → (selected (rows_of h) q).matrix n ≡ true
-  named_matrix (WithdrawChange u k) e = e
-  named_matrix (Reject u k) e = e
-  named_matrix (ChangeOf u k) e = e
-  named_matrix (Approve u k) e = by (or_either (is_source (rows_of h) every n) (same_number n k) e) where
-    by : (is_source (rows_of h) every n ≡ true) ⊎ (same_number n k ≡ true) → (same_number n (unit_read (rows_of h)).matrix_no || same_number n k) ≡ true
-    by (inl source) = absurd (let no : true ≡ false = sym source ∙ no_source every in cc)
-    by (inr named) = or_later (same_number n (unit_read (rows_of h)).matrix_no) (same_number n k) named
-  named_matrix (RecordOf u a) e = absurd (let no : true ≡ false = sym e ∙ no_source (same_name a) in cc)
-  named_matrix (Propose u x) e = by x.kind e where
-    by : (k : ChangeKind) → (of_proposal (rows_of h) k).change n ≡ true → (of_proposal (rows_of h) k).matrix n ≡ true
-    by (Rationale a s) e = cc
-    by (Matrix g) e = absurd (let no : true ≡ false = sym e ∙ no_source every in cc)
-    by (Limit a max) e = cc
-  named_matrix (OpenUnit u s g q) e = cc
-  named_matrix (Grant u p t) e = cc
-  named_matrix (Withdraw u p r) e = cc
-  named_matrix (Register u a l max) e = cc
-  named_matrix (Import u file) e = cc
-  named_matrix (TimedShelve u a d w) e = cc
-  named_matrix (OneShotShelve u a w) e = cc
-  named_matrix (Unshelve u a) e = cc
-  named_matrix (RemoveFromService u a w) e = cc
-  named_matrix (PlaceInService u a) e = cc
-  named_matrix (Status u a) e = cc
-  named_matrix (Shelves u) e = cc
-  named_matrix (Alarms u) e = cc
-  named_matrix (Standing u) e = cc
-  named_matrix (Floods u begin until) e = cc
-  named_matrix MyUnits e = cc
-  named_matrix MyShelves e = cc
+  named_matrix q e = scope_matrix (scope_of q) e
 
 -- the columns of a sheet are there where the change is of a record
 abbrev has_sheet_of : ChangeKind → Bool

@@ -16,7 +16,7 @@ use crate::matrices::push_matrix;
 use plant_alarm::AlarmState;
 use plant_books::alarm_of;
 use plant_model::{
-    AlarmRow, Call, Change, GrantRow, Key, Request, Row, ShelfRow, UnitPart, UnitRow,
+    AlarmRow, Call, Change, Effect, GrantRow, Key, Request, Row, ShelfRow, UnitPart, UnitRow,
 };
 use plant_ration::ChangeState;
 use plant_types::{Duplicate, Fault, Role, Seconds, Table, Tag, Words};
@@ -152,7 +152,21 @@ fn own_change(alloc: Global, part: &UnitPart, call: &Call) -> Result<Option<Chan
             return removal(alloc, part, call, tag, words);
         }
         Request::PlaceInService { tag, .. } => return placement(alloc, part, tag),
-        _ => return Ok(None),
+        Request::OpenUnit { .. }
+        | Request::Import { .. }
+        | Request::Propose { .. }
+        | Request::WithdrawChange { .. }
+        | Request::Approve { .. }
+        | Request::Reject { .. }
+        | Request::Status { .. }
+        | Request::RecordOf { .. }
+        | Request::ChangeOf { .. }
+        | Request::Shelves { .. }
+        | Request::Alarms { .. }
+        | Request::Standing { .. }
+        | Request::Floods { .. }
+        | Request::MyUnits
+        | Request::MyShelves => return Ok(None),
     };
     Ok(Some(change))
 }
@@ -231,18 +245,7 @@ pub fn changes_of(
 pub fn is_read(request: &Request) -> bool
     ensures { result ≡ is_read request.now }
 {
-    matches!(
-        request,
-        Request::Status { .. }
-            | Request::RecordOf { .. }
-            | Request::ChangeOf { .. }
-            | Request::Shelves { .. }
-            | Request::Alarms { .. }
-            | Request::Standing { .. }
-            | Request::Floods { .. }
-            | Request::MyUnits
-            | Request::MyShelves
-    )
+    matches!(request.kind().effect(), Effect::Reads)
 }
 
 /// The changes of an opening.

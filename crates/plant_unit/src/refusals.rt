@@ -5,7 +5,7 @@ ghost use Rattle.plant_types.specs.declared.fault.Fault.TheVariants.{Memory};
 ghost use Rattle.plant_unit.specs.Additions.{AreKept};
 ghost use Rattle.plant_types.specs.Names.{Name};
 ghost use Rattle.plant_model.specs.RowFacts.{facts_in, unit_read};
-ghost use Rattle.plant_model.specs.Refusals.{first_refusal, over_quota, own_refusals, role_needed};
+ghost use Rattle.plant_model.specs.Refusals.{first_refusal, over_quota, own_refusals};
 ghost use Rattle.plant_unit.specs.Judged.{holder_refusals, is_import, is_on_change};
 ghost use Rattle.plant_model.specs.declared.call.Request.TheVariants.{ChangeOf, Grant, OneShotShelve, PlaceInService, RecordOf, Register, RemoveFromService, Status, TimedShelve, Unshelve, Withdraw};
 
@@ -18,26 +18,6 @@ use plant_books::{alarm_of, is_before};
 use plant_model::{Call, Full, Refused, Request, UnitPart, UnitRow};
 use plant_types::{Fault, Moment, Person, Role, Seconds, Tag, Tenure};
 use std::alloc::Global;
-
-fn needed(request: &Request) -> Option<Role>
-    ensures { result ≡ role_needed request.now }
-{
-    match request {
-        Request::Grant { .. } | Request::Withdraw { .. } => Some(Role::Steward),
-        Request::Register { .. } | Request::Propose { .. } | Request::WithdrawChange { .. } => {
-            Some(Role::Engineer)
-        }
-        Request::Approve { .. } | Request::Reject { .. } => Some(Role::Approver),
-        Request::TimedShelve { .. } | Request::OneShotShelve { .. } | Request::Unshelve { .. } => {
-            Some(Role::Operator)
-        }
-        Request::Import { .. } => Some(Role::Operator),
-        Request::RemoveFromService { .. } | Request::PlaceInService { .. } => {
-            Some(Role::Maintainer)
-        }
-        _ => None,
-    }
-}
 
 fn grant_refusal(part: &UnitPart, person: &Person, tenure: Tenure, now: Moment) -> Option<Refused>
     ensures { (p u : Name) → result ≡ first_refusal (own_refusals (facts_in part.now) p now (Grant u person.now tenure)) }
@@ -215,7 +195,17 @@ fn plain_refusal(unit: &UnitRow, part: &UnitPart, now: Moment, request: &Request
                 Some(Refused::RangeNotAligned)
             }
         }
-        _ => None,
+        Request::OpenUnit { .. }
+        | Request::Import { .. }
+        | Request::Propose { .. }
+        | Request::WithdrawChange { .. }
+        | Request::Approve { .. }
+        | Request::Reject { .. }
+        | Request::Shelves { .. }
+        | Request::Alarms { .. }
+        | Request::Standing { .. }
+        | Request::MyUnits
+        | Request::MyShelves => None,
     }
 }
 
@@ -254,7 +244,7 @@ pub fn holder_refusal(unit: &UnitRow, part: &UnitPart, call: &Call) -> Option<Re
     if !holds_any(part, person, now) {
         return Some(Refused::NotGranted);
     }
-    if let Some(role) = needed(&call.request) {
+    if let Some(role) = call.request.kind().role_needed() {
         if !is_held(part, person, role, now) {
             return Some(Refused::RoleLacking(role));
         }

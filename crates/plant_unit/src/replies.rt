@@ -293,6 +293,20 @@ pub fn reply_to(
         Request::RecordOf { tag, .. } => record_reply(alloc, part, tag),
         Request::ChangeOf { number, .. } => change_reply(alloc, part, *number),
         Request::Propose { .. } => Ok(Reply::Number(next_number(part))),
-        _ => Ok(Reply::Done),
+        Request::OpenUnit { .. }
+        | Request::Grant { .. }
+        | Request::Withdraw { .. }
+        | Request::Register { .. }
+        | Request::Import { .. }
+        | Request::TimedShelve { .. }
+        | Request::OneShotShelve { .. }
+        | Request::Unshelve { .. }
+        | Request::RemoveFromService { .. }
+        | Request::PlaceInService { .. }
+        | Request::WithdrawChange { .. }
+        | Request::Approve { .. }
+        | Request::Reject { .. }
+        | Request::MyUnits
+        | Request::MyShelves => Ok(Reply::Done),
     }
 }

@@ -1,5 +1,5 @@
 use Rattle.std.proofs.Common.{ℕ, Bool, List, ap, sym, subst, ◌∙◌, ◌&&◌, ◌||◌, false}
-use Rattle.plant_books.specs.Asking.{change_named, is_number}
+use Rattle.plant_books.specs.Asking.{is_number, number_named}
 use Rattle.plant_model.specs.Histories.{same_number}
 use Rattle.plant_model.specs.declared.rows.UnitRow.{UnitRow}
 use Rattle.plant_store.specs.Mine.{own_row}
@@ -18,5 +18,5 @@ returns c rows same =
     ] in
     numbers_as _ _ _ (c.in_ok-put_some.ensures _ first) (λ k.
     ap (λ o. (c.wants_matrix.result && in_force k) || is_number o k) c.wanted_change.ensures
-    ∙ ap (λ (units : List UnitRow). (c.wants_matrix.result && same_number (own_row units).matrix_no k) || is_number (change_named c.args.request.now) k) (sym same)
+    ∙ ap (λ (units : List UnitRow). (c.wants_matrix.result && same_number (own_row units).matrix_no k) || is_number (number_named c.args.scope) k) (sym same)
     ∙ sym (c.wants_matrix.ensures rows k))

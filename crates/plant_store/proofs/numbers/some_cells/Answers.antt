@@ -2,7 +2,7 @@ use Rattle.std.proofs.Common.{sym, ◌∙◌}
 use Rattle.sqlite.specs.Held.{state}
 use Rattle.plant_columns.specs.Tables.{rows_seen}
 use Rattle.plant_columns.specs.Tables.Kept.{CellKept}
-use Rattle.plant_model.specs.Parts.{selected}
+use Rattle.plant_books.specs.Asking.{selection_by}
 use Rattle.plant_model.specs.declared.rows.CellRow.{CellRow}
 use Rattle.plant_store.proofs.NumberLaws.{cells_climb, in_turn}
 use Rattle.plant_store.proofs.Queries.{if_ok}
@@ -13,4 +13,4 @@ returns-clause-rows g c told books rows same =
     let u = c.args.unit.now in
     let db = (state g.S.Store c.args.conn.now).now in
     let are = c.in_ok-numbers.ensures rows (same ∙ sym c.as_slice.ensures) in
-    if_ok c.rows_numbered.result (λ found h. h ∙ in_turn (λ (r : CellRow). r.matrix_no) (selected rows c.args.request.now).matrix c.in_ok-numbers.numbers are (rows_seen u db.trees CellKept) (cells_climb u db books)) (rw c.as_slice-2.ensures at (c.rows_numbered.ensures.rows told books))
+    if_ok c.rows_numbered.result (λ found h. h ∙ in_turn (λ (r : CellRow). r.matrix_no) (selection_by rows c.args.scope).matrix c.in_ok-numbers.numbers are (rows_seen u db.trees CellKept) (cells_climb u db books)) (rw c.as_slice-2.ensures at (c.rows_numbered.ensures.rows told books))

@@ -2,7 +2,7 @@ use Rattle.std.proofs.Common.{◌∙◌}
 use Rattle.sqlite.specs.Held.{state}
 use Rattle.plant_columns.specs.Tables.{rows_seen}
 use Rattle.plant_columns.specs.Tables.Kept.{ChangeKept}
-use Rattle.plant_model.specs.Parts.{selected}
+use Rattle.plant_books.specs.Asking.{selection_by}
 use Rattle.plant_model.specs.declared.rows.ChangeEntry.{ChangeEntry}
 use Rattle.plant_store.proofs.NumberLaws.{changes_climb, in_turn}
 use Rattle.plant_store.proofs.Queries.{if_ok}
@@ -13,4 +13,4 @@ returns-clause-rows g c told books rows same =
     let u = c.args.unit.now in
     let db = (state g.S.Store c.args.conn.now).now in
     let are = c.in_ok-numbers.ensures rows (c.as_slice.ensures ∙ same) in
-    if_ok c.rows_numbered.result (λ found h. h ∙ in_turn (λ (r : ChangeEntry). r.number) (selected rows c.args.request.now).change c.in_ok-numbers.numbers are (rows_seen u db.trees ChangeKept) (changes_climb u db books)) (rw c.as_slice-2.ensures at (c.rows_numbered.ensures.rows told books))
+    if_ok c.rows_numbered.result (λ found h. h ∙ in_turn (λ (r : ChangeEntry). r.number) (selection_by rows c.args.scope).change c.in_ok-numbers.numbers are (rows_seen u db.trees ChangeKept) (changes_climb u db books)) (rw c.as_slice-2.ensures at (c.rows_numbered.ensures.rows told books))

@@ -13,7 +13,10 @@ use Rattle.plant_store.specs.Keeping.{has_any}
 use Rattle.plant_columns.specs.Tables.{AreBooks, rows_seen}
 use Rattle.plant_columns.specs.Tables.Kept.{UnitKept, GrantKept, AlarmKept, ShelfKept, BandKept, CellKept, EventKept, RecordKept, ChangeKept}
 use Rattle.plant_store.specs.Wanted.{alarms_with, events_with, records_with, shelves_with}
-use Rattle.plant_store.proofs.Selected.{part_found, read_in_order, records_asked}
+use Rattle.std.specs.List.{slice_get}
+use Rattle.plant_books.specs.Asking.{IsSeenIn, selection_by}
+use Rattle.plant_model.specs.Histories.{same_number}
+use Rattle.plant_store.proofs.Selected.{approved_found, part_found, read_in_order, records_asked}
 use Rattle.plant_columns.proofs.ShapeLaws.{good}
 use Rattle.plant_columns.specs.Tables.{event_shape}
 use Rattle.plant_tables.proofs.Shapes.{rises}
@@ -27,62 +30,70 @@ returns-clause-found g c told m k units own =
     let u = c.args.unit.now in
     let call = c.args.call.now in
     let old = state g.S.Store c.args.conn.now in
-    let s1 = state g.S.Store c.some_grants.new.conn in
-    let s2 = state g.S.Store c.crowded_for.new.conn in
-    let s3 = state g.S.Store c.some_alarms.new.conn in
-    let s4 = state g.S.Store c.some_shelves.new.conn in
-    let s5 = state g.S.Store c.some_events.new.conn in
-    let s6 = state g.S.Store c.some_records.new.conn in
-    let s7 = state g.S.Store c.some_bands.new.conn in
-    let s8 = state g.S.Store c.some_cells.new.conn in
-    let s9 = state g.S.Store c.some_changes.new.conn in
-    let t9 = c.count_for.ensures.told told in
-    let t8 = c.some_changes.ensures.told t9 in
-    let t7 = c.some_cells.ensures.told t8 in
-    let t6 = c.some_bands.ensures.told t7 in
-    let t5 = c.some_records.ensures.told t6 in
-    let t4 = c.some_events.ensures.told t5 in
-    let t3 = c.some_shelves.ensures.told t4 in
-    let t2 = c.some_alarms.ensures.told t3 in
-    let t1 = c.crowded_for.ensures.told t2 in
-    let e1 : s1.now ≡ old.now = c.some_grants.ensures.same t1 k.books in
+    let s1 = state g.S.Store c.crowded_for.new.conn in
+    let s2 = state g.S.Store c.approved_for.new.conn in
+    let s3 = state g.S.Store c.some_grants.new.conn in
+    let s4 = state g.S.Store c.some_alarms.new.conn in
+    let s5 = state g.S.Store c.some_shelves.new.conn in
+    let s6 = state g.S.Store c.some_events.new.conn in
+    let s7 = state g.S.Store c.some_records.new.conn in
+    let s8 = state g.S.Store c.some_bands.new.conn in
+    let s9 = state g.S.Store c.some_cells.new.conn in
+    let s10 = state g.S.Store c.some_changes.new.conn in
+    let t10 = c.count_for.ensures.told told in
+    let t9 = c.some_changes.ensures.told t10 in
+    let t8 = c.some_cells.ensures.told t9 in
+    let t7 = c.some_bands.ensures.told t8 in
+    let t6 = c.some_records.ensures.told t7 in
+    let t5 = c.some_events.ensures.told t6 in
+    let t4 = c.some_shelves.ensures.told t5 in
+    let t3 = c.some_alarms.ensures.told t4 in
+    let t2 = c.some_grants.ensures.told t3 in
+    let t1 = c.approved_for.ensures.told t2 in
+    let e1 : s1.now ≡ old.now = c.crowded_for.ensures.same t1 k.books in
     let b1 : AreBooks s1.now = subst AreBooks (sym e1) k.books in
-    let e2 : s2.now ≡ old.now = c.crowded_for.ensures.same t2 b1 ∙ e1 in
+    let e2 : s2.now ≡ old.now = c.approved_for.ensures.same t2 b1 ∙ e1 in
     let b2 : AreBooks s2.now = subst AreBooks (sym e2) k.books in
-    let e3 : s3.now ≡ old.now = c.some_alarms.ensures.same t3 b2 ∙ e2 in
+    let e3 : s3.now ≡ old.now = c.some_grants.ensures.same t3 b2 ∙ e2 in
     let b3 : AreBooks s3.now = subst AreBooks (sym e3) k.books in
-    let e4 : s4.now ≡ old.now = c.some_shelves.ensures.same t4 b3 ∙ e3 in
+    let e4 : s4.now ≡ old.now = c.some_alarms.ensures.same t4 b3 ∙ e3 in
     let b4 : AreBooks s4.now = subst AreBooks (sym e4) k.books in
-    let e5 : s5.now ≡ old.now = c.some_events.ensures.same t5 b4 ∙ e4 in
+    let e5 : s5.now ≡ old.now = c.some_shelves.ensures.same t5 b4 ∙ e4 in
     let b5 : AreBooks s5.now = subst AreBooks (sym e5) k.books in
-    let e6 : s6.now ≡ old.now = c.some_records.ensures.same t6 b5 ∙ e5 in
+    let e6 : s6.now ≡ old.now = c.some_events.ensures.same t6 b5 ∙ e5 in
     let b6 : AreBooks s6.now = subst AreBooks (sym e6) k.books in
-    let e7 : s7.now ≡ old.now = c.some_bands.ensures.same t7 b6 ∙ e6 in
+    let e7 : s7.now ≡ old.now = c.some_records.ensures.same t7 b6 ∙ e6 in
     let b7 : AreBooks s7.now = subst AreBooks (sym e7) k.books in
-    let e8 : s8.now ≡ old.now = c.some_cells.ensures.same t8 b7 ∙ e7 in
+    let e8 : s8.now ≡ old.now = c.some_bands.ensures.same t8 b7 ∙ e7 in
     let b8 : AreBooks s8.now = subst AreBooks (sym e8) k.books in
-    let e9 : s9.now ≡ old.now = c.some_changes.ensures.same t9 b8 ∙ e8 in
+    let e9 : s9.now ≡ old.now = c.some_cells.ensures.same t9 b8 ∙ e8 in
     let b9 : AreBooks s9.now = subst AreBooks (sym e9) k.books in
+    let e10 : s10.now ≡ old.now = c.some_changes.ensures.same t10 b9 ∙ e9 in
+    let b10 : AreBooks s10.now = subst AreBooks (sym e10) k.books in
     let all = rows_in m u in
-    let chosen = selected all call.request in
-    let crowd = c.in_ok-crowded.ensures.rows t2.0 b1 all (sym (units ∙ k.seen u UnitKept)) (sym (k.seen u ShelfKept) ∙ ap (λ (d : Database). rows_seen u d.trees ShelfKept) (sym e1)) in
+    let seen : IsSeenIn all call.request c.in_ok-crowded.crowded (slice_get c.in_ok-approved.approved 0) = record {
+      crowding = c.in_ok-crowded.ensures.rows t1.0 k.books all (sym (units ∙ k.seen u UnitKept)) (sym (k.seen u ShelfKept));
+      found = λ n is. approved_found old m u k n c.in_ok-approved.approved (c.in_ok-approved.ensures.rows t2.0 b1 n is ∙ ap (λ (d : Database). filter (λ (r : ChangeEntry). same_number n r.number) (rows_seen u d.trees ChangeKept)) e1);
+    } in
+    let chosen = selection_by all c.scope_of-scope.result in
+    let is : chosen ≡ selected all call.request = c.scope_of-scope.ensures all (subst (IsSeenIn all call.request c.in_ok-crowded.crowded) (sym (search rules)) seen) in
     let records : c.in_ok-records.records ≡ filter (λ (r : RecordEntry). chosen.rationale r.tag) all.records =
-    records_asked old m u k call c.wanted_records-recorded.result (c.wanted_records-recorded.ensures all) c.in_ok-records.records
-    (c.in_ok-records.ensures.rows t6.0 b5 ∙ ap (λ (d : Database). records_with c.wanted_records-recorded.result (rows_seen u d.trees RecordKept)) e5) in
-    let all_read : c.in_ok-all_events.all_events ≡ events_with c.looks_at_events-told.result (rows_seen u old.now.trees EventKept) = c.in_ok-all_events.ensures.rows t5.0 b4 ∙ ap (λ (d : Database). events_with c.looks_at_events-told.result (rows_seen u d.trees EventKept)) e4 in
+    records_asked old m u k chosen c.wanted_records-recorded.result (c.wanted_records-recorded.ensures all) c.in_ok-records.records
+    (c.in_ok-records.ensures.rows t7.0 b6 ∙ ap (λ (d : Database). records_with c.wanted_records-recorded.result (rows_seen u d.trees RecordKept)) e6) in
+    let all_read : c.in_ok-all_events.all_events ≡ events_with c.looks_at_events-told.result (rows_seen u old.now.trees EventKept) = c.in_ok-all_events.ensures.rows t6.0 b5 ∙ ap (λ (d : Database). events_with c.looks_at_events-told.result (rows_seen u d.trees EventKept)) e5 in
     let in_order : IsInOrder nat_cmp event_number c.in_ok-all_events.all_events = subst (IsInOrder nat_cmp event_number) (sym all_read) (read_in_order c.looks_at_events-told.result (rows_seen u old.now.trees EventKept) (rises event_shape (good EventKept) u (old.now.trees 13) (k.books.tidy EventKept))) in
-    part_found old m u k call c.args.units units
-    c.wants_all_grants-all.result c.wants_all_grants-all.ensures
-    c.in_ok-grants.grants (c.in_ok-grants.ensures.rows t1.0 k.books call.person own)
-    c.wanted_alarms-tags.result (c.wanted_alarms-tags.ensures all crowd)
-    c.in_ok-alarms.alarms (c.in_ok-alarms.ensures.rows t3.0 b2 ∙ ap (λ (d : Database). alarms_with c.wanted_alarms-tags.result (rows_seen u d.trees AlarmKept)) e2)
-    c.wanted_shelves-shelved.result (c.wanted_shelves-shelved.ensures all crowd)
-    c.in_ok-shelves.shelves (c.in_ok-shelves.ensures.rows t4.0 b3 ∙ ap (λ (d : Database). shelves_with c.wanted_shelves-shelved.result (rows_seen u d.trees ShelfKept)) e3)
+    part_found old m u k call chosen is c.args.units units
+    c.wants_all_grants-all.result (c.wants_all_grants-all.ensures all)
+    c.in_ok-grants.grants (c.in_ok-grants.ensures.rows t3.0 b2 call.person (own ∙ ap (λ (d : Database). filter (λ (g : GrantRow). same_name call.person g.person) (rows_seen u d.trees GrantKept)) (sym e2)) ∙ ap (λ (d : Database). filter (λ (g : GrantRow). same_name call.person g.person || c.wants_all_grants-all.result) (rows_seen u d.trees GrantKept)) e2)
+    c.wanted_alarms-tags.result (c.wanted_alarms-tags.ensures all)
+    c.in_ok-alarms.alarms (c.in_ok-alarms.ensures.rows t4.0 b3 ∙ ap (λ (d : Database). alarms_with c.wanted_alarms-tags.result (rows_seen u d.trees AlarmKept)) e3)
+    c.wanted_shelves-shelved.result (c.wanted_shelves-shelved.ensures all)
+    c.in_ok-shelves.shelves (c.in_ok-shelves.ensures.rows t5.0 b4 ∙ ap (λ (d : Database). shelves_with c.wanted_shelves-shelved.result (rows_seen u d.trees ShelfKept)) e4)
     c.looks_at_events-told.result c.looks_at_events-told.ensures
     c.in_ok-all_events.all_events all_read
-    c.in_ok-events.events (c.in_ok-events.ensures in_order)
+    c.in_ok-events.events (c.in_ok-events.ensures in_order all)
     c.in_ok-records.records records
-    c.in_ok-bands.bands (c.in_ok-bands.ensures.rows t7 b6 all (sym (units ∙ k.seen u UnitKept)) ∙ ap (λ (d : Database). filter (λ (r : BandRow). chosen.matrix r.matrix_no) (rows_seen u d.trees BandKept)) e6)
-    c.in_ok-cells.cells (c.in_ok-cells.ensures.rows t8 b7 all (sym (units ∙ k.seen u UnitKept)) ∙ ap (λ (d : Database). filter (λ (r : CellRow). chosen.matrix r.matrix_no) (rows_seen u d.trees CellKept)) e7)
-    c.in_ok-changes.changes (c.in_ok-changes.ensures.rows t9 b8 all records ∙ ap (λ (d : Database). filter (λ (r : ChangeEntry). chosen.change r.number) (rows_seen u d.trees ChangeKept)) e8)
-    c.in_ok-count.count (λ rows h n es. c.in_ok-count.ensures.rows told.0 b9 rows (h ∙ ap (λ (d : Database). rows_seen u d.trees AlarmKept) (sym e9)) (n ∙ ap (λ (d : Database). rows_seen u d.trees ChangeKept) (sym e9)) es)
+    c.in_ok-bands.bands (c.in_ok-bands.ensures.rows t8 b7 all (sym (units ∙ k.seen u UnitKept)) ∙ ap (λ (d : Database). filter (λ (r : BandRow). chosen.matrix r.matrix_no) (rows_seen u d.trees BandKept)) e7)
+    c.in_ok-cells.cells (c.in_ok-cells.ensures.rows t9 b8 all (sym (units ∙ k.seen u UnitKept)) ∙ ap (λ (d : Database). filter (λ (r : CellRow). chosen.matrix r.matrix_no) (rows_seen u d.trees CellKept)) e8)
+    c.in_ok-changes.changes (c.in_ok-changes.ensures.rows t10 b9 all records ∙ ap (λ (d : Database). filter (λ (r : ChangeEntry). chosen.change r.number) (rows_seen u d.trees ChangeKept)) e9)
+    c.in_ok-count.count (λ rows h n es. c.in_ok-count.ensures.rows told.0 b10 rows (h ∙ ap (λ (d : Database). rows_seen u d.trees AlarmKept) (sym e10)) (n ∙ ap (λ (d : Database). rows_seen u d.trees ChangeKept) (sym e10)) es)
