@@ -108,10 +108,11 @@ module _ (s : State) (m : Content) (u : Name) (k : KeepsIn s m) where
   -- the change that is approved, as it was read
   found_first : (n : ℕ) (changes : List ChangeEntry) → row_at nat_cmp change_number n changes ≡ slice_get (filter (λ r. same_number n r.number) changes) 0
   found_first n [] = refl
-  found_first n (c ∷ changes) = by (same_number n c.number) where
-    by : (b : Bool) → (if b then Some c else row_at nat_cmp change_number n changes) ≡ slice_get (if b then c ∷ filter (λ r. same_number n r.number) changes else filter (λ r. same_number n r.number) changes) 0
-    by true = refl
-    by false = found_first n changes
+  found_first n (c ∷ changes) = by (same_number n c.number) (found_first n changes) where
+    by : (b : Bool) → row_at nat_cmp change_number n changes ≡ slice_get (filter (λ r. same_number n r.number) changes) 0
+        → (if b then Some c else row_at nat_cmp change_number n changes) ≡ slice_get (if b then c ∷ filter (λ r. same_number n r.number) changes else filter (λ r. same_number n r.number) changes) 0
+    by true rest = refl
+    by false rest = rest
 
   pub approved_found : (n : ℕ) (read : List ChangeEntry) → read ≡ filter (λ r. same_number n r.number) (rows_seen u s.now.trees ChangeKept) → change_found (rows_in m u) n ≡ slice_get read 0
   approved_found n read is = found_first n (rows_in m u).changes ∙ ap (λ rows. slice_get (filter (λ (r : ChangeEntry). same_number n r.number) rows) 0) (sym (k.seen u ChangeKept)) ∙ ap (λ rows. slice_get rows 0) (sym is)
