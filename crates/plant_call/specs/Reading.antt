@@ -7,8 +7,8 @@ use Rattle.plant_import.specs.Reading.{file_read}
 use Rattle.plant_model.specs.declared.call.Request.{Request}
 use Rattle.plant_model.specs.declared.call.Request.TheVariants as request
 use Rattle.plant_model.specs.declared.call.Call.{Call}
-use Rattle.plant_route.specs.declared.routes.Route.{Route}
-use Rattle.plant_route.specs.declared.routes.Route.TheVariants as route
+use Rattle.plant_model.specs.declared.kinds.CallKind.{CallKind}
+use Rattle.plant_model.specs.declared.kinds.CallKind.TheVariants as kind
 use Rattle.plant_route.specs.Routes.{route_of}
 use Rattle.plant_body.specs.Bodies.{read_by, opening_in, granting_in, withdrawal_in, registration_in, timed_shelving_in, reason_in}
 use Rattle.plant_body.specs.Proposals.{proposal_in}
@@ -30,100 +30,100 @@ moment_said [] = Err BadMoment
 moment_said (text ∷ []) = ok_or (moment_of text) BadMoment
 moment_said (text ∷ other ∷ texts) = Err BadMoment
 
--- the request of a route, by the path and the body
-unfoldable pub request_in : Route → List ℕ → List ℕ → Result Request Cause
-request_in route.OpenUnit path body = do
+-- the request of a kind, by the path and the body
+unfoldable pub request_in : CallKind → List ℕ → List ℕ → Result Request Cause
+request_in kind.OpenUnit path body = do
   unit ← unit_in path
   opening ← of_body (read_by opening_in body)
   Ok (request.OpenUnit unit opening.steward opening.matrix opening.quota)
-request_in route.Grant path body = do
+request_in kind.Grant path body = do
   unit ← unit_in path
   granting ← of_body (read_by granting_in body)
   Ok (request.Grant unit granting.person granting.tenure)
-request_in route.Withdraw path body = do
+request_in kind.Withdraw path body = do
   unit ← unit_in path
   withdrawal ← of_body (read_by withdrawal_in body)
   Ok (request.Withdraw unit withdrawal.person withdrawal.role)
-request_in route.Register path body = do
+request_in kind.Register path body = do
   unit ← unit_in path
   registration ← of_body (read_by registration_in body)
   Ok (request.Register unit registration.tag registration.latching registration.max)
-request_in route.Import path body = do
+request_in kind.Import path body = do
   unit ← unit_in path
   Ok (request.Import unit (file_read body))
-request_in route.TimedShelve path body = do
+request_in kind.TimedShelve path body = do
   unit ← unit_in path
   tag ← tag_in path
   shelving ← of_body (read_by timed_shelving_in body)
   Ok (request.TimedShelve unit tag shelving.seconds shelving.words)
-request_in route.OneShotShelve path body = do
+request_in kind.OneShotShelve path body = do
   unit ← unit_in path
   tag ← tag_in path
   words ← of_body (read_by reason_in body)
   Ok (request.OneShotShelve unit tag words)
-request_in route.Unshelve path body = do
+request_in kind.Unshelve path body = do
   unit ← unit_in path
   tag ← tag_in path
   Ok (request.Unshelve unit tag)
-request_in route.RemoveFromService path body = do
+request_in kind.RemoveFromService path body = do
   unit ← unit_in path
   tag ← tag_in path
   words ← of_body (read_by reason_in body)
   Ok (request.RemoveFromService unit tag words)
-request_in route.PlaceInService path body = do
+request_in kind.PlaceInService path body = do
   unit ← unit_in path
   tag ← tag_in path
   Ok (request.PlaceInService unit tag)
-request_in route.Propose path body = do
+request_in kind.Propose path body = do
   unit ← unit_in path
   proposal ← of_body (read_by proposal_in body)
   Ok (request.Propose unit proposal)
-request_in route.WithdrawChange path body = do
+request_in kind.WithdrawChange path body = do
   unit ← unit_in path
   number ← number_in path
   Ok (request.WithdrawChange unit number)
-request_in route.Approve path body = do
+request_in kind.Approve path body = do
   unit ← unit_in path
   number ← number_in path
   Ok (request.Approve unit number)
-request_in route.Reject path body = do
+request_in kind.Reject path body = do
   unit ← unit_in path
   number ← number_in path
   Ok (request.Reject unit number)
-request_in route.Status path body = do
+request_in kind.Status path body = do
   unit ← unit_in path
   tag ← tag_in path
   Ok (request.Status unit tag)
-request_in route.RecordOf path body = do
+request_in kind.RecordOf path body = do
   unit ← unit_in path
   tag ← tag_in path
   Ok (request.RecordOf unit tag)
-request_in route.ChangeOf path body = do
+request_in kind.ChangeOf path body = do
   unit ← unit_in path
   number ← number_in path
   Ok (request.ChangeOf unit number)
-request_in route.Alarms path body = do
+request_in kind.Alarms path body = do
   unit ← unit_in path
   Ok (request.Alarms unit)
-request_in route.Shelves path body = do
+request_in kind.Shelves path body = do
   unit ← unit_in path
   Ok (request.Shelves unit)
-request_in route.Standing path body = do
+request_in kind.Standing path body = do
   unit ← unit_in path
   Ok (request.Standing unit)
-request_in route.Floods path body = do
+request_in kind.Floods path body = do
   unit ← unit_in path
   begin ← begin_in path
   until ← until_in path
   Ok (request.Floods unit begin until)
-request_in route.MyUnits path body = Ok request.MyUnits
-request_in route.MyShelves path body = Ok request.MyShelves
+request_in kind.MyUnits path body = Ok request.MyUnits
+request_in kind.MyShelves path body = Ok request.MyShelves
 
 -- the call of a request, or its first cause: the route, the person, the moment, the path, the body
 unfoldable pub call_in : List ℕ → List ℕ → List NameValue → List ℕ → Result Call Cause
 call_in method target fields body = do
-  route ← ok_or (route_of method target) NoRoute
+  kind ← ok_or (route_of method target) NoRoute
   person ← person_said (values_named (codes "x-person") fields)
   moment ← moment_said (values_named (codes "x-moment") fields)
-  request ← request_in route target body
+  request ← request_in kind target body
   Ok (record { person = person; moment = moment; request = request })

@@ -3,7 +3,7 @@ ghost use Rattle.std.specs.Option.{ok_or};
 ghost use Rattle.httparse.specs.Spans.{header_bytes, IsHeaderWithin};
 ghost use Rattle.plant_head.specs.Fields.{values_named};
 ghost use Rattle.plant_route.specs.Routes.{route_of};
-ghost use Rattle.plant_route.specs.declared.routes.Route.TheVariants as route;
+ghost use Rattle.plant_model.specs.declared.kinds.CallKind.TheVariants as kind;
 ghost use Rattle.plant_body.specs.declared.members.Unfit.{Unfit};
 ghost use Rattle.plant_body.specs.Members as body;
 ghost use Rattle.plant_call.specs.declared.causes.Cause.TheVariants.{NoRoute};
@@ -21,8 +21,8 @@ use plant_body::{
 };
 use plant_head::{Lookup, field};
 use plant_import::read_file;
-use plant_model::{Call, Request};
-use plant_route::{Route, Routes};
+use plant_model::{Call, CallKind, Request};
+use plant_route::Routes;
 use plant_types::{Moment, Person};
 use std::alloc::Global;
 
@@ -64,7 +64,7 @@ fn moment_in(front: &[u8], headers: &[HeaderSpan]) -> Result<Moment, CallError>
 
 #[tactic(auto, unfolding(crate::specs::Reading::request_in))]
 fn open_unit(alloc: Global, path: &[u8], body: &[u8]) -> Result<Request, CallError>
-    ensures { Gives result (request_in route.OpenUnit path.now body.now) }
+    ensures { Gives result (request_in kind.OpenUnit path.now body.now) }
 {
     let unit = unit_in(alloc, path)?;
     let Opening {
@@ -82,7 +82,7 @@ fn open_unit(alloc: Global, path: &[u8], body: &[u8]) -> Result<Request, CallErr
 
 #[tactic(auto, unfolding(crate::specs::Reading::request_in))]
 fn grant(alloc: Global, path: &[u8], body: &[u8]) -> Result<Request, CallError>
-    ensures { Gives result (request_in route.Grant path.now body.now) }
+    ensures { Gives result (request_in kind.Grant path.now body.now) }
 {
     let unit = unit_in(alloc, path)?;
     let Granting { person, tenure } = of_body(read_granting(alloc, body))?;
@@ -95,7 +95,7 @@ fn grant(alloc: Global, path: &[u8], body: &[u8]) -> Result<Request, CallError>
 
 #[tactic(auto, unfolding(crate::specs::Reading::request_in))]
 fn withdraw(alloc: Global, path: &[u8], body: &[u8]) -> Result<Request, CallError>
-    ensures { Gives result (request_in route.Withdraw path.now body.now) }
+    ensures { Gives result (request_in kind.Withdraw path.now body.now) }
 {
     let unit = unit_in(alloc, path)?;
     let Withdrawal { person, role } = of_body(read_withdrawal(alloc, body))?;
@@ -104,7 +104,7 @@ fn withdraw(alloc: Global, path: &[u8], body: &[u8]) -> Result<Request, CallErro
 
 #[tactic(auto, unfolding(crate::specs::Reading::request_in))]
 fn register(alloc: Global, path: &[u8], body: &[u8]) -> Result<Request, CallError>
-    ensures { Gives result (request_in route.Register path.now body.now) }
+    ensures { Gives result (request_in kind.Register path.now body.now) }
 {
     let unit = unit_in(alloc, path)?;
     let Registration { tag, latching, max } = of_body(read_registration(alloc, body))?;
@@ -119,7 +119,7 @@ fn register(alloc: Global, path: &[u8], body: &[u8]) -> Result<Request, CallErro
 /// The body is a file; one with a fault is brought as well, and the office tells the fault.
 #[tactic(auto, unfolding(crate::specs::Reading::request_in))]
 fn import(alloc: Global, path: &[u8], body: &[u8]) -> Result<Request, CallError>
-    ensures { Gives result (request_in route.Import path.now body.now) }
+    ensures { Gives result (request_in kind.Import path.now body.now) }
 {
     let unit = unit_in(alloc, path)?;
     let file = read_file(alloc, body)?;
@@ -128,7 +128,7 @@ fn import(alloc: Global, path: &[u8], body: &[u8]) -> Result<Request, CallError>
 
 #[tactic(auto, unfolding(crate::specs::Reading::request_in))]
 fn timed_shelve(alloc: Global, path: &[u8], body: &[u8]) -> Result<Request, CallError>
-    ensures { Gives result (request_in route.TimedShelve path.now body.now) }
+    ensures { Gives result (request_in kind.TimedShelve path.now body.now) }
 {
     let unit = unit_in(alloc, path)?;
     let tag = tag_in(alloc, path)?;
@@ -143,7 +143,7 @@ fn timed_shelve(alloc: Global, path: &[u8], body: &[u8]) -> Result<Request, Call
 
 #[tactic(auto, unfolding(crate::specs::Reading::request_in))]
 fn one_shot_shelve(alloc: Global, path: &[u8], body: &[u8]) -> Result<Request, CallError>
-    ensures { Gives result (request_in route.OneShotShelve path.now body.now) }
+    ensures { Gives result (request_in kind.OneShotShelve path.now body.now) }
 {
     let unit = unit_in(alloc, path)?;
     let tag = tag_in(alloc, path)?;
@@ -153,7 +153,7 @@ fn one_shot_shelve(alloc: Global, path: &[u8], body: &[u8]) -> Result<Request, C
 
 #[tactic(auto, unfolding(crate::specs::Reading::request_in))]
 fn remove_from_service(alloc: Global, path: &[u8], body: &[u8]) -> Result<Request, CallError>
-    ensures { Gives result (request_in route.RemoveFromService path.now body.now) }
+    ensures { Gives result (request_in kind.RemoveFromService path.now body.now) }
 {
     let unit = unit_in(alloc, path)?;
     let tag = tag_in(alloc, path)?;
@@ -163,7 +163,7 @@ fn remove_from_service(alloc: Global, path: &[u8], body: &[u8]) -> Result<Reques
 
 #[tactic(auto, unfolding(crate::specs::Reading::request_in))]
 fn propose(alloc: Global, path: &[u8], body: &[u8]) -> Result<Request, CallError>
-    ensures { Gives result (request_in route.Propose path.now body.now) }
+    ensures { Gives result (request_in kind.Propose path.now body.now) }
 {
     let unit = unit_in(alloc, path)?;
     let proposal = of_body(read_proposal(alloc, body))?;
@@ -171,75 +171,75 @@ fn propose(alloc: Global, path: &[u8], body: &[u8]) -> Result<Request, CallError
 }
 
 #[tactic(auto, unfolding(crate::specs::Reading::request_in))]
-fn request_in(alloc: Global, route: Route, path: &[u8], body: &[u8]) -> Result<Request, CallError>
-    ensures { Gives result (request_in route path.now body.now) }
+fn request_in(alloc: Global, kind: CallKind, path: &[u8], body: &[u8]) -> Result<Request, CallError>
+    ensures { Gives result (request_in kind path.now body.now) }
 {
-    match route {
-        Route::OpenUnit => open_unit(alloc, path, body),
-        Route::Grant => grant(alloc, path, body),
-        Route::Withdraw => withdraw(alloc, path, body),
-        Route::Register => register(alloc, path, body),
-        Route::Import => import(alloc, path, body),
-        Route::TimedShelve => timed_shelve(alloc, path, body),
-        Route::OneShotShelve => one_shot_shelve(alloc, path, body),
-        Route::Unshelve => Ok(Request::Unshelve {
+    match kind {
+        CallKind::OpenUnit => open_unit(alloc, path, body),
+        CallKind::Grant => grant(alloc, path, body),
+        CallKind::Withdraw => withdraw(alloc, path, body),
+        CallKind::Register => register(alloc, path, body),
+        CallKind::Import => import(alloc, path, body),
+        CallKind::TimedShelve => timed_shelve(alloc, path, body),
+        CallKind::OneShotShelve => one_shot_shelve(alloc, path, body),
+        CallKind::Unshelve => Ok(Request::Unshelve {
             unit: unit_in(alloc, path)?,
             tag: tag_in(alloc, path)?,
         }),
-        Route::RemoveFromService => remove_from_service(alloc, path, body),
-        Route::PlaceInService => Ok(Request::PlaceInService {
+        CallKind::RemoveFromService => remove_from_service(alloc, path, body),
+        CallKind::PlaceInService => Ok(Request::PlaceInService {
             unit: unit_in(alloc, path)?,
             tag: tag_in(alloc, path)?,
         }),
-        Route::Propose => propose(alloc, path, body),
-        Route::WithdrawChange => Ok(Request::WithdrawChange {
+        CallKind::Propose => propose(alloc, path, body),
+        CallKind::WithdrawChange => Ok(Request::WithdrawChange {
             unit: unit_in(alloc, path)?,
             number: number_in(path)?,
         }),
-        Route::Approve => Ok(Request::Approve {
+        CallKind::Approve => Ok(Request::Approve {
             unit: unit_in(alloc, path)?,
             number: number_in(path)?,
         }),
-        Route::Reject => Ok(Request::Reject {
+        CallKind::Reject => Ok(Request::Reject {
             unit: unit_in(alloc, path)?,
             number: number_in(path)?,
         }),
-        Route::Status => Ok(Request::Status {
+        CallKind::Status => Ok(Request::Status {
             unit: unit_in(alloc, path)?,
             tag: tag_in(alloc, path)?,
         }),
-        Route::RecordOf => Ok(Request::RecordOf {
+        CallKind::RecordOf => Ok(Request::RecordOf {
             unit: unit_in(alloc, path)?,
             tag: tag_in(alloc, path)?,
         }),
-        Route::ChangeOf => Ok(Request::ChangeOf {
+        CallKind::ChangeOf => Ok(Request::ChangeOf {
             unit: unit_in(alloc, path)?,
             number: number_in(path)?,
         }),
-        Route::Alarms => Ok(Request::Alarms {
+        CallKind::Alarms => Ok(Request::Alarms {
             unit: unit_in(alloc, path)?,
         }),
-        Route::Shelves => Ok(Request::Shelves {
+        CallKind::Shelves => Ok(Request::Shelves {
             unit: unit_in(alloc, path)?,
         }),
-        Route::Standing => Ok(Request::Standing {
+        CallKind::Standing => Ok(Request::Standing {
             unit: unit_in(alloc, path)?,
         }),
-        Route::Floods => Ok(Request::Floods {
+        CallKind::Floods => Ok(Request::Floods {
             unit: unit_in(alloc, path)?,
             begin: begin_in(path)?,
             until: until_in(path)?,
         }),
-        Route::MyUnits => Ok(Request::MyUnits),
-        Route::MyShelves => Ok(Request::MyShelves),
+        CallKind::MyUnits => Ok(Request::MyUnits),
+        CallKind::MyShelves => Ok(Request::MyShelves),
     }
 }
 
-fn route_in(routes: &Routes, method: &[u8], target: &[u8]) -> Result<Route, CallError>
+fn route_in(routes: &Routes, method: &[u8], target: &[u8]) -> Result<CallKind, CallError>
     ensures { Gives result (ok_or (route_of method.now target.now) NoRoute) }
 {
     match routes.of(method, target) {
-        Some(route) => Ok(route),
+        Some(kind) => Ok(kind),
         None => Err(CallError::Because(Cause::NoRoute)),
     }
 }
@@ -258,10 +258,10 @@ pub(crate) fn call_in(
     requires { All (IsHeaderWithin (length front.now)) headers.now }
     ensures { Gives result (call_in method.now target.now (map (header_bytes front.now) headers.now) body.now) }
 {
-    let route = route_in(routes, method, target)?;
+    let kind = route_in(routes, method, target)?;
     let person = person_in(alloc, front, headers)?;
     let moment = moment_in(front, headers)?;
-    let request = request_in(alloc, route, target, body)?;
+    let request = request_in(alloc, kind, target, body)?;
     Ok(Call {
         person,
         moment,

@@ -1,6 +1,10 @@
 //! Calls over tables in which a statement may take only so many steps.
 
-use plant_examples::{BASE, BEGIN, Exchanges, Mark, SHELVED, between};
+use plant_books::Plain;
+use plant_examples::{
+    BASE, BEGIN, Exchanges, IMPORTED_TWICE, Mark, RECORDED, REVIEWED, SHELVED, STAFFED, THREE_ROWS,
+    between,
+};
 use plant_model::{Answer, Call};
 use plant_office::{Books, Office};
 use plant_store::Tables;
@@ -127,4 +131,51 @@ fn changes_nothing_where_a_call_is_interrupted(rt: HostRuntime) {
         assert!(rt; steps_of(&rt, &wanted, last, *mark) > 0);
         last = *mark;
     }
+}
+
+/// Tables after the call between these marks, which is made with no step, with one, and so on until it is answered as wanted. Each
+/// fault leaves the rows as they were, which are those of the lists.
+fn after_interruptions(
+    rt: &(impl Abort + AllocGlobal),
+    mut books: Tables<MemStore>,
+    theirs: &mut Plain,
+    wanted: &Exchanges,
+    last: Mark,
+    next: Mark,
+) -> Tables<MemStore> {
+    let call = call_between(rt, wanted, last, next);
+    for steps in 0..10_000u64 {
+        let (answer, mut left) = limited(rt, books, steps, &call);
+        if !matches!(answer, Answer::Fault(Fault::Store)) {
+            is_wanted(rt, wanted, last, next, &answer);
+            return left;
+        }
+        check_rows(theirs, &mut left, &wanted.units).expect(rt, "after a fault");
+        books = left;
+    }
+    rt.panic("no end")
+}
+
+/// Over the same tables each call of these exchanges, interrupted until it passes.
+fn passes_in_the_end(rt: &(impl Abort + AllocGlobal), texts: &[&str]) {
+    let wanted = Exchanges::of(rt.alloc(), texts).expect(rt, "exchanges");
+    let mut books = tables(rt.alloc()).expect(rt, "tables");
+    let mut theirs = lists(rt.alloc()).expect(rt, "lists");
+    let mut last = BEGIN;
+    for mark in &wanted.marks {
+        books = after_interruptions(rt, books, &mut theirs, &wanted, last, *mark);
+        theirs = after_marks(rt, theirs, &wanted, last, *mark);
+        check_rows(&mut theirs, &mut books, &wanted.units).expect(rt, "after the call");
+        last = *mark;
+    }
+}
+
+#[test]
+fn changes_nothing_where_a_review_is_interrupted(rt: HostRuntime) {
+    passes_in_the_end(&rt, &[BASE, STAFFED, REVIEWED, RECORDED]);
+}
+
+#[test]
+fn changes_nothing_where_imports_are_interrupted(rt: HostRuntime) {
+    passes_in_the_end(&rt, &[BASE, THREE_ROWS, IMPORTED_TWICE]);
 }

@@ -1,8 +1,10 @@
-//! Offices that are interrupted, as tests alone: calls whose statements may take only so many steps, and offices whose files are
-//! closed and opened again.
+//! Offices that are interrupted, as tests alone: calls whose statements may take only so many steps, disks on which a sync fails,
+//! and offices whose files are closed and opened again.
 #![tactic(auto)]
 
 #[cfg(test)]
 mod interruptions;
 #[cfg(test)]
 mod reopenings;
+#[cfg(test)]
+mod syncs;

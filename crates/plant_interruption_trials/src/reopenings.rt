@@ -3,10 +3,11 @@
 ghost use Rattle.std.specs.Prelude.{◌≡◌, false};
 
 use plant_examples::{BASE, Exchanges, LOOKED_AT, SHELVED};
+use plant_mirror::ROWS_AT_HAND;
 use plant_office::Books;
 use plant_reopen::reopen;
 use plant_store::Tables;
-use plant_trials::{after, root};
+use plant_trials::{after, mirrored, root};
 use sqlite::{Connection, FileStore, Files, Options};
 use sqlite_disk::{Disk, Memory};
 use std::process::Abort;
@@ -38,6 +39,17 @@ fn after_all<B: Books + Drop>(
     after(rt.alloc(), books, requests, answers).expect(rt, title)
 }
 
+/// The same behind rows at hand, of which none are there at first.
+fn after_all_at_hand<B: Books + Drop>(
+    rt: &(impl Abort + AllocGlobal),
+    below: B,
+    texts: &[&str],
+    title: &str,
+) -> B {
+    let books = mirrored(rt.alloc(), below, ROWS_AT_HAND).expect(rt, "books with rows at hand");
+    after_all(rt, books, texts, title).into_books()
+}
+
 /// The books of an office with the first shelf, kept in these files.
 fn shelved<D: Disk + Drop>(
     rt: &(impl Abort + AllocGlobal),
@@ -49,7 +61,7 @@ fn shelved<D: Disk + Drop>(
     let Ok(books) = Tables::create(rt.alloc(), conn, root) else {
         rt.panic("no books")
     };
-    after_all(rt, books, &[BASE, SHELVED, LOOKED_AT], "first")
+    after_all_at_hand(rt, books, &[BASE, SHELVED, LOOKED_AT], "first")
 }
 
 /// The same books, closed and opened again.
@@ -70,9 +82,10 @@ fn finds_the_shelf_again<D: Disk + Drop>(
     requires { conn.in_transaction ≡ false }
 {
     let books = reopened(rt, shelved(rt, conn));
-    let books = after_all(rt, books, &[LOOKED_AT, GOES_ON], "again");
+    let books = after_all_at_hand(rt, books, &[LOOKED_AT, GOES_ON], "again");
     let books = reopened(rt, books);
-    drop(after_all(rt, books, &[UNSHELVED], "once more"));
+    let books = after_all_at_hand(rt, books, &[UNSHELVED], "once more");
+    drop(after_all(rt, books, &[UNSHELVED], "without rows at hand"));
 }
 
 #[test]

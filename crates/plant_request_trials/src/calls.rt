@@ -2,9 +2,8 @@
 
 use plant_call::{Cut, next_call};
 use plant_import::{BadFile, Cause as FileCause};
-use plant_model::{Call, Request};
+use plant_model::{Call, CallKind, Request};
 use plant_ration::ChangeKind;
-use plant_route::Route;
 use std::alloc::Global;
 use std::process::Abort;
 
@@ -105,90 +104,74 @@ fn waits_for_a_whole_call(rt: HostRuntime) {
 }
 
 /// Targets and bodies of requests by root, and what they are read as.
-const POSTED: [(&[u8], &[u8], Route); 6] = [
+const POSTED: [(&[u8], &[u8], CallKind); 6] = [
     (
         b"/units/U1",
         b"{\"steward\":\"ste\",\"bands\":[300],\"cells\":[[\"P3\",\"P4\"],[\"P1\",\"P2\"]]}",
-        Route::OpenUnit,
+        CallKind::OpenUnit,
     ),
     (
         b"/units/U1/grants",
         b"{\"person\":\"ann\",\"role\":\"Operator\"}",
-        Route::Grant,
+        CallKind::Grant,
     ),
     (
         b"/units/U1/withdrawals",
         b"{\"person\":\"ann\",\"role\":\"Operator\"}",
-        Route::Withdraw,
+        CallKind::Withdraw,
     ),
     (
         b"/units/U1/alarms",
         b"{\"tag\":\"PT-101\",\"latching\":false,\"max\":3600}",
-        Route::Register,
+        CallKind::Register,
     ),
     (
         b"/units/U1/alarms/PT-101/one-shot-shelve",
         b"{\"words\":\"x\"}",
-        Route::OneShotShelve,
+        CallKind::OneShotShelve,
     ),
     (
         b"/units/U1/alarms/PT-101/unshelve",
         b"not read",
-        Route::Unshelve,
+        CallKind::Unshelve,
     ),
 ];
 
 /// Questions, and what they are read as.
-const QUESTIONS: [(&[u8], Route); 3] = [
+const QUESTIONS: [(&[u8], CallKind); 3] = [
     (
         b"GET /units/U1/alarms/PT-101 HTTP/1.0\nx-moment:2026-03-01T08:00:00Z\nX-PERSON:ann\n\n",
-        Route::Status,
+        CallKind::Status,
     ),
     (
         b"GET /units/U1/shelves HTTP/1.0\nx-moment:2026-03-01T08:00:00Z\nX-PERSON:ann\n\n",
-        Route::Shelves,
+        CallKind::Shelves,
     ),
     (
         b"GET /units HTTP/1.0\nx-moment:2026-03-01T08:00:00Z\nX-PERSON:ann\n\n",
-        Route::MyUnits,
+        CallKind::MyUnits,
     ),
 ];
 
-/// The route of a request of these tables.
-fn route_of(request: &Request) -> Option<Route> {
-    match request {
-        Request::OpenUnit { .. } => Some(Route::OpenUnit),
-        Request::Grant { .. } => Some(Route::Grant),
-        Request::Withdraw { .. } => Some(Route::Withdraw),
-        Request::Register { .. } => Some(Route::Register),
-        Request::OneShotShelve { .. } => Some(Route::OneShotShelve),
-        Request::Unshelve { .. } => Some(Route::Unshelve),
-        Request::Status { .. } => Some(Route::Status),
-        Request::Shelves { .. } => Some(Route::Shelves),
-        Request::MyUnits => Some(Route::MyUnits),
-        _ => None,
-    }
-}
-
-/// The route of the call at the front of these bytes.
-fn read_as(rt: &impl Abort, alloc: Global, bytes: &[u8]) -> Option<Route> {
+/// The kind of the call at the front of these bytes.
+fn read_as(rt: &impl Abort, alloc: Global, bytes: &[u8]) -> CallKind {
     let (call, _) = call(rt, alloc, bytes);
-    route_of(&call.request)
+    call.request.kind()
 }
 
 #[test]
 fn reads_each_request(rt: HostRuntime) {
-    for (target, body, route) in POSTED.iter() {
+    for (target, body, kind) in POSTED.iter() {
         let bytes = posted(&rt, rt.alloc(), target, body);
         assert!(rt;
-            read_as(&rt, rt.alloc(), &bytes) == Some(*route),
-            "{route:?}"
+            read_as(&rt, rt.alloc(), &bytes) == *kind,
+            "{kind:?}"
         );
     }
-    for (bytes, route) in QUESTIONS.iter() {
+    for (bytes, kind) in QUESTIONS.iter() {
         assert!(rt;
-            read_as(&rt, rt.alloc(), bytes) == Some(*route),
-            "{route:?}"
+            read_as(&rt, rt.alloc(), bytes) == *kind,
+            "{kind:?}"
         );
     }
 }
@@ -271,39 +254,39 @@ fn reads_proposals(rt: HostRuntime) {
 }
 
 /// Decisions and changes asked for, with their numbers.
-const DECISIONS: [(&[u8], &[u8], Route, u32); 3] = [
+const DECISIONS: [(&[u8], &[u8], CallKind, u32); 3] = [
     (
         b"/units/U1/changes/2/withdraw",
         b"not read",
-        Route::WithdrawChange,
+        CallKind::WithdrawChange,
         2,
     ),
     (
         b"/units/U1/changes/20000/approve",
         b"",
-        Route::Approve,
+        CallKind::Approve,
         20_000,
     ),
-    (b"/units/U1/changes/13/reject", b"", Route::Reject, 13),
+    (b"/units/U1/changes/13/reject", b"", CallKind::Reject, 13),
 ];
 
-/// The route and the number of a request on one change.
-fn numbered(request: &Request) -> Option<(Route, u32)> {
+/// The kind and the number of a request on one change.
+fn numbered(request: &Request) -> Option<(CallKind, u32)> {
     match request {
-        Request::WithdrawChange { number, .. } => Some((Route::WithdrawChange, *number)),
-        Request::Approve { number, .. } => Some((Route::Approve, *number)),
-        Request::Reject { number, .. } => Some((Route::Reject, *number)),
-        Request::ChangeOf { number, .. } => Some((Route::ChangeOf, *number)),
+        Request::WithdrawChange { number, .. } => Some((CallKind::WithdrawChange, *number)),
+        Request::Approve { number, .. } => Some((CallKind::Approve, *number)),
+        Request::Reject { number, .. } => Some((CallKind::Reject, *number)),
+        Request::ChangeOf { number, .. } => Some((CallKind::ChangeOf, *number)),
         _ => None,
     }
 }
 
 #[test]
 fn reads_decisions(rt: HostRuntime) {
-    for (target, body, route, number) in DECISIONS.iter() {
+    for (target, body, kind, number) in DECISIONS.iter() {
         let bytes = posted(&rt, rt.alloc(), target, body);
         let request = asked(&rt, rt.alloc(), &bytes);
-        assert!(rt; numbered(&request) == Some((*route, *number)), "{route:?}");
+        assert!(rt; numbered(&request) == Some((*kind, *number)), "{kind:?}");
     }
 }
 
@@ -321,5 +304,5 @@ fn reads_questions_of_records(rt: HostRuntime) {
 fn reads_questions_of_changes(rt: HostRuntime) {
     let bytes = got(&rt, rt.alloc(), b"/units/U1/changes/99999");
     let request = asked(&rt, rt.alloc(), &bytes);
-    assert!(rt; numbered(&request) == Some((Route::ChangeOf, 99_999)));
+    assert!(rt; numbered(&request) == Some((CallKind::ChangeOf, 99_999)));
 }

@@ -1,59 +1,64 @@
 //! Routes of targets.
 
-use plant_route::{Route, Routes};
+use plant_model::CallKind;
+use plant_route::Routes;
 
-const TABLE: [(&[u8], &[u8], Route); 23] = [
-    (b"POST", b"/units/U1", Route::OpenUnit),
-    (b"POST", b"/units/U1/grants", Route::Grant),
-    (b"POST", b"/units/U1/withdrawals", Route::Withdraw),
-    (b"POST", b"/units/U1/alarms", Route::Register),
-    (b"POST", b"/units/U1/imports", Route::Import),
+const TABLE: [(&[u8], &[u8], CallKind); 23] = [
+    (b"POST", b"/units/U1", CallKind::OpenUnit),
+    (b"POST", b"/units/U1/grants", CallKind::Grant),
+    (b"POST", b"/units/U1/withdrawals", CallKind::Withdraw),
+    (b"POST", b"/units/U1/alarms", CallKind::Register),
+    (b"POST", b"/units/U1/imports", CallKind::Import),
     (
         b"POST",
         b"/units/U1/alarms/PT-101/timed-shelve",
-        Route::TimedShelve,
+        CallKind::TimedShelve,
     ),
     (
         b"POST",
         b"/units/U1/alarms/PT-101/one-shot-shelve",
-        Route::OneShotShelve,
+        CallKind::OneShotShelve,
     ),
     (
         b"POST",
         b"/units/U1/alarms/PT-101/unshelve",
-        Route::Unshelve,
+        CallKind::Unshelve,
     ),
-    (b"GET", b"/units/U1/alarms/PT-101", Route::Status),
-    (b"GET", b"/units/U1/shelves", Route::Shelves),
-    (b"GET", b"/units", Route::MyUnits),
+    (b"GET", b"/units/U1/alarms/PT-101", CallKind::Status),
+    (b"GET", b"/units/U1/shelves", CallKind::Shelves),
+    (b"GET", b"/units", CallKind::MyUnits),
     (
         b"POST",
         b"/units/U1/alarms/PT-101/remove-from-service",
-        Route::RemoveFromService,
+        CallKind::RemoveFromService,
     ),
     (
         b"POST",
         b"/units/U1/alarms/PT-101/place-in-service",
-        Route::PlaceInService,
+        CallKind::PlaceInService,
     ),
-    (b"GET", b"/units/U1/alarms", Route::Alarms),
-    (b"GET", b"/units/U1/standing", Route::Standing),
+    (b"GET", b"/units/U1/alarms", CallKind::Alarms),
+    (b"GET", b"/units/U1/standing", CallKind::Standing),
     (
         b"GET",
         b"/units/U1/floods/2026-03-01T10:00:00Z/2026-03-01T10:50:00Z",
-        Route::Floods,
+        CallKind::Floods,
     ),
-    (b"GET", b"/shelves", Route::MyShelves),
-    (b"POST", b"/units/U1/changes", Route::Propose),
+    (b"GET", b"/shelves", CallKind::MyShelves),
+    (b"POST", b"/units/U1/changes", CallKind::Propose),
     (
         b"POST",
         b"/units/U1/changes/2/withdraw",
-        Route::WithdrawChange,
+        CallKind::WithdrawChange,
     ),
-    (b"POST", b"/units/U1/changes/2/approve", Route::Approve),
-    (b"POST", b"/units/U1/changes/2/reject", Route::Reject),
-    (b"GET", b"/units/U1/alarms/PT-101/record", Route::RecordOf),
-    (b"GET", b"/units/U1/changes/2", Route::ChangeOf),
+    (b"POST", b"/units/U1/changes/2/approve", CallKind::Approve),
+    (b"POST", b"/units/U1/changes/2/reject", CallKind::Reject),
+    (
+        b"GET",
+        b"/units/U1/alarms/PT-101/record",
+        CallKind::RecordOf,
+    ),
+    (b"GET", b"/units/U1/changes/2", CallKind::ChangeOf),
 ];
 
 const NONE: [(&[u8], &[u8]); 22] = [

@@ -9,27 +9,27 @@ use Rattle.matchit.specs.Order.{placed}
 use Rattle.matchit.specs.Route.{Scan, parse_route}
 use Rattle.matchit.specs.Router.{RouteOf, route_from}
 use Rattle.matchit.specs.declared.error.InsertError.{InsertError}
-use Rattle.plant_route.specs.declared.routes.Route.{Route}
-use Rattle.plant_route.specs.declared.routes.Route.TheVariants.{OpenUnit, Grant, Withdraw, Register, Import, TimedShelve, OneShotShelve, Unshelve, RemoveFromService, PlaceInService, Propose, WithdrawChange, Approve, Reject, Status, RecordOf, ChangeOf, Alarms, Shelves, Standing, Floods, MyUnits, MyShelves}
+use Rattle.plant_model.specs.declared.kinds.CallKind.{CallKind}
+use Rattle.plant_model.specs.declared.kinds.CallKind.TheVariants.{OpenUnit, Grant, Withdraw, Register, Import, TimedShelve, OneShotShelve, Unshelve, RemoveFromService, PlaceInService, Propose, WithdrawChange, Approve, Reject, Status, RecordOf, ChangeOf, Alarms, Shelves, Standing, Floods, MyUnits, MyShelves}
 
 abbrev pub Rows : Type 0
-Rows = RowsOf (RouteOf Route)
+Rows = RowsOf (RouteOf CallKind)
 
 -- the rows with one more route
-abbrev pub with_route : Result Scan InsertError → Route → Rows → Rows
+abbrev pub with_route : Result Scan InsertError → CallKind → Rows → Rows
 with_route (Ok s) value rows = placed (s.pattern, route_from s value) rows
 with_route (Err e) value rows = rows
 
-abbrev pub insert : Rows → List ℕ → Route → Rows
+abbrev pub insert : Rows → List ℕ → CallKind → Rows
 insert rows path value = with_route (parse_route path) value rows
 
 -- the rows with more routes, each with its path, put in one after another
-abbrev pub with_routes : List (List ℕ × Route) → Rows → Rows
+abbrev pub with_routes : List (List ℕ × CallKind) → Rows → Rows
 with_routes [] rows = rows
 with_routes (r ∷ rs) rows = with_routes rs (insert rows r.0 r.1)
 
 -- POST: a unit, its grants, its alarms and its events
-unfoldable pub unit_posts : List (List ℕ × Route)
+unfoldable pub unit_posts : List (List ℕ × CallKind)
 unit_posts =
     (codes "/units/{unit}", OpenUnit)
     ∷ (codes "/units/{unit}/grants", Grant)
@@ -39,7 +39,7 @@ unit_posts =
     ∷ []
 
 -- POST: an alarm's shelf
-unfoldable pub alarm_posts : List (List ℕ × Route)
+unfoldable pub alarm_posts : List (List ℕ × CallKind)
 alarm_posts =
     (codes "/units/{unit}/alarms/{tag}/timed-shelve", TimedShelve)
     ∷ (codes "/units/{unit}/alarms/{tag}/one-shot-shelve", OneShotShelve)
@@ -47,14 +47,14 @@ alarm_posts =
     ∷ []
 
 -- POST: an alarm's service
-unfoldable pub service_posts : List (List ℕ × Route)
+unfoldable pub service_posts : List (List ℕ × CallKind)
 service_posts =
     (codes "/units/{unit}/alarms/{tag}/remove-from-service", RemoveFromService)
     ∷ (codes "/units/{unit}/alarms/{tag}/place-in-service", PlaceInService)
     ∷ []
 
 -- POST: a change, and how it is decided
-unfoldable pub change_posts : List (List ℕ × Route)
+unfoldable pub change_posts : List (List ℕ × CallKind)
 change_posts =
     (codes "/units/{unit}/changes", Propose)
     ∷ (codes "/units/{unit}/changes/{n}/withdraw", WithdrawChange)
@@ -63,7 +63,7 @@ change_posts =
     ∷ []
 
 -- GET: an alarm, its record, and a change
-unfoldable pub alarm_gets : List (List ℕ × Route)
+unfoldable pub alarm_gets : List (List ℕ × CallKind)
 alarm_gets =
     (codes "/units/{unit}/alarms/{tag}", Status)
     ∷ (codes "/units/{unit}/alarms/{tag}/record", RecordOf)
@@ -71,7 +71,7 @@ alarm_gets =
     ∷ []
 
 -- GET: what a unit lists
-unfoldable pub unit_gets : List (List ℕ × Route)
+unfoldable pub unit_gets : List (List ℕ × CallKind)
 unit_gets =
     (codes "/units/{unit}/alarms", Alarms)
     ∷ (codes "/units/{unit}/shelves", Shelves)
@@ -80,7 +80,7 @@ unit_gets =
     ∷ []
 
 -- GET: the caller's units, and their shelves
-unfoldable pub own_gets : List (List ℕ × Route)
+unfoldable pub own_gets : List (List ℕ × CallKind)
 own_gets =
     (codes "/units", MyUnits)
     ∷ (codes "/shelves", MyShelves)
@@ -94,7 +94,7 @@ post_rows = with_routes change_posts (with_routes service_posts (with_routes ala
 unfoldable pub get_rows : Rows
 get_rows = with_routes own_gets (with_routes unit_gets (with_routes alarm_gets []))
 
-abbrev pub route_in : Rows → List ℕ → Option Route
+abbrev pub route_in : Rows → List ℕ → Option CallKind
 route_in rows path = option_map (λ found. found.value) (first rows path)
 
 -- a byte of a target that may have a route: none above 126, no question mark and no number sign
@@ -105,7 +105,7 @@ abbrev pub is_path : List ℕ → Bool
 is_path target = slice_index target 0 == 47 && list_all is_path_byte target
 
 -- the route of a method and a target
-abbrev pub route_of : List ℕ → List ℕ → Option Route
+abbrev pub route_of : List ℕ → List ℕ → Option CallKind
 route_of method target =
     if is_path target
     then (if bytes_eq method (codes "POST") then route_in post_rows target else (if bytes_eq method (codes "GET") then route_in get_rows target else None))

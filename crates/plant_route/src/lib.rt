@@ -3,4 +3,4 @@
 
 mod routes;
 
-pub use routes::{Route, Routes};
+pub use routes::Routes;

@@ -4,157 +4,138 @@ ghost use Rattle.plant_types.specs.declared.fault.Fault.TheVariants.{Memory};
 ghost use Rattle.plant_route.specs.Routes.{insert, unit_posts, alarm_posts, service_posts, change_posts, alarm_gets, unit_gets, own_gets, post_rows, get_rows, with_routes, route_in, route_of, is_path_byte, is_path};
 
 use matchit::Router;
+use plant_model::CallKind;
 use plant_types::Fault;
 use std::alloc::Global;
 
-/// What a request asks for, by its method and its path.
-#[derive(Clone, Copy, Debug, PartialEq, Eq)]
-pub enum Route {
-    OpenUnit,
-    Grant,
-    Withdraw,
-    Register,
-    Import,
-    TimedShelve,
-    OneShotShelve,
-    Unshelve,
-    RemoveFromService,
-    PlaceInService,
-    Propose,
-    WithdrawChange,
-    Approve,
-    Reject,
-    Status,
-    RecordOf,
-    ChangeOf,
-    Alarms,
-    Shelves,
-    Standing,
-    Floods,
-    MyUnits,
-    MyShelves,
-}
-
 /// Adds a route. A router without room for it is short of memory.
-fn add(router: &mut Router<Route>, path: &str, route: Route) -> Result<(), Fault>
-    ensures ok { OnOk result (router.new ≡ insert router.old path.now route) }
+fn add(router: &mut Router<CallKind>, path: &str, kind: CallKind) -> Result<(), Fault>
+    ensures ok { OnOk result (router.new ≡ insert router.old path.now kind) }
     ensures err { IfErr result (λ e. e ≡ Memory) }
 {
-    match router.insert(path, route) {
+    match router.insert(path, kind) {
         Ok(()) => Ok(()),
         Err(_) => Err(Fault::Memory),
     }
 }
 
 #[tactic(auto, unfolding(crate::specs::Routes::unit_posts))]
-fn add_unit_posts(router: &mut Router<Route>) -> Result<(), Fault>
+fn add_unit_posts(router: &mut Router<CallKind>) -> Result<(), Fault>
     ensures ok { OnOk result (router.new ≡ with_routes unit_posts router.old) }
     ensures err { IfErr result (λ e. e ≡ Memory) }
 {
-    add(router, "/units/{unit}", Route::OpenUnit)?;
-    add(router, "/units/{unit}/grants", Route::Grant)?;
-    add(router, "/units/{unit}/withdrawals", Route::Withdraw)?;
-    add(router, "/units/{unit}/alarms", Route::Register)?;
-    add(router, "/units/{unit}/imports", Route::Import)?;
+    add(router, "/units/{unit}", CallKind::OpenUnit)?;
+    add(router, "/units/{unit}/grants", CallKind::Grant)?;
+    add(router, "/units/{unit}/withdrawals", CallKind::Withdraw)?;
+    add(router, "/units/{unit}/alarms", CallKind::Register)?;
+    add(router, "/units/{unit}/imports", CallKind::Import)?;
     Ok(())
 }
 
 #[tactic(auto, unfolding(crate::specs::Routes::alarm_posts))]
-fn add_alarm_posts(router: &mut Router<Route>) -> Result<(), Fault>
+fn add_alarm_posts(router: &mut Router<CallKind>) -> Result<(), Fault>
     ensures ok { OnOk result (router.new ≡ with_routes alarm_posts router.old) }
     ensures err { IfErr result (λ e. e ≡ Memory) }
 {
     add(
         router,
         "/units/{unit}/alarms/{tag}/timed-shelve",
-        Route::TimedShelve,
+        CallKind::TimedShelve,
     )?;
     add(
         router,
         "/units/{unit}/alarms/{tag}/one-shot-shelve",
-        Route::OneShotShelve,
+        CallKind::OneShotShelve,
     )?;
     add(
         router,
         "/units/{unit}/alarms/{tag}/unshelve",
-        Route::Unshelve,
+        CallKind::Unshelve,
     )?;
     Ok(())
 }
 
 #[tactic(auto, unfolding(crate::specs::Routes::service_posts))]
-fn add_service_posts(router: &mut Router<Route>) -> Result<(), Fault>
+fn add_service_posts(router: &mut Router<CallKind>) -> Result<(), Fault>
     ensures ok { OnOk result (router.new ≡ with_routes service_posts router.old) }
     ensures err { IfErr result (λ e. e ≡ Memory) }
 {
     add(
         router,
         "/units/{unit}/alarms/{tag}/remove-from-service",
-        Route::RemoveFromService,
+        CallKind::RemoveFromService,
     )?;
     add(
         router,
         "/units/{unit}/alarms/{tag}/place-in-service",
-        Route::PlaceInService,
+        CallKind::PlaceInService,
     )?;
     Ok(())
 }
 
 #[tactic(auto, unfolding(crate::specs::Routes::change_posts))]
-fn add_change_posts(router: &mut Router<Route>) -> Result<(), Fault>
+fn add_change_posts(router: &mut Router<CallKind>) -> Result<(), Fault>
     ensures ok { OnOk result (router.new ≡ with_routes change_posts router.old) }
     ensures err { IfErr result (λ e. e ≡ Memory) }
 {
-    add(router, "/units/{unit}/changes", Route::Propose)?;
+    add(router, "/units/{unit}/changes", CallKind::Propose)?;
     add(
         router,
         "/units/{unit}/changes/{n}/withdraw",
-        Route::WithdrawChange,
+        CallKind::WithdrawChange,
     )?;
-    add(router, "/units/{unit}/changes/{n}/approve", Route::Approve)?;
-    add(router, "/units/{unit}/changes/{n}/reject", Route::Reject)?;
+    add(
+        router,
+        "/units/{unit}/changes/{n}/approve",
+        CallKind::Approve,
+    )?;
+    add(router, "/units/{unit}/changes/{n}/reject", CallKind::Reject)?;
     Ok(())
 }
 
 #[tactic(auto, unfolding(crate::specs::Routes::alarm_gets))]
-fn add_alarm_gets(router: &mut Router<Route>) -> Result<(), Fault>
+fn add_alarm_gets(router: &mut Router<CallKind>) -> Result<(), Fault>
     ensures ok { OnOk result (router.new ≡ with_routes alarm_gets router.old) }
     ensures err { IfErr result (λ e. e ≡ Memory) }
 {
-    add(router, "/units/{unit}/alarms/{tag}", Route::Status)?;
-    add(router, "/units/{unit}/alarms/{tag}/record", Route::RecordOf)?;
-    add(router, "/units/{unit}/changes/{n}", Route::ChangeOf)?;
+    add(router, "/units/{unit}/alarms/{tag}", CallKind::Status)?;
+    add(
+        router,
+        "/units/{unit}/alarms/{tag}/record",
+        CallKind::RecordOf,
+    )?;
+    add(router, "/units/{unit}/changes/{n}", CallKind::ChangeOf)?;
     Ok(())
 }
 
 #[tactic(auto, unfolding(crate::specs::Routes::unit_gets))]
-fn add_unit_gets(router: &mut Router<Route>) -> Result<(), Fault>
+fn add_unit_gets(router: &mut Router<CallKind>) -> Result<(), Fault>
     ensures ok { OnOk result (router.new ≡ with_routes unit_gets router.old) }
     ensures err { IfErr result (λ e. e ≡ Memory) }
 {
-    add(router, "/units/{unit}/alarms", Route::Alarms)?;
-    add(router, "/units/{unit}/shelves", Route::Shelves)?;
-    add(router, "/units/{unit}/standing", Route::Standing)?;
+    add(router, "/units/{unit}/alarms", CallKind::Alarms)?;
+    add(router, "/units/{unit}/shelves", CallKind::Shelves)?;
+    add(router, "/units/{unit}/standing", CallKind::Standing)?;
     add(
         router,
         "/units/{unit}/floods/{begin}/{until}",
-        Route::Floods,
+        CallKind::Floods,
     )?;
     Ok(())
 }
 
 #[tactic(auto, unfolding(crate::specs::Routes::own_gets))]
-fn add_own_gets(router: &mut Router<Route>) -> Result<(), Fault>
+fn add_own_gets(router: &mut Router<CallKind>) -> Result<(), Fault>
     ensures ok { OnOk result (router.new ≡ with_routes own_gets router.old) }
     ensures err { IfErr result (λ e. e ≡ Memory) }
 {
-    add(router, "/units", Route::MyUnits)?;
-    add(router, "/shelves", Route::MyShelves)?;
+    add(router, "/units", CallKind::MyUnits)?;
+    add(router, "/shelves", CallKind::MyShelves)?;
     Ok(())
 }
 
 #[tactic(auto, unfolding(crate::specs::Routes::post_rows))]
-fn post_routes(alloc: Global) -> Result<Router<Route>, Fault>
+fn post_routes(alloc: Global) -> Result<Router<CallKind>, Fault>
     ensures ok { IfOk result (λ router. router ≡ post_rows) }
     ensures err { IfErr result (λ e. e ≡ Memory) }
 {
@@ -167,7 +148,7 @@ fn post_routes(alloc: Global) -> Result<Router<Route>, Fault>
 }
 
 #[tactic(auto, unfolding(crate::specs::Routes::get_rows))]
-fn get_routes(alloc: Global) -> Result<Router<Route>, Fault>
+fn get_routes(alloc: Global) -> Result<Router<CallKind>, Fault>
     ensures ok { IfOk result (λ router. router ≡ get_rows) }
     ensures err { IfErr result (λ e. e ≡ Memory) }
 {
@@ -181,8 +162,8 @@ fn get_routes(alloc: Global) -> Result<Router<Route>, Fault>
 /// The routers of both methods, made once and used for one request after another.
 #[derive(Drop)]
 pub struct Routes {
-    post: Router<Route>,
-    get: Router<Route>,
+    post: Router<CallKind>,
+    get: Router<CallKind>,
     ghost post_is: { post ≡ post_rows },
     ghost get_is: { get ≡ get_rows },
 }
@@ -198,8 +179,8 @@ impl Routes {
         })
     }
 
-    /// The route of a method and a target.
-    pub fn of(&self, method: &[u8], target: &[u8]) -> Option<Route>
+    /// The kind of call that a method and a target ask for.
+    pub fn of(&self, method: &[u8], target: &[u8]) -> Option<CallKind>
         ensures { result ≡ route_of method.now target.now }
     {
         if !is_path(target) {
@@ -216,7 +197,7 @@ impl Routes {
     }
 }
 
-fn found(router: &Router<Route>, path: &str) -> Option<Route>
+fn found(router: &Router<CallKind>, path: &str) -> Option<CallKind>
     ensures { result ≡ route_in router.now path.now }
 {
     match router.at(path) {

@@ -1,6 +1,7 @@
 //! The program's command over files: one that is made, one that is found again, and those that are refused.
 
 use crate::commands::{Written, is_text, said};
+use sqlite::Connection;
 use std::alloc::Global;
 use std::fs;
 use std::process::Abort;
@@ -126,6 +127,39 @@ fn refuses_files_of_others(rt: HostRuntime) {
                 "store: not this store\n"
             )
         );
+        assert!(rt; remove(&rt, path));
+    }
+}
+
+/// Makes a file with the database that these statements leave.
+fn make(stop: &impl Abort, rt: &HostRuntime, path: &str, statements: &str) {
+    let mut conn = Connection::open(rt, path).expect(stop, "a file");
+    conn.execute_batch(statements).expect(stop, "statements");
+    conn.close().expect(stop, "a closed file");
+}
+
+/// A database of another program, one without tables, and one of the older schema: none is opened, and none is written to.
+#[test]
+fn refuses_databases_of_others(rt: HostRuntime) {
+    for (path, statements) in [
+        ("foreign.db", "CREATE TABLE shelves (book TEXT) STRICT"),
+        (
+            "blank.db",
+            "CREATE TABLE shelves (book TEXT) STRICT; DROP TABLE shelves",
+        ),
+        (
+            "schema-1.db",
+            "CREATE TABLE office (id INTEGER NOT NULL, schema_no INTEGER NOT NULL, admin TEXT NOT NULL, PRIMARY KEY (id)) STRICT; INSERT INTO office VALUES (1, 1, 'root')",
+        ),
+    ] {
+        make(&rt, &rt, path, statements);
+        let before = fs::read(&rt, path).expect(&rt, "a file");
+        for _ in 0..2u32 {
+            let refused = said_over(&rt, "root", path, ASKING);
+            assert!(rt; is_unready(&refused, "store: not this store\n"), "{path}");
+        }
+        let after = fs::read(&rt, path).expect(&rt, "a file");
+        assert!(rt; after == before, "{path}");
         assert!(rt; remove(&rt, path));
     }
 }

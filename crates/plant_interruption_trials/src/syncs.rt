@@ -1,0 +1,186 @@
+//! A disk on which a sync fails: from then on each call is answered by a fault of the store.
+
+ghost use Rattle.std.specs.Prelude.{◌≡◌, ◌+◌, ◌&&◌, not};
+
+use plant_examples::{BASE, BEGIN, Exchanges, LOOKED_AT, Mark, SHELVED, between};
+use plant_mirror::ROWS_AT_HAND;
+use plant_model::Answer;
+use plant_office::{Books, Office};
+use plant_store::Tables;
+use plant_trials::{bytes_of, call_of, mirrored, root, served, text};
+use plant_types::Fault;
+use sqlite::{Connection, FileStore, Files, Options};
+use sqlite_disk::{Disk, Memory, Tally};
+use std::io;
+use std::process::Abort;
+
+/// A disk of which so many syncs succeed. The next one fails.
+#[derive(Drop)]
+struct FailingDisk<D: Disk> {
+    inner: D,
+    syncs_left: u64,
+    refused: u64,
+    has_failed: bool,
+}
+
+impl<D: Disk> Disk for FailingDisk<D> {
+    ghost seen = { λ f. D.Disk.seen f.inner };
+
+    ghost may_leave = { λ f. D.Disk.may_leave f.inner };
+
+    ghost is_usable = { λ f. D.Disk.is_usable f.inner && not f.has_failed };
+
+    ghost faults = { λ f. D.Disk.faults f.inner + f.refused };
+
+    ghost tally_of = { λ f. D.Disk.tally_of f.inner };
+
+    ghost is_rotten = { λ f. D.Disk.is_rotten f.inner };
+
+    ghost key_of = { λ f. D.Disk.key_of f.inner };
+
+    ghost is_clean = { λ f. D.Disk.is_clean f.inner };
+
+    ghost is_fair = { λ f. D.Disk.is_fair f.inner };
+
+    ghost fair_if_clean = { λ f. D.Disk.fair_if_clean f.inner };
+
+    ghost seen_may_stay = { λ f. D.Disk.seen_may_stay f.inner };
+
+    ghost is_mixing = { λ f. D.Disk.is_mixing f.inner };
+
+    fn mixes(&self) -> bool {
+        self.inner.mixes()
+    }
+
+    fn key(&self) -> u64 {
+        self.inner.key()
+    }
+
+    fn tally(&self) -> Tally {
+        self.inner.tally()
+    }
+
+    fn may_be_used(&self) -> bool {
+        self.inner.may_be_used() && !self.has_failed
+    }
+
+    fn len(&mut self) -> io::Result<usize> {
+        self.inner.len()
+    }
+
+    fn read_at(&mut self, at: usize, buf: &mut [u8]) -> io::Result<()> {
+        self.inner.read_at(at, buf)
+    }
+
+    fn read_checked(&mut self, key: u64, want: u64, at: usize, buf: &mut [u8]) -> io::Result<()> {
+        self.inner.read_checked(key, want, at, buf)
+    }
+
+    fn write_at(&mut self, at: usize, bytes: &[u8]) -> io::Result<()> {
+        self.inner.write_at(at, bytes)
+    }
+
+    fn set_len(&mut self, len: usize) -> io::Result<()> {
+        self.inner.set_len(len)
+    }
+
+    fn sync(&mut self) -> io::Result<()> {
+        if self.syncs_left == 0 {
+            self.refused = self.refused.saturating_add(1);
+            self.has_failed = true;
+            return Err(io::Error::other("no sync"));
+        }
+        self.syncs_left -= 1;
+        self.inner.sync()
+    }
+}
+
+/// Memory as such a disk.
+fn failing(rt: &(impl Abort + AllocGlobal), syncs: u64) -> FailingDisk<Memory> {
+    FailingDisk {
+        inner: Memory::new(rt.alloc()),
+        syncs_left: syncs,
+        refused: 0,
+        has_failed: false,
+    }
+}
+
+/// Books over a disk of which so many syncs of the log succeed, or none where that is too few to make them.
+fn books_over(
+    rt: &(impl Abort + AllocGlobal),
+    syncs: u64,
+) -> Option<Tables<FileStore<FailingDisk<Memory>>>> {
+    let (log, db) = (failing(rt, syncs), failing(rt, u64::MAX));
+    if !log.may_be_used() || !db.may_be_used() {
+        rt.panic("no disk")
+    }
+    let Ok(conn) = Connection::open_files(rt.alloc(), Files { log, db }, Options::new(7)) else {
+        return None;
+    };
+    Tables::create(rt.alloc(), conn, root(rt.alloc()).expect(rt, "a person")).ok()
+}
+
+/// Whether the call between these marks is answered by a fault of the store. Any other answer is the one that is wanted.
+fn is_faulty<B: Books>(
+    rt: &(impl Abort + AllocGlobal),
+    office: &mut Office<B>,
+    wanted: &Exchanges,
+    last: Mark,
+    next: Mark,
+) -> bool {
+    let (request, due) = between(wanted, last, next).expect(rt, "exchanges");
+    let call = call_of(rt.alloc(), request).expect(rt, "memory");
+    let answer = served(office, &call.expect(rt, "a call"));
+    if matches!(answer, Answer::Fault(Fault::Store)) {
+        return true;
+    }
+    let bytes = bytes_of(rt.alloc(), &answer).expect(rt, "memory");
+    assert_eq!(rt; text(&bytes), text(due));
+    false
+}
+
+/// How many calls of these exchanges are answered before the first fault. Each call after that one is answered by a fault too.
+fn answered<B: Books>(
+    rt: &(impl Abort + AllocGlobal),
+    office: &mut Office<B>,
+    wanted: &Exchanges,
+) -> usize {
+    let mut count = 0usize;
+    let mut has_failed = false;
+    let mut last = BEGIN;
+    for mark in &wanted.marks {
+        let is_faulty = is_faulty(rt, office, wanted, last, *mark);
+        assert!(rt; is_faulty || !has_failed, "answered after a fault");
+        has_failed = is_faulty;
+        if !is_faulty {
+            count = count.saturating_add(1);
+        }
+        last = *mark;
+    }
+    count
+}
+
+/// Each sync fails in turn, until all calls are answered. To make the books takes nine.
+#[test]
+fn answers_nothing_after_a_failed_sync(rt: HostRuntime) {
+    let wanted = Exchanges::of(rt.alloc(), &[BASE, SHELVED, LOOKED_AT]).expect(&rt, "exchanges");
+    let mut faults = 0u32;
+    for syncs in 9..1000u64 {
+        let Some(books) = books_over(&rt, syncs) else {
+            continue;
+        };
+        let books = mirrored(rt.alloc(), books, ROWS_AT_HAND).expect(
+            &rt,
+            "books with rows at hand",
+        );
+        let mut office = Office::new(rt.alloc(), books);
+        let count = answered(&rt, &mut office, &wanted);
+        drop(office.into_books());
+        if count == wanted.marks.len() {
+            assert!(rt; faults > 8, "{faults}");
+            return;
+        }
+        faults = faults.saturating_add(1);
+    }
+    rt.panic("no end")
+}
