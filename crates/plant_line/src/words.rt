@@ -86,7 +86,9 @@ fn person_of(alloc: Global, name: &[u8]) -> Result<Person, LineError>
     }
 }
 
-fn path_of(alloc: Global, path: Option<&str>) -> Result<Option<String>, LineError> {
+fn path_of(alloc: Global, path: Option<&str>) -> Result<Option<String>, LineError>
+    ensures memory { IfErr result (λ e. e ≡ LineError.Memory) }
+{
     match path {
         None => Ok(None),
         Some(path) => match String::from_str(alloc, path) {
@@ -105,6 +107,7 @@ fn task_of(
     ensures serves { old ≡ None → result ≡ Ok (Task.Serve db service) }
     ensures migrates { IfSome old (λ o. IfSome db (λ n. result ≡ Ok (Task.Migrate o n))) }
     ensures refused { IfSome old (λ _. db ≡ None → result ≡ Err LineError.NoDb) }
+    ensures no_db { IfErr result (λ e. e ≡ LineError.NoDb) }
 {
     match (old, db) {
         (None, db) => Ok(Task::Serve { db, service }),
@@ -203,7 +206,7 @@ fn service_args<'a>(alloc: Global, command: Command<'a>) -> Result<Command<'a>, 
 }
 
 /// The program's version, and the toolchain that it is proved with, as `rt version` prints it.
-const VERSION: &str = "1.0.0\nrattle-kit-13b logic dac8208d650f15bf";
+const VERSION: &str = "1.0.0\nrattle-kit-13f logic dac8208d650f15bf";
 
 const ABOUT: &str =
     "Answers the control rooms of a plant, over standard input and output or over a port";
@@ -227,13 +230,34 @@ fn office_command<'a>(alloc: Global) -> Result<Command<'a>, AllocError> {
     service_args(alloc, store_args(alloc, command)?)
 }
 
-/// What the options ask for. The name is read before the files.
-fn asked_of(alloc: Global, matches: &ArgMatches<'_>) -> Result<Line, LineError> {
-    let admin = person_of(alloc, matches.get_str("admin").unwrap_or("").as_bytes())?;
-    let old = path_of(alloc, matches.get_str("migrate"))?;
-    let db = path_of(alloc, matches.get_str("db"))?;
-    let task = task_of(old, db, service_of(matches))?;
+/// The line of an administrator's name, the older file, the file of the tables and the port. The name is read before the files.
+fn line_from(
+    alloc: Global,
+    name: &[u8],
+    old: Option<&str>,
+    db: Option<&str>,
+    service: Option<Service>,
+) -> Result<Line, LineError>
+    ensures admin { IfOk result (λ line. names.person_of name.now ≡ Some line.admin) }
+    ensures outside { names.person_of name.now ≡ None → result ≡ Err LineError.NotAPerson }
+    ensures refused { IfErr result (λ e. e ≡ LineError.NotAPerson → names.person_of name.now ≡ None) }
+{
+    let admin = person_of(alloc, name)?;
+    let old = path_of(alloc, old)?;
+    let db = path_of(alloc, db)?;
+    let task = task_of(old, db, service)?;
     Ok(Line { admin, task })
+}
+
+/// What the options ask for.
+fn asked_of(alloc: Global, matches: &ArgMatches<'_>) -> Result<Line, LineError> {
+    line_from(
+        alloc,
+        matches.get_str("admin").unwrap_or("").as_bytes(),
+        matches.get_str("migrate"),
+        matches.get_str("db"),
+        service_of(matches),
+    )
 }
 
 /// What the program's words ask for, the program's own name first.
