@@ -1,10 +1,10 @@
 -- New rows that come after all kept events of their alarms: they are put behind these.
-use Rattle.std.proofs.Common.{ap, append-nil, append_assoc, arith, cond, refl, subst, sym, ◌∙◌, ◌⊎◌, inl, inr}
+use Rattle.std.proofs.Common.{ap, append-nil, append_assoc, arith, refl, subst, sym, ◌∙◌, ◌⊎◌, inl, inr}
 use Rattle.std.proofs.lemmas.Bool.{cases_lt, le-ltb, lt-ltb}
 use Rattle.std.proofs.lemmas.List.Folds.{list_any-append}
 use Rattle.std.specs.List.{list_any}
 use Rattle.std.specs.Ordering.{nat_cmp}
-use Rattle.std.specs.Prelude.{Bool, List, None, Option, Some, [], false, filter, if◌then◌else◌, nat_lt, not, option_map, true, ℕ, ◌&&◌, ◌++◌, ◌+◌, ◌<◌, ◌∷◌, ◌≡◌, ◌≤◌, ◌||◌}
+use Rattle.std.specs.Prelude.{Bool, List, None, [], false, filter, if◌then◌else◌, nat_lt, not, option_map, true, ℕ, ◌&&◌, ◌++◌, ◌+◌, ◌<◌, ◌∷◌, ◌≡◌, ◌≤◌, ◌||◌}
 use Rattle.plant_alarm.specs.declared.event.Event.{Event}
 use Rattle.plant_import.proofs.Counted.{no_clash, none_first, none_mapped, or_parts, order_puts, put_twice, same_by_number, turned}
 use Rattle.plant_import.proofs.Placed.{AllAbove, Rises, above_it, other, put_before, put_behind, rises_of}

@@ -4,6 +4,7 @@ pub mod Places
 pub mod ReadsRecords
 pub mod Rows
 pub mod Merges
+pub mod Known
 pub mod Placed
 pub mod Counted
 pub mod Risings

@@ -2,14 +2,14 @@
 use Rattle.std.proofs.Common.{ap, append-nil, append_assoc, arith, drop, get_or, length-append, refl, subst, suc, sym, take, zero, ◌∙◌, ◌⊎◌, inl, inr}
 use Rattle.std.proofs.lemmas.Bool.{cases_lt, le-ltb, lt-ltb, ltb-false, ltb-true}
 use Rattle.std.proofs.lemmas.List.Folds.{list_any-append}
-use Rattle.std.specs.List.{list_all, list_any}
+use Rattle.std.specs.List.{list_any}
 use Rattle.std.specs.List.Sorted.{IsPartitionPoint, IsPartitionedBy}
 use Rattle.std.specs.Prelude.{Bool, List, None, Option, [], cond, false, filter, if◌then◌else◌, length, nat_lt, not, option_map, true, ℕ, ◌&&◌, ◌++◌, ◌+◌, ◌-◌, ◌<◌, ◌∷◌, ◌≡◌, ◌≤◌, ◌||◌}
 use Rattle.plant_alarm.specs.declared.event.Event.{Event}
 use Rattle.plant_import.proofs.Nearest.{order_below, other_number}
 use Rattle.plant_import.proofs.Placed.{AllAbove, Rises, in_order_of, other, rises_of}
-use Rattle.plant_import.proofs.Risings.{Before, Each, Rising, any_none, any_there, each_append, each_at, each_both, each_of, each_weaker, is_rising, rising_back, rising_of}
-use Rattle.plant_import.specs.Merging.{IsRising, clashes, first_fault, fresh, is_new, merge, merge_fault, merged_or, out_of_order, same_event}
+use Rattle.plant_import.proofs.Risings.{Before, Each, Rising, any_none, any_there, each_both, each_of, each_weaker, is_rising, rising_back, rising_of}
+use Rattle.plant_import.specs.Merging.{IsRising, clashes, first_fault, fresh, merge, merge_fault, merged_or, out_of_order, same_event}
 use Rattle.plant_import.specs.Needed.{from_last_before, has_late, is_before_all, is_late, is_overtaken, needed}
 use Rattle.plant_import.specs.Numbers.{event_number, has_number, new_numbers, numbers_of}
 use Rattle.plant_import.specs.Reading.{bad}
@@ -19,8 +19,7 @@ use Rattle.plant_types.specs.Names.{Name, same_name}
 use Rattle.plant_types.specs.Options.{or_else}
 use Rattle.plant_types.specs.Tables.{IsInOrder, in_order}
 use Rattle.std.specs.Ordering.{nat_cmp}
-use Rattle.plant_alarm.specs.States.{passing}
-use Rattle.std.specs.Prelude.{Err, Ok, Result, Some, unwrap_or}
+use Rattle.std.specs.Prelude.{Ok, Result, Some, unwrap_or}
 use Rattle.std.specs.BTreeMap.{BTreeMap, IsEmpty, Updates, get, is_at}
 use Rattle.std.specs.Map.{lookup}
 use Rattle.std.specs.Cmp.{eq_by_cmp_equiv}

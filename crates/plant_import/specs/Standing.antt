@@ -1,7 +1,8 @@
 -- How a row stands to events in rising number: what the code tells from the nearest of them.
 use Rattle.std.specs.Prelude.{ℕ, ◌≡◌, Bool, true, false, List, ◌++◌, insert, Option, Some, None, Result, Ok, Err}
+use Rattle.std.specs.BTreeSet.{BTreeSet, contains}
 use Rattle.std.specs.List.{list_any}
-use Rattle.plant_types.specs.Names.{Name}
+use Rattle.plant_types.specs.Names.{Name, name_cmp, same_name}
 use Rattle.plant_alarm.specs.declared.event.Event.{Event}
 use Rattle.plant_import.specs.declared.bad_file.Cause.{Cause}
 use Rattle.plant_import.specs.declared.bad_file.Cause.TheVariants.{SequenceClash, MomentOutOfOrder}
@@ -20,6 +21,10 @@ Stands events e (New place) = StandsSo events e false false false × IsRising (i
 Stands events e Known = StandsSo events e true false false
 Stands events e Clash = list_any (clashes e) events ≡ true
 Stands events e OutOfOrder = StandsSo events e false false true
+
+-- the set has these tags
+abbrev pub AreKnown : BTreeSet Name → List Name → Type 0
+AreKnown known tags = (a : Name) → contains name_cmp known a ≡ list_any (same_name a) tags
 
 -- the row's fault, or whether it is new and its place among the earlier rows that were new
 abbrev pub IsJudged : List Name → ℕ → List Event → List Event → Event → Result (Option ℕ) Cause → Type 0

@@ -1,17 +1,18 @@
-ghost use Rattle.std.specs.Prelude.{◌≡◌, ◌+◌, ◌++◌, ◌∷◌, [], IfOk, IfErr, OnOk, length};
-ghost use Rattle.std.specs.List.{list_any, insert};
-ghost use Rattle.plant_types.specs.Names.{same_name};
+ghost use Rattle.std.specs.Prelude.{◌≡◌, ◌+◌, ◌++◌, ◌∷◌, [], IfOk, IfErr, List, OnOk, length};
+ghost use Rattle.std.specs.List.{insert};
+ghost use Rattle.plant_types.specs.Names.{Name};
 ghost use Rattle.plant_types.specs.declared.fault.Fault.TheVariants.{Memory};
 ghost use Rattle.plant_import.specs.Merging as merging;
 ghost use Rattle.plant_import.specs.Merging.{IsRising};
 ghost use Rattle.plant_import.specs.Standing as standing;
-ghost use Rattle.plant_import.specs.Standing.{IsJudged};
+ghost use Rattle.plant_import.specs.Standing.{AreKnown, IsJudged};
 
 use crate::standing::{Standing, stands};
 use crate::{BadFile, Cause};
 use plant_alarm::Event;
 use plant_types::{Fault, Moment, Table, Tag};
 use std::alloc::Global;
+use std::collections::BTreeSet;
 
 /// What a file adds to the events of a unit.
 #[derive(Drop)]
@@ -36,11 +37,12 @@ pub fn merge(
     ensures counted { IfOk result (λ merged. IfOk merged (λ m. m.repeated + length m.fresh ≡ length file.now)) }
     ensures err { IfErr result (λ e. e ≡ Memory) }
 {
+    let known = known_tags(alloc, tags)?;
     let mut fresh = Table::new(alloc);
     let mut rising = Table::new(alloc);
     let mut repeated = 0;
     for (i, event) in file.iter().enumerate() {
-        let place = match judged(kept, rising.as_slice(), event, tags, now) {
+        let place = match judged(kept, rising.as_slice(), event, &known, now) {
             Ok(place) => place,
             Err(cause) => {
                 return Ok(Err(BadFile {
@@ -55,6 +57,18 @@ pub fn merge(
         }
     }
     Ok(Ok(Merged { fresh, repeated }))
+}
+
+/// The set of the tags.
+fn known_tags(alloc: Global, tags: &[Tag]) -> Result<BTreeSet<Tag>, Fault>
+    ensures value { IfOk result (λ known. AreKnown known tags.now) }
+    ensures err { IfErr result (λ e. e ≡ Memory) }
+{
+    let mut known = BTreeSet::new(alloc);
+    for tag in tags {
+        known.insert(tag.copy(alloc)?)?;
+    }
+    Ok(known)
 }
 
 /// Adds a new row to those in the file's order and, at its place, to those in rising number.
@@ -78,12 +92,12 @@ fn judged(
     kept: &[Event],
     fresh: &[Event],
     event: &Event,
-    tags: &[Tag],
+    known: &BTreeSet<Tag>,
     now: Moment,
 ) -> Result<Option<usize>, Cause>
-    ensures { IsRising kept.now → IsRising fresh.now → IsJudged tags.now now kept.now fresh.now event.now result }
+    ensures { (tags : List Name) → AreKnown known.now tags → IsRising kept.now → IsRising fresh.now → IsJudged tags now kept.now fresh.now event.now result }
 {
-    if !is_known(&event.tag, tags) {
+    if !known.contains(&event.tag) {
         return Err(Cause::TagUnknown);
     }
     if now < event.moment {
@@ -102,10 +116,4 @@ fn joined(kept: Standing, fresh: Standing) -> Result<Option<usize>, Cause>
         (Standing::New(_), Standing::New(place)) => Ok(Some(place)),
         (Standing::Known, _) | (_, Standing::Known) => Ok(None),
     }
-}
-
-fn is_known(tag: &Tag, tags: &[Tag]) -> bool
-    ensures { result ≡ list_any (same_name tag.now) tags.now }
-{
-    tags.iter().any(|known| tag == known)
 }

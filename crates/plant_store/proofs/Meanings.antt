@@ -3,21 +3,20 @@ use Rattle.std.proofs.Common.{◌≡◌, Ok, refl, List, ℕ, [], ◌∷◌, fal
 use Rattle.std.specs.Fmt.{digits}
 use Rattle.sqlite.specs.Collation.TheVariants.{Binary}
 use Rattle.sqlite.specs.Change.{created, indexed}
-use Rattle.sqlite.specs.Command.TheVariants.{Insert, InsertOr, Delete, Select, Update, CreateTable, CreateIndex}
+use Rattle.sqlite.specs.Command.TheVariants.{Insert, Delete, Select, Update, CreateTable, CreateIndex}
 use Rattle.sqlite.specs.Compile.{table_defined_by, index_defined_by}
 use Rattle.sqlite.specs.Listing.{understood, reads_listing}
 use Rattle.sqlite.specs.Query.{Query, inner, end}
 use Rattle.sqlite.specs.Source.TheVariants.{Values}
 use Rattle.sqlite.specs.Term.{Term, lit, col, op2}
 use Rattle.sqlite.proofs.Callers.{IsPlain, command_of, statement_of}
-use Rattle.sqlite_schema.specs.declared.command.Conflict.TheVariants.{Replace}
 use Rattle.sqlite_sql.specs.declared.ops.BinaryOp.TheVariants.{Compare}
 use Rattle.sqlite_sql.specs.declared.ops.CompareOp.TheVariants.{Eq}
 use Rattle.sqlite_tied.specs.Compute.{everything}
 use Rattle.sqlite_value.specs.declared.keys.Key.{Key}
 use Rattle.sqlite_value.specs.declared.value.Value.TheVariants.{Null, Int}
 use Rattle.sqlite_value.specs.Keys.{ascending}
-use Rattle.plant_store.specs.Texts.{office_text, units_text, grants_text, alarms_text, shelves_text, bands_text, cells_text, events_text, by_person_text, put_office_text, office_row_text, over_unit_text, over_alarm_text, over_change_text, put_unit_text, put_grant_text, put_alarm_text, put_shelf_text, put_band_text, put_cell_text, put_event_text, remove_grant_text, remove_shelf_text, units_of_text, grants_of_text, alarms_of_text, shelves_of_text, bands_of_text, cells_of_text, events_of_text, own_grants_text, alarm_at_text, shelf_at_text, tags_of_text, shelf_tags_text, mine_shelves_text, mine_text, records_text, changes_text, put_record_text, put_change_text, records_of_text, changes_of_text, record_at_text, bands_at_text, cells_at_text, change_at_text, last_change_text}
+use Rattle.plant_store.specs.Texts.{office_text, units_text, grants_text, alarms_text, shelves_text, bands_text, cells_text, events_text, by_person_text, put_office_text, office_row_text, over_unit_text, over_grant_text, over_alarm_text, over_shelf_text, over_record_text, over_change_text, put_unit_text, put_grant_text, put_alarm_text, put_shelf_text, put_band_text, put_cell_text, put_event_text, remove_grant_text, remove_shelf_text, units_of_text, grants_of_text, alarms_of_text, shelves_of_text, bands_of_text, cells_of_text, events_of_text, own_grants_text, alarm_at_text, shelf_at_text, tags_of_text, shelf_tags_text, mine_shelves_text, mine_text, records_text, changes_text, put_record_text, put_change_text, records_of_text, changes_of_text, record_at_text, bands_at_text, cells_at_text, change_at_text, last_change_text}
 use Rattle.plant_columns.specs.Tables.{office_table, unit_shape, grant_shape, alarm_shape, shelf_shape, band_shape, cell_shape, event_shape, by_person, no_schema, office_schema, units_schema, grants_schema, alarms_schema, shelves_schema, bands_schema, cells_schema, events_schema, books_schema, record_shape, change_shape, records_schema, changes_schema}
 use Rattle.plant_tables.specs.Kept.{plain_query}
 use Rattle.plant_tables.specs.Shape.{table_in}
@@ -217,7 +216,7 @@ office_row_plain = (refl, refl)
 abbrev pub put_unit_terms : List Term
 put_unit_terms = lit Null ∷ col 0 0 ∷ col 0 1 ∷ col 0 2 ∷ col 0 3 ∷ col 0 4 ∷ []
 
-pub put_unit_is : command_of (understood books_schema put_unit_text) ≡ InsertOr 1 Replace (Values put_unit_terms 6) []
+pub put_unit_is : command_of (understood books_schema put_unit_text) ≡ Insert 1 (Values put_unit_terms 6)
 unfolding understood everything
 put_unit_is = refl
 
@@ -228,7 +227,7 @@ put_unit_plain = (refl, refl)
 abbrev pub put_grant_terms : List Term
 put_grant_terms = lit Null ∷ col 0 0 ∷ col 0 1 ∷ col 0 2 ∷ col 0 3 ∷ []
 
-pub put_grant_is : command_of (understood books_schema put_grant_text) ≡ InsertOr 2 Replace (Values put_grant_terms 5) []
+pub put_grant_is : command_of (understood books_schema put_grant_text) ≡ Insert 2 (Values put_grant_terms 5)
 unfolding understood everything
 put_grant_is = refl
 
@@ -239,7 +238,7 @@ put_grant_plain = (refl, refl)
 abbrev pub put_alarm_terms : List Term
 put_alarm_terms = lit Null ∷ col 0 0 ∷ col 0 1 ∷ col 0 2 ∷ col 0 3 ∷ col 0 4 ∷ col 0 5 ∷ col 0 6 ∷ col 0 7 ∷ col 0 8 ∷ col 0 9 ∷ col 0 10 ∷ col 0 11 ∷ []
 
-pub put_alarm_is : command_of (understood books_schema put_alarm_text) ≡ InsertOr 3 Replace (Values put_alarm_terms 13) []
+pub put_alarm_is : command_of (understood books_schema put_alarm_text) ≡ Insert 3 (Values put_alarm_terms 13)
 unfolding understood everything
 put_alarm_is = refl
 
@@ -250,7 +249,7 @@ put_alarm_plain = (refl, refl)
 abbrev pub put_shelf_terms : List Term
 put_shelf_terms = lit Null ∷ col 0 0 ∷ col 0 1 ∷ col 0 2 ∷ col 0 3 ∷ col 0 4 ∷ col 0 5 ∷ col 0 6 ∷ []
 
-pub put_shelf_is : command_of (understood books_schema put_shelf_text) ≡ InsertOr 4 Replace (Values put_shelf_terms 8) []
+pub put_shelf_is : command_of (understood books_schema put_shelf_text) ≡ Insert 4 (Values put_shelf_terms 8)
 unfolding understood everything
 put_shelf_is = refl
 
@@ -261,7 +260,7 @@ put_shelf_plain = (refl, refl)
 abbrev pub put_band_terms : List Term
 put_band_terms = lit Null ∷ col 0 0 ∷ col 0 1 ∷ col 0 2 ∷ col 0 3 ∷ []
 
-pub put_band_is : command_of (understood books_schema put_band_text) ≡ InsertOr 5 Replace (Values put_band_terms 5) []
+pub put_band_is : command_of (understood books_schema put_band_text) ≡ Insert 5 (Values put_band_terms 5)
 unfolding understood everything
 put_band_is = refl
 
@@ -272,7 +271,7 @@ put_band_plain = (refl, refl)
 abbrev pub put_cell_terms : List Term
 put_cell_terms = lit Null ∷ col 0 0 ∷ col 0 1 ∷ col 0 2 ∷ col 0 3 ∷ col 0 4 ∷ []
 
-pub put_cell_is : command_of (understood books_schema put_cell_text) ≡ InsertOr 6 Replace (Values put_cell_terms 6) []
+pub put_cell_is : command_of (understood books_schema put_cell_text) ≡ Insert 6 (Values put_cell_terms 6)
 unfolding understood everything
 put_cell_is = refl
 
@@ -283,7 +282,7 @@ put_cell_plain = (refl, refl)
 abbrev pub put_event_terms : List Term
 put_event_terms = lit Null ∷ col 0 0 ∷ col 0 1 ∷ col 0 2 ∷ col 0 3 ∷ col 0 4 ∷ []
 
-pub put_event_is : command_of (understood books_schema put_event_text) ≡ InsertOr 7 Replace (Values put_event_terms 6) []
+pub put_event_is : command_of (understood books_schema put_event_text) ≡ Insert 7 (Values put_event_terms 6)
 unfolding understood everything
 put_event_is = refl
 
@@ -294,7 +293,7 @@ put_event_plain = (refl, refl)
 abbrev pub put_record_terms : List Term
 put_record_terms = lit Null ∷ col 0 0 ∷ col 0 1 ∷ col 0 2 ∷ col 0 3 ∷ col 0 4 ∷ []
 
-pub put_record_is : command_of (understood books_schema put_record_text) ≡ InsertOr 8 Replace (Values put_record_terms 6) []
+pub put_record_is : command_of (understood books_schema put_record_text) ≡ Insert 8 (Values put_record_terms 6)
 unfolding understood everything
 put_record_is = refl
 
@@ -305,7 +304,7 @@ put_record_plain = (refl, refl)
 abbrev pub put_change_terms : List Term
 put_change_terms = lit Null ∷ col 0 0 ∷ col 0 1 ∷ col 0 2 ∷ col 0 3 ∷ col 0 4 ∷ col 0 5 ∷ col 0 6 ∷ col 0 7 ∷ col 0 8 ∷ col 0 9 ∷ col 0 10 ∷ col 0 11 ∷ col 0 12 ∷ col 0 13 ∷ col 0 14 ∷ col 0 15 ∷ []
 
-pub put_change_is : command_of (understood books_schema put_change_text) ≡ InsertOr 9 Replace (Values put_change_terms 17) []
+pub put_change_is : command_of (understood books_schema put_change_text) ≡ Insert 9 (Values put_change_terms 17)
 unfolding understood everything
 put_change_is = refl
 
@@ -340,8 +339,17 @@ order_4 = (col 1 1, ascending Binary) ∷ (col 1 2, ascending Binary) ∷ (col 1
 abbrev pub over_unit_shows : List Term
 over_unit_shows = col 1 0 ∷ col 1 0 ∷ col 1 1 ∷ col 0 1 ∷ col 0 2 ∷ col 0 3 ∷ col 0 4 ∷ []
 
+abbrev pub over_grant_shows : List Term
+over_grant_shows = col 1 0 ∷ col 1 0 ∷ col 1 1 ∷ col 1 2 ∷ col 1 3 ∷ col 0 3 ∷ []
+
 abbrev pub over_alarm_shows : List Term
 over_alarm_shows = col 1 0 ∷ col 1 0 ∷ col 1 1 ∷ col 1 2 ∷ col 0 2 ∷ col 0 3 ∷ col 0 4 ∷ col 0 5 ∷ col 0 6 ∷ col 0 7 ∷ col 0 8 ∷ col 0 9 ∷ col 0 10 ∷ col 0 11 ∷ []
+
+abbrev pub over_shelf_shows : List Term
+over_shelf_shows = col 1 0 ∷ col 1 0 ∷ col 1 1 ∷ col 1 2 ∷ col 0 2 ∷ col 0 3 ∷ col 0 4 ∷ col 0 5 ∷ col 0 6 ∷ []
+
+abbrev pub over_record_shows : List Term
+over_record_shows = col 1 0 ∷ col 1 0 ∷ col 1 1 ∷ col 1 2 ∷ col 0 2 ∷ col 0 3 ∷ col 0 4 ∷ []
 
 abbrev pub over_change_shows : List Term
 over_change_shows = col 1 0 ∷ col 1 0 ∷ col 1 1 ∷ col 1 2 ∷ col 0 2 ∷ col 0 3 ∷ col 0 4 ∷ col 0 5 ∷ col 0 6 ∷ col 0 7 ∷ col 0 8 ∷ col 0 9 ∷ col 0 10 ∷ col 0 11 ∷ col 0 12 ∷ col 0 13 ∷ col 0 14 ∷ col 0 15 ∷ []
@@ -354,6 +362,14 @@ pub over_unit_plain : IsPlain (understood books_schema over_unit_text)
 unfolding understood everything
 over_unit_plain = (refl, refl)
 
+pub over_grant_is : command_of (understood books_schema over_grant_text) ≡ Update 2 (record { lets = []; body = plain_query (inner 3 end) by_three over_grant_shows [] })
+unfolding understood everything
+over_grant_is = refl
+
+pub over_grant_plain : IsPlain (understood books_schema over_grant_text)
+unfolding understood everything
+over_grant_plain = (refl, refl)
+
 pub over_alarm_is : command_of (understood books_schema over_alarm_text) ≡ Update 3 (record { lets = []; body = plain_query (inner 5 end) by_two over_alarm_shows [] })
 unfolding understood everything
 over_alarm_is = refl
@@ -361,6 +377,22 @@ over_alarm_is = refl
 pub over_alarm_plain : IsPlain (understood books_schema over_alarm_text)
 unfolding understood everything
 over_alarm_plain = (refl, refl)
+
+pub over_shelf_is : command_of (understood books_schema over_shelf_text) ≡ Update 4 (record { lets = []; body = plain_query (inner 7 end) by_two over_shelf_shows [] })
+unfolding understood everything
+over_shelf_is = refl
+
+pub over_shelf_plain : IsPlain (understood books_schema over_shelf_text)
+unfolding understood everything
+over_shelf_plain = (refl, refl)
+
+pub over_record_is : command_of (understood books_schema over_record_text) ≡ Update 8 (record { lets = []; body = plain_query (inner 15 end) by_two over_record_shows [] })
+unfolding understood everything
+over_record_is = refl
+
+pub over_record_plain : IsPlain (understood books_schema over_record_text)
+unfolding understood everything
+over_record_plain = (refl, refl)
 
 pub over_change_is : command_of (understood books_schema over_change_text) ≡ Update 9 (record { lets = []; body = plain_query (inner 17 end) by_two over_change_shows [] })
 unfolding understood everything

@@ -1,6 +1,6 @@
 -- The statements that write, table by table.
 use Rattle.std.proofs.Common.{◌≡◌, ◌≢◌, ◌⊎◌, inl, inr, ℕ, ◌/◌, length, List, [], ◌∷◌, ◌++◌, Option, Ok, refl, sym, ap, ap₂, ◌∙◌, subst, arith, true≢false, T, nat_cmp, Bool, true, false, ◌&&◌}
-use Rattle.sqlite.specs.Command.TheVariants.{InsertOr}
+use Rattle.sqlite.specs.Command.TheVariants.{Insert}
 use Rattle.sqlite.specs.Effect.{Database, value_rows}
 use Rattle.sqlite.specs.Listing.{understood}
 use Rattle.sqlite.specs.Rows.{stamped}
@@ -8,7 +8,6 @@ use Rattle.sqlite.specs.Source.TheVariants.{Values}
 use Rattle.sqlite.specs.State.{State, Executes}
 use Rattle.sqlite.specs.Term.{Term}
 use Rattle.sqlite.proofs.Callers.{IsPlain, command_of}
-use Rattle.sqlite_schema.specs.declared.command.Conflict.TheVariants.{Replace}
 use Rattle.sqlite_value.specs.declared.value.Value.TheVariants.{Null, Text}
 use Rattle.sqlite_value.specs.Keys.{first_key}
 use Rattle.plant_alarm.specs.declared.event.Event.{Event}
@@ -32,7 +31,7 @@ use Rattle.plant_types.specs.Tables.{IsInOrder, put_row}
 use Rattle.plant_tables.specs.Shape.{rows_in, row_in, table_in}
 use Rattle.plant_tables.proofs.Changes.{HasNoReferences}
 use Rattle.plant_tables.proofs.Family.{Edits, kept_at, put_edits, remove_edits, same_table}
-use Rattle.plant_tables.proofs.Shapes.{puts_row, removes_row, rises}
+use Rattle.plant_tables.proofs.Shapes.{removes_row, rises}
 use Rattle.plant_columns.specs.Codes.{role}
 use Rattle.plant_store.specs.Changes.{Applies}
 use Rattle.plant_columns.specs.Tables.{AreBooks, AreSeen, Kept, KeyOf, RowOf, books_schema, office_table, own_key, rows_at, rows_seen, shape, unit_shape}
@@ -40,6 +39,7 @@ use Rattle.plant_columns.specs.Tables.Kept.{UnitKept, GrantKept, AlarmKept, Shel
 use Rattle.plant_store.specs.Texts.{put_unit_text, put_grant_text, put_alarm_text, put_shelf_text, put_band_text, put_cell_text, put_change_text, put_event_text, put_record_text, remove_grant_text, remove_shelf_text}
 use Rattle.plant_store.proofs.Meanings.{by_two, by_three, put_unit_terms, put_grant_terms, put_alarm_terms, put_shelf_terms, put_band_terms, put_cell_terms, put_change_terms, put_event_terms, put_record_terms, put_unit_is, put_grant_is, put_alarm_is, put_shelf_is, put_band_is, put_cell_is, put_change_is, put_event_is, put_record_is, put_unit_plain, put_grant_plain, put_alarm_plain, put_shelf_plain, put_band_plain, put_cell_plain, put_change_plain, put_event_plain, put_record_plain, remove_grant_is, remove_grant_plain, remove_shelf_is, remove_shelf_plain}
 use Rattle.plant_columns.proofs.ShapeLaws.{all_listed, good, listed}
+use Rattle.plant_store.proofs.Inserted.{adds_row}
 
 pub free : HasNoReferences books_schema
 free = (refl, (refl, (refl, (refl, (refl, (refl, (refl, (refl, (refl, (refl, tt))))))))))
@@ -75,14 +75,14 @@ edits_apply i u change cs old new it here elsewhere = record {
     other v apart j (inl e) = subst (λ k. rows_seen v new.trees k ≡ rows_seen v old.trees k) (sym e) (it.other_units v apart)
     other v apart j (inr away) = ap (rows_in (shape j) v) (it.other_tables j away)
 
--- INSERT OR REPLACE of a row of one table
-put_in_table : (i : Kept) (text : List ℕ) (terms : List Term) (width : ℕ) → command_of (understood books_schema text) ≡ InsertOr (shape i).place Replace (Values terms width) [] → IsPlain (understood books_schema text)
+-- INSERT of a row of one table
+put_in_table : (i : Kept) (text : List ℕ) (terms : List Term) (width : ℕ) → command_of (understood books_schema text) ≡ Insert (shape i).place (Values terms width) → IsPlain (understood books_schema text)
     → (u : Name) (x : RowOf i) → value_rows (stamped (table_in (shape i)) (Text u ∷ (shape i).cells x)) width (length terms / width) terms ≡ row_in (shape i) Null u x ∷ []
     → (old new : State) → AreBooks old.now → (count : ℕ) → Executes text (Text u ∷ (shape i).cells x) old new (Ok count)
     → Edits RowOf KeyOf shape books_schema i u (put_row (shape i).order (shape i).key x) old.now new.now
 put_in_table i text terms width is plain_text u x values old new books count h =
     put_edits RowOf KeyOf shape books_schema all_listed i (good i) u x old.now new.now books
-    (puts_row (shape i) (good i) books_schema free (listed i) text terms width is plain_text u x values old new books.same_schema (books.tidy i).are count h)
+    (adds_row (shape i) (good i) books_schema (listed i) free text terms width is plain_text u x values old new books.same_schema (books.tidy i).are count h)
 
 -- ---- a unit has one row of its own at most
 
@@ -202,11 +202,12 @@ away_changes rows after e EventKept h = ap (λ (r : UnitRows). r.events) e
 away_changes rows after e RecordKept h = ap (λ (r : UnitRows). r.records) e
 away_changes rows after e ChangeKept h = absurd (h refl)
 
+pub grant_edited : (u : Name) (x : GrantRow) (old new : Database) → Edits RowOf KeyOf shape books_schema GrantKept u (put_row (shape GrantKept).order (shape GrantKept).key x) old new → Applies u (Put (GrantPut x) ∷ []) old new
+grant_edited u x old new it = edits_apply GrantKept u (put_row (shape GrantKept).order (shape GrantKept).key x) (Put (GrantPut x) ∷ []) old new it (λ rows seen. refl) (λ rows. away_grants rows _ refl)
+
 pub put_grant_applies : (u : Name) (x : GrantRow) (old new : State) → AreBooks old.now → (count : ℕ) → Executes put_grant_text (Text u ∷ (shape GrantKept).cells x) old new (Ok count)
     → Applies u (Put (GrantPut x) ∷ []) old.now new.now
-put_grant_applies u x old new books count h =
-    edits_apply GrantKept u (put_row (shape GrantKept).order (shape GrantKept).key x) (Put (GrantPut x) ∷ []) old.now new.now (put_in_table GrantKept put_grant_text put_grant_terms 5 put_grant_is put_grant_plain u x refl old new books count h)
-    (λ rows seen. refl) (λ rows. away_grants rows _ refl)
+put_grant_applies u x old new books count h = grant_edited u x old.now new.now (put_in_table GrantKept put_grant_text put_grant_terms 5 put_grant_is put_grant_plain u x refl old new books count h)
 
 pub alarm_edited : (u : Name) (x : AlarmRow) (old new : Database) → Edits RowOf KeyOf shape books_schema AlarmKept u (put_row (shape AlarmKept).order (shape AlarmKept).key x) old new → Applies u (Put (AlarmPut x) ∷ []) old new
 alarm_edited u x old new it = edits_apply AlarmKept u (put_row (shape AlarmKept).order (shape AlarmKept).key x) (Put (AlarmPut x) ∷ []) old new it (λ rows seen. refl) (λ rows. away_alarms rows _ refl)
@@ -215,11 +216,12 @@ pub put_alarm_applies : (u : Name) (x : AlarmRow) (old new : State) → AreBooks
     → Applies u (Put (AlarmPut x) ∷ []) old.now new.now
 put_alarm_applies u x old new books count h = alarm_edited u x old.now new.now (put_in_table AlarmKept put_alarm_text put_alarm_terms 13 put_alarm_is put_alarm_plain u x refl old new books count h)
 
+pub shelf_edited : (u : Name) (x : ShelfRow) (old new : Database) → Edits RowOf KeyOf shape books_schema ShelfKept u (put_row (shape ShelfKept).order (shape ShelfKept).key x) old new → Applies u (Put (ShelfPut x) ∷ []) old new
+shelf_edited u x old new it = edits_apply ShelfKept u (put_row (shape ShelfKept).order (shape ShelfKept).key x) (Put (ShelfPut x) ∷ []) old new it (λ rows seen. refl) (λ rows. away_shelves rows _ refl)
+
 pub put_shelf_applies : (u : Name) (x : ShelfRow) (old new : State) → AreBooks old.now → (count : ℕ) → Executes put_shelf_text (Text u ∷ (shape ShelfKept).cells x) old new (Ok count)
     → Applies u (Put (ShelfPut x) ∷ []) old.now new.now
-put_shelf_applies u x old new books count h =
-    edits_apply ShelfKept u (put_row (shape ShelfKept).order (shape ShelfKept).key x) (Put (ShelfPut x) ∷ []) old.now new.now (put_in_table ShelfKept put_shelf_text put_shelf_terms 8 put_shelf_is put_shelf_plain u x refl old new books count h)
-    (λ rows seen. refl) (λ rows. away_shelves rows _ refl)
+put_shelf_applies u x old new books count h = shelf_edited u x old.now new.now (put_in_table ShelfKept put_shelf_text put_shelf_terms 8 put_shelf_is put_shelf_plain u x refl old new books count h)
 
 pub put_band_applies : (u : Name) (x : BandRow) (old new : State) → AreBooks old.now → (count : ℕ) → Executes put_band_text (Text u ∷ (shape BandKept).cells x) old new (Ok count)
     → Applies u (Put (BandPut x) ∷ []) old.now new.now
@@ -239,11 +241,12 @@ put_event_applies u x old new books count h =
     edits_apply EventKept u (put_row (shape EventKept).order (shape EventKept).key x) (Put (EventPut x) ∷ []) old.now new.now (put_in_table EventKept put_event_text put_event_terms 6 put_event_is put_event_plain u x refl old new books count h)
     (λ rows seen. refl) (λ rows. away_events rows _ refl)
 
+pub record_edited : (u : Name) (x : RecordEntry) (old new : Database) → Edits RowOf KeyOf shape books_schema RecordKept u (put_row (shape RecordKept).order (shape RecordKept).key x) old new → Applies u (Put (RecordPut x) ∷ []) old new
+record_edited u x old new it = edits_apply RecordKept u (put_row (shape RecordKept).order (shape RecordKept).key x) (Put (RecordPut x) ∷ []) old new it (λ rows seen. refl) (λ rows. away_records rows _ refl)
+
 pub put_record_applies : (u : Name) (x : RecordEntry) (old new : State) → AreBooks old.now → (count : ℕ) → Executes put_record_text (Text u ∷ (shape RecordKept).cells x) old new (Ok count)
     → Applies u (Put (RecordPut x) ∷ []) old.now new.now
-put_record_applies u x old new books count h =
-    edits_apply RecordKept u (put_row (shape RecordKept).order (shape RecordKept).key x) (Put (RecordPut x) ∷ []) old.now new.now (put_in_table RecordKept put_record_text put_record_terms 6 put_record_is put_record_plain u x refl old new books count h)
-    (λ rows seen. refl) (λ rows. away_records rows _ refl)
+put_record_applies u x old new books count h = record_edited u x old.now new.now (put_in_table RecordKept put_record_text put_record_terms 6 put_record_is put_record_plain u x refl old new books count h)
 
 pub change_edited : (u : Name) (x : ChangeEntry) (old new : Database) → Edits RowOf KeyOf shape books_schema ChangeKept u (put_row (shape ChangeKept).order (shape ChangeKept).key x) old new → Applies u (Put (ChangePut x) ∷ []) old new
 change_edited u x old new it = edits_apply ChangeKept u (put_row (shape ChangeKept).order (shape ChangeKept).key x) (Put (ChangePut x) ∷ []) old new it (λ rows seen. refl) (λ rows. away_changes rows _ refl)

@@ -5,7 +5,6 @@ use Rattle.std.specs.FinMap.{slice_cmp-IsAntisymmetric, nat_cmp-IsAntisymmetric}
 use Rattle.std.specs.Ordering.{ordering_then}
 use Rattle.std.specs.Prelude.{nat_eq}
 use Rattle.sqlite.specs.Command.TheVariants.{Update}
-use Rattle.sqlite.specs.Effect.{Database}
 use Rattle.sqlite.specs.Listing.{understood}
 use Rattle.sqlite.specs.Query.{inner, end}
 use Rattle.sqlite.specs.State.{State, Executes}
@@ -18,11 +17,16 @@ use Rattle.sqlite_value.specs.Keys.{first_key, plain}
 use Rattle.sqlite_value.specs.Order.{Row, value_cmp}
 use Rattle.sqlite_value.proofs.OrderLemmas.{value_cmp-Text}
 use Rattle.plant_model.specs.declared.rows.AlarmRow.{AlarmRow}
+use Rattle.plant_model.specs.declared.rows.Change.{Change}
 use Rattle.plant_model.specs.declared.rows.Change.TheVariants.{Put}
 use Rattle.plant_model.specs.declared.rows.ChangeEntry.{ChangeEntry}
-use Rattle.plant_model.specs.declared.rows.Row.TheVariants.{Alarm as AlarmPut, Change as ChangePut, Unit as UnitPut}
+use Rattle.plant_model.specs.declared.rows.GrantRow.{GrantRow}
+use Rattle.plant_model.specs.declared.rows.RecordEntry.{RecordEntry}
+use Rattle.plant_model.specs.declared.rows.Row.TheVariants.{Alarm as AlarmPut, Change as ChangePut, Grant as GrantPut, Record as RecordPut, Shelf as ShelfPut, Unit as UnitPut}
+use Rattle.plant_model.specs.declared.rows.ShelfRow.{ShelfRow}
 use Rattle.plant_model.specs.declared.rows.UnitRow.{UnitRow}
 use Rattle.plant_types.specs.Names.{Name}
+use Rattle.plant_types.specs.Roles.{role_no}
 use Rattle.plant_types.specs.Tables.{put_row}
 use Rattle.plant_tables.specs.Kept.{by_columns, plain_query}
 use Rattle.plant_tables.specs.Shape.{row_in}
@@ -30,14 +34,14 @@ use Rattle.plant_tables.proofs.Family.{Edits, no_edits, set_edits}
 use Rattle.plant_tables.proofs.Keys.{agree_is}
 use Rattle.plant_tables.proofs.Laws.{passes, shows}
 use Rattle.plant_tables.proofs.Updated.{equal_when, leaves, sets_some}
-use Rattle.plant_columns.specs.Codes.{number}
-use Rattle.plant_columns.specs.Tables.{AreBooks, Kept, KeyOf, RowOf, alarm_shape, books_schema, change_shape, shape, unit_shape}
-use Rattle.plant_columns.specs.Tables.Kept.{AlarmKept, ChangeKept, UnitKept}
+use Rattle.plant_columns.specs.Codes.{number, open_number, role}
+use Rattle.plant_columns.specs.Tables.{AreBooks, Kept, KeyOf, RowOf, alarm_shape, books_schema, change_shape, grant_shape, record_shape, shape, shelf_shape, unit_shape}
+use Rattle.plant_columns.specs.Tables.Kept.{AlarmKept, ChangeKept, GrantKept, RecordKept, ShelfKept, UnitKept}
 use Rattle.plant_columns.proofs.ShapeLaws.{all_listed, good, listed, numbers}
 use Rattle.plant_store.specs.Changes.{Applies}
-use Rattle.plant_store.specs.Texts.{over_alarm_text, over_change_text, over_unit_text, put_alarm_text, put_change_text, put_unit_text}
-use Rattle.plant_store.proofs.Meanings.{by_two, by_unit, over_alarm_is, over_alarm_plain, over_alarm_shows, over_change_is, over_change_plain, over_change_shows, over_unit_is, over_unit_plain, over_unit_shows}
-use Rattle.plant_store.proofs.Writes.{alarm_edited, applies_then, change_edited, edits_apply, free, put_alarm_applies, put_change_applies, put_unit_applies, unit_edited}
+use Rattle.plant_store.specs.Texts.{over_alarm_text, over_change_text, over_grant_text, over_record_text, over_shelf_text, over_unit_text, put_alarm_text, put_change_text, put_grant_text, put_record_text, put_shelf_text, put_unit_text}
+use Rattle.plant_store.proofs.Meanings.{by_three, by_two, by_unit, over_alarm_is, over_alarm_plain, over_alarm_shows, over_change_is, over_change_plain, over_change_shows, over_grant_is, over_grant_plain, over_grant_shows, over_record_is, over_record_plain, over_record_shows, over_shelf_is, over_shelf_plain, over_shelf_shows, over_unit_is, over_unit_plain, over_unit_shows}
+use Rattle.plant_store.proofs.Writes.{alarm_edited, applies_then, change_edited, edits_apply, free, grant_edited, put_alarm_applies, put_change_applies, put_grant_applies, put_record_applies, put_shelf_applies, put_unit_applies, record_edited, shelf_edited, unit_edited}
 
 -- ---- cells of a key that tie are the same
 
@@ -76,6 +80,15 @@ none_written i text tests terms is plain_text u params old new books h =
 is_zero : (n : ℕ) → nat_eq n 0 ≡ true → n ≡ 0
 is_zero n e = grind (arith, nat_tests)
 
+-- no row was written over, and then the row is put
+then_put : (i : Kept) (text : List ℕ) (tests terms : List Term) → command_of (understood books_schema text) ≡ Update (shape i).place (record { lets = []; body = plain_query (inner (shape i).tree end) tests terms [] }) → IsPlain (understood books_schema text)
+    → (u : Name) (params : Row) (cs : List Change) (old between new : State) → AreBooks old.now → (n : ℕ) → nat_eq n 0 ≡ true → Executes text params old between (Ok n)
+    → (AreBooks between.now → Applies u cs between.now new.now) → Applies u cs old.now new.now
+then_put i text tests terms is plain_text u params cs old between new books n none h put =
+    let zero = subst (λ (m : ℕ). Executes text params old between (Ok m)) (is_zero n none) h in
+    let left = none_written i text tests terms is plain_text u params old between books zero in
+    applies_then u [] cs old.now between.now new.now left (put left.books)
+
 -- ---- a unit's own row
 
 unit_shown : (u : Name) (x : UnitRow) (id : Value) (v : Name) (y : UnitRow) → is_eq (by_columns (1 ∷ []) (row_in unit_shape id u x) (row_in unit_shape id v y)) ≡ true
@@ -92,9 +105,30 @@ unit_over u x old new books count some h =
 pub unit_anew : (u : Name) (x : UnitRow) (old between new : State) → AreBooks old.now → (n : ℕ) → nat_eq n 0 ≡ true → Executes over_unit_text (Text u ∷ unit_shape.cells x) old between (Ok n)
     → (count : ℕ) → Executes put_unit_text (Text u ∷ unit_shape.cells x) between new (Ok count) → Applies u (Put (UnitPut x) ∷ []) old.now new.now
 unit_anew u x old between new books n none h count k =
-    let zero = subst (λ (m : ℕ). Executes over_unit_text (Text u ∷ unit_shape.cells x) old between (Ok m)) (is_zero n none) h in
-    let left = none_written UnitKept over_unit_text by_unit over_unit_shows over_unit_is over_unit_plain u (Text u ∷ unit_shape.cells x) old between books zero in
-    applies_then u [] (Put (UnitPut x) ∷ []) old.now between.now new.now left (put_unit_applies u x between new left.books count k)
+    then_put UnitKept over_unit_text by_unit over_unit_shows over_unit_is over_unit_plain u (Text u ∷ unit_shape.cells x) (Put (UnitPut x) ∷ []) old between new books n none h (λ between_books. put_unit_applies u x between new between_books count k)
+
+-- ---- a grant
+
+grant_shown : (u : Name) (x : GrantRow) (id : Value) (v : Name) (y : GrantRow) → is_eq (by_columns (1 ∷ 2 ∷ 3 ∷ []) (row_in grant_shape id u x) (row_in grant_shape id v y)) ≡ true
+    → (shows 3 by_three over_grant_shows [] (Text u ∷ grant_shape.cells x) (row_in grant_shape id v y)).1 ≡ id ∷ row_in grant_shape id u x
+grant_shown u x id v y tie =
+    let roles = ordering_then (value_cmp (role x.role_no) (role y.role_no)) Equal in
+    let first = both_tie (value_cmp (Text u) (Text v)) (ordering_then (value_cmp (Text x.person) (Text y.person)) roles) tie in
+    let second = both_tie (value_cmp (Text x.person) (Text y.person)) roles first.1 in
+    let unit : v ≡ u = sym (same_text u v first.0) in
+    let person : y.person ≡ x.person = sym (same_text x.person y.person second.0) in
+    let n : role_no y.role_no ≡ role_no x.role_no = sym (same_number (role_no x.role_no) (role_no y.role_no) (both_tie (value_cmp (role x.role_no) (role y.role_no)) Equal second.1).0) in
+    λ i. id ∷ id ∷ Text (unit i) ∷ Text (person i) ∷ number (n i) ∷ open_number x.end_s ∷ []
+
+pub grant_over : (u : Name) (x : GrantRow) (old new : State) → AreBooks old.now → (count : ℕ) → nat_eq count 0 ≡ false → Executes over_grant_text (Text u ∷ grant_shape.cells x) old new (Ok count) → Applies u (Put (GrantPut x) ∷ []) old.now new.now
+unfolding first_key
+grant_over u x old new books count some h =
+    grant_edited u x old.now new.now (written_over GrantKept over_grant_text by_three over_grant_shows over_grant_is over_grant_plain u x (λ id y. refl) (grant_shown u x) old new books count some h)
+
+pub grant_anew : (u : Name) (x : GrantRow) (old between new : State) → AreBooks old.now → (n : ℕ) → nat_eq n 0 ≡ true → Executes over_grant_text (Text u ∷ grant_shape.cells x) old between (Ok n)
+    → (count : ℕ) → Executes put_grant_text (Text u ∷ grant_shape.cells x) between new (Ok count) → Applies u (Put (GrantPut x) ∷ []) old.now new.now
+grant_anew u x old between new books n none h count k =
+    then_put GrantKept over_grant_text by_three over_grant_shows over_grant_is over_grant_plain u (Text u ∷ grant_shape.cells x) (Put (GrantPut x) ∷ []) old between new books n none h (λ between_books. put_grant_applies u x between new between_books count k)
 
 -- ---- an alarm
 
@@ -114,9 +148,47 @@ alarm_over u x old new books count some h =
 pub alarm_anew : (u : Name) (x : AlarmRow) (old between new : State) → AreBooks old.now → (n : ℕ) → nat_eq n 0 ≡ true → Executes over_alarm_text (Text u ∷ alarm_shape.cells x) old between (Ok n)
     → (count : ℕ) → Executes put_alarm_text (Text u ∷ alarm_shape.cells x) between new (Ok count) → Applies u (Put (AlarmPut x) ∷ []) old.now new.now
 alarm_anew u x old between new books n none h count k =
-    let zero = subst (λ (m : ℕ). Executes over_alarm_text (Text u ∷ alarm_shape.cells x) old between (Ok m)) (is_zero n none) h in
-    let left = none_written AlarmKept over_alarm_text by_two over_alarm_shows over_alarm_is over_alarm_plain u (Text u ∷ alarm_shape.cells x) old between books zero in
-    applies_then u [] (Put (AlarmPut x) ∷ []) old.now between.now new.now left (put_alarm_applies u x between new left.books count k)
+    then_put AlarmKept over_alarm_text by_two over_alarm_shows over_alarm_is over_alarm_plain u (Text u ∷ alarm_shape.cells x) (Put (AlarmPut x) ∷ []) old between new books n none h (λ between_books. put_alarm_applies u x between new between_books count k)
+
+-- ---- a shelf
+
+shelf_shown : (u : Name) (x : ShelfRow) (id : Value) (v : Name) (y : ShelfRow) → is_eq (by_columns (1 ∷ 2 ∷ []) (row_in shelf_shape id u x) (row_in shelf_shape id v y)) ≡ true
+    → (shows 7 by_two over_shelf_shows [] (Text u ∷ shelf_shape.cells x) (row_in shelf_shape id v y)).1 ≡ id ∷ row_in shelf_shape id u x
+shelf_shown u x id v y tie =
+    let both = both_tie (value_cmp (Text u) (Text v)) (ordering_then (value_cmp (Text x.tag) (Text y.tag)) Equal) tie in
+    let unit : v ≡ u = sym (same_text u v both.0) in
+    let tag : y.tag ≡ x.tag = sym (same_text x.tag y.tag (both_tie (value_cmp (Text x.tag) (Text y.tag)) Equal both.1).0) in
+    ap₂ (λ w t. (shows 7 by_two over_shelf_shows [] (Text u ∷ shelf_shape.cells x) (row_in shelf_shape id w (record y { tag = t }))).1) unit tag
+
+pub shelf_over : (u : Name) (x : ShelfRow) (old new : State) → AreBooks old.now → (count : ℕ) → nat_eq count 0 ≡ false → Executes over_shelf_text (Text u ∷ shelf_shape.cells x) old new (Ok count) → Applies u (Put (ShelfPut x) ∷ []) old.now new.now
+unfolding first_key
+shelf_over u x old new books count some h =
+    shelf_edited u x old.now new.now (written_over ShelfKept over_shelf_text by_two over_shelf_shows over_shelf_is over_shelf_plain u x (λ id y. refl) (shelf_shown u x) old new books count some h)
+
+pub shelf_anew : (u : Name) (x : ShelfRow) (old between new : State) → AreBooks old.now → (n : ℕ) → nat_eq n 0 ≡ true → Executes over_shelf_text (Text u ∷ shelf_shape.cells x) old between (Ok n)
+    → (count : ℕ) → Executes put_shelf_text (Text u ∷ shelf_shape.cells x) between new (Ok count) → Applies u (Put (ShelfPut x) ∷ []) old.now new.now
+shelf_anew u x old between new books n none h count k =
+    then_put ShelfKept over_shelf_text by_two over_shelf_shows over_shelf_is over_shelf_plain u (Text u ∷ shelf_shape.cells x) (Put (ShelfPut x) ∷ []) old between new books n none h (λ between_books. put_shelf_applies u x between new between_books count k)
+
+-- ---- a record
+
+record_shown : (u : Name) (x : RecordEntry) (id : Value) (v : Name) (y : RecordEntry) → is_eq (by_columns (1 ∷ 2 ∷ []) (row_in record_shape id u x) (row_in record_shape id v y)) ≡ true
+    → (shows 15 by_two over_record_shows [] (Text u ∷ record_shape.cells x) (row_in record_shape id v y)).1 ≡ id ∷ row_in record_shape id u x
+record_shown u x id v y tie =
+    let both = both_tie (value_cmp (Text u) (Text v)) (ordering_then (value_cmp (Text x.tag) (Text y.tag)) Equal) tie in
+    let unit : v ≡ u = sym (same_text u v both.0) in
+    let tag : y.tag ≡ x.tag = sym (same_text x.tag y.tag (both_tie (value_cmp (Text x.tag) (Text y.tag)) Equal both.1).0) in
+    ap₂ (λ w t. (shows 15 by_two over_record_shows [] (Text u ∷ record_shape.cells x) (row_in record_shape id w (record y { tag = t }))).1) unit tag
+
+pub record_over : (u : Name) (x : RecordEntry) (old new : State) → AreBooks old.now → (count : ℕ) → nat_eq count 0 ≡ false → Executes over_record_text (Text u ∷ record_shape.cells x) old new (Ok count) → Applies u (Put (RecordPut x) ∷ []) old.now new.now
+unfolding first_key
+record_over u x old new books count some h =
+    record_edited u x old.now new.now (written_over RecordKept over_record_text by_two over_record_shows over_record_is over_record_plain u x (λ id y. refl) (record_shown u x) old new books count some h)
+
+pub record_anew : (u : Name) (x : RecordEntry) (old between new : State) → AreBooks old.now → (n : ℕ) → nat_eq n 0 ≡ true → Executes over_record_text (Text u ∷ record_shape.cells x) old between (Ok n)
+    → (count : ℕ) → Executes put_record_text (Text u ∷ record_shape.cells x) between new (Ok count) → Applies u (Put (RecordPut x) ∷ []) old.now new.now
+record_anew u x old between new books n none h count k =
+    then_put RecordKept over_record_text by_two over_record_shows over_record_is over_record_plain u (Text u ∷ record_shape.cells x) (Put (RecordPut x) ∷ []) old between new books n none h (λ between_books. put_record_applies u x between new between_books count k)
 
 -- ---- a change
 
@@ -136,6 +208,4 @@ change_over u x old new books count some h =
 pub change_anew : (u : Name) (x : ChangeEntry) (old between new : State) → AreBooks old.now → (n : ℕ) → nat_eq n 0 ≡ true → Executes over_change_text (Text u ∷ change_shape.cells x) old between (Ok n)
     → (count : ℕ) → Executes put_change_text (Text u ∷ change_shape.cells x) between new (Ok count) → Applies u (Put (ChangePut x) ∷ []) old.now new.now
 change_anew u x old between new books n none h count k =
-    let zero = subst (λ (m : ℕ). Executes over_change_text (Text u ∷ change_shape.cells x) old between (Ok m)) (is_zero n none) h in
-    let left = none_written ChangeKept over_change_text by_two over_change_shows over_change_is over_change_plain u (Text u ∷ change_shape.cells x) old between books zero in
-    applies_then u [] (Put (ChangePut x) ∷ []) old.now between.now new.now left (put_change_applies u x between new left.books count k)
+    then_put ChangeKept over_change_text by_two over_change_shows over_change_is over_change_plain u (Text u ∷ change_shape.cells x) (Put (ChangePut x) ∷ []) old between new books n none h (λ between_books. put_change_applies u x between new between_books count k)

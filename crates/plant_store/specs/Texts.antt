@@ -46,39 +46,48 @@ office_row_text = codes "SELECT id, schema_no, admin FROM office"
 abbrev pub over_unit_text : List ℕ
 over_unit_text = codes "UPDATE units SET last_s = ?2, matrix_no = ?3, matrix_rev = ?4, quota = ?5 WHERE unit = ?1"
 
+abbrev pub over_grant_text : List ℕ
+over_grant_text = codes "UPDATE grants SET end_s = ?4 WHERE unit = ?1 AND person = ?2 AND role_no = ?3"
+
 abbrev pub over_alarm_text : List ℕ
 over_alarm_text = codes "UPDATE alarms SET latching = ?3, max_s = ?4, max_rev = ?5, state_no = ?6, suppressed = ?7, active_s = ?8, return_s = ?9, out_s = ?10, out_by = ?11, out_words = ?12 WHERE unit = ?1 AND tag = ?2"
+
+abbrev pub over_shelf_text : List ℕ
+over_shelf_text = codes "UPDATE shelves SET one_shot = ?3, start_s = ?4, until_s = ?5, person = ?6, words = ?7 WHERE unit = ?1 AND tag = ?2"
+
+abbrev pub over_record_text : List ℕ
+over_record_text = codes "UPDATE records SET change_no = ?3, rev = ?4, cell_no = ?5 WHERE unit = ?1 AND tag = ?2"
 
 abbrev pub over_change_text : List ℕ
 over_change_text = codes "UPDATE changes SET proposer = ?3, proposed_s = ?4, kind_no = ?5, tag = ?6, base = ?7, cause = ?8, consequence = ?9, remedy = ?10, severity = ?11, response_s = ?12, max_s = ?13, state_no = ?14, decider = ?15, decided_s = ?16 WHERE unit = ?1 AND number = ?2"
 
--- a row put in the place of the row of its key
+-- a row put where none has its key
 abbrev pub put_unit_text : List ℕ
-put_unit_text = codes "INSERT OR REPLACE INTO units (unit, last_s, matrix_no, matrix_rev, quota) VALUES (?1, ?2, ?3, ?4, ?5)"
+put_unit_text = codes "INSERT INTO units (unit, last_s, matrix_no, matrix_rev, quota) VALUES (?1, ?2, ?3, ?4, ?5)"
 
 abbrev pub put_grant_text : List ℕ
-put_grant_text = codes "INSERT OR REPLACE INTO grants (unit, person, role_no, end_s) VALUES (?1, ?2, ?3, ?4)"
+put_grant_text = codes "INSERT INTO grants (unit, person, role_no, end_s) VALUES (?1, ?2, ?3, ?4)"
 
 abbrev pub put_alarm_text : List ℕ
-put_alarm_text = codes "INSERT OR REPLACE INTO alarms (unit, tag, latching, max_s, max_rev, state_no, suppressed, active_s, return_s, out_s, out_by, out_words) VALUES (?1, ?2, ?3, ?4, ?5, ?6, ?7, ?8, ?9, ?10, ?11, ?12)"
+put_alarm_text = codes "INSERT INTO alarms (unit, tag, latching, max_s, max_rev, state_no, suppressed, active_s, return_s, out_s, out_by, out_words) VALUES (?1, ?2, ?3, ?4, ?5, ?6, ?7, ?8, ?9, ?10, ?11, ?12)"
 
 abbrev pub put_shelf_text : List ℕ
-put_shelf_text = codes "INSERT OR REPLACE INTO shelves (unit, tag, one_shot, start_s, until_s, person, words) VALUES (?1, ?2, ?3, ?4, ?5, ?6, ?7)"
+put_shelf_text = codes "INSERT INTO shelves (unit, tag, one_shot, start_s, until_s, person, words) VALUES (?1, ?2, ?3, ?4, ?5, ?6, ?7)"
 
 abbrev pub put_band_text : List ℕ
-put_band_text = codes "INSERT OR REPLACE INTO bands (unit, matrix_no, band_no, limit_s) VALUES (?1, ?2, ?3, ?4)"
+put_band_text = codes "INSERT INTO bands (unit, matrix_no, band_no, limit_s) VALUES (?1, ?2, ?3, ?4)"
 
 abbrev pub put_cell_text : List ℕ
-put_cell_text = codes "INSERT OR REPLACE INTO cells (unit, matrix_no, severity, band_no, cell_no) VALUES (?1, ?2, ?3, ?4, ?5)"
+put_cell_text = codes "INSERT INTO cells (unit, matrix_no, severity, band_no, cell_no) VALUES (?1, ?2, ?3, ?4, ?5)"
 
 abbrev pub put_event_text : List ℕ
-put_event_text = codes "INSERT OR REPLACE INTO events (unit, seq, moment_s, tag, kind_no) VALUES (?1, ?2, ?3, ?4, ?5)"
+put_event_text = codes "INSERT INTO events (unit, seq, moment_s, tag, kind_no) VALUES (?1, ?2, ?3, ?4, ?5)"
 
 abbrev pub put_record_text : List ℕ
-put_record_text = codes "INSERT OR REPLACE INTO records (unit, tag, change_no, rev, cell_no) VALUES (?1, ?2, ?3, ?4, ?5)"
+put_record_text = codes "INSERT INTO records (unit, tag, change_no, rev, cell_no) VALUES (?1, ?2, ?3, ?4, ?5)"
 
 abbrev pub put_change_text : List ℕ
-put_change_text = codes "INSERT OR REPLACE INTO changes (unit, number, proposer, proposed_s, kind_no, tag, base, cause, consequence, remedy, severity, response_s, max_s, state_no, decider, decided_s) VALUES (?1, ?2, ?3, ?4, ?5, ?6, ?7, ?8, ?9, ?10, ?11, ?12, ?13, ?14, ?15, ?16)"
+put_change_text = codes "INSERT INTO changes (unit, number, proposer, proposed_s, kind_no, tag, base, cause, consequence, remedy, severity, response_s, max_s, state_no, decider, decided_s) VALUES (?1, ?2, ?3, ?4, ?5, ?6, ?7, ?8, ?9, ?10, ?11, ?12, ?13, ?14, ?15, ?16)"
 
 -- the row of a key taken out
 abbrev pub remove_grant_text : List ℕ

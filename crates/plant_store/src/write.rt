@@ -80,7 +80,7 @@ pub fn put_unit<S: Alter>(
     }
     run(
         tx,
-        "INSERT OR REPLACE INTO units (unit, last_s, matrix_no, matrix_rev, quota) VALUES (?1, ?2, ?3, ?4, ?5)",
+        "INSERT INTO units (unit, last_s, matrix_no, matrix_rev, quota) VALUES (?1, ?2, ?3, ?4, ?5)",
         &cells,
     )
 }
@@ -98,10 +98,19 @@ pub fn put_grant<S: Alter>(
     ensures kept { HasCleanDisk (state S.Store tx.new.conn.now) → IsTrue tx.old.conn.now.in_transaction → KeepsCommit (state S.Store tx.old.conn.now) (state S.Store tx.new.conn.now) }
     ensures survives { Survives (state S.Store tx.old.conn.now) (state S.Store tx.new.conn.now) (λ _. ⊥) }
 {
+    let cells = grant_cells(unit, row);
+    let written = run_counting(
+        tx,
+        "UPDATE grants SET end_s = ?4 WHERE unit = ?1 AND person = ?2 AND role_no = ?3",
+        &cells,
+    )?;
+    if written != 0 {
+        return Ok(());
+    }
     run(
         tx,
-        "INSERT OR REPLACE INTO grants (unit, person, role_no, end_s) VALUES (?1, ?2, ?3, ?4)",
-        &grant_cells(unit, row),
+        "INSERT INTO grants (unit, person, role_no, end_s) VALUES (?1, ?2, ?3, ?4)",
+        &cells,
     )
 }
 
@@ -129,7 +138,7 @@ pub fn put_alarm<S: Alter>(
     }
     run(
         tx,
-        "INSERT OR REPLACE INTO alarms (unit, tag, latching, max_s, max_rev, state_no, suppressed, active_s, return_s, out_s, out_by, out_words) VALUES (?1, ?2, ?3, ?4, ?5, ?6, ?7, ?8, ?9, ?10, ?11, ?12)",
+        "INSERT INTO alarms (unit, tag, latching, max_s, max_rev, state_no, suppressed, active_s, return_s, out_s, out_by, out_words) VALUES (?1, ?2, ?3, ?4, ?5, ?6, ?7, ?8, ?9, ?10, ?11, ?12)",
         &cells,
     )
 }
@@ -148,14 +157,23 @@ pub fn put_shelf<S: Alter>(
     ensures survives { Survives (state S.Store tx.old.conn.now) (state S.Store tx.new.conn.now) (λ _. ⊥) }
 {
     let until = wide(row.until_s)?;
+    let cells = shelf_cells(unit, row, until);
+    let written = run_counting(
+        tx,
+        "UPDATE shelves SET one_shot = ?3, start_s = ?4, until_s = ?5, person = ?6, words = ?7 WHERE unit = ?1 AND tag = ?2",
+        &cells,
+    )?;
+    if written != 0 {
+        return Ok(());
+    }
     run(
         tx,
-        "INSERT OR REPLACE INTO shelves (unit, tag, one_shot, start_s, until_s, person, words) VALUES (?1, ?2, ?3, ?4, ?5, ?6, ?7)",
-        &shelf_cells(unit, row, until),
+        "INSERT INTO shelves (unit, tag, one_shot, start_s, until_s, person, words) VALUES (?1, ?2, ?3, ?4, ?5, ?6, ?7)",
+        &cells,
     )
 }
 
-/// Puts a limit of a matrix.
+/// Puts a new limit of a matrix. Fails if the matrix has a limit of its number.
 pub fn put_band<S: Alter>(
     tx: &mut Transaction<'_, S>,
     unit: &UnitCode,
@@ -171,12 +189,12 @@ pub fn put_band<S: Alter>(
     let limit = wide(row.limit_s)?;
     run(
         tx,
-        "INSERT OR REPLACE INTO bands (unit, matrix_no, band_no, limit_s) VALUES (?1, ?2, ?3, ?4)",
+        "INSERT INTO bands (unit, matrix_no, band_no, limit_s) VALUES (?1, ?2, ?3, ?4)",
         &band_cells(unit, row, limit),
     )
 }
 
-/// Puts a cell of a matrix.
+/// Puts a new cell of a matrix. Fails if the matrix has a cell of its severity and limit.
 pub fn put_cell<S: Alter>(
     tx: &mut Transaction<'_, S>,
     unit: &UnitCode,
@@ -191,12 +209,12 @@ pub fn put_cell<S: Alter>(
 {
     run(
         tx,
-        "INSERT OR REPLACE INTO cells (unit, matrix_no, severity, band_no, cell_no) VALUES (?1, ?2, ?3, ?4, ?5)",
+        "INSERT INTO cells (unit, matrix_no, severity, band_no, cell_no) VALUES (?1, ?2, ?3, ?4, ?5)",
         &cell_cells(unit, row),
     )
 }
 
-/// Puts an event.
+/// Puts a new event. Fails if an event of the unit has its number.
 pub fn put_event<S: Alter>(
     tx: &mut Transaction<'_, S>,
     unit: &UnitCode,
@@ -211,7 +229,7 @@ pub fn put_event<S: Alter>(
 {
     run(
         tx,
-        "INSERT OR REPLACE INTO events (unit, seq, moment_s, tag, kind_no) VALUES (?1, ?2, ?3, ?4, ?5)",
+        "INSERT INTO events (unit, seq, moment_s, tag, kind_no) VALUES (?1, ?2, ?3, ?4, ?5)",
         &event_cells(unit, event),
     )
 }
@@ -229,10 +247,19 @@ pub fn put_record<S: Alter>(
     ensures kept { HasCleanDisk (state S.Store tx.new.conn.now) → IsTrue tx.old.conn.now.in_transaction → KeepsCommit (state S.Store tx.old.conn.now) (state S.Store tx.new.conn.now) }
     ensures survives { Survives (state S.Store tx.old.conn.now) (state S.Store tx.new.conn.now) (λ _. ⊥) }
 {
+    let cells = record_cells(unit, row);
+    let written = run_counting(
+        tx,
+        "UPDATE records SET change_no = ?3, rev = ?4, cell_no = ?5 WHERE unit = ?1 AND tag = ?2",
+        &cells,
+    )?;
+    if written != 0 {
+        return Ok(());
+    }
     run(
         tx,
-        "INSERT OR REPLACE INTO records (unit, tag, change_no, rev, cell_no) VALUES (?1, ?2, ?3, ?4, ?5)",
-        &record_cells(unit, row),
+        "INSERT INTO records (unit, tag, change_no, rev, cell_no) VALUES (?1, ?2, ?3, ?4, ?5)",
+        &cells,
     )
 }
 
@@ -260,7 +287,7 @@ pub fn put_change<S: Alter>(
     }
     run(
         tx,
-        "INSERT OR REPLACE INTO changes (unit, number, proposer, proposed_s, kind_no, tag, base, cause, consequence, remedy, severity, response_s, max_s, state_no, decider, decided_s) VALUES (?1, ?2, ?3, ?4, ?5, ?6, ?7, ?8, ?9, ?10, ?11, ?12, ?13, ?14, ?15, ?16)",
+        "INSERT INTO changes (unit, number, proposer, proposed_s, kind_no, tag, base, cause, consequence, remedy, severity, response_s, max_s, state_no, decider, decided_s) VALUES (?1, ?2, ?3, ?4, ?5, ?6, ?7, ?8, ?9, ?10, ?11, ?12, ?13, ?14, ?15, ?16)",
         &cells,
     )
 }

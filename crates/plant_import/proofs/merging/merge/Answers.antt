@@ -10,7 +10,7 @@ loop-i-init c = record { count = rw c.new-fresh.ensures refl; so = λ rising. rw
 pub returns-in-Err-clause-value : goal.returns-in-Err-clause-value
 returns-in-Err-clause-value c rising =
     let so = c.loop-i.invariant.so rising in
-    let told = judged_along c.args.tags.now c.args.now c.args.kept.now c.as_slice.result.now c.loop-i.rising c.index-file-i.result c.judged.result (Err c.in-Err.cause) c.as_slice.ensures c.in-Err.is c.judged.ensures rising so.rises in
+    let told = judged_along c.args.tags.now c.args.now c.args.kept.now c.as_slice.result.now c.loop-i.rising c.index-file-i.result c.judged.result (Err c.in-Err.cause) c.as_slice.ensures c.in-Err.is (c.judged.ensures c.args.tags.now c.in_ok-known.ensures.value) rising so.rises in
     sym (so_fault_at c.args.tags.now c.args.now c.args.kept.now c.args.file.now c.loop-i.fresh c.loop-i.rising c.loop-i.repeated c.loop-i.i c.index-file-i.result c.in-Err.cause (omega arith) c.index-file-i.is so told)
 
 pub loop-i-preserved : goal.loop-i-preserved
@@ -23,7 +23,7 @@ loop-i-preserved c =
             count = omega (arith, ap length w.fresh-is, ap length fresh, length-append c.loop-i.fresh (c.index-file-i.result ∷ []), w.repeated-is);
             so = λ rising.
                 let so = c.loop-i.invariant.so rising in
-                let told = judged_along c.args.tags.now c.args.now c.args.kept.now c.as_slice.result.now c.loop-i.rising c.index-file-i.result c.judged.result (Ok (Some w.in-Some.place)) c.as_slice.ensures (c.in-Ok.is ∙ ap Ok w.in-Some.is) c.judged.ensures rising so.rises in
+                let told = judged_along c.args.tags.now c.args.now c.args.kept.now c.as_slice.result.now c.loop-i.rising c.index-file-i.result c.judged.result (Ok (Some w.in-Some.place)) c.as_slice.ensures (c.in-Ok.is ∙ ap Ok w.in-Some.is) (c.judged.ensures c.args.tags.now c.in_ok-known.ensures.value) rising so.rises in
                 rw (w.fresh-is, w.rising-is, w.repeated-is, fresh, sorted) (so_new_at c.args.tags.now c.args.now c.args.kept.now c.args.file.now c.loop-i.fresh c.loop-i.rising c.loop-i.repeated w.in-Some.place c.loop-i.i c.index-file-i.result (omega arith) c.index-file-i.is so told);
           }
       | in-None w ↦
@@ -31,7 +31,7 @@ loop-i-preserved c =
             count = omega (arith, ap length w.fresh-is, w.repeated-is);
             so = λ rising.
                 let so = c.loop-i.invariant.so rising in
-                let told = judged_along c.args.tags.now c.args.now c.args.kept.now c.as_slice.result.now c.loop-i.rising c.index-file-i.result c.judged.result (Ok None) c.as_slice.ensures (c.in-Ok.is ∙ ap Ok w.in-None.is) c.judged.ensures rising so.rises in
+                let told = judged_along c.args.tags.now c.args.now c.args.kept.now c.as_slice.result.now c.loop-i.rising c.index-file-i.result c.judged.result (Ok None) c.as_slice.ensures (c.in-Ok.is ∙ ap Ok w.in-None.is) (c.judged.ensures c.args.tags.now c.in_ok-known.ensures.value) rising so.rises in
                 rw (w.fresh-is, w.rising-is, w.repeated-is) (so_known_at c.args.tags.now c.args.now c.args.kept.now c.args.file.now c.loop-i.fresh c.loop-i.rising c.loop-i.repeated c.loop-i.i c.index-file-i.result (omega arith) c.index-file-i.is so told);
           }
     ]

@@ -1,5 +1,5 @@
-use Rattle.std.proofs.Common.{arith, ap, length, sym, ◌∙◌, ◌≤◌, ◌<◌, subst}
-use Rattle.plant_import.proofs.NeededLaws.{reached_all, reached_next, reached_none}
+use Rattle.std.proofs.Common.{arith}
+use Rattle.plant_import.proofs.NeededLaws.{reached_next}
 use Rattle.plant_import.proofs.needs.last_numbers.Goals as goal
 
 pub loop-event-preserved : goal.loop-event-preserved
