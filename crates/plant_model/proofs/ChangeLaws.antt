@@ -13,7 +13,7 @@ use Rattle.plant_model.proofs.PutLaws.{put_bands, put_cells, puts, puts-rows}
 use Rattle.plant_model.specs.Alarms.{latching, limit}
 use Rattle.plant_model.specs.Events.{events_of}
 use Rattle.plant_model.specs.Facts.{facts, limit_of}
-use Rattle.plant_model.specs.Histories.{latest}
+use Rattle.plant_model.specs.Histories.{Begins, Over, Said, latest, still, what_stands}
 use Rattle.plant_model.specs.Matrices.{band_at, band_cmp, band_places, cell_of, cell_places}
 use Rattle.plant_model.specs.RowChanges.{cells_of, changed_by, changes_for, no_rows, placed_in, put, taken_out}
 use Rattle.plant_model.specs.RowFacts.{band_key}
@@ -34,7 +34,7 @@ use Rattle.plant_ration.specs.Grid.{Grid}
 use Rattle.plant_types.proofs.Orders.{same_names, same_pairs}
 use Rattle.plant_types.proofs.TableLaws.{put-rows, remove-rows, tied}
 use Rattle.plant_types.specs.Names.{Name, name_cmp, same_name}
-use Rattle.plant_types.specs.Options.{flatten, or_else, when}
+use Rattle.plant_types.specs.Options.{or_else, when}
 use Rattle.plant_types.specs.Roles.{Pair, same_pair}
 use Rattle.plant_types.specs.declared.role.Role.{Role}
 use Rattle.plant_types.specs.declared.role.Role.TheVariants.{Steward}
@@ -63,28 +63,28 @@ module _ {K X : Type 0} {R : K → K → Ordering} {key : X → K} where
       (λ q. row_at-rows old ks t q ∙ is q ∙ sym (row_at-rows new ks' u q))
 
 -- pairs
-now_stands : (k x : Pair) (until : Option ℕ) (rest : Option (Option (Option ℕ))) → option_map (grant_as k) (flatten (or_else (when (same_pair k x) (Some until)) rest)) ≡ cond (same_pair k x) (Some (grant_as x until)) (option_map (grant_as k) (flatten rest))
+now_stands : (k x : Pair) (until : Option ℕ) (rest : Option (Said (Option ℕ))) → option_map (grant_as k) (still (or_else (when (same_pair k x) (Begins until)) rest)) ≡ cond (same_pair k x) (Some (grant_as x until)) (option_map (grant_as k) (still rest))
 now_stands k x until rest =
-    elim (same_pair k x) as (λ b. same_pair k x ≡ b → option_map (grant_as k) (flatten (or_else (when b (Some until)) rest)) ≡ cond b (Some (grant_as x until)) (option_map (grant_as k) (flatten rest))) [
+    elim (same_pair k x) as (λ b. same_pair k x ≡ b → option_map (grant_as k) (still (or_else (when b (Begins until)) rest)) ≡ cond b (Some (grant_as x until)) (option_map (grant_as k) (still rest))) [
       | true ↦ λ e. ap (λ y. Some (grant_as y until)) (same_pairs k x (tied _ _ e refl))
       | false ↦ λ e. refl
     ] refl
 
-no_more_stands : (k x : Pair) (rest : Option (Option (Option ℕ))) → option_map (grant_as k) (flatten (or_else (when (same_pair k x) None) rest)) ≡ cond (same_pair k x) None (option_map (grant_as k) (flatten rest))
+no_more_stands : (k x : Pair) (rest : Option (Said (Option ℕ))) → option_map (grant_as k) (still (or_else (when (same_pair k x) Over) rest)) ≡ cond (same_pair k x) None (option_map (grant_as k) (still rest))
 no_more_stands k x rest =
-    elim (same_pair k x) as (λ b. option_map (grant_as k) (flatten (or_else (when b None) rest)) ≡ cond b None (option_map (grant_as k) (flatten rest))) [ true ↦ refl | false ↦ refl ]
+    elim (same_pair k x) as (λ b. option_map (grant_as k) (still (or_else (when b Over) rest)) ≡ cond b None (option_map (grant_as k) (still rest))) [ true ↦ refl | false ↦ refl ]
 
 -- shelves
-now_shelved : (a b : Name) (row : Name → ShelfRow) (rest : Option (Option ShelfRow)) → flatten (or_else (when (same_name a b) (Some (row a))) rest) ≡ cond (same_name a b) (Some (row b)) (flatten rest)
+now_shelved : (a b : Name) (row : Name → ShelfRow) (rest : Option (Said ShelfRow)) → still (or_else (when (same_name a b) (Begins (row a))) rest) ≡ cond (same_name a b) (Some (row b)) (still rest)
 now_shelved a b row rest =
-    elim (same_name a b) as (λ t. same_name a b ≡ t → flatten (or_else (when t (Some (row a))) rest) ≡ cond t (Some (row b)) (flatten rest)) [
+    elim (same_name a b) as (λ t. same_name a b ≡ t → still (or_else (when t (Begins (row a))) rest) ≡ cond t (Some (row b)) (still rest)) [
       | true ↦ λ e. ap (λ y. Some (row y)) (same_names a b (tied _ _ e refl))
       | false ↦ λ e. refl
     ] refl
 
-now_unshelved : (a b : Name) (rest : Option (Option ShelfRow)) → flatten (or_else (when (same_name a b) None) rest) ≡ cond (same_name a b) None (flatten rest)
+now_unshelved : (a b : Name) (rest : Option (Said ShelfRow)) → still (or_else (when (same_name a b) Over) rest) ≡ cond (same_name a b) None (still rest)
 now_unshelved a b rest =
-    elim (same_name a b) as (λ t. flatten (or_else (when t None) rest) ≡ cond t None (flatten rest)) [ true ↦ refl | false ↦ refl ]
+    elim (same_name a b) as (λ t. still (or_else (when t Over) rest) ≡ cond t None (still rest)) [ true ↦ refl | false ↦ refl ]
 
 -- a row that is made from what is said of its key, and of which one thing is said anew
 pub said_anew : {K V B X : Type 0} (R : K → K → Ordering) (same : (x y : K) → R x y ≡ Equal → x ≡ y) (row : K → V → B → X) (value : K → V) (base : K → Option B) (a : K) (b : B) (v : V) → base a ≡ Some b → (k : K) → option_map (row k (cond (eq_by_cmp R k a) v (value k))) (base k) ≡ cond (eq_by_cmp R k a) (Some (row a v b)) (option_map (row k (value k)) (base k))
@@ -94,9 +94,9 @@ said_anew R same row value base a b v known k =
       | false ↦ λ e. refl
     ] refl
 
-flatten_when : {A : Type 0} (b : Bool) (v : Option A) (rest : Option (Option A)) → flatten (or_else (when b v) rest) ≡ cond b v (flatten rest)
-flatten_when true v rest = refl
-flatten_when false v rest = refl
+still_when : {A : Type 0} (b : Bool) (v : Said A) (rest : Option (Said A)) → still (or_else (when b v) rest) ≡ cond b (what_stands v) (still rest)
+still_when true v rest = refl
+still_when false v rest = refl
 
 -- an alarm of which no change of its limit was approved, that has no event, and of which no removal from service stands
 pub record IsUnspoken (h : List Call) (a : Name) : Type 0 where
@@ -145,10 +145,10 @@ module _ (h : List Call) (p : Name) (t : ℕ) where
   abbrev row_by_outage : (a : Name) → Option Outage → Bool → AlarmRow
   row_by_outage a out = alarm_as a (unwrap_or (limit h a) 0) (limit_revision h a) (events_of h a) out
 
-  outage_anew : (a k : Name) (l : Bool) (v : Option Outage) → latching h a ≡ Some l → option_map (row_by_outage k (flatten (or_else (when (same_name k a) v) (latest (λ c before. said_of_service k c.person c.moment c.request) h)))) (latching h k) ≡ cond (same_name k a) (Some (row_by_outage a v l)) (alarm_row h k)
+  outage_anew : (a k : Name) (l : Bool) (v : Said Outage) → latching h a ≡ Some l → option_map (row_by_outage k (still (or_else (when (same_name k a) v) (latest (λ c before. said_of_service k c.person c.moment c.request) h)))) (latching h k) ≡ cond (same_name k a) (Some (row_by_outage a (what_stands v) l)) (alarm_row h k)
   outage_anew a k l v known =
-      ap (λ o. option_map (row_by_outage k o) (latching h k)) (flatten_when (same_name k a) v _)
-      ∙ said_anew name_cmp same_names row_by_outage (outage h) (latching h) a l v known k
+      ap (λ o. option_map (row_by_outage k o) (latching h k)) (still_when (same_name k a) v _)
+      ∙ said_anew name_cmp same_names row_by_outage (outage h) (latching h) a l (what_stands v) known k
 
   alarm_put : (q : Request) → (AlarmRow → AlarmRow) → Option AlarmRow → UnitRows
   alarm_put q g o = changed_by (Put (UnitPut (unit_row (with_request q))) ∷ map (λ r. Put (AlarmPut (g r))) (option_to_list o)) (rows_of h)
@@ -159,7 +159,7 @@ module _ (h : List Call) (p : Name) (t : ℕ) where
       let c = with_request (RemoveFromService u a w) in
       ap (λ o. alarm_put (RemoveFromService u a w) (taken_out p t w) (option_map (alarm_of h a) o)) known
       ∙ (λ i. record (rows_of c) {
-        alarms = put-rows (alarm_row h) (alarm_row c) (tags_of_alarms h) (tags_of_alarms c) (row_by_outage a (Some (record { from = t; person = p; words = w })) l) (alarms_told h) (alarms_told c) (λ k. outage_anew a k l (Some (record { from = t; person = p; words = w })) known) i;
+        alarms = put-rows (alarm_row h) (alarm_row c) (tags_of_alarms h) (tags_of_alarms c) (row_by_outage a (Some (record { from = t; person = p; words = w })) l) (alarms_told h) (alarms_told c) (λ k. outage_anew a k l (Begins (record { from = t; person = p; words = w })) known) i;
       })
 
   pub place_turns : (u a : Name) (l : Bool) → latching h a ≡ Some l → Turns (PlaceInService u a)
@@ -168,7 +168,7 @@ module _ (h : List Call) (p : Name) (t : ℕ) where
       let c = with_request (PlaceInService u a) in
       ap (λ o. alarm_put (PlaceInService u a) placed_in (option_map (alarm_of h a) o)) known
       ∙ (λ i. record (rows_of c) {
-        alarms = put-rows (alarm_row h) (alarm_row c) (tags_of_alarms h) (tags_of_alarms c) (row_by_outage a None l) (alarms_told h) (alarms_told c) (λ k. outage_anew a k l None known) i;
+        alarms = put-rows (alarm_row h) (alarm_row c) (tags_of_alarms h) (tags_of_alarms c) (row_by_outage a None l) (alarms_told h) (alarms_told c) (λ k. outage_anew a k l Over known) i;
       })
 
   -- Registration of an alarm of which nothing was said before

@@ -15,7 +15,7 @@ use Rattle.plant_model.specs.Alarms.{latching, limit, said_of_latching}
 use Rattle.plant_import.specs.Numbers.{has_number, numbers_of}
 use Rattle.plant_model.specs.Events.{event_numbered, events_of, imported}
 use Rattle.plant_model.specs.Grants.{said_of_pair, standing}
-use Rattle.plant_model.specs.Histories.{all_named, latest, same_number}
+use Rattle.plant_model.specs.Histories.{Begins, Over, Said, all_named, latest, same_number, still, what_stands}
 use Rattle.plant_model.specs.Parts.{none, nothing}
 use Rattle.plant_model.specs.RowFacts.{alarm_tag, event_number, pair_of, shelf_tag}
 use Rattle.plant_model.specs.Rows.{alarm_as, alarm_row, grant_as, grant_row, pairs_named, tags_registered, tags_shelved}
@@ -29,7 +29,7 @@ use Rattle.plant_model.specs.declared.rows.ShelfRow.{ShelfRow}
 use Rattle.plant_types.proofs.Orders.{name_total, number_total, pair_total, same_names, same_numbers, same_pairs}
 use Rattle.plant_types.proofs.TableLaws.{Tells, tied}
 use Rattle.plant_types.specs.Names.{Name, name_cmp, same_name}
-use Rattle.plant_types.specs.Options.{flatten, or_else, when}
+use Rattle.plant_types.specs.Options.{or_else, when}
 use Rattle.plant_types.specs.Roles.{Pair, pair_cmp}
 use Rattle.plant_types.specs.declared.role.Role.TheVariants.{Steward}
 use Rattle.std.proofs.Common.{ap, cond, inl, inr, refl, subst, sym, ◌∙◌}
@@ -97,14 +97,14 @@ one_named R g k x v y e =
     elim (when_or (eq_by_cmp R k x) v) [ inl none ↦ absurd (let no : None ≡ Some y = sym none ∙ e in cc) | inr same ↦ inr (ap (λ b. b || false) same) ]
 
 -- Grants
-flat_none : {A X : Type 0} (f : A → X) (o : Option (Option A)) → option_and_then (λ x. option_map f x) o ≡ None → option_map f (flatten o) ≡ None
+flat_none : {A X : Type 0} (f : A → X) (o : Option (Said A)) → option_and_then (λ x. option_map f (what_stands x)) o ≡ None → option_map f (still o) ≡ None
 flat_none f None e = refl
 flat_none f (Some x) e = e
 
-pair_is_named : (k : Pair) (q : Request) (v : Option (Option ℕ)) → said_of_pair k q ≡ Some v → (option_map (grant_as k) v ≡ None) ⊎ (list_any (eq_by_cmp pair_cmp k) (pairs_named q) ≡ true)
-pair_is_named k (OpenUnit u s m q) v e = one_named pair_cmp (option_map (grant_as k)) k (s, Steward) (Some None) v e
-pair_is_named k (Grant u p t) v e = one_named pair_cmp (option_map (grant_as k)) k (p, t.0) (Some t.1) v e
-pair_is_named k (Withdraw u p r) v e = one_named pair_cmp (option_map (grant_as k)) k (p, r) None v e
+pair_is_named : (k : Pair) (q : Request) (v : Said (Option ℕ)) → said_of_pair k q ≡ Some v → (option_map (grant_as k) (what_stands v) ≡ None) ⊎ (list_any (eq_by_cmp pair_cmp k) (pairs_named q) ≡ true)
+pair_is_named k (OpenUnit u s m q) v e = one_named pair_cmp (λ x. option_map (grant_as k) (what_stands x)) k (s, Steward) (Begins None) v e
+pair_is_named k (Grant u p t) v e = one_named pair_cmp (λ x. option_map (grant_as k) (what_stands x)) k (p, t.0) (Begins t.1) v e
+pair_is_named k (Withdraw u p r) v e = one_named pair_cmp (λ x. option_map (grant_as k) (what_stands x)) k (p, r) Over v e
 pair_is_named k _ v e = cc
 
 abbrev pub pairs_of : List Call → List Pair
@@ -116,7 +116,7 @@ grants_told h =
       order = pair_total;
       same = same_pairs;
       at_key = λ k r e. mapped_key pair_of (grant_as k) k (standing h k) r (λ x. refl) e;
-      among = λ k. elim (latest-named pair_cmp (λ c before. said_of_pair k c.request) (option_map (grant_as k)) (λ c before. pairs_named c.request) k (λ c before x. pair_is_named k c.request x) h) [
+      among = λ k. elim (latest-named pair_cmp (λ c before. said_of_pair k c.request) (λ x. option_map (grant_as k) (what_stands x)) (λ c before. pairs_named c.request) k (λ c before x. pair_is_named k c.request x) h) [
         | inl none ↦ inl (flat_none (grant_as k) (latest (λ c before. said_of_pair k c.request) h) none)
         | inr there ↦ inr there
       ];
@@ -146,34 +146,32 @@ alarms_told h =
     }
 
 -- Shelves
-abbrev same_shelf : Option ShelfRow → Option ShelfRow
-same_shelf o = o
-
-tag_is_shelved : (a p : Name) (t : ℕ) (before : List Call) (q : Request) (v : Option ShelfRow) → said_of_shelf a p t before q ≡ Some v → (v ≡ None) ⊎ (list_any (eq_by_cmp name_cmp a) (tags_shelved q) ≡ true)
-tag_is_shelved a p t before (TimedShelve u b d w) v e = one_named name_cmp same_shelf a b _ v e
-tag_is_shelved a p t before (OneShotShelve u b w) v e = one_named name_cmp same_shelf a b _ v e
-tag_is_shelved a p t before (Unshelve u b) v e = one_named name_cmp same_shelf a b _ v e
+tag_is_shelved : (a p : Name) (t : ℕ) (before : List Call) (q : Request) (v : Said ShelfRow) → said_of_shelf a p t before q ≡ Some v → (what_stands v ≡ None) ⊎ (list_any (eq_by_cmp name_cmp a) (tags_shelved q) ≡ true)
+tag_is_shelved a p t before (TimedShelve u b d w) v e = one_named name_cmp what_stands a b _ v e
+tag_is_shelved a p t before (OneShotShelve u b w) v e = one_named name_cmp what_stands a b _ v e
+tag_is_shelved a p t before (Unshelve u b) v e = one_named name_cmp what_stands a b _ v e
 tag_is_shelved a p t before _ v e = cc
 
 -- a shelf that is said of an alarm has its tag
-abbrev HasTag : Name → Option ShelfRow → Type 0
-HasTag a None = Unit {0}
-HasTag a (Some s) = s.tag ≡ a
+abbrev HasTag : Name → Said ShelfRow → Type 0
+HasTag a Over = Unit {0}
+HasTag a (Begins s) = s.tag ≡ a
 
-when_HasTag : (b : Bool) (a : Name) (o x : Option ShelfRow) → when b o ≡ Some x → HasTag a o → HasTag a x
+when_HasTag : (b : Bool) (a : Name) (o x : Said ShelfRow) → when b o ≡ Some x → HasTag a o → HasTag a x
 when_HasTag b a o x e h = subst (HasTag a) (when_Some b o x e) h
 
-shelf_has_tag : (a p : Name) (t : ℕ) (before : List Call) (q : Request) (x : Option ShelfRow) → said_of_shelf a p t before q ≡ Some x → HasTag a x
+shelf_has_tag : (a p : Name) (t : ℕ) (before : List Call) (q : Request) (x : Said ShelfRow) → said_of_shelf a p t before q ≡ Some x → HasTag a x
 shelf_has_tag a p t before (TimedShelve u b d w) x e = when_HasTag (same_name a b) a _ x e refl
 shelf_has_tag a p t before (OneShotShelve u b w) x e = when_HasTag (same_name a b) a _ x e refl
 shelf_has_tag a p t before (Unshelve u b) x e = when_HasTag (same_name a b) a _ x e tt
 shelf_has_tag a p t before _ x e = cc
 
-shelf_row_tag : (a : Name) (o : Option (Option ShelfRow)) (r : ShelfRow) → ((x : Option ShelfRow) → o ≡ Some x → HasTag a x) → flatten o ≡ Some r → r.tag ≡ a
+shelf_row_tag : (a : Name) (o : Option (Said ShelfRow)) (r : ShelfRow) → ((x : Said ShelfRow) → o ≡ Some x → HasTag a x) → still o ≡ Some r → r.tag ≡ a
 shelf_row_tag a None r has e = cc
-shelf_row_tag a (Some x) r has e = subst (HasTag a) e (has x refl)
+shelf_row_tag a (Some Over) r has e = cc
+shelf_row_tag a (Some (Begins s)) r has e = let same : s ≡ r = cc in sym (ap (λ (x : ShelfRow). x.tag) same) ∙ has (Begins s) refl
 
-flat_same : {X : Type 0} (o : Option (Option X)) → option_and_then (λ x. x) o ≡ None → flatten o ≡ None
+flat_same : {X : Type 0} (o : Option (Said X)) → option_and_then what_stands o ≡ None → still o ≡ None
 flat_same None e = refl
 flat_same (Some x) e = e
 
@@ -186,7 +184,7 @@ shelves_told h =
       order = name_total;
       same = same_names;
       at_key = λ a r e. shelf_row_tag a _ r (latest-holds (λ c before. said_of_shelf a c.person c.moment before c.request) (HasTag a) (λ c before x said. shelf_has_tag a c.person c.moment before c.request x said) h) e;
-      among = λ a. elim (latest-named name_cmp (λ c before. said_of_shelf a c.person c.moment before c.request) same_shelf (λ c before. tags_shelved c.request) a (λ c before x. tag_is_shelved a c.person c.moment before c.request x) h) [
+      among = λ a. elim (latest-named name_cmp (λ c before. said_of_shelf a c.person c.moment before c.request) what_stands (λ c before. tags_shelved c.request) a (λ c before x. tag_is_shelved a c.person c.moment before c.request x) h) [
         | inl none ↦ inl (flat_same (latest (λ c before. said_of_shelf a c.person c.moment before c.request) h) none)
         | inr there ↦ inr there
       ];

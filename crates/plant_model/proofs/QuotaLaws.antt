@@ -13,7 +13,7 @@ use Rattle.plant_model.proofs.ServiceLaws.{both_true, registered_anew, registere
 use Rattle.plant_model.specs.Alarms.{latching, said_of_latching}
 use Rattle.plant_model.specs.Facts.{facts, limit_of, returned, shelf_now}
 use Rattle.plant_model.specs.Grants.{held}
-use Rattle.plant_model.specs.Histories.{last_moment, latest}
+use Rattle.plant_model.specs.Histories.{Begins, Over, Said, last_moment, latest, still}
 use Rattle.plant_model.specs.Laws.{QuotaOf2000RefusesNothing}
 use Rattle.plant_model.specs.Legality.{IsLegal, may_follow}
 use Rattle.plant_model.specs.Refusals.{first_refusal, holds_some, over_quota}
@@ -35,7 +35,7 @@ use Rattle.plant_model.specs.declared.rows.UnitRows.{UnitRows}
 use Rattle.plant_types.proofs.Orders.{name_total, same_names}
 use Rattle.plant_types.proofs.TableLaws.{IsInOrder-rows, row_at-rows, tied}
 use Rattle.plant_types.specs.Names.{Name, name_cmp, same_name}
-use Rattle.plant_types.specs.Options.{flatten, or_else, when}
+use Rattle.plant_types.specs.Options.{or_else, when}
 use Rattle.plant_types.specs.Tables.{IsInOrder, in_order, put_row, row_at}
 use Rattle.plant_types.specs.declared.role.Role.TheVariants.{Engineer, Operator}
 use Rattle.std.proofs.Common.{ap, arith, refl, subst, sym, ◌++◌, ◌∙◌}
@@ -117,14 +117,14 @@ few_alarms (c ∷ []) legal = no_alarms c.person c.moment c.request legal.0
 few_alarms (c ∷ d ∷ before) legal = more_alarms (d ∷ before) legal.2 c.person c.moment c.request legal.0 (few_alarms (d ∷ before) legal.2)
 
 -- Shelves: each is of a registered alarm
-of_tag_said : (h : List Call) (a b : Name) (v : Option ShelfRow) (s : ShelfRow) → is_some (latching h b) ≡ true → when (same_name a b) v ≡ Some (Some s) → is_some (latching h a) ≡ true
+of_tag_said : (h : List Call) (a b : Name) (v : Said ShelfRow) (s : ShelfRow) → is_some (latching h b) ≡ true → when (same_name a b) v ≡ Some (Begins s) → is_some (latching h a) ≡ true
 of_tag_said h a b v s known said =
-    elim (same_name a b) as (λ x. same_name a b ≡ x → when x v ≡ Some (Some s) → is_some (latching h a) ≡ true) [
+    elim (same_name a b) as (λ x. same_name a b ≡ x → when x v ≡ Some (Begins s) → is_some (latching h a) ≡ true) [
       | true ↦ λ same _. ap (λ n. is_some (latching h n)) (same_names a b (tied _ true same refl)) ∙ known
       | false ↦ λ _ e. cc
     ] refl said
 
-shelved_alarm : (h : List Call) (p : Name) (t : ℕ) (a : Name) (q : Request) (s : ShelfRow) → may_follow h (record { person = p; moment = t; request = q }) ≡ true → said_of_shelf a p t h q ≡ Some (Some s) → is_some (latching h a) ≡ true
+shelved_alarm : (h : List Call) (p : Name) (t : ℕ) (a : Name) (q : Request) (s : ShelfRow) → may_follow h (record { person = p; moment = t; request = q }) ≡ true → said_of_shelf a p t h q ≡ Some (Begins s) → is_some (latching h a) ≡ true
 shelved_alarm h p t a (TimedShelve u b d w) s may said =
     let c : Call = record { person = p; moment = t; request = TimedShelve u b d w } in
     let accepted = (both_true (is_ok (verdict h c)) true (both_true true _ may).1).0 in
@@ -135,21 +135,21 @@ shelved_alarm h p t a (OneShotShelve u b w) s may said =
     let accepted = (both_true (is_ok (verdict h c)) true (both_true true _ may).1).0 in
     let known = passed (not (holds_some (facts h) t p)) (not (held h t (p, Operator))) (nat_lt t (last_moment h)) (is_none (alarm_row h b)) NotGranted (RoleLacking Operator) (MomentBehind (last_moment h)) AlarmUnknown ((is_one_shot (shelf_now (facts h) b t), ConditionAlreadyShelved) ∷ over_quota (facts h) b t ∷ []) Done accepted in
     of_tag_said h a b _ s (sym (latched_of h b) ∙ some_of (alarm_row h b) known) said
-shelved_alarm h p t a (Unshelve u b) s may said = elim (same_name a b) as (λ x. when x None ≡ Some (Some s) → is_some (latching h a) ≡ true) [ true ↦ λ e. cc | false ↦ λ e. cc ] said
+shelved_alarm h p t a (Unshelve u b) s may said = elim (same_name a b) as (λ x. when x Over ≡ Some (Begins s) → is_some (latching h a) ≡ true) [ true ↦ λ e. cc | false ↦ λ e. cc ] said
 shelved_alarm h p t a _ s may said = cc
 
 opening_shelves : (a p : Name) (t : ℕ) (q : Request) → is_opening q ≡ true → said_of_shelf a p t [] q ≡ None
 opening_shelves a p t (OpenUnit u s m n) e = refl
 opening_shelves a p t _ e = cc
 
-abbrev shelved : List Call → Name → Option (Option ShelfRow)
+abbrev shelved : List Call → Name → Option (Said ShelfRow)
 shelved h a = latest (λ c before. said_of_shelf a c.person c.moment before c.request) h
 
-shelf_known : (h : List Call) → IsLegal h → (a : Name) (s : ShelfRow) → shelved h a ≡ Some (Some s) → is_some (latching h a) ≡ true
+shelf_known : (h : List Call) → IsLegal h → (a : Name) (s : ShelfRow) → shelved h a ≡ Some (Begins s) → is_some (latching h a) ≡ true
 shelf_known [] legal a s e = absurd legal
-shelf_known (c ∷ []) legal a s e = absurd (let no : None ≡ Some (Some s) = sym (ap (λ o. or_else o None) (opening_shelves a c.person c.moment c.request legal.0)) ∙ e in cc)
+shelf_known (c ∷ []) legal a s e = absurd (let no : None ≡ Some (Begins s) = sym (ap (λ o. or_else o None) (opening_shelves a c.person c.moment c.request legal.0)) ∙ e in cc)
 shelf_known (c ∷ d ∷ before) legal a s e =
-    elim (said_of_shelf a c.person c.moment (d ∷ before) c.request) as (λ o. said_of_shelf a c.person c.moment (d ∷ before) c.request ≡ o → or_else o (shelved (d ∷ before) a) ≡ Some (Some s) → is_some (latching (c ∷ d ∷ before) a) ≡ true) [
+    elim (said_of_shelf a c.person c.moment (d ∷ before) c.request) as (λ o. said_of_shelf a c.person c.moment (d ∷ before) c.request ≡ o → or_else o (shelved (d ∷ before) a) ≡ Some (Begins s) → is_some (latching (c ∷ d ∷ before) a) ≡ true) [
       | None ↦ λ _ rest. registered_stays c (d ∷ before) a (shelf_known (d ∷ before) legal.2 a s rest)
       | Some v ↦ λ some is. registered_stays c (d ∷ before) a (shelved_alarm (d ∷ before) c.person c.moment a c.request s legal.0 (some ∙ is))
     ] refl e
@@ -157,10 +157,10 @@ shelf_known (c ∷ d ∷ before) legal a s e =
 shelf_registered : (h : List Call) → IsLegal h → (a : Name) → is_some (shelf h a) ≡ true → is_some (alarm_row h a) ≡ true
 shelf_registered h legal a there =
     latched_of h a ∙ by_shelf (shelved h a) refl there where
-      by_shelf : (o : Option (Option ShelfRow)) → shelved h a ≡ o → is_some (flatten o) ≡ true → is_some (latching h a) ≡ true
+      by_shelf : (o : Option (Said ShelfRow)) → shelved h a ≡ o → is_some (still o) ≡ true → is_some (latching h a) ≡ true
       by_shelf None is e = cc
-      by_shelf (Some None) is e = cc
-      by_shelf (Some (Some s)) is e = shelf_known h legal a s is
+      by_shelf (Some Over) is e = cc
+      by_shelf (Some (Begins s)) is e = shelf_known h legal a s is
 
 -- Counting: distinct names that are all among others are no more than these
 abbrev is_in : Name → List Name → Bool

@@ -3,7 +3,7 @@ use Rattle.plant_model.proofs.HistoryLaws.{alarm_of}
 use Rattle.plant_model.specs.Alarms.{latching, said_of_latching}
 use Rattle.plant_model.specs.Facts.{facts, is_out}
 use Rattle.plant_model.specs.Grants.{held}
-use Rattle.plant_model.specs.Histories.{last_moment, latest}
+use Rattle.plant_model.specs.Histories.{Begins, Over, Said, last_moment, latest, still, what_stands}
 use Rattle.plant_model.specs.Legality.{IsLegal}
 use Rattle.plant_model.specs.Refusals.{first_refusal, holds_some}
 use Rattle.plant_model.specs.Rows.{alarm_row, alarm_rows}
@@ -21,7 +21,7 @@ use Rattle.plant_model.specs.declared.rows.AlarmRow.{AlarmRow}
 use Rattle.plant_types.proofs.Orders.{same_names}
 use Rattle.plant_types.proofs.TableLaws.{tied}
 use Rattle.plant_types.specs.Names.{Name, same_name}
-use Rattle.plant_types.specs.Options.{flatten, or_else, when}
+use Rattle.plant_types.specs.Options.{or_else, when}
 use Rattle.plant_types.specs.declared.role.Role.TheVariants.{Engineer, Maintainer}
 use Rattle.std.proofs.Common.{ap, length, refl, sym, ◌∙◌, ◌≡◌}
 use Rattle.std.specs.Prelude.{Bool, List, None, Option, Some, [], false, is_none, is_ok, is_some, max, nat_le, nat_lt, not, option_map, true, ℕ, ◌&&◌, ◌∷◌}
@@ -46,14 +46,14 @@ pub is_some-map : {A B : Type 0} (f : A → B) (o : Option A) → is_some (optio
 is_some-map f None = refl
 is_some-map f (Some x) = refl
 
-removed_is_there : (h : List Call) (p : Name) (t : ℕ) (q : Request) (a : Name) (o : Outage) → changes_history (verdict h (record { person = p; moment = t; request = q })) (record { person = p; moment = t; request = q }) ≡ true → said_of_service a p t q ≡ Some (Some o) → is_some (latching h a) ≡ true
+removed_is_there : (h : List Call) (p : Name) (t : ℕ) (q : Request) (a : Name) (o : Outage) → changes_history (verdict h (record { person = p; moment = t; request = q })) (record { person = p; moment = t; request = q }) ≡ true → said_of_service a p t q ≡ Some (Begins o) → is_some (latching h a) ≡ true
 removed_is_there h p t (RemoveFromService u b w) a o accepted e =
     let there = known_alarm (not (holds_some (facts h) t p)) (not (held h t (p, Maintainer))) (nat_lt t (last_moment h)) NotGranted (RoleLacking Maintainer) (MomentBehind (last_moment h)) (alarm_row h b) ((is_out (facts h) b, AlreadyOutOfService) ∷ []) Done (both_true (is_ok (verdict h (record { person = p; moment = t; request = RemoveFromService u b w }))) true accepted).0 in
-    elim (same_name a b) as (λ s. same_name a b ≡ s → when s (Some (record { from = t; person = p; words = w })) ≡ Some (Some o) → is_some (latching h a) ≡ true) [
+    elim (same_name a b) as (λ s. same_name a b ≡ s → when s (Begins (record { from = t; person = p; words = w })) ≡ Some (Begins o) → is_some (latching h a) ≡ true) [
       | true ↦ λ s _. ap (λ y. is_some (latching h y)) (same_names a b (tied _ true s refl)) ∙ sym (is_some-map (alarm_of h b) (latching h b)) ∙ there
       | false ↦ λ _ is. cc
     ] refl e
-removed_is_there h p t (PlaceInService u b) a o accepted e = elim (same_name a b) as (λ s. when s None ≡ Some (Some o) → is_some (latching h a) ≡ true) [ true ↦ λ is. cc | false ↦ λ is. cc ] e
+removed_is_there h p t (PlaceInService u b) a o accepted e = elim (same_name a b) as (λ s. when s Over ≡ Some (Begins o) → is_some (latching h a) ≡ true) [ true ↦ λ is. cc | false ↦ λ is. cc ] e
 removed_is_there h p t _ a o accepted e = cc
 
 pub registered_stays : (c : Call) (h : List Call) (a : Name) → is_some (latching h a) ≡ true → is_some (latching (c ∷ h) a) ≡ true
@@ -63,14 +63,14 @@ opening_serves : (a p : Name) (t : ℕ) (q : Request) → is_opening q ≡ true 
 opening_serves a p t (OpenUnit u s m k) is = refl
 opening_serves a p t _ is = cc
 
-abbrev served : List Call → Name → Option (Option Outage)
+abbrev served : List Call → Name → Option (Said Outage)
 served h a = latest (λ c before. said_of_service a c.person c.moment c.request) h
 
-removed_known : (h : List Call) → IsLegal h → (a : Name) (o : Outage) → served h a ≡ Some (Some o) → is_some (latching h a) ≡ true
+removed_known : (h : List Call) → IsLegal h → (a : Name) (o : Outage) → served h a ≡ Some (Begins o) → is_some (latching h a) ≡ true
 removed_known [] legal a o e = absurd legal
-removed_known (c ∷ []) legal a o e = let none : None ≡ Some (Some o) = sym (ap (λ x. or_else x None) (opening_serves a c.person c.moment c.request legal.0)) ∙ e in cc
+removed_known (c ∷ []) legal a o e = let none : None ≡ Some (Begins o) = sym (ap (λ x. or_else x None) (opening_serves a c.person c.moment c.request legal.0)) ∙ e in cc
 removed_known (c ∷ b ∷ h) legal a o e =
-    elim (said_of_service a c.person c.moment c.request) as (λ x. said_of_service a c.person c.moment c.request ≡ x → or_else x (served (b ∷ h) a) ≡ Some (Some o) → is_some (latching (c ∷ b ∷ h) a) ≡ true) [
+    elim (said_of_service a c.person c.moment c.request) as (λ x. said_of_service a c.person c.moment c.request ≡ x → or_else x (served (b ∷ h) a) ≡ Some (Begins o) → is_some (latching (c ∷ b ∷ h) a) ≡ true) [
       | None ↦ λ _ rest. registered_stays c (b ∷ h) a (removed_known (b ∷ h) legal.2 a o rest)
       | Some v ↦ λ some is. registered_stays c (b ∷ h) a (removed_is_there (b ∷ h) c.person c.moment c.request a o (both_true (not (is_opening c.request)) _ legal.0).1 (some ∙ is))
     ] refl e
@@ -78,11 +78,11 @@ removed_known (c ∷ b ∷ h) legal a o e =
 -- an alarm that isn't registered is not out of service
 pub no_outage : (h : List Call) → IsLegal h → (a : Name) → latching h a ≡ None → outage h a ≡ None
 no_outage h legal a unregistered =
-    elim (served h a) as (λ x. served h a ≡ x → flatten x ≡ None) [
+    elim (served h a) as (λ x. served h a ≡ x → still x ≡ None) [
       | None ↦ λ _. refl
-      | Some v ↦ elim v as (λ w. served h a ≡ Some w → w ≡ None) [
-        | None ↦ λ _. refl
-        | Some o ↦ λ e. let t : true ≡ false = sym (removed_known h legal a o e) ∙ ap is_some unregistered in cc
+      | Some v ↦ elim v as (λ w. served h a ≡ Some w → what_stands w ≡ None) [
+        | Over ↦ λ _. refl
+        | Begins o ↦ λ e. let t : true ≡ false = sym (removed_known h legal a o e) ∙ ap is_some unregistered in cc
       ]
     ] refl
 

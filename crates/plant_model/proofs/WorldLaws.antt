@@ -1,4 +1,5 @@
 -- What a call does to a world, and to what a person sees of it.
+use Rattle.plant_model.specs.Histories.{Over, Said as SaidOf, still}
 use Rattle.std.proofs.Common.{◌≡◌, ◌⊎◌, inl, inr, ℕ, List, [], ◌∷◌, Some, None, refl, sym, ap, subst, ◌∙◌, Bool, true, false, cond, T}
 use Rattle.std.specs.Prelude.{◌&&◌, ◌||◌, not, if◌then◌else◌, Option, Result, Ok, Err, is_some, unwrap_or, option_map, map}
 use Rattle.std.specs.List.{list_any}
@@ -14,7 +15,7 @@ use Rattle.plant_model.specs.declared.reply.Refused.{Refused}
 use Rattle.plant_model.specs.declared.reply.Refused.TheVariants.{NotGranted}
 use Rattle.plant_types.specs.Tables.{row_at, IsInOrder}
 use Rattle.plant_types.specs.Names.{Name, name_cmp, same_name}
-use Rattle.plant_types.specs.Options.{when, or_else, flatten}
+use Rattle.plant_types.specs.Options.{when, or_else}
 use Rattle.plant_types.specs.Roles.{Pair, same_pair, all_roles}
 use Rattle.plant_model.specs.Grants.{said_of_pair, is_before, held, holds_any}
 use Rattle.plant_model.specs.Facts.{facts}
@@ -143,22 +144,22 @@ clash true t f = cc
 clash false t f = cc
 
 -- held, by what was said of the pair
-abbrev held_by : ℕ → Option (Option (Option ℕ)) → Bool
-held_by t said = unwrap_or (option_map (is_before t) (flatten said)) false
+abbrev held_by : ℕ → Option (SaidOf (Option ℕ)) → Bool
+held_by t said = unwrap_or (option_map (is_before t) (still said)) false
 
-granted_before : (t : ℕ) (k x : Pair) (v : Option (Option ℕ)) (rest : Option (Option (Option ℕ))) → same_name k.0 x.0 ≡ false → held_by t (or_else (when (same_pair k x) v) rest) ≡ true → held_by t rest ≡ true
+granted_before : (t : ℕ) (k x : Pair) (v : SaidOf (Option ℕ)) (rest : Option (SaidOf (Option ℕ))) → same_name k.0 x.0 ≡ false → held_by t (or_else (when (same_pair k x) v) rest) ≡ true → held_by t rest ≡ true
 granted_before t k x v rest other =
     elim (same_pair k x) as (λ b. same_pair k x ≡ b → held_by t (or_else (when b v) rest) ≡ true → held_by t rest ≡ true) [
       | true ↦ λ e _. clash (same_name k.0 x.0) (ap is_eq (then_Equal (name_cmp k.0 x.0) _ (tied _ true e refl)).0) other
       | false ↦ λ e h. h
     ] refl
 
-withdrawn_before : (t : ℕ) (b : Bool) (rest : Option (Option (Option ℕ))) → held_by t (or_else (when b None) rest) ≡ true → held_by t rest ≡ true
+withdrawn_before : (t : ℕ) (b : Bool) (rest : Option (SaidOf (Option ℕ))) → held_by t (or_else (when b Over) rest) ≡ true → held_by t rest ≡ true
 withdrawn_before t true rest e = cc
 withdrawn_before t false rest e = e
 
 -- a pair that is held after a request that does not grant it was held before
-stood : (t : ℕ) (k : Pair) (q : Request) (rest : Option (Option (Option ℕ))) → grants_to k.0 q ≡ false → held_by t (or_else (said_of_pair k q) rest) ≡ true → held_by t rest ≡ true
+stood : (t : ℕ) (k : Pair) (q : Request) (rest : Option (SaidOf (Option ℕ))) → grants_to k.0 q ≡ false → held_by t (or_else (said_of_pair k q) rest) ≡ true → held_by t rest ≡ true
 stood t k (OpenUnit u s m q) rest other = granted_before t k (s, Steward) _ rest other
 stood t k (Grant u p r) rest other = granted_before t k (p, r.0) _ rest other
 stood t k (Withdraw u p r) rest other = withdrawn_before t (same_pair k (p, r)) rest

@@ -6,21 +6,21 @@ use Rattle.plant_model.specs.declared.call.Request.{Request}
 use Rattle.plant_model.specs.declared.call.Request.TheVariants.{Grant, OpenUnit, Withdraw}
 use Rattle.plant_types.specs.declared.role.Role.{Role}
 use Rattle.plant_types.specs.declared.role.Role.TheVariants.{Steward}
-use Rattle.plant_model.specs.Histories.{latest}
+use Rattle.plant_model.specs.Histories.{Begins, Over, Said, latest, still}
 use Rattle.plant_types.specs.Names.{Name}
-use Rattle.plant_types.specs.Options.{flatten, when}
+use Rattle.plant_types.specs.Options.{when}
 use Rattle.plant_types.specs.Roles.{Pair, all_roles, same_pair}
 
--- what a request says of a pair: until when it stands (None: for good), or that it doesn't. An opening grants Steward
-abbrev pub said_of_pair : Pair → Request → Option (Option (Option ℕ))
-said_of_pair k (OpenUnit u steward m q) = when (same_pair k (steward, Steward)) (Some None)
-said_of_pair k (Grant u p t) = when (same_pair k (p, t.0)) (Some t.1)
-said_of_pair k (Withdraw u p r) = when (same_pair k (p, r)) None
+-- what a request says of a pair: that it stands until an end (None: for good), or that it is over. An opening grants Steward
+abbrev pub said_of_pair : Pair → Request → Option (Said (Option ℕ))
+said_of_pair k (OpenUnit u steward m q) = when (same_pair k (steward, Steward)) (Begins None)
+said_of_pair k (Grant u p t) = when (same_pair k (p, t.0)) (Begins t.1)
+said_of_pair k (Withdraw u p r) = when (same_pair k (p, r)) Over
 said_of_pair k _ = None
 
 -- until when the pair stands, where the last that was said of it is that it stands
 abbrev pub standing : List Call → Pair → Option (Option ℕ)
-standing h k = flatten (latest (λ c before. said_of_pair k c.request) h)
+standing h k = still (latest (λ c before. said_of_pair k c.request) h)
 
 -- the pair stands: the last Grant or Withdraw of it is a Grant
 abbrev pub stands : List Call → Pair → Bool

@@ -1,7 +1,7 @@
 -- A unit's history: the list of its accepted changing calls, the newest first.
 use Rattle.std.specs.Prelude.{if◌then◌else◌, ◌+◌}
 use Rattle.std.specs.Ordering.{eq_by_cmp, nat_cmp}
-use Rattle.std.specs.Prelude.{Bool, List, None, Option, [], ℕ, ◌++◌, ◌∷◌}
+use Rattle.std.specs.Prelude.{Bool, List, None, Option, Some, [], ℕ, ◌++◌, ◌∷◌}
 use Rattle.plant_model.specs.declared.call.Call.{Call}
 use Rattle.plant_types.specs.Options.{or_else}
 
@@ -9,6 +9,20 @@ use Rattle.plant_types.specs.Options.{or_else}
 abbrev pub latest : {A : Type 0} → (Call → List Call → Option A) → List Call → Option A
 latest says [] = None
 latest says (c ∷ before) = or_else (says c before) (latest says before)
+
+-- what an entry says of a thing: that it stands from now on, or that it is over
+pub data Said (A : Type 0) : Type 0 where
+  Begins : A → Said A
+  Over : Said A
+
+abbrev pub what_stands : {A : Type 0} → Said A → Option A
+what_stands (Begins x) = Some x
+what_stands Over = None
+
+-- what still stands, by what was said last
+abbrev pub still : {A : Type 0} → Option (Said A) → Option A
+still None = None
+still (Some said) = what_stands said
 
 -- how many entries pass
 abbrev pub counted : (Call → List Call → Bool) → List Call → ℕ

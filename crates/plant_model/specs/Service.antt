@@ -3,9 +3,9 @@ use Rattle.std.specs.Prelude.{List, None, Option, Some, ℕ}
 use Rattle.plant_model.specs.declared.call.Call.{Call}
 use Rattle.plant_model.specs.declared.call.Request.TheVariants.{PlaceInService, RemoveFromService}
 use Rattle.plant_model.specs.declared.call.Request.{Request}
-use Rattle.plant_model.specs.Histories.{latest}
+use Rattle.plant_model.specs.Histories.{Begins, Over, Said, latest, still}
 use Rattle.plant_types.specs.Names.{Name, same_name}
-use Rattle.plant_types.specs.Options.{flatten, when}
+use Rattle.plant_types.specs.Options.{when}
 
 -- when, by whom and why an alarm was removed from service
 pub record Outage : Type 0 where
@@ -13,12 +13,12 @@ pub record Outage : Type 0 where
   pub person : Name
   pub words : Name
 
--- what an entry says of the alarm's service: the removal, or that there is none
-abbrev pub said_of_service : Name → Name → ℕ → Request → Option (Option Outage)
-said_of_service a p t (RemoveFromService u b words) = when (same_name a b) (Some (record { from = t; person = p; words = words }))
-said_of_service a p t (PlaceInService u b) = when (same_name a b) None
+-- what an entry says of the alarm's removal from service: that one begins, or that it is over
+abbrev pub said_of_service : Name → Name → ℕ → Request → Option (Said Outage)
+said_of_service a p t (RemoveFromService u b words) = when (same_name a b) (Begins (record { from = t; person = p; words = words }))
+said_of_service a p t (PlaceInService u b) = when (same_name a b) Over
 said_of_service a p t _ = None
 
 -- the removal that stands: the last RemoveFromService or PlaceInService is a RemoveFromService
 abbrev pub outage : List Call → Name → Option Outage
-outage h a = flatten (latest (λ c before. said_of_service a c.person c.moment c.request) h)
+outage h a = still (latest (λ c before. said_of_service a c.person c.moment c.request) h)

@@ -7,25 +7,25 @@ use Rattle.plant_model.specs.declared.call.Request.{Request}
 use Rattle.plant_model.specs.declared.call.Request.TheVariants.{OneShotShelve, TimedShelve, Unshelve}
 use Rattle.plant_model.specs.declared.rows.ShelfRow.{ShelfRow}
 use Rattle.plant_model.specs.Alarms.{limit}
-use Rattle.plant_model.specs.Histories.{latest}
+use Rattle.plant_model.specs.Histories.{Begins, Over, Said, latest, still}
 use Rattle.plant_types.specs.Names.{Name, same_name}
-use Rattle.plant_types.specs.Options.{flatten, when}
+use Rattle.plant_types.specs.Options.{when}
 
 -- a shelf's row: by whom and why, whether it is a one-shot, its start and its end
 abbrev pub shelf_row_as : Bool → ℕ → ℕ → Name → Name → Name → ShelfRow
 shelf_row_as one_shot s until p words a = record { tag = a; one_shot = one_shot; start_s = s; until_s = until; person = p; words = words }
 
--- what an entry says of the alarm's shelf: the shelf that begins, or that there is none.
+-- what an entry says of the alarm's shelf: that one begins, or that it is over.
 -- A timed shelf lasts its own time, a one-shot shelf at most the limit in force just before the entry
-abbrev pub said_of_shelf : Name → Name → ℕ → List Call → Request → Option (Option ShelfRow)
-said_of_shelf a p s before (TimedShelve u b d words) = when (same_name a b) (Some (shelf_row_as false s (s + d) p words a))
-said_of_shelf a p s before (OneShotShelve u b words) = when (same_name a b) (Some (shelf_row_as true s (s + unwrap_or (limit before b) 0) p words a))
-said_of_shelf a p s before (Unshelve u b) = when (same_name a b) None
+abbrev pub said_of_shelf : Name → Name → ℕ → List Call → Request → Option (Said ShelfRow)
+said_of_shelf a p s before (TimedShelve u b d words) = when (same_name a b) (Begins (shelf_row_as false s (s + d) p words a))
+said_of_shelf a p s before (OneShotShelve u b words) = when (same_name a b) (Begins (shelf_row_as true s (s + unwrap_or (limit before b) 0) p words a))
+said_of_shelf a p s before (Unshelve u b) = when (same_name a b) Over
 said_of_shelf a p s before _ = None
 
 -- the shelf that the last method left, however long ago
 abbrev pub shelf : List Call → Name → Option ShelfRow
-shelf h a = flatten (latest (λ c before. said_of_shelf a c.person c.moment before c.request) h)
+shelf h a = still (latest (λ c before. said_of_shelf a c.person c.moment before c.request) h)
 
 abbrev pub shelf_left : Option ShelfRow → Shelf
 shelf_left None = Clear

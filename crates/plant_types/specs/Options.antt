@@ -9,8 +9,3 @@ when b x = if b then Some x else None
 abbrev pub or_else : {A : Type 0} → Option A → Option A → Option A
 or_else None o = o
 or_else (Some x) o = Some x
-
--- what is said, where what was said last isn't that there is none
-abbrev pub flatten : {A : Type 0} → Option (Option A) → Option A
-flatten None = None
-flatten (Some o) = o
