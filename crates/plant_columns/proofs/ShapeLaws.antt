@@ -134,7 +134,6 @@ unit_good = record {
   back = λ id u x. refl;
   agrees = λ id jd u v x y. refl;
   keyed = λ id u x. (refl, tt);
-  mends = λ u x. refl;
   fits = λ u x i. Text u ∷ cast_number x.last_s i ∷ cast_number x.matrix_no i ∷ cast_number x.matrix_rev i ∷ cast_number x.quota i ∷ [];
 }
 
@@ -144,7 +143,6 @@ grant_good = record {
   back = λ id u x i. record { person = x.person; role_no = role_back x.role_no i; end_s = open_number_back x.end_s i };
   agrees = λ id jd u v x y. sym (ap₂ ordering_then (value_cmp-Text x.person y.person) (one (numbers (role_no x.role_no) (role_no y.role_no))));
   keyed = λ id u x. (refl, (refl, (refl, tt)));
-  mends = λ u x. refl;
   fits = λ u x i. Text u ∷ Text x.person ∷ cast_number (role_no x.role_no) i ∷ cast_open_number x.end_s i ∷ [];
 }
 
@@ -166,7 +164,6 @@ alarm_good = record {
   };
   agrees = λ id jd u v x y. sym (one (value_cmp-Text x.tag y.tag));
   keyed = λ id u x. (refl, (refl, tt));
-  mends = λ u x. refl;
   fits = λ u x i. Text u ∷ Text x.tag ∷ cast_int (pos (Rattle.std.proofs.Common.cond x.latching 1 0)) i ∷ cast_number x.max_s i ∷ cast_number x.max_rev i ∷ cast_number (state_no x.state_no) i ∷ cast_int (pos (Rattle.std.proofs.Common.cond x.suppressed 1 0)) i
       ∷ cast_open_number x.active_s i ∷ cast_open_number x.return_s i ∷ cast_open_number x.out_s i ∷ cast_open_text x.out_by i ∷ cast_open_text x.out_words i ∷ [];
 }
@@ -177,7 +174,6 @@ shelf_good = record {
   back = λ id u x i. record { tag = x.tag; one_shot = flag_back x.one_shot i; start_s = x.start_s; until_s = x.until_s; person = x.person; words = x.words };
   agrees = λ id jd u v x y. sym (one (value_cmp-Text x.tag y.tag));
   keyed = λ id u x. (refl, (refl, tt));
-  mends = λ u x. refl;
   fits = λ u x i. Text u ∷ Text x.tag ∷ cast_int (pos (Rattle.std.proofs.Common.cond x.one_shot 1 0)) i ∷ cast_number x.start_s i ∷ cast_number x.until_s i ∷ Text x.person ∷ Text x.words ∷ [];
 }
 
@@ -187,7 +183,6 @@ band_good = record {
   back = λ id u x. refl;
   agrees = λ id jd u v x y. sym (ap₂ ordering_then (numbers x.matrix_no y.matrix_no) (one (numbers x.band_no y.band_no)));
   keyed = λ id u x. (refl, (refl, (refl, tt)));
-  mends = λ u x. refl;
   fits = λ u x i. Text u ∷ cast_number x.matrix_no i ∷ cast_number x.band_no i ∷ cast_number x.limit_s i ∷ [];
 }
 
@@ -197,7 +192,6 @@ cell_good = record {
   back = λ id u x i. record { matrix_no = x.matrix_no; severity = x.severity; band_no = x.band_no; cell_no = cell_back x.cell_no i };
   agrees = λ id jd u v x y. sym (ap₂ ordering_then (numbers x.matrix_no y.matrix_no) (ap₂ ordering_then (numbers x.severity y.severity) (one (numbers x.band_no y.band_no))));
   keyed = λ id u x. (refl, (refl, (refl, (refl, tt))));
-  mends = λ u x. refl;
   fits = λ u x i. Text u ∷ cast_number x.matrix_no i ∷ cast_number x.severity i ∷ cast_number x.band_no i ∷ cast_number (cell_no x.cell_no) i ∷ [];
 }
 
@@ -207,7 +201,6 @@ event_good = record {
   back = λ id u x i. record { seq = x.seq; moment = x.moment; tag = x.tag; kind = kind_back x.kind i };
   agrees = λ id jd u v x y. sym (one (numbers x.seq y.seq));
   keyed = λ id u x. (refl, (refl, tt));
-  mends = λ u x. refl;
   fits = λ u x i. Text u ∷ cast_number x.seq i ∷ cast_number x.moment i ∷ Text x.tag ∷ cast_number (kind_no x.kind) i ∷ [];
 }
 
@@ -217,7 +210,6 @@ record_good = record {
   back = λ id u x i. record { tag = x.tag; change_no = x.change_no; rev = x.rev; cell_no = cell_back x.cell_no i };
   agrees = λ id jd u v x y. sym (one (value_cmp-Text x.tag y.tag));
   keyed = λ id u x. (refl, (refl, tt));
-  mends = λ u x. refl;
   fits = λ u x i. Text u ∷ Text x.tag ∷ cast_number x.change_no i ∷ cast_number x.rev i ∷ cast_number (cell_no x.cell_no) i ∷ [];
 }
 
@@ -243,7 +235,6 @@ change_good = record {
   };
   agrees = λ id jd u v x y. sym (one (numbers x.number y.number));
   keyed = λ id u x. (refl, (refl, tt));
-  mends = λ u x. refl;
   fits = λ u x i. Text u ∷ cast_number x.number i ∷ Text x.proposer ∷ cast_number x.proposed_s i ∷ cast_number (topic_no x.kind_no) i ∷ cast_open_text x.tag i ∷ cast_number x.base i
       ∷ cast_open_text x.cause i ∷ cast_open_text x.consequence i ∷ cast_open_text x.remedy i ∷ cast_open_number x.severity i ∷ cast_open_number x.response_s i ∷ cast_open_number x.max_s i
       ∷ cast_number (decision_no x.state_no) i ∷ cast_open_text x.decider i ∷ cast_open_number x.decided_s i ∷ [];

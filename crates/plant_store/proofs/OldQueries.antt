@@ -39,7 +39,6 @@ old_unit_good = record {
   back = λ id u x. refl;
   agrees = λ id jd u v x y. refl;
   keyed = λ id u x. (refl, tt);
-  mends = λ u x. refl;
   fits = λ u x i. Text u ∷ cast_number x.last_s i ∷ cast_number x.matrix_no i ∷ cast_number x.matrix_rev i ∷ [];
 }
 
@@ -49,7 +48,6 @@ old_grant_good = record {
   back = λ id u x i. record { person = x.person; role_no = role_back x.role_no i };
   agrees = λ id jd u v x y. sym (ap₂ ordering_then (value_cmp-Text x.person y.person) (one (numbers (role_no x.role_no) (role_no y.role_no))));
   keyed = λ id u x. (refl, (refl, (refl, tt)));
-  mends = λ u x. refl;
   fits = λ u x i. Text u ∷ Text x.person ∷ cast_number (role_no x.role_no) i ∷ [];
 }
 

@@ -1,13 +1,13 @@
 -- Rows in the order of their keys: to put in and take out by an order of rows is to put and remove by key.
-use Rattle.std.proofs.Common.{◌≡◌, ℕ, ℤ, pos, Bool, true, false, not, cond, List, [], ◌∷◌, filter, map, refl, sym, ap, ap₂, ◌∙◌, subst, Ordering, Less, Equal, Greater, is_lt, is_gt, is_eq, true≢false, T, nat_cmp, int_cmp}
+use Rattle.std.proofs.Common.{◌≡◌, ℕ, pos, Bool, true, false, not, cond, List, [], ◌∷◌, map, refl, sym, ap, ◌∙◌, subst, Ordering, Less, Equal, Greater, is_lt, is_eq, T, nat_cmp, int_cmp}
 use Rattle.std.specs.Prelude.{◌&&◌}
 use Rattle.std.specs.List.{AllByRecursion}
 use Rattle.std.specs.Cmp.{IsTotalOrder, alike_right, int_cmp_is, ranks}
 use Rattle.std.specs.Ordering.{ordering_reverse, MatchOrdering}
 use Rattle.std.proofs.Common.{◌<◌, ◌<ℤ◌, lt→ltb}
-use Rattle.std.specs.FinMap.Entries.{by_order, is_sorted, below_all}
+use Rattle.std.specs.FinMap.Entries.{by_order, below_all}
 use Rattle.sqlite_trees.specs.Tree.{IsAscending}
-use Rattle.sqlite_keyed.specs.Lists.{insert_sorted, sort_by}
+use Rattle.sqlite_keyed.specs.Lists.{insert_sorted}
 use Rattle.sqlite_keyed.proofs.ListLemmas.{all_weaker}
 use Rattle.plant_types.specs.Tables.{put_row, remove_row, IsInOrder}
 use Rattle.plant_tables.specs.Kept.{taken_out, put_in}

@@ -17,7 +17,7 @@ use Rattle.sqlite_value.specs.Order.{Row}
 use Rattle.plant_tables.specs.Kept.{by_columns, plain_query}
 use Rattle.plant_tables.specs.Tidy.{AreApart}
 use Rattle.plant_tables.proofs.Keys.{by_columns_total}
-use Rattle.plant_tables.proofs.Kept.{all-insert, all-sort, HasNoTies}
+use Rattle.plant_tables.proofs.Kept.{all-insert, all-sort}
 use Rattle.plant_tables.proofs.Laws.{overlay_none}
 
 module _ {X : Type 0} (cmp : X → X → Ordering) (total : IsTotalOrder cmp) where

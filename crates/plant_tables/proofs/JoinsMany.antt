@@ -1,14 +1,14 @@
 -- An inner join of two shared tables in which one row meets many: in the order of the first one's key, and then of columns of the second that tell apart the rows that one row meets.
-use Rattle.std.proofs.Common.{◌≡◌, ℕ, Bool, true, false, cond, List, [], ◌∷◌, ◌++◌, map, flat_map, refl, sym, ap, ◌∙◌, subst, Ordering, Less, Equal, Greater, is_eq, IsPermutation, IsSorted}
+use Rattle.std.proofs.Common.{◌≡◌, ℕ, Bool, true, false, cond, List, [], ◌∷◌, ◌++◌, map, flat_map, refl, ap, ◌∙◌, subst, Less, IsPermutation}
 use Rattle.std.specs.List.{AllByRecursion}
 use Rattle.std.specs.Ordering.{ordering_then}
 use Rattle.std.proofs.lemmas.Cmp.{tied_itself}
 use Rattle.std.proofs.lemmas.List.Sorted.{IsPermutation-trans}
 use Rattle.sqlite.specs.Program.{overlay}
-use Rattle.sqlite.specs.Query.{Query, IsAnswer, Output, output, output_cmp, inner, end}
+use Rattle.sqlite.specs.Query.{IsAnswer, Output, output, output_cmp, inner, end}
 use Rattle.sqlite.specs.Tree.{Trees, IsAscending}
 use Rattle.sqlite_keyed.specs.Lists.{sort_by}
-use Rattle.sqlite_keyed.proofs.ListLemmas.{all_weaker, map-flat_map, flat_map_same_on, IsPermutation-flat_map, IsPermutation-flat_map_each}
+use Rattle.sqlite_keyed.proofs.ListLemmas.{map-flat_map, flat_map_same_on, IsPermutation-flat_map, IsPermutation-flat_map_each}
 use Rattle.sqlite_keyed.proofs.SortLemmas.{sorted_unique, IsPermutation-sort_by}
 use Rattle.sqlite_sql.specs.Term.{Term}
 use Rattle.sqlite_sql.proofs.QueryLemmas.{output_cmp_total}

@@ -1,33 +1,24 @@
 -- The laws of a table that is written by its key and read in the order of its key, whatever the table.
-use Rattle.std.proofs.Common.{◌≡◌, ℕ, ℤ, ◌-◌, ◌^◌, nat_le, unwrap_or, Bool, true, false, not, ◌&&◌, ◌||◌, cond, List, [], ◌∷◌, ◌++◌, map, filter, flat_map, refl, sym, ap, ap₂, ◌∙◌, subst, Ordering, Less, Equal, Greater, is_eq, true≢false, IsPermutation, IsSorted, Option, None, Some, inl, inr, pos, slice_get, IsTrue}
-use Rattle.std.specs.List.{AllByRecursion, AllZip, list_all}
+use Rattle.std.proofs.Common.{◌≡◌, ℕ, ℤ, ◌-◌, ◌^◌, nat_le, unwrap_or, Bool, true, false, not, cond, List, [], ◌∷◌, ◌++◌, map, filter, flat_map, refl, sym, ap, ◌∙◌, subst, Ordering, is_eq, IsPermutation, IsSorted, None, inl, inr, slice_get}
+use Rattle.std.specs.List.{list_all}
 use Rattle.std.proofs.lemmas.List.Sorted.{Contains-permutation, IsPermutation-sym}
 use Rattle.sqlite.specs.Cast.{cast, cast_all, cast_row}
 use Rattle.sqlite.specs.Effect.{Database}
 use Rattle.sqlite.specs.Kind.TheVariants.{Integer}
 use Rattle.sqlite.specs.Program.{overlay, given_at}
 use Rattle.sqlite.specs.Query.{Query, IsAnswer, Output, output, output_cmp, inner, end}
-use Rattle.sqlite.specs.Rowids.TheVariants.{Chosen}
-use Rattle.sqlite.specs.Rows.{mended}
 use Rattle.sqlite.specs.Tree.{Trees, rowid, put_row, IsTable}
-use Rattle.sqlite_keyed.proofs.ListLemmas.{all-filter, all-append, ascending-filter, filter_as_flat_map, map-flat_map}
-use Rattle.sqlite_rules.specs.Edit.{next_rowid, without_all, with_rowid}
-use Rattle.sqlite_rules.specs.Calls.{ids_of}
-use Rattle.sqlite_rules.specs.Keys.{AreConflicts, conflicts}
+use Rattle.sqlite_keyed.proofs.ListLemmas.{all-filter, ascending-filter}
 use Rattle.sqlite_rules.specs.Lists.{Has}
-use Rattle.sqlite_rules.proofs.ListLemmas.{all_has, has_filtered, has_kept, has_contained, contains_had}
+use Rattle.sqlite_rules.proofs.ListLemmas.{has_filtered, has_kept, has_contained, contains_had}
 use Rattle.sqlite_schema.specs.declared.schema.Column.{Column}
-use Rattle.sqlite_schema.specs.Rules.{agree, equal}
-use Rattle.sqlite_sql.specs.Ops.{unary, is_null}
+use Rattle.sqlite_sql.specs.Ops.{unary}
 use Rattle.sqlite_sql.specs.Term.{Term, holds}
-use Rattle.sqlite_trees.proofs.TreeLemmas.{IsTable-put_row}
-use Rattle.sqlite_trees.specs.View.{is_int}
 use Rattle.sqlite_value.specs.declared.keys.Key.{Key}
 use Rattle.sqlite_value.specs.declared.value.Value.{Value}
-use Rattle.sqlite_value.specs.declared.value.Value.TheVariants.{Null, Int, Text}
-use Rattle.sqlite_value.specs.Keys.{plain}
-use Rattle.sqlite_value.specs.Order.{Row, column, value_cmp}
-use Rattle.plant_tables.specs.Kept.{taken_out, by_columns, plain_query, kept}
+use Rattle.sqlite_value.specs.declared.value.Value.TheVariants.{Null, Int}
+use Rattle.sqlite_value.specs.Order.{Row}
+use Rattle.plant_tables.specs.Kept.{by_columns, plain_query, kept}
 use Rattle.sqlite_keyed.specs.Lists.{sort_by}
 use Rattle.sqlite_keyed.proofs.SortLemmas.{sorted_is-sort_by, sort_by-map}
 use Rattle.sqlite_keyed.proofs.ListLemmas.{ascending-map, map-map}
@@ -35,9 +26,8 @@ use Rattle.sqlite_sql.proofs.QueryLemmas.{output_cmp_total}
 use Rattle.sqlite_trees.specs.Tree.{IsAscending}
 use Rattle.plant_tables.specs.Tables.{table_of}
 use Rattle.plant_tables.specs.Tidy.{AreRows}
-use Rattle.plant_tables.proofs.Rows.{AreFound, without_found, below_next, put_last}
-use Rattle.plant_tables.proofs.Changes.{HasDeleted, HasReplaced}
-use Rattle.plant_tables.proofs.Keys.{HasKey, agree_is, equal_is}
+use Rattle.plant_tables.proofs.Rows.{AreFound, without_found}
+use Rattle.plant_tables.proofs.Changes.{HasDeleted}
 
 -- ---- reading
 
@@ -140,45 +130,6 @@ module _ (schema : Rattle.sqlite.specs.Schema.Schema) (name : List ℕ) (tree : 
       let p = passes tree tests (Rattle.sqlite.specs.Term.col 1 0 ∷ []) [] params in
       let rows = it.rows ∙ without_found p (old.trees tree) it.found are (found_by tree tests old.trees params it.found (reads tree tests (Rattle.sqlite.specs.Term.col 1 0 ∷ []) [] old.trees params it.found it.answer)) in
       (rows, subst AreRows (sym rows) (are_left (λ r. not (p r)) (old.trees tree) are))
-
-  -- INSERT OR REPLACE takes out the row of its key, and puts the new one in
-  pub put_by_key : (cells : Row) (old new : Database) → AreRows (old.trees tree)
-      → mended Rattle.sqlite_schema.specs.declared.command.Conflict.TheVariants.Replace (table_of name tree columns key) (Null ∷ cells) ≡ Null ∷ cells
-      → cast_all columns cells ≡ cells
-      → ((id : Value) → HasKey key (id ∷ cells))
-      → ((r : Row) (id : Value) → equal Rattle.sqlite.specs.Collation.TheVariants.Binary (rowid r) id ≡ false → conflicts None schema.indexes (table_of name tree columns key) (id ∷ cells) r ≡ agree plain key r key (id ∷ cells))
-      → HasReplaced schema (table_of name tree columns key) (Null ∷ cells) old new
-      → let row : Row = Int (next_rowid (old.trees tree)) ∷ cells in
-      (new.trees tree ≡ taken_out (by_columns key) row (old.trees tree) ++ row ∷ []) × AreRows (new.trees tree)
-  put_by_key cells old new are mends fits keyed alone it =
-      let rows = old.trees tree in
-      let row : Row = Int (next_rowid rows) ∷ cells in
-      let table = table_of name tree columns key in
-      let p = λ (r : Row). is_eq (by_columns key row r) in
-      let casts : (v : Value) → cast Integer v ≡ v → cast_row table (v ∷ cells) ≡ v ∷ cells = λ v h. ap₂ ◌∷◌ h fits in
-      let is : with_rowid Chosen rows (cast_row table (mended Rattle.sqlite_schema.specs.declared.command.Conflict.TheVariants.Replace table (Null ∷ cells))) ≡ row =
-      ap (λ r. with_rowid Chosen rows (cast_row table r)) mends ∙ ap (with_rowid Chosen rows) (casts Null cast_null) in
-      let below = below_next rows are in
-      let same : (r : Row) → Has rows r → conflicts None schema.indexes table row r ≡ p r = λ r h.
-      alone r (Int (next_rowid rows)) (equal_is (rowid r) (Int (next_rowid rows)) refl ∙ ap is_eq (all_has _ rows r below h)) ∙ agree_is key r row (keyed (Int (next_rowid rows))) in
-      let met : AreConflicts None schema.indexes table rows row it.found = subst (λ r. AreConflicts None schema.indexes table rows r it.found) is it.conflicts in
-      let found : AreFound p rows it.found = record {
-        sound = λ x h. let one = met.sound x h in (one.0, one.1, sym (same one.0 one.1) ∙ one.2, one.3);
-        complete = λ r h e. met.complete r h (same r h ∙ e);
-      } in
-      let left = are_left (λ r. not (p r)) rows are in
-      let last : put_row row (filter (λ r. not (p r)) rows) ≡ filter (λ r. not (p r)) rows ++ row ∷ [] = put_last row _ (all-filter _ (λ r. not (p r)) rows below) in
-      let whole : new.trees tree ≡ filter (λ r. not (p r)) rows ++ row ∷ [] =
-      it.rows
-      ∙ ap (λ r. put_row (cast_row table r) (without_all rows (ids_of it.found))) is
-      ∙ ap (λ r. put_row r (without_all rows (ids_of it.found))) (casts (Int (next_rowid rows)) (cast_int (next_rowid rows)))
-      ∙ ap (put_row row) (without_found p rows it.found are found)
-      ∙ last in
-      let after : AreRows (filter (λ r. not (p r)) rows ++ row ∷ []) = record {
-        rise = subst IsTable last (IsTable-put_row row _ left.rise);
-        ints = all-append (λ r. is_int (rowid r) ≡ true) _ (row ∷ []) left.ints (refl, tt);
-      } in
-      (whole, subst AreRows (sym whole) after)
 
 -- ---- the one answer in the order of the key
 

@@ -9,5 +9,6 @@ pub mod Shared
 pub mod JoinsMany
 pub mod Asking
 pub mod Shapes
+pub mod Inserted
 pub mod Updated
 pub mod Family

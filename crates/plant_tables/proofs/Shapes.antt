@@ -1,30 +1,22 @@
 -- What the statements of one table do, whatever its shape.
-use Rattle.std.proofs.Common.{◌≡◌, ◌≢◌, ◌⊎◌, inl, inr, ℕ, ℤ, ◌/◌, length, Bool, true, false, not, ◌&&◌, cond, List, [], ◌∷◌, ◌++◌, map, filter, slice_get, None, Some, Option, Ok, refl, sym, ap, ap₂, ◌∙◌, subst, Ordering, Less, Equal, Greater, is_eq, nat_cmp, arith}
+use Rattle.std.proofs.Common.{◌≡◌, ◌≢◌, ℕ, ℤ, Bool, true, false, not, ◌&&◌, cond, List, [], ◌∷◌, ◌++◌, map, filter, slice_get, None, Some, Ok, refl, sym, ap, ap₂, ◌∙◌, subst, Ordering, is_eq}
 use Rattle.std.specs.List.{AllByRecursion}
-use Rattle.std.specs.Cmp.{IsTotalOrder, ranks}
-use Rattle.std.specs.Ordering.{MatchOrdering}
+use Rattle.std.specs.Cmp.{IsTotalOrder}
 use Rattle.sqlite.specs.Cast.{cast_all}
 use Rattle.sqlite.specs.Collation.TheVariants.{Binary}
-use Rattle.sqlite.specs.Command.TheVariants.{Delete, InsertOr, Select}
-use Rattle.sqlite.specs.Effect.{Database, value_rows}
+use Rattle.sqlite.specs.Command.TheVariants.{Delete, Select}
+use Rattle.sqlite.specs.Effect.{Database}
 use Rattle.sqlite.specs.Listing.{understood, reads_listing}
 use Rattle.sqlite.specs.Query.{inner, end, output_cmp}
-use Rattle.sqlite.specs.Rows.{mended, stamped}
 use Rattle.sqlite.specs.Schema.{Schema}
-use Rattle.sqlite.specs.Source.TheVariants.{Values}
 use Rattle.sqlite.specs.State.{State, Executes, Shown}
-use Rattle.sqlite.specs.Table.{Table}
 use Rattle.sqlite.specs.Term.{Term, col}
-use Rattle.sqlite.specs.Tree.{Trees, rowid}
+use Rattle.sqlite.specs.Tree.{rowid}
 use Rattle.sqlite.proofs.Callers.{IsPlain, command_of, reads_as}
 use Rattle.sqlite_keyed.specs.Lists.{sort_by}
-use Rattle.sqlite_keyed.proofs.ListLemmas.{filter_same, map-map}
-use Rattle.sqlite_rules.specs.Edit.{next_rowid}
+use Rattle.sqlite_keyed.proofs.ListLemmas.{filter_same}
 use Rattle.sqlite_rules.specs.Keys.{conflicts}
-use Rattle.sqlite_rules.specs.Lists.{Has}
-use Rattle.sqlite_rules.proofs.ListLemmas.{all_has}
 use Rattle.sqlite_schema.specs.Rules.{equal, agree}
-use Rattle.sqlite_schema.specs.declared.command.Conflict.TheVariants.{Replace}
 use Rattle.sqlite_value.specs.declared.keys.Key.{Key}
 use Rattle.sqlite_value.specs.declared.value.Value.{Value}
 use Rattle.sqlite_value.specs.declared.value.Value.TheVariants.{Null, Int, Text}
@@ -32,12 +24,12 @@ use Rattle.sqlite_value.specs.Keys.{plain}
 use Rattle.sqlite_value.specs.Order.{Row, column, bytes}
 use Rattle.plant_types.specs.Tables.{put_row, remove_row, IsInOrder}
 use Rattle.plant_tables.specs.Kept.{taken_out, by_columns, plain_query, kept, is_of}
-use Rattle.plant_tables.specs.Shape.{Shape, table_in, row_in, IsRowIn, rows_in, rows_passing, seen, AreTables}
+use Rattle.plant_tables.specs.Shape.{Shape, table_in, row_in, IsRowIn, rows_in, rows_passing}
 use Rattle.plant_tables.specs.Tidy.{AreRows, AreApart, IsTidy}
-use Rattle.plant_tables.proofs.Changes.{HasNoReferences, KeepsOthers, replaces, deletes}
+use Rattle.plant_tables.proofs.Changes.{HasNoReferences, KeepsOthers, deletes}
 use Rattle.plant_tables.proofs.Keys.{HasKey, agree_is, by_columns_total}
 use Rattle.plant_tables.proofs.Kept.{all-kept, sort-filter}
-use Rattle.plant_tables.proofs.Laws.{put_by_key, removes, passes, shows, reads, one_answer}
+use Rattle.plant_tables.proofs.Laws.{removes, passes, shows, reads, one_answer}
 use Rattle.plant_tables.proofs.Shared.{tidy-put, tidy-out, put_mine, put_other, out_mine, out_other, in_order}
 
 -- what is to be shown of one shape
@@ -49,8 +41,7 @@ pub record IsShape {X K : Type 0} (s : Shape X K) : Type 0 where
   pub agrees : (id jd : Value) (u v : List ℕ) (x y : X) → s.order (s.key x) (s.key y) ≡ by_columns s.keys (row_in s id u x) (row_in s jd v y)
   -- no column of the key is NULL
   pub keyed : (id : Value) (u : List ℕ) (x : X) → HasKey (1 ∷ s.keys) (row_in s id u x)
-  -- no cell is mended or cast
-  pub mends : (u : List ℕ) (x : X) → mended Replace (table_in s) (row_in s Null u x) ≡ row_in s Null u x
+  -- no cell is cast
   pub fits : (u : List ℕ) (x : X) → cast_all s.columns (Text u ∷ s.cells x) ≡ Text u ∷ s.cells x
 
 -- the schema has the table, and no other uniqueness for it but its key's
@@ -83,14 +74,6 @@ module _ {X K : Type 0} (s : Shape X K) (good : IsShape s) where
   is_row id u x = ap (λ y. row_in s id u y) (sym (good.back id u x))
 
   module _ (schema : Schema) (free : HasNoReferences schema) (listed : IsListed schema s) where
-    pub puts_row : (text : List ℕ) (terms : List Term) (width : ℕ) → command_of (understood schema text) ≡ InsertOr s.place Replace (Values terms width) [] → IsPlain (understood schema text)
-        → (u : List ℕ) (x : X) → value_rows (stamped (table_in s) (Text u ∷ s.cells x)) width (length terms / width) terms ≡ row_in s Null u x ∷ []
-        → (old new : State) → old.now.schema ≡ schema → AreRows (old.now.trees s.tree) → (count : ℕ) → Executes text (Text u ∷ s.cells x) old new (Ok count) → PutsRow schema s u x old.now new.now
-    puts_row text terms width is plain_text u x values old new has are count h =
-        let it = replaces schema free s.name s.tree s.columns (1 ∷ s.keys) text (Text u ∷ s.cells x) old new s.place terms width (row_in s Null u x) has listed.at is plain_text values count h in
-        let done = put_by_key schema s.name s.tree s.columns (1 ∷ s.keys) (Text u ∷ s.cells x) old.now new.now are (good.mends u x) (good.fits u x) (λ id. good.keyed id u x) (listed.alone (Text u ∷ s.cells x)) it in
-        record { id = next_rowid (old.now.trees s.tree); rows = done.0; are = done.1; others = it.others; same_schema = it.same_schema }
-
     pub removes_row : (text : List ℕ) (tests : List Term) → command_of (understood schema text) ≡ Delete s.place (record { lets = []; body = plain_query (inner s.tree end) tests (col 1 0 ∷ []) [] }) → IsPlain (understood schema text)
         → (params : Row) (u : List ℕ) (x : X) → ((r : Row) → passes s.tree tests (col 1 0 ∷ []) [] params r ≡ agree plain (1 ∷ s.keys) r (1 ∷ s.keys) (row_in s Null u x))
         → (old new : State) → old.now.schema ≡ schema → AreRows (old.now.trees s.tree) → (count : ℕ) → Executes text params old new (Ok count) → RemovesRow schema s u x old.now new.now

@@ -1,26 +1,22 @@
 -- A table that all units share, seen by one unit. The unit is the first column of its key.
 use Rattle.std.proofs.Common.{◌≡◌, ◌≢◌, ℕ, Bool, true, false, not, ◌&&◌, List, [], ◌∷◌, ◌++◌, map, filter, refl, sym, ap, ◌∙◌, subst, Ordering, Less, Equal, Greater, is_eq, true≢false, nat_cmp}
 use Rattle.std.specs.List.{AllByRecursion}
-use Rattle.std.specs.Cmp.Lexicographic.{slice_cmp}
 use Rattle.std.specs.FinMap.{slice_cmp-IsAntisymmetric, nat_cmp-IsAntisymmetric}
 use Rattle.std.proofs.lemmas.Bool.{false_from_ne_true}
-use Rattle.std.proofs.lemmas.Cmp.{tied_itself, tied_back, alike_right}
-use Rattle.sqlite_keyed.proofs.ListLemmas.{all-filter, all-append, filter_same}
-use Rattle.sqlite_value.specs.declared.value.Value.{Value}
+use Rattle.std.proofs.lemmas.Cmp.{tied_itself, alike_right}
+use Rattle.sqlite_keyed.proofs.ListLemmas.{all-filter, all-append}
 use Rattle.sqlite_value.specs.declared.value.Value.TheVariants.{Text}
 use Rattle.sqlite_value.specs.Order.{Row, column, value_cmp}
 use Rattle.sqlite_value.proofs.OrderLemmas.{value_cmp_total, value_cmp-Text}
-use Rattle.plant_tables.specs.Kept.{taken_out, put_in, by_columns, kept, is_of}
+use Rattle.plant_tables.specs.Kept.{taken_out, by_columns, kept, is_of}
 use Rattle.std.specs.Cmp.{IsTotalOrder}
 use Rattle.sqlite_value.specs.Order.{bytes}
 use Rattle.sqlite_trees.specs.Tree.{IsAscending}
-use Rattle.sqlite_keyed.proofs.ListLemmas.{all_weaker, ascending-map}
-use Rattle.sqlite_keyed.specs.Lists.{sort_by}
 use Rattle.std.proofs.Common.{Less, T}
 use Rattle.plant_types.specs.Tables.{put_row, remove_row, IsInOrder}
-use Rattle.plant_tables.proofs.Bridge.{put_is, AreRising, IsInOrder-rising}
+use Rattle.plant_tables.proofs.Bridge.{put_is, IsInOrder-rising}
 use Rattle.plant_tables.proofs.Joins.{strict-sort}
-use Rattle.plant_tables.specs.Tidy.{AreRows, AreApart, IsTidy}
+use Rattle.plant_tables.specs.Tidy.{AreRows, IsTidy}
 use Rattle.plant_tables.proofs.Keys.{by_columns_total, then_tied}
 use Rattle.plant_tables.proofs.Kept.{kept-put, kept-put_other, kept-out, kept-out_other, no_ties-out, no_ties-put, all-kept, read-put, read-out}
 

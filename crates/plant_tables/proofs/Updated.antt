@@ -7,7 +7,7 @@ use Rattle.std.specs.Prelude.{length, nat_eq, unwrap_or}
 use Rattle.std.specs.List.{AllByRecursion}
 use Rattle.std.specs.Ordering.{match_ordering, ordering_reverse}
 use Rattle.std.proofs.lemmas.Bool.{false_from_ne_true}
-use Rattle.std.proofs.lemmas.Cmp.{alike_right, tied_back, tied_itself}
+use Rattle.std.proofs.lemmas.Cmp.{alike_right}
 use Rattle.sqlite.specs.Cast.{cast, cast_row}
 use Rattle.sqlite.specs.Command.TheVariants.{Update}
 use Rattle.sqlite.specs.Does.{Tally, Does, OnRows, AtPlace}
@@ -19,12 +19,12 @@ use Rattle.sqlite.specs.Order.{Row}
 use Rattle.sqlite.specs.Program.{overlay}
 use Rattle.sqlite.specs.Query.{Query, IsAnswer, Output, inner, end}
 use Rattle.sqlite.specs.Rowids.TheVariants.{Given}
-use Rattle.sqlite.specs.Rows.{Written, Task}
+use Rattle.sqlite.specs.Rows.{Written}
 use Rattle.sqlite.specs.Schema.{Schema}
 use Rattle.sqlite.specs.State.{State, mode_of, Executes}
 use Rattle.sqlite.specs.Table.{Table}
 use Rattle.sqlite.specs.Term.{Term}
-use Rattle.sqlite.specs.Tree.{Trees, rowid, put_row, IsTable, IsAscending}
+use Rattle.sqlite.specs.Tree.{Trees, rowid, put_row}
 use Rattle.sqlite.proofs.Callers.{IsPlain, command_of, statement_of, runs_as, one_permutation}
 use Rattle.sqlite_keyed.specs.Lists.{sort_by, insert_sorted}
 use Rattle.sqlite_keyed.proofs.ListLemmas.{all-filter, all_weaker, ascending-filter, filter_none, filter_same}
@@ -37,9 +37,8 @@ use Rattle.sqlite_rules.proofs.TableLemmas.{int_is}
 use Rattle.sqlite_trees.proofs.TreeLemmas.{IsTable-put_row, all-put_row}
 use Rattle.sqlite_trees.specs.View.{is_int}
 use Rattle.sqlite_value.specs.declared.value.Value.{Value}
-use Rattle.sqlite_value.specs.declared.value.Value.TheVariants.{Null, Int, Text}
+use Rattle.sqlite_value.specs.declared.value.Value.TheVariants.{Null}
 use Rattle.sqlite_value.specs.Order.{bytes, column, value_cmp}
-use Rattle.sqlite_value.specs.declared.keys.Key.{Key}
 use Rattle.plant_types.specs.Tables as model
 use Rattle.plant_tables.specs.Kept.{taken_out, by_columns, is_of, kept, plain_query}
 use Rattle.plant_tables.specs.Shape.{Shape, table_in, row_in, IsRowIn, rows_in}
