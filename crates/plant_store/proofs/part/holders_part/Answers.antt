@@ -1,4 +1,4 @@
-use Rattle.std.proofs.Common.{◌≡◌, ap, sym, ◌∙◌, subst, filter}
+use Rattle.std.proofs.Common.{◌≡◌, ap, sym, ◌∙◌, subst, true, ◌||◌, filter, rules}
 use Rattle.sqlite.specs.Effect.{Database}
 use Rattle.sqlite.specs.Held.{state}
 use Rattle.plant_books.specs.Contents.{rows_in}
@@ -6,9 +6,12 @@ use Rattle.plant_model.specs.Parts.{selected}
 use Rattle.plant_model.specs.declared.rows.BandRow.{BandRow}
 use Rattle.plant_model.specs.declared.rows.CellRow.{CellRow}
 use Rattle.plant_model.specs.declared.rows.ChangeEntry.{ChangeEntry}
+use Rattle.plant_model.specs.declared.rows.GrantRow.{GrantRow}
 use Rattle.plant_model.specs.declared.rows.RecordEntry.{RecordEntry}
+use Rattle.plant_types.specs.Names.{same_name}
+use Rattle.plant_store.specs.Keeping.{has_any}
 use Rattle.plant_columns.specs.Tables.{AreBooks, rows_seen}
-use Rattle.plant_columns.specs.Tables.Kept.{UnitKept, AlarmKept, ShelfKept, BandKept, CellKept, EventKept, RecordKept, ChangeKept}
+use Rattle.plant_columns.specs.Tables.Kept.{UnitKept, GrantKept, AlarmKept, ShelfKept, BandKept, CellKept, EventKept, RecordKept, ChangeKept}
 use Rattle.plant_store.specs.Wanted.{alarms_with, events_with, records_with, shelves_with}
 use Rattle.std.specs.List.{slice_get}
 use Rattle.plant_books.specs.Asking.{IsSeenIn, selection_by}
