@@ -163,16 +163,10 @@ fn read_as(rt: &impl Abort, alloc: Global, bytes: &[u8]) -> CallKind {
 fn reads_each_request(rt: HostRuntime) {
     for (target, body, kind) in POSTED.iter() {
         let bytes = posted(&rt, rt.alloc(), target, body);
-        assert!(rt;
-            read_as(&rt, rt.alloc(), &bytes) == *kind,
-            "{kind:?}"
-        );
+        assert!(rt; read_as(&rt, rt.alloc(), &bytes) == *kind, "{kind:?}");
     }
     for (bytes, kind) in QUESTIONS.iter() {
-        assert!(rt;
-            read_as(&rt, rt.alloc(), bytes) == *kind,
-            "{kind:?}"
-        );
+        assert!(rt; read_as(&rt, rt.alloc(), bytes) == *kind, "{kind:?}");
     }
 }
 
