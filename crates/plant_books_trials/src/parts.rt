@@ -185,7 +185,7 @@ fn gives_changes_with_what_they_are_of(rt: HostRuntime) {
     let one = part(&rt, alloc, &mut books, b"ann", change_asked(&rt, alloc));
     assert!(rt; records_in(&one) == Some([0, 1, 0, 1, 0]));
     let all = part(&rt, alloc, &mut books, b"ann", approval(&rt, alloc));
-    assert!(rt; records_in(&all) == Some([2, 2, 2, 3, 0]));
+    assert!(rt; records_in(&all) == Some([0, 2, 2, 3, 0]));
 }
 
 #[test]

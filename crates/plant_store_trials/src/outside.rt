@@ -25,7 +25,7 @@ enum Asked {
     Record,
     /// What a call looks at that reads the change 2 with its matrix.
     Change,
-    /// What a call looks at that reads all alarms, all records with their changes, and the matrix in force.
+    /// What a call looks at that reads the matrix change 2, all records with their changes, and the matrix in force.
     Approval,
     Held,
     MineUnits,
@@ -67,13 +67,7 @@ const OF_ANN: [Asked; 9] = [
     Asked::MineUnits,
 ];
 
-const OF_ALARMS: [Asked; 5] = [
-    Asked::Rows,
-    Asked::Status,
-    Asked::Shelves,
-    Asked::Record,
-    Asked::Approval,
-];
+const OF_ALARMS: [Asked; 4] = [Asked::Rows, Asked::Status, Asked::Shelves, Asked::Record];
 
 const OF_SHELVES: [Asked; 3] = [Asked::Rows, Asked::Status, Asked::Shelves];
 
@@ -140,11 +134,11 @@ const OUTSIDE: [(&str, &[Asked]); 49] = [
     // a tag
     (
         "UPDATE alarms SET tag = 'pt-101' WHERE tag = 'PT-101'",
-        &[Asked::Rows, Asked::Shelves, Asked::Approval],
+        &[Asked::Rows, Asked::Shelves],
     ),
     (
         "UPDATE alarms SET tag = '' WHERE tag = 'LT-2'",
-        &[Asked::Rows, Asked::Shelves, Asked::Approval],
+        &[Asked::Rows, Asked::Shelves],
     ),
     (
         "UPDATE shelves SET tag = 'A-TAG-OF-TWENTY-FIVE.BYTES'",
@@ -246,7 +240,7 @@ fn request(rt: &impl Abort, alloc: Global, asked: Asked) -> Request {
         Asked::Status => Request::Status { unit, tag },
         Asked::Record => Request::RecordOf { unit, tag },
         Asked::Change => Request::ChangeOf { unit, number: 2 },
-        Asked::Approval => Request::Approve { unit, number: 4 },
+        Asked::Approval => Request::Approve { unit, number: 2 },
         Asked::Withdrawal => Request::Withdraw {
             unit,
             person: person(rt, alloc, b"ann"),

@@ -67,12 +67,30 @@ fn are_three_changes(changes: &[ChangeEntry]) -> bool {
 }
 
 #[test]
-fn gives_an_approval_its_matrices_and_the_changes_of_records(rt: HostRuntime) {
+fn gives_an_approval_of_a_matrix_both_matrices_and_the_changes_of_records(rt: HostRuntime) {
     let unit = unit(&rt, rt.alloc(), b"U1");
     let part = part(&rt, rt.alloc(), Request::Approve { unit, number: 2 });
-    assert!(rt; counts(&part.rows) == [1, 2, 2, 0, 0, 2, 3, 2, 3]);
+    assert!(rt; counts(&part.rows) == [1, 2, 0, 0, 0, 2, 3, 2, 3]);
     assert!(rt; are_three_changes(part.rows.changes.as_slice()));
     assert!(rt; are_both_bands(part.rows.bands.as_slice()));
+}
+
+#[test]
+fn gives_an_approval_of_a_record_and_of_a_limit_their_alarm(rt: HostRuntime) {
+    let record = Request::Approve {
+        unit: unit(&rt, rt.alloc(), b"U1"),
+        number: 3,
+    };
+    let part_of_record = part(&rt, rt.alloc(), record);
+    assert!(rt; counts(&part_of_record.rows) == [1, 2, 1, 0, 0, 1, 2, 1, 1]);
+    assert!(rt; is_change(part_of_record.rows.changes.as_slice(), 3));
+    let limit = Request::Approve {
+        unit: unit(&rt, rt.alloc(), b"U1"),
+        number: 4,
+    };
+    let part_of_limit = part(&rt, rt.alloc(), limit);
+    assert!(rt; counts(&part_of_limit.rows) == [1, 2, 1, 0, 0, 1, 2, 1, 1]);
+    assert!(rt; is_change(part_of_limit.rows.changes.as_slice(), 4));
 }
 
 /// Whether there is one change, of this number.
