@@ -29,7 +29,7 @@ use crate::read::{
 use crate::unit::has_row;
 use plant_alarm::Event;
 use plant_books::{
-    Scope, Wanted, events_asked, holds_some_by, is_crowded, is_shelving, number_approved,
+    Scope, Wanted, WantedEvents, events_asked, holds_some_by, is_crowded, is_shelving, number_approved,
     part_of_grants, scope_of, wanted_alarms, wanted_events, wanted_records, wanted_shelves,
     wants_all_grants,
 };
@@ -150,11 +150,15 @@ fn looks_at_events(request: &Request) -> bool
     matches!(request.kind(), CallKind::Import | CallKind::Floods)
 }
 
-/// Of the unit's events, which stand in rising number, those that the scope takes in.
-fn events_for(alloc: Global, events: &Table<Event>, scope: Scope<'_>) -> Result<Table<Event>, Error>
-    ensures { IsInOrder nat_cmp event_number events.now → IfOk result (λ asked. (rows : Rows) → asked ≡ (selection_by rows scope.entry).events events.now) }
+/// Of the unit's events, which stand in rising number, those that the scope takes in. All of them are not copied.
+fn events_for(alloc: Global, events: Table<Event>, scope: Scope<'_>) -> Result<Table<Event>, Error>
+    ensures { IsInOrder nat_cmp event_number events → IfOk result (λ asked. (rows : Rows) → asked ≡ (selection_by rows scope.entry).events events) }
 {
-    match events_asked(alloc, events, wanted_events(scope)) {
+    let wanted = wanted_events(scope);
+    if matches!(wanted, WantedEvents::Every) {
+        return Ok(events);
+    }
+    match events_asked(alloc, &events, wanted) {
         Ok(asked) => Ok(asked),
         Err(_) => Err(Error::SqliteFailure(ErrorCode::OutOfMemory)),
     }
@@ -250,13 +254,13 @@ fn holders_part<S: Alter>(
     let shelves = some_shelves(alloc, conn, unit, shelved)?;
     let told = looks_at_events(request);
     let all_events = some_events(alloc, conn, unit, told)?;
-    let events = events_for(alloc, &all_events, scope)?;
     let recorded = wanted_records(scope);
     let records = some_records(alloc, conn, unit, recorded)?;
     let bands = some_bands(alloc, conn, unit, &units, scope)?;
     let cells = some_cells(alloc, conn, unit, &units, scope)?;
     let changes = some_changes(alloc, conn, unit, &records, scope)?;
     let count = count_for(conn, unit, request, &all_events)?;
+    let events = events_for(alloc, all_events, scope)?;
     Ok(UnitPart {
         rows: UnitRows {
             units,
