@@ -1,9 +1,10 @@
 -- Calls on changes: what a decision makes.
 use Rattle.std.proofs.Common.{ap, refl, subst, sym, ◌∙◌}
-use Rattle.std.specs.Prelude.{Bool, Err, IfOk, List, None, Ok, Option, Result, Some, [], false, if◌then◌else◌, is_ok, true, ℕ, ◌&&◌, ◌∷◌, ◌≡◌}
+use Rattle.std.specs.Prelude.{Bool, Err, IfOk, List, None, Ok, Option, Result, Some, [], false, if◌then◌else◌, is_ok, option_map, true, ℕ, ◌&&◌, ◌∷◌, ◌≡◌}
 use Rattle.plant_model.specs.Facts.{Facts}
 use Rattle.plant_model.specs.Refusals.{first_refusal, kind_refusals, of_change, own_refusals}
 use Rattle.plant_model.specs.RowChanges.{approval_changes, approved_row, changes_for, decision_change, for_change, in_force, kind_row}
+use Rattle.plant_model.specs.RowFacts.{change_found, change_number, change_read}
 use Rattle.plant_model.specs.Rows.{change_entry}
 use Rattle.plant_model.specs.Verdicts.{refused_or}
 use Rattle.plant_model.specs.declared.call.Call.{Call}
@@ -18,12 +19,34 @@ use Rattle.plant_model.specs.declared.rows.Change.TheVariants.{Put}
 use Rattle.plant_model.specs.declared.rows.Change.{Change}
 use Rattle.plant_model.specs.declared.rows.ChangeEntry.{ChangeEntry}
 use Rattle.plant_model.specs.declared.rows.Row.TheVariants.{Change as ChangePut, Unit as UnitPut}
+use Rattle.plant_model.specs.declared.rows.UnitPart.{UnitPart}
+use Rattle.plant_model.specs.declared.rows.UnitRows.{UnitRows}
 use Rattle.plant_model.specs.declared.rows.Verdict.{Verdict}
 use Rattle.plant_ration.specs.declared.change.ChangeState.TheVariants.{Approved}
 use Rattle.plant_ration.specs.declared.change.ChangeState.{ChangeState}
 use Rattle.plant_types.specs.Names.{Name, same_name}
+use Rattle.plant_types.specs.Options.{when}
+use Rattle.plant_types.specs.Tables.{row_at}
 use Rattle.plant_unit.proofs.ProposalLaws.{not_rejected}
+use Rattle.plant_unit.specs.Additions.{AreKept}
+use Rattle.plant_unit.specs.Readings.{change_whole, has_kind}
+use Rattle.std.specs.Ordering.{nat_cmp}
 use Rattle.plant_unit.specs.Judged.{IsApproved, IsJudgedOwn, changes_or, decided_row, own_answer}
+
+-- the row of a change that was found, and the change that is read from it
+pub found_there : (rows : UnitRows) (n : ℕ) (changes : List ChangeEntry) (found : Option ChangeEntry) (e : ChangeEntry) → found ≡ Some e → found ≡ row_at nat_cmp change_number n changes → changes ≡ rows.changes → Some e ≡ change_found rows n
+found_there rows n changes found e is at same = sym is ∙ at ∙ ap (row_at nat_cmp change_number n) same
+
+pub change_there : (rows : UnitRows) (n : ℕ) (e : ChangeEntry) → Some e ≡ change_found rows n → Some (change_read rows e) ≡ option_map (change_read rows) (change_found rows n)
+change_there rows n e found = ap (option_map (change_read rows)) found
+
+when_true : {A : Type 0} (b : Bool) (x y : A) → b ≡ true → Some x ≡ when b y → x ≡ y
+when_true true x y e is = cc
+when_true false x y e is = cc
+
+-- in a legal history all of a change is there
+pub whole_read : {part : UnitPart} (n : ℕ) (e : ChangeEntry) (c : ChangeRow) → AreKept part → Some e ≡ change_found part.rows n → Some c ≡ change_whole part.rows e → c ≡ change_read part.rows e
+whole_read {part} n e c kept found is = when_true (has_kind part.rows e e.kind_no) c (change_read part.rows e) (kept.changes_whole n e (sym found)) is
 
 -- a decision on a change that is there
 pub refused_change : (o : Option ChangeRow) (c : ChangeRow) → Some c ≡ o → (k : ChangeRow → List (Bool × Refused)) (made : ChangeRow → List Change) (x : Refused) → Some x ≡ first_refusal (of_change (Some c) k)
@@ -35,6 +58,9 @@ pub decided_change : (o : Option ChangeRow) (c : ChangeRow) (e : ChangeEntry) �
 decided_change o c e there kept k s p t put is none =
     (λ i. Ok (is i ∷ [])) ∙ (λ i. Ok (Put (ChangePut (decided_row s p t (sym kept i))) ∷ [])) ∙ ap (λ r. changes_or r (decision_change s p t c ∷ [])) none
     ∙ (λ i. changes_or (first_refusal (of_change (there i) k)) (for_change (there i) (λ x. decision_change s p t x ∷ [])))
+
+pub refused_there : (o : Option ChangeRow) (c : ChangeRow) → Some c ≡ o → (p : Name) (x : Refused) → Some x ≡ first_refusal (of_change (Some c) (λ y. (same_name p y.proposer, SamePerson) ∷ [])) → Some x ≡ first_refusal (of_change o (λ y. (same_name p y.proposer, SamePerson) ∷ []))
+refused_there o c there p x is = is ∙ ap (λ z. first_refusal (of_change z (λ y. (same_name p y.proposer, SamePerson) ∷ []))) there
 
 -- an approval
 same_if : (b : Bool) (cs : List Change) → (if b then cs else []) ≡ (if b && true then cs else [])

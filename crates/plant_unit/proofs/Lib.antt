@@ -11,4 +11,3 @@ pub mod ReadingLaws
 pub mod ProposalLaws
 pub mod DecisionLaws
 pub mod VerdictLaws
-pub mod ShelvingLaws

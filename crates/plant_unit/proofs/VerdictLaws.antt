@@ -79,3 +79,13 @@ read_for f c r is reads answer (Err e) said v = tt
 read_for f c r is reads (Err e) (Ok x) said v = absurd v
 read_for f c r is reads (Ok a) (Ok x) said v =
     subst (λ (w : Verdict). IsJudgedOwn f c w) (sym v) (read_own f c a (ap (λ q. is_read q) is ∙ reads) (said ∙ ap (λ q. own_answer f c.person c.moment q) (sym is)))
+
+-- the same of a request that is known
+pub refused_for : (f : Facts) (c : Call) (r : Request) → c.request ≡ r → (x : Refused) → Some x ≡ first_refusal (own_refusals f c.person c.moment r) → IsJudgedOwn f c (IsRefused x)
+refused_for f c r is x refused = refused_own f c x (ap (λ q. first_refusal (own_refusals f c.person c.moment q)) is ∙ sym refused)
+
+pub made_for : (f : Facts) (c : Call) (r : Request) → c.request ≡ r → (said : Reply) (cs : List Change) → None ≡ first_refusal (own_refusals f c.person c.moment r) → said ≡ reply f c.moment r → is_read r ≡ false
+    → cs ≡ Put (UnitPut (unit_after f c.moment r)) ∷ own_changes f c.person c.moment r → IsJudgedOwn f c (IsAccepted said cs)
+made_for f c r is said cs none says changing made =
+    made_own f c said cs (ap (λ q. first_refusal (own_refusals f c.person c.moment q)) is ∙ sym none) (says ∙ ap (λ q. reply f c.moment q) (sym is)) (ap (λ q. is_read q) is ∙ changing)
+    (made ∙ ap (λ q. Put (UnitPut (unit_after f c.moment q)) ∷ own_changes f c.person c.moment q) (sym is))

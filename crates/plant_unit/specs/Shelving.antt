@@ -1,5 +1,5 @@
 -- What shelving an alarm changes, and by which result name it is refused (OPC 10000-9).
-use Rattle.std.specs.Prelude.{Err, List, Ok, Result, false, true}
+use Rattle.std.specs.Prelude.{false, true}
 use Rattle.plant_alarm.specs.declared.shelf.Shelf.{Shelf}
 use Rattle.plant_alarm.specs.declared.shelf.Shelf.TheVariants.{Clear, OneShot, Timed}
 use Rattle.plant_alarm.specs.declared.shelf.ShelfRefused.{ShelfRefused}
@@ -23,8 +23,3 @@ abbrev pub shelf_change : Name → Name → Name → Shelf → Change
 shelf_change a p words Clear = Remove (ShelfKey a)
 shelf_change a p words (Timed start until) = Put (ShelfPut (shelf_row_as false start until p words a))
 shelf_change a p words (OneShot start until) = Put (ShelfPut (shelf_row_as true start until p words a))
-
--- a refusal of shelving, or what follows for the shelf
-abbrev pub after_shelf : Result Shelf ShelfRefused → (Shelf → Result (List Change) Refused) → Result (List Change) Refused
-after_shelf (Err refused) next = Err (refusal_of refused)
-after_shelf (Ok shelf) next = next shelf

@@ -43,7 +43,12 @@ fn judge_own(alloc: Global, unit: &UnitRow, part: &UnitPart, call: &Call) -> Res
             latching,
             max,
             ..
-        } => done(alloc, unit, now, register(alloc, part, tag, *latching, *max)),
+        } => done(
+            alloc,
+            unit,
+            now,
+            register(alloc, part, tag, *latching, *max),
+        ),
         Request::TimedShelve {
             tag,
             seconds,
@@ -67,7 +72,12 @@ fn judge_own(alloc: Global, unit: &UnitRow, part: &UnitPart, call: &Call) -> Res
         }
         Request::Propose { proposal, .. } => propose(alloc, unit, part, call, proposal),
         Request::WithdrawChange { number, .. } => {
-            done(alloc, unit, now, withdraw_change(alloc, part, call, *number))
+            done(
+                alloc,
+                unit,
+                now,
+                withdraw_change(alloc, part, call, *number),
+            )
         }
         Request::Approve { number, .. } => approve(alloc, unit, part, call, *number),
         Request::Reject { number, .. } => {
@@ -82,9 +92,8 @@ fn judge_own(alloc: Global, unit: &UnitRow, part: &UnitPart, call: &Call) -> Res
         Request::Floods { unit, begin, until } => {
             answered(alloc, floods(alloc, part, unit, *begin, *until))
         }
-        Request::OpenUnit { .. } | Request::Import { .. } | Request::MyUnits | Request::MyShelves => {
-            answered(alloc, Ok(Ok(Reply::Done)))
-        }
+        Request::OpenUnit { .. } | Request::Import { .. } | Request::MyUnits | Request::MyShelves =>
+            { answered(alloc, Ok(Ok(Reply::Done))) }
     }
 }
 

@@ -266,11 +266,7 @@ pub fn floods(
 }
 
 /// The record of an alarm.
-pub fn record(
-    alloc: Global,
-    part: &UnitPart,
-    tag: &Tag,
-) -> Result<Result<Reply, Refused>, Fault>
+pub fn record(alloc: Global, part: &UnitPart, tag: &Tag) -> Result<Result<Reply, Refused>, Fault>
     ensures value { AreKept part.now → (t : ℕ) (p u : Name) → IfOk result (λ a. a ≡ own_answer (facts_in part.now) p t (RecordCall u tag.now)) }
     ensures err { IfErr result (λ e. e ≡ Memory) }
 {
@@ -284,11 +280,7 @@ pub fn record(
 }
 
 /// The change of a number.
-pub fn change(
-    alloc: Global,
-    part: &UnitPart,
-    number: u32,
-) -> Result<Result<Reply, Refused>, Fault>
+pub fn change(alloc: Global, part: &UnitPart, number: u32) -> Result<Result<Reply, Refused>, Fault>
     ensures value { AreKept part.now → (t : ℕ) (p u : Name) → IfOk result (λ a. a ≡ own_answer (facts_in part.now) p t (ChangeCall u number)) }
     ensures err { IfErr result (λ e. e ≡ Memory) }
 {
