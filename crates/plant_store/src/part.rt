@@ -23,8 +23,8 @@ ghost use Rattle.plant_store.specs.Wanted.{alarms_with, events_with, records_wit
 
 use crate::numbers::{some_bands, some_cells, some_changes};
 use crate::read::{
-    alarm_at, alarms_of, change_at, count_of_alarms, count_of_shelves, events_of, grants_of,
-    last_change_number, own_grants, record_at, records_of, shelf_at, shelves_of, units_of,
+    all_rows, count_of_alarms, count_of_shelves, last_change_number, own_grants, row_of_tag,
+    rows_of_number,
 };
 use crate::unit::has_row;
 use plant_alarm::Event;
@@ -57,7 +57,7 @@ pub fn some_grants<S: Alter>(
     ensures told { CanTell (state S.Store conn.new) → CanTell (state S.Store conn.old) }
 {
     if all {
-        grants_of(alloc, conn, unit)
+        all_rows(alloc, conn, unit)
     } else {
         Ok(own)
     }
@@ -78,8 +78,8 @@ pub fn some_alarms<S: Alter>(
 {
     match wanted {
         Wanted::Nothing => Ok(Table::new(alloc)),
-        Wanted::One(tag) => alarm_at(alloc, conn, unit, tag),
-        Wanted::Every => alarms_of(alloc, conn, unit),
+        Wanted::One(tag) => row_of_tag::<AlarmRow, S>(alloc, conn, unit, tag),
+        Wanted::Every => all_rows(alloc, conn, unit),
     }
 }
 
@@ -98,8 +98,8 @@ pub fn some_shelves<S: Alter>(
 {
     match wanted {
         Wanted::Nothing => Ok(Table::new(alloc)),
-        Wanted::One(tag) => shelf_at(alloc, conn, unit, tag),
-        Wanted::Every => shelves_of(alloc, conn, unit),
+        Wanted::One(tag) => row_of_tag::<ShelfRow, S>(alloc, conn, unit, tag),
+        Wanted::Every => all_rows(alloc, conn, unit),
     }
 }
 
@@ -118,8 +118,8 @@ pub fn some_records<S: Alter>(
 {
     match wanted {
         Wanted::Nothing => Ok(Table::new(alloc)),
-        Wanted::One(tag) => record_at(alloc, conn, unit, tag),
-        Wanted::Every => records_of(alloc, conn, unit),
+        Wanted::One(tag) => row_of_tag::<RecordEntry, S>(alloc, conn, unit, tag),
+        Wanted::Every => all_rows(alloc, conn, unit),
     }
 }
 
@@ -137,7 +137,7 @@ pub fn some_events<S: Alter>(
     ensures told { CanTell (state S.Store conn.new) → CanTell (state S.Store conn.old) }
 {
     if wanted {
-        events_of(alloc, conn, unit)
+        all_rows(alloc, conn, unit)
     } else {
         Ok(Table::new(alloc))
     }
@@ -220,7 +220,7 @@ fn approved_for<S: Alter>(
     ensures told { CanTell (state S.Store conn.new) → CanTell (state S.Store conn.old) }
 {
     match number_approved(request) {
-        Some(number) => change_at(alloc, conn, unit, number),
+        Some(number) => rows_of_number(alloc, conn, unit, number),
         None => Ok(Table::new(alloc)),
     }
 }
@@ -291,7 +291,7 @@ fn unit_part<S: Alter>(
     ensures same { CanTell (state S.Store conn.new) → AreBooks (state S.Store conn.old).now → (state S.Store conn.new).now ≡ (state S.Store conn.old).now }
     ensures told { CanTell (state S.Store conn.new) → CanTell (state S.Store conn.old) }
 {
-    let units = units_of(alloc, conn, unit)?;
+    let units = all_rows(alloc, conn, unit)?;
     if !has_row(&units) {
         return Ok(None);
     }

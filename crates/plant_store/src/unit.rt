@@ -8,10 +8,7 @@ ghost use Rattle.plant_store.specs.Changes.{CanTell};
 ghost use Rattle.plant_store.specs.Keeping.{KeepsIn, has_any};
 ghost use Rattle.plant_columns.specs.Tables.{AreBooks};
 
-use crate::read::{
-    alarms_of, bands_of, cells_of, changes_of, events_of, grants_of, records_of, shelves_of,
-    units_of,
-};
+use crate::read::all_rows;
 use plant_model::{UnitRow, UnitRows};
 use plant_types::{Table, UnitCode};
 use sqlite::{Alter, Connection, Error};
@@ -36,7 +33,7 @@ pub fn taken<S: Alter>(
     ensures same { CanTell (state S.Store conn.new) → AreBooks (state S.Store conn.old).now → (state S.Store conn.new).now ≡ (state S.Store conn.old).now }
     ensures told { CanTell (state S.Store conn.new) → CanTell (state S.Store conn.old) }
 {
-    let units = units_of(alloc, conn, unit)?;
+    let units = all_rows(alloc, conn, unit)?;
     Ok(has_row(&units))
 }
 
@@ -52,18 +49,18 @@ pub fn rows_of<S: Alter>(
     ensures same { CanTell (state S.Store conn.new) → AreBooks (state S.Store conn.old).now → (state S.Store conn.new).now ≡ (state S.Store conn.old).now }
     ensures told { CanTell (state S.Store conn.new) → CanTell (state S.Store conn.old) }
 {
-    let units = units_of(alloc, conn, unit)?;
+    let units = all_rows(alloc, conn, unit)?;
     if !has_row(&units) {
         return Ok(None);
     }
-    let grants = grants_of(alloc, conn, unit)?;
-    let alarms = alarms_of(alloc, conn, unit)?;
-    let shelves = shelves_of(alloc, conn, unit)?;
-    let bands = bands_of(alloc, conn, unit)?;
-    let cells = cells_of(alloc, conn, unit)?;
-    let events = events_of(alloc, conn, unit)?;
-    let records = records_of(alloc, conn, unit)?;
-    let changes = changes_of(alloc, conn, unit)?;
+    let grants = all_rows(alloc, conn, unit)?;
+    let alarms = all_rows(alloc, conn, unit)?;
+    let shelves = all_rows(alloc, conn, unit)?;
+    let bands = all_rows(alloc, conn, unit)?;
+    let cells = all_rows(alloc, conn, unit)?;
+    let events = all_rows(alloc, conn, unit)?;
+    let records = all_rows(alloc, conn, unit)?;
+    let changes = all_rows(alloc, conn, unit)?;
     Ok(Some(UnitRows {
         units,
         grants,
