@@ -8,14 +8,13 @@ ghost use Rattle.plant_model.specs.Worlds.{unit_named};
 ghost use Rattle.plant_types.specs.Names.{same_name};
 ghost use Rattle.plant_model.specs.declared.rows.UnitRows.{UnitRows as Rows};
 ghost use Rattle.plant_types.specs.Names.{Name};
-ghost use Rattle.plant_books.specs.Asking.{is_shelving as is_shelving_by, number_approved as number_approved_by, selection_by};
+ghost use Rattle.plant_books.specs.Asking.{is_shelving as is_shelving_by, looks_at_events as looks_at_events_by, number_approved as number_approved_by, selection_by};
 ghost use Rattle.plant_model.specs.Histories.{same_number};
 ghost use Rattle.plant_books.specs.Contents.{Content, part_in, rows_in};
 ghost use Rattle.plant_store.specs.Changes.{CanTell};
 ghost use Rattle.plant_store.specs.Keeping.{KeepsIn};
 ghost use Rattle.plant_columns.specs.Tables.{AreBooks, rows_seen};
 ghost use Rattle.plant_columns.specs.Tables.Kept.{UnitKept, GrantKept, AlarmKept, ShelfKept, EventKept, RecordKept, ChangeKept};
-ghost use Rattle.plant_store.specs.Wanted as wanted;
 ghost use Rattle.plant_model.specs.RowFacts.{event_number};
 ghost use Rattle.plant_types.specs.Tables.{IsInOrder};
 ghost use Rattle.std.specs.Ordering.{nat_cmp};
@@ -29,13 +28,13 @@ use crate::read::{
 use crate::unit::has_row;
 use plant_alarm::Event;
 use plant_books::{
-    Scope, Wanted, WantedEvents, events_asked, holds_some_by, is_crowded, is_shelving, number_approved,
-    part_of_grants, scope_of, wanted_alarms, wanted_events, wanted_records, wanted_shelves,
-    wants_all_grants,
+    Scope, Wanted, WantedEvents, events_asked, holds_some_by, is_crowded, is_shelving,
+    looks_at_events, number_approved, part_of_grants, scope_of, wanted_alarms, wanted_events,
+    wanted_records, wanted_shelves, wants_all_grants,
 };
 use plant_model::{
-    AlarmRow, Call, CallKind, ChangeEntry, Counted, GrantRow, RecordEntry, Request, ShelfRow,
-    UnitPart, UnitRow, UnitRows,
+    AlarmRow, Call, ChangeEntry, Counted, GrantRow, RecordEntry, Request, ShelfRow, UnitPart,
+    UnitRow, UnitRows,
 };
 use plant_types::{Table, UnitCode};
 use sqlite::{Alter, Connection, Error, ErrorCode};
@@ -143,13 +142,6 @@ pub fn some_events<S: Alter>(
     }
 }
 
-/// Whether the request looks at the unit's events.
-fn looks_at_events(request: &Request) -> bool
-    ensures { result ≡ wanted.looks_at_events request.now }
-{
-    matches!(request.kind(), CallKind::Import | CallKind::Floods)
-}
-
 /// Of the unit's events, which stand in rising number, those that the scope takes in. All of them are not copied.
 fn events_for(alloc: Global, events: Table<Event>, scope: Scope<'_>) -> Result<Table<Event>, Error>
     ensures { IsInOrder nat_cmp event_number events → IfOk result (λ asked. (rows : Rows) → asked ≡ (selection_by rows scope.entry).events events) }
@@ -174,7 +166,7 @@ fn count_for<S: Alter>(
 ) -> Result<u64, Error>
     requires { conn.old.in_transaction ≡ false }
     ensures mode { conn.new.in_transaction ≡ false }
-    ensures rows { HasCleanDisk (state S.Store conn.new) → AreBooks (state S.Store conn.old).now → IfOk result (λ n. (rows : Rows) → rows.alarms ≡ rows_seen unit.now (state S.Store conn.old).now.trees AlarmKept → rows.changes ≡ rows_seen unit.now (state S.Store conn.old).now.trees ChangeKept → (wanted.looks_at_events request.now ≡ true → rows.events ≡ events.now) → n ≡ counted_for rows request.now) }
+    ensures rows { HasCleanDisk (state S.Store conn.new) → AreBooks (state S.Store conn.old).now → IfOk result (λ n. (rows : Rows) → rows.alarms ≡ rows_seen unit.now (state S.Store conn.old).now.trees AlarmKept → rows.changes ≡ rows_seen unit.now (state S.Store conn.old).now.trees ChangeKept → (looks_at_events_by request.now ≡ true → rows.events ≡ events.now) → n ≡ counted_for rows request.now) }
     ensures same { CanTell (state S.Store conn.new) → AreBooks (state S.Store conn.old).now → (state S.Store conn.new).now ≡ (state S.Store conn.old).now }
     ensures told { CanTell (state S.Store conn.new) → CanTell (state S.Store conn.old) }
 {

@@ -1,14 +1,16 @@
-//! The rows of one unit: all of them, or the part that a call looks at.
+//! The rows of one unit: all of them, or all but its events, or its events alone.
 
 ghost use Rattle.std.specs.FinMap.{contains_key, get};
 ghost use Rattle.std.specs.Prelude.{◌≡◌, ℕ, false, IfOk};
 ghost use Rattle.sqlite.specs.Held.{state};
-ghost use Rattle.plant_books.specs.Contents.{Content};
+ghost use Rattle.plant_books.specs.Contents as contents;
+ghost use Rattle.plant_books.specs.Contents.{Content, events_in};
 ghost use Rattle.plant_store.specs.Changes.{CanTell};
 ghost use Rattle.plant_store.specs.Keeping.{KeepsIn, has_any};
 ghost use Rattle.plant_columns.specs.Tables.{AreBooks};
 
 use crate::read::all_rows;
+use plant_alarm::Event;
 use plant_model::{UnitRow, UnitRows};
 use plant_types::{Table, UnitCode};
 use sqlite::{Alter, Connection, Error};
@@ -37,15 +39,15 @@ pub fn taken<S: Alter>(
     Ok(has_row(&units))
 }
 
-/// All rows of the unit, where it was opened.
-pub fn rows_of<S: Alter>(
+/// All rows of the unit but its events, where it was opened.
+pub fn rows_but_events<S: Alter>(
     alloc: Global,
     conn: &mut Connection<S>,
     unit: &UnitCode,
 ) -> Result<Option<UnitRows>, Error>
     requires { conn.old.in_transaction ≡ false }
     ensures mode { conn.new.in_transaction ≡ false }
-    ensures found { CanTell (state S.Store conn.new) → (m : Content) → KeepsIn (state S.Store conn.old) m → IfOk result (λ rows. rows ≡ get m.units unit.now) }
+    ensures found { CanTell (state S.Store conn.new) → (m : Content) → KeepsIn (state S.Store conn.old) m → IfOk result (λ rows. rows ≡ contents.rows_but_events m unit.now) }
     ensures same { CanTell (state S.Store conn.new) → AreBooks (state S.Store conn.old).now → (state S.Store conn.new).now ≡ (state S.Store conn.old).now }
     ensures told { CanTell (state S.Store conn.new) → CanTell (state S.Store conn.old) }
 {
@@ -58,7 +60,6 @@ pub fn rows_of<S: Alter>(
     let shelves = all_rows(alloc, conn, unit)?;
     let bands = all_rows(alloc, conn, unit)?;
     let cells = all_rows(alloc, conn, unit)?;
-    let events = all_rows(alloc, conn, unit)?;
     let records = all_rows(alloc, conn, unit)?;
     let changes = all_rows(alloc, conn, unit)?;
     Ok(Some(UnitRows {
@@ -66,10 +67,46 @@ pub fn rows_of<S: Alter>(
         grants,
         alarms,
         shelves,
-        events,
+        events: Table::new(alloc),
         bands,
         cells,
         records,
         changes,
     }))
+}
+
+/// All events of the unit, none where it was never opened.
+pub fn events<S: Alter>(
+    alloc: Global,
+    conn: &mut Connection<S>,
+    unit: &UnitCode,
+) -> Result<Table<Event>, Error>
+    requires { conn.old.in_transaction ≡ false }
+    ensures mode { conn.new.in_transaction ≡ false }
+    ensures found { CanTell (state S.Store conn.new) → (m : Content) → KeepsIn (state S.Store conn.old) m → IfOk result (λ events. events ≡ events_in m unit.now) }
+    ensures same { CanTell (state S.Store conn.new) → AreBooks (state S.Store conn.old).now → (state S.Store conn.new).now ≡ (state S.Store conn.old).now }
+    ensures told { CanTell (state S.Store conn.new) → CanTell (state S.Store conn.old) }
+{
+    all_rows(alloc, conn, unit)
+}
+
+/// All rows of the unit, where it was opened.
+pub fn rows_of<S: Alter>(
+    alloc: Global,
+    conn: &mut Connection<S>,
+    unit: &UnitCode,
+) -> Result<Option<UnitRows>, Error>
+    requires { conn.old.in_transaction ≡ false }
+    ensures mode { conn.new.in_transaction ≡ false }
+    ensures found { CanTell (state S.Store conn.new) → (m : Content) → KeepsIn (state S.Store conn.old) m → IfOk result (λ rows. rows ≡ get m.units unit.now) }
+    ensures same { CanTell (state S.Store conn.new) → AreBooks (state S.Store conn.old).now → (state S.Store conn.new).now ≡ (state S.Store conn.old).now }
+    ensures told { CanTell (state S.Store conn.new) → CanTell (state S.Store conn.old) }
+{
+    match rows_but_events(alloc, conn, unit)? {
+        None => Ok(None),
+        Some(rows) => {
+            let events = events(alloc, conn, unit)?;
+            Ok(Some(UnitRows { events, ..rows }))
+        }
+    }
 }

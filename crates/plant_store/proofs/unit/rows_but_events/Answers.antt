@@ -1,11 +1,14 @@
-use Rattle.std.proofs.Common.{◌≡◌, List, ap, sym, ◌∙◌, subst, true, rules}
+use Rattle.std.proofs.Common.{◌≡◌, List, Some, ap, refl, sym, ◌∙◌, subst, true, rules}
+use Rattle.std.specs.FinMap.{get}
+use Rattle.std.specs.Prelude.{option_map}
 use Rattle.sqlite.specs.Effect.{Database}
 use Rattle.sqlite.specs.Held.{state}
+use Rattle.plant_books.specs.Contents.{without_events}
 use Rattle.plant_columns.specs.Tables.{AreBooks, AreSeen, rows_seen}
 use Rattle.plant_columns.specs.Tables.Kept.{UnitKept, GrantKept, AlarmKept, ShelfKept, BandKept, CellKept, EventKept, RecordKept, ChangeKept}
 use Rattle.plant_model.specs.declared.rows.UnitRows.{UnitRows}
 use Rattle.plant_store.proofs.Contents.{none_found, whole_found}
-use Rattle.plant_store.proofs.unit.rows_of.Goals as goal
+use Rattle.plant_store.proofs.unit.rows_but_events.Goals as goal
 
 -- each list was seen in a database that is the first one
 all_seen : (u : List Rattle.std.proofs.Common.ℕ) (db : Database) (rows : UnitRows) → rows.units ≡ rows_seen u db.trees UnitKept → rows.grants ≡ rows_seen u db.trees GrantKept → rows.alarms ≡ rows_seen u db.trees AlarmKept
@@ -23,7 +26,7 @@ all_seen u db rows a b c d e f h i j ChangeKept = sym j
 
 pub returns-then-not-has_row-clause-found : goal.returns-then-not-has_row-clause-found
 returns-then-not-has_row-clause-found g c told m k =
-    none_found (state g.S.Store c.args.conn.now) m c.args.unit.now k c.in_ok-units.units (c.in_ok-units.ensures.rows told.0 k.books) (search rules)
+    ap (option_map without_events) (none_found (state g.S.Store c.args.conn.now) m c.args.unit.now k c.in_ok-units.units (c.in_ok-units.ensures.rows told.0 k.books) (search rules))
 
 pub returns-clause-found : goal.returns-clause-found
 returns-clause-found g c told m k =
@@ -36,9 +39,7 @@ returns-clause-found g c told m k =
     let s5 = state g.S.Store c.all_rows-5.new.conn in
     let s6 = state g.S.Store c.all_rows-6.new.conn in
     let s7 = state g.S.Store c.all_rows-7.new.conn in
-    let s8 = state g.S.Store c.all_rows-8.new.conn in
-    let t8 = c.all_rows-9.ensures.told told in
-    let t7 = c.all_rows-8.ensures.told t8 in
+    let t7 = c.all_rows-8.ensures.told told in
     let t6 = c.all_rows-7.ensures.told t7 in
     let t5 = c.all_rows-6.ensures.told t6 in
     let t4 = c.all_rows-5.ensures.told t5 in
@@ -59,9 +60,8 @@ returns-clause-found g c told m k =
     let b6 : AreBooks s6.now = subst AreBooks (sym e6) k.books in
     let e7 : s7.now ≡ old.now = c.all_rows-7.ensures.same t7 b6 ∙ e6 in
     let b7 : AreBooks s7.now = subst AreBooks (sym e7) k.books in
-    let e8 : s8.now ≡ old.now = c.all_rows-8.ensures.same t8 b7 ∙ e7 in
-    let b8 : AreBooks s8.now = subst AreBooks (sym e8) k.books in
-    let rows : UnitRows = record { units = c.in_ok-units.units; grants = c.in_ok-grants.grants; alarms = c.in_ok-alarms.alarms; shelves = c.in_ok-shelves.shelves; events = c.in_ok-events.events; bands = c.in_ok-bands.bands; cells = c.in_ok-cells.cells; records = c.in_ok-records.records; changes = c.in_ok-changes.changes } in
+    let rows : UnitRows = record { units = c.in_ok-units.units; grants = c.in_ok-grants.grants; alarms = c.in_ok-alarms.alarms; shelves = c.in_ok-shelves.shelves; events = rows_seen u old.now.trees EventKept; bands = c.in_ok-bands.bands; cells = c.in_ok-cells.cells; records = c.in_ok-records.records; changes = c.in_ok-changes.changes } in
+    let whole : Some rows ≡ get m.units u =
     whole_found old m u k rows
     (all_seen u old.now rows (c.in_ok-units.ensures.rows t1.0 k.books)
     (c.in_ok-grants.ensures.rows t2.0 b1 ∙ ap (λ (d : Database). rows_seen u d.trees GrantKept) e1)
@@ -69,7 +69,8 @@ returns-clause-found g c told m k =
     (c.in_ok-shelves.ensures.rows t4.0 b3 ∙ ap (λ (d : Database). rows_seen u d.trees ShelfKept) e3)
     (c.in_ok-bands.ensures.rows t5.0 b4 ∙ ap (λ (d : Database). rows_seen u d.trees BandKept) e4)
     (c.in_ok-cells.ensures.rows t6.0 b5 ∙ ap (λ (d : Database). rows_seen u d.trees CellKept) e5)
-    (c.in_ok-events.ensures.rows t7.0 b6 ∙ ap (λ (d : Database). rows_seen u d.trees EventKept) e6)
-    (c.in_ok-records.ensures.rows t8.0 b7 ∙ ap (λ (d : Database). rows_seen u d.trees RecordKept) e7)
-    (c.in_ok-changes.ensures.rows told.0 b8 ∙ ap (λ (d : Database). rows_seen u d.trees ChangeKept) e8))
-    (search rules)
+    refl
+    (c.in_ok-records.ensures.rows t7.0 b6 ∙ ap (λ (d : Database). rows_seen u d.trees RecordKept) e6)
+    (c.in_ok-changes.ensures.rows told.0 b7 ∙ ap (λ (d : Database). rows_seen u d.trees ChangeKept) e7))
+    (search rules) in
+    ap (λ es. Some (record rows { events = es })) c.new.ensures ∙ ap (option_map without_events) whole
