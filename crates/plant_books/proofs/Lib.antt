@@ -4,3 +4,4 @@ pub mod MergingLaws
 pub mod PassingLaws
 pub mod RowsFound
 pub mod OrderLaws
+pub mod EventLaws

@@ -54,6 +54,15 @@ pub record IsSeenIn (rows : UnitRows) (q : Request) (crowded : Bool) (approved :
   pub crowding : is_shelving q ≡ true → is_crowded rows ≡ crowded
   pub found : (n : ℕ) → number_approved q ≡ Some n → change_found rows n ≡ approved
 
+abbrev pub has_events : Looked → Bool
+has_events (looked.File es) = true
+has_events looked.AllEvents = true
+has_events _ = false
+
+-- a request that looks at events
+abbrev pub looks_at_events : Request → Bool
+looks_at_events q = has_events (scope_of q)
+
 -- the number of the change that a scope takes in with its matrix
 abbrev pub number_named : Scope → Option ℕ
 number_named (OneChange n) = Some n

@@ -2,6 +2,7 @@
 use Rattle.std.specs.FinMap.{FinMap, contains_key, empty, get, insert, keys}
 use Rattle.std.specs.List.{flat_map, list_any}
 use Rattle.std.specs.Prelude.{Bool, List, None, Option, Some, [], false, filter, filter_map, if◌then◌else◌, map, option_and_then, option_map, true, unwrap_or, ℕ, ◌≡◌, ◌⊎◌}
+use Rattle.plant_alarm.specs.declared.event.Event.{Event}
 use Rattle.plant_books.specs.declared.books.MineShelf.{MineShelf}
 use Rattle.plant_books.specs.declared.books.MineUnit.{MineUnit}
 use Rattle.plant_model.specs.declared.call.Call.{Call}
@@ -35,6 +36,17 @@ with_rows m u rows = record { admin = m.admin; units = insert m.units u rows }
 -- the unit's rows, none where the code was never opened
 abbrev pub rows_in : Content → Name → UnitRows
 rows_in m u = unwrap_or (get m.units u) no_rows
+
+-- the rows of a unit, all but its events
+abbrev pub without_events : UnitRows → UnitRows
+without_events rows = record rows { events = [] }
+
+abbrev pub rows_but_events : Content → Name → Option UnitRows
+rows_but_events m u = option_map without_events (get m.units u)
+
+-- the unit's events, none where the code was never opened
+abbrev pub events_in : Content → Name → List Event
+events_in m u = (rows_in m u).events
 
 -- the content after changes of one unit's rows
 abbrev pub after_changes : Content → Name → List Change → Content

@@ -84,6 +84,13 @@ pub fn is_shelving(request: &Request) -> bool
     )
 }
 
+/// Whether the request looks at the unit's events.
+pub fn looks_at_events(request: &Request) -> bool
+    ensures { result ≡ asked.looks_at_events request.now }
+{
+    matches!(request.kind(), CallKind::Import | CallKind::Floods)
+}
+
 /// Whether a unit that keeps this many shelves is crowded: its quota may be used up.
 pub fn is_crowded(units: &Table<UnitRow>, shelves: u64) -> bool
     ensures { (rows : UnitRows) → rows.units ≡ units.now → length rows.shelves ≡ shelves → is_crowded_in rows ≡ result }

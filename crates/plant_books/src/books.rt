@@ -2,9 +2,10 @@ ghost use Rattle.std.specs.Prelude.{◌≡◌, ℕ, Some, IfOk, OnOk, OnErr};
 ghost use Rattle.std.specs.FinMap as fin;
 ghost use Rattle.plant_types.specs.Names.{Name};
 ghost use Rattle.plant_model.specs.Worlds.{unit_named};
-ghost use Rattle.plant_books.specs.Contents.{Content, IsKnownTo, after_changes, codes_held, mine_shelves, mine_units, part_in};
+ghost use Rattle.plant_books.specs.Contents.{Content, IsKnownTo, after_changes, codes_held, events_in, mine_shelves, mine_units, part_in, rows_but_events};
 ghost use Rattle.plant_books.specs.Counting.{Counts};
 
+use plant_alarm::Event;
 use plant_model::{Call, Change, ShelfRow, UnitPart, UnitRows};
 use plant_types::{Fault, Moment, Person, Role, Table, UnitCode};
 
@@ -49,6 +50,20 @@ pub trait Books {
     /// All rows of the unit, none where it was never opened.
     fn rows(&mut self, unit: &UnitCode) -> Result<Option<UnitRows>, Fault>
         ensures found { (m : Content) → holds self.old m → can_tell self.new → IfOk result (λ rows. rows ≡ fin.get m.units unit.now) }
+        ensures same { (m : Content) → holds self.old m → holds self.new m }
+        ensures told { can_tell self.new → can_tell self.old }
+        ensures count { Counts (stores self.old) (stores self.new) result };
+
+    /// All rows of the unit but its events, none where it was never opened.
+    fn rows_but_events(&mut self, unit: &UnitCode) -> Result<Option<UnitRows>, Fault>
+        ensures found { (m : Content) → holds self.old m → can_tell self.new → IfOk result (λ rows. rows ≡ rows_but_events m unit.now) }
+        ensures same { (m : Content) → holds self.old m → holds self.new m }
+        ensures told { can_tell self.new → can_tell self.old }
+        ensures count { Counts (stores self.old) (stores self.new) result };
+
+    /// All events of the unit, none where it was never opened.
+    fn events(&mut self, unit: &UnitCode) -> Result<Table<Event>, Fault>
+        ensures found { (m : Content) → holds self.old m → can_tell self.new → IfOk result (λ events. events ≡ events_in m unit.now) }
         ensures same { (m : Content) → holds self.old m → holds self.new m }
         ensures told { can_tell self.new → can_tell self.old }
         ensures count { Counts (stores self.old) (stores self.new) result };

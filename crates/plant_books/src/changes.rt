@@ -3,7 +3,7 @@ ghost use Rattle.plant_model.specs.RowChanges.{changed, changed_by, put as row_p
 ghost use Rattle.plant_model.specs.RowFacts.{event_number, pair_of, shelf_tag};
 ghost use Rattle.plant_books.specs.Order.{AreInOrder};
 ghost use Rattle.std.specs.Ordering.{nat_cmp};
-ghost use Rattle.plant_books.specs.Changing.{whole};
+ghost use Rattle.plant_books.specs.Changing.{puts_event, whole};
 ghost use Rattle.plant_types.specs.Names.{name_cmp};
 ghost use Rattle.plant_types.specs.Roles.{pair_cmp};
 ghost use Rattle.plant_types.specs.Tables.{IsInOrder, remove_row};
@@ -119,6 +119,14 @@ fn settled(alloc: Global, changing: Changing) -> Result<UnitRows, Fault>
     let Changing { mut rows, fresh } = changing;
     put_events(alloc, &mut rows.events, fresh.as_slice())?;
     Ok(rows)
+}
+
+/// Whether some change puts an event.
+pub fn puts_event(changes: &Table<Change>) -> bool
+    ensures { result ≡ puts_event changes.now }
+{
+    let mut changes = changes.as_slice().iter();
+    changes.any(|change| matches!(change, Change::Put(Row::Event(_))))
 }
 
 /// The rows, which stand in the order of their keys, after the changes, in their order.

@@ -14,15 +14,15 @@ mod plain;
 mod rows;
 
 pub use asking::{
-    Scope, Wanted, WantedEvents, is_crowded, is_number, is_shelving, number_approved, scope_of,
-    wanted_alarms, wanted_change, wanted_events, wanted_records, wanted_shelves, wants_all_grants,
-    wants_matrix, wants_sources,
+    Scope, Wanted, WantedEvents, is_crowded, is_number, is_shelving, looks_at_events,
+    number_approved, scope_of, wanted_alarms, wanted_change, wanted_events, wanted_records,
+    wanted_shelves, wants_all_grants, wants_matrix, wants_sources,
 };
 pub use books::{Books, MineShelf, MineUnit};
-pub use changes::after_changes;
+pub use changes::{after_changes, puts_event};
 pub use found::{Tagged, place_of, row_of};
 pub use grants::{holds_some_by, is_before, is_held_by, is_pair};
 pub use opened::{alarm_of, last_return, push_shelves};
-pub use parts::{events_asked, part_of, part_of_grants};
+pub use parts::{events_asked, part_of, part_of_grants, rows_but_events};
 pub use plain::Plain;
 pub use rows::are_in_order;

@@ -1,7 +1,7 @@
 ghost use Rattle.std.specs.Prelude.{◌≡◌, IfErr, IfOk, IfSome, OnErr, OnOk, Some, filter_map, flat_map, is_some, map, option_copied, option_map, unwrap_or, ◌++◌};
 ghost use Rattle.std.specs.List.{AllByRecursion};
 ghost use Rattle.plant_books.specs.Contents as contents;
-ghost use Rattle.plant_books.specs.Contents.{is_held_in, mine_shelf, mine_unit, shelves_mine};
+ghost use Rattle.plant_books.specs.Contents.{is_held_in, mine_shelf, mine_unit, shelves_mine, without_events};
 ghost use Rattle.plant_books.specs.Listed.{rows_at, unit_cmp};
 ghost use Rattle.plant_books.specs.Order.{AreInOrder};
 ghost use Rattle.plant_model.specs.Parts.{part_of as the_part};
@@ -17,7 +17,8 @@ use crate::changes::after_changes;
 use crate::found::row_of;
 use crate::grants::{holds_role, roles_held};
 use crate::keyed::{Keyed, put};
-use crate::parts::part_of;
+use crate::parts::{part_of, rows_but_events};
+use plant_alarm::Event;
 use plant_model::{AlarmRow, Call, Change, UnitPart, UnitRows};
 use plant_types::{Duplicate, Fault, Moment, Person, Table, Tag, UnitCode};
 use std::alloc::Global;
@@ -70,6 +71,36 @@ pub fn copy_of(
     match rows_of(units, unit) {
         None => Ok(None),
         Some(rows) => Ok(Some(rows.duplicate(alloc)?)),
+    }
+}
+
+/// A copy of the rows of a unit but its events, if it was opened.
+pub fn copy_but_events(
+    alloc: Global,
+    units: &Table<OpenedUnit>,
+    unit: &UnitCode,
+) -> Result<Option<UnitRows>, Fault>
+    ensures value { IfOk result (λ rows. rows ≡ option_map without_events (rows_at units.now unit.now)) }
+    ensures memory { IfErr result (λ e. e ≡ Memory) }
+{
+    match rows_of(units, unit) {
+        None => Ok(None),
+        Some(rows) => Ok(Some(rows_but_events(alloc, rows)?)),
+    }
+}
+
+/// A copy of the events of a unit, none where it was never opened.
+pub fn events_of(
+    alloc: Global,
+    units: &Table<OpenedUnit>,
+    unit: &UnitCode,
+) -> Result<Table<Event>, Fault>
+    ensures value { IfOk result (λ events. events ≡ (unwrap_or (rows_at units.now unit.now) no_rows).events) }
+    ensures memory { IfErr result (λ e. e ≡ Memory) }
+{
+    match rows_of(units, unit) {
+        None => Ok(Table::new(alloc)),
+        Some(rows) => rows.events.duplicate(alloc),
     }
 }
 

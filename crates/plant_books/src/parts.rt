@@ -1,5 +1,6 @@
 ghost use Rattle.std.specs.Prelude.{◌≡◌, ◌||◌, ℕ, IfErr, IfOk, Some, false, filter, option_copied, true};
 ghost use Rattle.plant_books.specs.Asking.{events_wanted, is_shelving as is_shelving_by, is_wanted, number_approved as number_approved_by, selection_by};
+ghost use Rattle.plant_books.specs.Contents.{without_events};
 ghost use Rattle.plant_books.specs.Order.{AreInOrder};
 ghost use Rattle.plant_model.specs.Parts.{counted_for, is_crowded as is_crowded_in, is_source as is_source_of, part_of as the_part, part_of_holder as holders_part, rows_selected, selected};
 ghost use Rattle.plant_model.specs.RowChanges.{no_rows};
@@ -24,6 +25,24 @@ use plant_model::{
 };
 use plant_types::{Duplicate, Fault, Person, Table, duplicated};
 use std::alloc::Global;
+
+/// A copy of the rows of a unit but its events.
+pub fn rows_but_events(alloc: Global, rows: &UnitRows) -> Result<UnitRows, Fault>
+    ensures value { IfOk result (λ copy. copy ≡ without_events rows.now) }
+    ensures memory { IfErr result (λ e. e ≡ Memory) }
+{
+    Ok(UnitRows {
+        units: rows.units.duplicate(alloc)?,
+        grants: rows.grants.duplicate(alloc)?,
+        alarms: rows.alarms.duplicate(alloc)?,
+        shelves: rows.shelves.duplicate(alloc)?,
+        events: Table::new(alloc),
+        bands: rows.bands.duplicate(alloc)?,
+        cells: rows.cells.duplicate(alloc)?,
+        records: rows.records.duplicate(alloc)?,
+        changes: rows.changes.duplicate(alloc)?,
+    })
+}
 
 /// The grants that the call looks at: those of its caller, or of all persons.
 fn grants_asked(

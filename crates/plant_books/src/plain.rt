@@ -4,8 +4,10 @@ ghost use Rattle.plant_books.specs.Listed.{IsListed};
 
 use crate::books::{Books, MineShelf, MineUnit};
 use crate::opened::{
-    OpenedUnit, change_unit, codes_held, copy_of, is_opened, part_at, shelves_held, units_held,
+    OpenedUnit, change_unit, codes_held, copy_but_events, copy_of, events_of, is_opened, part_at,
+    shelves_held, units_held,
 };
+use plant_alarm::Event;
 use plant_model::{Call, Change, UnitPart, UnitRows};
 use plant_types::{Fault, Moment, Person, Table, UnitCode};
 use std::alloc::Global;
@@ -49,6 +51,14 @@ impl Books for Plain {
 
     fn rows(&mut self, unit: &UnitCode) -> Result<Option<UnitRows>, Fault> {
         copy_of(self.alloc, &self.units, unit)
+    }
+
+    fn rows_but_events(&mut self, unit: &UnitCode) -> Result<Option<UnitRows>, Fault> {
+        copy_but_events(self.alloc, &self.units, unit)
+    }
+
+    fn events(&mut self, unit: &UnitCode) -> Result<Table<Event>, Fault> {
+        events_of(self.alloc, &self.units, unit)
     }
 
     fn part(&mut self, call: &Call) -> Result<Option<UnitPart>, Fault> {

@@ -1,36 +1,41 @@
 -- Copies of rows: what is found among them, and how they stay true.
-use Rattle.std.proofs.Common.{List, None, Some, [], ap, arith, cond, drop, false, map, refl, subst, suc, sym, take, true, zero, ℕ, ◌++◌, ◌+◌, ◌-◌, ◌≤◌, ◌∙◌, ◌∷◌, ◌≡◌}
+use Rattle.std.proofs.Common.{Bool, List, None, Some, [], ap, arith, cond, drop, false, map, not, refl, subst, suc, sym, take, true, zero, ℕ, ◌++◌, ◌+◌, ◌-◌, ◌≤◌, ◌∙◌, ◌∷◌, ◌≡◌}
 use Rattle.std.proofs.lemmas.List.{append_assoc, append-nil}
 use Rattle.std.specs.FinMap.{get, get-insert}
 use Rattle.std.specs.List.{AllByRecursion, IsDistinct, cons_option, flat_map, list_any}
 use Rattle.std.specs.Map.{keys_of, lookup, lookup_entry, remove_entry}
 use Rattle.std.specs.Option.{option_map_or}
-use Rattle.std.specs.Prelude.{Option, filter_map, length, slice_get, unwrap_or}
+use Rattle.std.specs.Prelude.{Option, filter_map, is_some, length, option_map, slice_get, unwrap_or, ◌&&◌}
 use Rattle.std.specs.Cmp.{eq_by_cmp_equiv}
 use Rattle.lru.specs.LruCache.{LruCache, last_entry, promoted, put_entries}
-use Rattle.plant_books.specs.Contents.{Content, after_changes, is_held_by, is_held_in, mine_shelf, rows_in, shelves_mine}
+use Rattle.plant_books.proofs.EventLaws.{changed_without, part_without, strangers_part_without}
+use Rattle.plant_books.proofs.OrderLaws.{changed_in_order}
+use Rattle.plant_books.specs.Asking.{looks_at_events}
+use Rattle.plant_books.specs.Changing.{puts_event}
+use Rattle.plant_books.specs.Contents.{Content, after_changes, is_held_by, is_held_in, mine_shelf, rows_in, shelves_mine, without_events}
 use Rattle.plant_books.specs.Order.{AreInOrder}
 use Rattle.plant_books.specs.declared.books.MineShelf.{MineShelf}
-use Rattle.plant_mirror.specs.Copies.{AreCopies, Copy, IsCopy, row_count, rows_of_all, shelves_there}
+use Rattle.plant_mirror.specs.Copies.{AreCopies, Copy, IsCopy, There, row_count, rows_of_all, seen, shelves_there}
+use Rattle.plant_mirror.specs.declared.at_hand.AtHand.{AtHand}
 use Rattle.plant_model.proofs.WorldLaws.{same_of}
+use Rattle.plant_model.specs.Parts.{part_of}
 use Rattle.plant_model.specs.RowChanges.{changed_by, no_rows}
+use Rattle.plant_model.specs.RowFacts.{holds_by}
+use Rattle.plant_model.specs.declared.call.Call.{Call}
 use Rattle.plant_model.specs.declared.rows.Change.{Change}
 use Rattle.plant_model.specs.declared.rows.UnitRows.{UnitRows}
 use Rattle.plant_types.proofs.Orders.{name_total}
 use Rattle.plant_types.specs.Names.{Name, same_name}
 use Rattle.plant_types.specs.Options.{when}
 
-abbrev There : Type 0
-There = Name → Option UnitRows
-
 -- ---- what is found is there
 
-pub found_there : (u : Name) (there : There) (es : List Copy) (rows : UnitRows) → AreCopies there es → lookup (same_name u) es ≡ Some rows → (there u ≡ Some rows) × AreInOrder rows
-found_there u there [] rows h e = absurd (cc e)
-found_there u there (c ∷ es) rows h e =
-    elim (same_name u c.0) as (λ b. same_name u c.0 ≡ b → cond b (Some c.1) (lookup (same_name u) es) ≡ Some rows → (there u ≡ Some rows) × AreInOrder rows) [
-      | true ↦ λ p q. let same : c.1 ≡ rows = cc q in (ap there (same_of _ _ p) ∙ h.0.same ∙ q, subst AreInOrder same h.0.ordered)
-      | false ↦ λ p q. found_there u there es rows h.1 q
+pub found_there : (u : Name) (there : There) (es : List Copy) (copy : AtHand) → AreCopies there es → lookup (same_name u) es ≡ Some copy → IsCopy there (u, copy)
+found_there u there [] copy h e = absurd (cc e)
+found_there u there (c ∷ es) copy h e =
+    elim (same_name u c.0) as (λ b. same_name u c.0 ≡ b → cond b (Some c.1) (lookup (same_name u) es) ≡ Some copy → IsCopy there (u, copy)) [
+      | true ↦ λ p q. let same : c.1 ≡ copy = cc q in subst (λ (x : Copy). IsCopy there x) (λ i. (sym (same_of u c.0 p) i, same i)) h.0
+      | false ↦ λ p q. found_there u there es copy h.1 q
     ] refl e
 
 entry_there : (u : Name) (there : There) (es : List Copy) (c : Copy) → AreCopies there es → lookup_entry (same_name u) es ≡ Some c → IsCopy there c × (same_name u c.0 ≡ true)
@@ -41,12 +46,12 @@ entry_there u there (d ∷ es) c h e =
       | false ↦ λ p q. entry_there u there es c h.1 q
     ] refl e
 
--- rows that were taken out are those that are there
-pub taken_there : (u : Name) (there : There) (es : List Copy) (c : Copy) → AreCopies there es → Some c ≡ lookup_entry (same_name u) es → (u ≡ c.0) × (there u ≡ Some c.1) × AreInOrder c.1
+-- a copy that was taken out is one of its unit
+pub taken_there : (u : Name) (there : There) (es : List Copy) (c : Copy) → AreCopies there es → Some c ≡ lookup_entry (same_name u) es → (u ≡ c.0) × IsCopy there (u, c.1)
 taken_there u there es c h e =
     let it = entry_there u there es c h (sym e) in
     let same : u ≡ c.0 = same_of u c.0 it.1 in
-    (same, ap there same ∙ it.0.same, it.0.ordered)
+    (same, subst (λ (v : Name). IsCopy there (v, c.1)) (sym same) it.0)
 
 -- ---- a part of true copies is true
 
@@ -70,18 +75,21 @@ true_promoted u there es h = by (lookup_entry (same_name u) es) refl
     by None e = h
     by (Some c) e = ((entry_there u there es c h e).0, true_removed u there es h)
 
-pub true_put : (there : There) (c : LruCache Name UnitRows) (u : Name) (rows : UnitRows) → AreCopies there c.entries → there u ≡ Some rows → AreInOrder rows → AreCopies there (put_entries same_name c u rows)
-true_put there c u rows h is order = by (lookup_entry (same_name u) c.entries) refl
+pub true_put : (there : There) (c : LruCache Name AtHand) (u : Name) (copy : AtHand) → AreCopies there c.entries → IsCopy there (u, copy) → AreCopies there (put_entries same_name c u copy)
+true_put there c u copy h is = by (lookup_entry (same_name u) c.entries) refl
   where
-    by : (o : Option Copy) → lookup_entry (same_name u) c.entries ≡ o → AreCopies there (option_map_or (λ (e : Copy). (e.0, rows) ∷ remove_entry (same_name u) c.entries) o ((u, rows) ∷ take (c.cap - 1) c.entries))
-    by None e = (record { same = is; ordered = order }, true_taken (c.cap - 1) there c.entries h)
-    by (Some d) e = (record { same = ap there (sym (same_of u d.0 (entry_there u there c.entries d h e).1)) ∙ is; ordered = order }, true_removed u there c.entries h)
+    by : (o : Option Copy) → lookup_entry (same_name u) c.entries ≡ o → AreCopies there (option_map_or (λ (e : Copy). (e.0, copy) ∷ remove_entry (same_name u) c.entries) o ((u, copy) ∷ take (c.cap - 1) c.entries))
+    by None e = (is, true_taken (c.cap - 1) there c.entries h)
+    by (Some d) e = (subst (λ (v : Name). IsCopy there (v, copy)) (same_of u d.0 (entry_there u there c.entries d h e).1) is, true_removed u there c.entries h)
 
 -- ---- without a unit's copy the others stay true where its rows change
 
+still_true : (there after : There) (c : Copy) → after c.0 ≡ there c.0 → IsCopy there c → IsCopy after c
+still_true there after c same h = record { same = ap (option_map (seen c.1.has_events)) same ∙ h.same; ordered = h.ordered }
+
 others_true : (u v : Name) (there after : There) (es : List Copy) → u ≡ v → AllByRecursion (λ w. same_name v w ≡ false) (keys_of es) → ((w : Name) → same_name u w ≡ false → after w ≡ there w) → AreCopies there es → AreCopies after es
 others_true u v there after [] e apart same h = tt
-others_true u v there after (c ∷ es) e apart same h = (record { same = same c.0 (ap (λ x. same_name x c.0) e ∙ apart.0) ∙ h.0.same; ordered = h.0.ordered }, others_true u v there after es e apart.1 same h.1)
+others_true u v there after (c ∷ es) e apart same h = (still_true there after c (same c.0 (ap (λ x. same_name x c.0) e ∙ apart.0)) h.0, others_true u v there after es e apart.1 same h.1)
 
 pub true_without : (u : Name) (there after : There) (es : List Copy) → IsDistinct same_name (keys_of es) → ((w : Name) → same_name u w ≡ false → after w ≡ there w) → AreCopies there es → AreCopies after (remove_entry (same_name u) es)
 unfolding IsDistinct
@@ -89,16 +97,16 @@ true_without u there after [] apart same h = tt
 true_without u there after (c ∷ es) apart same h =
     elim (same_name u c.0) as (λ b. same_name u c.0 ≡ b → AreCopies after (cond b es (c ∷ remove_entry (same_name u) es))) [
       | true ↦ λ p. others_true u c.0 there after es (same_of u c.0 p) apart.0 same h.1
-      | false ↦ λ p. (record { same = same c.0 p ∙ h.0.same; ordered = h.0.ordered }, true_without u there after es apart.1 same h.1)
+      | false ↦ λ p. (still_true there after c (same c.0 p) h.0, true_without u there after es apart.1 same h.1)
     ] refl
 
 -- ---- how many rows there are
 
-pub count_removed : (u : Name) (es : List Copy) (c : Copy) → lookup_entry (same_name u) es ≡ Some c → rows_of_all es ≡ row_count c.1 + rows_of_all (remove_entry (same_name u) es)
+pub count_removed : (u : Name) (es : List Copy) (c : Copy) → lookup_entry (same_name u) es ≡ Some c → rows_of_all es ≡ row_count c.1.rows + rows_of_all (remove_entry (same_name u) es)
 count_removed u [] c e = absurd (cc e)
 count_removed u (d ∷ es) c e =
-    elim (same_name u d.0) as (λ b. cond b (Some d) (lookup_entry (same_name u) es) ≡ Some c → row_count d.1 + rows_of_all es ≡ row_count c.1 + rows_of_all (cond b es (d ∷ remove_entry (same_name u) es))) [
-      | true ↦ λ q. let same : d ≡ c = cc q in ap (λ (x : Copy). row_count x.1 + rows_of_all es) same
+    elim (same_name u d.0) as (λ b. cond b (Some d) (lookup_entry (same_name u) es) ≡ Some c → row_count d.1.rows + rows_of_all es ≡ row_count c.1.rows + rows_of_all (cond b es (d ∷ remove_entry (same_name u) es))) [
+      | true ↦ λ q. let same : d ≡ c = cc q in ap (λ (x : Copy). row_count x.1.rows + rows_of_all es) same
       | false ↦ λ q. let rest = count_removed u es c q in omega (arith, rest)
     ] e
 
@@ -114,33 +122,84 @@ count_taken zero es = omega arith
 count_taken (suc n) [] = omega arith
 count_taken (suc n) (c ∷ es) = let rest = count_taken n es in omega (arith, rest)
 
-at_last : (n : ℕ) (es : List Copy) (c : Copy) → length es ≡ suc n → Some c ≡ slice_get es n → rows_of_all es ≡ rows_of_all (take n es) + row_count c.1
+at_last : (n : ℕ) (es : List Copy) (c : Copy) → length es ≡ suc n → Some c ≡ slice_get es n → rows_of_all es ≡ rows_of_all (take n es) + row_count c.1.rows
 at_last n [] c l e = absurd (omega (arith, l))
-at_last zero (d ∷ []) c l e = let same : c ≡ d = cc e in let many = ap (λ (x : Copy). row_count x.1) same in omega (arith, many)
+at_last zero (d ∷ []) c l e = let same : c ≡ d = cc e in let many = ap (λ (x : Copy). row_count x.1.rows) same in omega (arith, many)
 at_last zero (d ∷ f ∷ es) c l e = absurd (omega (arith, l))
 at_last (suc n) (d ∷ es) c l e = let rest = at_last n es c (omega (arith, l)) e in omega (arith, rest)
 
-pub count_last : (es : List Copy) (c : Copy) → Some c ≡ last_entry es → rows_of_all es ≡ rows_of_all (take (length es - 1) es) + row_count c.1
+pub count_last : (es : List Copy) (c : Copy) → Some c ≡ last_entry es → rows_of_all es ≡ rows_of_all (take (length es - 1) es) + row_count c.1.rows
 count_last [] c e = absurd (cc e)
 count_last (d ∷ es) c e =
     let one : length (d ∷ es) - 1 ≡ length es = omega arith in
-    subst (λ n. rows_of_all (d ∷ es) ≡ rows_of_all (take n (d ∷ es)) + row_count c.1) (sym one)
+    subst (λ n. rows_of_all (d ∷ es) ≡ rows_of_all (take n (d ∷ es)) + row_count c.1.rows) (sym one)
     (at_last (length es) (d ∷ es) c refl (subst (λ n. ◌≡◌ {A = Option Copy} (Some c) (slice_get (d ∷ es) n)) one e))
 
 pub count_rest : (u : Name) (es : List Copy) → rows_of_all (remove_entry (same_name u) es) ≤ rows_of_all es
 count_rest u [] = omega arith
 count_rest u (d ∷ es) =
-    elim (same_name u d.0) as (λ b. rows_of_all (cond b es (d ∷ remove_entry (same_name u) es)) ≤ row_count d.1 + rows_of_all es) [
+    elim (same_name u d.0) as (λ b. rows_of_all (cond b es (d ∷ remove_entry (same_name u) es)) ≤ row_count d.1.rows + rows_of_all es) [
       | true ↦ omega arith
       | false ↦ let rest = count_rest u es in omega (arith, rest)
     ]
 
-pub count_put : (c : LruCache Name UnitRows) (u : Name) (rows : UnitRows) → rows_of_all (put_entries same_name c u rows) ≤ row_count rows + rows_of_all c.entries
-count_put c u rows = by (lookup_entry (same_name u) c.entries) refl
+pub count_put : (c : LruCache Name AtHand) (u : Name) (copy : AtHand) → rows_of_all (put_entries same_name c u copy) ≤ row_count copy.rows + rows_of_all c.entries
+count_put c u copy = by (lookup_entry (same_name u) c.entries) refl
   where
-    by : (o : Option Copy) → lookup_entry (same_name u) c.entries ≡ o → rows_of_all (option_map_or (λ (e : Copy). (e.0, rows) ∷ remove_entry (same_name u) c.entries) o ((u, rows) ∷ take (c.cap - 1) c.entries)) ≤ row_count rows + rows_of_all c.entries
+    by : (o : Option Copy) → lookup_entry (same_name u) c.entries ≡ o → rows_of_all (option_map_or (λ (e : Copy). (e.0, copy) ∷ remove_entry (same_name u) c.entries) o ((u, copy) ∷ take (c.cap - 1) c.entries)) ≤ row_count copy.rows + rows_of_all c.entries
     by None e = let rest = count_taken (c.cap - 1) c.entries in omega (arith, rest)
     by (Some d) e = let rest = count_removed u c.entries d e in omega (arith, rest)
+
+-- ---- what is at hand of the rows that there are
+
+pub is_there : (b : Bool) (o : Option UnitRows) (rows : UnitRows) → option_map (seen b) o ≡ Some rows → true ≡ is_some o
+is_there b None rows e = absurd (cc e)
+is_there b (Some r) rows e = refl
+
+pub all_there : (b : Bool) (o : Option UnitRows) (rows : UnitRows) → b ≡ true → option_map (seen b) o ≡ Some rows → o ≡ Some rows
+all_there true None rows whole e = absurd (cc e)
+all_there true (Some r) rows whole e = e
+all_there false o rows whole e = absurd (cc whole)
+
+seen_but_events : (b : Bool) (rows : UnitRows) → without_events (seen b rows) ≡ without_events rows
+seen_but_events true rows = refl
+seen_but_events false rows = refl
+
+pub all_but_events : (b : Bool) (o : Option UnitRows) (rows : UnitRows) → option_map (seen b) o ≡ Some rows → Some (without_events rows) ≡ option_map without_events o
+all_but_events b None rows e = absurd (cc e)
+all_but_events b (Some r) rows e = let same : seen b r ≡ rows = cc e in ap (λ x. Some (without_events x)) (sym same) ∙ ap (λ x. Some x) (seen_but_events b r)
+
+events_again : (b : Bool) (rows : UnitRows) → record (seen b rows) { events = rows.events } ≡ rows
+events_again true rows = refl
+events_again false rows = refl
+
+pub with_events : (b : Bool) (o : Option UnitRows) (rows : UnitRows) → option_map (seen b) o ≡ Some rows → o ≡ Some (record rows { events = (unwrap_or o no_rows).events })
+with_events b None rows e = absurd (cc e)
+with_events b (Some r) rows e =
+    let same : seen b r ≡ rows = cc e in
+    ap (λ x. Some x) (sym (events_again b r)) ∙ ap (λ (x : UnitRows). Some (record x { events = r.events })) same
+
+pub shelves_seen : (u : Name) (b : Bool) (o : Option UnitRows) (rows : UnitRows) → option_map (seen b) o ≡ Some rows → shelves_there u o ≡ map (mine_shelf u rows) rows.shelves
+shelves_seen u b None rows e = absurd (cc e)
+shelves_seen u true (Some r) rows e = let same : r ≡ rows = cc e in ap (λ (x : UnitRows). map (mine_shelf u x) x.shelves) same
+shelves_seen u false (Some r) rows e = let same : without_events r ≡ rows = cc e in ap (λ (x : UnitRows). map (mine_shelf u x) x.shelves) same
+
+-- the part of a call, where it is that of the rows which there are
+pub part_there : (c : Call) (b : Bool) (o : Option UnitRows) (rows : UnitRows) → option_map (seen b) o ≡ Some rows → ((r : UnitRows) → seen b r ≡ rows → part_of c rows ≡ part_of c r) → Some (part_of c rows) ≡ option_map (part_of c) o
+part_there c b None rows e h = absurd (cc e)
+part_there c b (Some r) rows e h = let same : seen b r ≡ rows = cc e in ap (λ x. Some x) (h r same)
+
+pub whole_part_seen : (c : Call) (b : Bool) (kept rows : UnitRows) → seen b rows ≡ kept → b ≡ true → part_of c kept ≡ part_of c rows
+whole_part_seen c true kept rows e whole = ap (part_of c) (sym e)
+whole_part_seen c false kept rows e whole = absurd (cc whole)
+
+pub part_seen : (c : Call) (b : Bool) (kept rows : UnitRows) → seen b rows ≡ kept → looks_at_events c.request ≡ false → part_of c kept ≡ part_of c rows
+part_seen c true kept rows e none = ap (part_of c) (sym e)
+part_seen c false kept rows e none = ap (part_of c) (sym e) ∙ part_without c rows none
+
+pub strangers_part_seen : (c : Call) (b : Bool) (kept rows : UnitRows) → seen b rows ≡ kept → holds_by kept.grants c.moment c.person ≡ false → part_of c kept ≡ part_of c rows
+strangers_part_seen c true kept rows e none = ap (part_of c) (sym e)
+strangers_part_seen c false kept rows e none = ap (part_of c) (sym e) ∙ strangers_part_without c rows (ap (λ (x : UnitRows). holds_by x.grants c.moment c.person) e ∙ none)
 
 -- ---- what changes of a unit leave of the others, and what they make of the unit
 
@@ -150,8 +209,24 @@ others_stay m u cs v e = get-insert name_total m.units u (changed_by cs (rows_in
 pub unit_after : (m : Content) (u : Name) (cs : List Change) → get (after_changes m u cs).units u ≡ Some (changed_by cs (rows_in m u))
 unit_after m u cs = get-insert name_total m.units u (changed_by cs (rows_in m u)) u ∙ ap (λ b. cond b (Some (changed_by cs (rows_in m u))) (get m.units u)) ((eq_by_cmp_equiv name_total).refl u)
 
-pub changed_there : (m : Content) (u : Name) (cs : List Change) (rows after : UnitRows) → get m.units u ≡ Some rows → after ≡ changed_by cs rows → get (after_changes m u cs).units u ≡ Some after
-changed_there m u cs rows after e is = unit_after m u cs ∙ ap (λ o. Some (changed_by cs (unwrap_or o no_rows))) e ∙ ap (λ x. Some x) (sym is)
+seen_changed : (b : Bool) (cs : List Change) (rows : UnitRows) → (not b && puts_event cs) ≡ false → seen b (changed_by cs rows) ≡ changed_by cs (seen b rows)
+seen_changed true cs rows none = refl
+seen_changed false cs rows none = sym (changed_without cs rows none)
+
+seen_rows : (b : Bool) (o : Option UnitRows) (rows : UnitRows) → option_map (seen b) o ≡ Some rows → seen b (unwrap_or o no_rows) ≡ rows
+seen_rows b None rows e = absurd (cc e)
+seen_rows b (Some r) rows e = cc e
+
+-- a copy after changes is one of the unit after them
+pub changed_there : (m : Content) (u : Name) (cs : List Change) (copy after : AtHand) → IsCopy (get m.units) (u, copy) → after.has_events ≡ copy.has_events → after.rows ≡ changed_by cs copy.rows → (not copy.has_events && puts_event cs) ≡ false → IsCopy (get (after_changes m u cs).units) (u, after)
+changed_there m u cs copy after h flag is none =
+    let b = copy.has_events in
+    let there = ap (option_map (seen b)) (unit_after m u cs) in
+    let rows = seen_changed b cs (rows_in m u) none ∙ ap (changed_by cs) (seen_rows b (get m.units u) copy.rows h.same) ∙ sym is in
+    record {
+      same = ap (λ d. option_map (seen d) (get (after_changes m u cs).units u)) flag ∙ there ∙ ap (λ x. Some x) rows;
+      ordered = subst AreInOrder (sym is) (changed_in_order cs copy.rows h.ordered);
+    }
 
 -- ---- shelves of units one after another
 

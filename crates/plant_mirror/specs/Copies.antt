@@ -1,17 +1,22 @@
 -- Copies of units' rows, beside the books that keep them.
 use Rattle.std.specs.FinMap.{get}
-use Rattle.std.specs.Prelude.{List, None, Option, Some, [], length, map, ℕ, ◌+◌, ◌∷◌, ◌≡◌}
-use Rattle.plant_books.specs.Contents.{Content, mine_shelf}
+use Rattle.std.specs.Prelude.{Bool, List, None, Option, Some, [], false, length, map, option_map, true, ℕ, ◌+◌, ◌∷◌, ◌≡◌}
+use Rattle.plant_books.specs.Contents.{Content, mine_shelf, without_events}
 use Rattle.plant_books.specs.Order.{AreInOrder}
 use Rattle.plant_books.specs.declared.books.MineShelf.{MineShelf}
+use Rattle.plant_mirror.specs.declared.at_hand.AtHand.{AtHand}
 use Rattle.plant_model.specs.declared.rows.UnitRows.{UnitRows}
 use Rattle.plant_types.specs.Names.{Name}
 
--- the code of a unit with its rows
-abbrev pub Copy : Type 0
-Copy = Name × UnitRows
+-- the rows of each unit that was opened
+abbrev pub There : Type 0
+There = Name → Option UnitRows
 
--- how many rows a unit has
+-- the code of a unit with its rows at hand
+abbrev pub Copy : Type 0
+Copy = Name × AtHand
+
+-- how many rows there are
 abbrev pub row_count : UnitRows → ℕ
 row_count rows =
     length rows.units + length rows.grants + length rows.alarms + length rows.shelves + length rows.events
@@ -19,14 +24,19 @@ row_count rows =
 
 abbrev pub rows_of_all : List Copy → ℕ
 rows_of_all [] = 0
-rows_of_all (copy ∷ copies) = row_count copy.1 + rows_of_all copies
+rows_of_all (copy ∷ copies) = row_count copy.1.rows + rows_of_all copies
+
+-- what is at hand of a unit's rows: all of them, or all but the events
+abbrev pub seen : Bool → UnitRows → UnitRows
+seen true rows = rows
+seen false rows = without_events rows
 
 -- a copy of what there is of its unit, its rows in the order of their keys
-pub record IsCopy (there : Name → Option UnitRows) (copy : Copy) : Type 0 where
-  pub same : there copy.0 ≡ Some copy.1
-  pub ordered : AreInOrder copy.1
+pub record IsCopy (there : There) (copy : Copy) : Type 0 where
+  pub same : option_map (seen copy.1.has_events) (there copy.0) ≡ Some copy.1.rows
+  pub ordered : AreInOrder copy.1.rows
 
-abbrev pub AreCopies : (Name → Option UnitRows) → List Copy → Type 0
+abbrev pub AreCopies : There → List Copy → Type 0
 AreCopies there [] = Unit {0}
 AreCopies there (copy ∷ copies) = IsCopy there copy × AreCopies there copies
 

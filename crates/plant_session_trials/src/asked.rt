@@ -2,6 +2,7 @@
 
 ghost use Rattle.std.specs.Prelude.{◌≡◌};
 
+use plant_alarm::Event;
 use plant_books::{Books, MineShelf, MineUnit};
 use plant_examples::{BASE, Exchanges, LOOKED_AT, SHELVED};
 use plant_mirror::ROWS_AT_HAND;
@@ -10,7 +11,7 @@ use plant_trials::{after, lists, mirrored};
 use plant_types::{Fault, Moment, Person, Table, UnitCode};
 use std::process::Abort;
 
-/// A viewer's requests of each kind that reads of a unit, but for its shelves, and one of a stranger.
+/// A viewer's requests of each kind that reads of a unit, but for its shelves and its floods, and two of a stranger.
 const READ: &str = r#"vic 10:30:00 GET /units/U1/alarms/PT-101
 200 {"limit":3600,"limit_revision":0,"out_of_service":false,"shelf":"TimedShelved","shelf_left":1800,"state":"Normal","suppressed":false,"suppressed_or_shelved":true,"tag":"PT-101"}
 
@@ -28,15 +29,28 @@ PT-101                   Normal         -  S--   3600
 vic 10:30:00 GET /units/U1/standing
 200 STANDING U1 AT 2026-03-01T10:30:00Z COUNT 0
 
-vic 10:30:00 GET /units/U1/floods/2026-03-01T10:00:00Z/2026-03-01T10:10:00Z
-200 FLOODS U1 FROM 2026-03-01T10:00:00Z TO 2026-03-01T10:10:00Z COUNT 0
-
 vic 10:30:00 GET /shelves
 200 MINE vic AT 2026-03-01T10:30:00Z COUNT 1
 U1       PT-101                   timed    2026-03-01T10:00:00Z   1800 ann                              pump test
 
 bob 10:30:00 GET /units/U1/alarms/PT-101
+403 {"name":"NotGranted","refused":3}
+
+bob 10:30:00 GET /units/U1/floods/2026-03-01T10:00:00Z/2026-03-01T10:10:00Z
 403 {"name":"NotGranted","refused":3}"#;
+
+/// A viewer asks for the floods of ten minutes, and an operator imports an event.
+const LOOKED_AT_EVENTS: &str =
+    r#"vic 10:40:00 GET /units/U1/floods/2026-03-01T10:00:00Z/2026-03-01T10:10:00Z
+200 FLOODS U1 FROM 2026-03-01T10:00:00Z TO 2026-03-01T10:10:00Z COUNT 0
+
+ann 10:40:00 POST /units/U1/imports
+> seq,moment,tag,event
+> 1,2026-03-01T10:20:00Z,LT-2,ACT
+200 {"new":1,"repeated":0}
+
+vic 10:40:00 GET /units/U1/floods/2026-03-01T10:10:00Z/2026-03-01T10:20:00Z
+200 FLOODS U1 FROM 2026-03-01T10:10:00Z TO 2026-03-01T10:20:00Z COUNT 0"#;
 
 /// The shelf is ended, and then none is listed.
 const ENDED: &str = r#"ann 10:45:00 POST /units/U1/alarms/PT-101/unshelve
@@ -48,10 +62,11 @@ vic 10:45:00 GET /units/U1/shelves
 vic 10:45:00 GET /shelves
 200 MINE vic AT 2026-03-01T10:45:00Z COUNT 0"#;
 
-/// How often rows, parts and shelves were asked for, and how often they were changed.
+/// How often rows, parts and shelves were asked for, how often all events of a unit among them, and how often they were changed.
 #[derive(Clone, Copy, PartialEq, Eq, Debug)]
 struct Count {
     asked: u64,
+    events: u64,
     changed: u64,
 }
 
@@ -67,6 +82,12 @@ impl<B: Books> Counting<B> {
         ensures { self.new.books ≡ self.old.books }
     {
         self.count.asked = self.count.asked.saturating_add(1);
+    }
+
+    fn count_events(&mut self)
+        ensures { self.new.books ≡ self.old.books }
+    {
+        self.count.events = self.count.events.saturating_add(1);
     }
 
     fn count_change(&mut self)
@@ -94,7 +115,19 @@ impl<B: Books> Books for Counting<B> {
 
     fn rows(&mut self, unit: &UnitCode) -> Result<Option<UnitRows>, Fault> {
         self.count_asked();
+        self.count_events();
         self.books.rows(unit)
+    }
+
+    fn rows_but_events(&mut self, unit: &UnitCode) -> Result<Option<UnitRows>, Fault> {
+        self.count_asked();
+        self.books.rows_but_events(unit)
+    }
+
+    fn events(&mut self, unit: &UnitCode) -> Result<Table<Event>, Fault> {
+        self.count_asked();
+        self.count_events();
+        self.books.events(unit)
     }
 
     fn part(&mut self, call: &Call) -> Result<Option<UnitPart>, Fault> {
@@ -128,6 +161,7 @@ fn count_of(rt: &(impl Abort + AllocGlobal), texts: &[&str]) -> Count {
         books: lists(rt.alloc()).expect(rt, "lists"),
         count: Count {
             asked: 0,
+            events: 0,
             changed: 0,
         },
     };
@@ -150,4 +184,13 @@ fn a_change_of_rows_at_hand_asks_once(rt: HostRuntime) {
     let after = count_of(&rt, &[BASE, SHELVED, ENDED]);
     assert_eq!(rt; after.asked, before.asked);
     assert_eq!(rt; after.changed, before.changed.saturating_add(1));
+}
+
+#[test]
+fn events_are_read_at_the_first_call_that_looks_at_them(rt: HostRuntime) {
+    let before = count_of(&rt, &[BASE, SHELVED, READ]);
+    assert_eq!(rt; before.events, 0);
+    let once = count_of(&rt, &[BASE, SHELVED, READ, LOOKED_AT_EVENTS]);
+    assert_eq!(rt; once.events, 1);
+    assert_eq!(rt; once.asked, before.asked.saturating_add(1));
 }

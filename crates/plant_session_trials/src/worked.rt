@@ -4,7 +4,10 @@ use plant_examples::{
     ALARMS_FULL, BASE, COUNTED, Example, Exchanges, FLOODS, GRANTS_FULL, OVERLAPPED, OVERLAPPING,
     examples_of_calls, examples_of_changes, examples_of_imports, numbered, push_all,
 };
-use plant_trials::{are_left_alike, check_example, check_session, lists, tables};
+use plant_office::Books;
+use plant_trials::{
+    are_left_alike, check_example, check_keepers, check_session, lists, mirrored, tables,
+};
 use std::ops::Range;
 use std::process::Abort;
 
@@ -130,9 +133,13 @@ fn push_activations(
     number
 }
 
-/// The base office, and a file of activations from ten on: 11, 5, 4, 10 and 12 in each ten minutes.
+/// An alarm of the base office before its first event.
+const LOOKED_AT_BEFORE: &str = r#"vic 10:00:00 GET /units/U1/alarms/PT-101
+200 {"limit":3600,"limit_revision":0,"out_of_service":false,"shelf":"Unshelved","shelf_left":0,"state":"Normal","suppressed":false,"suppressed_or_shelved":false,"tag":"PT-101"}"#;
+
+/// The base office, a look at an alarm, and a file of activations from ten on: 11, 5, 4, 10 and 12 in each ten minutes.
 fn many_activations(rt: &(impl Abort + AllocGlobal)) -> Exchanges {
-    let mut wanted = exchanges(rt, &[], BASE);
+    let mut wanted = exchanges(rt, &[BASE], LOOKED_AT_BEFORE);
     let mut exchange = String::new(rt.alloc());
     let heading = "ann 11:00:00 POST /units/U1/imports\n> seq,moment,tag,event\n";
     push_all(&mut exchange, &[heading]).expect(rt, "memory");
@@ -150,6 +157,31 @@ fn floods_of_a_range(rt: HostRuntime) {
     let mut wanted = many_activations(&rt);
     wanted.add_all(FLOODS).expect(&rt, "exchanges");
     is_worked(&rt, "floods of a range", &wanted);
+}
+
+/// So many that the base office is at hand, but not with the events of its floods.
+const SOME_ROWS: u128 = 50;
+
+/// Over these books with so many rows at hand the exchanges are answered as wanted, and leave what they leave in lists.
+fn is_worked_at_hand<B: Books + Drop>(
+    rt: &(impl Abort + AllocGlobal),
+    below: B,
+    limit: u128,
+    wanted: &Exchanges,
+) {
+    let ours = mirrored(rt.alloc(), below, limit).expect(rt, "books with rows at hand");
+    let theirs = lists(rt.alloc()).expect(rt, "lists");
+    check_keepers(rt.alloc(), ours, theirs, wanted).expect(rt, "floods");
+}
+
+#[test]
+fn floods_of_events_that_find_no_room(rt: HostRuntime) {
+    let mut wanted = many_activations(&rt);
+    wanted.add_all(FLOODS).expect(&rt, "exchanges");
+    let lists = lists(rt.alloc()).expect(&rt, "lists");
+    is_worked_at_hand(&rt, lists, SOME_ROWS, &wanted);
+    let tables = tables(rt.alloc()).expect(&rt, "tables");
+    is_worked_at_hand(&rt, tables, SOME_ROWS, &wanted);
 }
 
 /// Adds the rows of these numbers, each an activation.

@@ -8,7 +8,7 @@ use Rattle.sqlite.specs.State.{State, Shown}
 use Rattle.sqlite_schema.specs.Rules.{equal}
 use Rattle.sqlite_tied.proofs.RuleLemmas.{and_true}
 use Rattle.sqlite_value.specs.declared.value.Value.{Value}
-use Rattle.sqlite_value.specs.declared.value.Value.TheVariants.{Null, Text}
+use Rattle.sqlite_value.specs.declared.value.Value.TheVariants.{Text}
 use Rattle.sqlite_value.specs.Order.{Row, column, value_cmp}
 use Rattle.sqlite_value.proofs.OrderLemmas.{value_cmp-Text}
 use Rattle.plant_model.specs.Histories.{same_number}
@@ -16,30 +16,17 @@ use Rattle.plant_model.specs.declared.rows.AlarmRow.{AlarmRow}
 use Rattle.plant_model.specs.declared.rows.ShelfRow.{ShelfRow}
 use Rattle.plant_types.specs.Names.{Name, same_name}
 use Rattle.plant_tables.specs.Kept.{is_of}
-use Rattle.plant_tables.specs.Shape.{Shape}
 use Rattle.plant_tables.proofs.Keys.{equal_is}
-use Rattle.plant_tables.proofs.Shapes.{IsShape, finds_rows, shown_kept, some_kept}
+use Rattle.plant_tables.proofs.Shapes.{finds_rows, shown_kept}
 use Rattle.plant_columns.specs.Codes.{number}
 use Rattle.plant_columns.specs.Shown.{columns}
-use Rattle.plant_columns.specs.Tables.{AreBooks, books_schema, rows_seen, unit_shape, grant_shape, alarm_shape, shelf_shape, band_shape, cell_shape, event_shape, record_shape, change_shape}
+use Rattle.plant_columns.specs.Tables.{AreBooks, KeyOf, RowOf, books_schema, shape, rows_seen, unit_shape, grant_shape, alarm_shape, shelf_shape, band_shape, cell_shape, event_shape, record_shape, change_shape}
 use Rattle.plant_columns.specs.Tables.Kept.{UnitKept, GrantKept, AlarmKept, ShelfKept, BandKept, CellKept, EventKept, RecordKept, ChangeKept}
+use Rattle.plant_store.specs.Statements.{Reads}
 use Rattle.plant_store.specs.Texts.{units_of_text, grants_of_text, alarms_of_text, shelves_of_text, bands_of_text, cells_of_text, events_of_text, own_grants_text, alarm_at_text, shelf_at_text, tags_of_text, shelf_tags_text, records_of_text, changes_of_text, record_at_text, bands_at_text, cells_at_text, change_at_text}
-use Rattle.plant_store.proofs.Meanings.{by_unit, by_two, order_1, order_2, order_3, order_4, unit_shows, grant_shows, alarm_shows, shelf_shows, band_shows, cell_shows, event_shows, unit_names, grant_names, alarm_names, shelf_names, band_names, cell_names, event_names, units_of_is, grants_of_is, alarms_of_is, shelves_of_is, bands_of_is, cells_of_is, events_of_is, own_grants_is, alarm_at_is, shelf_at_is, tags_of_is, shelf_tags_is, units_of_plain, grants_of_plain, alarms_of_plain, shelves_of_plain, bands_of_plain, cells_of_plain, events_of_plain, own_grants_plain, alarm_at_plain, shelf_at_plain, tags_of_plain, shelf_tags_plain, record_shows, record_names, change_shows, change_names, records_of_is, records_of_plain, changes_of_is, changes_of_plain, record_at_is, record_at_plain, bands_at_is, bands_at_plain, cells_at_is, cells_at_plain, change_at_is, change_at_plain}
+use Rattle.plant_store.proofs.Meanings.{by_unit, order_1, order_2, order_3, order_4, unit_shows, grant_shows, alarm_shows, shelf_shows, band_shows, cell_shows, event_shows, unit_names, grant_names, alarm_names, shelf_names, band_names, cell_names, event_names, units_of_is, grants_of_is, alarms_of_is, shelves_of_is, bands_of_is, cells_of_is, events_of_is, own_grants_is, alarm_at_is, shelf_at_is, tags_of_is, shelf_tags_is, units_of_plain, grants_of_plain, alarms_of_plain, shelves_of_plain, bands_of_plain, cells_of_plain, events_of_plain, own_grants_plain, alarm_at_plain, shelf_at_plain, tags_of_plain, shelf_tags_plain, record_shows, record_names, change_shows, change_names, records_of_is, records_of_plain, changes_of_is, changes_of_plain, record_at_is, record_at_plain, bands_at_is, bands_at_plain, cells_at_is, cells_at_plain, change_at_is, change_at_plain}
+use Rattle.plant_store.proofs.Reading.{reads_all, reads_some}
 use Rattle.plant_columns.proofs.ShapeLaws.{good, numbers}
-
--- ---- what was shown is read back
-
-read_back : {X K : Type 0} (s : Shape X K) → IsShape s → (xs : List X) → map (λ r. s.read (Null ∷ Text [] ∷ r)) (map s.cells xs) ≡ xs
-read_back s is [] = refl
-read_back s is (x ∷ xs) = ap₂ ◌∷◌ (is.back Null [] x) (read_back s is xs)
-
-columns_all : {X K : Type 0} (s : Shape X K) (n : ℕ) → ((x : X) → columns n (s.cells x) ≡ s.cells x) → (xs : List X) → map (columns n) (map s.cells xs) ≡ map s.cells xs
-columns_all s n whole [] = refl
-columns_all s n whole (x ∷ xs) = ap₂ ◌∷◌ (whole x) (columns_all s n whole xs)
-
-pub told_back : {X K : Type 0} (s : Shape X K) → IsShape s → (n : ℕ) → ((x : X) → columns n (s.cells x) ≡ s.cells x) → (rows : List Row) (xs read : List X) → rows ≡ map s.cells xs → map (columns n) rows ≡ map s.cells read → read ≡ xs
-told_back s is n whole rows xs read shown told =
-    sym (read_back s is read) ∙ ap (map (λ r. s.read (Null ∷ Text [] ∷ r))) (sym told ∙ ap (map (columns n)) shown ∙ columns_all s n whole xs) ∙ read_back s is xs
 
 pub if_ok : {A E : Type 0} {P Q : A → Type 0} (r : Result A E) → ((x : A) → P x → Q x) → IfOk r P → IfOk r Q
 if_ok (Ok x) f h = f x h
@@ -72,101 +59,69 @@ numbered_same m n = ap is_eq (numbers m n) ∙ (eq_by_cmp_equiv nat_cmp_total).s
 
 -- ---- all rows of a unit
 
-pub find_units : (u : Name) (old new : State) → AreBooks old.now → (rows : List Row) → Shown units_of_text (Text u ∷ []) old new rows → rows ≡ map unit_shape.cells (rows_seen u old.now.trees UnitKept)
-find_units u old new books rows h =
-    finds_rows unit_shape (good UnitKept) books_schema units_of_text by_unit unit_shows order_1 unit_names units_of_is.0 units_of_is.1 units_of_plain (Text u ∷ []) refl (is_of u) (λ r. one_test (column r 1) u) old new books.same_schema (books.tidy UnitKept).apart rows h
-    ∙ shown_kept unit_shape (good UnitKept) _ unit_shape.cells (λ id v x. refl) (is_of u) (old.now.trees 1) (books.tidy UnitKept).each
+pub units_read : (u : Name) → Reads 4 unit_shape.cells (λ trees. rows_seen u trees UnitKept) (Text u ∷ []) units_of_text
+units_read u = reads_all RowOf KeyOf shape good books_schema UnitKept 4 (λ x. refl) units_of_text unit_shows order_1 unit_names units_of_is units_of_plain u refl (λ r. one_test (column r 1) u) (λ id v x. refl)
 
-pub find_grants : (u : Name) (old new : State) → AreBooks old.now → (rows : List Row) → Shown grants_of_text (Text u ∷ []) old new rows → rows ≡ map grant_shape.cells (rows_seen u old.now.trees GrantKept)
-find_grants u old new books rows h =
-    finds_rows grant_shape (good GrantKept) books_schema grants_of_text by_unit grant_shows order_3 grant_names grants_of_is.0 grants_of_is.1 grants_of_plain (Text u ∷ []) refl (is_of u) (λ r. one_test (column r 1) u) old new books.same_schema (books.tidy GrantKept).apart rows h
-    ∙ shown_kept grant_shape (good GrantKept) _ grant_shape.cells (λ id v x. refl) (is_of u) (old.now.trees 3) (books.tidy GrantKept).each
+pub grants_read : (u : Name) → Reads 3 grant_shape.cells (λ trees. rows_seen u trees GrantKept) (Text u ∷ []) grants_of_text
+grants_read u = reads_all RowOf KeyOf shape good books_schema GrantKept 3 (λ x. refl) grants_of_text grant_shows order_3 grant_names grants_of_is grants_of_plain u refl (λ r. one_test (column r 1) u) (λ id v x. refl)
 
-pub find_alarms : (u : Name) (old new : State) → AreBooks old.now → (rows : List Row) → Shown alarms_of_text (Text u ∷ []) old new rows → rows ≡ map alarm_shape.cells (rows_seen u old.now.trees AlarmKept)
-find_alarms u old new books rows h =
-    finds_rows alarm_shape (good AlarmKept) books_schema alarms_of_text by_unit alarm_shows order_2 alarm_names alarms_of_is.0 alarms_of_is.1 alarms_of_plain (Text u ∷ []) refl (is_of u) (λ r. one_test (column r 1) u) old new books.same_schema (books.tidy AlarmKept).apart rows h
-    ∙ shown_kept alarm_shape (good AlarmKept) _ alarm_shape.cells (λ id v x. refl) (is_of u) (old.now.trees 5) (books.tidy AlarmKept).each
+pub alarms_read : (u : Name) → Reads 11 alarm_shape.cells (λ trees. rows_seen u trees AlarmKept) (Text u ∷ []) alarms_of_text
+alarms_read u = reads_all RowOf KeyOf shape good books_schema AlarmKept 11 (λ x. refl) alarms_of_text alarm_shows order_2 alarm_names alarms_of_is alarms_of_plain u refl (λ r. one_test (column r 1) u) (λ id v x. refl)
 
-pub find_shelves : (u : Name) (old new : State) → AreBooks old.now → (rows : List Row) → Shown shelves_of_text (Text u ∷ []) old new rows → rows ≡ map shelf_shape.cells (rows_seen u old.now.trees ShelfKept)
-find_shelves u old new books rows h =
-    finds_rows shelf_shape (good ShelfKept) books_schema shelves_of_text by_unit shelf_shows order_2 shelf_names shelves_of_is.0 shelves_of_is.1 shelves_of_plain (Text u ∷ []) refl (is_of u) (λ r. one_test (column r 1) u) old new books.same_schema (books.tidy ShelfKept).apart rows h
-    ∙ shown_kept shelf_shape (good ShelfKept) _ shelf_shape.cells (λ id v x. refl) (is_of u) (old.now.trees 7) (books.tidy ShelfKept).each
+pub shelves_read : (u : Name) → Reads 6 shelf_shape.cells (λ trees. rows_seen u trees ShelfKept) (Text u ∷ []) shelves_of_text
+shelves_read u = reads_all RowOf KeyOf shape good books_schema ShelfKept 6 (λ x. refl) shelves_of_text shelf_shows order_2 shelf_names shelves_of_is shelves_of_plain u refl (λ r. one_test (column r 1) u) (λ id v x. refl)
 
-pub find_bands : (u : Name) (old new : State) → AreBooks old.now → (rows : List Row) → Shown bands_of_text (Text u ∷ []) old new rows → rows ≡ map band_shape.cells (rows_seen u old.now.trees BandKept)
-find_bands u old new books rows h =
-    finds_rows band_shape (good BandKept) books_schema bands_of_text by_unit band_shows order_3 band_names bands_of_is.0 bands_of_is.1 bands_of_plain (Text u ∷ []) refl (is_of u) (λ r. one_test (column r 1) u) old new books.same_schema (books.tidy BandKept).apart rows h
-    ∙ shown_kept band_shape (good BandKept) _ band_shape.cells (λ id v x. refl) (is_of u) (old.now.trees 9) (books.tidy BandKept).each
+pub bands_read : (u : Name) → Reads 3 band_shape.cells (λ trees. rows_seen u trees BandKept) (Text u ∷ []) bands_of_text
+bands_read u = reads_all RowOf KeyOf shape good books_schema BandKept 3 (λ x. refl) bands_of_text band_shows order_3 band_names bands_of_is bands_of_plain u refl (λ r. one_test (column r 1) u) (λ id v x. refl)
 
-pub find_cells : (u : Name) (old new : State) → AreBooks old.now → (rows : List Row) → Shown cells_of_text (Text u ∷ []) old new rows → rows ≡ map cell_shape.cells (rows_seen u old.now.trees CellKept)
-find_cells u old new books rows h =
-    finds_rows cell_shape (good CellKept) books_schema cells_of_text by_unit cell_shows order_4 cell_names cells_of_is.0 cells_of_is.1 cells_of_plain (Text u ∷ []) refl (is_of u) (λ r. one_test (column r 1) u) old new books.same_schema (books.tidy CellKept).apart rows h
-    ∙ shown_kept cell_shape (good CellKept) _ cell_shape.cells (λ id v x. refl) (is_of u) (old.now.trees 11) (books.tidy CellKept).each
+pub cells_read : (u : Name) → Reads 4 cell_shape.cells (λ trees. rows_seen u trees CellKept) (Text u ∷ []) cells_of_text
+cells_read u = reads_all RowOf KeyOf shape good books_schema CellKept 4 (λ x. refl) cells_of_text cell_shows order_4 cell_names cells_of_is cells_of_plain u refl (λ r. one_test (column r 1) u) (λ id v x. refl)
 
-pub find_events : (u : Name) (old new : State) → AreBooks old.now → (rows : List Row) → Shown events_of_text (Text u ∷ []) old new rows → rows ≡ map event_shape.cells (rows_seen u old.now.trees EventKept)
-find_events u old new books rows h =
-    finds_rows event_shape (good EventKept) books_schema events_of_text by_unit event_shows order_2 event_names events_of_is.0 events_of_is.1 events_of_plain (Text u ∷ []) refl (is_of u) (λ r. one_test (column r 1) u) old new books.same_schema (books.tidy EventKept).apart rows h
-    ∙ shown_kept event_shape (good EventKept) _ event_shape.cells (λ id v x. refl) (is_of u) (old.now.trees 13) (books.tidy EventKept).each
+pub events_read : (u : Name) → Reads 4 event_shape.cells (λ trees. rows_seen u trees EventKept) (Text u ∷ []) events_of_text
+events_read u = reads_all RowOf KeyOf shape good books_schema EventKept 4 (λ x. refl) events_of_text event_shows order_2 event_names events_of_is events_of_plain u refl (λ r. one_test (column r 1) u) (λ id v x. refl)
 
-pub find_records : (u : Name) (old new : State) → AreBooks old.now → (rows : List Row) → Shown records_of_text (Text u ∷ []) old new rows → rows ≡ map record_shape.cells (rows_seen u old.now.trees RecordKept)
-find_records u old new books rows h =
-    finds_rows record_shape (good RecordKept) books_schema records_of_text by_unit record_shows order_2 record_names records_of_is.0 records_of_is.1 records_of_plain (Text u ∷ []) refl (is_of u) (λ r. one_test (column r 1) u) old new books.same_schema (books.tidy RecordKept).apart rows h
-    ∙ shown_kept record_shape (good RecordKept) _ record_shape.cells (λ id v x. refl) (is_of u) (old.now.trees 15) (books.tidy RecordKept).each
+pub records_read : (u : Name) → Reads 4 record_shape.cells (λ trees. rows_seen u trees RecordKept) (Text u ∷ []) records_of_text
+records_read u = reads_all RowOf KeyOf shape good books_schema RecordKept 4 (λ x. refl) records_of_text record_shows order_2 record_names records_of_is records_of_plain u refl (λ r. one_test (column r 1) u) (λ id v x. refl)
 
-pub find_changes : (u : Name) (old new : State) → AreBooks old.now → (rows : List Row) → Shown changes_of_text (Text u ∷ []) old new rows → rows ≡ map change_shape.cells (rows_seen u old.now.trees ChangeKept)
-find_changes u old new books rows h =
-    finds_rows change_shape (good ChangeKept) books_schema changes_of_text by_unit change_shows order_2 change_names changes_of_is.0 changes_of_is.1 changes_of_plain (Text u ∷ []) refl (is_of u) (λ r. one_test (column r 1) u) old new books.same_schema (books.tidy ChangeKept).apart rows h
-    ∙ shown_kept change_shape (good ChangeKept) _ change_shape.cells (λ id v x. refl) (is_of u) (old.now.trees 17) (books.tidy ChangeKept).each
+pub changes_read : (u : Name) → Reads 15 change_shape.cells (λ trees. rows_seen u trees ChangeKept) (Text u ∷ []) changes_of_text
+changes_read u = reads_all RowOf KeyOf shape good books_schema ChangeKept 15 (λ x. refl) changes_of_text change_shows order_2 change_names changes_of_is changes_of_plain u refl (λ r. one_test (column r 1) u) (λ id v x. refl)
 
 -- ---- those of one person, of one tag, or of one number
 
-pub find_own_grants : (u p : Name) (old new : State) → AreBooks old.now → (rows : List Row) → Shown own_grants_text (Text u ∷ Text p ∷ []) old new rows
-    → rows ≡ map grant_shape.cells (filter (λ g. same_name p g.person) (rows_seen u old.now.trees GrantKept))
-find_own_grants u p old new books rows h =
-    finds_rows grant_shape (good GrantKept) books_schema own_grants_text by_two grant_shows order_3 grant_names own_grants_is.0 own_grants_is.1 own_grants_plain (Text u ∷ Text p ∷ []) refl (λ r. is_of u r && is_named p r) (λ r. two_tests (column r 1) (column r 2) u p) old new books.same_schema (books.tidy GrantKept).apart rows h
-    ∙ shown_kept grant_shape (good GrantKept) _ grant_shape.cells (λ id v x. refl) (λ r. is_of u r && is_named p r) (old.now.trees 3) (books.tidy GrantKept).each
-    ∙ ap (map grant_shape.cells) (some_kept grant_shape (good GrantKept) (is_named p) (λ g. same_name p g.person) (λ id v x. named_same x.person p) u (old.now.trees 3) (books.tidy GrantKept).each)
+pub own_grants_read : (u p : Name) → Reads 3 grant_shape.cells (λ trees. filter (λ g. same_name p g.person) (rows_seen u trees GrantKept)) (Text u ∷ Text p ∷ []) own_grants_text
+own_grants_read u p =
+    reads_some RowOf KeyOf shape good books_schema GrantKept 3 (λ x. refl) own_grants_text grant_shows order_3 grant_names own_grants_is own_grants_plain u (Text p) refl (is_named p) (λ r. two_tests (column r 1) (column r 2) u p) (λ id v x. refl)
+    (λ g. same_name p g.person) (λ id v x. named_same x.person p)
 
-pub find_alarm : (u a : Name) (old new : State) → AreBooks old.now → (rows : List Row) → Shown alarm_at_text (Text u ∷ Text a ∷ []) old new rows
-    → rows ≡ map alarm_shape.cells (filter (λ r. same_name a r.tag) (rows_seen u old.now.trees AlarmKept))
-find_alarm u a old new books rows h =
-    finds_rows alarm_shape (good AlarmKept) books_schema alarm_at_text by_two alarm_shows order_2 alarm_names alarm_at_is.0 alarm_at_is.1 alarm_at_plain (Text u ∷ Text a ∷ []) refl (λ r. is_of u r && is_named a r) (λ r. two_tests (column r 1) (column r 2) u a) old new books.same_schema (books.tidy AlarmKept).apart rows h
-    ∙ shown_kept alarm_shape (good AlarmKept) _ alarm_shape.cells (λ id v x. refl) (λ r. is_of u r && is_named a r) (old.now.trees 5) (books.tidy AlarmKept).each
-    ∙ ap (map alarm_shape.cells) (some_kept alarm_shape (good AlarmKept) (is_named a) (λ r. same_name a r.tag) (λ id v x. named_same x.tag a) u (old.now.trees 5) (books.tidy AlarmKept).each)
+pub alarm_read : (u a : Name) → Reads 11 alarm_shape.cells (λ trees. filter (λ r. same_name a r.tag) (rows_seen u trees AlarmKept)) (Text u ∷ Text a ∷ []) alarm_at_text
+alarm_read u a =
+    reads_some RowOf KeyOf shape good books_schema AlarmKept 11 (λ x. refl) alarm_at_text alarm_shows order_2 alarm_names alarm_at_is alarm_at_plain u (Text a) refl (is_named a) (λ r. two_tests (column r 1) (column r 2) u a) (λ id v x. refl)
+    (λ r. same_name a r.tag) (λ id v x. named_same x.tag a)
 
-pub find_shelf : (u a : Name) (old new : State) → AreBooks old.now → (rows : List Row) → Shown shelf_at_text (Text u ∷ Text a ∷ []) old new rows
-    → rows ≡ map shelf_shape.cells (filter (λ r. same_name a r.tag) (rows_seen u old.now.trees ShelfKept))
-find_shelf u a old new books rows h =
-    finds_rows shelf_shape (good ShelfKept) books_schema shelf_at_text by_two shelf_shows order_2 shelf_names shelf_at_is.0 shelf_at_is.1 shelf_at_plain (Text u ∷ Text a ∷ []) refl (λ r. is_of u r && is_named a r) (λ r. two_tests (column r 1) (column r 2) u a) old new books.same_schema (books.tidy ShelfKept).apart rows h
-    ∙ shown_kept shelf_shape (good ShelfKept) _ shelf_shape.cells (λ id v x. refl) (λ r. is_of u r && is_named a r) (old.now.trees 7) (books.tidy ShelfKept).each
-    ∙ ap (map shelf_shape.cells) (some_kept shelf_shape (good ShelfKept) (is_named a) (λ r. same_name a r.tag) (λ id v x. named_same x.tag a) u (old.now.trees 7) (books.tidy ShelfKept).each)
+pub shelf_read : (u a : Name) → Reads 6 shelf_shape.cells (λ trees. filter (λ r. same_name a r.tag) (rows_seen u trees ShelfKept)) (Text u ∷ Text a ∷ []) shelf_at_text
+shelf_read u a =
+    reads_some RowOf KeyOf shape good books_schema ShelfKept 6 (λ x. refl) shelf_at_text shelf_shows order_2 shelf_names shelf_at_is shelf_at_plain u (Text a) refl (is_named a) (λ r. two_tests (column r 1) (column r 2) u a) (λ id v x. refl)
+    (λ r. same_name a r.tag) (λ id v x. named_same x.tag a)
 
-pub find_record : (u a : Name) (old new : State) → AreBooks old.now → (rows : List Row) → Shown record_at_text (Text u ∷ Text a ∷ []) old new rows
-    → rows ≡ map record_shape.cells (filter (λ r. same_name a r.tag) (rows_seen u old.now.trees RecordKept))
-find_record u a old new books rows h =
-    finds_rows record_shape (good RecordKept) books_schema record_at_text by_two record_shows order_2 record_names record_at_is.0 record_at_is.1 record_at_plain (Text u ∷ Text a ∷ []) refl (λ r. is_of u r && is_named a r) (λ r. two_tests (column r 1) (column r 2) u a) old new books.same_schema (books.tidy RecordKept).apart rows h
-    ∙ shown_kept record_shape (good RecordKept) _ record_shape.cells (λ id v x. refl) (λ r. is_of u r && is_named a r) (old.now.trees 15) (books.tidy RecordKept).each
-    ∙ ap (map record_shape.cells) (some_kept record_shape (good RecordKept) (is_named a) (λ r. same_name a r.tag) (λ id v x. named_same x.tag a) u (old.now.trees 15) (books.tidy RecordKept).each)
+pub record_read : (u a : Name) → Reads 4 record_shape.cells (λ trees. filter (λ r. same_name a r.tag) (rows_seen u trees RecordKept)) (Text u ∷ Text a ∷ []) record_at_text
+record_read u a =
+    reads_some RowOf KeyOf shape good books_schema RecordKept 4 (λ x. refl) record_at_text record_shows order_2 record_names record_at_is record_at_plain u (Text a) refl (is_named a) (λ r. two_tests (column r 1) (column r 2) u a) (λ id v x. refl)
+    (λ r. same_name a r.tag) (λ id v x. named_same x.tag a)
 
-pub find_bands_at : (u : Name) (n : ℕ) (old new : State) → AreBooks old.now → (rows : List Row) → Shown bands_at_text (Text u ∷ number n ∷ []) old new rows
-    → rows ≡ map band_shape.cells (filter (λ r. same_number n r.matrix_no) (rows_seen u old.now.trees BandKept))
-find_bands_at u n old new books rows h =
-    finds_rows band_shape (good BandKept) books_schema bands_at_text by_two band_shows order_3 band_names bands_at_is.0 bands_at_is.1 bands_at_plain (Text u ∷ number n ∷ []) refl (λ r. is_of u r && is_numbered n r) (λ r. number_tests (column r 1) (column r 2) u n) old new books.same_schema (books.tidy BandKept).apart rows h
-    ∙ shown_kept band_shape (good BandKept) _ band_shape.cells (λ id v x. refl) (λ r. is_of u r && is_numbered n r) (old.now.trees 9) (books.tidy BandKept).each
-    ∙ ap (map band_shape.cells) (some_kept band_shape (good BandKept) (is_numbered n) (λ r. same_number n r.matrix_no) (λ id v x. numbered_same x.matrix_no n) u (old.now.trees 9) (books.tidy BandKept).each)
+pub bands_at_read : (u : Name) (n : ℕ) → Reads 3 band_shape.cells (λ trees. filter (λ r. same_number n r.matrix_no) (rows_seen u trees BandKept)) (Text u ∷ number n ∷ []) bands_at_text
+bands_at_read u n =
+    reads_some RowOf KeyOf shape good books_schema BandKept 3 (λ x. refl) bands_at_text band_shows order_3 band_names bands_at_is bands_at_plain u (number n) refl (is_numbered n) (λ r. number_tests (column r 1) (column r 2) u n) (λ id v x. refl)
+    (λ r. same_number n r.matrix_no) (λ id v x. numbered_same x.matrix_no n)
 
-pub find_cells_at : (u : Name) (n : ℕ) (old new : State) → AreBooks old.now → (rows : List Row) → Shown cells_at_text (Text u ∷ number n ∷ []) old new rows
-    → rows ≡ map cell_shape.cells (filter (λ r. same_number n r.matrix_no) (rows_seen u old.now.trees CellKept))
-find_cells_at u n old new books rows h =
-    finds_rows cell_shape (good CellKept) books_schema cells_at_text by_two cell_shows order_4 cell_names cells_at_is.0 cells_at_is.1 cells_at_plain (Text u ∷ number n ∷ []) refl (λ r. is_of u r && is_numbered n r) (λ r. number_tests (column r 1) (column r 2) u n) old new books.same_schema (books.tidy CellKept).apart rows h
-    ∙ shown_kept cell_shape (good CellKept) _ cell_shape.cells (λ id v x. refl) (λ r. is_of u r && is_numbered n r) (old.now.trees 11) (books.tidy CellKept).each
-    ∙ ap (map cell_shape.cells) (some_kept cell_shape (good CellKept) (is_numbered n) (λ r. same_number n r.matrix_no) (λ id v x. numbered_same x.matrix_no n) u (old.now.trees 11) (books.tidy CellKept).each)
+pub cells_at_read : (u : Name) (n : ℕ) → Reads 4 cell_shape.cells (λ trees. filter (λ r. same_number n r.matrix_no) (rows_seen u trees CellKept)) (Text u ∷ number n ∷ []) cells_at_text
+cells_at_read u n =
+    reads_some RowOf KeyOf shape good books_schema CellKept 4 (λ x. refl) cells_at_text cell_shows order_4 cell_names cells_at_is cells_at_plain u (number n) refl (is_numbered n) (λ r. number_tests (column r 1) (column r 2) u n) (λ id v x. refl)
+    (λ r. same_number n r.matrix_no) (λ id v x. numbered_same x.matrix_no n)
 
-pub find_change : (u : Name) (n : ℕ) (old new : State) → AreBooks old.now → (rows : List Row) → Shown change_at_text (Text u ∷ number n ∷ []) old new rows
-    → rows ≡ map change_shape.cells (filter (λ r. same_number n r.number) (rows_seen u old.now.trees ChangeKept))
-find_change u n old new books rows h =
-    finds_rows change_shape (good ChangeKept) books_schema change_at_text by_two change_shows order_2 change_names change_at_is.0 change_at_is.1 change_at_plain (Text u ∷ number n ∷ []) refl (λ r. is_of u r && is_numbered n r) (λ r. number_tests (column r 1) (column r 2) u n) old new books.same_schema (books.tidy ChangeKept).apart rows h
-    ∙ shown_kept change_shape (good ChangeKept) _ change_shape.cells (λ id v x. refl) (λ r. is_of u r && is_numbered n r) (old.now.trees 17) (books.tidy ChangeKept).each
-    ∙ ap (map change_shape.cells) (some_kept change_shape (good ChangeKept) (is_numbered n) (λ r. same_number n r.number) (λ id v x. numbered_same x.number n) u (old.now.trees 17) (books.tidy ChangeKept).each)
+pub change_read : (u : Name) (n : ℕ) → Reads 15 change_shape.cells (λ trees. filter (λ r. same_number n r.number) (rows_seen u trees ChangeKept)) (Text u ∷ number n ∷ []) change_at_text
+change_read u n =
+    reads_some RowOf KeyOf shape good books_schema ChangeKept 15 (λ x. refl) change_at_text change_shows order_2 change_names change_at_is change_at_plain u (number n) refl (is_numbered n) (λ r. number_tests (column r 1) (column r 2) u n) (λ id v x. refl)
+    (λ r. same_number n r.number) (λ id v x. numbered_same x.number n)
 
 -- a unit's tags
 pub find_tags : (u : Name) (old new : State) → AreBooks old.now → (rows : List Row) → Shown tags_of_text (Text u ∷ []) old new rows → rows ≡ map (λ (r : AlarmRow). Text r.tag ∷ []) (rows_seen u old.now.trees AlarmKept)

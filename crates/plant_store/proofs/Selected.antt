@@ -18,22 +18,21 @@ use Rattle.plant_model.specs.declared.rows.UnitRow.{UnitRow}
 use Rattle.plant_model.specs.declared.rows.UnitRows.{UnitRows}
 use Rattle.plant_model.proofs.PartLaws.{own_holds}
 use Rattle.plant_model.specs.Histories.{same_number}
-use Rattle.plant_model.specs.Parts.{AllEvents, Approval, File, Scope, Selection, counted_for, of_approved, of_topic, part_of, part_of_holder, part_of_stranger, rows_selected, scope_of, selected, selection}
-use Rattle.plant_model.specs.declared.rows.ChangeTopic.{ChangeTopic}
-use Rattle.plant_model.specs.declared.rows.ChangeTopic.TheVariants.{Limit as LimitTopic, Matrix as MatrixTopic, Record as RecordTopic}
+use Rattle.plant_model.specs.Parts.{Selection, counted_for, part_of, part_of_holder, part_of_stranger, rows_selected, selected}
 use Rattle.plant_model.specs.RowChanges.{no_rows}
 use Rattle.plant_model.specs.RowFacts.{change_found, change_number, event_number, holds_by, pair_of}
 use Rattle.plant_types.specs.Tables.{IsInOrder, row_at}
 use Rattle.std.specs.Ordering.{nat_cmp}
 use Rattle.plant_types.specs.Names.{Name, same_name}
 use Rattle.plant_types.specs.Roles.{Pair}
-use Rattle.plant_books.specs.Asking.{is_wanted}
+use Rattle.plant_books.proofs.EventLaws.{none_asked}
+use Rattle.plant_books.specs.Asking.{is_wanted, looks_at_events}
 use Rattle.plant_books.specs.declared.asking.Wanted.{Wanted}
 use Rattle.plant_books.specs.declared.asking.Wanted.TheVariants.{Every, Nothing, One}
 use Rattle.plant_store.specs.Keeping.{KeepsIn, has_any}
 use Rattle.plant_columns.specs.Tables.{rows_seen}
 use Rattle.plant_columns.specs.Tables.Kept.{UnitKept, GrantKept, AlarmKept, ShelfKept, BandKept, CellKept, EventKept, RecordKept, ChangeKept}
-use Rattle.plant_store.specs.Wanted.{alarms_with, events_with, has_events, looks_at_events, records_with, shelves_with}
+use Rattle.plant_store.specs.Wanted.{alarms_with, events_with, records_with, shelves_with}
 use Rattle.plant_alarm.specs.declared.event.EventKind.TheVariants.{Act}
 use Rattle.plant_model.specs.declared.call.Request.{Request}
 use Rattle.plant_model.specs.declared.call.Request.TheVariants.{Floods, Import}
@@ -57,27 +56,7 @@ records_are s Nothing h rows = sym (filter_same (λ (r : RecordEntry). s.rationa
 records_are s (One tag) h rows = sym (filter_same (λ (r : RecordEntry). s.rationale r.tag) (λ r. same_name tag.now r.tag) (λ r. h r.tag) rows)
 records_are s Every h rows = sym (filter_same (λ (r : RecordEntry). s.rationale r.tag) (λ r. true) (λ r. h r.tag) rows ∙ passing_all rows)
 
--- what a scope takes in of the events that were read for it
-no_topic_events : (rows : UnitRows) (tag : Option Name) (k : ChangeTopic) (es : List Event) → (of_topic rows tag k).events es ≡ []
-no_topic_events rows tag MatrixTopic es = refl
-no_topic_events rows (Some a) RecordTopic es = refl
-no_topic_events rows (Some a) LimitTopic es = refl
-no_topic_events rows None RecordTopic es = refl
-no_topic_events rows None LimitTopic es = refl
-
-no_approved_events : (rows : UnitRows) (n : ℕ) (o : Option ChangeEntry) (es : List Event) → (of_approved rows n o).events es ≡ []
-no_approved_events rows n None es = refl
-no_approved_events rows n (Some c) es = no_topic_events rows c.tag c.kind_no es
-
-none_in : (rows : UnitRows) (s : Scope) (es : List Event) → has_events s ≡ false → (selection rows s).events es ≡ []
-none_in rows (File rs) es none = absurd (let no : true ≡ false = none in cc)
-none_in rows AllEvents es none = absurd (let no : true ≡ false = none in cc)
-none_in rows (Approval n) es none = no_approved_events rows n (change_found rows n) es
-none_in rows _ es none = refl
-
-none_asked : (rows : UnitRows) (q : Request) (es : List Event) → looks_at_events q ≡ false → (selected rows q).events es ≡ []
-none_asked rows q es none = none_in rows (scope_of q) es none
-
+-- what a request takes in of the events that were read for it
 events_are : (rows : UnitRows) (q : Request) (told : Bool) → told ≡ looks_at_events q → (seen : List Event) → (selected rows q).events (events_with told seen) ≡ (selected rows q).events seen
 events_are rows q true is seen = refl
 events_are rows q false is seen = none_asked rows q [] (sym is) ∙ sym (none_asked rows q seen (sym is))

@@ -1,5 +1,5 @@
 -- A row is written over the one of its key where there is one, and put anew where there is none.
-use Rattle.std.proofs.Common.{arith, ◌≡◌, ℕ, true, false, List, [], ◌∷◌, Ok, refl, sym, ap, ap₂, ◌∙◌, subst, is_eq, Ordering, Less, Equal, Greater, true≢false}
+use Rattle.std.proofs.Common.{arith, ◌≡◌, ℕ, zero, suc, true, false, List, [], ◌∷◌, Ok, refl, sym, ap, ap₂, ◌∙◌, subst, is_eq, Ordering, Less, Equal, Greater, true≢false}
 use Rattle.std.proofs.lemmas.Bool.Decides.{nat_tests}
 use Rattle.std.specs.FinMap.{slice_cmp-IsAntisymmetric, nat_cmp-IsAntisymmetric}
 use Rattle.std.specs.Ordering.{ordering_then}
@@ -22,6 +22,7 @@ use Rattle.plant_model.specs.declared.rows.Change.TheVariants.{Put}
 use Rattle.plant_model.specs.declared.rows.ChangeEntry.{ChangeEntry}
 use Rattle.plant_model.specs.declared.rows.GrantRow.{GrantRow}
 use Rattle.plant_model.specs.declared.rows.RecordEntry.{RecordEntry}
+use Rattle.plant_model.specs.declared.rows.Row.{Row as AnyRow}
 use Rattle.plant_model.specs.declared.rows.Row.TheVariants.{Alarm as AlarmPut, Change as ChangePut, Grant as GrantPut, Record as RecordPut, Shelf as ShelfPut, Unit as UnitPut}
 use Rattle.plant_model.specs.declared.rows.ShelfRow.{ShelfRow}
 use Rattle.plant_model.specs.declared.rows.UnitRow.{UnitRow}
@@ -30,6 +31,7 @@ use Rattle.plant_types.specs.Roles.{role_no}
 use Rattle.plant_types.specs.Tables.{put_row}
 use Rattle.plant_tables.specs.Kept.{by_columns, plain_query}
 use Rattle.plant_tables.specs.Shape.{row_in}
+use Rattle.sqlite.specs.Effect.{Database}
 use Rattle.plant_tables.proofs.Family.{Edits, no_edits, set_edits}
 use Rattle.plant_tables.proofs.Keys.{agree_is}
 use Rattle.plant_tables.proofs.Laws.{passes, shows}
@@ -39,9 +41,10 @@ use Rattle.plant_columns.specs.Tables.{AreBooks, Kept, KeyOf, RowOf, alarm_shape
 use Rattle.plant_columns.specs.Tables.Kept.{AlarmKept, ChangeKept, GrantKept, RecordKept, ShelfKept, UnitKept}
 use Rattle.plant_columns.proofs.ShapeLaws.{all_listed, good, listed, numbers}
 use Rattle.plant_store.specs.Changes.{Applies}
-use Rattle.plant_store.specs.Texts.{over_alarm_text, over_change_text, over_grant_text, over_record_text, over_shelf_text, over_unit_text, put_alarm_text, put_change_text, put_grant_text, put_record_text, put_shelf_text, put_unit_text}
+use Rattle.plant_store.specs.Statements.{changes_written}
+use Rattle.plant_store.specs.Texts.{over_alarm_text, over_change_text, over_grant_text, over_record_text, over_shelf_text, over_unit_text}
 use Rattle.plant_store.proofs.Meanings.{by_three, by_two, by_unit, over_alarm_is, over_alarm_plain, over_alarm_shows, over_change_is, over_change_plain, over_change_shows, over_grant_is, over_grant_plain, over_grant_shows, over_record_is, over_record_plain, over_record_shows, over_shelf_is, over_shelf_plain, over_shelf_shows, over_unit_is, over_unit_plain, over_unit_shows}
-use Rattle.plant_store.proofs.Writes.{alarm_edited, applies_then, change_edited, edits_apply, free, grant_edited, put_alarm_applies, put_change_applies, put_grant_applies, put_record_applies, put_shelf_applies, put_unit_applies, record_edited, shelf_edited, unit_edited}
+use Rattle.plant_store.proofs.Writes.{alarm_edited, change_edited, edits_apply, free, grant_edited, record_edited, shelf_edited, unit_edited}
 
 -- ---- cells of a key that tie are the same
 
@@ -77,17 +80,28 @@ none_written i text tests terms is plain_text u params old new books h =
     (no_edits RowOf KeyOf shape books_schema all_listed i u old.now new.now books (leaves (shape i) books_schema free (listed i) text tests terms is plain_text params old new books.same_schema h))
     (λ rows seen. refl) (λ rows j other. refl)
 
+not_zero : (n : ℕ) → nat_eq (suc n) 0 ≡ false
+not_zero n = grind (arith, nat_tests)
+
+puts_over : (i : Kept) (as_row : RowOf i → AnyRow) (text : List ℕ) (tests terms : List Term)
+    → command_of (understood books_schema text) ≡ Update (shape i).place (record { lets = []; body = plain_query (inner (shape i).tree end) tests terms [] }) → IsPlain (understood books_schema text)
+    → ((u : Name) (x : RowOf i) (old new : Database) → AreBooks old → Edits RowOf KeyOf shape books_schema i u (put_row (shape i).order (shape i).key x) old new → Applies u (Put (as_row x) ∷ []) old new)
+    → ((u : Name) (x : RowOf i) (id : Value) (y : Row) → passes (shape i).tree tests terms [] (Text u ∷ (shape i).cells x) y ≡ agree plain (1 ∷ (shape i).keys) y (1 ∷ (shape i).keys) (row_in (shape i) id u x))
+    → ((u : Name) (x : RowOf i) (id : Value) (v : Name) (y : RowOf i) → is_eq (by_columns (1 ∷ (shape i).keys) (row_in (shape i) id u x) (row_in (shape i) id v y)) ≡ true
+    → (shows (shape i).tree tests terms [] (Text u ∷ (shape i).cells x) (row_in (shape i) id v y)).1 ≡ id ∷ row_in (shape i) id u x)
+    → (u : Name) (x : RowOf i) (old new : State) → AreBooks old.now → (count : ℕ) → Executes text (Text u ∷ (shape i).cells x) old new (Ok count) → Applies u (changes_written count (Put (as_row x))) old.now new.now
+puts_over i as_row text tests terms is plain_text edited same shown u x old new books zero h = none_written i text tests terms is plain_text u (Text u ∷ (shape i).cells x) old new books h
+puts_over i as_row text tests terms is plain_text edited same shown u x old new books (suc n) h = edited u x old.now new.now books (written_over i text tests terms is plain_text u x (same u x) (shown u x) old new books (suc n) (not_zero n) h)
+
 is_zero : (n : ℕ) → nat_eq n 0 ≡ true → n ≡ 0
 is_zero n e = grind (arith, nat_tests)
 
--- no row was written over, and then the row is put
-then_put : (i : Kept) (text : List ℕ) (tests terms : List Term) → command_of (understood books_schema text) ≡ Update (shape i).place (record { lets = []; body = plain_query (inner (shape i).tree end) tests terms [] }) → IsPlain (understood books_schema text)
-    → (u : Name) (params : Row) (cs : List Change) (old between new : State) → AreBooks old.now → (n : ℕ) → nat_eq n 0 ≡ true → Executes text params old between (Ok n)
-    → (AreBooks between.now → Applies u cs between.now new.now) → Applies u cs old.now new.now
-then_put i text tests terms is plain_text u params cs old between new books n none h put =
-    let zero = subst (λ (m : ℕ). Executes text params old between (Ok m)) (is_zero n none) h in
-    let left = none_written i text tests terms is plain_text u params old between books zero in
-    applies_then u [] cs old.now between.now new.now left (put left.books)
+pub one_put : (u : Name) (change : Change) (old new : Database) (count : ℕ) → nat_eq count 0 ≡ false → Applies u (changes_written count change) old new → Applies u (change ∷ []) old new
+one_put u change old new zero some it = absurd (true≢false some)
+one_put u change old new (suc n) some it = it
+
+pub none_put : (u : Name) (change : Change) (old new : Database) (count : ℕ) → nat_eq count 0 ≡ true → Applies u (changes_written count change) old new → Applies u [] old new
+none_put u change old new count none it = subst (λ (n : ℕ). Applies u (changes_written n change) old new) (is_zero count none) it
 
 -- ---- a unit's own row
 
@@ -97,15 +111,9 @@ unit_shown u x id v y tie =
     let unit : v ≡ u = sym (same_text u v (both_tie (value_cmp (Text u) (Text v)) Equal tie).0) in
     ap (λ w. (shows 1 by_unit over_unit_shows [] (Text u ∷ unit_shape.cells x) (row_in unit_shape id w y)).1) unit
 
-pub unit_over : (u : Name) (x : UnitRow) (old new : State) → AreBooks old.now → (count : ℕ) → nat_eq count 0 ≡ false → Executes over_unit_text (Text u ∷ unit_shape.cells x) old new (Ok count) → Applies u (Put (UnitPut x) ∷ []) old.now new.now
+pub unit_over : (u : Name) (x : UnitRow) (old new : State) → AreBooks old.now → (count : ℕ) → Executes over_unit_text (Text u ∷ unit_shape.cells x) old new (Ok count) → Applies u (changes_written count (Put (UnitPut x))) old.now new.now
 unfolding first_key
-unit_over u x old new books count some h =
-    unit_edited u x old.now new.now books (written_over UnitKept over_unit_text by_unit over_unit_shows over_unit_is over_unit_plain u x (λ id y. refl) (unit_shown u x) old new books count some h)
-
-pub unit_anew : (u : Name) (x : UnitRow) (old between new : State) → AreBooks old.now → (n : ℕ) → nat_eq n 0 ≡ true → Executes over_unit_text (Text u ∷ unit_shape.cells x) old between (Ok n)
-    → (count : ℕ) → Executes put_unit_text (Text u ∷ unit_shape.cells x) between new (Ok count) → Applies u (Put (UnitPut x) ∷ []) old.now new.now
-unit_anew u x old between new books n none h count k =
-    then_put UnitKept over_unit_text by_unit over_unit_shows over_unit_is over_unit_plain u (Text u ∷ unit_shape.cells x) (Put (UnitPut x) ∷ []) old between new books n none h (λ between_books. put_unit_applies u x between new between_books count k)
+unit_over = puts_over UnitKept UnitPut over_unit_text by_unit over_unit_shows over_unit_is over_unit_plain unit_edited (λ u x id y. refl) unit_shown
 
 -- ---- a grant
 
@@ -120,15 +128,9 @@ grant_shown u x id v y tie =
     let n : role_no y.role_no ≡ role_no x.role_no = sym (same_number (role_no x.role_no) (role_no y.role_no) (both_tie (value_cmp (role x.role_no) (role y.role_no)) Equal second.1).0) in
     λ i. id ∷ id ∷ Text (unit i) ∷ Text (person i) ∷ number (n i) ∷ open_number x.end_s ∷ []
 
-pub grant_over : (u : Name) (x : GrantRow) (old new : State) → AreBooks old.now → (count : ℕ) → nat_eq count 0 ≡ false → Executes over_grant_text (Text u ∷ grant_shape.cells x) old new (Ok count) → Applies u (Put (GrantPut x) ∷ []) old.now new.now
+pub grant_over : (u : Name) (x : GrantRow) (old new : State) → AreBooks old.now → (count : ℕ) → Executes over_grant_text (Text u ∷ grant_shape.cells x) old new (Ok count) → Applies u (changes_written count (Put (GrantPut x))) old.now new.now
 unfolding first_key
-grant_over u x old new books count some h =
-    grant_edited u x old.now new.now (written_over GrantKept over_grant_text by_three over_grant_shows over_grant_is over_grant_plain u x (λ id y. refl) (grant_shown u x) old new books count some h)
-
-pub grant_anew : (u : Name) (x : GrantRow) (old between new : State) → AreBooks old.now → (n : ℕ) → nat_eq n 0 ≡ true → Executes over_grant_text (Text u ∷ grant_shape.cells x) old between (Ok n)
-    → (count : ℕ) → Executes put_grant_text (Text u ∷ grant_shape.cells x) between new (Ok count) → Applies u (Put (GrantPut x) ∷ []) old.now new.now
-grant_anew u x old between new books n none h count k =
-    then_put GrantKept over_grant_text by_three over_grant_shows over_grant_is over_grant_plain u (Text u ∷ grant_shape.cells x) (Put (GrantPut x) ∷ []) old between new books n none h (λ between_books. put_grant_applies u x between new between_books count k)
+grant_over = puts_over GrantKept GrantPut over_grant_text by_three over_grant_shows over_grant_is over_grant_plain (λ u x old new books. grant_edited u x old new) (λ u x id y. refl) grant_shown
 
 -- ---- an alarm
 
@@ -140,15 +142,9 @@ alarm_shown u x id v y tie =
     let tag : y.tag ≡ x.tag = sym (same_text x.tag y.tag (both_tie (value_cmp (Text x.tag) (Text y.tag)) Equal both.1).0) in
     ap₂ (λ w t. (shows 5 by_two over_alarm_shows [] (Text u ∷ alarm_shape.cells x) (row_in alarm_shape id w (record y { tag = t }))).1) unit tag
 
-pub alarm_over : (u : Name) (x : AlarmRow) (old new : State) → AreBooks old.now → (count : ℕ) → nat_eq count 0 ≡ false → Executes over_alarm_text (Text u ∷ alarm_shape.cells x) old new (Ok count) → Applies u (Put (AlarmPut x) ∷ []) old.now new.now
+pub alarm_over : (u : Name) (x : AlarmRow) (old new : State) → AreBooks old.now → (count : ℕ) → Executes over_alarm_text (Text u ∷ alarm_shape.cells x) old new (Ok count) → Applies u (changes_written count (Put (AlarmPut x))) old.now new.now
 unfolding first_key
-alarm_over u x old new books count some h =
-    alarm_edited u x old.now new.now (written_over AlarmKept over_alarm_text by_two over_alarm_shows over_alarm_is over_alarm_plain u x (λ id y. refl) (alarm_shown u x) old new books count some h)
-
-pub alarm_anew : (u : Name) (x : AlarmRow) (old between new : State) → AreBooks old.now → (n : ℕ) → nat_eq n 0 ≡ true → Executes over_alarm_text (Text u ∷ alarm_shape.cells x) old between (Ok n)
-    → (count : ℕ) → Executes put_alarm_text (Text u ∷ alarm_shape.cells x) between new (Ok count) → Applies u (Put (AlarmPut x) ∷ []) old.now new.now
-alarm_anew u x old between new books n none h count k =
-    then_put AlarmKept over_alarm_text by_two over_alarm_shows over_alarm_is over_alarm_plain u (Text u ∷ alarm_shape.cells x) (Put (AlarmPut x) ∷ []) old between new books n none h (λ between_books. put_alarm_applies u x between new between_books count k)
+alarm_over = puts_over AlarmKept AlarmPut over_alarm_text by_two over_alarm_shows over_alarm_is over_alarm_plain (λ u x old new books. alarm_edited u x old new) (λ u x id y. refl) alarm_shown
 
 -- ---- a shelf
 
@@ -160,15 +156,9 @@ shelf_shown u x id v y tie =
     let tag : y.tag ≡ x.tag = sym (same_text x.tag y.tag (both_tie (value_cmp (Text x.tag) (Text y.tag)) Equal both.1).0) in
     ap₂ (λ w t. (shows 7 by_two over_shelf_shows [] (Text u ∷ shelf_shape.cells x) (row_in shelf_shape id w (record y { tag = t }))).1) unit tag
 
-pub shelf_over : (u : Name) (x : ShelfRow) (old new : State) → AreBooks old.now → (count : ℕ) → nat_eq count 0 ≡ false → Executes over_shelf_text (Text u ∷ shelf_shape.cells x) old new (Ok count) → Applies u (Put (ShelfPut x) ∷ []) old.now new.now
+pub shelf_over : (u : Name) (x : ShelfRow) (old new : State) → AreBooks old.now → (count : ℕ) → Executes over_shelf_text (Text u ∷ shelf_shape.cells x) old new (Ok count) → Applies u (changes_written count (Put (ShelfPut x))) old.now new.now
 unfolding first_key
-shelf_over u x old new books count some h =
-    shelf_edited u x old.now new.now (written_over ShelfKept over_shelf_text by_two over_shelf_shows over_shelf_is over_shelf_plain u x (λ id y. refl) (shelf_shown u x) old new books count some h)
-
-pub shelf_anew : (u : Name) (x : ShelfRow) (old between new : State) → AreBooks old.now → (n : ℕ) → nat_eq n 0 ≡ true → Executes over_shelf_text (Text u ∷ shelf_shape.cells x) old between (Ok n)
-    → (count : ℕ) → Executes put_shelf_text (Text u ∷ shelf_shape.cells x) between new (Ok count) → Applies u (Put (ShelfPut x) ∷ []) old.now new.now
-shelf_anew u x old between new books n none h count k =
-    then_put ShelfKept over_shelf_text by_two over_shelf_shows over_shelf_is over_shelf_plain u (Text u ∷ shelf_shape.cells x) (Put (ShelfPut x) ∷ []) old between new books n none h (λ between_books. put_shelf_applies u x between new between_books count k)
+shelf_over = puts_over ShelfKept ShelfPut over_shelf_text by_two over_shelf_shows over_shelf_is over_shelf_plain (λ u x old new books. shelf_edited u x old new) (λ u x id y. refl) shelf_shown
 
 -- ---- a record
 
@@ -180,15 +170,9 @@ record_shown u x id v y tie =
     let tag : y.tag ≡ x.tag = sym (same_text x.tag y.tag (both_tie (value_cmp (Text x.tag) (Text y.tag)) Equal both.1).0) in
     ap₂ (λ w t. (shows 15 by_two over_record_shows [] (Text u ∷ record_shape.cells x) (row_in record_shape id w (record y { tag = t }))).1) unit tag
 
-pub record_over : (u : Name) (x : RecordEntry) (old new : State) → AreBooks old.now → (count : ℕ) → nat_eq count 0 ≡ false → Executes over_record_text (Text u ∷ record_shape.cells x) old new (Ok count) → Applies u (Put (RecordPut x) ∷ []) old.now new.now
+pub record_over : (u : Name) (x : RecordEntry) (old new : State) → AreBooks old.now → (count : ℕ) → Executes over_record_text (Text u ∷ record_shape.cells x) old new (Ok count) → Applies u (changes_written count (Put (RecordPut x))) old.now new.now
 unfolding first_key
-record_over u x old new books count some h =
-    record_edited u x old.now new.now (written_over RecordKept over_record_text by_two over_record_shows over_record_is over_record_plain u x (λ id y. refl) (record_shown u x) old new books count some h)
-
-pub record_anew : (u : Name) (x : RecordEntry) (old between new : State) → AreBooks old.now → (n : ℕ) → nat_eq n 0 ≡ true → Executes over_record_text (Text u ∷ record_shape.cells x) old between (Ok n)
-    → (count : ℕ) → Executes put_record_text (Text u ∷ record_shape.cells x) between new (Ok count) → Applies u (Put (RecordPut x) ∷ []) old.now new.now
-record_anew u x old between new books n none h count k =
-    then_put RecordKept over_record_text by_two over_record_shows over_record_is over_record_plain u (Text u ∷ record_shape.cells x) (Put (RecordPut x) ∷ []) old between new books n none h (λ between_books. put_record_applies u x between new between_books count k)
+record_over = puts_over RecordKept RecordPut over_record_text by_two over_record_shows over_record_is over_record_plain (λ u x old new books. record_edited u x old new) (λ u x id y. refl) record_shown
 
 -- ---- a change
 
@@ -200,12 +184,6 @@ change_shown u x id v y tie =
     let n : y.number ≡ x.number = sym (same_number x.number y.number (both_tie (value_cmp (number x.number) (number y.number)) Equal both.1).0) in
     ap₂ (λ w m. (shows 17 by_two over_change_shows [] (Text u ∷ change_shape.cells x) (row_in change_shape id w (record y { number = m }))).1) unit n
 
-pub change_over : (u : Name) (x : ChangeEntry) (old new : State) → AreBooks old.now → (count : ℕ) → nat_eq count 0 ≡ false → Executes over_change_text (Text u ∷ change_shape.cells x) old new (Ok count) → Applies u (Put (ChangePut x) ∷ []) old.now new.now
+pub change_over : (u : Name) (x : ChangeEntry) (old new : State) → AreBooks old.now → (count : ℕ) → Executes over_change_text (Text u ∷ change_shape.cells x) old new (Ok count) → Applies u (changes_written count (Put (ChangePut x))) old.now new.now
 unfolding first_key
-change_over u x old new books count some h =
-    change_edited u x old.now new.now (written_over ChangeKept over_change_text by_two over_change_shows over_change_is over_change_plain u x (λ id y. refl) (change_shown u x) old new books count some h)
-
-pub change_anew : (u : Name) (x : ChangeEntry) (old between new : State) → AreBooks old.now → (n : ℕ) → nat_eq n 0 ≡ true → Executes over_change_text (Text u ∷ change_shape.cells x) old between (Ok n)
-    → (count : ℕ) → Executes put_change_text (Text u ∷ change_shape.cells x) between new (Ok count) → Applies u (Put (ChangePut x) ∷ []) old.now new.now
-change_anew u x old between new books n none h count k =
-    then_put ChangeKept over_change_text by_two over_change_shows over_change_is over_change_plain u (Text u ∷ change_shape.cells x) (Put (ChangePut x) ∷ []) old between new books n none h (λ between_books. put_change_applies u x between new between_books count k)
+change_over = puts_over ChangeKept ChangePut over_change_text by_two over_change_shows over_change_is over_change_plain (λ u x old new books. change_edited u x old new) (λ u x id y. refl) change_shown

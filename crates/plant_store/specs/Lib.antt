@@ -1,5 +1,6 @@
 pub mod Texts
 pub mod Changes
+pub mod Statements
 pub mod Keeping
 pub mod Wanted
 pub mod Numbers

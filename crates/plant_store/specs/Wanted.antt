@@ -3,8 +3,6 @@ use Rattle.std.specs.Prelude.{Bool, List, [], false, filter, true}
 use Rattle.plant_alarm.specs.declared.event.Event.{Event}
 use Rattle.plant_books.specs.declared.asking.Wanted.{Wanted}
 use Rattle.plant_books.specs.declared.asking.Wanted.TheVariants.{Every, Nothing, One}
-use Rattle.plant_model.specs.declared.call.Request.{Request}
-use Rattle.plant_model.specs.Parts.{AllEvents, File, Scope, scope_of}
 use Rattle.plant_model.specs.declared.rows.AlarmRow.{AlarmRow}
 use Rattle.plant_model.specs.declared.rows.RecordEntry.{RecordEntry}
 use Rattle.plant_model.specs.declared.rows.ShelfRow.{ShelfRow}
@@ -28,12 +26,3 @@ records_with Every rows = rows
 abbrev pub events_with : Bool → List Event → List Event
 events_with false rows = []
 events_with true rows = rows
-
-abbrev pub has_events : Scope → Bool
-has_events (File es) = true
-has_events AllEvents = true
-has_events _ = false
-
--- a request that looks at events
-abbrev pub looks_at_events : Request → Bool
-looks_at_events q = has_events (scope_of q)

@@ -12,6 +12,7 @@ mod opening;
 mod part;
 mod read;
 mod shelves;
+mod stored;
 mod tables;
 mod unit;
 mod write;

@@ -1,43 +1,27 @@
 //! A plant's rows taken over from a store of schema 1 into new tables of this schema.
 
-ghost use Rattle.std.specs.Prelude.{◌≡◌, ◌≢◌, [], ◌∷◌, ℕ, false, map, IfErr, IfOk, IsErrAnd, IsTrue, List, OnErr, OnOk, Err};
+ghost use Rattle.std.specs.Prelude.{◌≡◌, ◌≢◌, [], false, map, IfErr, IfOk, IsErrAnd, IsTrue, OnErr, OnOk, Err};
 ghost use Rattle.sqlite.specs.Held.{state};
 ghost use Rattle.sqlite.specs.State.{HasCleanDisk, KeepsCommit, Survives};
-ghost use Rattle.sqlite.specs.Tree.{Trees};
 ghost use Rattle.plant_books.specs.Contents.{Content};
 ghost use Rattle.plant_columns.specs.Tables.{AreBooks, no_schema};
-ghost use Rattle.plant_columns.specs.Tables.Kept.{AlarmKept, BandKept, CellKept, ChangeKept, EventKept, GrantKept, RecordKept, ShelfKept, UnitKept};
 ghost use Rattle.plant_model.specs.declared.rows.Change.TheVariants.{Put};
-ghost use Rattle.plant_model.specs.declared.rows.Row.{Row as AnyRow};
-ghost use Rattle.plant_model.specs.declared.rows.Row.TheVariants.{Alarm as AlarmPut, Band as BandPut, Cell as CellPut, Change as ChangePut, Event as EventPut, Grant as GrantPut, Record as RecordPut, Shelf as ShelfPut, Unit as UnitPut};
 ghost use Rattle.plant_types.specs.declared.fault.Fault.TheVariants.{Store};
 ghost use Rattle.plant_store.specs.Changes.{Applies, CanTell};
 ghost use Rattle.plant_store.specs.Keeping.{HaveRows, Keeps};
-ghost use Rattle.plant_store.specs.OldTables.{AreOldBooks, old_rows, old_schema_no};
+ghost use Rattle.plant_store.specs.OldTables.{AreOldBooks, old_schema_no};
 ghost use Rattle.plant_store.specs.Opening.{IsOffice, has_office};
-ghost use Rattle.plant_store.specs.Upgrading.{AreTakenOver, HaveOldRows, all_kinds, old_codes, puts_all, puts_of, upgraded_grant, upgraded_rows, upgraded_unit};
+ghost use Rattle.plant_store.specs.Upgrading.{AreTakenOver, HaveOldRows, all_kinds, old_codes, puts_all, puts_of, upgraded_rows};
 
 use crate::make::make_tables;
-use crate::old_rows::{
-    CodeLine, OldGrantRow, OldUnitRow, old_codes_of, old_grants_of, old_units_of,
-};
+use crate::old_rows::{CodeLine, OldGrantRow, OldRow, OldUnitRow, old_codes_of, old_rows_of};
 use crate::opening::is_office_of;
-use crate::read::{alarms_of, bands_of, cells_of, changes_of, events_of, records_of, shelves_of};
 use crate::tables::{StoreFault, Tables, fault_of, is_blank};
-use crate::write::{
-    put_alarm, put_band, put_cell, put_change, put_event, put_grant, put_record, put_shelf,
-    put_unit,
-};
 use plant_alarm::Event;
-use plant_model::{
-    AlarmRow, BandRow, CellRow, ChangeEntry, GrantRow, RecordEntry, ShelfRow, UnitRow,
-};
-use plant_types::{Fault, Person, Quota, Table, UnitCode};
-use sqlite::{Alter, Connection, Error, ErrorCode, Transaction};
+use plant_model::{AlarmRow, BandRow, CellRow, ChangeEntry, RecordEntry, ShelfRow};
+use plant_types::{Fault, Person, UnitCode};
+use sqlite::{Alter, Connection, Error, Transaction};
 use std::alloc::Global;
-
-/// The greatest quota: a unit has no more alarms than this.
-const GREATEST_QUOTA: u64 = 2000;
 
 /// The schema from which a plant is taken over.
 const OLD_SCHEMA: u32 = 1;
@@ -62,262 +46,6 @@ pub struct MigrateRefused<O: Alter, N: Alter> {
     pub new: Connection<N>,
     pub admin: Person,
     pub fault: StoreFault,
-}
-
-/// A row of a store of schema 1.
-trait OldRow: Drop {
-    /// The row that it becomes.
-    ghost becomes: { Self → AnyRow };
-
-    /// Those that the tables have of a unit.
-    ghost had: { List ℕ → Trees → List Self };
-
-    /// A unit's rows of one table.
-    fn read_of<O: Alter>(
-        alloc: Global,
-        conn: &mut Connection<O>,
-        unit: &UnitCode,
-    ) -> Result<Table<Self>, Error>
-        requires { conn.old.in_transaction ≡ false }
-        ensures mode { conn.new.in_transaction ≡ false }
-        ensures rows { HasCleanDisk (state O.Store conn.new) → AreOldBooks (state O.Store conn.old).now → IfOk result (λ rows. rows ≡ had unit.now (state O.Store conn.old).now.trees) }
-        ensures same { CanTell (state O.Store conn.new) → AreOldBooks (state O.Store conn.old).now → (state O.Store conn.new).now ≡ (state O.Store conn.old).now }
-        ensures told { CanTell (state O.Store conn.new) → CanTell (state O.Store conn.old) };
-
-    /// Puts what it becomes.
-    fn put<N: Alter>(
-        &self,
-        alloc: Global,
-        tx: &mut Transaction<'_, N>,
-        unit: &UnitCode,
-    ) -> Result<(), Error>
-        ensures same_reference { tx.new.conn.ghost_name ≡ tx.old.conn.ghost_name }
-        ensures made { HasCleanDisk (state N.Store tx.new.conn.now) → IsTrue tx.old.conn.now.in_transaction → AreBooks (state N.Store tx.old.conn.now).now
-            → OnOk result (Applies unit.now (Put (becomes self.now) ∷ []) (state N.Store tx.old.conn.now).now (state N.Store tx.new.conn.now).now) }
-        ensures inside { HasCleanDisk (state N.Store tx.new.conn.now) → IsTrue tx.old.conn.now.in_transaction → OnOk result (IsTrue tx.new.conn.now.in_transaction) }
-        ensures kept { HasCleanDisk (state N.Store tx.new.conn.now) → IsTrue tx.old.conn.now.in_transaction → KeepsCommit (state N.Store tx.old.conn.now) (state N.Store tx.new.conn.now) }
-        ensures survives { Survives (state N.Store tx.old.conn.now) (state N.Store tx.new.conn.now) (λ _. ⊥) };
-}
-
-impl OldRow for OldUnitRow {
-    ghost becomes = { λ r. UnitPut (upgraded_unit r) };
-
-    ghost had = { λ unit trees. old_rows unit trees UnitKept };
-
-    fn read_of<O: Alter>(
-        alloc: Global,
-        conn: &mut Connection<O>,
-        unit: &UnitCode,
-    ) -> Result<Table<OldUnitRow>, Error> {
-        old_units_of(alloc, conn, unit)
-    }
-
-    fn put<N: Alter>(
-        &self,
-        _alloc: Global,
-        tx: &mut Transaction<'_, N>,
-        unit: &UnitCode,
-    ) -> Result<(), Error> {
-        let row = UnitRow {
-            last_s: self.last_s,
-            matrix_no: self.matrix_no,
-            matrix_rev: self.matrix_rev,
-            quota: Quota::new(GREATEST_QUOTA).unwrap(),
-        };
-        put_unit(tx, unit, &row)
-    }
-}
-
-impl OldRow for OldGrantRow {
-    ghost becomes = { λ g. GrantPut (upgraded_grant g) };
-
-    ghost had = { λ unit trees. old_rows unit trees GrantKept };
-
-    fn read_of<O: Alter>(
-        alloc: Global,
-        conn: &mut Connection<O>,
-        unit: &UnitCode,
-    ) -> Result<Table<OldGrantRow>, Error> {
-        old_grants_of(alloc, conn, unit)
-    }
-
-    fn put<N: Alter>(
-        &self,
-        alloc: Global,
-        tx: &mut Transaction<'_, N>,
-        unit: &UnitCode,
-    ) -> Result<(), Error> {
-        let Ok(person) = self.person.copy(alloc) else {
-            return Err(Error::SqliteFailure(ErrorCode::OutOfMemory));
-        };
-        let row = GrantRow {
-            person,
-            role_no: self.role_no,
-            end_s: None,
-        };
-        put_grant(tx, unit, &row)
-    }
-}
-
-impl OldRow for AlarmRow {
-    ghost becomes = { AlarmPut };
-
-    ghost had = { λ unit trees. old_rows unit trees AlarmKept };
-
-    fn read_of<O: Alter>(
-        alloc: Global,
-        conn: &mut Connection<O>,
-        unit: &UnitCode,
-    ) -> Result<Table<AlarmRow>, Error> {
-        alarms_of(alloc, conn, unit)
-    }
-
-    fn put<N: Alter>(
-        &self,
-        _alloc: Global,
-        tx: &mut Transaction<'_, N>,
-        unit: &UnitCode,
-    ) -> Result<(), Error> {
-        put_alarm(tx, unit, self)
-    }
-}
-
-impl OldRow for ShelfRow {
-    ghost becomes = { ShelfPut };
-
-    ghost had = { λ unit trees. old_rows unit trees ShelfKept };
-
-    fn read_of<O: Alter>(
-        alloc: Global,
-        conn: &mut Connection<O>,
-        unit: &UnitCode,
-    ) -> Result<Table<ShelfRow>, Error> {
-        shelves_of(alloc, conn, unit)
-    }
-
-    fn put<N: Alter>(
-        &self,
-        _alloc: Global,
-        tx: &mut Transaction<'_, N>,
-        unit: &UnitCode,
-    ) -> Result<(), Error> {
-        put_shelf(tx, unit, self)
-    }
-}
-
-impl OldRow for Event {
-    ghost becomes = { EventPut };
-
-    ghost had = { λ unit trees. old_rows unit trees EventKept };
-
-    fn read_of<O: Alter>(
-        alloc: Global,
-        conn: &mut Connection<O>,
-        unit: &UnitCode,
-    ) -> Result<Table<Event>, Error> {
-        events_of(alloc, conn, unit)
-    }
-
-    fn put<N: Alter>(
-        &self,
-        _alloc: Global,
-        tx: &mut Transaction<'_, N>,
-        unit: &UnitCode,
-    ) -> Result<(), Error> {
-        put_event(tx, unit, self)
-    }
-}
-
-impl OldRow for BandRow {
-    ghost becomes = { BandPut };
-
-    ghost had = { λ unit trees. old_rows unit trees BandKept };
-
-    fn read_of<O: Alter>(
-        alloc: Global,
-        conn: &mut Connection<O>,
-        unit: &UnitCode,
-    ) -> Result<Table<BandRow>, Error> {
-        bands_of(alloc, conn, unit)
-    }
-
-    fn put<N: Alter>(
-        &self,
-        _alloc: Global,
-        tx: &mut Transaction<'_, N>,
-        unit: &UnitCode,
-    ) -> Result<(), Error> {
-        put_band(tx, unit, self)
-    }
-}
-
-impl OldRow for CellRow {
-    ghost becomes = { CellPut };
-
-    ghost had = { λ unit trees. old_rows unit trees CellKept };
-
-    fn read_of<O: Alter>(
-        alloc: Global,
-        conn: &mut Connection<O>,
-        unit: &UnitCode,
-    ) -> Result<Table<CellRow>, Error> {
-        cells_of(alloc, conn, unit)
-    }
-
-    fn put<N: Alter>(
-        &self,
-        _alloc: Global,
-        tx: &mut Transaction<'_, N>,
-        unit: &UnitCode,
-    ) -> Result<(), Error> {
-        put_cell(tx, unit, self)
-    }
-}
-
-impl OldRow for RecordEntry {
-    ghost becomes = { RecordPut };
-
-    ghost had = { λ unit trees. old_rows unit trees RecordKept };
-
-    fn read_of<O: Alter>(
-        alloc: Global,
-        conn: &mut Connection<O>,
-        unit: &UnitCode,
-    ) -> Result<Table<RecordEntry>, Error> {
-        records_of(alloc, conn, unit)
-    }
-
-    fn put<N: Alter>(
-        &self,
-        _alloc: Global,
-        tx: &mut Transaction<'_, N>,
-        unit: &UnitCode,
-    ) -> Result<(), Error> {
-        put_record(tx, unit, self)
-    }
-}
-
-impl OldRow for ChangeEntry {
-    ghost becomes = { ChangePut };
-
-    ghost had = { λ unit trees. old_rows unit trees ChangeKept };
-
-    fn read_of<O: Alter>(
-        alloc: Global,
-        conn: &mut Connection<O>,
-        unit: &UnitCode,
-    ) -> Result<Table<ChangeEntry>, Error> {
-        changes_of(alloc, conn, unit)
-    }
-
-    fn put<N: Alter>(
-        &self,
-        _alloc: Global,
-        tx: &mut Transaction<'_, N>,
-        unit: &UnitCode,
-    ) -> Result<(), Error> {
-        put_change(tx, unit, self)
-    }
 }
 
 /// Puts the rows of one table.
@@ -358,7 +86,7 @@ fn take_rows<T: OldRow, O: Alter, N: Alter>(
     ensures kept { HasCleanDisk (state N.Store tx.new.conn.now) → IsTrue tx.old.conn.now.in_transaction → KeepsCommit (state N.Store tx.old.conn.now) (state N.Store tx.new.conn.now) }
     ensures survives { Survives (state N.Store tx.old.conn.now) (state N.Store tx.new.conn.now) (λ _. ⊥) }
 {
-    let rows = T::read_of(alloc, from, unit)?;
+    let rows = old_rows_of::<T, O>(alloc, from, unit)?;
     put_rows::<T, N>(alloc, tx, unit, rows.as_slice())
 }
 

@@ -1,21 +1,19 @@
 //! The numbers of the matrices and of the changes that a scope takes in, and the rows that a unit has of numbers.
 
 ghost use Rattle.std.specs.List.{flat_map, list_any};
-ghost use Rattle.std.specs.Prelude.{◌≡◌, ◌++◌, ◌||◌, ℕ, Bool, false, filter, insert, IfOk, List, MatchOption, OnOk};
+ghost use Rattle.std.specs.Prelude.{◌≡◌, ◌++◌, ◌||◌, ℕ, Bool, false, filter, insert, IfOk, MatchOption, OnOk};
 ghost use Rattle.sqlite.specs.Held.{state};
-ghost use Rattle.sqlite.specs.State.{HasCleanDisk};
-ghost use Rattle.sqlite.specs.Tree.{Trees};
 ghost use Rattle.plant_books.specs.Asking.{is_number, selection_by};
 ghost use Rattle.plant_columns.specs.Tables.{AreBooks, rows_seen};
 ghost use Rattle.plant_columns.specs.Tables.Kept.{BandKept, CellKept, ChangeKept};
 ghost use Rattle.plant_model.specs.Histories.{same_number};
-ghost use Rattle.plant_model.specs.RowFacts.{change_number};
 ghost use Rattle.plant_model.specs.declared.rows.UnitRows.{UnitRows as Rows};
 ghost use Rattle.plant_store.specs.Changes.{CanTell};
 ghost use Rattle.plant_store.specs.Mine.{own_row};
 ghost use Rattle.plant_store.specs.Numbers.{AreNumbers, with_number};
 
-use crate::read::{bands_at, cells_at, change_at};
+use crate::read::rows_of_number;
+use crate::stored::Numbered;
 use plant_books::{Scope, wanted_change, wants_matrix, wants_sources};
 use plant_model::{BandRow, CellRow, ChangeEntry, RecordEntry, UnitRow};
 use plant_types::{Table, UnitCode};
@@ -108,72 +106,6 @@ fn change_numbers(
     Ok(numbers)
 }
 
-/// A row of the matrix of a number, or the change of a number.
-trait Numbered: Drop {
-    ghost number: { Self → ℕ };
-
-    /// Those that the tables have of a unit.
-    ghost seen: { List ℕ → Trees → List Self };
-
-    /// Those of this number.
-    fn read_at<S: Alter>(
-        alloc: Global,
-        conn: &mut Connection<S>,
-        unit: &UnitCode,
-        at: u32,
-    ) -> Result<Table<Self>, Error>
-        requires { conn.old.in_transaction ≡ false }
-        ensures mode { conn.new.in_transaction ≡ false }
-        ensures rows { HasCleanDisk (state S.Store conn.new) → AreBooks (state S.Store conn.old).now → IfOk result (λ rows. rows ≡ filter (λ r. same_number at (number r)) (seen unit.now (state S.Store conn.old).now.trees)) }
-        ensures same { CanTell (state S.Store conn.new) → AreBooks (state S.Store conn.old).now → (state S.Store conn.new).now ≡ (state S.Store conn.old).now }
-        ensures told { CanTell (state S.Store conn.new) → CanTell (state S.Store conn.old) };
-}
-
-impl Numbered for BandRow {
-    ghost number = { λ r. r.matrix_no };
-
-    ghost seen = { λ unit trees. rows_seen unit trees BandKept };
-
-    fn read_at<S: Alter>(
-        alloc: Global,
-        conn: &mut Connection<S>,
-        unit: &UnitCode,
-        at: u32,
-    ) -> Result<Table<BandRow>, Error> {
-        bands_at(alloc, conn, unit, at)
-    }
-}
-
-impl Numbered for CellRow {
-    ghost number = { λ r. r.matrix_no };
-
-    ghost seen = { λ unit trees. rows_seen unit trees CellKept };
-
-    fn read_at<S: Alter>(
-        alloc: Global,
-        conn: &mut Connection<S>,
-        unit: &UnitCode,
-        at: u32,
-    ) -> Result<Table<CellRow>, Error> {
-        cells_at(alloc, conn, unit, at)
-    }
-}
-
-impl Numbered for ChangeEntry {
-    ghost number = { change_number };
-
-    ghost seen = { λ unit trees. rows_seen unit trees ChangeKept };
-
-    fn read_at<S: Alter>(
-        alloc: Global,
-        conn: &mut Connection<S>,
-        unit: &UnitCode,
-        at: u32,
-    ) -> Result<Table<ChangeEntry>, Error> {
-        change_at(alloc, conn, unit, at)
-    }
-}
-
 /// Puts rows behind others.
 fn append<T: Drop>(rows: &mut Vec<T>, more: Table<T>) -> Result<(), Error>
     ensures { OnOk result (rows.new.items ≡ rows.old.items ++ more) }
@@ -200,7 +132,7 @@ fn rows_numbered<T: Numbered, S: Alter>(
 {
     let mut rows = Vec::new(alloc);
     for number in numbers {
-        let read = T::read_at(alloc, conn, unit, *number)?;
+        let read = rows_of_number(alloc, conn, unit, *number)?;
         append(&mut rows, read)?;
     }
     Ok(Table::from_vec(rows))

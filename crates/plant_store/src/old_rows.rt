@@ -1,20 +1,36 @@
-//! The statements that read a store of schema 1, where they differ from those of this schema.
+//! The rows of a store of schema 1: how each table is read, and what its rows become.
 
-ghost use Rattle.std.specs.Prelude.{◌≡◌, ◌∷◌, [], false, map, IfOk};
+ghost use Rattle.std.specs.Prelude.{◌≡◌, ◌∷◌, [], false, map, IfOk, IsTrue, List, OnOk};
 ghost use Rattle.sqlite.specs.Held.{state};
-ghost use Rattle.sqlite.specs.State.{HasCleanDisk};
+ghost use Rattle.sqlite.specs.State.{HasCleanDisk, KeepsCommit, Survives};
+ghost use Rattle.sqlite.specs.Tree.{Trees};
 ghost use Rattle.sqlite_value.specs.declared.value.Value.TheVariants.{Text as TextValue};
-ghost use Rattle.plant_columns.specs.Tables.Kept.{GrantKept, UnitKept};
-ghost use Rattle.plant_store.specs.Changes.{CanTell};
+ghost use Rattle.plant_columns.specs.Tables.{AreBooks};
+ghost use Rattle.plant_columns.specs.Tables.Kept.{AlarmKept, BandKept, CellKept, ChangeKept, EventKept, GrantKept, RecordKept, ShelfKept, UnitKept};
+ghost use Rattle.plant_model.specs.declared.rows.Change.TheVariants.{Put};
+ghost use Rattle.plant_model.specs.declared.rows.Row.{Row as AnyRow};
+ghost use Rattle.plant_model.specs.declared.rows.Row.TheVariants.{Grant as GrantPut, Unit as UnitPut};
+ghost use Rattle.plant_store.specs.Changes.{Applies, CanTell};
 ghost use Rattle.plant_store.specs.OldTables.{AreOldBooks, old_grant_shape, old_rows, old_unit_shape};
-ghost use Rattle.plant_store.specs.Upgrading.{old_codes};
+ghost use Rattle.plant_store.specs.Statements.{ReadsOld};
+ghost use Rattle.plant_store.specs.Upgrading.{old_codes, upgraded_grant, upgraded_unit};
+ghost use Rattle.plant_types.specs.Names.{Name};
 
-use crate::read::ask;
-use plant_columns::decode::{Shown, moment, number, read_all, role, text};
+use crate::read::read_rows;
+use crate::stored::Stored;
+use crate::write::put;
+use plant_alarm::Event;
+use plant_columns::decode::{Shown, moment, number, role, text};
 use plant_columns::encode::single;
-use plant_types::{Moment, Person, Role, Table, UnitCode};
-use sqlite::{Alter, Connection, Error, Row};
+use plant_model::{
+    AlarmRow, BandRow, CellRow, ChangeEntry, GrantRow, RecordEntry, ShelfRow, UnitRow,
+};
+use plant_types::{Moment, Person, Quota, Role, Table, UnitCode};
+use sqlite::{Alter, Connection, Error, ErrorCode, Row, Transaction};
 use std::alloc::Global;
+
+/// The greatest quota: a unit has no more alarms than this.
+const GREATEST_QUOTA: u64 = 2000;
 
 /// A unit's own row: there was no quota.
 #[derive(Drop)]
@@ -76,6 +92,170 @@ impl Shown for CodeLine {
     }
 }
 
+/// A row of a store of schema 1.
+pub trait OldRow: Shown {
+    /// The row that it becomes.
+    ghost becomes: { Self → AnyRow };
+
+    /// Those that the tables have of a unit.
+    ghost had: { Name → Trees → List Self };
+
+    /// The text that reads all rows of a unit.
+    fn old_select() -> &'static str
+        ensures { (u : Name) → ReadsOld Self.width Self.cells (had u) (TextValue u ∷ []) result.now };
+
+    /// Puts what it becomes.
+    fn put<N: Alter>(
+        &self,
+        alloc: Global,
+        tx: &mut Transaction<'_, N>,
+        unit: &UnitCode,
+    ) -> Result<(), Error>
+        ensures same_reference { tx.new.conn.ghost_name ≡ tx.old.conn.ghost_name }
+        ensures made { HasCleanDisk (state N.Store tx.new.conn.now) → IsTrue tx.old.conn.now.in_transaction → AreBooks (state N.Store tx.old.conn.now).now
+            → OnOk result (Applies unit.now (Put (becomes self.now) ∷ []) (state N.Store tx.old.conn.now).now (state N.Store tx.new.conn.now).now) }
+        ensures inside { HasCleanDisk (state N.Store tx.new.conn.now) → IsTrue tx.old.conn.now.in_transaction → OnOk result (IsTrue tx.new.conn.now.in_transaction) }
+        ensures kept { HasCleanDisk (state N.Store tx.new.conn.now) → IsTrue tx.old.conn.now.in_transaction → KeepsCommit (state N.Store tx.old.conn.now) (state N.Store tx.new.conn.now) }
+        ensures survives { Survives (state N.Store tx.old.conn.now) (state N.Store tx.new.conn.now) (λ _. ⊥) };
+}
+
+/// A row of a table that is the same in schema 1.
+pub trait Unchanged: Stored {
+    /// Those that the tables of schema 1 have of a unit.
+    ghost had_before: { Name → Trees → List Self };
+
+    /// The text that reads all rows of a unit, in schema 1 too.
+    fn same_select() -> &'static str
+        ensures { (u : Name) → ReadsOld Self.width Self.cells (had_before u) (TextValue u ∷ []) result.now };
+}
+
+impl OldRow for OldUnitRow {
+    ghost becomes = { λ r. UnitPut (upgraded_unit r) };
+
+    ghost had = { λ unit trees. old_rows unit trees UnitKept };
+
+    fn old_select() -> &'static str {
+        "SELECT last_s, matrix_no, matrix_rev FROM units WHERE unit = ?1 ORDER BY unit"
+    }
+
+    fn put<N: Alter>(
+        &self,
+        _alloc: Global,
+        tx: &mut Transaction<'_, N>,
+        unit: &UnitCode,
+    ) -> Result<(), Error> {
+        let row = UnitRow {
+            last_s: self.last_s,
+            matrix_no: self.matrix_no,
+            matrix_rev: self.matrix_rev,
+            quota: Quota::new(GREATEST_QUOTA).unwrap(),
+        };
+        put(tx, unit, &row)
+    }
+}
+
+impl OldRow for OldGrantRow {
+    ghost becomes = { λ g. GrantPut (upgraded_grant g) };
+
+    ghost had = { λ unit trees. old_rows unit trees GrantKept };
+
+    fn old_select() -> &'static str {
+        "SELECT person, role_no FROM grants WHERE unit = ?1 ORDER BY unit, person, role_no"
+    }
+
+    fn put<N: Alter>(
+        &self,
+        alloc: Global,
+        tx: &mut Transaction<'_, N>,
+        unit: &UnitCode,
+    ) -> Result<(), Error> {
+        let Ok(person) = self.person.copy(alloc) else {
+            return Err(Error::SqliteFailure(ErrorCode::OutOfMemory));
+        };
+        let row = GrantRow {
+            person,
+            role_no: self.role_no,
+            end_s: None,
+        };
+        put(tx, unit, &row)
+    }
+}
+
+impl<T: Unchanged> OldRow for T {
+    ghost becomes = { T.as_row };
+
+    ghost had = { T.had_before };
+
+    fn old_select() -> &'static str {
+        T::same_select()
+    }
+
+    fn put<N: Alter>(
+        &self,
+        _alloc: Global,
+        tx: &mut Transaction<'_, N>,
+        unit: &UnitCode,
+    ) -> Result<(), Error> {
+        put(tx, unit, self)
+    }
+}
+
+impl Unchanged for AlarmRow {
+    ghost had_before = { λ unit trees. old_rows unit trees AlarmKept };
+
+    fn same_select() -> &'static str {
+        AlarmRow::select()
+    }
+}
+
+impl Unchanged for ShelfRow {
+    ghost had_before = { λ unit trees. old_rows unit trees ShelfKept };
+
+    fn same_select() -> &'static str {
+        ShelfRow::select()
+    }
+}
+
+impl Unchanged for Event {
+    ghost had_before = { λ unit trees. old_rows unit trees EventKept };
+
+    fn same_select() -> &'static str {
+        Event::select()
+    }
+}
+
+impl Unchanged for BandRow {
+    ghost had_before = { λ unit trees. old_rows unit trees BandKept };
+
+    fn same_select() -> &'static str {
+        BandRow::select()
+    }
+}
+
+impl Unchanged for CellRow {
+    ghost had_before = { λ unit trees. old_rows unit trees CellKept };
+
+    fn same_select() -> &'static str {
+        CellRow::select()
+    }
+}
+
+impl Unchanged for RecordEntry {
+    ghost had_before = { λ unit trees. old_rows unit trees RecordKept };
+
+    fn same_select() -> &'static str {
+        RecordEntry::select()
+    }
+}
+
+impl Unchanged for ChangeEntry {
+    ghost had_before = { λ unit trees. old_rows unit trees ChangeKept };
+
+    fn same_select() -> &'static str {
+        ChangeEntry::select()
+    }
+}
+
 /// The codes of all units, rising.
 pub fn old_codes_of<S: Alter>(
     alloc: Global,
@@ -87,46 +267,20 @@ pub fn old_codes_of<S: Alter>(
     ensures same { CanTell (state S.Store conn.new) → AreOldBooks (state S.Store conn.old).now → (state S.Store conn.new).now ≡ (state S.Store conn.old).now }
     ensures told { CanTell (state S.Store conn.new) → CanTell (state S.Store conn.old) }
 {
-    let rows = ask(conn, "SELECT unit FROM units ORDER BY unit", &[])?;
-    read_all(alloc, rows.as_slice())
+    read_rows(alloc, conn, "SELECT unit FROM units ORDER BY unit", &[])
 }
 
-/// The unit's own row, if it has one.
-pub fn old_units_of<S: Alter>(
+/// All rows that the unit has in one table.
+pub fn old_rows_of<T: OldRow, S: Alter>(
     alloc: Global,
     conn: &mut Connection<S>,
     unit: &UnitCode,
-) -> Result<Table<OldUnitRow>, Error>
+) -> Result<Table<T>, Error>
     requires { conn.old.in_transaction ≡ false }
     ensures mode { conn.new.in_transaction ≡ false }
-    ensures rows { HasCleanDisk (state S.Store conn.new) → AreOldBooks (state S.Store conn.old).now → IfOk result (λ rows. rows ≡ old_rows unit.now (state S.Store conn.old).now.trees UnitKept) }
+    ensures rows { HasCleanDisk (state S.Store conn.new) → AreOldBooks (state S.Store conn.old).now → IfOk result (λ rows. rows ≡ T.had unit.now (state S.Store conn.old).now.trees) }
     ensures same { CanTell (state S.Store conn.new) → AreOldBooks (state S.Store conn.old).now → (state S.Store conn.new).now ≡ (state S.Store conn.old).now }
     ensures told { CanTell (state S.Store conn.new) → CanTell (state S.Store conn.old) }
 {
-    let rows = ask(
-        conn,
-        "SELECT last_s, matrix_no, matrix_rev FROM units WHERE unit = ?1 ORDER BY unit",
-        &single(unit),
-    )?;
-    read_all(alloc, rows.as_slice())
-}
-
-/// The unit's grants.
-pub fn old_grants_of<S: Alter>(
-    alloc: Global,
-    conn: &mut Connection<S>,
-    unit: &UnitCode,
-) -> Result<Table<OldGrantRow>, Error>
-    requires { conn.old.in_transaction ≡ false }
-    ensures mode { conn.new.in_transaction ≡ false }
-    ensures rows { HasCleanDisk (state S.Store conn.new) → AreOldBooks (state S.Store conn.old).now → IfOk result (λ rows. rows ≡ old_rows unit.now (state S.Store conn.old).now.trees GrantKept) }
-    ensures same { CanTell (state S.Store conn.new) → AreOldBooks (state S.Store conn.old).now → (state S.Store conn.new).now ≡ (state S.Store conn.old).now }
-    ensures told { CanTell (state S.Store conn.new) → CanTell (state S.Store conn.old) }
-{
-    let rows = ask(
-        conn,
-        "SELECT person, role_no FROM grants WHERE unit = ?1 ORDER BY unit, person, role_no",
-        &single(unit),
-    )?;
-    read_all(alloc, rows.as_slice())
+    read_rows(alloc, conn, T::old_select(), &single(unit))
 }

@@ -8,14 +8,13 @@ ghost use Rattle.plant_model.specs.Worlds.{unit_named};
 ghost use Rattle.plant_types.specs.Names.{same_name};
 ghost use Rattle.plant_model.specs.declared.rows.UnitRows.{UnitRows as Rows};
 ghost use Rattle.plant_types.specs.Names.{Name};
-ghost use Rattle.plant_books.specs.Asking.{is_shelving as is_shelving_by, number_approved as number_approved_by, selection_by};
+ghost use Rattle.plant_books.specs.Asking.{is_shelving as is_shelving_by, looks_at_events as looks_at_events_by, number_approved as number_approved_by, selection_by};
 ghost use Rattle.plant_model.specs.Histories.{same_number};
 ghost use Rattle.plant_books.specs.Contents.{Content, part_in, rows_in};
 ghost use Rattle.plant_store.specs.Changes.{CanTell};
 ghost use Rattle.plant_store.specs.Keeping.{KeepsIn};
 ghost use Rattle.plant_columns.specs.Tables.{AreBooks, rows_seen};
 ghost use Rattle.plant_columns.specs.Tables.Kept.{UnitKept, GrantKept, AlarmKept, ShelfKept, EventKept, RecordKept, ChangeKept};
-ghost use Rattle.plant_store.specs.Wanted as wanted;
 ghost use Rattle.plant_model.specs.RowFacts.{event_number};
 ghost use Rattle.plant_types.specs.Tables.{IsInOrder};
 ghost use Rattle.std.specs.Ordering.{nat_cmp};
@@ -23,19 +22,19 @@ ghost use Rattle.plant_store.specs.Wanted.{alarms_with, events_with, records_wit
 
 use crate::numbers::{some_bands, some_cells, some_changes};
 use crate::read::{
-    alarm_at, alarms_of, change_at, count_of_alarms, count_of_shelves, events_of, grants_of,
-    last_change_number, own_grants, record_at, records_of, shelf_at, shelves_of, units_of,
+    all_rows, count_of_alarms, count_of_shelves, last_change_number, own_grants, row_of_tag,
+    rows_of_number,
 };
 use crate::unit::has_row;
 use plant_alarm::Event;
 use plant_books::{
-    Scope, Wanted, events_asked, holds_some_by, is_crowded, is_shelving, number_approved,
-    part_of_grants, scope_of, wanted_alarms, wanted_events, wanted_records, wanted_shelves,
-    wants_all_grants,
+    Scope, Wanted, WantedEvents, events_asked, holds_some_by, is_crowded, is_shelving,
+    looks_at_events, number_approved, part_of_grants, scope_of, wanted_alarms, wanted_events,
+    wanted_records, wanted_shelves, wants_all_grants,
 };
 use plant_model::{
-    AlarmRow, Call, CallKind, ChangeEntry, Counted, GrantRow, RecordEntry, Request, ShelfRow,
-    UnitPart, UnitRow, UnitRows,
+    AlarmRow, Call, ChangeEntry, Counted, GrantRow, RecordEntry, Request, ShelfRow, UnitPart,
+    UnitRow, UnitRows,
 };
 use plant_types::{Table, UnitCode};
 use sqlite::{Alter, Connection, Error, ErrorCode};
@@ -57,7 +56,7 @@ pub fn some_grants<S: Alter>(
     ensures told { CanTell (state S.Store conn.new) → CanTell (state S.Store conn.old) }
 {
     if all {
-        grants_of(alloc, conn, unit)
+        all_rows(alloc, conn, unit)
     } else {
         Ok(own)
     }
@@ -78,8 +77,8 @@ pub fn some_alarms<S: Alter>(
 {
     match wanted {
         Wanted::Nothing => Ok(Table::new(alloc)),
-        Wanted::One(tag) => alarm_at(alloc, conn, unit, tag),
-        Wanted::Every => alarms_of(alloc, conn, unit),
+        Wanted::One(tag) => row_of_tag::<AlarmRow, S>(alloc, conn, unit, tag),
+        Wanted::Every => all_rows(alloc, conn, unit),
     }
 }
 
@@ -98,8 +97,8 @@ pub fn some_shelves<S: Alter>(
 {
     match wanted {
         Wanted::Nothing => Ok(Table::new(alloc)),
-        Wanted::One(tag) => shelf_at(alloc, conn, unit, tag),
-        Wanted::Every => shelves_of(alloc, conn, unit),
+        Wanted::One(tag) => row_of_tag::<ShelfRow, S>(alloc, conn, unit, tag),
+        Wanted::Every => all_rows(alloc, conn, unit),
     }
 }
 
@@ -118,8 +117,8 @@ pub fn some_records<S: Alter>(
 {
     match wanted {
         Wanted::Nothing => Ok(Table::new(alloc)),
-        Wanted::One(tag) => record_at(alloc, conn, unit, tag),
-        Wanted::Every => records_of(alloc, conn, unit),
+        Wanted::One(tag) => row_of_tag::<RecordEntry, S>(alloc, conn, unit, tag),
+        Wanted::Every => all_rows(alloc, conn, unit),
     }
 }
 
@@ -137,24 +136,21 @@ pub fn some_events<S: Alter>(
     ensures told { CanTell (state S.Store conn.new) → CanTell (state S.Store conn.old) }
 {
     if wanted {
-        events_of(alloc, conn, unit)
+        all_rows(alloc, conn, unit)
     } else {
         Ok(Table::new(alloc))
     }
 }
 
-/// Whether the request looks at the unit's events.
-fn looks_at_events(request: &Request) -> bool
-    ensures { result ≡ wanted.looks_at_events request.now }
+/// Of the unit's events, which stand in rising number, those that the scope takes in. All of them are not copied.
+fn events_for(alloc: Global, events: Table<Event>, scope: Scope<'_>) -> Result<Table<Event>, Error>
+    ensures { IsInOrder nat_cmp event_number events → IfOk result (λ asked. (rows : Rows) → asked ≡ (selection_by rows scope.entry).events events) }
 {
-    matches!(request.kind(), CallKind::Import | CallKind::Floods)
-}
-
-/// Of the unit's events, which stand in rising number, those that the scope takes in.
-fn events_for(alloc: Global, events: &Table<Event>, scope: Scope<'_>) -> Result<Table<Event>, Error>
-    ensures { IsInOrder nat_cmp event_number events.now → IfOk result (λ asked. (rows : Rows) → asked ≡ (selection_by rows scope.entry).events events.now) }
-{
-    match events_asked(alloc, events, wanted_events(scope)) {
+    let wanted = wanted_events(scope);
+    if matches!(wanted, WantedEvents::Every) {
+        return Ok(events);
+    }
+    match events_asked(alloc, &events, wanted) {
         Ok(asked) => Ok(asked),
         Err(_) => Err(Error::SqliteFailure(ErrorCode::OutOfMemory)),
     }
@@ -170,7 +166,7 @@ fn count_for<S: Alter>(
 ) -> Result<u64, Error>
     requires { conn.old.in_transaction ≡ false }
     ensures mode { conn.new.in_transaction ≡ false }
-    ensures rows { HasCleanDisk (state S.Store conn.new) → AreBooks (state S.Store conn.old).now → IfOk result (λ n. (rows : Rows) → rows.alarms ≡ rows_seen unit.now (state S.Store conn.old).now.trees AlarmKept → rows.changes ≡ rows_seen unit.now (state S.Store conn.old).now.trees ChangeKept → (wanted.looks_at_events request.now ≡ true → rows.events ≡ events.now) → n ≡ counted_for rows request.now) }
+    ensures rows { HasCleanDisk (state S.Store conn.new) → AreBooks (state S.Store conn.old).now → IfOk result (λ n. (rows : Rows) → rows.alarms ≡ rows_seen unit.now (state S.Store conn.old).now.trees AlarmKept → rows.changes ≡ rows_seen unit.now (state S.Store conn.old).now.trees ChangeKept → (looks_at_events_by request.now ≡ true → rows.events ≡ events.now) → n ≡ counted_for rows request.now) }
     ensures same { CanTell (state S.Store conn.new) → AreBooks (state S.Store conn.old).now → (state S.Store conn.new).now ≡ (state S.Store conn.old).now }
     ensures told { CanTell (state S.Store conn.new) → CanTell (state S.Store conn.old) }
 {
@@ -216,7 +212,7 @@ fn approved_for<S: Alter>(
     ensures told { CanTell (state S.Store conn.new) → CanTell (state S.Store conn.old) }
 {
     match number_approved(request) {
-        Some(number) => change_at(alloc, conn, unit, number),
+        Some(number) => rows_of_number(alloc, conn, unit, number),
         None => Ok(Table::new(alloc)),
     }
 }
@@ -250,13 +246,13 @@ fn holders_part<S: Alter>(
     let shelves = some_shelves(alloc, conn, unit, shelved)?;
     let told = looks_at_events(request);
     let all_events = some_events(alloc, conn, unit, told)?;
-    let events = events_for(alloc, &all_events, scope)?;
     let recorded = wanted_records(scope);
     let records = some_records(alloc, conn, unit, recorded)?;
     let bands = some_bands(alloc, conn, unit, &units, scope)?;
     let cells = some_cells(alloc, conn, unit, &units, scope)?;
     let changes = some_changes(alloc, conn, unit, &records, scope)?;
     let count = count_for(conn, unit, request, &all_events)?;
+    let events = events_for(alloc, all_events, scope)?;
     Ok(UnitPart {
         rows: UnitRows {
             units,
@@ -287,7 +283,7 @@ fn unit_part<S: Alter>(
     ensures same { CanTell (state S.Store conn.new) → AreBooks (state S.Store conn.old).now → (state S.Store conn.new).now ≡ (state S.Store conn.old).now }
     ensures told { CanTell (state S.Store conn.new) → CanTell (state S.Store conn.old) }
 {
-    let units = units_of(alloc, conn, unit)?;
+    let units = all_rows(alloc, conn, unit)?;
     if !has_row(&units) {
         return Ok(None);
     }

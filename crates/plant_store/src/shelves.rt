@@ -11,7 +11,7 @@ ghost use Rattle.plant_store.specs.declared.shelves.ShelfLine.{ShelfLine as Line
 ghost use Rattle.plant_columns.specs.Tables.{AreBooks};
 
 use crate::mine::{is_before_end, push};
-use crate::read::{alarm_at, ask};
+use crate::read::{ask, row_of_tag};
 use plant_books::{MineShelf, last_return};
 use plant_columns::decode::{Shown, flag, moment, open_moment, read_all, text, wide};
 use plant_columns::encode::single;
@@ -136,7 +136,7 @@ fn returned<S: Alter>(
     ensures same { CanTell (state S.Store conn.new) → AreBooks (state S.Store conn.old).now → (state S.Store conn.new).now ≡ (state S.Store conn.old).now }
     ensures told { CanTell (state S.Store conn.new) → CanTell (state S.Store conn.old) }
 {
-    let alarms = alarm_at(alloc, conn, &listed.unit, &listed.shelf.tag)?;
+    let alarms = row_of_tag(alloc, conn, &listed.unit, &listed.shelf.tag)?;
     Ok(MineShelf {
         unit: copied(alloc, &listed.unit)?,
         shelf: copied(alloc, &listed.shelf)?,

@@ -14,6 +14,7 @@ ghost use Rattle.plant_types.specs.declared.fault.Fault.TheVariants.{Store};
 use crate::make::make_all;
 use crate::opening::is_office_of;
 use crate::{mine, part, shelves, unit, write};
+use plant_alarm::Event;
 use plant_books::{Books, MineShelf, MineUnit};
 use plant_model::{Call, Change, UnitPart, UnitRows};
 use plant_types::{Fault, Moment, Person, Table, UnitCode};
@@ -236,6 +237,28 @@ impl<S: Alter> Books for Tables<S> {
 
     fn rows(&mut self, unit: &UnitCode) -> Result<Option<UnitRows>, Fault> {
         match unit::rows_of(self.alloc, &mut self.conn, unit) {
+            Ok(found) => Ok(found),
+            Err(error) => {
+                let fault = fault_of(&error);
+                self.stores = counted(self.stores, &fault);
+                Err(fault)
+            }
+        }
+    }
+
+    fn rows_but_events(&mut self, unit: &UnitCode) -> Result<Option<UnitRows>, Fault> {
+        match unit::rows_but_events(self.alloc, &mut self.conn, unit) {
+            Ok(found) => Ok(found),
+            Err(error) => {
+                let fault = fault_of(&error);
+                self.stores = counted(self.stores, &fault);
+                Err(fault)
+            }
+        }
+    }
+
+    fn events(&mut self, unit: &UnitCode) -> Result<Table<Event>, Fault> {
+        match unit::events(self.alloc, &mut self.conn, unit) {
             Ok(found) => Ok(found),
             Err(error) => {
                 let fault = fault_of(&error);

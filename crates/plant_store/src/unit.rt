@@ -1,17 +1,16 @@
-//! The rows of one unit: all of them, or the part that a call looks at.
+//! The rows of one unit: all of them, or all but its events, or its events alone.
 
 ghost use Rattle.std.specs.FinMap.{contains_key, get};
 ghost use Rattle.std.specs.Prelude.{◌≡◌, ℕ, false, IfOk};
 ghost use Rattle.sqlite.specs.Held.{state};
-ghost use Rattle.plant_books.specs.Contents.{Content};
+ghost use Rattle.plant_books.specs.Contents as contents;
+ghost use Rattle.plant_books.specs.Contents.{Content, events_in};
 ghost use Rattle.plant_store.specs.Changes.{CanTell};
 ghost use Rattle.plant_store.specs.Keeping.{KeepsIn, has_any};
 ghost use Rattle.plant_columns.specs.Tables.{AreBooks};
 
-use crate::read::{
-    alarms_of, bands_of, cells_of, changes_of, events_of, grants_of, records_of, shelves_of,
-    units_of,
-};
+use crate::read::all_rows;
+use plant_alarm::Event;
 use plant_model::{UnitRow, UnitRows};
 use plant_types::{Table, UnitCode};
 use sqlite::{Alter, Connection, Error};
@@ -36,8 +35,59 @@ pub fn taken<S: Alter>(
     ensures same { CanTell (state S.Store conn.new) → AreBooks (state S.Store conn.old).now → (state S.Store conn.new).now ≡ (state S.Store conn.old).now }
     ensures told { CanTell (state S.Store conn.new) → CanTell (state S.Store conn.old) }
 {
-    let units = units_of(alloc, conn, unit)?;
+    let units = all_rows(alloc, conn, unit)?;
     Ok(has_row(&units))
+}
+
+/// All rows of the unit but its events, where it was opened.
+pub fn rows_but_events<S: Alter>(
+    alloc: Global,
+    conn: &mut Connection<S>,
+    unit: &UnitCode,
+) -> Result<Option<UnitRows>, Error>
+    requires { conn.old.in_transaction ≡ false }
+    ensures mode { conn.new.in_transaction ≡ false }
+    ensures found { CanTell (state S.Store conn.new) → (m : Content) → KeepsIn (state S.Store conn.old) m → IfOk result (λ rows. rows ≡ contents.rows_but_events m unit.now) }
+    ensures same { CanTell (state S.Store conn.new) → AreBooks (state S.Store conn.old).now → (state S.Store conn.new).now ≡ (state S.Store conn.old).now }
+    ensures told { CanTell (state S.Store conn.new) → CanTell (state S.Store conn.old) }
+{
+    let units = all_rows(alloc, conn, unit)?;
+    if !has_row(&units) {
+        return Ok(None);
+    }
+    let grants = all_rows(alloc, conn, unit)?;
+    let alarms = all_rows(alloc, conn, unit)?;
+    let shelves = all_rows(alloc, conn, unit)?;
+    let bands = all_rows(alloc, conn, unit)?;
+    let cells = all_rows(alloc, conn, unit)?;
+    let records = all_rows(alloc, conn, unit)?;
+    let changes = all_rows(alloc, conn, unit)?;
+    Ok(Some(UnitRows {
+        units,
+        grants,
+        alarms,
+        shelves,
+        events: Table::new(alloc),
+        bands,
+        cells,
+        records,
+        changes,
+    }))
+}
+
+/// All events of the unit, none where it was never opened.
+pub fn events<S: Alter>(
+    alloc: Global,
+    conn: &mut Connection<S>,
+    unit: &UnitCode,
+) -> Result<Table<Event>, Error>
+    requires { conn.old.in_transaction ≡ false }
+    ensures mode { conn.new.in_transaction ≡ false }
+    ensures found { CanTell (state S.Store conn.new) → (m : Content) → KeepsIn (state S.Store conn.old) m → IfOk result (λ events. events ≡ events_in m unit.now) }
+    ensures same { CanTell (state S.Store conn.new) → AreBooks (state S.Store conn.old).now → (state S.Store conn.new).now ≡ (state S.Store conn.old).now }
+    ensures told { CanTell (state S.Store conn.new) → CanTell (state S.Store conn.old) }
+{
+    all_rows(alloc, conn, unit)
 }
 
 /// All rows of the unit, where it was opened.
@@ -52,27 +102,11 @@ pub fn rows_of<S: Alter>(
     ensures same { CanTell (state S.Store conn.new) → AreBooks (state S.Store conn.old).now → (state S.Store conn.new).now ≡ (state S.Store conn.old).now }
     ensures told { CanTell (state S.Store conn.new) → CanTell (state S.Store conn.old) }
 {
-    let units = units_of(alloc, conn, unit)?;
-    if !has_row(&units) {
-        return Ok(None);
+    match rows_but_events(alloc, conn, unit)? {
+        None => Ok(None),
+        Some(rows) => {
+            let events = events(alloc, conn, unit)?;
+            Ok(Some(UnitRows { events, ..rows }))
+        }
     }
-    let grants = grants_of(alloc, conn, unit)?;
-    let alarms = alarms_of(alloc, conn, unit)?;
-    let shelves = shelves_of(alloc, conn, unit)?;
-    let bands = bands_of(alloc, conn, unit)?;
-    let cells = cells_of(alloc, conn, unit)?;
-    let events = events_of(alloc, conn, unit)?;
-    let records = records_of(alloc, conn, unit)?;
-    let changes = changes_of(alloc, conn, unit)?;
-    Ok(Some(UnitRows {
-        units,
-        grants,
-        alarms,
-        shelves,
-        events,
-        bands,
-        cells,
-        records,
-        changes,
-    }))
 }

@@ -6,19 +6,12 @@ ghost use Rattle.sqlite.specs.State.{Executes, HasCleanDisk, KeepsCommit, Surviv
 ghost use Rattle.sqlite.specs.Values.{bound};
 ghost use Rattle.plant_model.specs.declared.rows.Change.TheVariants.{Put, Remove};
 ghost use Rattle.plant_model.specs.declared.rows.Key.TheVariants.{Grant as GrantKey, Shelf as ShelfKey};
-ghost use Rattle.plant_model.specs.declared.rows.Row.TheVariants.{Alarm as AlarmPut, Band as BandPut, Cell as CellPut, Change as ChangePut, Event as EventPut, Grant as GrantPut, Record as RecordPut, Shelf as ShelfPut, Unit as UnitPut};
 ghost use Rattle.plant_store.specs.Changes.{Applies, CanTell};
 ghost use Rattle.plant_columns.specs.Tables.{AreBooks};
 
-use plant_alarm::Event;
-use plant_columns::encode::{
-    alarm_cells, band_cells, cell_cells, change_cells, event_cells, grant_cells, grant_key, pair,
-    record_cells, shelf_cells, unit_cells, wide,
-};
-use plant_model::{
-    AlarmRow, BandRow, CellRow, Change, ChangeEntry, GrantRow, Key, RecordEntry, Row, ShelfRow,
-    UnitRow,
-};
+use crate::stored::Stored;
+use plant_columns::encode::{grant_key, pair};
+use plant_model::{Change, Key, Row};
 use plant_types::{Person, Role, Tag, UnitCode};
 use sqlite::types::ValueRef;
 use sqlite::{Alter, Connection, Error, Transaction};
@@ -41,7 +34,7 @@ pub fn run<S: Alter>(
 }
 
 /// Runs one statement, and tells how many rows it wrote.
-fn run_counting<S: Alter>(
+pub fn run_counting<S: Alter>(
     tx: &mut Transaction<'_, S>,
     sql: &str,
     cells: &[ValueRef<'_>],
@@ -56,240 +49,24 @@ fn run_counting<S: Alter>(
     tx.execute(sql, cells)
 }
 
-/// Puts the unit's own row.
-pub fn put_unit<S: Alter>(
+/// Puts a row: over the one of its key, or as a new one. In a table whose rows do not change it fails if there is one.
+pub fn put<T: Stored, S: Alter>(
     tx: &mut Transaction<'_, S>,
     unit: &UnitCode,
-    row: &UnitRow,
+    row: &T,
 ) -> Result<(), Error>
     ensures same_reference { tx.new.conn.ghost_name ≡ tx.old.conn.ghost_name }
     ensures made { HasCleanDisk (state S.Store tx.new.conn.now) → IsTrue tx.old.conn.now.in_transaction → AreBooks (state S.Store tx.old.conn.now).now
-        → OnOk result (Applies unit.now (Put (UnitPut row.now) ∷ []) (state S.Store tx.old.conn.now).now (state S.Store tx.new.conn.now).now) }
+        → OnOk result (Applies unit.now (Put (T.as_row row.now) ∷ []) (state S.Store tx.old.conn.now).now (state S.Store tx.new.conn.now).now) }
     ensures inside { HasCleanDisk (state S.Store tx.new.conn.now) → IsTrue tx.old.conn.now.in_transaction → OnOk result (IsTrue tx.new.conn.now.in_transaction) }
     ensures kept { HasCleanDisk (state S.Store tx.new.conn.now) → IsTrue tx.old.conn.now.in_transaction → KeepsCommit (state S.Store tx.old.conn.now) (state S.Store tx.new.conn.now) }
     ensures survives { Survives (state S.Store tx.old.conn.now) (state S.Store tx.new.conn.now) (λ _. ⊥) }
 {
-    let cells = unit_cells(unit, row);
-    let written = run_counting(
-        tx,
-        "UPDATE units SET last_s = ?2, matrix_no = ?3, matrix_rev = ?4, quota = ?5 WHERE unit = ?1",
-        &cells,
-    )?;
+    let written = row.update(tx, unit)?;
     if written != 0 {
         return Ok(());
     }
-    run(
-        tx,
-        "INSERT INTO units (unit, last_s, matrix_no, matrix_rev, quota) VALUES (?1, ?2, ?3, ?4, ?5)",
-        &cells,
-    )
-}
-
-/// Puts a grant.
-pub fn put_grant<S: Alter>(
-    tx: &mut Transaction<'_, S>,
-    unit: &UnitCode,
-    row: &GrantRow,
-) -> Result<(), Error>
-    ensures same_reference { tx.new.conn.ghost_name ≡ tx.old.conn.ghost_name }
-    ensures made { HasCleanDisk (state S.Store tx.new.conn.now) → IsTrue tx.old.conn.now.in_transaction → AreBooks (state S.Store tx.old.conn.now).now
-        → OnOk result (Applies unit.now (Put (GrantPut row.now) ∷ []) (state S.Store tx.old.conn.now).now (state S.Store tx.new.conn.now).now) }
-    ensures inside { HasCleanDisk (state S.Store tx.new.conn.now) → IsTrue tx.old.conn.now.in_transaction → OnOk result (IsTrue tx.new.conn.now.in_transaction) }
-    ensures kept { HasCleanDisk (state S.Store tx.new.conn.now) → IsTrue tx.old.conn.now.in_transaction → KeepsCommit (state S.Store tx.old.conn.now) (state S.Store tx.new.conn.now) }
-    ensures survives { Survives (state S.Store tx.old.conn.now) (state S.Store tx.new.conn.now) (λ _. ⊥) }
-{
-    let cells = grant_cells(unit, row);
-    let written = run_counting(
-        tx,
-        "UPDATE grants SET end_s = ?4 WHERE unit = ?1 AND person = ?2 AND role_no = ?3",
-        &cells,
-    )?;
-    if written != 0 {
-        return Ok(());
-    }
-    run(
-        tx,
-        "INSERT INTO grants (unit, person, role_no, end_s) VALUES (?1, ?2, ?3, ?4)",
-        &cells,
-    )
-}
-
-/// Puts an alarm.
-pub fn put_alarm<S: Alter>(
-    tx: &mut Transaction<'_, S>,
-    unit: &UnitCode,
-    row: &AlarmRow,
-) -> Result<(), Error>
-    ensures same_reference { tx.new.conn.ghost_name ≡ tx.old.conn.ghost_name }
-    ensures made { HasCleanDisk (state S.Store tx.new.conn.now) → IsTrue tx.old.conn.now.in_transaction → AreBooks (state S.Store tx.old.conn.now).now
-        → OnOk result (Applies unit.now (Put (AlarmPut row.now) ∷ []) (state S.Store tx.old.conn.now).now (state S.Store tx.new.conn.now).now) }
-    ensures inside { HasCleanDisk (state S.Store tx.new.conn.now) → IsTrue tx.old.conn.now.in_transaction → OnOk result (IsTrue tx.new.conn.now.in_transaction) }
-    ensures kept { HasCleanDisk (state S.Store tx.new.conn.now) → IsTrue tx.old.conn.now.in_transaction → KeepsCommit (state S.Store tx.old.conn.now) (state S.Store tx.new.conn.now) }
-    ensures survives { Survives (state S.Store tx.old.conn.now) (state S.Store tx.new.conn.now) (λ _. ⊥) }
-{
-    let cells = alarm_cells(unit, row);
-    let written = run_counting(
-        tx,
-        "UPDATE alarms SET latching = ?3, max_s = ?4, max_rev = ?5, state_no = ?6, suppressed = ?7, active_s = ?8, return_s = ?9, out_s = ?10, out_by = ?11, out_words = ?12 WHERE unit = ?1 AND tag = ?2",
-        &cells,
-    )?;
-    if written != 0 {
-        return Ok(());
-    }
-    run(
-        tx,
-        "INSERT INTO alarms (unit, tag, latching, max_s, max_rev, state_no, suppressed, active_s, return_s, out_s, out_by, out_words) VALUES (?1, ?2, ?3, ?4, ?5, ?6, ?7, ?8, ?9, ?10, ?11, ?12)",
-        &cells,
-    )
-}
-
-/// Puts a shelf.
-pub fn put_shelf<S: Alter>(
-    tx: &mut Transaction<'_, S>,
-    unit: &UnitCode,
-    row: &ShelfRow,
-) -> Result<(), Error>
-    ensures same_reference { tx.new.conn.ghost_name ≡ tx.old.conn.ghost_name }
-    ensures made { HasCleanDisk (state S.Store tx.new.conn.now) → IsTrue tx.old.conn.now.in_transaction → AreBooks (state S.Store tx.old.conn.now).now
-        → OnOk result (Applies unit.now (Put (ShelfPut row.now) ∷ []) (state S.Store tx.old.conn.now).now (state S.Store tx.new.conn.now).now) }
-    ensures inside { HasCleanDisk (state S.Store tx.new.conn.now) → IsTrue tx.old.conn.now.in_transaction → OnOk result (IsTrue tx.new.conn.now.in_transaction) }
-    ensures kept { HasCleanDisk (state S.Store tx.new.conn.now) → IsTrue tx.old.conn.now.in_transaction → KeepsCommit (state S.Store tx.old.conn.now) (state S.Store tx.new.conn.now) }
-    ensures survives { Survives (state S.Store tx.old.conn.now) (state S.Store tx.new.conn.now) (λ _. ⊥) }
-{
-    let until = wide(row.until_s)?;
-    let cells = shelf_cells(unit, row, until);
-    let written = run_counting(
-        tx,
-        "UPDATE shelves SET one_shot = ?3, start_s = ?4, until_s = ?5, person = ?6, words = ?7 WHERE unit = ?1 AND tag = ?2",
-        &cells,
-    )?;
-    if written != 0 {
-        return Ok(());
-    }
-    run(
-        tx,
-        "INSERT INTO shelves (unit, tag, one_shot, start_s, until_s, person, words) VALUES (?1, ?2, ?3, ?4, ?5, ?6, ?7)",
-        &cells,
-    )
-}
-
-/// Puts a new limit of a matrix. Fails if the matrix has a limit of its number.
-pub fn put_band<S: Alter>(
-    tx: &mut Transaction<'_, S>,
-    unit: &UnitCode,
-    row: &BandRow,
-) -> Result<(), Error>
-    ensures same_reference { tx.new.conn.ghost_name ≡ tx.old.conn.ghost_name }
-    ensures made { HasCleanDisk (state S.Store tx.new.conn.now) → IsTrue tx.old.conn.now.in_transaction → AreBooks (state S.Store tx.old.conn.now).now
-        → OnOk result (Applies unit.now (Put (BandPut row.now) ∷ []) (state S.Store tx.old.conn.now).now (state S.Store tx.new.conn.now).now) }
-    ensures inside { HasCleanDisk (state S.Store tx.new.conn.now) → IsTrue tx.old.conn.now.in_transaction → OnOk result (IsTrue tx.new.conn.now.in_transaction) }
-    ensures kept { HasCleanDisk (state S.Store tx.new.conn.now) → IsTrue tx.old.conn.now.in_transaction → KeepsCommit (state S.Store tx.old.conn.now) (state S.Store tx.new.conn.now) }
-    ensures survives { Survives (state S.Store tx.old.conn.now) (state S.Store tx.new.conn.now) (λ _. ⊥) }
-{
-    let limit = wide(row.limit_s)?;
-    run(
-        tx,
-        "INSERT INTO bands (unit, matrix_no, band_no, limit_s) VALUES (?1, ?2, ?3, ?4)",
-        &band_cells(unit, row, limit),
-    )
-}
-
-/// Puts a new cell of a matrix. Fails if the matrix has a cell of its severity and limit.
-pub fn put_cell<S: Alter>(
-    tx: &mut Transaction<'_, S>,
-    unit: &UnitCode,
-    row: &CellRow,
-) -> Result<(), Error>
-    ensures same_reference { tx.new.conn.ghost_name ≡ tx.old.conn.ghost_name }
-    ensures made { HasCleanDisk (state S.Store tx.new.conn.now) → IsTrue tx.old.conn.now.in_transaction → AreBooks (state S.Store tx.old.conn.now).now
-        → OnOk result (Applies unit.now (Put (CellPut row.now) ∷ []) (state S.Store tx.old.conn.now).now (state S.Store tx.new.conn.now).now) }
-    ensures inside { HasCleanDisk (state S.Store tx.new.conn.now) → IsTrue tx.old.conn.now.in_transaction → OnOk result (IsTrue tx.new.conn.now.in_transaction) }
-    ensures kept { HasCleanDisk (state S.Store tx.new.conn.now) → IsTrue tx.old.conn.now.in_transaction → KeepsCommit (state S.Store tx.old.conn.now) (state S.Store tx.new.conn.now) }
-    ensures survives { Survives (state S.Store tx.old.conn.now) (state S.Store tx.new.conn.now) (λ _. ⊥) }
-{
-    run(
-        tx,
-        "INSERT INTO cells (unit, matrix_no, severity, band_no, cell_no) VALUES (?1, ?2, ?3, ?4, ?5)",
-        &cell_cells(unit, row),
-    )
-}
-
-/// Puts a new event. Fails if an event of the unit has its number.
-pub fn put_event<S: Alter>(
-    tx: &mut Transaction<'_, S>,
-    unit: &UnitCode,
-    event: &Event,
-) -> Result<(), Error>
-    ensures same_reference { tx.new.conn.ghost_name ≡ tx.old.conn.ghost_name }
-    ensures made { HasCleanDisk (state S.Store tx.new.conn.now) → IsTrue tx.old.conn.now.in_transaction → AreBooks (state S.Store tx.old.conn.now).now
-        → OnOk result (Applies unit.now (Put (EventPut event.now) ∷ []) (state S.Store tx.old.conn.now).now (state S.Store tx.new.conn.now).now) }
-    ensures inside { HasCleanDisk (state S.Store tx.new.conn.now) → IsTrue tx.old.conn.now.in_transaction → OnOk result (IsTrue tx.new.conn.now.in_transaction) }
-    ensures kept { HasCleanDisk (state S.Store tx.new.conn.now) → IsTrue tx.old.conn.now.in_transaction → KeepsCommit (state S.Store tx.old.conn.now) (state S.Store tx.new.conn.now) }
-    ensures survives { Survives (state S.Store tx.old.conn.now) (state S.Store tx.new.conn.now) (λ _. ⊥) }
-{
-    run(
-        tx,
-        "INSERT INTO events (unit, seq, moment_s, tag, kind_no) VALUES (?1, ?2, ?3, ?4, ?5)",
-        &event_cells(unit, event),
-    )
-}
-
-/// Puts a record.
-pub fn put_record<S: Alter>(
-    tx: &mut Transaction<'_, S>,
-    unit: &UnitCode,
-    row: &RecordEntry,
-) -> Result<(), Error>
-    ensures same_reference { tx.new.conn.ghost_name ≡ tx.old.conn.ghost_name }
-    ensures made { HasCleanDisk (state S.Store tx.new.conn.now) → IsTrue tx.old.conn.now.in_transaction → AreBooks (state S.Store tx.old.conn.now).now
-        → OnOk result (Applies unit.now (Put (RecordPut row.now) ∷ []) (state S.Store tx.old.conn.now).now (state S.Store tx.new.conn.now).now) }
-    ensures inside { HasCleanDisk (state S.Store tx.new.conn.now) → IsTrue tx.old.conn.now.in_transaction → OnOk result (IsTrue tx.new.conn.now.in_transaction) }
-    ensures kept { HasCleanDisk (state S.Store tx.new.conn.now) → IsTrue tx.old.conn.now.in_transaction → KeepsCommit (state S.Store tx.old.conn.now) (state S.Store tx.new.conn.now) }
-    ensures survives { Survives (state S.Store tx.old.conn.now) (state S.Store tx.new.conn.now) (λ _. ⊥) }
-{
-    let cells = record_cells(unit, row);
-    let written = run_counting(
-        tx,
-        "UPDATE records SET change_no = ?3, rev = ?4, cell_no = ?5 WHERE unit = ?1 AND tag = ?2",
-        &cells,
-    )?;
-    if written != 0 {
-        return Ok(());
-    }
-    run(
-        tx,
-        "INSERT INTO records (unit, tag, change_no, rev, cell_no) VALUES (?1, ?2, ?3, ?4, ?5)",
-        &cells,
-    )
-}
-
-/// Puts a change.
-pub fn put_change<S: Alter>(
-    tx: &mut Transaction<'_, S>,
-    unit: &UnitCode,
-    row: &ChangeEntry,
-) -> Result<(), Error>
-    ensures same_reference { tx.new.conn.ghost_name ≡ tx.old.conn.ghost_name }
-    ensures made { HasCleanDisk (state S.Store tx.new.conn.now) → IsTrue tx.old.conn.now.in_transaction → AreBooks (state S.Store tx.old.conn.now).now
-        → OnOk result (Applies unit.now (Put (ChangePut row.now) ∷ []) (state S.Store tx.old.conn.now).now (state S.Store tx.new.conn.now).now) }
-    ensures inside { HasCleanDisk (state S.Store tx.new.conn.now) → IsTrue tx.old.conn.now.in_transaction → OnOk result (IsTrue tx.new.conn.now.in_transaction) }
-    ensures kept { HasCleanDisk (state S.Store tx.new.conn.now) → IsTrue tx.old.conn.now.in_transaction → KeepsCommit (state S.Store tx.old.conn.now) (state S.Store tx.new.conn.now) }
-    ensures survives { Survives (state S.Store tx.old.conn.now) (state S.Store tx.new.conn.now) (λ _. ⊥) }
-{
-    let cells = change_cells(unit, row);
-    let written = run_counting(
-        tx,
-        "UPDATE changes SET proposer = ?3, proposed_s = ?4, kind_no = ?5, tag = ?6, base = ?7, cause = ?8, consequence = ?9, remedy = ?10, severity = ?11, response_s = ?12, max_s = ?13, state_no = ?14, decider = ?15, decided_s = ?16 WHERE unit = ?1 AND number = ?2",
-        &cells,
-    )?;
-    if written != 0 {
-        return Ok(());
-    }
-    run(
-        tx,
-        "INSERT INTO changes (unit, number, proposer, proposed_s, kind_no, tag, base, cause, consequence, remedy, severity, response_s, max_s, state_no, decider, decided_s) VALUES (?1, ?2, ?3, ?4, ?5, ?6, ?7, ?8, ?9, ?10, ?11, ?12, ?13, ?14, ?15, ?16)",
-        &cells,
-    )
+    row.insert(tx, unit)
 }
 
 /// Removes a grant.
@@ -343,15 +120,15 @@ fn put_row<S: Alter>(tx: &mut Transaction<'_, S>, unit: &UnitCode, row: &Row) ->
     ensures survives { Survives (state S.Store tx.old.conn.now) (state S.Store tx.new.conn.now) (λ _. ⊥) }
 {
     match row {
-        Row::Unit(row) => put_unit(tx, unit, row),
-        Row::Grant(row) => put_grant(tx, unit, row),
-        Row::Alarm(row) => put_alarm(tx, unit, row),
-        Row::Shelf(row) => put_shelf(tx, unit, row),
-        Row::Band(row) => put_band(tx, unit, row),
-        Row::Cell(row) => put_cell(tx, unit, row),
-        Row::Event(event) => put_event(tx, unit, event),
-        Row::Record(row) => put_record(tx, unit, row),
-        Row::Change(row) => put_change(tx, unit, row),
+        Row::Unit(row) => put(tx, unit, row),
+        Row::Grant(row) => put(tx, unit, row),
+        Row::Alarm(row) => put(tx, unit, row),
+        Row::Shelf(row) => put(tx, unit, row),
+        Row::Band(row) => put(tx, unit, row),
+        Row::Cell(row) => put(tx, unit, row),
+        Row::Event(event) => put(tx, unit, event),
+        Row::Record(row) => put(tx, unit, row),
+        Row::Change(row) => put(tx, unit, row),
     }
 }
 

@@ -190,12 +190,37 @@ fn are_same_rows(ours: &Option<UnitRows>, theirs: &Option<UnitRows>) -> bool {
         && are_same(changes, &theirs.changes)
 }
 
-/// Whether both keepers hold the same rows of this unit.
+/// Whether both keepers hold the same rows of this unit but its events.
+fn hold_all_but_events_alike(
+    ours: &mut impl Books,
+    theirs: &mut impl Books,
+    unit: &UnitCode,
+) -> Result<bool, Fault> {
+    let ours = ours.rows_but_events(unit)?;
+    let theirs = theirs.rows_but_events(unit)?;
+    Ok(are_same_rows(&ours, &theirs))
+}
+
+/// Whether both keepers hold the same events of this unit.
+fn hold_events_alike(
+    ours: &mut impl Books,
+    theirs: &mut impl Books,
+    unit: &UnitCode,
+) -> Result<bool, Fault> {
+    let ours = ours.events(unit)?;
+    let theirs = theirs.events(unit)?;
+    Ok(are_same(&ours, &theirs))
+}
+
+/// Whether both keepers hold the same rows of this unit: together, and its events apart from the others.
 fn hold_unit_alike(
     ours: &mut impl Books,
     theirs: &mut impl Books,
     unit: &UnitCode,
 ) -> Result<bool, Fault> {
+    if !hold_all_but_events_alike(ours, theirs, unit)? || !hold_events_alike(ours, theirs, unit)? {
+        return Ok(false);
+    }
     let ours = ours.rows(unit)?;
     let theirs = theirs.rows(unit)?;
     Ok(are_same_rows(&ours, &theirs))

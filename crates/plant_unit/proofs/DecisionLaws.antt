@@ -1,14 +1,98 @@
--- The changes that a decision makes.
-use Rattle.std.proofs.Common.{ap, append_assoc, sym, ◌∙◌}
-use Rattle.std.specs.Prelude.{Err, List, Ok, OnOk, Option, Result, Some, [], ◌++◌, ◌∷◌, ◌≡◌}
-use Rattle.plant_model.specs.RowChanges.{for_change}
+-- Calls on changes: what a decision makes.
+use Rattle.std.proofs.Common.{ap, refl, subst, sym, ◌∙◌}
+use Rattle.std.specs.Prelude.{Bool, Err, IfOk, List, None, Ok, Option, Result, Some, [], false, if◌then◌else◌, is_ok, option_map, true, ℕ, ◌&&◌, ◌∷◌, ◌≡◌}
+use Rattle.plant_model.specs.Facts.{Facts}
+use Rattle.plant_model.specs.Refusals.{first_refusal, kind_refusals, of_change, own_refusals}
+use Rattle.plant_model.specs.RowChanges.{approval_changes, approved_row, changes_for, decision_change, for_change, in_force, kind_row}
+use Rattle.plant_model.specs.RowFacts.{change_found, change_number, change_read}
+use Rattle.plant_model.specs.Rows.{change_entry}
+use Rattle.plant_model.specs.Verdicts.{refused_or}
+use Rattle.plant_model.specs.declared.call.Call.{Call}
+use Rattle.plant_model.specs.declared.call.Request.TheVariants.{Approve}
+use Rattle.plant_model.specs.declared.call.Request.{Request}
 use Rattle.plant_model.specs.declared.reply.ChangeRow.{ChangeRow}
+use Rattle.plant_model.specs.declared.reply.Refused.TheVariants.{SamePerson}
+use Rattle.plant_model.specs.declared.reply.Refused.{Refused}
+use Rattle.plant_model.specs.declared.reply.Reply.TheVariants.{Done}
+use Rattle.plant_model.specs.declared.reply.Reply.{Reply}
+use Rattle.plant_model.specs.declared.rows.Change.TheVariants.{Put}
 use Rattle.plant_model.specs.declared.rows.Change.{Change}
+use Rattle.plant_model.specs.declared.rows.ChangeEntry.{ChangeEntry}
+use Rattle.plant_model.specs.declared.rows.Row.TheVariants.{Change as ChangePut, Unit as UnitPut}
+use Rattle.plant_model.specs.declared.rows.UnitPart.{UnitPart}
+use Rattle.plant_model.specs.declared.rows.UnitRows.{UnitRows}
+use Rattle.plant_model.specs.declared.rows.Verdict.{Verdict}
+use Rattle.plant_ration.specs.declared.change.ChangeState.TheVariants.{Approved}
+use Rattle.plant_ration.specs.declared.change.ChangeState.{ChangeState}
+use Rattle.plant_types.specs.Names.{Name, same_name}
+use Rattle.plant_types.specs.Options.{when}
+use Rattle.plant_types.specs.Tables.{row_at}
+use Rattle.plant_unit.proofs.ProposalLaws.{not_rejected}
+use Rattle.plant_unit.specs.Additions.{AreKept}
+use Rattle.plant_unit.specs.Readings.{change_whole, has_kind}
+use Rattle.std.specs.Ordering.{nat_cmp}
+use Rattle.plant_unit.specs.Judged.{IsApproved, IsJudgedOwn, changes_or, decided_row, own_answer}
 
--- a change that is there: its first change and the others
-pub decided_pushed : {E : Type 0} (r : Result (Unit {0}) E) (o : Option ChangeRow) (c : ChangeRow) (made : ChangeRow → List Change) (first mid last rest : List Change) (put : Change) → Some c ≡ o → made c ≡ put ∷ rest → mid ≡ first ++ put ∷ []
-    → OnOk r (last ≡ mid ++ rest) → OnOk r (last ≡ first ++ for_change o made)
-decided_pushed (Ok x) o c made first mid last rest put there is pushed done =
-    done ∙ ap (λ (l : List Change). l ++ rest) pushed ∙ append_assoc first (put ∷ []) rest ∙ ap (λ (l : List Change). first ++ l) (sym is)
-    ∙ ap (λ (p : Option ChangeRow). first ++ for_change p made) there
-decided_pushed (Err e) o c made first mid last rest put there is pushed done = tt
+-- the row of a change that was found, and the change that is read from it
+pub found_there : (rows : UnitRows) (n : ℕ) (changes : List ChangeEntry) (found : Option ChangeEntry) (e : ChangeEntry) → found ≡ Some e → found ≡ row_at nat_cmp change_number n changes → changes ≡ rows.changes → Some e ≡ change_found rows n
+found_there rows n changes found e is at same = sym is ∙ at ∙ ap (row_at nat_cmp change_number n) same
+
+pub change_there : (rows : UnitRows) (n : ℕ) (e : ChangeEntry) → Some e ≡ change_found rows n → Some (change_read rows e) ≡ option_map (change_read rows) (change_found rows n)
+change_there rows n e found = ap (option_map (change_read rows)) found
+
+when_true : {A : Type 0} (b : Bool) (x y : A) → b ≡ true → Some x ≡ when b y → x ≡ y
+when_true true x y e is = cc
+when_true false x y e is = cc
+
+-- in a legal history all of a change is there
+pub whole_read : {part : UnitPart} (n : ℕ) (e : ChangeEntry) (c : ChangeRow) → AreKept part → Some e ≡ change_found part.rows n → Some c ≡ change_whole part.rows e → c ≡ change_read part.rows e
+whole_read {part} n e c kept found is = when_true (has_kind part.rows e e.kind_no) c (change_read part.rows e) (kept.changes_whole n e (sym found)) is
+
+-- a decision on a change that is there
+pub refused_change : (o : Option ChangeRow) (c : ChangeRow) → Some c ≡ o → (k : ChangeRow → List (Bool × Refused)) (made : ChangeRow → List Change) (x : Refused) → Some x ≡ first_refusal (of_change (Some c) k)
+    → Err x ≡ changes_or (first_refusal (of_change o k)) (for_change o made)
+refused_change o c there k made x is = ap (λ r. changes_or r (made c)) is ∙ (λ i. changes_or (first_refusal (of_change (there i) k)) (for_change (there i) made))
+
+pub decided_change : (o : Option ChangeRow) (c : ChangeRow) (e : ChangeEntry) → Some c ≡ o → change_entry c ≡ e → (k : ChangeRow → List (Bool × Refused)) (s : ChangeState) (p : Name) (t : ℕ) (put : Change) → put ≡ Put (ChangePut (decided_row s p t e))
+    → None ≡ first_refusal (of_change (Some c) k) → Ok (put ∷ []) ≡ changes_or (first_refusal (of_change o k)) (for_change o (λ x. decision_change s p t x ∷ []))
+decided_change o c e there kept k s p t put is none =
+    (λ i. Ok (is i ∷ [])) ∙ (λ i. Ok (Put (ChangePut (decided_row s p t (sym kept i))) ∷ [])) ∙ ap (λ r. changes_or r (decision_change s p t c ∷ [])) none
+    ∙ (λ i. changes_or (first_refusal (of_change (there i) k)) (for_change (there i) (λ x. decision_change s p t x ∷ [])))
+
+pub refused_there : (o : Option ChangeRow) (c : ChangeRow) → Some c ≡ o → (p : Name) (x : Refused) → Some x ≡ first_refusal (of_change (Some c) (λ y. (same_name p y.proposer, SamePerson) ∷ [])) → Some x ≡ first_refusal (of_change o (λ y. (same_name p y.proposer, SamePerson) ∷ []))
+refused_there o c there p x is = is ∙ ap (λ z. first_refusal (of_change z (λ y. (same_name p y.proposer, SamePerson) ∷ []))) there
+
+-- an approval
+same_if : (b : Bool) (cs : List Change) → (if b then cs else []) ≡ (if b && true then cs else [])
+same_if true cs = refl
+same_if false cs = refl
+
+module _ (f : Facts) (p : Name) (t : ℕ) (u : Name) (n : ℕ) (c : ChangeRow) (e : ChangeEntry) (there : Some c ≡ f.change n) (kept : change_entry c ≡ e) where
+  abbrev call : Call
+  call = record { person = p; moment = t; request = Approve u n }
+
+  abbrev answer : Result Reply Refused
+  answer = own_answer f p t (Approve u n)
+
+  abbrev begin : ChangeEntry → List Change
+  begin row = Put (UnitPut (kind_row t f.unit c.number c.kind)) ∷ Put (ChangePut (decided_row Approved p t row)) ∷ in_force f c.number c.kind
+
+  made : begin e ≡ changes_for f call
+  made = (λ i. begin (sym kept i)) ∙ (λ i. Put (UnitPut (approved_row t f.unit (there i))) ∷ for_change (there i) (approval_changes f p t))
+
+  pub approved_here : None ≡ first_refusal (of_change (Some c) (λ x. (same_name p x.proposer, SamePerson) ∷ [])) → (v : Verdict) → IsApproved f p t c e v → IsJudgedOwn f call v
+  approved_here none v a =
+      let own : first_refusal (kind_refusals f c.base c.kind) ≡ first_refusal (own_refusals f p t (Approve u n)) =
+      not_rejected (f.change n) (λ x. same_name p x.proposer) (λ x. kind_refusals f x.base x.kind) c
+      (none ∙ ap (λ o. first_refusal (of_change o (λ x. (same_name p x.proposer, SamePerson) ∷ []))) there) there in
+      let says = a.answer ∙ ap (λ o. refused_or o Done) own in
+      record {
+        answer = says;
+        changes = a.changes ∙ (λ i. if is_ok (says i) then begin e else []) ∙ same_if (is_ok answer) (begin e) ∙ (λ i. if is_ok answer && true then made i else []);
+      }
+
+pub approved_for : {E : Type 0} (f : Facts) (call : Call) (u : Name) (n : ℕ) (c : ChangeRow) (e : ChangeEntry) → call.request ≡ Approve u n → Some c ≡ f.change n → change_entry c ≡ e
+    → None ≡ first_refusal (of_change (Some c) (λ x. (same_name call.person x.proposer, SamePerson) ∷ [])) → (result : Result Verdict E) → IfOk result (IsApproved f call.person call.moment c e) → IfOk result (IsJudgedOwn f call)
+approved_for f call u n c e is there kept none (Ok v) a =
+    subst (λ (q : Request). IsJudgedOwn f (record { person = call.person; moment = call.moment; request = q }) v) (sym is) (approved_here f call.person call.moment u n c e there kept none v a)
+approved_for f call u n c e is there kept none (Err x) a = tt

@@ -17,7 +17,7 @@ use Rattle.plant_model.specs.Histories.{same_number}
 use Rattle.plant_model.specs.Legality.{IsLegal}
 use Rattle.plant_model.specs.Matrices.{matrix_numbered}
 use Rattle.plant_model.specs.Parts.{AllEvents, AllRecords, Approval, File, OneChange, OneRecord, Scope, Selection, counted_for, every, is_source, none, of_approved, of_topic, part_of, part_of_holder, part_of_stranger, rows_selected, scope_of, selected, selection}
-use Rattle.plant_model.specs.RowFacts.{alarm_tag, cells_at, change_found, change_number, has_cells, holds_by, matrix_read, record_found, record_tag, shelf_tag, unit_read}
+use Rattle.plant_model.specs.RowFacts.{alarm_tag, cells_at, change_found, change_number, change_read, has_cells, holds_by, matrix_read, record_found, record_tag, shelf_tag, unit_read}
 use Rattle.plant_model.specs.Rows.{alarm_row, alarm_rows, cell_rows, change_entry, change_rows, max_of_kind, record_entry, record_rows, records_of, rows_of, shelf_rows, sheet_of_kind, tag_of_kind, topic}
 use Rattle.plant_model.specs.declared.call.Call.{Call}
 use Rattle.plant_model.specs.declared.call.Request.{Request}
@@ -229,6 +229,24 @@ module _ (h : List Call) (legal : IsLegal h) (p : Name) (t : ℕ) (q : Request) 
     by true there is = of_draft (draft h n) refl there is
     by false out is = cc
 
+  -- the row of a change is that of the change that is read from it
+  entry_read : (n : ℕ) (d : Draft) → change_entry (change_read part (change_entry (change_with h n d))) ≡ change_entry (change_with h n d)
+  entry_read n d = by d.kind where
+    by : (k : ChangeKind) → change_entry (change_read part (change_entry (record (change_with h n d) { kind = k }))) ≡ change_entry (record (change_with h n d) { kind = k })
+    by (Rationale a sheet) = refl
+    by (Matrix m) = refl
+    by (Limit a max) = refl
+
+  changes_read : (n : ℕ) (c : ChangeEntry) → change_found part n ≡ Some c → change_entry (change_read part c) ≡ c
+  changes_read n c found = by (s.change n) (sym (change_left n) ∙ found) where
+    of_draft : (o : Option Draft) → option_map change_entry (option_map (change_with h n) o) ≡ Some c → change_entry (change_read part c) ≡ c
+    of_draft None is = cc
+    of_draft (Some d) is = let same : change_entry (change_with h n d) ≡ c = cc in subst (λ (x : ChangeEntry). change_entry (change_read part x) ≡ x) same (entry_read n d)
+
+    by : (b : Bool) → cond b (option_map change_entry (change h n)) None ≡ Some c → change_entry (change_read part c) ≡ c
+    by true is = of_draft (draft h n) is
+    by false is = cc
+
   -- a record's change, where the part has it, has a sheet
   source_whole : (a : Name) (x : ℕ × Sheet) → sheet h a ≡ Some x → has_its_sheet part (record_entry (record_with h a x)) ≡ true
   source_whole a x known = ap (λ o. unwrap_or (option_map has_sheet o) true) (change_left x.0) ∙ by (s.change x.0) where
@@ -286,6 +304,7 @@ module _ (h : List Call) (legal : IsLegal h) (p : Name) (t : ℕ) (q : Request) 
         records_in_order = left_in_order name_cmp record_tag (λ r. s.rationale r.tag) (record_rows h) (records_rise h);
         matrix_whole = matrix_whole;
         changes_whole = changes_whole;
+        changes_read = changes_read;
         records_whole = records_among (in_order name_cmp (tags_of_records h));
         count_fits = fits_most (counted_for (rows_of h) q) counted;
         matrix_fits = fits (matrix_revision h) (few_matrices h legal);
@@ -303,6 +322,7 @@ module _ (h : List Call) (legal : IsLegal h) (p : Name) (t : ℕ) (q : Request) 
         records_in_order = tt;
         matrix_whole = refl;
         changes_whole = λ n c e. cc;
+        changes_read = λ n c e. cc;
         records_whole = refl;
         count_fits = omega arith;
         matrix_fits = fits (matrix_revision h) (few_matrices h legal);

@@ -10,3 +10,4 @@ pub mod Loops
 pub mod ReadingLaws
 pub mod ProposalLaws
 pub mod DecisionLaws
+pub mod VerdictLaws

@@ -9,7 +9,8 @@ use Rattle.plant_unit.specs.Summaries.{AreTold}
 use Rattle.plant_import.specs.declared.merging.Merged.{Merged}
 use Rattle.plant_model.specs.Facts.{Facts, limit_revision_of}
 use Rattle.plant_model.specs.Refusals.{file_refusals, first_refusal}
-use Rattle.plant_model.specs.RowFacts.{alarm_tag, change_found, facts_in, record_tag, shelf_tag, unit_read}
+use Rattle.plant_model.specs.RowFacts.{alarm_tag, change_found, change_read, facts_in, record_tag, shelf_tag, unit_read}
+use Rattle.plant_model.specs.Rows.{change_entry}
 use Rattle.plant_model.specs.declared.reply.Refused.{Refused}
 use Rattle.plant_model.specs.declared.rows.ChangeEntry.{ChangeEntry}
 use Rattle.plant_model.specs.declared.rows.UnitPart.{UnitPart}
@@ -64,6 +65,8 @@ pub record AreKept (part : UnitPart) : Type 0 where
   pub matrix_whole : (is_left_out part.rows (unit_read part.rows).matrix_no || is_matrix_at part.rows (unit_read part.rows).matrix_no) ≡ true
   -- a change has what its kind needs: the columns, or the rows of a matrix
   pub changes_whole : (n : ℕ) (c : ChangeEntry) → change_found part.rows n ≡ Some c → has_kind part.rows c c.kind_no ≡ true
+  -- and nothing else: its row is that of the change that is read from it
+  pub changes_read : (n : ℕ) (c : ChangeEntry) → change_found part.rows n ≡ Some c → change_entry (change_read part.rows c) ≡ c
   -- the change that a record came from, where the part has it, has the columns of a sheet
   pub records_whole : list_all (has_its_sheet part.rows) part.rows.records ≡ true
   -- there is a next number of each kind

@@ -1,36 +1,64 @@
 -- What a judgement says.
-use Rattle.std.specs.Prelude.{Bool, Err, List, None, Ok, Option, Result, Some, [], false, if◌then◌else◌, is_ok, nat_lt, not, true, ◌++◌, ◌∷◌, ◌≡◌}
+use Rattle.std.specs.Prelude.{Bool, Err, List, None, Ok, Option, Result, Some, [], false, if◌then◌else◌, is_ok, nat_lt, not, true, ℕ, ◌++◌, ◌∷◌, ◌≡◌}
 use Rattle.plant_model.specs.declared.call.Call.{Call}
 use Rattle.plant_model.specs.declared.call.Request.{Request}
-use Rattle.plant_model.specs.declared.call.Request.TheVariants.{Approve, Import, Propose, Reject, WithdrawChange}
+use Rattle.plant_model.specs.declared.call.Request.TheVariants.{Import}
 use Rattle.plant_model.specs.declared.reply.Refused.{Refused}
 use Rattle.plant_model.specs.declared.reply.Reply.{Reply}
+use Rattle.plant_model.specs.declared.reply.Reply.TheVariants.{Done}
 use Rattle.plant_model.specs.declared.rows.Change.{Change}
+use Rattle.plant_model.specs.declared.rows.Change.TheVariants.{Put}
+use Rattle.plant_model.specs.declared.reply.ChangeRow.{ChangeRow}
+use Rattle.plant_model.specs.declared.rows.ChangeEntry.{ChangeEntry}
+use Rattle.plant_model.specs.declared.rows.Row.TheVariants.{Change as ChangePut, Unit as UnitPut}
+use Rattle.plant_ration.specs.declared.change.ChangeState.{ChangeState}
+use Rattle.plant_ration.specs.declared.change.ChangeState.TheVariants.{Approved}
 use Rattle.plant_model.specs.declared.rows.UnitPart.{UnitPart}
+use Rattle.plant_model.specs.declared.rows.UnitRow.{UnitRow}
 use Rattle.plant_model.specs.declared.rows.Verdict.{Verdict}
 use Rattle.plant_model.specs.declared.rows.Verdict.TheVariants.{Accepted as IsAccepted, Refused as IsRefused}
 use Rattle.plant_model.specs.Facts.{Facts}
 use Rattle.plant_model.specs.Legality.{IsLegal}
 use Rattle.plant_model.specs.Parts.{part_of}
-use Rattle.plant_model.specs.Refusals.{first_refusal, holds_some, lacks_role, own_refusals, role_needed}
+use Rattle.plant_model.specs.Refusals.{first_refusal, holds_some, kind_refusals, lacks_role, own_refusals, role_needed}
 use Rattle.plant_model.specs.Replies.{reply}
 use Rattle.plant_model.specs.declared.reply.Refused.TheVariants.{MomentBehind, NotGranted}
-use Rattle.plant_model.specs.RowChanges.{changed_by, changes_for, no_rows, puts_unit}
+use Rattle.plant_model.specs.RowChanges.{changed_by, changes_for, in_force, kind_row, no_rows, own_changes, puts_unit}
 use Rattle.plant_model.specs.Rows.{rows_of}
 use Rattle.plant_model.specs.Verdicts.{after, changes_history, refused_or, verdict, verdict_of}
 use Rattle.plant_model.specs.Worlds.{opening}
+use Rattle.plant_types.specs.Names.{Name}
 
 abbrev pub is_import : Request → Bool
 is_import (Import u file) = true
 is_import _ = false
 
--- a request that proposes a change, or decides one
-abbrev pub is_on_change : Request → Bool
-is_on_change (Propose u x) = true
-is_on_change (WithdrawChange u n) = true
-is_on_change (Approve u n) = true
-is_on_change (Reject u n) = true
-is_on_change _ = false
+-- what is decided about a request of one who may make it: its first refusal, else the changes that it makes beside that of the
+-- unit's row
+abbrev pub changes_or : Option Refused → List Change → Result (List Change) Refused
+changes_or None changes = Ok changes
+changes_or (Some refused) changes = Err refused
+
+abbrev pub decision : Facts → Name → ℕ → Request → Result (List Change) Refused
+decision f p t r = changes_or (first_refusal (own_refusals f p t r)) (own_changes f p t r)
+
+-- the same where it makes one change
+abbrev pub one_change : Result Change Refused → Result (List Change) Refused
+one_change (Err refused) = Err refused
+one_change (Ok change) = Ok (change ∷ [])
+
+-- what is answered to such a request, by its own refusals
+abbrev pub own_answer : Facts → Name → ℕ → Request → Result Reply Refused
+own_answer f p t r = refused_or (first_refusal (own_refusals f p t r)) (reply f t r)
+
+-- a verdict that makes the change of a decision and that of the unit's row, and one that only answers
+abbrev pub done_as : UnitRow → Result Change Refused → Verdict
+done_as row (Err refused) = IsRefused refused
+done_as row (Ok change) = IsAccepted Done (Put (UnitPut row) ∷ change ∷ [])
+
+abbrev pub answered_as : Result Reply Refused → Verdict
+answered_as (Err refused) = IsRefused refused
+answered_as (Ok said) = IsAccepted said []
 
 abbrev pub answer_in : Verdict → Result Reply Refused
 answer_in (IsRefused r) = Err r
@@ -52,8 +80,17 @@ pub record IsJudged (f : Facts) (c : Call) (v : Verdict) : Type 0 where
 
 -- the verdict that the facts give to one who may make the call: by the request's own refusals
 pub record IsJudgedOwn (f : Facts) (c : Call) (v : Verdict) : Type 0 where
-  pub answer : answer_in v ≡ refused_or (first_refusal (own_refusals f c.person c.moment c.request)) (reply f c.moment c.request)
-  pub changes : changes_in v ≡ (if changes_history (refused_or (first_refusal (own_refusals f c.person c.moment c.request)) (reply f c.moment c.request)) c then changes_for f c else [])
+  pub answer : answer_in v ≡ own_answer f c.person c.moment c.request
+  pub changes : changes_in v ≡ (if changes_history (own_answer f c.person c.moment c.request) c then changes_for f c else [])
+
+-- the row of a change that a person decides at a moment
+abbrev pub decided_row : ChangeState → Name → ℕ → ChangeEntry → ChangeEntry
+decided_row state p t e = record e { state_no = state; decider = Some p; decided_s = Some t }
+
+-- what is answered where a change may be approved: the refusals of its base and its content, else it comes into force
+pub record IsApproved (f : Facts) (p : Name) (t : ℕ) (c : ChangeRow) (e : ChangeEntry) (v : Verdict) : Type 0 where
+  pub answer : answer_in v ≡ refused_or (first_refusal (kind_refusals f c.base c.kind)) Done
+  pub changes : changes_in v ≡ (if is_ok (answer_in v) then Put (UnitPut (kind_row t f.unit c.number c.kind)) ∷ Put (ChangePut (decided_row Approved p t e)) ∷ in_force f c.number c.kind else [])
 
 -- the refusals of one who may not make the call, or not any more at its moment
 abbrev pub holder_refusals : Facts → Call → List (Bool × Refused)

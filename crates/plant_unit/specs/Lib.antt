@@ -3,3 +3,4 @@ pub mod Readings
 pub mod Summaries
 pub mod Additions
 pub mod Judged
+pub mod Shelving

@@ -1,4 +1,4 @@
-//! The changes that calls on changes make.
+//! Proposing changes, and deciding them.
 
 ghost use Rattle.std.specs.Prelude.{◌≡◌, ◌<◌, ◌+◌, ◌++◌, ◌∷◌, [], IfErr, IfOk, None, OnOk, Some, map, option_map, true, ℕ};
 ghost use Rattle.plant_types.specs.Names.{Name};
@@ -6,22 +6,25 @@ ghost use Rattle.plant_types.specs.declared.fault.Fault.TheVariants.{Memory};
 ghost use Rattle.plant_ration.specs.declared.change.ChangeKind.TheVariants.{Limit, Rationale};
 ghost use Rattle.plant_model.specs.Changes.{priority_by};
 ghost use Rattle.plant_model.specs.RowChanges as row_changes;
-ghost use Rattle.plant_model.specs.RowChanges.{approval_changes, decision_change, for_change, in_force, own_changes};
+ghost use Rattle.plant_model.specs.RowChanges.{in_force, own_changes};
 ghost use Rattle.plant_model.specs.RowFacts.{facts_in, record_read, unit_read};
 ghost use Rattle.plant_model.specs.Rows as rows;
 ghost use Rattle.plant_model.specs.Rows.{change_entry};
-ghost use Rattle.plant_model.specs.declared.call.Request.TheVariants.{Propose};
+ghost use Rattle.plant_model.specs.declared.call.Request.TheVariants.{Approve, Propose, Reject, WithdrawChange};
 ghost use Rattle.plant_model.specs.declared.rows.Change.TheVariants.{Put};
-ghost use Rattle.plant_model.specs.declared.rows.Row.TheVariants.{Record as RecordPut};
+ghost use Rattle.plant_model.specs.declared.rows.Row.TheVariants.{Change as ChangePut, Record as RecordPut};
 ghost use Rattle.plant_unit.specs.Additions.{AreKept};
+ghost use Rattle.plant_unit.specs.Judged.{IsApproved, IsJudgedOwn, decided_row, decision, one_change};
 ghost use Rattle.plant_unit.specs.Readings.{has_its_sheet};
 
 use crate::matrices::{matrix_of, push_matrix};
-use crate::reading::{change_of, entry_of, revision_of, source_of};
+use crate::proposals::{kind_refusal, proposal_refusal, rejection_refusal, withdrawal_refusal};
+use crate::reading::{change_from, entry_of, revision_of, source_of};
+use crate::verdicts::moved;
 use plant_books::alarm_of;
 use plant_model::{
-    AlarmRow, Call, Change, ChangeEntry, ChangeRow, ChangeTopic, RecordEntry, Row, UnitPart,
-    UnitRow,
+    AlarmRow, Call, Change, ChangeEntry, ChangeRow, ChangeTopic, RecordEntry, Refused, Reply, Row,
+    UnitPart, UnitRow, Verdict,
 };
 use plant_ration::{Cell, ChangeKind, ChangeState, Matrix, Proposal, Sheet};
 use plant_types::{Duplicate, Fault, Moment, Seconds, Table, Tag};
@@ -87,7 +90,7 @@ fn entry_from(alloc: Global, change: &ChangeRow) -> Result<ChangeEntry, Fault>
 }
 
 /// The number of the next change: 4,294,967,295 where there are as many or more.
-pub fn next_number(part: &UnitPart) -> u32
+fn next_number(part: &UnitPart) -> u32
     ensures { part.now.count < 4294967295 → result ≡ part.now.count + 1 }
 {
     u32::try_from(part.count)
@@ -96,7 +99,7 @@ pub fn next_number(part: &UnitPart) -> u32
 }
 
 /// Adds the changes of a proposal: its row, and those of its matrix where it is of one.
-pub fn push_proposal(
+fn push_proposal(
     alloc: Global,
     changes: &mut Table<Change>,
     part: &UnitPart,
@@ -124,39 +127,59 @@ pub fn push_proposal(
     }
 }
 
-/// The change of a row of a change that is decided.
+/// The row of a change that the caller decides.
 fn decided(
     alloc: Global,
-    change: &ChangeRow,
+    entry: &ChangeEntry,
     state: ChangeState,
     call: &Call,
 ) -> Result<Change, Fault>
-    ensures value { IfOk result (λ put. put ≡ decision_change state call.now.person call.now.moment change.now) }
+    ensures value { IfOk result (λ put. put ≡ Put (ChangePut (decided_row state call.now.person call.now.moment entry.now))) }
     ensures err { IfErr result (λ e. e ≡ Memory) }
 {
-    let mut entry = entry_from(alloc, change)?;
-    entry.state_no = state;
-    entry.decider = Some(call.person.copy(alloc)?);
-    entry.decided_s = Some(call.moment);
-    Ok(Change::Put(Row::Change(entry)))
+    let mut row = entry.duplicate(alloc)?;
+    row.state_no = state;
+    row.decider = Some(call.person.copy(alloc)?);
+    row.decided_s = Some(call.moment);
+    Ok(Change::Put(Row::Change(row)))
 }
 
-/// Adds the change of a decision that brings nothing into force.
-pub fn push_decision(
+/// Takes a change back.
+pub fn withdraw_change(
     alloc: Global,
-    changes: &mut Table<Change>,
     part: &UnitPart,
     call: &Call,
     number: u32,
-    state: ChangeState,
-) -> Result<(), Fault>
-    ensures value { AreKept part.now → OnOk result (changes.new ≡ changes.old ++ for_change ((facts_in part.now).change number) (λ c. decision_change state call.now.person call.now.moment c ∷ [])) }
+) -> Result<Result<Change, Refused>, Fault>
+    ensures value { AreKept part.now → (u : Name) → IfOk result (λ d. one_change d ≡ decision (facts_in part.now) call.now.person call.now.moment (WithdrawChange u number)) }
     ensures err { IfErr result (λ e. e ≡ Memory) }
 {
-    match change_of(alloc, part, number)? {
-        None => Ok(()),
-        Some(change) => changes.push(decided(alloc, &change, state, call)?),
+    let Some(entry) = entry_of(part.rows.changes.as_slice(), number) else {
+        return Ok(Err(Refused::ChangeUnknown));
+    };
+    if let Some(refused) = withdrawal_refusal(entry, &call.person) {
+        return Ok(Err(refused));
     }
+    Ok(Ok(decided(alloc, entry, ChangeState::Withdrawn, call)?))
+}
+
+/// Rejects a change.
+pub fn reject(
+    alloc: Global,
+    part: &UnitPart,
+    call: &Call,
+    number: u32,
+) -> Result<Result<Change, Refused>, Fault>
+    ensures value { AreKept part.now → (u : Name) → IfOk result (λ d. one_change d ≡ decision (facts_in part.now) call.now.person call.now.moment (Reject u number)) }
+    ensures err { IfErr result (λ e. e ≡ Memory) }
+{
+    let Some(entry) = entry_of(part.rows.changes.as_slice(), number) else {
+        return Ok(Err(Refused::ChangeUnknown));
+    };
+    if let Some(refused) = rejection_refusal(entry, &call.person) {
+        return Ok(Err(refused));
+    }
+    Ok(Ok(decided(alloc, entry, ChangeState::Rejected, call)?))
 }
 
 /// The cell of a severity and a time to respond; that no alarm is needed, where there is none.
@@ -294,43 +317,87 @@ fn push_in_force(
     }
 }
 
-/// Adds the changes of an approval: the change's row, and what it brings into force.
-pub fn push_approval(
-    alloc: Global,
-    changes: &mut Table<Change>,
-    unit: &UnitRow,
-    part: &UnitPart,
-    call: &Call,
-    number: u32,
-) -> Result<(), Fault>
-    requires { unit_read part.now.rows ≡ unit.now }
-    ensures value { AreKept part.now → OnOk result (changes.new ≡ changes.old ++ for_change ((facts_in part.now).change number) (approval_changes (facts_in part.now) call.now.person call.now.moment)) }
-    ensures err { IfErr result (λ e. e ≡ Memory) }
-{
-    let Some(change) = change_of(alloc, part, number)? else {
-        return Ok(());
-    };
-    changes.push(decided(alloc, &change, ChangeState::Approved, call)?)?;
-    push_in_force(alloc, changes, unit, part, change.number, &change.kind)
-}
-
-/// The unit's row after the approval of a change.
-pub fn approved_row(unit: &UnitRow, part: &UnitPart, now: Moment, number: u32) -> UnitRow
-    ensures { unit.now.matrix_rev < 4294967295 → result ≡ row_changes.approved_row now unit.now ((facts_in part.now).change number) }
+/// The unit's row after the approval of a change of this kind.
+fn approved_row(unit: &UnitRow, now: Moment, change: &ChangeRow) -> UnitRow
+    ensures { unit.now.matrix_rev < 4294967295 → result ≡ row_changes.kind_row now unit.now change.now.number change.now.kind }
 {
     let row = UnitRow {
         last_s: now,
         ..*unit
     };
-    match entry_of(part.rows.changes.as_slice(), number) {
-        None => row,
-        Some(entry) => match entry.kind_no {
-            ChangeTopic::Matrix => UnitRow {
-                matrix_no: entry.number,
-                matrix_rev: unit.matrix_rev.saturating_add(1),
-                ..row
-            },
-            ChangeTopic::Record | ChangeTopic::Limit => row,
+    match change.kind {
+        ChangeKind::Matrix(_) => UnitRow {
+            matrix_no: change.number,
+            matrix_rev: unit.matrix_rev.saturating_add(1),
+            ..row
         },
+        ChangeKind::Rationale(..) | ChangeKind::Limit(..) => row,
     }
+}
+
+/// Brings a change into force that may be approved, unless its base or its content stands against it.
+fn bring_into_force(
+    alloc: Global,
+    unit: &UnitRow,
+    part: &UnitPart,
+    call: &Call,
+    entry: &ChangeEntry,
+    change: &ChangeRow,
+) -> Result<Verdict, Fault>
+    requires { unit_read part.now.rows ≡ unit.now }
+    ensures value { AreKept part.now → IfOk result (IsApproved (facts_in part.now) call.now.person call.now.moment change.now entry.now) }
+    ensures err { IfErr result (λ e. e ≡ Memory) }
+{
+    if let Some(refused) = kind_refusal(alloc, unit, part, change.base, &change.kind)? {
+        return Ok(Verdict::Refused(refused));
+    }
+    let mut changes = Table::new(alloc);
+    changes.push(Change::Put(Row::Unit(approved_row(unit, call.moment, change))))?;
+    changes.push(decided(alloc, entry, ChangeState::Approved, call)?)?;
+    push_in_force(alloc, &mut changes, unit, part, change.number, &change.kind)?;
+    Ok(Verdict::Accepted(Reply::Done, changes))
+}
+
+/// Approves a change.
+pub fn approve(
+    alloc: Global,
+    unit: &UnitRow,
+    part: &UnitPart,
+    call: &Call,
+    number: u32,
+) -> Result<Verdict, Fault>
+    requires { unit_read part.now.rows ≡ unit.now }
+    ensures value { AreKept part.now → (u : Name) → call.now.request ≡ Approve u number → IfOk result (IsJudgedOwn (facts_in part.now) call.now) }
+    ensures err { IfErr result (λ e. e ≡ Memory) }
+{
+    let Some(entry) = entry_of(part.rows.changes.as_slice(), number) else {
+        return Ok(Verdict::Refused(Refused::ChangeUnknown));
+    };
+    if let Some(refused) = rejection_refusal(entry, &call.person) {
+        return Ok(Verdict::Refused(refused));
+    }
+    match change_from(alloc, &part.rows, entry)? {
+        None => Ok(Verdict::Refused(Refused::ChangeUnknown)),
+        Some(change) => bring_into_force(alloc, unit, part, call, entry, &change),
+    }
+}
+
+/// Proposes a change.
+pub fn propose(
+    alloc: Global,
+    unit: &UnitRow,
+    part: &UnitPart,
+    call: &Call,
+    proposal: &Proposal,
+) -> Result<Verdict, Fault>
+    requires { unit_read part.now.rows ≡ unit.now }
+    ensures value { AreKept part.now → (u : Name) → call.now.request ≡ Propose u proposal.now → IfOk result (IsJudgedOwn (facts_in part.now) call.now) }
+    ensures err { IfErr result (λ e. e ≡ Memory) }
+{
+    if let Some(refused) = proposal_refusal(alloc, unit, part, proposal)? {
+        return Ok(Verdict::Refused(refused));
+    }
+    let mut changes = moved(alloc, unit, call.moment)?;
+    push_proposal(alloc, &mut changes, part, call, proposal)?;
+    Ok(Verdict::Accepted(Reply::Number(next_number(part)), changes))
 }

@@ -55,7 +55,8 @@ pub fn shelf_of<'a>(shelves: &'a [ShelfRow], tag: &Tag) -> Option<&'a ShelfRow>
     shelves.iter().find(|row| *tag == row.tag)
 }
 
-fn shelf_left(row: Option<&ShelfRow>) -> Shelf
+/// The shelf that a row tells; no row is no shelf.
+pub fn shelf_left(row: Option<&ShelfRow>) -> Shelf
     ensures { result ≡ shelves.shelf_left (option_copied row.entry) }
 {
     match row {

@@ -9,33 +9,92 @@ ghost use Rattle.plant_model.specs.declared.call.Call.{Call};
 ghost use Rattle.plant_unit.specs.Additions.{AreEventsFor, AreKept};
 ghost use Rattle.plant_unit.specs.Judged.{IsJudged, IsJudgedOwn, IsOpening, IsPartOf, IsVerdictOn, is_import};
 
-use crate::changes::{changes_of, opening_changes};
+use crate::changes::opening_changes;
+use crate::decisions::{approve, propose, reject, withdraw_change};
+use crate::grants::{grant, withdraw};
 use crate::imports::judge_import;
-use crate::refusals::{holder_refusal, own_refusal};
-use crate::replies::reply_to;
+use crate::refusals::holder_refusal;
+use crate::replies::{alarms, change, floods, record, shelves, standing, status};
+use crate::service::{place_in_service, register, remove_from_service};
+use crate::shelving::{end_shelf, shelve_for, shelve_once};
+use crate::verdicts::{answered, done};
 use plant_model::{Call, Refused, Reply, Request, UnitPart, UnitRow, Verdict};
 use plant_types::{Fault, Person};
 use std::alloc::Global;
 
 /// What is answered to a call that is no import, whose caller may make it.
-fn judge_plain(
-    alloc: Global,
-    unit: &UnitRow,
-    part: &UnitPart,
-    call: &Call,
-) -> Result<Verdict, Fault>
+fn judge_own(alloc: Global, unit: &UnitRow, part: &UnitPart, call: &Call) -> Result<Verdict, Fault>
     requires row { unit_read part.now.rows ≡ unit.now }
     requires plain { is_opening call.now.request ≡ false }
     requires no_import { is_import call.now.request ≡ false }
     ensures value { AreKept part.now → IfOk result (IsJudgedOwn (facts_in part.now) call.now) }
     ensures err { IfErr result (λ e. e ≡ Memory) }
 {
-    if let Some(refused) = own_refusal(alloc, unit, part, call)? {
-        return Ok(Verdict::Refused(refused));
+    let now = call.moment;
+    match &call.request {
+        Request::Grant { person, tenure, .. } => {
+            done(alloc, unit, now, grant(alloc, part, now, person, *tenure))
+        }
+        Request::Withdraw { person, role, .. } => {
+            done(alloc, unit, now, withdraw(alloc, part, person, *role))
+        }
+        Request::Register {
+            tag,
+            latching,
+            max,
+            ..
+        } => done(
+            alloc,
+            unit,
+            now,
+            register(alloc, part, tag, *latching, *max),
+        ),
+        Request::TimedShelve {
+            tag,
+            seconds,
+            words,
+            ..
+        } => {
+            let decided = shelve_for(alloc, unit, part, call, tag, *seconds, words);
+            done(alloc, unit, now, decided)
+        }
+        Request::OneShotShelve { tag, words, .. } => {
+            let decided = shelve_once(alloc, unit, part, call, tag, words);
+            done(alloc, unit, now, decided)
+        }
+        Request::Unshelve { tag, .. } => done(alloc, unit, now, end_shelf(alloc, part, now, tag)),
+        Request::RemoveFromService { tag, words, .. } => {
+            let decided = remove_from_service(alloc, part, call, tag, words);
+            done(alloc, unit, now, decided)
+        }
+        Request::PlaceInService { tag, .. } => {
+            done(alloc, unit, now, place_in_service(alloc, part, tag))
+        }
+        Request::Propose { proposal, .. } => propose(alloc, unit, part, call, proposal),
+        Request::WithdrawChange { number, .. } => {
+            done(
+                alloc,
+                unit,
+                now,
+                withdraw_change(alloc, part, call, *number),
+            )
+        }
+        Request::Approve { number, .. } => approve(alloc, unit, part, call, *number),
+        Request::Reject { number, .. } => {
+            done(alloc, unit, now, reject(alloc, part, call, *number))
+        }
+        Request::Status { tag, .. } => answered(alloc, status(alloc, part, now, tag)),
+        Request::RecordOf { tag, .. } => answered(alloc, record(alloc, part, tag)),
+        Request::ChangeOf { number, .. } => answered(alloc, change(alloc, part, *number)),
+        Request::Shelves { unit } => answered(alloc, shelves(alloc, part, now, unit)),
+        Request::Alarms { unit } => answered(alloc, alarms(alloc, part, now, unit)),
+        Request::Standing { unit } => answered(alloc, standing(alloc, part, now, unit)),
+        Request::Floods { unit, begin, until } => {
+            answered(alloc, floods(alloc, part, unit, *begin, *until))
+        }
+        Request::OpenUnit { .. } | Request::Import { .. } | Request::MyUnits | Request::MyShelves =>
+            { answered(alloc, Ok(Ok(Reply::Done))) }
     }
-    let reply = reply_to(alloc, part, call.moment, &call.request)?;
-    let changes = changes_of(alloc, unit, part, call)?;
-    Ok(Verdict::Accepted(reply, changes))
 }
 
 fn judge_part(alloc: Global, unit: &UnitRow, part: &UnitPart, call: &Call) -> Result<Verdict, Fault>
@@ -49,7 +108,7 @@ fn judge_part(alloc: Global, unit: &UnitRow, part: &UnitPart, call: &Call) -> Re
     }
     match &call.request {
         Request::Import { file, .. } => judge_import(alloc, unit, part, call, file),
-        _ => judge_plain(alloc, unit, part, call),
+        _ => judge_own(alloc, unit, part, call),
     }
 }
 

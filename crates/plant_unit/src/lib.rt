@@ -6,6 +6,7 @@ mod changes;
 mod decisions;
 mod facts;
 mod floods;
+mod grants;
 mod imports;
 mod judgement;
 mod matrices;
@@ -13,6 +14,9 @@ mod proposals;
 mod reading;
 mod refusals;
 mod replies;
+mod service;
+mod shelving;
+mod verdicts;
 
 pub use changes::is_read;
 pub use judgement::{judge, judge_open};

@@ -1,6 +1,6 @@
 //! The refusals of calls on changes.
 
-ghost use Rattle.std.specs.Prelude.{◌≡◌, ◌∷◌, [], IfErr, IfOk, not, ℕ};
+ghost use Rattle.std.specs.Prelude.{◌≡◌, ◌∷◌, [], IfErr, IfOk, Some, not, ℕ};
 ghost use Rattle.std.specs.List.{list_any};
 ghost use Rattle.plant_types.specs.Names.{Name};
 ghost use Rattle.plant_types.specs.declared.fault.Fault.TheVariants.{Memory};
@@ -8,17 +8,19 @@ ghost use Rattle.plant_ration.specs.Matrix.{priority_of};
 ghost use Rattle.plant_ration.specs.declared.change.ChangeKind.TheVariants.{Limit, Matrix as MatrixKind, Rationale};
 ghost use Rattle.plant_model.specs.Facts.{limit_revision_of};
 ghost use Rattle.plant_model.specs.Refusals as refusals;
-ghost use Rattle.plant_model.specs.Refusals.{first_refusal, is_not_needed, kind_refusals, kind_unknown, own_refusals};
-ghost use Rattle.plant_model.specs.RowFacts.{facts_in, unit_read};
-ghost use Rattle.plant_model.specs.declared.call.Request.TheVariants.{Approve, Propose, Reject, WithdrawChange};
-ghost use Rattle.plant_model.specs.declared.reply.Refused.TheVariants.{NotAnAlarm, OutsideMatrix};
+ghost use Rattle.plant_model.specs.Refusals.{first_refusal, is_not_needed, kind_refusals, kind_unknown, of_change, own_refusals};
+ghost use Rattle.plant_model.specs.RowFacts.{change_read, facts_in, unit_read};
+ghost use Rattle.plant_types.specs.Names.{same_name};
+ghost use Rattle.plant_model.specs.declared.call.Request.TheVariants.{Propose};
+ghost use Rattle.plant_model.specs.declared.reply.Refused.TheVariants.{NotAnAlarm, NotProposer, OutsideMatrix, SamePerson};
+ghost use Rattle.plant_model.specs.declared.rows.UnitRows.{UnitRows as TheRows};
 ghost use Rattle.plant_unit.specs.Additions.{AreKept};
 ghost use Rattle.plant_unit.specs.Readings as readings;
 
 use crate::matrices::matrix_of;
-use crate::reading::{change_of, entry_of, revision_of, source_of};
+use crate::reading::{revision_of, source_of};
 use plant_books::alarm_of;
-use plant_model::{Full, RecordEntry, Refused, UnitPart, UnitRow};
+use plant_model::{ChangeEntry, Full, RecordEntry, Refused, UnitPart, UnitRow};
 use plant_ration::{Cell, ChangeKind, ChangeState, Matrix, Proposal, Sheet};
 use plant_types::{Fault, Person, Seconds, Tag};
 use std::alloc::Global;
@@ -122,8 +124,8 @@ fn limit_refusal(part: &UnitPart, base: u32, tag: &Tag) -> Option<Refused>
     }
 }
 
-/// The first refusal of a change of this kind, for its base and its content, where there is one.
-fn kind_refusal(
+/// The first refusal of a change of this kind, for its base and its content, if any.
+pub fn kind_refusal(
     alloc: Global,
     unit: &UnitRow,
     part: &UnitPart,
@@ -157,7 +159,7 @@ fn unknown_refusal(part: &UnitPart, kind: &ChangeKind) -> Option<Refused>
     }
 }
 
-/// The first refusal of a proposal, where there is one.
+/// The first refusal of a proposal, if any.
 pub fn proposal_refusal(
     alloc: Global,
     unit: &UnitRow,
@@ -177,13 +179,10 @@ pub fn proposal_refusal(
     kind_refusal(alloc, unit, part, proposal.base, &proposal.kind)
 }
 
-/// The first refusal of taking a change back, where there is one.
-pub fn withdrawal_refusal(part: &UnitPart, person: &Person, number: u32) -> Option<Refused>
-    ensures { (t : ℕ) (u : Name) → result ≡ first_refusal (own_refusals (facts_in part.now) person.now t (WithdrawChange u number)) }
+/// The refusal of taking a change back, if any.
+pub fn withdrawal_refusal(entry: &ChangeEntry, person: &Person) -> Option<Refused>
+    ensures { (rows : TheRows) → result ≡ first_refusal (of_change (Some (change_read rows entry.now)) (λ c. (not (same_name person.now c.proposer), NotProposer) ∷ [])) }
 {
-    let Some(entry) = entry_of(part.rows.changes.as_slice(), number) else {
-        return Some(Refused::ChangeUnknown);
-    };
     match entry.state_no {
         ChangeState::Proposed if *person == entry.proposer => None,
         ChangeState::Proposed => Some(Refused::NotProposer),
@@ -191,37 +190,13 @@ pub fn withdrawal_refusal(part: &UnitPart, person: &Person, number: u32) -> Opti
     }
 }
 
-/// The first refusal of rejecting a change, where there is one.
-pub fn rejection_refusal(part: &UnitPart, person: &Person, number: u32) -> Option<Refused>
-    ensures { (t : ℕ) (u : Name) → result ≡ first_refusal (own_refusals (facts_in part.now) person.now t (Reject u number)) }
+/// The refusal of rejecting a change, if any.
+pub fn rejection_refusal(entry: &ChangeEntry, person: &Person) -> Option<Refused>
+    ensures { (rows : TheRows) → result ≡ first_refusal (of_change (Some (change_read rows entry.now)) (λ c. (same_name person.now c.proposer, SamePerson) ∷ [])) }
 {
-    let Some(entry) = entry_of(part.rows.changes.as_slice(), number) else {
-        return Some(Refused::ChangeUnknown);
-    };
     match entry.state_no {
         ChangeState::Proposed if *person == entry.proposer => Some(Refused::SamePerson),
         ChangeState::Proposed => None,
         decided => Some(Refused::NotProposed(decided)),
-    }
-}
-
-/// The first refusal of approving a change, where there is one: those of rejecting it, and then those of its kind.
-pub fn approval_refusal(
-    alloc: Global,
-    unit: &UnitRow,
-    part: &UnitPart,
-    person: &Person,
-    number: u32,
-) -> Result<Option<Refused>, Fault>
-    requires { unit_read part.now.rows ≡ unit.now }
-    ensures value { AreKept part.now → (t : ℕ) (u : Name) → IfOk result (λ r. r ≡ first_refusal (own_refusals (facts_in part.now) person.now t (Approve u number))) }
-    ensures err { IfErr result (λ e. e ≡ Memory) }
-{
-    if let Some(refused) = rejection_refusal(part, person, number) {
-        return Ok(Some(refused));
-    }
-    match change_of(alloc, part, number)? {
-        None => Ok(Some(Refused::ChangeUnknown)),
-        Some(change) => kind_refusal(alloc, unit, part, change.base, &change.kind),
     }
 }

@@ -1,6 +1,6 @@
 //! Records and changes, read from the rows of a part.
 
-ghost use Rattle.std.specs.Prelude.{◌≡◌, IfErr, IfOk, is_some, option_copied, option_map};
+ghost use Rattle.std.specs.Prelude.{◌≡◌, IfErr, IfOk, option_copied, option_map};
 ghost use Rattle.std.specs.Ordering.{nat_cmp};
 ghost use Rattle.plant_types.specs.Names.{name_cmp};
 ghost use Rattle.plant_types.specs.Tables.{row_at};
@@ -58,16 +58,6 @@ pub fn priority_of(part: &UnitPart, tag: &Tag) -> Option<Cell>
     match row_of(part.rows.records.as_slice(), tag) {
         Some(row) => Some(row.cell_no),
         None => None,
-    }
-}
-
-/// Whether an alarm has a record.
-pub fn has_rationale(part: &UnitPart, tag: &Tag) -> bool
-    ensures { result ≡ is_some ((facts_in part.now).rationale tag.now) }
-{
-    match record_of(part.rows.records.as_slice(), tag) {
-        Some(row) => source_of(part, row).is_some(),
-        None => false,
     }
 }
 
@@ -189,7 +179,7 @@ fn kind_of(alloc: Global, rows: &UnitRows, entry: &ChangeEntry) -> Result<Option
 }
 
 /// The change of a row, where all of it is there.
-fn change_from(
+pub fn change_from(
     alloc: Global,
     rows: &UnitRows,
     entry: &ChangeEntry,

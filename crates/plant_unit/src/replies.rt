@@ -1,4 +1,4 @@
-//! The replies to accepted calls.
+//! The answers to calls that only ask.
 
 ghost use Rattle.std.specs.Prelude.{◌≡◌, ◌≤◌, ℕ, Some, IfOk, IfErr, false, filter_map, length, map, not, option_copied};
 ghost use Rattle.plant_types.specs.Names.{Name};
@@ -6,36 +6,41 @@ ghost use Rattle.plant_types.specs.declared.fault.Fault.TheVariants.{Memory};
 ghost use Rattle.plant_alarm.specs.Shelves.{is_unshelved, shelf_state};
 ghost use Rattle.plant_model.specs.Facts.{returned};
 ghost use Rattle.plant_model.specs.Replies as replies;
-ghost use Rattle.plant_model.specs.Replies.{line_of, reply, shelf_lines};
+ghost use Rattle.plant_model.specs.Replies.{line_of, shelf_lines};
 ghost use Rattle.plant_model.specs.RowFacts.{facts_in};
 ghost use Rattle.plant_model.specs.Shelves as shelves;
 ghost use Rattle.plant_unit.specs.Additions.{AreKept};
-ghost use Rattle.plant_unit.specs.Judged.{is_import};
+ghost use Rattle.plant_unit.specs.Judged.{own_answer};
 ghost use Rattle.plant_model.specs.declared.call.Request.TheVariants.{Alarms as AlarmsCall, ChangeOf as ChangeCall, Floods as FloodsCall, RecordOf as RecordCall, Shelves as ShelvesCall, Standing as StandingCall, Status as StatusCall};
 
-use crate::decisions::next_number;
 use crate::facts::{state_now, state_of};
-use crate::floods::flood_lines;
+use crate::floods::{flood_lines, is_aligned};
 use crate::reading::{change_of, priority_of, rationale_of};
 use plant_alarm::ShelfState;
 use plant_books::{alarm_of, row_of};
 use plant_model::{
-    AlarmLine, AlarmRow, Reply, Request, ShelfLine, ShelfRow, StandingLine, StatusRow, UnitPart,
+    AlarmLine, AlarmRow, Refused, Reply, ShelfLine, ShelfRow, StandingLine, StatusRow, UnitPart,
 };
 use plant_types::{Fault, Moment, Table, Tag, UnitCode};
 use std::alloc::Global;
 
-fn status_reply(alloc: Global, part: &UnitPart, tag: &Tag, now: Moment) -> Result<Reply, Fault>
-    ensures value { (u : Name) → IfOk result (λ r. r ≡ reply (facts_in part.now) now (StatusCall u tag.now)) }
+/// The status of an alarm.
+pub fn status(
+    alloc: Global,
+    part: &UnitPart,
+    now: Moment,
+    tag: &Tag,
+) -> Result<Result<Reply, Refused>, Fault>
+    ensures value { (p u : Name) → IfOk result (λ a. a ≡ own_answer (facts_in part.now) p now (StatusCall u tag.now)) }
     ensures err { IfErr result (λ e. e ≡ Memory) }
 {
     let Some(alarm) = alarm_of(part.rows.alarms.as_slice(), tag) else {
-        return Ok(Reply::Done);
+        return Ok(Err(Refused::AlarmUnknown));
     };
     let shelf = state_now(part, tag, now);
     let shelved = !matches!(shelf, ShelfState::Unshelved);
     let out_of_service = alarm.out_s.is_some();
-    Ok(Reply::Status(StatusRow {
+    Ok(Ok(Reply::Status(StatusRow {
         tag: alarm.tag.copy(alloc)?,
         limit: alarm.max_s,
         limit_revision: alarm.max_rev,
@@ -44,7 +49,7 @@ fn status_reply(alloc: Global, part: &UnitPart, tag: &Tag, now: Moment) -> Resul
         suppressed: alarm.suppressed,
         out_of_service,
         suppressed_or_shelved: shelved || alarm.suppressed || out_of_service,
-    }))
+    })))
 }
 
 /// The line of a shelf whose alarm last returned to normal at this moment; none where its time has passed.
@@ -108,20 +113,21 @@ fn lines(alloc: Global, part: &UnitPart, now: Moment) -> Result<Table<ShelfLine>
     Ok(lines)
 }
 
-fn shelves_reply(
+/// The shelves that hold at the moment.
+pub fn shelves(
     alloc: Global,
     part: &UnitPart,
-    unit: &UnitCode,
     now: Moment,
-) -> Result<Reply, Fault>
-    ensures value { AreKept part.now → IfOk result (λ r. r ≡ reply (facts_in part.now) now (ShelvesCall unit.now)) }
+    unit: &UnitCode,
+) -> Result<Result<Reply, Refused>, Fault>
+    ensures value { AreKept part.now → (p : Name) → IfOk result (λ a. a ≡ own_answer (facts_in part.now) p now (ShelvesCall unit.now)) }
     ensures err { IfErr result (λ e. e ≡ Memory) }
 {
-    Ok(Reply::Shelves {
+    Ok(Ok(Reply::Shelves {
         unit: unit.copy(alloc)?,
         at: now,
         lines: lines(alloc, part, now)?,
-    })
+    }))
 }
 
 fn is_shelved(part: &UnitPart, alarm: &AlarmRow, now: Moment) -> bool
@@ -202,111 +208,84 @@ fn standing_lines(alloc: Global, part: &UnitPart, now: Moment) -> Result<Table<S
     Ok(lines)
 }
 
-fn alarms_reply(
+/// All alarms.
+pub fn alarms(
     alloc: Global,
     part: &UnitPart,
-    unit: &UnitCode,
     now: Moment,
-) -> Result<Reply, Fault>
-    ensures value { AreKept part.now → IfOk result (λ r. r ≡ reply (facts_in part.now) now (AlarmsCall unit.now)) }
+    unit: &UnitCode,
+) -> Result<Result<Reply, Refused>, Fault>
+    ensures value { AreKept part.now → (p : Name) → IfOk result (λ a. a ≡ own_answer (facts_in part.now) p now (AlarmsCall unit.now)) }
     ensures err { IfErr result (λ e. e ≡ Memory) }
 {
-    Ok(Reply::Alarms {
+    Ok(Ok(Reply::Alarms {
         unit: unit.copy(alloc)?,
         at: now,
         lines: alarm_lines(alloc, part, now)?,
-    })
+    }))
 }
 
-fn standing_reply(
+/// The alarms that are active.
+pub fn standing(
     alloc: Global,
     part: &UnitPart,
-    unit: &UnitCode,
     now: Moment,
-) -> Result<Reply, Fault>
-    ensures value { AreKept part.now → IfOk result (λ r. r ≡ reply (facts_in part.now) now (StandingCall unit.now)) }
+    unit: &UnitCode,
+) -> Result<Result<Reply, Refused>, Fault>
+    ensures value { AreKept part.now → (p : Name) → IfOk result (λ a. a ≡ own_answer (facts_in part.now) p now (StandingCall unit.now)) }
     ensures err { IfErr result (λ e. e ≡ Memory) }
 {
-    Ok(Reply::Standing {
+    Ok(Ok(Reply::Standing {
         unit: unit.copy(alloc)?,
         at: now,
         lines: standing_lines(alloc, part, now)?,
-    })
+    }))
 }
 
-fn floods_reply(
+/// The floods of a range.
+pub fn floods(
     alloc: Global,
     part: &UnitPart,
     unit: &UnitCode,
     begin: Moment,
     until: Moment,
-) -> Result<Reply, Fault>
-    ensures value { length part.now.rows.events ≤ 4294967295 → (t : ℕ) → IfOk result (λ r. r ≡ reply (facts_in part.now) t (FloodsCall unit.now begin until)) }
+) -> Result<Result<Reply, Refused>, Fault>
+    ensures value { length part.now.rows.events ≤ 4294967295 → (t : ℕ) (p : Name) → IfOk result (λ a. a ≡ own_answer (facts_in part.now) p t (FloodsCall unit.now begin until)) }
     ensures err { IfErr result (λ e. e ≡ Memory) }
 {
+    if !is_aligned(begin, until) {
+        return Ok(Err(Refused::RangeNotAligned));
+    }
     let events = part.rows.events.as_slice();
-    Ok(Reply::Floods {
+    Ok(Ok(Reply::Floods {
         unit: unit.copy(alloc)?,
         begin,
         until,
         lines: flood_lines(alloc, events, begin, until)?,
-    })
+    }))
 }
 
-fn record_reply(alloc: Global, part: &UnitPart, tag: &Tag) -> Result<Reply, Fault>
-    ensures value { AreKept part.now → (t : ℕ) (u : Name) → IfOk result (λ r. r ≡ reply (facts_in part.now) t (RecordCall u tag.now)) }
+/// The record of an alarm.
+pub fn record(alloc: Global, part: &UnitPart, tag: &Tag) -> Result<Result<Reply, Refused>, Fault>
+    ensures value { AreKept part.now → (t : ℕ) (p u : Name) → IfOk result (λ a. a ≡ own_answer (facts_in part.now) p t (RecordCall u tag.now)) }
     ensures err { IfErr result (λ e. e ≡ Memory) }
 {
+    if alarm_of(part.rows.alarms.as_slice(), tag).is_none() {
+        return Ok(Err(Refused::AlarmUnknown));
+    }
     match rationale_of(alloc, part, tag)? {
-        None => Ok(Reply::Done),
-        Some(row) => Ok(Reply::RecordOf(row)),
+        None => Ok(Err(Refused::RecordUnknown)),
+        Some(row) => Ok(Ok(Reply::RecordOf(row))),
     }
 }
 
-fn change_reply(alloc: Global, part: &UnitPart, number: u32) -> Result<Reply, Fault>
-    ensures value { AreKept part.now → (t : ℕ) (u : Name) → IfOk result (λ r. r ≡ reply (facts_in part.now) t (ChangeCall u number)) }
+/// The change of a number.
+pub fn change(alloc: Global, part: &UnitPart, number: u32) -> Result<Result<Reply, Refused>, Fault>
+    ensures value { AreKept part.now → (t : ℕ) (p u : Name) → IfOk result (λ a. a ≡ own_answer (facts_in part.now) p t (ChangeCall u number)) }
     ensures err { IfErr result (λ e. e ≡ Memory) }
 {
     match change_of(alloc, part, number)? {
-        None => Ok(Reply::Done),
-        Some(change) => Ok(Reply::ChangeOf(change)),
-    }
-}
-
-/// The reply to an accepted request that is no import.
-pub fn reply_to(
-    alloc: Global,
-    part: &UnitPart,
-    now: Moment,
-    request: &Request,
-) -> Result<Reply, Fault>
-    requires { is_import request.now ≡ false }
-    ensures value { AreKept part.now → IfOk result (λ r. r ≡ reply (facts_in part.now) now request.now) }
-    ensures err { IfErr result (λ e. e ≡ Memory) }
-{
-    match request {
-        Request::Floods { unit, begin, until } => floods_reply(alloc, part, unit, *begin, *until),
-        Request::Status { tag, .. } => status_reply(alloc, part, tag, now),
-        Request::Shelves { unit } => shelves_reply(alloc, part, unit, now),
-        Request::Alarms { unit } => alarms_reply(alloc, part, unit, now),
-        Request::Standing { unit } => standing_reply(alloc, part, unit, now),
-        Request::RecordOf { tag, .. } => record_reply(alloc, part, tag),
-        Request::ChangeOf { number, .. } => change_reply(alloc, part, *number),
-        Request::Propose { .. } => Ok(Reply::Number(next_number(part))),
-        Request::OpenUnit { .. }
-        | Request::Grant { .. }
-        | Request::Withdraw { .. }
-        | Request::Register { .. }
-        | Request::Import { .. }
-        | Request::TimedShelve { .. }
-        | Request::OneShotShelve { .. }
-        | Request::Unshelve { .. }
-        | Request::RemoveFromService { .. }
-        | Request::PlaceInService { .. }
-        | Request::WithdrawChange { .. }
-        | Request::Approve { .. }
-        | Request::Reject { .. }
-        | Request::MyUnits
-        | Request::MyShelves => Ok(Reply::Done),
+        None => Ok(Err(Refused::ChangeUnknown)),
+        Some(change) => Ok(Ok(Reply::ChangeOf(change))),
     }
 }

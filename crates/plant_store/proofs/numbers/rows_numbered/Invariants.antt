@@ -13,7 +13,7 @@ invariant-loop-number g l =
     let now = state g.S.Store l.conn in
     record {
       mode : l.conn.in_transaction ≡ false;
-      rows : CanTell now → AreBooks old.now → l.rows.items ≡ flat_map (λ n. filter (λ r. same_number n (g.T.Numbered.number r)) (g.T.Numbered.seen l.unit old.now.trees)) (take l.number-index l.numbers);
+      rows : CanTell now → AreBooks old.now → l.rows.items ≡ flat_map (λ n. filter (λ r. same_number n (g.T.Numbered.number r)) (g.T.Stored.seen l.unit old.now.trees)) (take l.number-index l.numbers);
       same : CanTell now → AreBooks old.now → now.now ≡ old.now;
       told : CanTell now → CanTell old;
     }

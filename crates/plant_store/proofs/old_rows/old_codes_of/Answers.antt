@@ -27,11 +27,9 @@ told rows cs lines shown said = sym (back lines) ∙ ap (map first) (sym said �
 
 pub returns-clause-rows : goal.returns-clause-rows
 returns-clause-rows g c clean books =
-    let shown = find_old_codes (state g.S.Store c.args.conn.now) (state g.S.Store c.ask.new.conn) books c.in_ok-rows.rows.items (c.in_ok-rows.ensures.rows clean) in
-    if_ok c.read_all.result (λ read. told c.in_ok-rows.rows.items _ read shown) (rw c.as_slice.ensures.value at c.read_all.ensures)
+    let old = state g.S.Store c.args.conn.now in
+    let new = state g.S.Store c.read_rows.new.conn in
+    if_ok c.read_rows.result (λ lines it. told it.0 _ lines (find_old_codes old new books it.0 it.1.0) it.1.1) (c.read_rows.ensures.rows clean)
 
 pub returns-clause-same : goal.returns-clause-same
-returns-clause-same g c told books = c.ask.ensures.same told old_books_schema books.same_schema old_codes_plain
-
-pub returns-in_err-rows-clause-same : goal.returns-in_err-rows-clause-same
-returns-in_err-rows-clause-same g c told books = c.ask.ensures.same told old_books_schema books.same_schema old_codes_plain
+returns-clause-same g c told books = c.read_rows.ensures.same told old_books_schema books.same_schema old_codes_plain

@@ -9,7 +9,7 @@ use Rattle.plant_store.proofs.part.some_events.Goals as goal
 pub returns-then-wanted-clause-rows : goal.returns-then-wanted-clause-rows
 returns-then-wanted-clause-rows g c clean books =
     let seen = rows_seen c.args.unit.now (state g.S.Store c.args.conn.now).now.trees EventKept in
-    if_ok c.events_of.result (λ rows h. h ∙ sym (ap (λ b. events_with b seen) c.if-wanted.true)) (c.events_of.ensures.rows clean books)
+    if_ok c.all_rows.result (λ rows h. h ∙ sym (ap (λ b. events_with b seen) c.if-wanted.true)) (c.all_rows.ensures.rows clean books)
 
 pub returns-else-wanted-clause-rows : goal.returns-else-wanted-clause-rows
 returns-else-wanted-clause-rows g c clean books =

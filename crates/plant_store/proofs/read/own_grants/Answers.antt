@@ -1,20 +1,14 @@
-use Rattle.std.proofs.Common.{refl}
 use Rattle.sqlite.specs.Held.{state}
-use Rattle.plant_columns.specs.Tables.{grant_shape}
-use Rattle.plant_columns.specs.Tables.Kept.{GrantKept}
 use Rattle.plant_columns.specs.Tables.{books_schema}
-use Rattle.plant_store.proofs.Meanings.{own_grants_plain}
-use Rattle.plant_store.proofs.Queries.{if_ok, told_back, find_own_grants}
-use Rattle.plant_columns.proofs.ShapeLaws.{good}
+use Rattle.plant_store.proofs.Queries.{if_ok, own_grants_read}
+use Rattle.plant_store.proofs.Reading.{shown_decoded}
 use Rattle.plant_store.proofs.read.own_grants.Goals as goal
 
 pub returns-clause-rows : goal.returns-clause-rows
 returns-clause-rows g c clean books =
-    let shown = find_own_grants c.args.unit.now c.args.person.now (state g.S.Store c.args.conn.now) (state g.S.Store c.ask.new.conn) books c.in_ok-rows.rows.items (rw c.pair.ensures at (c.in_ok-rows.ensures.rows clean)) in
-    if_ok c.read_all.result (λ read. told_back grant_shape (good GrantKept) 3 (λ x. refl) c.in_ok-rows.rows.items _ read shown) (rw c.as_slice.ensures.value at c.read_all.ensures)
+    let old = state g.S.Store c.args.conn.now in
+    let new = state g.S.Store c.read_rows.new.conn in
+    if_ok c.read_rows.result (λ read it. shown_decoded (own_grants_read c.args.unit.now c.args.person.now) old new books.same_schema books it.0 (rw c.pair.ensures at it.1.0) read it.1.1) (c.read_rows.ensures.rows clean)
 
 pub returns-clause-same : goal.returns-clause-same
-returns-clause-same g c told books = c.ask.ensures.same told books_schema books.same_schema own_grants_plain
-
-pub returns-in_err-rows-clause-same : goal.returns-in_err-rows-clause-same
-returns-in_err-rows-clause-same g c told books = c.ask.ensures.same told books_schema books.same_schema own_grants_plain
+returns-clause-same g c told books = c.read_rows.ensures.same told books_schema books.same_schema (own_grants_read c.args.unit.now c.args.person.now).plain

@@ -1,11 +1,9 @@
-use Rattle.std.proofs.Common.{Option, drop, ◌++◌, ◌≡◌}
+use Rattle.std.proofs.Common.{drop, ◌++◌, ◌≡◌}
 use Rattle.std.specs.Prelude.{flat_map}
-use Rattle.plant_mirror.specs.Copies.{AreCopies, shelves_there}
-use Rattle.plant_model.specs.declared.rows.UnitRows.{UnitRows}
-use Rattle.plant_types.specs.Names.{Name}
+use Rattle.plant_mirror.specs.Copies.{AreCopies, There, shelves_there}
 use Rattle.plant_mirror.proofs.copies.Copies.shelves_of.Given as goal
 
 abbrev pub invariant-loop-unit : goal.invariant-loop-unit
 invariant-loop-unit l =
-    (there : Name → Option UnitRows) → AreCopies there l.self.units.entries
+    (there : There) → AreCopies there l.self.units.entries
     → l.mine ++ flat_map (λ u. shelves_there u (there u)) (drop l.unit-index l.units) ≡ flat_map (λ u. shelves_there u (there u)) l.units

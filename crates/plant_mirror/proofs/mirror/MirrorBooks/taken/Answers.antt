@@ -1,9 +1,9 @@
-use Rattle.std.proofs.Common.{ap, sym}
+use Rattle.std.proofs.Common.{sym}
 use Rattle.std.specs.FinMap.{get}
-use Rattle.std.specs.Prelude.{is_some}
-use Rattle.plant_mirror.proofs.CopyLaws.{found_there}
+use Rattle.plant_mirror.proofs.CopyLaws.{found_there, is_there}
 use Rattle.plant_mirror.proofs.mirror.MirrorBooks.taken.Goals as goal
 
 pub returns-in-Some-clause-found : goal.returns-in-Some-clause-found
 returns-in-Some-clause-found g c = λ m h told.
-    sym (ap is_some (found_there c.args.unit.now (get m.units) c.args.self.now.copies.units.entries c.in-Some.field-0.now (h.copied told) (sym c.in-Some.ensures)).0)
+    let copy = c.in-Some.field-0.now in
+    is_there copy.has_events (get m.units c.args.unit.now) copy.rows (found_there c.args.unit.now (get m.units) c.args.self.now.copies.units.entries copy (h.copied told) (sym c.in-Some.ensures)).same

@@ -1,0 +1,10 @@
+use Rattle.std.proofs.Common.{subst, sym, ◌≡◌}
+use Rattle.std.specs.FinMap.{get}
+use Rattle.std.specs.Prelude.{IfOk, unwrap_or}
+use Rattle.plant_model.specs.RowChanges.{no_rows}
+use Rattle.plant_mirror.proofs.mirror.MirrorBooks.events.Goals as goal
+
+pub returns-in-Some-clause-found : goal.returns-in-Some-clause-found
+returns-in-Some-clause-found g c = λ m h told.
+    subst (λ o. IfOk c.duplicate.result (λ events. events ≡ (unwrap_or o no_rows).events))
+    (sym (c.in-Some.ensures (get m.units) (h.copied told))) c.duplicate.ensures.value

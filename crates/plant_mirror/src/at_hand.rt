@@ -1,0 +1,74 @@
+ghost use Rattle.std.specs.FinMap as fin;
+ghost use Rattle.std.specs.Prelude.{◌≡◌, ◌&&◌, IfSome, IsTrue, not};
+ghost use Rattle.plant_books.specs.Changing.{puts_event};
+ghost use Rattle.plant_books.specs.Contents.{Content, after_changes as content_after};
+ghost use Rattle.plant_mirror.specs.Copies as copies;
+ghost use Rattle.plant_mirror.specs.Copies.{IsCopy, seen};
+ghost use Rattle.plant_model.specs.Parts.{part_of};
+ghost use Rattle.plant_model.specs.declared.rows.UnitRows.{UnitRows as TheRows};
+ghost use Rattle.plant_types.specs.Names.{Name};
+
+use plant_books::{after_changes, holds_some_by, looks_at_events, puts_event};
+use plant_model::{Call, Change, UnitRows};
+use plant_types::Table;
+use std::alloc::Global;
+
+/// A unit's rows at hand: all of them, or all but its events.
+#[derive(Drop)]
+pub struct AtHand {
+    pub rows: UnitRows,
+    pub has_events: bool,
+}
+
+impl AtHand {
+    /// How many rows there are.
+    pub fn row_count(&self) -> u128
+        ensures { result ≡ copies.row_count self.now.rows }
+    {
+        let rows = &self.rows;
+        rows.units.len() as u128
+            + rows.grants.len() as u128
+            + rows.alarms.len() as u128
+            + rows.shelves.len() as u128
+            + rows.events.len() as u128
+            + rows.bands.len() as u128
+            + rows.cells.len() as u128
+            + rows.records.len() as u128
+            + rows.changes.len() as u128
+    }
+
+    /// Whether the call looks at nothing that is missing here. A caller who holds no role looks at no event.
+    pub fn serves(&self, call: &Call) -> bool
+        ensures { IsTrue result → (rows : TheRows) → seen self.now.has_events rows ≡ self.now.rows → part_of call.now self.now.rows ≡ part_of call.now rows }
+    {
+        if self.has_events {
+            return true;
+        }
+        if !looks_at_events(&call.request) {
+            return true;
+        }
+        !holds_some_by(self.rows.grants.as_slice(), &call.person, call.moment)
+    }
+
+    /// Whether an event is put among events that are not at hand.
+    fn misses(&self, changes: &Table<Change>) -> bool
+        ensures { result ≡ (not self.now.has_events && puts_event changes.now) }
+    {
+        !self.has_events && puts_event(changes)
+    }
+
+    /// What is at hand after the changes. It is nothing where an event is put among events that are not at hand, or where
+    /// memory is wanted.
+    pub fn after(self, alloc: Global, changes: &Table<Change>) -> Option<AtHand>
+        ensures { (m : Content) (u : Name) → IsCopy (fin.get m.units) (u, self) → IfSome result (λ after. IsCopy (fin.get (content_after m u changes.now).units) (u, after)) }
+    {
+        if self.misses(changes) {
+            return None;
+        }
+        let AtHand { rows, has_events } = self;
+        match after_changes(alloc, rows, changes) {
+            Ok(rows) => Some(AtHand { rows, has_events }),
+            Err(_) => None,
+        }
+    }
+}

@@ -1,0 +1,5 @@
+use Rattle.plant_store.proofs.OldQueries.{old_shelves_read}
+use Rattle.plant_store.proofs.old_rows.ShelfRowUnchanged.same_select.Goals as goal
+
+pub returns : goal.returns
+returns c u = rw c.select.ensures.text (old_shelves_read u)

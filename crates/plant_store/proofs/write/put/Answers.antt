@@ -1,0 +1,25 @@
+use Rattle.std.proofs.Common.{◌∷◌, [], arith, rules}
+use Rattle.sqlite.specs.Held.{state}
+use Rattle.sqlite.specs.State.{HasCleanDisk}
+use Rattle.plant_model.specs.declared.rows.Change.TheVariants.{Put}
+use Rattle.plant_store.proofs.Writes.{applies_then, on_ok}
+use Rattle.plant_store.proofs.WritesOver.{none_put, one_put}
+use Rattle.plant_store.proofs.write.put.Goals as goal
+
+pub returns-then-written-ne0-clause-made : goal.returns-then-written-ne0-clause-made
+returns-then-written-ne0-clause-made g c clean inside books =
+    let old = state g.S.Store c.args.tx.now.conn.now in
+    let new = state g.S.Store c.update.new.tx.conn.now in
+    one_put c.args.unit.now (Put (g.T.Stored.as_row c.args.row.now)) old.now new.now c.in_ok-written.written (search rules) (c.in_ok-written.ensures.made clean inside books)
+
+pub returns-clause-made : goal.returns-clause-made
+returns-clause-made g c clean inside books =
+    let u = c.args.unit.now in
+    let change = Put (g.T.Stored.as_row c.args.row.now) in
+    let old = state g.S.Store c.args.tx.now.conn.now in
+    let between = state g.S.Store c.update.new.tx.conn.now in
+    let new = state g.S.Store c.insert.new.tx.conn.now in
+    let before : HasCleanDisk between = omega (arith, c.insert.ensures.survives.clean) in
+    let first = none_put u change old.now between.now c.in_ok-written.written (search rules) (c.in_ok-written.ensures.made before inside books) in
+    let within = c.in_ok-written.ensures.inside before inside in
+    on_ok c.insert.result (applies_then u [] (change ∷ []) old.now between.now new.now first) (c.insert.ensures.made clean within first.books)

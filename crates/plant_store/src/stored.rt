@@ -1,0 +1,390 @@
+//! The tables, each described once: the statements that read its rows and that put one.
+
+ghost use Rattle.std.specs.Prelude.{◌≡◌, ◌∷◌, [], ℕ, filter, IfOk, IsTrue, List, OnOk};
+ghost use Rattle.sqlite.specs.Held.{state};
+ghost use Rattle.sqlite.specs.State.{HasCleanDisk, KeepsCommit, Survives};
+ghost use Rattle.sqlite.specs.Tree.{Trees};
+ghost use Rattle.sqlite_value.specs.declared.value.Value.TheVariants.{Text as TextValue};
+ghost use Rattle.plant_columns.specs.Codes as codes;
+ghost use Rattle.plant_columns.specs.Tables.{AreBooks, rows_seen};
+ghost use Rattle.plant_columns.specs.Tables.Kept.{AlarmKept, BandKept, CellKept, ChangeKept, EventKept, GrantKept, RecordKept, ShelfKept, UnitKept};
+ghost use Rattle.plant_model.specs.Histories.{same_number};
+ghost use Rattle.plant_model.specs.RowFacts.{change_number};
+ghost use Rattle.plant_model.specs.declared.rows.Change.TheVariants.{Put};
+ghost use Rattle.plant_model.specs.declared.rows.Row.{Row as AnyRow};
+ghost use Rattle.plant_model.specs.declared.rows.Row.TheVariants.{Alarm as AlarmPut, Band as BandPut, Cell as CellPut, Change as ChangePut, Event as EventPut, Grant as GrantPut, Record as RecordPut, Shelf as ShelfPut, Unit as UnitPut};
+ghost use Rattle.plant_store.specs.Changes.{Applies};
+ghost use Rattle.plant_store.specs.Statements.{Reads, changes_written};
+ghost use Rattle.plant_store.specs.Texts.{alarms_of_text, bands_of_text, cells_of_text, changes_of_text, events_of_text, grants_of_text, records_of_text, shelves_of_text, units_of_text};
+ghost use Rattle.plant_types.specs.Names.{Name, same_name};
+
+use crate::write::{run, run_counting};
+use plant_alarm::Event;
+use plant_columns::decode::Shown;
+use plant_columns::encode::{
+    alarm_cells, band_cells, cell_cells, change_cells, event_cells, grant_cells, record_cells,
+    shelf_cells, unit_cells, wide,
+};
+use plant_model::{
+    AlarmRow, BandRow, CellRow, ChangeEntry, GrantRow, RecordEntry, ShelfRow, UnitRow,
+};
+use plant_types::UnitCode;
+use sqlite::{Alter, Error, Transaction};
+
+/// A row of a table.
+pub trait Stored: Shown {
+    /// Those that the tables have of a unit.
+    ghost seen: { Name → Trees → List Self };
+
+    /// The same row, as changes name it.
+    ghost as_row: { Self → AnyRow };
+
+    ghost select_text: { List ℕ };
+
+    /// The text that reads all rows of a unit, in the order of their keys.
+    fn select() -> &'static str
+        ensures reads { (u : Name) → Reads Self.width Self.cells (seen u) (TextValue u ∷ []) result.now }
+        ensures text { result.now ≡ select_text };
+
+    /// Writes the row over the one of its key, in a table whose rows change, and tells how many rows it wrote.
+    fn update<S: Alter>(&self, tx: &mut Transaction<'_, S>, unit: &UnitCode) -> Result<usize, Error>
+        ensures same_reference { tx.new.conn.ghost_name ≡ tx.old.conn.ghost_name }
+        ensures made { HasCleanDisk (state S.Store tx.new.conn.now) → IsTrue tx.old.conn.now.in_transaction → AreBooks (state S.Store tx.old.conn.now).now
+            → IfOk result (λ count. Applies unit.now (changes_written count (Put (as_row self.now))) (state S.Store tx.old.conn.now).now (state S.Store tx.new.conn.now).now) }
+        ensures inside { HasCleanDisk (state S.Store tx.new.conn.now) → IsTrue tx.old.conn.now.in_transaction → OnOk result (IsTrue tx.new.conn.now.in_transaction) }
+        ensures kept { HasCleanDisk (state S.Store tx.new.conn.now) → IsTrue tx.old.conn.now.in_transaction → KeepsCommit (state S.Store tx.old.conn.now) (state S.Store tx.new.conn.now) }
+        ensures survives { Survives (state S.Store tx.old.conn.now) (state S.Store tx.new.conn.now) (λ _. ⊥) }
+    {
+        Ok(0)
+    }
+
+    /// Puts the row as a new one. Fails if there is a row of its key.
+    fn insert<S: Alter>(&self, tx: &mut Transaction<'_, S>, unit: &UnitCode) -> Result<(), Error>
+        ensures same_reference { tx.new.conn.ghost_name ≡ tx.old.conn.ghost_name }
+        ensures made { HasCleanDisk (state S.Store tx.new.conn.now) → IsTrue tx.old.conn.now.in_transaction → AreBooks (state S.Store tx.old.conn.now).now
+            → OnOk result (Applies unit.now (Put (as_row self.now) ∷ []) (state S.Store tx.old.conn.now).now (state S.Store tx.new.conn.now).now) }
+        ensures inside { HasCleanDisk (state S.Store tx.new.conn.now) → IsTrue tx.old.conn.now.in_transaction → OnOk result (IsTrue tx.new.conn.now.in_transaction) }
+        ensures kept { HasCleanDisk (state S.Store tx.new.conn.now) → IsTrue tx.old.conn.now.in_transaction → KeepsCommit (state S.Store tx.old.conn.now) (state S.Store tx.new.conn.now) }
+        ensures survives { Survives (state S.Store tx.old.conn.now) (state S.Store tx.new.conn.now) (λ _. ⊥) };
+}
+
+/// A row of a table whose key has a tag.
+pub trait Tagged: Stored {
+    ghost tag: { Self → Name };
+
+    /// The text that reads the unit's row of a tag.
+    fn select_of_tag() -> &'static str
+        ensures { (u tagged : Name) → Reads Self.width Self.cells (λ trees. filter (λ r. same_name tagged (tag r)) (Self.seen u trees)) (TextValue u ∷ TextValue tagged ∷ []) result.now };
+}
+
+/// A row of a table whose key begins with a number: that of a matrix, or of a change.
+pub trait Numbered: Stored {
+    ghost number: { Self → ℕ };
+
+    /// The text that reads the unit's rows of a number.
+    fn select_of_number() -> &'static str
+        ensures { (u : Name) (n : ℕ) → Reads Self.width Self.cells (λ trees. filter (λ r. same_number n (number r)) (Self.seen u trees)) (TextValue u ∷ codes.number n ∷ []) result.now };
+}
+
+impl Stored for UnitRow {
+    ghost seen = { λ unit trees. rows_seen unit trees UnitKept };
+
+    ghost as_row = { UnitPut };
+
+    ghost select_text = { units_of_text };
+
+    fn select() -> &'static str {
+        "SELECT last_s, matrix_no, matrix_rev, quota FROM units WHERE unit = ?1 ORDER BY unit"
+    }
+
+    fn update<S: Alter>(
+        &self,
+        tx: &mut Transaction<'_, S>,
+        unit: &UnitCode,
+    ) -> Result<usize, Error> {
+        run_counting(
+            tx,
+            "UPDATE units SET last_s = ?2, matrix_no = ?3, matrix_rev = ?4, quota = ?5 WHERE unit = ?1",
+            &unit_cells(unit, self),
+        )
+    }
+
+    fn insert<S: Alter>(&self, tx: &mut Transaction<'_, S>, unit: &UnitCode) -> Result<(), Error> {
+        run(
+            tx,
+            "INSERT INTO units (unit, last_s, matrix_no, matrix_rev, quota) VALUES (?1, ?2, ?3, ?4, ?5)",
+            &unit_cells(unit, self),
+        )
+    }
+}
+
+impl Stored for GrantRow {
+    ghost seen = { λ unit trees. rows_seen unit trees GrantKept };
+
+    ghost as_row = { GrantPut };
+
+    ghost select_text = { grants_of_text };
+
+    fn select() -> &'static str {
+        "SELECT person, role_no, end_s FROM grants WHERE unit = ?1 ORDER BY unit, person, role_no"
+    }
+
+    fn update<S: Alter>(
+        &self,
+        tx: &mut Transaction<'_, S>,
+        unit: &UnitCode,
+    ) -> Result<usize, Error> {
+        run_counting(
+            tx,
+            "UPDATE grants SET end_s = ?4 WHERE unit = ?1 AND person = ?2 AND role_no = ?3",
+            &grant_cells(unit, self),
+        )
+    }
+
+    fn insert<S: Alter>(&self, tx: &mut Transaction<'_, S>, unit: &UnitCode) -> Result<(), Error> {
+        run(
+            tx,
+            "INSERT INTO grants (unit, person, role_no, end_s) VALUES (?1, ?2, ?3, ?4)",
+            &grant_cells(unit, self),
+        )
+    }
+}
+
+impl Stored for AlarmRow {
+    ghost seen = { λ unit trees. rows_seen unit trees AlarmKept };
+
+    ghost as_row = { AlarmPut };
+
+    ghost select_text = { alarms_of_text };
+
+    fn select() -> &'static str {
+        "SELECT tag, latching, max_s, max_rev, state_no, suppressed, active_s, return_s, out_s, out_by, out_words FROM alarms WHERE unit = ?1 ORDER BY unit, tag"
+    }
+
+    fn update<S: Alter>(
+        &self,
+        tx: &mut Transaction<'_, S>,
+        unit: &UnitCode,
+    ) -> Result<usize, Error> {
+        run_counting(
+            tx,
+            "UPDATE alarms SET latching = ?3, max_s = ?4, max_rev = ?5, state_no = ?6, suppressed = ?7, active_s = ?8, return_s = ?9, out_s = ?10, out_by = ?11, out_words = ?12 WHERE unit = ?1 AND tag = ?2",
+            &alarm_cells(unit, self),
+        )
+    }
+
+    fn insert<S: Alter>(&self, tx: &mut Transaction<'_, S>, unit: &UnitCode) -> Result<(), Error> {
+        run(
+            tx,
+            "INSERT INTO alarms (unit, tag, latching, max_s, max_rev, state_no, suppressed, active_s, return_s, out_s, out_by, out_words) VALUES (?1, ?2, ?3, ?4, ?5, ?6, ?7, ?8, ?9, ?10, ?11, ?12)",
+            &alarm_cells(unit, self),
+        )
+    }
+}
+
+impl Tagged for AlarmRow {
+    ghost tag = { λ r. r.tag };
+
+    fn select_of_tag() -> &'static str {
+        "SELECT tag, latching, max_s, max_rev, state_no, suppressed, active_s, return_s, out_s, out_by, out_words FROM alarms WHERE unit = ?1 AND tag = ?2 ORDER BY unit, tag"
+    }
+}
+
+impl Stored for ShelfRow {
+    ghost seen = { λ unit trees. rows_seen unit trees ShelfKept };
+
+    ghost as_row = { ShelfPut };
+
+    ghost select_text = { shelves_of_text };
+
+    fn select() -> &'static str {
+        "SELECT tag, one_shot, start_s, until_s, person, words FROM shelves WHERE unit = ?1 ORDER BY unit, tag"
+    }
+
+    fn update<S: Alter>(
+        &self,
+        tx: &mut Transaction<'_, S>,
+        unit: &UnitCode,
+    ) -> Result<usize, Error> {
+        let until = wide(self.until_s)?;
+        run_counting(
+            tx,
+            "UPDATE shelves SET one_shot = ?3, start_s = ?4, until_s = ?5, person = ?6, words = ?7 WHERE unit = ?1 AND tag = ?2",
+            &shelf_cells(unit, self, until),
+        )
+    }
+
+    fn insert<S: Alter>(&self, tx: &mut Transaction<'_, S>, unit: &UnitCode) -> Result<(), Error> {
+        let until = wide(self.until_s)?;
+        run(
+            tx,
+            "INSERT INTO shelves (unit, tag, one_shot, start_s, until_s, person, words) VALUES (?1, ?2, ?3, ?4, ?5, ?6, ?7)",
+            &shelf_cells(unit, self, until),
+        )
+    }
+}
+
+impl Tagged for ShelfRow {
+    ghost tag = { λ r. r.tag };
+
+    fn select_of_tag() -> &'static str {
+        "SELECT tag, one_shot, start_s, until_s, person, words FROM shelves WHERE unit = ?1 AND tag = ?2 ORDER BY unit, tag"
+    }
+}
+
+impl Stored for BandRow {
+    ghost seen = { λ unit trees. rows_seen unit trees BandKept };
+
+    ghost as_row = { BandPut };
+
+    ghost select_text = { bands_of_text };
+
+    fn select() -> &'static str {
+        "SELECT matrix_no, band_no, limit_s FROM bands WHERE unit = ?1 ORDER BY unit, matrix_no, band_no"
+    }
+
+    fn insert<S: Alter>(&self, tx: &mut Transaction<'_, S>, unit: &UnitCode) -> Result<(), Error> {
+        let limit = wide(self.limit_s)?;
+        run(
+            tx,
+            "INSERT INTO bands (unit, matrix_no, band_no, limit_s) VALUES (?1, ?2, ?3, ?4)",
+            &band_cells(unit, self, limit),
+        )
+    }
+}
+
+impl Numbered for BandRow {
+    ghost number = { λ r. r.matrix_no };
+
+    fn select_of_number() -> &'static str {
+        "SELECT matrix_no, band_no, limit_s FROM bands WHERE unit = ?1 AND matrix_no = ?2 ORDER BY unit, matrix_no, band_no"
+    }
+}
+
+impl Stored for CellRow {
+    ghost seen = { λ unit trees. rows_seen unit trees CellKept };
+
+    ghost as_row = { CellPut };
+
+    ghost select_text = { cells_of_text };
+
+    fn select() -> &'static str {
+        "SELECT matrix_no, severity, band_no, cell_no FROM cells WHERE unit = ?1 ORDER BY unit, matrix_no, severity, band_no"
+    }
+
+    fn insert<S: Alter>(&self, tx: &mut Transaction<'_, S>, unit: &UnitCode) -> Result<(), Error> {
+        run(
+            tx,
+            "INSERT INTO cells (unit, matrix_no, severity, band_no, cell_no) VALUES (?1, ?2, ?3, ?4, ?5)",
+            &cell_cells(unit, self),
+        )
+    }
+}
+
+impl Numbered for CellRow {
+    ghost number = { λ r. r.matrix_no };
+
+    fn select_of_number() -> &'static str {
+        "SELECT matrix_no, severity, band_no, cell_no FROM cells WHERE unit = ?1 AND matrix_no = ?2 ORDER BY unit, matrix_no, severity, band_no"
+    }
+}
+
+impl Stored for Event {
+    ghost seen = { λ unit trees. rows_seen unit trees EventKept };
+
+    ghost as_row = { EventPut };
+
+    ghost select_text = { events_of_text };
+
+    fn select() -> &'static str {
+        "SELECT seq, moment_s, tag, kind_no FROM events WHERE unit = ?1 ORDER BY unit, seq"
+    }
+
+    fn insert<S: Alter>(&self, tx: &mut Transaction<'_, S>, unit: &UnitCode) -> Result<(), Error> {
+        run(
+            tx,
+            "INSERT INTO events (unit, seq, moment_s, tag, kind_no) VALUES (?1, ?2, ?3, ?4, ?5)",
+            &event_cells(unit, self),
+        )
+    }
+}
+
+impl Stored for RecordEntry {
+    ghost seen = { λ unit trees. rows_seen unit trees RecordKept };
+
+    ghost as_row = { RecordPut };
+
+    ghost select_text = { records_of_text };
+
+    fn select() -> &'static str {
+        "SELECT tag, change_no, rev, cell_no FROM records WHERE unit = ?1 ORDER BY unit, tag"
+    }
+
+    fn update<S: Alter>(
+        &self,
+        tx: &mut Transaction<'_, S>,
+        unit: &UnitCode,
+    ) -> Result<usize, Error> {
+        run_counting(
+            tx,
+            "UPDATE records SET change_no = ?3, rev = ?4, cell_no = ?5 WHERE unit = ?1 AND tag = ?2",
+            &record_cells(unit, self),
+        )
+    }
+
+    fn insert<S: Alter>(&self, tx: &mut Transaction<'_, S>, unit: &UnitCode) -> Result<(), Error> {
+        run(
+            tx,
+            "INSERT INTO records (unit, tag, change_no, rev, cell_no) VALUES (?1, ?2, ?3, ?4, ?5)",
+            &record_cells(unit, self),
+        )
+    }
+}
+
+impl Tagged for RecordEntry {
+    ghost tag = { λ r. r.tag };
+
+    fn select_of_tag() -> &'static str {
+        "SELECT tag, change_no, rev, cell_no FROM records WHERE unit = ?1 AND tag = ?2 ORDER BY unit, tag"
+    }
+}
+
+impl Stored for ChangeEntry {
+    ghost seen = { λ unit trees. rows_seen unit trees ChangeKept };
+
+    ghost as_row = { ChangePut };
+
+    ghost select_text = { changes_of_text };
+
+    fn select() -> &'static str {
+        "SELECT number, proposer, proposed_s, kind_no, tag, base, cause, consequence, remedy, severity, response_s, max_s, state_no, decider, decided_s FROM changes WHERE unit = ?1 ORDER BY unit, number"
+    }
+
+    fn update<S: Alter>(
+        &self,
+        tx: &mut Transaction<'_, S>,
+        unit: &UnitCode,
+    ) -> Result<usize, Error> {
+        run_counting(
+            tx,
+            "UPDATE changes SET proposer = ?3, proposed_s = ?4, kind_no = ?5, tag = ?6, base = ?7, cause = ?8, consequence = ?9, remedy = ?10, severity = ?11, response_s = ?12, max_s = ?13, state_no = ?14, decider = ?15, decided_s = ?16 WHERE unit = ?1 AND number = ?2",
+            &change_cells(unit, self),
+        )
+    }
+
+    fn insert<S: Alter>(&self, tx: &mut Transaction<'_, S>, unit: &UnitCode) -> Result<(), Error> {
+        run(
+            tx,
+            "INSERT INTO changes (unit, number, proposer, proposed_s, kind_no, tag, base, cause, consequence, remedy, severity, response_s, max_s, state_no, decider, decided_s) VALUES (?1, ?2, ?3, ?4, ?5, ?6, ?7, ?8, ?9, ?10, ?11, ?12, ?13, ?14, ?15, ?16)",
+            &change_cells(unit, self),
+        )
+    }
+}
+
+impl Numbered for ChangeEntry {
+    ghost number = { change_number };
+
+    fn select_of_number() -> &'static str {
+        "SELECT number, proposer, proposed_s, kind_no, tag, base, cause, consequence, remedy, severity, response_s, max_s, state_no, decider, decided_s FROM changes WHERE unit = ?1 AND number = ?2 ORDER BY unit, number"
+    }
+}

@@ -1,0 +1,28 @@
+use Rattle.std.proofs.Common.{ap, refl, sym, ◌∙◌}
+use Rattle.std.specs.Prelude.{List, [], ◌++◌, ◌∷◌}
+use Rattle.plant_model.specs.RowChanges.{own_changes}
+use Rattle.plant_model.specs.RowFacts.{facts_in}
+use Rattle.plant_model.specs.declared.call.Request.TheVariants.{Propose}
+use Rattle.plant_model.specs.declared.reply.Reply.TheVariants.{Number}
+use Rattle.plant_model.specs.declared.rows.Change.{Change}
+use Rattle.plant_model.specs.declared.rows.Change.TheVariants.{Put}
+use Rattle.plant_model.specs.declared.rows.Row.TheVariants.{Unit as UnitPut}
+use Rattle.plant_model.specs.declared.rows.UnitRow.{UnitRow}
+use Rattle.plant_unit.proofs.VerdictLaws.{made_for, refused_for}
+use Rattle.plant_unit.proofs.decisions.propose.Goals as goal
+
+pub returns-in-Some-clause-value : goal.returns-in-Some-clause-value
+returns-in-Some-clause-value c kept u is =
+    refused_for (facts_in c.args.part.now) c.args.call.now (Propose u c.args.proposal.now) is c.in-Some.refused
+    (sym c.in-Some.is ∙ c.in_ok-refused.ensures.value kept c.args.call.now.moment c.args.call.now.person u)
+
+pub returns-clause-value : goal.returns-clause-value
+returns-clause-value c kept u is =
+    let f = facts_in c.args.part.now in
+    let p = c.args.call.now.person in
+    let t = c.args.call.now.moment in
+    let request = Propose u c.args.proposal.now in
+    made_for f c.args.call.now request is (Number c.next_number.result) c.push_proposal.new.changes
+    (sym c.in_default.is ∙ c.in_ok-refused.ensures.value kept t p u) (ap Number (c.next_number.ensures kept.count_fits)) refl
+    (c.in_ok-push_proposal.ensures.value kept u ∙ ap (λ (l : List Change). l ++ own_changes f p t request) c.in_ok-changes.ensures.value
+    ∙ ap (λ (r : UnitRow). Put (UnitPut (record r { last_s = t })) ∷ own_changes f p t request) (sym c.requires))

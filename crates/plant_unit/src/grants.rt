@@ -1,0 +1,61 @@
+//! Granting roles and withdrawing them.
+
+ghost use Rattle.std.specs.Prelude.{◌≡◌, ℕ, IfErr, IfOk};
+ghost use Rattle.plant_types.specs.Names.{Name};
+ghost use Rattle.plant_types.specs.declared.fault.Fault.TheVariants.{Memory};
+ghost use Rattle.plant_model.specs.RowFacts.{facts_in};
+ghost use Rattle.plant_model.specs.declared.call.Request.TheVariants.{Grant, Withdraw};
+ghost use Rattle.plant_unit.specs.Judged.{decision, one_change};
+
+use crate::facts::{is_held, stands, stewards};
+use plant_books::is_before;
+use plant_model::{Change, Full, GrantRow, Key, Refused, Row, UnitPart};
+use plant_types::{Fault, Moment, Person, Role, Tenure};
+use std::alloc::Global;
+
+/// Grants a role.
+pub fn grant(
+    alloc: Global,
+    part: &UnitPart,
+    now: Moment,
+    person: &Person,
+    tenure: Tenure,
+) -> Result<Result<Change, Refused>, Fault>
+    ensures value { (p u : Name) → IfOk result (λ d. one_change d ≡ decision (facts_in part.now) p now (Grant u person.now tenure)) }
+    ensures err { IfErr result (λ e. e ≡ Memory) }
+{
+    if part.rows.grants.as_slice().len() >= 500 {
+        return Ok(Err(Refused::UnitFull(Full::Grants)));
+    }
+    if is_held(part, person, tenure.role(), now) {
+        return Ok(Err(Refused::AlreadyHeld));
+    }
+    if !is_before(now, tenure.until()) {
+        return Ok(Err(Refused::EndNotAhead));
+    }
+    Ok(Ok(Change::Put(Row::Grant(GrantRow {
+        person: person.copy(alloc)?,
+        role_no: tenure.role(),
+        end_s: tenure.until(),
+    }))))
+}
+
+/// Withdraws a role.
+pub fn withdraw(
+    alloc: Global,
+    part: &UnitPart,
+    person: &Person,
+    role: Role,
+) -> Result<Result<Change, Refused>, Fault>
+    ensures value { (t : ℕ) (p u : Name) → IfOk result (λ d. one_change d ≡ decision (facts_in part.now) p t (Withdraw u person.now role)) }
+    ensures err { IfErr result (λ e. e ≡ Memory) }
+{
+    let grants = part.rows.grants.as_slice();
+    if !stands(grants, person, role) {
+        return Ok(Err(Refused::NotHeld));
+    }
+    if role.is(Role::Steward) && stewards(grants) <= 1 {
+        return Ok(Err(Refused::LastSteward));
+    }
+    Ok(Ok(Change::Remove(Key::Grant(person.copy(alloc)?, role))))
+}

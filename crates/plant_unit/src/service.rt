@@ -1,0 +1,120 @@
+//! Registering alarms, and taking them out of service and back.
+
+ghost use Rattle.std.specs.Prelude.{◌≡◌, ℕ, Bool, [], IfErr, IfOk, None};
+ghost use Rattle.plant_types.specs.Names.{Name};
+ghost use Rattle.plant_types.specs.declared.fault.Fault.TheVariants.{Memory};
+ghost use Rattle.plant_model.specs.RowChanges.{placed_in, taken_out};
+ghost use Rattle.plant_model.specs.RowFacts.{facts_in};
+ghost use Rattle.plant_model.specs.Rows.{alarm_as};
+ghost use Rattle.plant_model.specs.declared.call.Request.TheVariants.{PlaceInService, Register, RemoveFromService};
+ghost use Rattle.plant_unit.specs.Judged.{decision, one_change};
+
+use plant_alarm::AlarmState;
+use plant_books::alarm_of;
+use plant_model::{AlarmRow, Call, Change, Full, Refused, Row, UnitPart};
+use plant_types::{Duplicate, Fault, Seconds, Tag, Words};
+use std::alloc::Global;
+
+fn new_alarm(alloc: Global, tag: &Tag, latching: bool, max: Seconds) -> Result<AlarmRow, Fault>
+    ensures value { IfOk result (λ row. row ≡ alarm_as tag.now max 0 [] None latching) }
+    ensures err { IfErr result (λ e. e ≡ Memory) }
+{
+    Ok(AlarmRow {
+        tag: tag.copy(alloc)?,
+        latching,
+        max_s: max,
+        max_rev: 0,
+        state_no: AlarmState::Normal,
+        suppressed: false,
+        active_s: None,
+        return_s: None,
+        out_s: None,
+        out_by: None,
+        out_words: None,
+    })
+}
+
+/// The alarm's row, out of service.
+fn removed(alloc: Global, alarm: &AlarmRow, call: &Call, words: &Words) -> Result<AlarmRow, Fault>
+    ensures value { IfOk result (λ row. row ≡ taken_out call.now.person call.now.moment words.now alarm.now) }
+    ensures err { IfErr result (λ e. e ≡ Memory) }
+{
+    let mut row = alarm.duplicate(alloc)?;
+    row.out_s = Some(call.moment);
+    row.out_by = Some(call.person.copy(alloc)?);
+    row.out_words = Some(words.copy(alloc)?);
+    Ok(row)
+}
+
+/// The alarm's row, in service.
+fn placed(alloc: Global, alarm: &AlarmRow) -> Result<AlarmRow, Fault>
+    ensures value { IfOk result (λ row. row ≡ placed_in alarm.now) }
+    ensures err { IfErr result (λ e. e ≡ Memory) }
+{
+    let mut row = alarm.duplicate(alloc)?;
+    row.out_s = None;
+    row.out_by = None;
+    row.out_words = None;
+    Ok(row)
+}
+
+/// Registers an alarm.
+pub fn register(
+    alloc: Global,
+    part: &UnitPart,
+    tag: &Tag,
+    latching: bool,
+    max: Seconds,
+) -> Result<Result<Change, Refused>, Fault>
+    ensures value { (t : ℕ) (p u : Name) → IfOk result (λ d. one_change d ≡ decision (facts_in part.now) p t (Register u tag.now latching max)) }
+    ensures err { IfErr result (λ e. e ≡ Memory) }
+{
+    if part.count >= 2000 {
+        return Ok(Err(Refused::UnitFull(Full::Alarms)));
+    }
+    if alarm_of(part.rows.alarms.as_slice(), tag).is_some() {
+        return Ok(Err(Refused::AlarmTaken));
+    }
+    let alarm = new_alarm(alloc, tag, latching, max)?;
+    Ok(Ok(Change::Put(Row::Alarm(alarm))))
+}
+
+/// Takes an alarm out of service.
+pub fn remove_from_service(
+    alloc: Global,
+    part: &UnitPart,
+    call: &Call,
+    tag: &Tag,
+    words: &Words,
+) -> Result<Result<Change, Refused>, Fault>
+    ensures value { (u : Name) → IfOk result (λ d. one_change d ≡ decision (facts_in part.now) call.now.person call.now.moment (RemoveFromService u tag.now words.now)) }
+    ensures err { IfErr result (λ e. e ≡ Memory) }
+{
+    let Some(alarm) = alarm_of(part.rows.alarms.as_slice(), tag) else {
+        return Ok(Err(Refused::AlarmUnknown));
+    };
+    if alarm.out_s.is_some() {
+        return Ok(Err(Refused::AlreadyOutOfService));
+    }
+    let row = removed(alloc, alarm, call, words)?;
+    Ok(Ok(Change::Put(Row::Alarm(row))))
+}
+
+/// Places an alarm in service again.
+pub fn place_in_service(
+    alloc: Global,
+    part: &UnitPart,
+    tag: &Tag,
+) -> Result<Result<Change, Refused>, Fault>
+    ensures value { (t : ℕ) (p u : Name) → IfOk result (λ d. one_change d ≡ decision (facts_in part.now) p t (PlaceInService u tag.now)) }
+    ensures err { IfErr result (λ e. e ≡ Memory) }
+{
+    let Some(alarm) = alarm_of(part.rows.alarms.as_slice(), tag) else {
+        return Ok(Err(Refused::AlarmUnknown));
+    };
+    if alarm.out_s.is_none() {
+        return Ok(Err(Refused::NotOutOfService));
+    }
+    let row = placed(alloc, alarm)?;
+    Ok(Ok(Change::Put(Row::Alarm(row))))
+}

@@ -1,0 +1,141 @@
+//! Shelving and unshelving an alarm: `plant_alarm` decides, and after it the unit's quota.
+
+ghost use Rattle.std.specs.Prelude.{◌≡◌, ◌∷◌, [], IfErr, IfOk};
+ghost use Rattle.plant_types.specs.Names.{Name};
+ghost use Rattle.plant_types.specs.declared.fault.Fault.TheVariants.{Memory};
+ghost use Rattle.plant_model.specs.Refusals.{first_refusal, over_quota};
+ghost use Rattle.plant_model.specs.RowFacts.{facts_in, unit_read};
+ghost use Rattle.plant_model.specs.declared.call.Request.TheVariants.{OneShotShelve, TimedShelve, Unshelve};
+ghost use Rattle.plant_unit.specs.Judged.{changes_or, decision, one_change};
+ghost use Rattle.plant_unit.specs.Shelving as shelving;
+
+use crate::facts::{others_shelved, shelf_left, shelf_of};
+use plant_alarm::{Shelf, ShelfRefused, one_shot, timed, unshelve};
+use plant_books::alarm_of;
+use plant_model::{Call, Change, Key, Refused, Row, ShelfRow, UnitPart, UnitRow};
+use plant_types::{Fault, Moment, Person, Seconds, Tag, Words};
+use std::alloc::Global;
+
+fn refusal_of(refused: ShelfRefused) -> Refused
+    ensures { result ≡ shelving.refusal_of refused }
+{
+    match refused {
+        ShelfRefused::ShelvingTimeOutOfRange(max) => Refused::ShelvingTimeOutOfRange(max),
+        ShelfRefused::ConditionAlreadyShelved => Refused::ConditionAlreadyShelved,
+        ShelfRefused::ConditionNotShelved => Refused::ConditionNotShelved,
+    }
+}
+
+/// The change that puts a shelf, or leaves none.
+fn shelf_change(
+    alloc: Global,
+    tag: &Tag,
+    person: &Person,
+    words: &Words,
+    shelf: Shelf,
+) -> Result<Change, Fault>
+    ensures value { IfOk result (λ change. change ≡ shelving.shelf_change tag.now person.now words.now shelf) }
+    ensures err { IfErr result (λ e. e ≡ Memory) }
+{
+    let tag = tag.copy(alloc)?;
+    let (one_shot, start_s, until_s) = match shelf {
+        Shelf::Clear => return Ok(Change::Remove(Key::Shelf(tag))),
+        Shelf::Timed { start, until } => (false, start, until),
+        Shelf::OneShot { start, until } => (true, start, until),
+    };
+    Ok(Change::Put(Row::Shelf(ShelfRow {
+        tag,
+        one_shot,
+        start_s,
+        until_s,
+        person: person.copy(alloc)?,
+        words: words.copy(alloc)?,
+    })))
+}
+
+/// Shelves an alarm so, if the unit's quota has room for one more.
+fn shelve(
+    alloc: Global,
+    unit: &UnitRow,
+    part: &UnitPart,
+    call: &Call,
+    tag: &Tag,
+    words: &Words,
+    shelf: Shelf,
+) -> Result<Result<Change, Refused>, Fault>
+    requires { unit_read part.now.rows ≡ unit.now }
+    ensures value { IfOk result (λ d. one_change d ≡ changes_or (first_refusal (over_quota (facts_in part.now) tag.now call.now.moment ∷ [])) (shelving.shelf_change tag.now call.now.person words.now shelf ∷ [])) }
+    ensures err { IfErr result (λ e. e ≡ Memory) }
+{
+    if others_shelved(part, tag, call.moment) as u64 >= unit.quota.get() {
+        return Ok(Err(Refused::ShelfQuota(unit.quota)));
+    }
+    Ok(Ok(shelf_change(alloc, tag, &call.person, words, shelf)?))
+}
+
+/// Shelves an alarm for a time.
+pub fn shelve_for(
+    alloc: Global,
+    unit: &UnitRow,
+    part: &UnitPart,
+    call: &Call,
+    tag: &Tag,
+    seconds: Seconds,
+    words: &Words,
+) -> Result<Result<Change, Refused>, Fault>
+    requires { unit_read part.now.rows ≡ unit.now }
+    ensures value { (u : Name) → IfOk result (λ d. one_change d ≡ decision (facts_in part.now) call.now.person call.now.moment (TimedShelve u tag.now seconds words.now)) }
+    ensures err { IfErr result (λ e. e ≡ Memory) }
+{
+    let Some(alarm) = alarm_of(part.rows.alarms.as_slice(), tag) else {
+        return Ok(Err(Refused::AlarmUnknown));
+    };
+    let left = shelf_left(shelf_of(part.rows.shelves.as_slice(), tag));
+    match timed(&left, alarm.return_s, call.moment, seconds, alarm.max_s) {
+        Err(refused) => Ok(Err(refusal_of(refused))),
+        Ok(shelf) => shelve(alloc, unit, part, call, tag, words, shelf),
+    }
+}
+
+/// Shelves an alarm until it returns to normal.
+pub fn shelve_once(
+    alloc: Global,
+    unit: &UnitRow,
+    part: &UnitPart,
+    call: &Call,
+    tag: &Tag,
+    words: &Words,
+) -> Result<Result<Change, Refused>, Fault>
+    requires { unit_read part.now.rows ≡ unit.now }
+    ensures value { (u : Name) → IfOk result (λ d. one_change d ≡ decision (facts_in part.now) call.now.person call.now.moment (OneShotShelve u tag.now words.now)) }
+    ensures err { IfErr result (λ e. e ≡ Memory) }
+{
+    let Some(alarm) = alarm_of(part.rows.alarms.as_slice(), tag) else {
+        return Ok(Err(Refused::AlarmUnknown));
+    };
+    let left = shelf_left(shelf_of(part.rows.shelves.as_slice(), tag));
+    match one_shot(&left, alarm.return_s, call.moment, alarm.max_s) {
+        Err(refused) => Ok(Err(refusal_of(refused))),
+        Ok(shelf) => shelve(alloc, unit, part, call, tag, words, shelf),
+    }
+}
+
+/// Ends the shelf of an alarm.
+pub fn end_shelf(
+    alloc: Global,
+    part: &UnitPart,
+    now: Moment,
+    tag: &Tag,
+) -> Result<Result<Change, Refused>, Fault>
+    ensures value { (p u : Name) → IfOk result (λ d. one_change d ≡ decision (facts_in part.now) p now (Unshelve u tag.now)) }
+    ensures err { IfErr result (λ e. e ≡ Memory) }
+{
+    let Some(alarm) = alarm_of(part.rows.alarms.as_slice(), tag) else {
+        return Ok(Err(Refused::AlarmUnknown));
+    };
+    let left = shelf_left(shelf_of(part.rows.shelves.as_slice(), tag));
+    match unshelve(&left, alarm.return_s, now) {
+        Err(refused) => Ok(Err(refusal_of(refused))),
+        Ok(_) => Ok(Ok(Change::Remove(Key::Shelf(tag.copy(alloc)?)))),
+    }
+}

@@ -1,0 +1,58 @@
+//! Verdicts, from what was decided about a call.
+
+ghost use Rattle.std.specs.Prelude.{◌≡◌, ◌∷◌, [], IfErr, IfOk, IsOkAnd};
+ghost use Rattle.plant_types.specs.declared.fault.Fault.TheVariants.{Memory};
+ghost use Rattle.plant_model.specs.declared.rows.Change.TheVariants.{Put};
+ghost use Rattle.plant_model.specs.declared.rows.Row.TheVariants.{Unit as UnitPut};
+ghost use Rattle.plant_unit.specs.Judged.{answered_as, done_as};
+
+use plant_model::{Change, Refused, Reply, Row, UnitRow, Verdict};
+use plant_types::{Fault, Moment, Table};
+use std::alloc::Global;
+
+/// The change of the unit's own row: its last moment.
+pub fn moved(alloc: Global, unit: &UnitRow, now: Moment) -> Result<Table<Change>, Fault>
+    ensures value { IfOk result (λ cs. cs ≡ Put (UnitPut (record unit.now { last_s = now })) ∷ []) }
+    ensures err { IfErr result (λ e. e ≡ Memory) }
+{
+    let mut changes = Table::new(alloc);
+    changes.push(Change::Put(Row::Unit(UnitRow {
+        last_s: now,
+        ..*unit
+    })))?;
+    Ok(changes)
+}
+
+/// Makes the change that was decided, beside that of the unit's own row.
+pub fn done(
+    alloc: Global,
+    unit: &UnitRow,
+    now: Moment,
+    decided: Result<Result<Change, Refused>, Fault>,
+) -> Result<Verdict, Fault>
+    ensures value { IfOk result (λ v. IsOkAnd decided (λ d. v ≡ done_as (record unit.now { last_s = now }) d)) }
+    ensures err { IfErr decided (λ e. e ≡ Memory) → IfErr result (λ e. e ≡ Memory) }
+{
+    match decided? {
+        Err(refused) => Ok(Verdict::Refused(refused)),
+        Ok(change) => {
+            let mut changes = moved(alloc, unit, now)?;
+            changes.push(change)?;
+            Ok(Verdict::Accepted(Reply::Done, changes))
+        }
+    }
+}
+
+/// Answers, and changes nothing.
+pub fn answered(
+    alloc: Global,
+    answer: Result<Result<Reply, Refused>, Fault>,
+) -> Result<Verdict, Fault>
+    ensures value { IfOk result (λ v. IsOkAnd answer (λ a. v ≡ answered_as a)) }
+    ensures err { IfErr answer (λ e. e ≡ Memory) → IfErr result (λ e. e ≡ Memory) }
+{
+    match answer? {
+        Err(refused) => Ok(Verdict::Refused(refused)),
+        Ok(reply) => Ok(Verdict::Accepted(reply, Table::new(alloc))),
+    }
+}
