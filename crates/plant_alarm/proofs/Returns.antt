@@ -88,7 +88,7 @@ agrees_more es e agrees h s =
 all_agree : (es : List Event) → Agrees es
 all_agree es = by_last Agrees (λ h s. refl) agrees_more es
 
--- the shelf told by the last return is that told by the events
+-- the shelf by the last return is that by the events
 pub shelf_by_events : (shelf : Shelf) (es : List Event) (returned : Option ℕ) (t : ℕ) → IsInTime es → returned ≡ last_return es → shelf_state shelf returned t ≡ shelf_of shelf es t
 shelf_by_events shelf es returned t h e =
     ap (λ o. shelf_state shelf o t) e ∙ ap (λ b. shelf_while shelf b t) (sym (all_agree es h (start_of shelf)))

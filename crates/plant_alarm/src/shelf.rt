@@ -7,7 +7,7 @@ ghost use Rattle.plant_alarm.specs.Shelves as shelves;
 use plant_types::{Moment, Seconds};
 
 /// What the last shelving or unshelving of an alarm left. It stays as it is when its time has
-/// passed: `shelf_at` tells whether it still holds.
+/// passed: `shelf_at` says whether it still holds.
 #[derive(Clone, Copy, Debug, PartialEq, Eq)]
 pub enum Shelf {
     /// No shelf.
@@ -121,7 +121,7 @@ pub fn one_shot(
     }
 }
 
-/// Ends the shelf. Refused where there is none now.
+/// Ends the shelf. Refused if the alarm is not shelved now.
 pub fn unshelve(shelf: &Shelf, returned: Option<Moment>, now: Moment) -> Result<Shelf, ShelfRefused>
     ensures { result ≡ unshelve_answer (shelf_state shelf.now returned now) }
 {

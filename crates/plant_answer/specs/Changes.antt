@@ -1,4 +1,4 @@
--- The bodies that tell a record and a change.
+-- The bodies of a record and of a change.
 use Rattle.std.specs.Prelude.{ℕ, List, ◌++◌, map, Option, Some, None, option_map, codes, decimal}
 use Rattle.plant_ration.specs.Grid.{Grid}
 use Rattle.plant_ration.specs.declared.cell.Cell.{Cell}
@@ -56,7 +56,7 @@ content_object (Rationale tag sheet) = sheet_object sheet
 content_object (Matrix matrix) = matrix_object matrix
 content_object (Limit tag max) = limit_object max
 
--- the alarm of which the change is; that of a matrix is of none
+-- the alarm that the change is of; a change of a matrix is of none
 abbrev pub tag_of : ChangeKind → Option (List ℕ)
 tag_of (Rationale tag sheet) = Some tag
 tag_of (Matrix matrix) = None

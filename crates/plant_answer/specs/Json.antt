@@ -17,7 +17,7 @@ truth b = if b then codes "true" else codes "false"
 abbrev pub listed : List (List ℕ) → List ℕ
 listed values = codes "[" ++ join_with_byte 44 values ++ codes "]"
 
--- a string, or null where there is none
+-- a string, or null for none
 abbrev pub quoted_or_null : Option (List ℕ) → List ℕ
 quoted_or_null None = codes "null"
 quoted_or_null (Some text) = quoted text

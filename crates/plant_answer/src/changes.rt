@@ -134,7 +134,7 @@ fn push_content(out: &mut Vec<u8>, kind: &ChangeKind) -> Result<(), Fault>
     }
 }
 
-/// The tag of the alarm of which a change is.
+/// The tag of the alarm that a change is of.
 fn tag_of(kind: &ChangeKind) -> Option<&[u8]>
     ensures { option_map (λ t. t.now) result ≡ tag_of kind.now }
 {
@@ -156,7 +156,7 @@ fn push_decided(out: &mut Vec<u8>, decided: Option<Moment>) -> Result<(), Fault>
     }
 }
 
-/// The bytes of the name of a person, if there is one.
+/// The bytes of the name of a person, if any.
 fn bytes_of(person: &Option<Person>) -> Option<&[u8]>
     ensures { option_map (λ t. t.now) result ≡ person.now }
 {

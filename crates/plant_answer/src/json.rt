@@ -85,7 +85,7 @@ pub(crate) fn push_string(out: &mut Vec<u8>, before: &[u8], text: &[u8]) -> Resu
     push_quoted(out, text)
 }
 
-/// Adds a string, or null where there is none, after some bytes.
+/// Adds a string, or null for none, after some bytes.
 pub(crate) fn push_string_or_null(
     out: &mut Vec<u8>,
     before: &[u8],

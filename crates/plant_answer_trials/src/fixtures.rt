@@ -37,7 +37,7 @@ pub(crate) fn moment(rt: &impl Abort, text: &[u8]) -> Moment {
     Moment::read(text).expect(rt, "a moment")
 }
 
-/// The bytes are as wanted, or the test ends and shows them.
+/// The bytes are as expected, or the test ends and shows them.
 pub(crate) fn is_written(rt: &impl Abort, found: &[u8], wanted: &[u8]) {
     assert!(rt;
         found == wanted,

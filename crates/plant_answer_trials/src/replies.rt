@@ -12,7 +12,7 @@ use plant_types::{Role, Table};
 use std::alloc::Global;
 use std::process::Abort;
 
-/// The answer's bytes are as wanted.
+/// The answer's bytes are as expected.
 fn is_rendered(rt: &impl Abort, alloc: Global, answer: &Answer, wanted: &[u8]) {
     let found = render(alloc, answer).expect(rt, "memory");
     is_written(rt, &found, wanted);

@@ -46,7 +46,7 @@ pub read_all : {A : Type 0} (reads : Data → Option A) (items : List Value) (i 
     → length items ≤ i → all_of reads (items_view items) ≡ Some out
 read_all {A = A} reads items i out so_far end = so_far.is ∙ rw (drop_all i items end) (ap (λ (t : List A). Some t) (append-nil out))
 
--- what is told is there
+-- what is given is there
 pub told_some : {A : Type 0} (o : Option A) (x : A) → told o ≡ Ok x → o ≡ Some x
 told_some None x e = cc
 told_some (Some y) x e = cc
@@ -55,7 +55,7 @@ told_none : {A : Type 0} (o : Option A) (u : Unfit) → told o ≡ Err u → (o 
 told_none None u e = (refl, cc)
 told_none (Some y) u e = cc
 
--- an item that can't be read is no list either
+-- an item that can't be read is not a list either
 pub fails_with : {A : Type 0} (reads : Data → Option A) (items : List Value) (i : ℕ) (d : Value) (out : List A) (e : BodyError) → IsReadTo reads items i out
     → i < length items → Fails e (told (reads (view (get_or items i d)))) → Fails e (told (all_of reads (items_view items)))
 fails_with reads items i d out Memory so_far lt h = tt

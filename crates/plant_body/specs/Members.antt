@@ -73,7 +73,7 @@ role_of name =
 abbrev pub role_at : List ℕ → Data → Option Role
 role_at name d = option_and_then role_of (string_at name d)
 
--- a quota: 2000 where it isn't told
+-- a quota: default 2000
 abbrev pub quota_in : Option Data → Option ℕ
 quota_in None = Some 2000
 quota_in (Some d) = option_and_then (λ n. number_if (is_quota n) n) (number_of d)
@@ -81,7 +81,7 @@ quota_in (Some d) = option_and_then (λ n. number_if (is_quota n) n) (number_of 
 abbrev pub quota_at : List ℕ → Data → Option ℕ
 quota_at name d = quota_in (get name d)
 
--- an end: none where it isn't told or is null
+-- an end: none if it is missing or null
 abbrev pub end_in : Option Data → Option (Option ℕ)
 end_in None = Some None
 end_in (Some d) =

@@ -119,8 +119,8 @@ fn timed_shelving_in(alloc: Global, value: &Value) -> Result<TimedShelving, Body
     Ok(TimedShelving { seconds, words })
 }
 
-/// The body of the opening of a unit: `steward`, `bands`, `cells`, and maybe `quota`, which is 2000 where it isn't
-/// told. A table that is no matrix is told only where all else is right.
+/// The body of the opening of a unit: `steward`, `bands`, `cells`, and maybe `quota` (default 2000).
+/// A table that is not a matrix is reported only if all else is right.
 pub fn read_opening(alloc: Global, bytes: &[u8]) -> Result<Opening, BodyError>
     ensures { Gives result (read_by opening_in bytes.now) }
 {

@@ -1,4 +1,4 @@
-//! The bodies of requests: one JSON object each, of which the named members are read.
+//! The bodies of requests: one JSON object each, from which the named members are read.
 #![tactic(auto)]
 
 mod bodies;

@@ -13,7 +13,7 @@ use std::alloc::{AllocError, AllocFailed, Global};
 pub enum Unfit {
     /// It isn't a JSON object with the members of the call, each with a value of its set.
     Body,
-    /// It is, but its table of cells is no matrix.
+    /// It is, but its table of cells is not a matrix.
     Matrix(MatrixFault),
 }
 

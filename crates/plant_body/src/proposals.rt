@@ -90,7 +90,7 @@ fn proposal_in(alloc: Global, value: &Value) -> Result<Proposal, BodyError>
 
 /// The body of a proposal: `kind`, `base` from 0 to 20,000, and for `"record"` `tag`, `cause`, `consequence`,
 /// `action`, `severity` from 1 to 5 and `response` in seconds, for `"matrix"` `bands` and `cells`, for `"limit"`
-/// `tag` and `max` in seconds. A table that is no matrix is told only where all else is right.
+/// `tag` and `max` in seconds. A table that is not a matrix is reported only if all else is right.
 pub fn read_proposal(alloc: Global, bytes: &[u8]) -> Result<Proposal, BodyError>
     ensures { Gives result (read_by proposal_in bytes.now) }
 {

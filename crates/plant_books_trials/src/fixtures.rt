@@ -267,7 +267,7 @@ fn push_rationale(
     push_band(changes, 3, 600)
 }
 
-/// Changes 1 to 4, of which 3 is of the matrix with a limit, and records from 1 and 4.
+/// Changes 1 to 4 (3 is of the matrix with a limit), and records from 1 and 4.
 pub(crate) fn rationale(rt: &impl Abort, alloc: Global) -> Result<Table<Change>, Fault> {
     let mut changes = Table::new(alloc);
     push_rationale(rt, alloc, &mut changes)?;

@@ -10,7 +10,7 @@ use plant_types::{Fault, Role, Seconds};
 use std::alloc::Global;
 use std::process::Abort;
 
-/// Books with U1 and U2, of which U1 was changed.
+/// Books with U1 and U2, where U1 was changed.
 fn changed(rt: &impl Abort, alloc: Global) -> Plain {
     let mut books = opened(rt, alloc);
     let later = later(rt, alloc).expect(rt, "memory");

@@ -45,7 +45,7 @@ begin_in path = moment_at 4 path
 abbrev pub until_in : List ℕ → Result ℕ Cause
 until_in path = moment_at 5 path
 
--- 1 to 5 digits, of which the first isn't 0
+-- 1 to 5 digits, the first not 0
 abbrev pub is_change_number : List ℕ → Bool
 is_change_number text = is_numeral text && nat_le (length text) 5 && not (slice_index text 0 == 48)
 

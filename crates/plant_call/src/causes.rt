@@ -6,7 +6,7 @@ use plant_ration::MatrixFault;
 use plant_types::Fault;
 use std::alloc::AllocError;
 
-/// Why a request is no call. The first five end the session, since where the next request begins isn't known.
+/// What is wrong with a malformed request. The first five end the session, since it isn't known where the next request begins.
 #[derive(Clone, Copy, Debug, PartialEq, Eq)]
 pub enum Cause {
     /// What was received can't be the beginning of a head.
@@ -37,7 +37,7 @@ pub enum Cause {
     NotOrdered,
 }
 
-/// Why there is no call.
+/// Why the bytes are not a call.
 #[derive(Clone, Copy, Debug)]
 pub(crate) enum CallError {
     Memory,

@@ -20,9 +20,9 @@ pub enum Cut {
     More,
     /// A call, with the number of bytes of its request.
     Call(Call, usize),
-    /// A request that is no call, with the number of its bytes.
+    /// A malformed request, with the number of its bytes.
     Malformed(Cause, usize),
-    /// Something of which the end isn't known.
+    /// The request's end cannot be determined; the stream is unusable.
     Broken(Cause),
     /// A growth was refused.
     Fault,
@@ -128,7 +128,7 @@ pub fn next_call_with(alloc: Global, routes: &Routes, room: &mut FieldRoom, byte
     look_with(alloc, routes, room, bytes).cut
 }
 
-/// The request at the front of `bytes`. A request that is no call is told by the first cause that applies; it waits
+/// The request at the front of `bytes`. A malformed request gets the first cause that applies; it waits
 /// until its body is whole, but for the causes by which the end of a request isn't known.
 pub fn next_call(alloc: Global, bytes: &[u8]) -> Cut
     ensures { IsCutOf bytes.now result }

@@ -79,7 +79,7 @@ fn is_change_number(text: &[u8]) -> bool
     is_numeral(text) && text.len() <= 5 && text[0] != b'0'
 }
 
-/// The number that the text is: 1 to 5 digits, of which the first isn't 0.
+/// The number that the text is: 1 to 5 digits, the first not 0.
 fn change_number_of(text: &[u8]) -> Option<u32>
     ensures { result ≡ change_number_of text.now }
 {

@@ -116,7 +116,7 @@ fn register(alloc: Global, path: &[u8], body: &[u8]) -> Result<Request, CallErro
     })
 }
 
-/// The body is a file; one with a fault is brought as well, and the office tells the fault.
+/// The body is a file. One with a fault is a call as well; the office reports the fault.
 #[tactic(auto, unfolding(crate::specs::Reading::request_in))]
 fn import(alloc: Global, path: &[u8], body: &[u8]) -> Result<Request, CallError>
     ensures { Gives result (request_in kind.Import path.now body.now) }

@@ -7,10 +7,10 @@ use Rattle.sqlite_value.specs.declared.value.Value.TheVariants.{Text}
 use Rattle.std.specs.Prelude.{Bool, IsTrue, List, ℕ, ◌≡◌, ◌≢◌}
 use Rattle.plant_types.specs.Text.{is_text}
 
--- it is no want of memory
+-- it is not that memory ran out
 abbrev pub IsNoMemory : Error → Type 0
 IsNoMemory e = e ≢ SqliteFailure OutOfMemory
 
--- want of memory is met only where the value is a text of the column's set
+-- memory runs out only for a text of the column's set
 abbrev pub MemoryIsOfText : (ℕ → Bool) → ℕ → Value → Error → Type 0
 MemoryIsOfText admits longest v e = e ≡ SqliteFailure OutOfMemory → (t : List ℕ) × (v ≡ Text t) × IsTrue (is_text admits longest t)

@@ -16,7 +16,7 @@ use Rattle.plant_wire.specs.declared.reads.End.TheVariants.{BrokenInput, Closed,
 use Rattle.plant_connections.specs.Connections.{IsConnection, Tells, line_of}
 
 module _ {o o' : Option (List ℕ)} {ran : List Call → List Answer → Type 0} where
-  -- the same over a writer that held nothing before, and of which the bytes are known
+  -- the same over a writer that held nothing before, whose bytes are known
   whole : {bytes rest : List ℕ} → (s : Serves bytes o o' ran rest) → Serves bytes (Some []) (Some (out_of s.marks)) ran rest
   whole s = record { marks = s.marks; parses = s.parses; writes = refl; served = s.served }
 

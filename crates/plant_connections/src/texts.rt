@@ -5,7 +5,7 @@ ghost use Rattle.plant_connections.specs.Connections as spec;
 use plant_wire::End;
 use std::io::Write;
 
-/// The name of an end, as the log and the program tell it.
+/// The name of an end, as the log and the program write it.
 pub fn end_name(end: End) -> &'static [u8]
     ensures { result.now ≡ spec.end_name end }
 {

@@ -481,7 +481,7 @@ bob 11:00:00 GET /units/U1/floods/2026-03-01T10:00:01Z/2026-03-01T10:50:00Z
 vic 10:59:59 GET /units/U1/floods/2026-03-01T10:00:01Z/2026-03-01T10:50:00Z
 409 {"name":"MomentBehind","refused":5,"value":"2026-03-01T11:00:00Z"}"#;
 
-/// Three files, each of which has two of three rows.
+/// Three files, each with two of three rows.
 pub const OVERLAPPING: [&str; 3] = [
     r#"> seq,moment,tag,event
 > 1,2026-03-01T09:00:00Z,PT-101,ACT

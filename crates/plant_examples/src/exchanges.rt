@@ -19,7 +19,7 @@ pub const BEGIN: Mark = Mark {
     answered: 0,
 };
 
-/// Requests, the answers that are wanted, and the units that the requests name, each once.
+/// Requests, the answers that are expected, and the units that the requests name, each once.
 #[derive(Drop)]
 pub struct Exchanges {
     pub requests: String,
@@ -98,7 +98,7 @@ fn file_before(alloc: Global, text: &str) -> Result<(String, &str), Failure> {
     Ok((file, rest))
 }
 
-/// Adds the length of a body, if there is one, and the body.
+/// Adds the length of a body, if any, and the body.
 fn add_body(out: &mut String, body: &str) -> Result<(), Failure> {
     if !body.is_empty() {
         push_all(out, &["Content-Length: "])?;
@@ -108,7 +108,7 @@ fn add_body(out: &mut String, body: &str) -> Result<(), Failure> {
     push_all(out, &["\r\n", body])
 }
 
-/// Adds the request of one line, whose body is the file, if there is one.
+/// Adds the request of one line, whose body is the file, if any.
 pub fn add_request(out: &mut String, line: &str, file: &str) -> Result<(), Failure> {
     let (person, rest) = parts(line, ' ')?;
     let (moment, rest) = parts(rest, ' ')?;
@@ -121,7 +121,7 @@ pub fn add_request(out: &mut String, line: &str, file: &str) -> Result<(), Failu
     add_body(out, if file.is_empty() { words } else { file })
 }
 
-/// Adds the answer of a status and a body: a JSON object, or lines of text, each of which ends with a line feed.
+/// Adds the answer of a status and a body: a JSON object, or lines of text that each end with a line feed.
 pub fn add_answer(out: &mut String, answer: &str) -> Result<(), Failure> {
     let (status, body) = parts(answer, ' ')?;
     let (media, feed) = if body.starts_with('{') {

@@ -12,11 +12,11 @@ pub enum Failure {
     Store,
     /// A text is not in the notation of the examples.
     Notation,
-    /// A session ended otherwise than wanted.
+    /// A session did not end as expected.
     Ended,
     /// The two keepers hold different rows.
     Rows,
-    /// What was answered is not what is wanted.
+    /// What was answered is not what is expected.
     Answers { found: String, wanted: String },
 }
 

@@ -23,7 +23,7 @@ BeginsWith bytes head = (rest : List ℕ) × ReadsRequest (front bytes) head res
 abbrev pub IsHopeless : List ℕ → Type 0
 IsHopeless bytes = NeverHasRequest (front bytes)
 
--- there is no head yet; and more bytes can make one, or the request's target is still being read
+-- there is not a head yet; more bytes can make one, or the request's target is still being read
 pub record IsUnfinished (bytes : List ℕ) : Type 0 where
   pub none : HasNoRequest (front bytes)
   pub unfinished : MayBecomeRequest (front bytes)

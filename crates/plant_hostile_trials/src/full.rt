@@ -220,7 +220,7 @@ const CHANGED_WHEN_FULL: [(&str, &str); 4] = [
     ),
 ];
 
-/// The books after these requests, each of which is answered so.
+/// The books after these requests, each of them answered so.
 fn after_all<B: Books + Drop>(
     rt: &(impl Abort + AllocGlobal),
     books: B,
@@ -233,7 +233,7 @@ fn after_all<B: Books + Drop>(
     books
 }
 
-/// The books after these files, each of which is answered so.
+/// The books after these files, each of them answered so.
 fn after_files<B: Books + Drop>(
     rt: &(impl Abort + AllocGlobal),
     books: B,

@@ -85,7 +85,7 @@ fn add_shelves(rt: &(impl Abort + AllocGlobal), wanted: &mut Exchanges) {
     add_each(rt, wanted, before, &behind);
 }
 
-/// A unit with 2,000 alarms, each of which is shelved.
+/// A unit with 2,000 alarms, each of them shelved.
 fn all_shelved(rt: &(impl Abort + AllocGlobal)) -> Exchanges {
     let mut wanted = Exchanges::of(rt.alloc(), &[OPENED]).expect(rt, "exchanges");
     add_alarms(rt, &mut wanted);
@@ -136,7 +136,7 @@ fn writes_the_largest_list(rt: HostRuntime) {
     is_written(&rt, books, &wanted);
 }
 
-/// A body of so many bytes that registers an alarm, most of which is in a member that is passed over.
+/// A body of so many bytes that registers an alarm; most of it is a member that is ignored.
 fn body(rt: &(impl Abort + AllocGlobal), length: usize) -> String {
     let mut body = String::new(rt.alloc());
     let begin = r#"{"tag":"A-1","latching":false,"max":60,"note":""#;

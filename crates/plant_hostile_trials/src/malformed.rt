@@ -1,4 +1,4 @@
-//! Requests that are no calls. A session ends with one whose end is not known, and goes on after any other.
+//! Malformed requests. A session ends with one whose end is not known, and goes on after any other.
 
 use plant_examples::{Exchanges, NO_UNITS, add_answer, numbered};
 use plant_office::Books;
@@ -58,7 +58,7 @@ const BROKEN: [(&str, &str); 12] = [
     ),
 ];
 
-/// Whole requests that are no calls, each with its answer.
+/// Whole requests that are malformed, each with its answer.
 const WRONG: [(&str, &str); 20] = [
     (
         "GET /nothing HTTP/1.0\r\n\r\n",
@@ -308,7 +308,7 @@ fn answer_of(rt: &(impl Abort + AllocGlobal), answer: &str) -> String {
     out
 }
 
-/// The answers to these requests are wanted so, and the session ends so.
+/// These requests have these answers, and the session ends so.
 fn is_ended<B: Books + Drop>(
     rt: &(impl Abort + AllocGlobal),
     books: B,

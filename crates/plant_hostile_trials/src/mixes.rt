@@ -76,7 +76,7 @@ fn push_row(rt: &impl Abort, file: &mut String, mix: Mix, row: u32) {
     write!(file, "{number},{moment},{tag},{event}\n").expect(rt, "memory");
 }
 
-/// A file of 10,000 rows, of which so many tens of thousands come before.
+/// A file of 10,000 rows, after so many tens of thousands.
 fn file(rt: &(impl Abort + AllocGlobal), mix: Mix, before: u32) -> String {
     let mut file = String::new(rt.alloc());
     file.push_str("seq,moment,tag,event\n").expect(rt, "memory");

@@ -127,7 +127,7 @@ each_puts : (P : Event → Type 0) (rs es : List Event) → Each P rs → Each P
 each_puts P [] es h k = k
 each_puts P (r ∷ rs) es h k = each_puts P rs (put_row nat_cmp event_number r es) h.1 (each_put P r es h.0 k)
 
--- the new rows of a file without fault of which none is late
+-- the new rows of a file without fault and without late rows
 late_not : (kept : List Event) (e : Event) → is_late kept e ≡ false → list_any (has_number e.seq) kept ≡ false → IsLater kept e
 late_not kept e late new = record { number = new; last = by (is_overtaken kept e) (ap (λ b. is_overtaken kept e && not b) (sym new) ∙ late) } where
   by : (b : Bool) → (b && true) ≡ false → b ≡ false

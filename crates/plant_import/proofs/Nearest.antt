@@ -171,7 +171,7 @@ higher seq (x ∷ xs) high rising (Some y) e h =
     above_it n (inl lt) = lt
     above_it n (inr le) = absurd (n (omega (arith, high.0, le)))
 
--- what the code tells
+-- what the code says
 pub below_rising : (events below above : List Event) (seq : ℕ) → AreParts events seq below above → IsRising below
 below_rising events below above seq p = is_rising below (rising_front below above p.rising)
 

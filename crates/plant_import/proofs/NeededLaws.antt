@@ -284,7 +284,7 @@ needed_few kept rows h =
     let sum = ap length c.whole ∙ length-append c.pre (needed kept rows) in
     omega (arith, sum)
 
--- what events in the order of their numbers tell of late rows, whatever their moments are
+-- what events in the order of their numbers say of late rows, whatever their moments are
 pub record AreBehind (rows kept near : List Event) : Type 0 where
   pub pre : List Event
   pub whole : kept ≡ pre ++ near
@@ -388,7 +388,7 @@ reached_next events i e t old new h lt is own put are =
 pub reached_all : (events : List Event) (i : ℕ) (m : BTreeMap Name ℕ) → length events ≤ i → AreReached m (take i events) → AreReached m events
 reached_all events i m le are = subst (AreReached m) (take_all i events le) are
 
--- the rows up to a place, of which none is late
+-- the rows up to a place, none of them late
 pub none_late_more : (near rows : List Event) (i : ℕ) (e : Event) (b : Bool) → i < length rows → e ≡ get_or rows i e → has_late near (take i rows) ≡ false → b ≡ is_late near e → b ≡ false → has_late near (take (i + 1) rows) ≡ false
 none_late_more near rows i e b lt is none eb f =
     ap (has_late near) (take_more rows i e lt ∙ ap (λ x. take i rows ++ x ∷ []) (sym is)) ∙ list_any-append (is_late near) (take i rows) (e ∷ []) ∙ ap (λ c. c || (is_late near e || false)) none ∙ ap (λ c. c || false) (sym eb ∙ f)

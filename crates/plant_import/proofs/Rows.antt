@@ -76,7 +76,7 @@ is_read k fields n m t kind h short =
     let is : event_in fields ≡ record { seq = n; moment = m; tag = t; kind = kind } = rw (h.number, h.moment, h.tag, h.event) refl in
     ap (λ o. event_or o fields) none ∙ ap Ok is
 
--- what a row is read as tells its fault
+-- what a row is read as gives its fault
 fault_of : (o : Option Cause) (fields : List (List ℕ)) (cause : Cause) → event_or o fields ≡ Err cause → o ≡ Some cause
 fault_of (Some x) fields cause e = cc
 fault_of None fields cause e = cc

@@ -14,7 +14,7 @@ use Rattle.plant_import.specs.declared.bad_file.Cause.TheVariants.{FieldCount, N
 abbrev pub same_bytes : List ℕ → List ℕ → Bool
 same_bytes = pointwise nat_eq
 
--- one to twelve digits, of which the first isn't 0
+-- one to twelve digits, the first not 0
 abbrev pub number_of : List ℕ → Option ℕ
 number_of field =
     if is_between 1 12 (length field) && list_all is_digit field && not (slice_index field 0 == 48) then Some (decimal_value field) else None

@@ -1,4 +1,4 @@
--- Files that are merged one after another: which files bring the rows, and in which order, plays no part.
+-- Files that are merged one after another: which file has which rows, and in which order they come, makes no difference.
 use Rattle.std.specs.List.{flat_map, list_all, list_any}
 use Rattle.std.specs.Prelude.{Bool, List, [], is_none, length, nat_lt, not, true, ℕ, ◌&&◌, ◌++◌, ◌+◌, ◌∷◌, ◌≡◌}
 use Rattle.plant_alarm.specs.declared.event.Event.{Event}

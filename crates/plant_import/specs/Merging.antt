@@ -46,7 +46,7 @@ merge_fault tags now others e =
     ∷ (list_any (out_of_order e) others, MomentOutOfOrder)
     ∷ [])
 
--- the first fault of rows, of which the first is on this line
+-- the first fault of rows that begin on this line
 abbrev pub first_fault : List Name → ℕ → ℕ → List Event → List Event → Option BadFile
 first_fault tags now line others [] = None
 first_fault tags now line others (e ∷ rows) =

@@ -1,4 +1,4 @@
--- How a row stands to events in rising number: what the code tells from the nearest of them.
+-- How a row stands to events in rising number: what the code finds from the nearest of them.
 use Rattle.std.specs.Prelude.{ℕ, ◌≡◌, Bool, true, false, List, ◌++◌, insert, Option, Some, None, Result, Ok, Err}
 use Rattle.std.specs.BTreeSet.{BTreeSet, contains}
 use Rattle.std.specs.List.{list_any}

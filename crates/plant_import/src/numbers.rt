@@ -77,7 +77,7 @@ pub fn count_new(alloc: Global, kept: &[Event], file: &[Event]) -> Result<usize,
     Ok(numbers.len())
 }
 
-/// Puts an event among others in rising number, over the one of its number if there is one.
+/// Puts an event among others in rising number, over the one of its number if any.
 fn put(events: &mut Table<Event>, event: Event) -> Result<(), Fault>
     ensures value { IsInOrder nat_cmp event_number events.old → OnOk result (events.new ≡ put_row nat_cmp event_number event events.old) }
     ensures err { IfErr result (λ e. e ≡ Memory) }

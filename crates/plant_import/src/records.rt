@@ -18,7 +18,7 @@ pub fn reader_of(alloc: Global, bytes: &[u8]) -> Reader<&[u8]>
         .from_reader(alloc, bytes)
 }
 
-/// Reads the next record, if there is one.
+/// Reads the next record, if any.
 pub fn next_record(reader: &mut Reader<&[u8]>, row: &mut ByteRecord) -> Result<bool, Fault>
     ensures value { IfOk result (λ found. (text : List ℕ) → (rows : List (List (List ℕ))) → HasRead reader.old text rows → ReadsOne reader.new text rows found (fields_of row.new)) }
     ensures err { IfErr result (λ e. e ≡ Memory) }

@@ -13,7 +13,7 @@ use plant_types::Fault;
 use sqlite::MemStore;
 use std::process::Abort;
 
-/// The answer to a call of which each statement may take so many steps, and the books after it, without that limit.
+/// The answer to a call whose statements may each take so many steps, and the books after it, without that limit.
 fn limited(
     rt: &(impl Abort + AllocGlobal),
     mut books: Tables<MemStore>,
@@ -62,7 +62,7 @@ fn call_between(
     call.expect(rt, "a call")
 }
 
-/// The answer is the one that is wanted between these marks.
+/// The answer is the one that is expected between these marks.
 fn is_wanted(
     rt: &(impl Abort + AllocGlobal),
     wanted: &Exchanges,
@@ -75,7 +75,7 @@ fn is_wanted(
     assert_eq!(rt; text(&bytes), text(due));
 }
 
-/// The books hold what they held before the call between these marks, as lists do; the call is then answered as wanted, and leaves
+/// The books hold what they held before the call between these marks, as lists do; the call is then answered as expected, and leaves
 /// the same rows as over lists.
 fn goes_on(
     rt: &(impl Abort + AllocGlobal),
@@ -92,8 +92,8 @@ fn goes_on(
     check_rows(&mut ours, &mut books, &wanted.units).expect(rt, "after the call");
 }
 
-/// Whether the call passes with so many steps, answered as wanted. Otherwise it is a fault that leaves the rows as they
-/// were, and the same call without a limit is then answered as wanted and leaves the same rows as over lists.
+/// Whether the call passes with so many steps, answered as expected. Otherwise it is a fault that leaves the rows as they
+/// were, and the same call without a limit is then answered as expected and leaves the same rows as over lists.
 fn passes(
     rt: &(impl Abort + AllocGlobal),
     wanted: &Exchanges,
@@ -133,7 +133,7 @@ fn changes_nothing_where_a_call_is_interrupted(rt: HostRuntime) {
     }
 }
 
-/// Tables after the call between these marks, which is made with no step, with one, and so on until it is answered as wanted. Each
+/// Tables after the call between these marks, which is made with no step, with one, and so on until it is answered as expected. Each
 /// fault leaves the rows as they were, which are those of the lists.
 fn after_interruptions(
     rt: &(impl Abort + AllocGlobal),

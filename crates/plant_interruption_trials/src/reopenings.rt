@@ -27,7 +27,7 @@ vic 10:30:00 GET /units/U1/alarms/PT-101
 const UNSHELVED: &str = r#"vic 10:59:59 GET /units/U1/alarms/PT-101
 200 {"limit":3600,"limit_revision":0,"out_of_service":false,"shelf":"Unshelved","shelf_left":0,"state":"Normal","suppressed":false,"suppressed_or_shelved":false,"tag":"PT-101"}"#;
 
-/// The books after these exchanges, which are answered as wanted.
+/// The books after these exchanges, which are answered as expected.
 fn after_all<B: Books + Drop>(
     rt: &(impl Abort + AllocGlobal),
     books: B,
@@ -39,7 +39,7 @@ fn after_all<B: Books + Drop>(
     after(rt.alloc(), books, requests, answers).expect(rt, title)
 }
 
-/// The same behind rows at hand, of which none are there at first.
+/// The same behind rows at hand, none of them at first.
 fn after_all_at_hand<B: Books + Drop>(
     rt: &(impl Abort + AllocGlobal),
     below: B,

@@ -14,7 +14,7 @@ use sqlite_disk::{Disk, Memory, Tally};
 use std::io;
 use std::process::Abort;
 
-/// A disk of which so many syncs succeed. The next one fails.
+/// A disk on which so many syncs succeed. The next one fails.
 #[derive(Drop)]
 struct FailingDisk<D: Disk> {
     inner: D,
@@ -105,7 +105,7 @@ fn failing(rt: &(impl Abort + AllocGlobal), syncs: u64) -> FailingDisk<Memory> {
     }
 }
 
-/// Books over a disk of which so many syncs of the log succeed, or none where that is too few to make them.
+/// Books over a disk on which so many syncs of the log succeed, or none if these are too few to make them.
 fn books_over(
     rt: &(impl Abort + AllocGlobal),
     syncs: u64,
@@ -120,7 +120,7 @@ fn books_over(
     Tables::create(rt.alloc(), conn, root(rt.alloc()).expect(rt, "a person")).ok()
 }
 
-/// Whether the call between these marks is answered by a fault of the store. Any other answer is the one that is wanted.
+/// Whether the call between these marks is answered by a fault of the store. Any other answer is the one that is expected.
 fn is_faulty<B: Books>(
     rt: &(impl Abort + AllocGlobal),
     office: &mut Office<B>,

@@ -46,7 +46,7 @@ const EVENTS: [(u64, &[u8], u64, EventKind); 7] = [
     (7, b"LT-2", 1800, EventKind::Act),
 ];
 
-/// An alarm that annunciates again while it is active is no activation; after a return it is one. Each alarm counts
+/// An alarm that annunciates again while it is active is not an activation; after a return it is. Each alarm counts
 /// for itself.
 #[test]
 fn counts_activations_by_periods(rt: HostRuntime) {

@@ -102,7 +102,7 @@ fn knows_no_tag_without_alarms(rt: HostRuntime) {
     assert!(rt; merged.err() == wanted);
 }
 
-/// Two thousand tags, of which the last is PT-101.
+/// Two thousand tags; the last is PT-101.
 fn many_tags(rt: &impl Abort, alloc: Global) -> Vec<Tag> {
     let mut tags = Vec::new(alloc);
     for _ in 0..1999 {

@@ -13,11 +13,11 @@ use std::convert::AsStr;
 pub enum LineError {
     /// The line is wrong, or asks for help: clap's text, and whether it is an error.
     Text { text: String, is_error: bool },
-    /// The name is no person's.
+    /// The name is not a person's.
     NotAPerson,
     /// A file is to be migrated, and no file to migrate it to is named.
     NoDb,
-    /// Memory was wanted.
+    /// Memory ran out.
     Memory,
 }
 

@@ -1,4 +1,4 @@
--- Imports that bring the same rows leave the same rows.
+-- Imports of the same rows leave the same rows.
 use Rattle.plant_import.proofs.Placed.{there}
 use Rattle.plant_model.proofs.Base.{x}
 use Rattle.plant_model.specs.Changes.{limit_revision}

@@ -1,4 +1,4 @@
--- The rows of a history tell its facts.
+-- The rows of a history give its facts.
 use Rattle.plant_types.proofs.Orders.{same_names}
 use Rattle.plant_model.proofs.Base.{x}
 use Rattle.plant_model.proofs.HistoryLaws.{change_with, changes_told, numbers_of_changes, record_with, records_told, tags_of_records, when_Some}
@@ -224,7 +224,7 @@ change_by h readable n (Some d) e = λ i. Some (record (change_with h n d) { kin
 change_in : (h : List Call) → AreReadable h → (n : ℕ) → option_map (change_read (rows_of h)) (change_found (rows_of h) n) ≡ change h n
 change_in h readable n = ap (option_map (change_read (rows_of h))) (change_entry_in h n) ∙ change_by h readable n (draft h n) refl
 
--- the facts that the rows of a history tell, with the numbers of its alarms and proposals beside them, are those of the history
+-- the facts read from the rows of a history, with the numbers of its alarms and proposals, are those of the history
 pub facts_told : (h : List Call) → AreReadable h → facts_from (rows_of h) (length (alarm_rows h)) (proposals h) ≡ facts h
 facts_told h readable = λ i. record (facts h) {
   stands = λ k. stands_in h k i;

@@ -1,4 +1,4 @@
--- The roles that a person's grant rows show are those that the history tells.
+-- The roles that a person's grant rows show are those of the history.
 use Rattle.std.proofs.Common.{ap, refl, subst, sym, ◌∙◌}
 use Rattle.std.specs.Cmp.{IsTotalOrder, nat_cmp_total, on_total}
 use Rattle.std.specs.FinMap.Entries.{below_all}

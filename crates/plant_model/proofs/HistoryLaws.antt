@@ -1,4 +1,4 @@
--- Each table of a history is told by its function: its rows are at keys that the history names, and have their keys.
+-- A function gives each table of a history: its rows are at keys that the history names, and have their keys.
 use Rattle.plant_import.proofs.Placed.{there}
 use Rattle.plant_model.proofs.Base.{x}
 use Rattle.plant_model.specs.Changes.{Draft, approved_sheet, change, change_as, decision, draft, kind_of_change, limit_revision, matrix, proposals, record_as, record_of, record_revision, said_of_draft, sheet, sheet_in}

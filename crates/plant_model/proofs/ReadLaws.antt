@@ -543,6 +543,6 @@ change_count h =
     ap (λ o. unwrap_or o 0) (last_mapped change_number (change_rows h) (length (change_rows h) - 1) ∙ (λ i. slice_get (numbers i) (many i - 1)))
     ∙ last_of_numbers (proposals h)
 
--- the rows of a legal history tell its facts
+-- the rows of a legal history give its facts
 pub facts-rows : (h : List Call) → IsLegal h → facts_of (rows_of h) ≡ facts h
 facts-rows h legal = ap (facts_from (rows_of h) (length (alarm_rows h))) (change_count h) ∙ facts_told h (readable h legal)

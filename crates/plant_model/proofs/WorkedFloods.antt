@@ -50,7 +50,7 @@ one_period : verdict base (call vic (at 10 50 0) (Floods u1 (at 10 0 0) (at 10 1
 unfolding holds_some floods
 one_period = refl
 
--- standing alarms and all alarms, of which one is shelved
+-- standing alarms and all alarms, one of them shelved
 abbrev standing_unit : List Call
 standing_unit = call ann (at 10 0 0) (TimedShelve u1 pt 60 x) ∷ call ann (at 9 30 0) (Import u1 (Ok (event 1 Act (at 9 0 0) pt ∷ []))) ∷ base
 
@@ -71,7 +71,7 @@ a_week = refl
 longer_than_a_week : is_aligned (at 0 0 0) (at 168 10 0) ≡ false
 longer_than_a_week = refl
 
--- an alarm that annunciates again while it is active is no activation; after a return it is one
+-- an alarm that annunciates again while it is active is not an activation; after a return it is
 abbrev again : List Event
 again = event 1 Act (at 10 0 0) pt ∷ event 2 Act (at 10 1 0) pt ∷ event 3 Rtn (at 10 2 0) pt ∷ event 4 Act (at 10 3 0) pt ∷ []
 

@@ -13,7 +13,7 @@ abbrev pub said_of_limit : Name → List Call → Request → Option ℕ
 said_of_limit a before (Register u b latching max) = when (same_name a b) max
 said_of_limit a before r = approved_limit a before r
 
--- MaxTimeShelved in force: that of the last approved change, else that of the registration. None where there is no such alarm
+-- MaxTimeShelved in force: that of the last approved change, else that of the registration. None for an alarm that was never registered
 abbrev pub limit : List Call → Name → Option ℕ
 limit h a = latest (λ c before. said_of_limit a before c.request) h
 
@@ -21,7 +21,7 @@ abbrev pub said_of_latching : Name → Request → Option Bool
 said_of_latching a (Register u b latching max) = when (same_name a b) latching
 said_of_latching a _ = None
 
--- whether it is a latching alarm. None where there is no such alarm
+-- whether it is a latching alarm. None for an alarm that was never registered
 abbrev pub latching : List Call → Name → Option Bool
 latching h a = latest (λ c before. said_of_latching a c.request) h
 

@@ -45,7 +45,7 @@ pub record Facts : Type 0 where
 abbrev pub is_steward_row : GrantRow → Bool
 is_steward_row g = same_role g.role_no Steward
 
--- the facts that a history tells
+-- the facts of a history
 abbrev pub facts : List Call → Facts
 facts h =
     record {

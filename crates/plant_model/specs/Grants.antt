@@ -26,7 +26,7 @@ standing h k = still (latest (λ c before. said_of_pair k c.request) h)
 abbrev pub stands : List Call → Pair → Bool
 stands h k = is_some (standing h k)
 
--- the moment lies before the end, where there is one
+-- the moment lies before the end, if any
 abbrev pub is_before : ℕ → Option ℕ → Bool
 is_before t None = true
 is_before t (Some until) = nat_lt t until

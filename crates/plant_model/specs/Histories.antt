@@ -5,7 +5,7 @@ use Rattle.std.specs.Prelude.{Bool, List, None, Option, Some, [], ℕ, ◌++◌,
 use Rattle.plant_model.specs.declared.call.Call.{Call}
 use Rattle.plant_types.specs.Options.{or_else}
 
--- what the newest entry that says something says. An entry is told what came before it
+-- what the newest entry that says something says. An entry is seen with what came before it
 abbrev pub latest : {A : Type 0} → (Call → List Call → Option A) → List Call → Option A
 latest says [] = None
 latest says (c ∷ before) = or_else (says c before) (latest says before)

@@ -1,4 +1,4 @@
--- Imports agree: which files bring the rows, and in which order, plays no part.
+-- Imports agree: which file has which rows, and in which order they come, makes no difference.
 use Rattle.plant_alarm.specs.declared.event.Event.{Event}
 use Rattle.plant_import.specs.Files.{SameMembers, is_fit}
 use Rattle.plant_import.specs.Merging.{fresh}
@@ -75,7 +75,7 @@ pub record AreAlike (h : List Call) (xs ys : List Call) : Type 0 where
   pub counted : new_counted h xs ≡ length (fresh (events h) (rows_imported xs))
   pub same_counted : new_counted h xs ≡ new_counted h ys
 
--- two lists of imports into the unit of a legal history that bring the same rows, repeats and order aside, which fit together with
+-- two lists of imports into the unit of a legal history that have the same rows, repeats and order aside, which fit together with
 -- the kept events and are at most 100,000 with them
 abbrev pub ImportsAgree : Type 0
 ImportsAgree =

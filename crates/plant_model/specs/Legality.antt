@@ -19,7 +19,7 @@ has_matrix (OpenUnit u s m q) = is_matrix m.limits m.cells
 has_matrix (Propose u x) = is_matrix_kind x.kind
 has_matrix _ = true
 
--- a call may follow these entries: it is no opening, and the unit accepts it as a change
+-- a call may follow these entries: it is not an opening, and the unit accepts it as a change
 abbrev pub may_follow : List Call → Call → Bool
 may_follow h c = not (is_opening c.request) && changes_history (verdict h c) c
 

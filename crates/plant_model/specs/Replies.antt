@@ -47,7 +47,7 @@ line_of s (OneShotShelved left) = Some (record { tag = s.tag; one_shot = true; s
 abbrev pub shelf_lines : Facts → ℕ → List ShelfLine
 shelf_lines f t = filter_map (λ s. line_of s (shelf_state (shelf_left (Some s)) (returned f s.tag) t)) f.shelves
 
--- the line of an alarm: its suppression is told by kind, its priority where it has a record
+-- the line of an alarm: its suppression by kind, and its priority if it has a record
 abbrev pub alarm_line : Facts → ℕ → AlarmRow → AlarmLine
 alarm_line f t r =
     record {

@@ -110,7 +110,7 @@ placed_in r = record r { out_s = None; out_by = None; out_words = None }
 abbrev pub all_events : List Event → List Event → List Event
 all_events kept rows = with_events kept (fresh kept rows)
 
--- a new row of the file names the alarm: its state is told anew from all its events
+-- a new row of the file names the alarm: its state is computed anew from all its events
 abbrev pub is_touched : List Event → List Event → AlarmRow → Bool
 is_touched kept rows r = list_any (λ e. same_name r.tag e.tag) (fresh kept rows)
 

@@ -101,7 +101,7 @@ no_unit = record { last_s = 0; matrix_no = 0; matrix_rev = 0; quota = 0 }
 abbrev pub unit_read : UnitRows → UnitRow
 unit_read rows = unwrap_or (slice_get rows.units 0) no_unit
 
--- the number of the last change, 0 where there is none: changes are numbered from 1, so it is how many there are
+-- the number of the last change, 0 for none: changes are numbered from 1, so it is how many there are
 abbrev pub last_number : List ChangeEntry → ℕ
 last_number changes = unwrap_or (option_map change_number (slice_get changes (length changes - 1))) 0
 

@@ -1,4 +1,4 @@
--- The rows of a unit, told from its history: each table has the rows of the keys that the history names, in their order.
+-- The rows of a unit, from its history: each table has the rows of the keys that the history names, in their order.
 use Rattle.plant_model.specs.Changes.{change, kind_of_change, limit_revision, matrix, matrix_revision, proposals, record_of}
 use Rattle.plant_model.specs.declared.call.Request.TheVariants.{Approve, Propose}
 use Rattle.plant_model.specs.declared.reply.ChangeRow.{ChangeRow}
@@ -53,7 +53,7 @@ grant_row h k = option_map (grant_as k) (standing h k)
 abbrev pub grant_rows : List Call → List GrantRow
 grant_rows h = filter_map (grant_row h) (in_order pair_cmp (all_named (λ c before. pairs_named c.request) h))
 
--- Alarms, one for each registration. State, suppression by design and the moments of the last activation and return are told
+-- Alarms, one for each registration. State, suppression by design and the moments of the last activation and return follow
 -- from all kept events of the alarm
 abbrev pub tags_registered : Request → List Name
 tags_registered (Register u a l m) = a ∷ []
@@ -104,7 +104,7 @@ band_rows h = filter_map (band_row h) (in_order band_cmp (all_named (λ c before
 abbrev pub cell_rows : List Call → List CellRow
 cell_rows h = filter_map (cell_row h) (in_order cell_cmp (all_named (λ c before. places_in cell_places (numbered_matrix before c.request)) h))
 
--- Rationalisation records (ISA-18.2), one for each alarm of which a change was approved
+-- Rationalisation records (ISA-18.2), one for each alarm with an approved change of its record
 abbrev pub tag_rationalised : Option ChangeKind → List Name
 tag_rationalised (Some (Rationale a s)) = a ∷ []
 tag_rationalised _ = []

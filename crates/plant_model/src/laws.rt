@@ -37,7 +37,7 @@ pub fn largest_quota()
     ensures { QuotaOf2000RefusesNothing }
 {}
 
-/// Imports agree: which files bring the rows, and in which order, plays no part.
+/// Imports agree: which file has which rows, and in which order they come, makes no difference.
 pub fn imports_agree()
     ensures { ImportsAgree }
 {}

@@ -42,7 +42,7 @@ pub enum Refused {
     NotProposer,
     /// The revision in force.
     BaseChanged(u32),
-    /// A severity is no row of the matrix.
+    /// A severity has no row in the matrix.
     OutsideMatrix,
     /// The matrix says that no alarm is needed.
     NotAnAlarm,

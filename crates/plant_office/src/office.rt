@@ -207,7 +207,7 @@ impl<B: Books> Office<B> {
 
     /// Answers a call, as the world of the units' histories answers it.
     ///
-    /// The headline is the clause `isolated`: an answer that is no fault is what any other office of the same
+    /// The headline is the clause `isolated`: an answer that is not a fault is what any other office of the same
     /// administrator would answer that looks the same to the caller at the call's moment, and the rows of the units
     /// that the caller held before or holds after are those of that office. A fault leaves the books as they were, and
     /// so do a refusal and a reply to a call that only asks, whatever the books hold.

@@ -44,7 +44,7 @@ is_no_lower_row less more = list_all (λ e. no_lower e.1 e.0) (zip less more)
 abbrev pub is_ordered : List (List Cell) → Bool
 is_ordered rows = list_all (neighbours no_lower) rows && neighbours is_no_lower_row rows
 
--- the first fault, where there is one
+-- the first fault, if any
 abbrev pub fault_of : List ℕ → List (List Cell) → Option MatrixFault
 fault_of limits rows =
     if not (has_shape limits rows) then Some Shape

@@ -1,4 +1,4 @@
--- The text told from the calendar is the one that is read as the moment.
+-- The text computed by the calendar is the one that is read as the moment.
 use Rattle.std.proofs.Common.{◌≡◌, ℕ, ◌+◌, ◌*◌, ◌/◌, ◌%◌, ◌≤◌, ◌<◌, refl, sym, arith, Bool, true, false, ◌&&◌, cond, Some, None, List, pos}
 use Rattle.std.proofs.lemmas.Bool.{leb-true, ltb-true, false≢true}
 use Rattle.std.proofs.lemmas.Int.{ints}

@@ -1,4 +1,4 @@
--- The text of a moment, told from the calendar.
+-- The text of a moment, by the calendar.
 use Rattle.std.specs.Prelude.{ℕ, zero, suc, ◌+◌, ◌/◌, ◌%◌, nat_lt, if◌then◌else◌, List, pos}
 use Rattle.jiff_core.specs.Calendar.{days_in_month}
 use Rattle.plant_types.specs.Spelling.{spelled}

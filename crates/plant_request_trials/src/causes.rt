@@ -1,4 +1,4 @@
-//! Requests that are no calls, and why.
+//! Malformed requests, and what is wrong with them.
 
 use crate::calls::{got, posted, waits};
 use plant_call::{Cause, Cut, next_call};
@@ -37,7 +37,7 @@ fn tells_bad_ranges(rt: HostRuntime) {
     }
 }
 
-/// A number of a change has 1 to 5 digits, of which the first isn't 0.
+/// A number of a change has 1 to 5 digits, the first not 0.
 const NO_NUMBERS: [&[u8]; 5] = [
     b"/units/U1/changes/0/approve",
     b"/units/U1/changes/07/approve",

@@ -1,4 +1,4 @@
--- A session, told without what the office did.
+-- A session, without what the office did.
 use Rattle.std.proofs.Common.{◌⊎◌, ℕ, List, Bool, Option, inl, inr}
 use Rattle.plant_model.specs.declared.call.Call.{Call}
 use Rattle.plant_model.specs.declared.reply.Answer.{Answer}

@@ -1,4 +1,4 @@
--- What the files of a database held when they were opened, and what an error of the engine is told as.
+-- What the files of a database held when they were opened, and what an error of the engine is reported as.
 use Rattle.std.specs.Prelude.{◌≡◌}
 use Rattle.sqlite.specs.Effect.{Database, IsDatabase}
 use Rattle.sqlite.specs.Files.{HoldsDatabase}
@@ -23,7 +23,7 @@ pub record HoldBooks (files : Image) (m : Content) : Type 0 where
   pub database : HoldDatabase files db
   pub rows : HaveRows m db
 
--- a file that is no database is not this store; every other error is a fault, for want of memory or of the store
+-- a file that is not a database is not this store; every other error is a fault, of memory or of the store
 abbrev pub fault_of : Error → StoreFault
 fault_of (SqliteFailure NotADatabase) = told.NotThisStore
 fault_of (SqliteFailure OutOfMemory) = told.Fault Memory

@@ -68,7 +68,7 @@ fn unready(errors: &mut impl Write, fault: &StoreFault) -> u8
     UNREADY
 }
 
-/// One session, of which the status says how it ended.
+/// One session; the status says how it ended.
 fn serve_streams<B: Books, I: Inlet, O: Outlet, E: Write>(
     alloc: Global,
     office: &mut Office<B>,
@@ -107,7 +107,7 @@ fn serve_port<B: Books>(
     serve_connections(alloc, &mut port, service.connections, office, output)
 }
 
-/// The same, of which the status says whether all of them were served.
+/// The same; the status says whether all of them were served.
 fn serve_all<B: Books>(
     rt: &HostRuntime,
     office: &mut Office<B>,

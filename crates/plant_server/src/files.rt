@@ -84,8 +84,8 @@ pub fn length_of(rt: &HostRuntime, path: &str) -> Result<Option<u64>, StoreFault
     }
 }
 
-/// Whether there is a file of this name. One that is there and empty, or of which only the log is there, keeps no books:
-/// it is told so before the engine would write to it.
+/// Whether there is a file of this name. An empty file, or a log without its file, keeps no books:
+/// this is reported before the engine would write to it.
 pub fn is_there(rt: &HostRuntime, path: &str) -> Result<bool, StoreFault> {
     let log = beside(rt, path, "-wal")?;
     match (length_of(rt, path)?, length_of(rt, &log)?) {

@@ -122,7 +122,7 @@ fn close_whole(
 }
 
 /// Opens the older file and makes the new one from it. The older one is only read, and stays locked meanwhile. The engine
-/// makes a log where there is none: that goes again before the lock does.
+/// makes a log if there is none; it is removed before the lock is given up.
 fn make_from(
     rt: &HostRuntime,
     old_path: &str,
@@ -152,7 +152,7 @@ fn sync_folder(rt: &HostRuntime, path: &str) -> Result<(), StoreFault> {
     }
 }
 
-/// Copies the tables of the older file to a new one, of which the name must be free. The new one is there once it is whole,
+/// Copies the tables of the older file to a new one, whose name must be free. The new one is there once it is whole,
 /// or not at all.
 pub fn migrate_file(
     rt: &HostRuntime,

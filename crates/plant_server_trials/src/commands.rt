@@ -13,7 +13,7 @@ const STATUS: &[u8] =
 const NOT_GRANTED: &[u8] =
     b"HTTP/1.1 403 Forbidden\r\nContent-Type: application/json\r\nContent-Length: 33\r\n\r\n{\"name\":\"NotGranted\",\"refused\":3}";
 
-/// A stream of which each call fails.
+/// A stream whose every call fails.
 #[derive(Drop)]
 struct Broken;
 

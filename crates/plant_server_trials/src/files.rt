@@ -91,7 +91,7 @@ fn answers_nothing_from_a_damaged_file(rt: HostRuntime) {
     assert!(rt; remove(&rt, path));
 }
 
-/// What a start that was cut off left beside the file is no file of books, and goes.
+/// What an interrupted start left beside the file is not a file of books, and is removed.
 #[test]
 fn begins_where_a_start_was_cut_off(rt: HostRuntime) {
     let path = "cut.db";

@@ -70,7 +70,7 @@ struct Count {
     changed: u64,
 }
 
-/// Books that count what they are asked for. What a person's grants tell is not counted.
+/// Books that count what they are asked for. Questions about a person's grants are not counted.
 #[derive(Drop)]
 struct Counting<B: Books> {
     books: B,
@@ -154,7 +154,7 @@ impl<B: Books> Books for Counting<B> {
     }
 }
 
-/// What the books below are asked for while these exchanges are answered as wanted.
+/// What the books below are asked for while these exchanges are answered as expected.
 fn count_of(rt: &(impl Abort + AllocGlobal), texts: &[&str]) -> Count {
     let wanted = Exchanges::of(rt.alloc(), texts).expect(rt, "exchanges");
     let below = Counting {

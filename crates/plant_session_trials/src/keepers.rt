@@ -1,4 +1,4 @@
-//! Comparing two keepers finds a difference between their rows, and finds none where there is none.
+//! Comparing two keepers finds each difference between their rows, and no other.
 
 use plant_examples::{BASE, Exchanges, SHELVED};
 use plant_trials::{are_left_alike, lists, tables};

@@ -150,7 +150,7 @@ fn purged(rt: &(impl Abort + AllocGlobal), all: &str, person: &str, unit: &str) 
     kept
 }
 
-/// Over each keeper the exchanges are answered as wanted.
+/// Over each keeper the exchanges are answered as expected.
 fn is_answered(rt: &(impl Abort + AllocGlobal), wanted: &Exchanges, title: &str) {
     let lists = lists(rt.alloc()).expect(rt, "lists");
     check_session(rt.alloc(), lists, wanted).expect(rt, title);
@@ -177,7 +177,7 @@ const PERSONS: [(&str, &str, usize); 4] = [
     ("root", "U0", 5),
 ];
 
-/// So many calls stay, and are answered as wanted.
+/// So many calls stay, and are answered as expected.
 fn can_go(rt: &(impl Abort + AllocGlobal), all: &str, person: &str, unit: &str, count: usize) {
     let wanted = purged(rt, all, person, unit);
     assert_eq!(rt; wanted.marks.len(), count, "{person}");

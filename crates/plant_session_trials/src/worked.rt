@@ -18,12 +18,12 @@ fn exchanges(rt: &(impl Abort + AllocGlobal), setting: &[&str], example: &str) -
     wanted
 }
 
-/// Over each keeper the example is answered as wanted, also in one run, and both keep the same rows.
+/// Over each keeper the example is answered as expected, also in one run, and both keep the same rows.
 fn is_worked(rt: &(impl Abort + AllocGlobal), title: &str, wanted: &Exchanges) {
     check_example(rt.alloc(), wanted).expect(rt, title);
 }
 
-/// Each of these examples is answered as wanted over each keeper.
+/// Each of these examples is answered as expected over each keeper.
 fn are_worked(rt: &(impl Abort + AllocGlobal), examples: &[Example]) {
     for (title, setting, example) in examples {
         is_worked(rt, title, &exchanges(rt, setting, example));

@@ -74,7 +74,7 @@ fn over(rt: &impl Abort, alloc: Global, files: Files<Memory>) -> Connection<File
     }
 }
 
-/// Files with a store of schema 1, of which the rows are still in the log.
+/// Files with a store of schema 1 whose rows are still in the log.
 fn older_files(rt: &impl Abort, alloc: Global) -> Files<Memory> {
     let files = Files {
         log: Memory::new(alloc),
@@ -119,7 +119,7 @@ fn leaves_the_older_files_as_they_are(rt: HostRuntime) {
     assert!(rt; before.1 == behind.1);
 }
 
-/// The engine writes the head of a new log where there is none to be read, and no row.
+/// If there is no log, the engine writes the head of a new one, and no row.
 #[test]
 fn leaves_a_closed_file_as_it_is(rt: HostRuntime) {
     let alloc = rt.alloc();

@@ -1,4 +1,4 @@
-//! Tables in which a column holds a value outside its set, or one of which is missing: each call that reads the column or
+//! Tables in which a column holds a value outside its set, or a table is missing: each call that reads the column or
 //! the table answers a fault of the store.
 
 use crate::fixtures::{after, at, call, opened, person, tag, unit};

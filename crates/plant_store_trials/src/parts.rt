@@ -44,7 +44,7 @@ fn gives_a_shelving_its_own_shelf_or_all(rt: HostRuntime) {
     assert!(rt; counts(&all.rows) == [1, 2, 2, 2, 0, 0, 0, 0, 0]);
 }
 
-/// Whether these are the bands of the matrix in force, and of the matrix that is wanted.
+/// Whether these are the bands of the matrix in force, and of the matrix that is asked for.
 fn are_both_bands(bands: &[BandRow]) -> bool {
     let [in_force, wanted] = bands else {
         return false;

@@ -29,7 +29,7 @@ pub fn served<B: Books>(office: &mut Office<B>, call: &Call) -> Answer {
     office.serve(call)
 }
 
-/// The calls among some requests, and the answers that are wanted to them, one after another.
+/// The calls among some requests, and the answers that are expected, one after another.
 #[derive(Drop)]
 pub struct Calls {
     pub calls: Vec<Call>,
@@ -116,7 +116,7 @@ pub fn all_alike(alloc: Global, ran: &[Answer], served: &[Answer]) -> Result<Vec
     Ok(answers)
 }
 
-/// How many of the requests are malformed, by the answers that are wanted.
+/// How many of the requests are malformed, by the answers that are expected.
 fn malformed(wanted: &Exchanges) -> usize {
     wanted
         .answers
@@ -136,7 +136,7 @@ fn all_calls_of(alloc: Global, wanted: &Exchanges) -> Result<Calls, Failure> {
     }
 }
 
-/// In one run the calls are answered as one by one and as wanted, and leave the same rows.
+/// In one run the calls are answered as one by one and as expected, and leave the same rows.
 pub fn check_run<B: Books + Drop>(
     alloc: Global,
     ours: B,
@@ -152,10 +152,10 @@ pub fn check_run<B: Books + Drop>(
     check_rows(&mut ours, &mut theirs, &wanted.units)
 }
 
-/// So few that each example has units for which there is no room beside another.
+/// So few that each example has units that do not fit beside one another.
 const FEW_ROWS: u128 = 12;
 
-/// With rows at hand, many or few, a keeper answers as wanted and holds what it holds without them.
+/// With rows at hand, many or few, a keeper answers as expected and holds what it holds without them.
 fn check_mirrors(alloc: Global, wanted: &Exchanges) -> Result<(), Failure> {
     for limit in [ROWS_AT_HAND, FEW_ROWS] {
         let ours = mirrored(alloc, lists(alloc)?, limit)?;
@@ -166,7 +166,7 @@ fn check_mirrors(alloc: Global, wanted: &Exchanges) -> Result<(), Failure> {
     Ok(())
 }
 
-/// Over each keeper the exchanges are answered as wanted, also in one run, and both keep the same rows.
+/// Over each keeper the exchanges are answered as expected, also in one run, and both keep the same rows.
 pub fn check_example(alloc: Global, wanted: &Exchanges) -> Result<(), Failure> {
     check_session(alloc, lists(alloc)?, wanted)?;
     check_session(alloc, tables(alloc)?, wanted)?;

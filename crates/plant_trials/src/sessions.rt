@@ -38,7 +38,7 @@ pub fn tables(alloc: Global) -> Result<Tables<MemStore>, Failure> {
     }
 }
 
-/// These books with rows at hand, of which there may be so many.
+/// These books with at most so many rows at hand.
 pub fn mirrored<B: Books + Drop>(
     alloc: Global,
     books: B,
@@ -88,7 +88,7 @@ fn copy(alloc: Global, bytes: &[u8]) -> Result<String, Failure> {
     Ok(out)
 }
 
-/// What was answered is what is wanted.
+/// What was answered is what is expected.
 pub fn check_answers(alloc: Global, found: &[u8], wanted: &[u8]) -> Result<(), Failure> {
     if found == wanted {
         return Ok(());
@@ -119,7 +119,7 @@ pub fn after<B: Books + Drop>(
     Ok(books)
 }
 
-/// The requests are answered as wanted, and the session ends with its input.
+/// The requests are answered as expected, and the session ends with its input.
 pub fn check_session<B: Books + Drop>(
     alloc: Global,
     books: B,

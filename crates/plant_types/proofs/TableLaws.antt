@@ -70,7 +70,7 @@ module _ {K X : Type 0} (R : K → K → Ordering) (key : X → K) where
     same_rows xs ys g h is =
         sym (unkeyed xs) ∙ ap (map (λ e. e.1)) (same_entries R o same (keyed xs) (keyed ys) g h (λ q. sym (row_at-found q xs) ∙ is q ∙ row_at-found q ys)) ∙ unkeyed ys
 
-    -- rows told from keys, where a key's row has that key
+    -- rows from their keys, where a key's row has that key
     module _ (row : K → Option X) (at_key : (k : K) (r : X) → row k ≡ Some r → key r ≡ k) where
       pub row_at-told : (q : K) (ks : List K) → row_at R key q (filter_map row ks) ≡ cond (is_some (row_at R (λ k. k) q ks)) (row q) None
       row_at-told q [] = refl
@@ -133,7 +133,7 @@ module _ {K : Type 0} (R : K → K → Ordering) (o : IsTotalOrder R) (same : (x
   row_at-in_order q (k ∷ ks) =
       ap is_some (row_at-put_row R (λ k. k) o same q k (in_order R ks)) ∙ is_some-cond (eq_by_cmp R q k) k _ ∙ ap (λ b. eq_by_cmp R q k || b) (row_at-in_order q ks)
 
--- the rows of these keys are told by a function: its rows have their keys, and it has none at other keys
+-- a function gives the rows of these keys: its rows have their keys, and it has none at other keys
 pub record Tells {K X : Type 0} (R : K → K → Ordering) (key : X → K) (row : K → Option X) (ks : List K) : Type 0 where
   pub order : IsTotalOrder R
   pub same : (x y : K) → R x y ≡ Equal → x ≡ y
@@ -149,7 +149,7 @@ module _ {K X : Type 0} {R : K → K → Ordering} {key : X → K} where
   pub IsInOrder-rows : (row : K → Option X) (ks : List K) → Tells R key row ks → IsInOrder R key (filter_map row (in_order R ks))
   IsInOrder-rows row ks t = IsInOrder-told R key t.order t.same row t.at_key (in_order R ks) (IsInOrder-in_order R t.order t.same ks)
 
-  -- the row at a key is what the function tells
+  -- the row at a key is what the function gives
   pub row_at-rows : (row : K → Option X) (ks : List K) → Tells R key row ks → (q : K) → row_at R key q (filter_map row (in_order R ks)) ≡ row q
   row_at-rows row ks t q =
       row_at-told R key t.order t.same row t.at_key q (in_order R ks)

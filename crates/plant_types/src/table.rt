@@ -64,7 +64,7 @@ impl<T: Drop> Table<T> {
         self.rows.is_empty()
     }
 
-    /// Puts a value at the end. Where memory is wanted, the list is as before.
+    /// Puts a value at the end. If memory runs out, the list is unchanged.
     pub fn push(&mut self, row: T) -> Result<(), Fault>
         ensures ok { OnOk result (self.new ≡ self.old ++ row ∷ []) }
         ensures err { OnErr result (self.new ≡ self.old) }
@@ -73,8 +73,8 @@ impl<T: Drop> Table<T> {
         Ok(self.rows.push(row)?)
     }
 
-    /// Puts a value before the one at that place, counted from 0; at the end where there is none.
-    /// Where memory is wanted, the list is as before.
+    /// Puts a value before the one at that place, counted from 0; at the end if the place is past it.
+    /// If memory runs out, the list is unchanged.
     pub fn insert_at(&mut self, place: usize, row: T) -> Result<(), Fault>
         ensures ok { OnOk result (self.new ≡ insert self.old place row) }
         ensures err { OnErr result (self.new ≡ self.old) }
@@ -87,7 +87,7 @@ impl<T: Drop> Table<T> {
         }
     }
 
-    /// Puts a value in the place of the one that is there, counted from 0. Where there is none,
+    /// Puts a value in the place of the one that is there, counted from 0. Past the end
     /// nothing changes.
     pub fn replace_at(&mut self, place: usize, row: T)
         ensures { self.new ≡ slice_set self.old place row }
@@ -97,7 +97,7 @@ impl<T: Drop> Table<T> {
         }
     }
 
-    /// Takes out the value at that place, counted from 0. Where there is none, nothing changes.
+    /// Takes out the value at that place, counted from 0. Past the end nothing changes.
     pub fn remove_at(&mut self, place: usize) -> Option<T>
         ensures taken { result ≡ slice_get self.old place }
         ensures rest { self.new ≡ remove self.old place }

@@ -32,7 +32,7 @@ pub stops_writing : (last : Last) (r : Result (Unit {0}) Stop) → IfErr r (λ s
 stops_writing last (Ok u) is = tt
 stops_writing last (Err stop) is = subst (StopsFor last) (sym is) tt
 
--- what is no fault was said
+-- what is not a fault was said
 pub said_unless : (answer : Answer) → ((fault : faults.Fault) → answer ≡ answers.Fault fault → ⊥) → IsSaid answer
 said_unless (answers.Reply r) none = tt
 said_unless (answers.Refused r) none = tt

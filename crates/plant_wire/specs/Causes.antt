@@ -1,4 +1,4 @@
--- The answer to a request that is no call.
+-- The answer to a malformed request.
 use Rattle.std.specs.Prelude.{ℕ, List, ◌++◌, codes, decimal}
 use Rattle.plant_answer.specs.Json.{quoted}
 use Rattle.plant_answer.specs.Response.{response}

@@ -1,5 +1,5 @@
 -- What a session did, by how it ended. r is what the reader had left before and r' after, where that is known, and o
--- and o' what the writer holds; `ended` tells whether the input's end was seen; f and f' count failed reads, g and g'
+-- and o' what the writer holds; `ended` says whether the input's end was seen; f and f' count failed reads, g and g'
 -- failed writes, k and k' reads.
 use Rattle.std.specs.Prelude.{◌≡◌, ◌⊎◌, ◌<◌, ◌≤◌, ◌+◌, ℕ, List, [], ◌++◌, length, Bool, IsTrue, Option}
 use Rattle.std.specs.Io.KnownBytes.{Consumes, IsAtEnd}
@@ -25,7 +25,7 @@ IsRead r r' ended f f' k k' old new read.Fault = (bytes : List ℕ) × Consumes 
 abbrev pub IsIdle : List ℕ → Type 0
 IsIdle rest = (rest ≡ []) ⊎ StandsAtFront rest waits
 
--- the input ended, and something was left that is no whole request
+-- the input ended, and what was left is not a whole request
 pub record IsCutShort (bytes : List ℕ) (r' : Option (List ℕ)) (ended : Bool) (o o' : Option (List ℕ)) (ran : List Call → List Answer → Type 0) : Type 0 where
   pub seen : IsTrue ended
   pub nothing_left : IsAtEnd r'

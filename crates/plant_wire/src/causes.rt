@@ -6,7 +6,7 @@ use plant_call::Cause;
 use plant_types::Fault;
 use std::alloc::Global;
 
-/// The bytes of the answer to a request that is no call.
+/// The bytes of the answer to a malformed request.
 pub(crate) fn cause_text(cause: Cause) -> &'static [u8]
     ensures { result.now ≡ spec.cause_text cause }
 {

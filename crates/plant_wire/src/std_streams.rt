@@ -18,7 +18,7 @@ pub struct FromRead<R: Read> {
 }
 
 impl<R: Read> FromRead<R> {
-    /// The inlet over this reader, of which no read was made.
+    /// The inlet over this reader, before its first read.
     pub fn new(reader: R) -> FromRead<R>
         ensures reader { result.reader ≡ reader }
         ensures unread { result.reads ≡ 0 }
@@ -78,7 +78,7 @@ pub struct ToWrite<W: Write> {
 }
 
 impl<W: Write> ToWrite<W> {
-    /// The outlet over this writer, of which no write failed.
+    /// The outlet over this writer, before any failed write.
     pub fn new(writer: W) -> ToWrite<W>
         ensures writer { result.writer ≡ writer }
         ensures fresh { result.error ≡ None }

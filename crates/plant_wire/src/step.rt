@@ -52,7 +52,7 @@ fn put_text<O: Outlet>(outlet: &mut O, text: &[u8]) -> Result<(), Stop>
     }
 }
 
-/// The answer to a request that is no call takes no memory, so that only a write that fails can stop it.
+/// The answer to a malformed request takes no memory, so only a failed write can stop it.
 fn put_cause<O: Outlet>(outlet: &mut O, cause: Cause) -> Result<(), Stop>
     ensures does { IsPut (O.written outlet.old) (O.written outlet.new) (spec.cause_text cause) result }
     ensures stalls { Stalls (O.failures outlet.old) (O.failures outlet.new) result }

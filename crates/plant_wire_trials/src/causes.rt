@@ -1,4 +1,4 @@
-//! Requests that are no calls, with their answers as bytes.
+//! Malformed requests, with their answers as bytes.
 
 use crate::exchanges::{NO_ROUTE, NOTHING, STATUS};
 use crate::streams::{answers, joined};

@@ -53,7 +53,7 @@ fn stops_where_a_later_read_fails(rt: HostRuntime) {
     has_no_read(&rt, rt.alloc(), 1, 1617);
 }
 
-/// The end of a session of which the write after so many fails, and what was written in how many writes.
+/// The end of a session whose write after so many fails, and what was written in how many writes.
 #[derive(Drop)]
 struct Written {
     end: End,
