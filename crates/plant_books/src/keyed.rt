@@ -33,7 +33,7 @@ fn place_of<T: Keyed>(rows: &[T], row: &T) -> Result<usize, usize>
 }
 
 /// Puts a row in the place of the row of its key, or where it belongs in the order of keys.
-/// Where memory is wanted, the rows are as before.
+/// If memory runs out, the rows are unchanged.
 pub fn put<T: Keyed>(rows: &mut Table<T>, row: T) -> Result<(), Fault>
     ensures ok { OnOk result (rows.new ≡ put_row T.order (λ r. r) row rows.old) }
     ensures err { OnErr result (rows.new ≡ rows.old) }

@@ -240,7 +240,7 @@ pub fn shelves_held(
 }
 
 /// Makes the changes to the rows of a unit, which is put among the others where it was never
-/// opened. Where memory is wanted, nothing changes.
+/// opened. If memory runs out, nothing changes.
 pub fn change_unit(
     alloc: Global,
     units: &mut Table<OpenedUnit>,

@@ -122,7 +122,7 @@ impl Copies {
     }
 
     /// Keeps a copy of a unit's rows, in the place of those that were longest not used. Nothing is kept of a unit that has
-    /// more rows than may be at hand, nor where memory is wanted.
+    /// more rows than may be at hand, nor if memory runs out.
     pub fn keep(&mut self, unit: UnitCode, copy: AtHand)
         ensures kept { (there : There) → IsCopy there (unit, copy) → AreCopies there self.old.units.entries → AreCopies there self.new.units.entries }
     {

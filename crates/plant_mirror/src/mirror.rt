@@ -85,7 +85,7 @@ impl<B: Books> Mirror<B> {
         }
     }
 
-    /// Brings the unit's rows to hand, with the events or without, if it was opened and there is memory.
+    /// Reads the unit's rows, with the events or without, and keeps them at hand if memory suffices.
     fn bring(&mut self, unit: &UnitCode, has_events: bool) -> Result<(), Fault>
         ensures same { (m : Content) → IsMirrored (B.holds self.old.books) (B.can_tell self.old.books) self.old.copies.units.entries m → IsMirrored (B.holds self.new.books) (B.can_tell self.new.books) self.new.copies.units.entries m }
         ensures told { B.can_tell self.new.books → B.can_tell self.old.books }
@@ -97,7 +97,7 @@ impl<B: Books> Mirror<B> {
         Ok(())
     }
 
-    /// Brings the events of a unit to hand, the other rows of which are.
+    /// Reads the events of a unit whose other rows are at hand, and keeps them there.
     fn bring_events(&mut self, unit: &UnitCode) -> Result<(), Fault>
         ensures same { (m : Content) → IsMirrored (B.holds self.old.books) (B.can_tell self.old.books) self.old.copies.units.entries m → IsMirrored (B.holds self.new.books) (B.can_tell self.new.books) self.new.copies.units.entries m }
         ensures told { B.can_tell self.new.books → B.can_tell self.old.books }

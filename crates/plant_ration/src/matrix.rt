@@ -61,7 +61,7 @@ impl Matrix {
     }
 
     /// The cell in the row of the severity, from 1, and in the band of the time to respond: the first
-    /// band whose limit is above that time, else the last. `None` exactly if there is no such row.
+    /// band whose limit is above that time, else the last. `None` exactly if the matrix has no row for the severity.
     pub fn priority(&self, severity: u8, response: Seconds) -> Option<Cell>
         ensures value { result ≡ priority_of self.now severity response }
         ensures row { IsSome result ↔ IsTrue (is_row self.now severity) }

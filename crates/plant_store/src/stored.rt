@@ -46,7 +46,7 @@ pub trait Stored: Shown {
         ensures reads { (u : Name) → Reads Self.width Self.cells (seen u) (TextValue u ∷ []) result.now }
         ensures text { result.now ≡ select_text };
 
-    /// Writes the row over the one of its key, in a table whose rows change, and tells how many rows it wrote.
+    /// Updates the row with the same key, and returns how many rows were written. Rows of some tables never change: 0.
     fn update<S: Alter>(&self, tx: &mut Transaction<'_, S>, unit: &UnitCode) -> Result<usize, Error>
         ensures same_reference { tx.new.conn.ghost_name ≡ tx.old.conn.ghost_name }
         ensures made { HasCleanDisk (state S.Store tx.new.conn.now) → IsTrue tx.old.conn.now.in_transaction → AreBooks (state S.Store tx.old.conn.now).now

@@ -33,7 +33,7 @@ pub fn run<S: Alter>(
     Ok(())
 }
 
-/// Runs one statement, and tells how many rows it wrote.
+/// Runs one statement and returns how many rows it wrote.
 pub fn run_counting<S: Alter>(
     tx: &mut Transaction<'_, S>,
     sql: &str,

@@ -119,7 +119,7 @@ fn leaves_the_older_files_as_they_are(rt: HostRuntime) {
     assert!(rt; before.1 == behind.1);
 }
 
-/// If there is no log, the engine writes the head of a new one, and no row.
+/// If there is no log, the engine creates one with a header and no rows.
 #[test]
 fn leaves_a_closed_file_as_it_is(rt: HostRuntime) {
     let alloc = rt.alloc();

@@ -55,7 +55,7 @@ pub fn shelf_of<'a>(shelves: &'a [ShelfRow], tag: &Tag) -> Option<&'a ShelfRow>
     shelves.iter().find(|row| *tag == row.tag)
 }
 
-/// The shelf that a row tells; no row is no shelf.
+/// The shelf of a row, or no shelf without a row.
 pub fn shelf_left(row: Option<&ShelfRow>) -> Shelf
     ensures { result ≡ shelves.shelf_left (option_copied row.entry) }
 {
