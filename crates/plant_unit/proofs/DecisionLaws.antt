@@ -31,7 +31,7 @@ use Rattle.plant_unit.proofs.ProposalLaws.{not_rejected}
 use Rattle.plant_unit.specs.Additions.{AreKept}
 use Rattle.plant_unit.specs.Readings.{change_whole, has_kind}
 use Rattle.std.specs.Ordering.{nat_cmp}
-use Rattle.plant_unit.specs.Judged.{IsApproved, IsJudgedOwn, changes_or, decided_row, own_answer}
+use Rattle.plant_unit.specs.Judged.{IsApproved, IsJudgedOwn, decided_or, decided_row, own_answer}
 
 -- the row of a change that was found, and the change that is read from it
 pub found_there : (rows : UnitRows) (n : ℕ) (changes : List ChangeEntry) (found : Option ChangeEntry) (e : ChangeEntry) → found ≡ Some e → found ≡ row_at nat_cmp change_number n changes → changes ≡ rows.changes → Some e ≡ change_found rows n
@@ -50,14 +50,14 @@ whole_read {part} n e c kept found is = when_true (has_kind part.rows e e.kind_n
 
 -- a decision on a change that is there
 pub refused_change : (o : Option ChangeRow) (c : ChangeRow) → Some c ≡ o → (k : ChangeRow → List (Bool × Refused)) (made : ChangeRow → List Change) (x : Refused) → Some x ≡ first_refusal (of_change (Some c) k)
-    → Err x ≡ changes_or (first_refusal (of_change o k)) (for_change o made)
-refused_change o c there k made x is = ap (λ r. changes_or r (made c)) is ∙ (λ i. changes_or (first_refusal (of_change (there i) k)) (for_change (there i) made))
+    → Err x ≡ decided_or (first_refusal (of_change o k)) (for_change o made)
+refused_change o c there k made x is = ap (λ r. decided_or r (made c)) is ∙ (λ i. decided_or (first_refusal (of_change (there i) k)) (for_change (there i) made))
 
 pub decided_change : (o : Option ChangeRow) (c : ChangeRow) (e : ChangeEntry) → Some c ≡ o → change_entry c ≡ e → (k : ChangeRow → List (Bool × Refused)) (s : ChangeState) (p : Name) (t : ℕ) (put : Change) → put ≡ Put (ChangePut (decided_row s p t e))
-    → None ≡ first_refusal (of_change (Some c) k) → Ok (put ∷ []) ≡ changes_or (first_refusal (of_change o k)) (for_change o (λ x. decision_change s p t x ∷ []))
+    → None ≡ first_refusal (of_change (Some c) k) → Ok (put ∷ []) ≡ decided_or (first_refusal (of_change o k)) (for_change o (λ x. decision_change s p t x ∷ []))
 decided_change o c e there kept k s p t put is none =
-    (λ i. Ok (is i ∷ [])) ∙ (λ i. Ok (Put (ChangePut (decided_row s p t (sym kept i))) ∷ [])) ∙ ap (λ r. changes_or r (decision_change s p t c ∷ [])) none
-    ∙ (λ i. changes_or (first_refusal (of_change (there i) k)) (for_change (there i) (λ x. decision_change s p t x ∷ [])))
+    (λ i. Ok (is i ∷ [])) ∙ (λ i. Ok (Put (ChangePut (decided_row s p t (sym kept i))) ∷ [])) ∙ ap (λ r. decided_or r (decision_change s p t c ∷ [])) none
+    ∙ (λ i. decided_or (first_refusal (of_change (there i) k)) (for_change (there i) (λ x. decision_change s p t x ∷ [])))
 
 pub refused_there : (o : Option ChangeRow) (c : ChangeRow) → Some c ≡ o → (p : Name) (x : Refused) → Some x ≡ first_refusal (of_change (Some c) (λ y. (same_name p y.proposer, SamePerson) ∷ [])) → Some x ≡ first_refusal (of_change o (λ y. (same_name p y.proposer, SamePerson) ∷ []))
 refused_there o c there p x is = is ∙ ap (λ z. first_refusal (of_change z (λ y. (same_name p y.proposer, SamePerson) ∷ []))) there

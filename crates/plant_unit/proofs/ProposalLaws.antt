@@ -1,30 +1,51 @@
 -- The refusals of calls on changes.
 use Rattle.std.proofs.Common.{ap, cond, refl, sym, ◌∙◌}
-use Rattle.std.specs.Cmp.{tied_itself}
-use Rattle.std.specs.Ordering.{is_eq}
-use Rattle.std.specs.Prelude.{Bool, Err, IfOk, List, None, Ok, Option, Result, Some, [], false, not, true, ℕ, ◌∷◌, ◌≡◌}
+use Rattle.std.specs.Prelude.{Bool, Err, IfOk, List, None, Ok, Option, Result, Some, [], false, is_some, not, true, ℕ, ◌∷◌, ◌≡◌}
+use Rattle.std.specs.Result.{result_err}
+use Rattle.plant_model.proofs.FactLaws.{is_same_number, same_number_of}
+use Rattle.plant_model.specs.Changes.{priority_by}
 use Rattle.plant_model.specs.Facts.{Facts}
 use Rattle.plant_model.specs.Histories.{same_number}
-use Rattle.plant_model.specs.Refusals.{first_refusal, has_row, is_not_needed, is_open, kind_refusals, of_change}
+use Rattle.plant_model.specs.Refusals.{first_refusal, is_not_needed, is_open, of_change}
 use Rattle.plant_model.specs.declared.reply.ChangeRow.{ChangeRow}
 use Rattle.plant_model.specs.declared.reply.Refused.TheVariants.{BaseChanged, NotAnAlarm, NotProposed, OutsideMatrix, SamePerson}
 use Rattle.plant_model.specs.declared.reply.Refused.{Refused}
+use Rattle.plant_ration.specs.Grid.{Grid}
 use Rattle.plant_ration.specs.Matrix.{priority_of}
-use Rattle.plant_ration.specs.declared.change.ChangeKind.TheVariants.{Rationale}
+use Rattle.plant_ration.specs.declared.cell.Cell.{Cell}
 use Rattle.plant_ration.specs.declared.change.Sheet.{Sheet}
-use Rattle.plant_types.proofs.Orders.{number_total}
 use Rattle.plant_types.specs.Names.{Name}
+use Rattle.plant_unit.proofs.ReadingLaws.{no_row}
+use Rattle.plant_unit.specs.Judged.{decided_or, record_decision, sheet_decision, sheet_refusals}
 
-same_itself : (n : ℕ) → same_number n n ≡ true
-same_itself n = ap is_eq (tied_itself number_total n)
+-- of a record whose base is the revision in force, its sheet is decided by the matrix in force
+pub base_decided : (f : Facts) (base revision : ℕ) (a : Name) (s : Sheet) → base ≡ revision → revision ≡ f.revision a → sheet_decision f.matrix s.severity s.response ≡ record_decision f base a s
+base_decided f base revision a s same is =
+    let test : same_number base (f.revision a) ≡ true = ap (λ n. same_number n (f.revision a)) (same ∙ is) ∙ is_same_number (f.revision a) in
+    let rest : Option Refused = first_refusal (sheet_refusals f.matrix s.severity s.response) in
+    sym (ap (λ b. decided_or (cond (not b) (Some (BaseChanged (f.revision a))) rest) (priority_by f.matrix s.severity s.response)) test)
 
--- of a record whose base is the revision in force
-pub base_kept : (f : Facts) (base revision : ℕ) (a : Name) (s : Sheet) → base ≡ revision → revision ≡ f.revision a
-    → first_refusal ((not (has_row f.matrix s.severity), OutsideMatrix) ∷ (is_not_needed (priority_of f.matrix s.severity s.response), NotAnAlarm) ∷ []) ≡ first_refusal (kind_refusals f base (Rationale a s))
-base_kept f base revision a s same is =
-    let rest : Option Refused = first_refusal ((not (has_row f.matrix s.severity), OutsideMatrix) ∷ (is_not_needed (priority_of f.matrix s.severity s.response), NotAnAlarm) ∷ []) in
-    let test : same_number base (f.revision a) ≡ true = ap (λ n. same_number n (f.revision a)) (same ∙ is) ∙ same_itself (f.revision a) in
-    sym (ap (λ b. cond (not b) (Some (BaseChanged (f.revision a))) rest) test)
+-- the refusal of a decision
+pub refusal_told : {A : Type 0} (refused : Option Refused) (decided : A) → result_err (decided_or refused decided) ≡ refused
+refusal_told None decided = refl
+refusal_told (Some r) decided = refl
+
+-- a record with a priority: its base is the revision in force, and the priority is by the matrix in force
+pub record_made : (f : Facts) (base : ℕ) (a : Name) (s : Sheet) (cell : Cell) → Ok cell ≡ record_decision f base a s → (base ≡ f.revision a) × (cell ≡ priority_by f.matrix s.severity s.response)
+record_made f base a s cell is =
+    by (same_number base (f.revision a)) (first_refusal (sheet_refusals f.matrix s.severity s.response)) refl is
+  where
+    by : (b : Bool) (rest : Option Refused) → same_number base (f.revision a) ≡ b → Ok cell ≡ decided_or (cond (not b) (Some (BaseChanged (f.revision a))) rest) (priority_by f.matrix s.severity s.response)
+        → (base ≡ f.revision a) × (cell ≡ priority_by f.matrix s.severity s.response)
+    by true None same e = (same_number_of base (f.revision a) same, cc)
+    by true (Some r) same e = cc
+    by false rest same e = cc
+
+-- a matrix without rows refuses each sheet
+pub bare_sheet : (m : Grid) (severity response : ℕ) → m.cells ≡ [] → Err OutsideMatrix ≡ sheet_decision m severity response
+bare_sheet m severity response bare =
+    let needless : Bool = is_not_needed (priority_of m severity response) in
+    ap (λ (row : Option (List Cell)). decided_or (first_refusal ((not (is_some row), OutsideMatrix) ∷ (needless, NotAnAlarm) ∷ [])) (priority_by m severity response)) (sym (no_row m severity bare))
 
 -- an approval is refused as a rejection is, and then for the change itself
 pub as_rejected : (o : Option ChangeRow) (same : ChangeRow → Bool) (rest : ChangeRow → List (Bool × Refused)) (r : Refused) → Some r ≡ first_refusal (of_change o (λ c. (same c, SamePerson) ∷ [])) → Some r ≡ first_refusal (of_change o (λ c. (same c, SamePerson) ∷ rest c))

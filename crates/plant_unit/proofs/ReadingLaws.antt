@@ -1,13 +1,11 @@
 -- What is read from rows.
-use Rattle.plant_model.specs.Changes.{priority_by}
 use Rattle.plant_model.specs.RowFacts.{change_found, facts_in, record_found, record_from, record_read, sheet_read, unit_read}
 use Rattle.plant_model.specs.declared.reply.RecordRow.{RecordRow}
 use Rattle.plant_model.specs.declared.rows.ChangeEntry.{ChangeEntry}
 use Rattle.plant_model.specs.declared.rows.RecordEntry.{RecordEntry}
 use Rattle.plant_model.specs.declared.rows.UnitPart.{UnitPart}
 use Rattle.plant_model.specs.declared.rows.UnitRow.{UnitRow}
-use Rattle.plant_ration.specs.Matrix.{band, row_of}
-use Rattle.plant_ration.specs.declared.cell.Cell.TheVariants.{N}
+use Rattle.plant_ration.specs.Matrix.{row_of}
 use Rattle.plant_types.specs.Names.{Name, same_name}
 use Rattle.plant_unit.specs.Additions.{AreKept}
 use Rattle.plant_model.specs.Refusals.{has_row}
@@ -111,9 +109,6 @@ no_row m severity e = ap (λ (rows : List (List Cell)). cond (severity == 0) Non
     by : (b : Bool) → cond b None (let none : Option (List Cell) = slice_get [] (severity - 1) in none) ≡ None
     by true = refl
     by false = refl
-
-pub no_priority : (m : Grid) (severity response : ℕ) → m.cells ≡ [] → priority_by m severity response ≡ N
-no_priority m severity response e = ap (λ (o : Option (List Cell)). unwrap_or (option_and_then (λ row. slice_get row (band m.limits response)) o) N) (no_row m severity e)
 
 -- what is told of the records that are read
 pub any_told : {X Y : Type 0} (g : Y → Bool) (f : X → Option Y) (xs : List X) → list_any (λ x. unwrap_or (option_map g (f x)) false) xs ≡ list_any g (filter_map f xs)

@@ -17,7 +17,7 @@ use Rattle.plant_model.specs.declared.rows.Row.TheVariants.{Unit as UnitPut}
 use Rattle.plant_model.specs.declared.rows.UnitRow.{UnitRow}
 use Rattle.plant_model.specs.declared.rows.Verdict.{Verdict}
 use Rattle.plant_model.specs.declared.rows.Verdict.TheVariants.{Accepted as IsAccepted, Refused as IsRefused}
-use Rattle.plant_unit.specs.Judged.{IsJudgedOwn, answered_as, changes_or, decision, done_as, one_change, own_answer}
+use Rattle.plant_unit.specs.Judged.{IsJudgedOwn, answered_as, decided_or, decision, done_as, one_change, own_answer}
 
 abbrev own : Facts → Call → Option Refused
 own f c = first_refusal (own_refusals f c.person c.moment c.request)
@@ -56,7 +56,7 @@ read_own f c a reads is = by a is where
 -- a change that was decided is made beside that of the unit's row
 pub done_own : (f : Facts) (c : Call) (d : Result Change Refused) → says f c ≡ Done → is_read c.request ≡ false → unit_after f c.moment c.request ≡ record f.unit { last_s = c.moment } → one_change d ≡ decision f c.person c.moment c.request → IsJudgedOwn f c (done_as (record f.unit { last_s = c.moment }) d)
 done_own f c d is changing row made = by d (own f c) refl made where
-  by : (d : Result Change Refused) (o : Option Refused) → own f c ≡ o → one_change d ≡ changes_or o (own_changes f c.person c.moment c.request) → IsJudgedOwn f c (done_as (record f.unit { last_s = c.moment }) d)
+  by : (d : Result Change Refused) (o : Option Refused) → own f c ≡ o → one_change d ≡ decided_or o (own_changes f c.person c.moment c.request) → IsJudgedOwn f c (done_as (record f.unit { last_s = c.moment }) d)
   by (Err x) None e same = cc
   by (Err x) (Some y) e same = let it : y ≡ x = cc in refused_own f c x (e ∙ ap (λ (z : Refused). Some z) it)
   by (Ok change) None e same =

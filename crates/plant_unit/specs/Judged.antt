@@ -1,5 +1,6 @@
 -- What a judgement says.
 use Rattle.std.specs.Prelude.{Bool, Err, List, None, Ok, Option, Result, Some, [], false, if◌then◌else◌, is_ok, nat_lt, not, true, ℕ, ◌++◌, ◌∷◌, ◌≡◌}
+use Rattle.plant_model.specs.Changes.{priority_by}
 use Rattle.plant_model.specs.declared.call.Call.{Call}
 use Rattle.plant_model.specs.declared.call.Request.{Request}
 use Rattle.plant_model.specs.declared.call.Request.TheVariants.{Import}
@@ -11,8 +12,13 @@ use Rattle.plant_model.specs.declared.rows.Change.TheVariants.{Put}
 use Rattle.plant_model.specs.declared.reply.ChangeRow.{ChangeRow}
 use Rattle.plant_model.specs.declared.rows.ChangeEntry.{ChangeEntry}
 use Rattle.plant_model.specs.declared.rows.Row.TheVariants.{Change as ChangePut, Unit as UnitPut}
+use Rattle.plant_ration.specs.Grid.{Grid}
+use Rattle.plant_ration.specs.Matrix.{priority_of}
+use Rattle.plant_ration.specs.declared.cell.Cell.{Cell}
+use Rattle.plant_ration.specs.declared.change.ChangeKind.TheVariants.{Rationale}
 use Rattle.plant_ration.specs.declared.change.ChangeState.{ChangeState}
 use Rattle.plant_ration.specs.declared.change.ChangeState.TheVariants.{Approved}
+use Rattle.plant_ration.specs.declared.change.Sheet.{Sheet}
 use Rattle.plant_model.specs.declared.rows.UnitPart.{UnitPart}
 use Rattle.plant_model.specs.declared.rows.UnitRow.{UnitRow}
 use Rattle.plant_model.specs.declared.rows.Verdict.{Verdict}
@@ -20,9 +26,9 @@ use Rattle.plant_model.specs.declared.rows.Verdict.TheVariants.{Accepted as IsAc
 use Rattle.plant_model.specs.Facts.{Facts}
 use Rattle.plant_model.specs.Legality.{IsLegal}
 use Rattle.plant_model.specs.Parts.{part_of}
-use Rattle.plant_model.specs.Refusals.{first_refusal, holds_some, kind_refusals, lacks_role, own_refusals, role_needed}
+use Rattle.plant_model.specs.Refusals.{first_refusal, has_row, holds_some, is_not_needed, kind_refusals, lacks_role, own_refusals, role_needed}
 use Rattle.plant_model.specs.Replies.{reply}
-use Rattle.plant_model.specs.declared.reply.Refused.TheVariants.{MomentBehind, NotGranted}
+use Rattle.plant_model.specs.declared.reply.Refused.TheVariants.{MomentBehind, NotAnAlarm, NotGranted, OutsideMatrix}
 use Rattle.plant_model.specs.RowChanges.{changed_by, changes_for, in_force, kind_row, no_rows, own_changes, puts_unit}
 use Rattle.plant_model.specs.Rows.{rows_of}
 use Rattle.plant_model.specs.Verdicts.{after, changes_history, refused_or, verdict, verdict_of}
@@ -33,14 +39,15 @@ abbrev pub is_import : Request → Bool
 is_import (Import u file) = true
 is_import _ = false
 
+-- what is decided, unless it is refused
+abbrev pub decided_or : {A : Type 0} → Option Refused → A → Result A Refused
+decided_or None decided = Ok decided
+decided_or (Some refused) decided = Err refused
+
 -- what is decided about a request of one who may make it: its first refusal, else the changes that it makes beside that of the
 -- unit's row
-abbrev pub changes_or : Option Refused → List Change → Result (List Change) Refused
-changes_or None changes = Ok changes
-changes_or (Some refused) changes = Err refused
-
 abbrev pub decision : Facts → Name → ℕ → Request → Result (List Change) Refused
-decision f p t r = changes_or (first_refusal (own_refusals f p t r)) (own_changes f p t r)
+decision f p t r = decided_or (first_refusal (own_refusals f p t r)) (own_changes f p t r)
 
 -- the same where it makes one change
 abbrev pub one_change : Result Change Refused → Result (List Change) Refused
@@ -50,6 +57,17 @@ one_change (Ok change) = Ok (change ∷ [])
 -- what is answered to such a request, by its own refusals
 abbrev pub own_answer : Facts → Name → ℕ → Request → Result Reply Refused
 own_answer f p t r = refused_or (first_refusal (own_refusals f p t r)) (reply f t r)
+
+-- the refusals of a sheet by a matrix
+abbrev pub sheet_refusals : Grid → ℕ → ℕ → List (Bool × Refused)
+sheet_refusals m severity response = (not (has_row m severity), OutsideMatrix) ∷ (is_not_needed (priority_of m severity response), NotAnAlarm) ∷ []
+
+-- the priority of a sheet by a matrix, and that of a record with this base by the matrix in force, or the first refusal
+abbrev pub sheet_decision : Grid → ℕ → ℕ → Result Cell Refused
+sheet_decision m severity response = decided_or (first_refusal (sheet_refusals m severity response)) (priority_by m severity response)
+
+abbrev pub record_decision : Facts → ℕ → Name → Sheet → Result Cell Refused
+record_decision f base a s = decided_or (first_refusal (kind_refusals f base (Rationale a s))) (priority_by f.matrix s.severity s.response)
 
 -- a verdict that makes the change of a decision and that of the unit's row, and one that only answers
 abbrev pub done_as : UnitRow → Result Change Refused → Verdict

@@ -2,6 +2,7 @@
 use Rattle.plant_model.specs.Refusals.{has_row}
 use Rattle.plant_model.specs.RowFacts.{change_found, change_read, record_read, kind_read, matrix_read, sheet_read}
 use Rattle.plant_model.specs.declared.reply.ChangeRow.{ChangeRow}
+use Rattle.plant_model.specs.declared.rows.AlarmRow.{AlarmRow}
 use Rattle.plant_model.specs.declared.rows.ChangeEntry.{ChangeEntry}
 use Rattle.plant_model.specs.declared.rows.ChangeTopic.{ChangeTopic}
 use Rattle.plant_model.specs.declared.rows.ChangeTopic.TheVariants.{Limit, Matrix, Record}
@@ -51,3 +52,7 @@ has_its_sheet rows r = unwrap_or (option_map has_sheet (change_found rows r.chan
 -- the severity of a record that is read is no row of the matrix
 unfoldable pub is_outside : Grid → UnitRows → RecordEntry → Bool
 is_outside m rows r = unwrap_or (option_map (λ x. not (has_row m x.severity)) (record_read rows r)) false
+
+-- how many changes of an alarm's limit were approved; none where the alarm is not there
+abbrev pub limit_revision : Option AlarmRow → ℕ
+limit_revision alarm = unwrap_or (option_map (λ r. r.max_rev) alarm) 0

@@ -1,10 +1,11 @@
 //! Proposing changes, and deciding them.
 
-ghost use Rattle.std.specs.Prelude.{◌≡◌, ◌<◌, ◌+◌, ◌++◌, ◌∷◌, [], IfErr, IfOk, None, OnOk, Some, map, option_map, true, ℕ};
+ghost use Rattle.std.specs.Prelude.{◌≡◌, ◌<◌, ◌+◌, ◌++◌, IfErr, IfOk, None, OnOk, Some, map, option_map, true};
 ghost use Rattle.plant_types.specs.Names.{Name};
 ghost use Rattle.plant_types.specs.declared.fault.Fault.TheVariants.{Memory};
-ghost use Rattle.plant_ration.specs.declared.change.ChangeKind.TheVariants.{Limit, Rationale};
+ghost use Rattle.plant_ration.specs.declared.change.ChangeKind.TheVariants.{Limit, Matrix as MatrixKind, Rationale};
 ghost use Rattle.plant_model.specs.Changes.{priority_by};
+ghost use Rattle.plant_model.specs.Refusals.{first_refusal, kind_refusals};
 ghost use Rattle.plant_model.specs.RowChanges as row_changes;
 ghost use Rattle.plant_model.specs.RowChanges.{in_force, own_changes};
 ghost use Rattle.plant_model.specs.RowFacts.{facts_in, record_read, unit_read};
@@ -17,9 +18,12 @@ ghost use Rattle.plant_unit.specs.Additions.{AreKept};
 ghost use Rattle.plant_unit.specs.Judged.{IsApproved, IsJudgedOwn, decided_row, decision, one_change};
 ghost use Rattle.plant_unit.specs.Readings.{has_its_sheet};
 
-use crate::matrices::{matrix_of, push_matrix};
-use crate::proposals::{kind_refusal, proposal_refusal, rejection_refusal, withdrawal_refusal};
-use crate::reading::{change_from, entry_of, revision_of, source_of};
+use crate::matrices::push_matrix;
+use crate::proposals::{
+    limit_refusal, matrix_refusal, proposal_refusal, record_priority, rejection_refusal,
+    withdrawal_refusal,
+};
+use crate::reading::{change_from, entry_of, source_of};
 use crate::verdicts::moved;
 use plant_books::alarm_of;
 use plant_model::{
@@ -189,39 +193,36 @@ fn rated(matrix: &Matrix, severity: u8, response: Seconds) -> Cell
     matrix.priority(severity, response).unwrap_or(Cell::N)
 }
 
-/// The priority of a sheet by the matrix in force.
-fn rated_now(alloc: Global, unit: &UnitRow, part: &UnitPart, sheet: &Sheet) -> Result<Cell, Fault>
-    requires { unit_read part.now.rows ≡ unit.now }
-    ensures value { AreKept part.now → IfOk result (λ cell. cell ≡ priority_by (facts_in part.now).matrix sheet.now.severity sheet.now.response) }
-    ensures err { IfErr result (λ e. e ≡ Memory) }
-{
-    match matrix_of(alloc, &part.rows, unit.matrix_no)? {
-        None => Ok(Cell::N),
-        Some(matrix) => Ok(rated(&matrix, sheet.severity, sheet.response)),
-    }
-}
-
-/// Adds the change of a record that comes into force.
+/// Adds the change of a record that comes into force, or gives the first refusal of its base and
+/// its sheet.
 fn push_record(
     alloc: Global,
     changes: &mut Table<Change>,
     unit: &UnitRow,
     part: &UnitPart,
-    number: u32,
+    change: &ChangeRow,
     tag: &Tag,
     sheet: &Sheet,
-) -> Result<(), Fault>
+) -> Result<Option<Refused>, Fault>
     requires { unit_read part.now.rows ≡ unit.now }
-    ensures value { AreKept part.now → OnOk result (changes.new ≡ changes.old ++ in_force (facts_in part.now) number (Rationale tag.now sheet.now)) }
+    ensures refused { AreKept part.now → IfOk result (λ r. r ≡ first_refusal
+        (kind_refusals (facts_in part.now) change.now.base (Rationale tag.now sheet.now))) }
+    ensures added { AreKept part.now → IfOk result (λ r. r ≡ None
+        → changes.new ≡ changes.old
+        ++ in_force (facts_in part.now) change.now.number (Rationale tag.now sheet.now)) }
     ensures err { IfErr result (λ e. e ≡ Memory) }
 {
-    let cell_no = rated_now(alloc, unit, part, sheet)?;
+    let cell_no = match record_priority(alloc, unit, part, change.base, tag, sheet)? {
+        Err(refused) => return Ok(Some(refused)),
+        Ok(cell) => cell,
+    };
     changes.push(Change::Put(Row::Record(RecordEntry {
         tag: tag.copy(alloc)?,
-        change_no: number,
-        rev: revision_of(part, tag).saturating_add(1),
+        change_no: change.number,
+        rev: change.base.saturating_add(1),
         cell_no,
-    })))
+    })))?;
+    Ok(None)
 }
 
 /// The row of a record with its priority by a matrix, where the change that it came from is there.
@@ -267,6 +268,31 @@ fn push_rerated(
     Ok(())
 }
 
+/// Adds the changes of all records, with their priorities by a matrix that comes into force, or
+/// gives the first refusal of its base and its rows.
+fn push_matrix_in_force(
+    alloc: Global,
+    changes: &mut Table<Change>,
+    unit: &UnitRow,
+    part: &UnitPart,
+    change: &ChangeRow,
+    matrix: &Matrix,
+) -> Result<Option<Refused>, Fault>
+    requires { unit_read part.now.rows ≡ unit.now }
+    ensures refused { IfOk result (λ r. r ≡ first_refusal
+        (kind_refusals (facts_in part.now) change.now.base (MatrixKind matrix.now))) }
+    ensures added { AreKept part.now → IfOk result (λ r. r ≡ None
+        → changes.new ≡ changes.old
+        ++ in_force (facts_in part.now) change.now.number (MatrixKind matrix.now)) }
+    ensures err { IfErr result (λ e. e ≡ Memory) }
+{
+    if let Some(refused) = matrix_refusal(unit, part, change.base, matrix) {
+        return Ok(Some(refused));
+    }
+    push_rerated(alloc, changes, part, matrix)?;
+    Ok(None)
+}
+
 /// The row of an alarm whose limit is changed.
 fn limited(alloc: Global, alarm: &AlarmRow, max: Seconds) -> Result<AlarmRow, Fault>
     ensures value { alarm.now.max_rev < 4294967295 → IfOk result (λ row. row ≡ record alarm.now { max_s = max; max_rev = alarm.now.max_rev + 1 }) }
@@ -278,42 +304,57 @@ fn limited(alloc: Global, alarm: &AlarmRow, max: Seconds) -> Result<AlarmRow, Fa
     Ok(row)
 }
 
-/// Adds the change of an alarm whose limit comes into force.
+/// Adds the change of an alarm whose limit comes into force, or gives the refusal of its base.
 fn push_limit(
     alloc: Global,
     changes: &mut Table<Change>,
     part: &UnitPart,
+    change: &ChangeRow,
     tag: &Tag,
     max: Seconds,
-) -> Result<(), Fault>
-    ensures value { AreKept part.now → (n : ℕ) → OnOk result (changes.new ≡ changes.old ++ in_force (facts_in part.now) n (Limit tag.now max)) }
+) -> Result<Option<Refused>, Fault>
+    ensures refused { IfOk result (λ r. r ≡ first_refusal
+        (kind_refusals (facts_in part.now) change.now.base (Limit tag.now max))) }
+    ensures added { AreKept part.now → IfOk result (λ r. r ≡ None
+        → changes.new ≡ changes.old
+        ++ in_force (facts_in part.now) change.now.number (Limit tag.now max)) }
     ensures err { IfErr result (λ e. e ≡ Memory) }
 {
-    match alarm_of(part.rows.alarms.as_slice(), tag) {
-        None => Ok(()),
-        Some(alarm) => changes.push(Change::Put(Row::Alarm(limited(alloc, alarm, max)?))),
+    let alarm = alarm_of(part.rows.alarms.as_slice(), tag);
+    if let Some(refused) = limit_refusal(alarm, change.base) {
+        return Ok(Some(refused));
     }
+    if let Some(alarm) = alarm {
+        changes.push(Change::Put(Row::Alarm(limited(alloc, alarm, max)?)))?;
+    }
+    Ok(None)
 }
 
-/// Adds the changes that bring an approved change into force.
+/// Adds the changes that bring an approved change into force, or gives the first refusal of its
+/// base and its content.
 fn push_in_force(
     alloc: Global,
     changes: &mut Table<Change>,
     unit: &UnitRow,
     part: &UnitPart,
-    number: u32,
-    kind: &ChangeKind,
-) -> Result<(), Fault>
+    change: &ChangeRow,
+) -> Result<Option<Refused>, Fault>
     requires { unit_read part.now.rows ≡ unit.now }
-    ensures value { AreKept part.now → OnOk result (changes.new ≡ changes.old ++ in_force (facts_in part.now) number kind.now) }
+    ensures refused { AreKept part.now → IfOk result (λ r. r ≡ first_refusal
+        (kind_refusals (facts_in part.now) change.now.base change.now.kind)) }
+    ensures added { AreKept part.now → IfOk result (λ r. r ≡ None
+        → changes.new ≡ changes.old
+        ++ in_force (facts_in part.now) change.now.number change.now.kind) }
     ensures err { IfErr result (λ e. e ≡ Memory) }
 {
-    match kind {
+    match &change.kind {
         ChangeKind::Rationale(tag, sheet) => {
-            push_record(alloc, changes, unit, part, number, tag, sheet)
+            push_record(alloc, changes, unit, part, change, tag, sheet)
         }
-        ChangeKind::Matrix(matrix) => push_rerated(alloc, changes, part, matrix),
-        ChangeKind::Limit(tag, max) => push_limit(alloc, changes, part, tag, *max),
+        ChangeKind::Matrix(matrix) => {
+            push_matrix_in_force(alloc, changes, unit, part, change, matrix)
+        }
+        ChangeKind::Limit(tag, max) => push_limit(alloc, changes, part, change, tag, *max),
     }
 }
 
@@ -348,14 +389,13 @@ fn bring_into_force(
     ensures value { AreKept part.now → IfOk result (IsApproved (facts_in part.now) call.now.person call.now.moment change.now entry.now) }
     ensures err { IfErr result (λ e. e ≡ Memory) }
 {
-    if let Some(refused) = kind_refusal(alloc, unit, part, change.base, &change.kind)? {
-        return Ok(Verdict::Refused(refused));
-    }
     let mut changes = Table::new(alloc);
     changes.push(Change::Put(Row::Unit(approved_row(unit, call.moment, change))))?;
     changes.push(decided(alloc, entry, ChangeState::Approved, call)?)?;
-    push_in_force(alloc, &mut changes, unit, part, change.number, &change.kind)?;
-    Ok(Verdict::Accepted(Reply::Done, changes))
+    match push_in_force(alloc, &mut changes, unit, part, change)? {
+        Some(refused) => Ok(Verdict::Refused(refused)),
+        None => Ok(Verdict::Accepted(Reply::Done, changes)),
+    }
 }
 
 /// Approves a change.

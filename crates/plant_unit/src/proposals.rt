@@ -1,26 +1,25 @@
 //! The refusals of calls on changes.
 
-ghost use Rattle.std.specs.Prelude.{◌≡◌, ◌∷◌, [], IfErr, IfOk, Some, not, ℕ};
+ghost use Rattle.std.specs.Prelude.{◌≡◌, ◌∷◌, [], IfErr, IfOk, Some, not, option_copied, ℕ};
 ghost use Rattle.std.specs.List.{list_any};
 ghost use Rattle.plant_types.specs.Names.{Name};
 ghost use Rattle.plant_types.specs.declared.fault.Fault.TheVariants.{Memory};
-ghost use Rattle.plant_ration.specs.Matrix.{priority_of};
-ghost use Rattle.plant_ration.specs.declared.change.ChangeKind.TheVariants.{Limit, Matrix as MatrixKind, Rationale};
-ghost use Rattle.plant_model.specs.Facts.{limit_revision_of};
+ghost use Rattle.plant_ration.specs.declared.change.ChangeKind.TheVariants.{Matrix as MatrixKind};
 ghost use Rattle.plant_model.specs.Refusals as refusals;
-ghost use Rattle.plant_model.specs.Refusals.{first_refusal, is_not_needed, kind_refusals, kind_unknown, of_change, own_refusals};
+ghost use Rattle.plant_model.specs.Refusals.{base_changed, first_refusal, kind_refusals, kind_unknown, of_change, own_refusals};
 ghost use Rattle.plant_model.specs.RowFacts.{change_read, facts_in, unit_read};
 ghost use Rattle.plant_types.specs.Names.{same_name};
 ghost use Rattle.plant_model.specs.declared.call.Request.TheVariants.{Propose};
-ghost use Rattle.plant_model.specs.declared.reply.Refused.TheVariants.{NotAnAlarm, NotProposer, OutsideMatrix, SamePerson};
+ghost use Rattle.plant_model.specs.declared.reply.Refused.TheVariants.{NotProposer, SamePerson};
 ghost use Rattle.plant_model.specs.declared.rows.UnitRows.{UnitRows as TheRows};
 ghost use Rattle.plant_unit.specs.Additions.{AreKept};
+ghost use Rattle.plant_unit.specs.Judged.{record_decision, sheet_decision};
 ghost use Rattle.plant_unit.specs.Readings as readings;
 
 use crate::matrices::matrix_of;
 use crate::reading::{revision_of, source_of};
 use plant_books::alarm_of;
-use plant_model::{ChangeEntry, Full, RecordEntry, Refused, UnitPart, UnitRow};
+use plant_model::{AlarmRow, ChangeEntry, Full, RecordEntry, Refused, UnitPart, UnitRow};
 use plant_ration::{Cell, ChangeKind, ChangeState, Matrix, Proposal, Sheet};
 use plant_types::{Fault, Person, Seconds, Tag};
 use std::alloc::Global;
@@ -32,37 +31,39 @@ fn has_row(matrix: &Matrix, severity: u8) -> bool
     severity != 0 && severity as usize <= matrix.cells().len()
 }
 
-fn sheet_refusal(matrix: &Matrix, severity: u8, response: Seconds) -> Option<Refused>
-    ensures { result ≡ first_refusal ((not (refusals.has_row matrix.now severity), OutsideMatrix) ∷ (is_not_needed (priority_of matrix.now severity response), NotAnAlarm) ∷ []) }
+/// The priority of a sheet by a matrix, or its refusal: its severity is no row of the matrix, or no
+/// alarm is needed.
+fn sheet_priority(matrix: &Matrix, severity: u8, response: Seconds) -> Result<Cell, Refused>
+    ensures { result ≡ sheet_decision matrix.now severity response }
 {
-    if !has_row(matrix, severity) {
-        return Some(Refused::OutsideMatrix);
-    }
     match matrix.priority(severity, response) {
-        Some(Cell::N) => Some(Refused::NotAnAlarm),
-        _ => None,
+        None => Err(Refused::OutsideMatrix),
+        Some(Cell::N) => Err(Refused::NotAnAlarm),
+        Some(cell) => Ok(cell),
     }
 }
 
-fn record_refusal(
+/// The priority of a record by the matrix in force, or the first refusal of its base and its sheet.
+pub fn record_priority(
     alloc: Global,
     unit: &UnitRow,
     part: &UnitPart,
     base: u32,
     tag: &Tag,
     sheet: &Sheet,
-) -> Result<Option<Refused>, Fault>
+) -> Result<Result<Cell, Refused>, Fault>
     requires { unit_read part.now.rows ≡ unit.now }
-    ensures value { AreKept part.now → IfOk result (λ r. r ≡ first_refusal (kind_refusals (facts_in part.now) base (Rationale tag.now sheet.now))) }
+    ensures value { AreKept part.now
+        → IfOk result (λ d. d ≡ record_decision (facts_in part.now) base tag.now sheet.now) }
     ensures err { IfErr result (λ e. e ≡ Memory) }
 {
     let revision = revision_of(part, tag);
     if base != revision {
-        return Ok(Some(Refused::BaseChanged(revision)));
+        return Ok(Err(Refused::BaseChanged(revision)));
     }
     match matrix_of(alloc, &part.rows, unit.matrix_no)? {
-        None => Ok(Some(Refused::OutsideMatrix)),
-        Some(matrix) => Ok(sheet_refusal(&matrix, sheet.severity, sheet.response)),
+        None => Ok(Err(Refused::OutsideMatrix)),
+        Some(matrix) => Ok(sheet_priority(&matrix, sheet.severity, sheet.response)),
     }
 }
 
@@ -89,7 +90,13 @@ fn has_outside(part: &UnitPart, matrix: &Matrix) -> bool
     false
 }
 
-fn matrix_refusal(unit: &UnitRow, part: &UnitPart, base: u32, matrix: &Matrix) -> Option<Refused>
+/// The first refusal of a matrix, for its base and the severities in force, if any.
+pub fn matrix_refusal(
+    unit: &UnitRow,
+    part: &UnitPart,
+    base: u32,
+    matrix: &Matrix,
+) -> Option<Refused>
     requires { unit_read part.now.rows ≡ unit.now }
     ensures { result ≡ first_refusal (kind_refusals (facts_in part.now) base (MatrixKind matrix.now)) }
 {
@@ -104,19 +111,21 @@ fn matrix_refusal(unit: &UnitRow, part: &UnitPart, base: u32, matrix: &Matrix) -
 }
 
 /// How many changes of an alarm's limit were approved.
-fn limit_revision(part: &UnitPart, tag: &Tag) -> u32
-    ensures { result ≡ limit_revision_of (facts_in part.now) tag.now }
+fn limit_revision(alarm: Option<&AlarmRow>) -> u32
+    ensures { result ≡ readings.limit_revision (option_copied alarm.entry) }
 {
-    match alarm_of(part.rows.alarms.as_slice(), tag) {
+    match alarm {
         Some(alarm) => alarm.max_rev,
         None => 0,
     }
 }
 
-fn limit_refusal(part: &UnitPart, base: u32, tag: &Tag) -> Option<Refused>
-    ensures { (max : ℕ) → result ≡ first_refusal (kind_refusals (facts_in part.now) base (Limit tag.now max)) }
+/// The refusal of a change of an alarm's limit, for its base, if any.
+pub fn limit_refusal(alarm: Option<&AlarmRow>, base: u32) -> Option<Refused>
+    ensures { result ≡ first_refusal
+        (base_changed base (readings.limit_revision (option_copied alarm.entry)) ∷ []) }
 {
-    let revision = limit_revision(part, tag);
+    let revision = limit_revision(alarm);
     if base != revision {
         Some(Refused::BaseChanged(revision))
     } else {
@@ -125,7 +134,7 @@ fn limit_refusal(part: &UnitPart, base: u32, tag: &Tag) -> Option<Refused>
 }
 
 /// The first refusal of a change of this kind, for its base and its content, if any.
-pub fn kind_refusal(
+fn kind_refusal(
     alloc: Global,
     unit: &UnitRow,
     part: &UnitPart,
@@ -137,9 +146,14 @@ pub fn kind_refusal(
     ensures err { IfErr result (λ e. e ≡ Memory) }
 {
     match kind {
-        ChangeKind::Rationale(tag, sheet) => record_refusal(alloc, unit, part, base, tag, sheet),
+        ChangeKind::Rationale(tag, sheet) => {
+            Ok(record_priority(alloc, unit, part, base, tag, sheet)?.err())
+        }
         ChangeKind::Matrix(matrix) => Ok(matrix_refusal(unit, part, base, matrix)),
-        ChangeKind::Limit(tag, _) => Ok(limit_refusal(part, base, tag)),
+        ChangeKind::Limit(tag, _) => {
+            let alarm = alarm_of(part.rows.alarms.as_slice(), tag);
+            Ok(limit_refusal(alarm, base))
+        }
     }
 }
 

@@ -6,7 +6,7 @@ ghost use Rattle.plant_types.specs.declared.fault.Fault.TheVariants.{Memory};
 ghost use Rattle.plant_model.specs.Refusals.{first_refusal, over_quota};
 ghost use Rattle.plant_model.specs.RowFacts.{facts_in, unit_read};
 ghost use Rattle.plant_model.specs.declared.call.Request.TheVariants.{OneShotShelve, TimedShelve, Unshelve};
-ghost use Rattle.plant_unit.specs.Judged.{changes_or, decision, one_change};
+ghost use Rattle.plant_unit.specs.Judged.{decided_or, decision, one_change};
 ghost use Rattle.plant_unit.specs.Shelving as shelving;
 
 use crate::facts::{others_shelved, shelf_left, shelf_of};
@@ -64,7 +64,7 @@ fn shelve(
     shelf: Shelf,
 ) -> Result<Result<Change, Refused>, Fault>
     requires { unit_read part.now.rows ≡ unit.now }
-    ensures value { IfOk result (λ d. one_change d ≡ changes_or (first_refusal (over_quota (facts_in part.now) tag.now call.now.moment ∷ [])) (shelving.shelf_change tag.now call.now.person words.now shelf ∷ [])) }
+    ensures value { IfOk result (λ d. one_change d ≡ decided_or (first_refusal (over_quota (facts_in part.now) tag.now call.now.moment ∷ [])) (shelving.shelf_change tag.now call.now.person words.now shelf ∷ [])) }
     ensures err { IfErr result (λ e. e ≡ Memory) }
 {
     if others_shelved(part, tag, call.moment) as u64 >= unit.quota.get() {
