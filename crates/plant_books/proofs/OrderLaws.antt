@@ -6,7 +6,7 @@ use Rattle.std.specs.FinMap.Entries.{below_all, by_order, is_sorted}
 use Rattle.std.specs.List.{AllByRecursion}
 use Rattle.std.specs.Option.{option_to_list}
 use Rattle.std.specs.Ordering.{is_eq, is_lt, nat_cmp}
-use Rattle.std.specs.Prelude.{IfSome, Option, filter, option_map, unwrap_or}
+use Rattle.std.specs.Prelude.{Err, IfSome, Ok, OnOk, Option, Result, filter, option_map, unwrap_or}
 use Rattle.std.specs.declared.cmp.Ordering.{Ordering}
 use Rattle.std.specs.declared.cmp.Ordering.TheVariants.{Equal, Greater, Less}
 use Rattle.plant_books.proofs.RowsFound.{After, Ordered, less, lesser, second}
@@ -73,6 +73,18 @@ module _ {K X : Type 0} (cmp : K → K → Ordering) (key : X → K) where
   pub keys_rise : (rows : List X) → IsInOrder (λ a b. cmp (key a) (key b)) (λ r. r) rows → IsInOrder cmp key rows
   keys_rise rows h = subst T (sorted_keys rows) h
 
+  pub rows_rise : (rows : List X) → IsInOrder cmp key rows → IsInOrder (λ a b. cmp (key a) (key b)) (λ r. r) rows
+  rows_rise rows h = subst T (sym (sorted_keys rows)) h
+
+  put_keys : (x : X) (rows : List X) → put_row (λ a b. cmp (key a) (key b)) (λ r. r) x rows ≡ put_row cmp key x rows
+  put_keys x [] = refl
+  put_keys x (r ∷ rows) = ap (λ rest. by_order (cmp (key x) (key r)) (x ∷ r ∷ rows) (x ∷ rows) (r ∷ rest)) (put_keys x rows)
+
+  -- what is put by the order of the rows is put by that of their keys
+  pub put_by_keys : {E Q : Type 0} (said : Result (Unit {0}) E) (after rows : List X) (x : X) → (after ≡ put_row cmp key x rows → Q) → OnOk said (after ≡ put_row (λ a b. cmp (key a) (key b)) (λ r. r) x rows) → OnOk said Q
+  put_by_keys (Ok u) after rows x to is = to (is ∙ put_keys x rows)
+  put_by_keys (Err e) after rows x to is = tt
+
 -- ---- a unit's rows, through changes
 
 pub none_in_order : AreInOrder no_rows
@@ -93,7 +105,7 @@ removed_in_order : (k : Key) (rows : UnitRows) → AreInOrder rows → AreInOrde
 removed_in_order (GrantKey p r) rows h = record { alarms = h.alarms; shelves = h.shelves; events = h.events; records = h.records; changes = h.changes }
 removed_in_order (ShelfKey a) rows h = record { alarms = h.alarms; shelves = IsInOrder-remove_row name_cmp shelf_tag name_total same_names a rows.shelves h.shelves; events = h.events; records = h.records; changes = h.changes }
 
-one_in_order : (c : Change) (rows : UnitRows) → AreInOrder rows → AreInOrder (changed c rows)
+pub one_in_order : (c : Change) (rows : UnitRows) → AreInOrder rows → AreInOrder (changed c rows)
 one_in_order (Put r) rows h = put_in_order r rows h
 one_in_order (Remove k) rows h = removed_in_order k rows h
 

@@ -1,5 +1,8 @@
 -- What a call looks at in a unit's rows, and which rows of each table that is.
-use Rattle.std.specs.Prelude.{Bool, List, [], None, Option, Some, false, option_copied, true, ℕ, ◌≡◌}
+use Rattle.std.specs.BTreeSet.{BTreeSet, contains}
+use Rattle.std.specs.List.{list_any}
+use Rattle.std.specs.Ordering.{nat_cmp}
+use Rattle.std.specs.Prelude.{Bool, List, [], None, Option, Some, false, option_copied, true, ℕ, ◌&&◌, ◌≡◌}
 use Rattle.plant_alarm.specs.declared.event.Event.{Event}
 use Rattle.plant_books.specs.declared.asking.Scope.{Scope}
 use Rattle.plant_books.specs.declared.asking.Scope.TheVariants.{AllAlarms, AllEvents, AllGrants, AllRecords, AllShelves, Approval, Content, File, NothingElse, OneAlarm, OneChange, OneRecord, Shelving}
@@ -14,6 +17,7 @@ use Rattle.plant_model.specs.Parts as looked
 use Rattle.plant_model.specs.RowFacts.{change_found}
 use Rattle.plant_model.specs.declared.call.Request.{Request}
 use Rattle.plant_model.specs.declared.rows.ChangeEntry.{ChangeEntry}
+use Rattle.plant_model.specs.declared.rows.RecordEntry.{RecordEntry}
 use Rattle.plant_model.specs.declared.rows.UnitRows.{UnitRows}
 use Rattle.plant_types.specs.Names.{Name, same_name}
 
@@ -85,3 +89,7 @@ events_wanted EveryEvent es = es
 abbrev pub is_number : Option ℕ → ℕ → Bool
 is_number None n = false
 is_number (Some m) n = same_number m n
+
+-- the set has the numbers of the changes that records of these tags came from
+abbrev pub AreSources : BTreeSet ℕ → (Name → Bool) → List RecordEntry → Type 0
+AreSources numbers tags records = (n : ℕ) → contains nat_cmp numbers n ≡ list_any (λ r. tags r.tag && same_number n r.change_no) records

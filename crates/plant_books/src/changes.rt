@@ -9,7 +9,8 @@ ghost use Rattle.plant_types.specs.Roles.{pair_cmp};
 ghost use Rattle.plant_types.specs.Tables.{IsInOrder, remove_row};
 ghost use Rattle.plant_types.specs.declared.fault.Fault.TheVariants.{Memory};
 
-use crate::keyed::put;
+use crate::found::remove;
+use crate::keyed::{put, put_sorted};
 use crate::merging::put_events;
 use crate::rows::compare_pair;
 use plant_alarm::Event;
@@ -37,7 +38,7 @@ fn one_row(alloc: Global, row: UnitRow) -> Result<Table<UnitRow>, Fault>
 /// Puts a row of a unit.
 #[tactic(auto, using(crate::proofs::MergingLaws::with_push))]
 fn put_row(alloc: Global, changing: &mut Changing, row: Row) -> Result<(), Fault>
-    ensures ok { OnOk result (whole changing.new ≡ row_put row (whole changing.old)) }
+    ensures ok { AreInOrder (whole changing.old) → OnOk result (whole changing.new ≡ row_put row (whole changing.old)) }
     ensures events { OnOk result (changing.new.rows.events ≡ changing.old.rows.events) }
     ensures memory { IfErr result (λ e. e ≡ Memory) }
 {
@@ -48,13 +49,13 @@ fn put_row(alloc: Global, changing: &mut Changing, row: Row) -> Result<(), Fault
             Ok(())
         }
         Row::Grant(row) => put(&mut rows.grants, row),
-        Row::Alarm(row) => put(&mut rows.alarms, row),
-        Row::Shelf(row) => put(&mut rows.shelves, row),
+        Row::Alarm(row) => put_sorted(&mut rows.alarms, row),
+        Row::Shelf(row) => put_sorted(&mut rows.shelves, row),
         Row::Event(row) => changing.fresh.push(row),
         Row::Band(row) => put(&mut rows.bands, row),
         Row::Cell(row) => put(&mut rows.cells, row),
-        Row::Record(row) => put(&mut rows.records, row),
-        Row::Change(row) => put(&mut rows.changes, row),
+        Row::Record(row) => put_sorted(&mut rows.records, row),
+        Row::Change(row) => put_sorted(&mut rows.changes, row),
     }
 }
 
@@ -67,18 +68,17 @@ fn without_grant(grants: Table<GrantRow>, person: &Person, role: Role) -> Table<
     Table::from_vec(rows)
 }
 
-/// The shelves without that of a tag.
-fn without_shelf(shelves: Table<ShelfRow>, tag: &Tag) -> Table<ShelfRow>
-    ensures { result ≡ remove_row name_cmp shelf_tag tag.now shelves }
+/// The shelves, which stand in the order of their tags, without that of a tag.
+fn without_shelf(mut shelves: Table<ShelfRow>, tag: &Tag) -> Table<ShelfRow>
+    ensures { IsInOrder name_cmp shelf_tag shelves → result ≡ remove_row name_cmp shelf_tag tag.now shelves }
 {
-    let mut rows = shelves.into_vec();
-    rows.retain(|shelf| tag.cmp(&shelf.tag).is_ne());
-    Table::from_vec(rows)
+    remove(&mut shelves, tag);
+    shelves
 }
 
 /// The rows without that of a key.
 fn without(rows: UnitRows, key: &Key) -> UnitRows
-    ensures value { result ≡ removed key.now rows }
+    ensures value { IsInOrder name_cmp shelf_tag rows.shelves → result ≡ removed key.now rows }
     ensures events { result.events ≡ rows.events }
 {
     match key {
@@ -95,7 +95,7 @@ fn without(rows: UnitRows, key: &Key) -> UnitRows
 
 /// The rows after one change.
 fn after_change(alloc: Global, mut changing: Changing, change: &Change) -> Result<Changing, Fault>
-    ensures value { IfOk result (λ after. whole after ≡ changed change.now (whole changing)) }
+    ensures value { AreInOrder (whole changing) → IfOk result (λ after. whole after ≡ changed change.now (whole changing)) }
     ensures events { IfOk result (λ after. after.rows.events ≡ changing.rows.events) }
     ensures memory { IfErr result (λ e. e ≡ Memory) }
 {

@@ -7,7 +7,7 @@ ghost use Rattle.std.specs.Ordering.{is_lt};
 ghost use Rattle.plant_books.specs.Asking.{is_wanted};
 ghost use Rattle.plant_model.specs.RowFacts.{alarm_tag, record_tag, shelf_tag};
 ghost use Rattle.plant_types.specs.Names.{Name, name_cmp};
-ghost use Rattle.plant_types.specs.Tables.{IsInOrder, row_at};
+ghost use Rattle.plant_types.specs.Tables.{IsInOrder, remove_row, row_at};
 ghost use Rattle.plant_types.specs.declared.fault.Fault.TheVariants.{Memory};
 
 use crate::asking::Wanted;
@@ -62,6 +62,18 @@ pub fn row_of<'a, T: Tagged>(rows: &'a [T], tag: &Tag) -> Option<&'a T>
     match rows.get(place_of(rows, tag)) {
         Some(row) if *row.tag() == *tag => Some(row),
         _ => None,
+    }
+}
+
+/// Takes the row of the tag out, if there is one.
+pub fn remove<T: Tagged>(rows: &mut Table<T>, tag: &Tag)
+    ensures { IsInOrder name_cmp T.key rows.old → rows.new ≡ remove_row name_cmp T.key tag.now rows.old }
+{
+    let place = place_of(rows.as_slice(), tag);
+    if let Some(row) = rows.as_slice().get(place) {
+        if *row.tag() == *tag {
+            let _removed = rows.remove_at(place);
+        }
     }
 }
 

@@ -1,5 +1,6 @@
+ghost use Rattle.std.specs.Cmp.{IsTotalOrder};
 ghost use Rattle.std.specs.Prelude.{◌≡◌, IfErr, MatchResult, OnErr, OnOk, insert, slice_set};
-ghost use Rattle.plant_types.specs.Tables.{put_row};
+ghost use Rattle.plant_types.specs.Tables.{IsInOrder, put_row};
 ghost use Rattle.plant_types.specs.declared.fault.Fault.TheVariants.{Memory};
 
 use plant_types::{Fault, Table};
@@ -40,6 +41,35 @@ pub fn put<T: Keyed>(rows: &mut Table<T>, row: T) -> Result<(), Fault>
     ensures memory { IfErr result (λ e. e ≡ Memory) }
 {
     match place_of(rows.as_slice(), &row) {
+        Ok(place) => {
+            rows.replace_at(place, row);
+            Ok(())
+        }
+        Err(place) => rows.insert_at(place, row),
+    }
+}
+
+/// The place of the row of the same key, or else the place where the row belongs, found by halving: the rows stand in the
+/// order of their keys.
+fn sorted_place<T: Keyed>(rows: &[T], row: &T) -> Result<usize, usize>
+    ensures { IsTotalOrder T.order → IsInOrder T.order (λ r. r) rows.now → MatchResult result
+        (λ place. slice_set rows.now place row.now ≡ put_row T.order (λ r. r) row.now rows.now)
+        (λ place. insert rows.now place row.now ≡ put_row T.order (λ r. r) row.now rows.now) }
+{
+    let place = rows.partition_point(|other| other.key_cmp(row).is_lt());
+    match rows.get(place) {
+        Some(other) if row.key_cmp(other).is_eq() => Ok(place),
+        _ => Err(place),
+    }
+}
+
+/// Puts a row among rows that stand in the order of their keys, as `put` does, but finds its place by halving.
+pub fn put_sorted<T: Keyed>(rows: &mut Table<T>, row: T) -> Result<(), Fault>
+    ensures ok { IsTotalOrder T.order → IsInOrder T.order (λ r. r) rows.old → OnOk result (rows.new ≡ put_row T.order (λ r. r) row rows.old) }
+    ensures err { OnErr result (rows.new ≡ rows.old) }
+    ensures memory { IfErr result (λ e. e ≡ Memory) }
+{
+    match sorted_place(rows.as_slice(), &row) {
         Ok(place) => {
             rows.replace_at(place, row);
             Ok(())

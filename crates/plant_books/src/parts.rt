@@ -1,8 +1,8 @@
 ghost use Rattle.std.specs.Prelude.{◌≡◌, ◌||◌, ℕ, IfErr, IfOk, Some, false, filter, option_copied, true};
-ghost use Rattle.plant_books.specs.Asking.{events_wanted, is_shelving as is_shelving_by, is_wanted, number_approved as number_approved_by, selection_by};
+ghost use Rattle.plant_books.specs.Asking.{AreSources, events_wanted, is_shelving as is_shelving_by, is_wanted, number_approved as number_approved_by, selection_by};
 ghost use Rattle.plant_books.specs.Contents.{without_events};
 ghost use Rattle.plant_books.specs.Order.{AreInOrder};
-ghost use Rattle.plant_model.specs.Parts.{counted_for, is_crowded as is_crowded_in, is_source as is_source_of, part_of as the_part, part_of_holder as holders_part, rows_selected, selected};
+ghost use Rattle.plant_model.specs.Parts.{counted_for, is_crowded as is_crowded_in, part_of as the_part, part_of_holder as holders_part, rows_selected, selected};
 ghost use Rattle.plant_model.specs.RowChanges.{no_rows};
 ghost use Rattle.plant_model.specs.declared.rows.UnitRows.{UnitRows as TheRows};
 ghost use Rattle.plant_model.specs.RowFacts.{change_found, change_number, event_number, last_number as last_number_of, pair_of, unit_read};
@@ -21,10 +21,12 @@ use crate::grants::holds_some_by;
 use plant_alarm::Event;
 use plant_import::needed;
 use plant_model::{
-    BandRow, Call, CellRow, ChangeEntry, Counted, GrantRow, Request, UnitPart, UnitRow, UnitRows,
+    BandRow, Call, CellRow, ChangeEntry, Counted, GrantRow, RecordEntry, Request, UnitPart,
+    UnitRow, UnitRows,
 };
 use plant_types::{Duplicate, Fault, Person, Table, duplicated};
 use std::alloc::Global;
+use std::collections::BTreeSet;
 
 /// A copy of the rows of a unit but its events.
 pub fn rows_but_events(alloc: Global, rows: &UnitRows) -> Result<UnitRows, Fault>
@@ -139,20 +141,49 @@ fn cells_asked(alloc: Global, rows: &UnitRows, scope: Scope<'_>) -> Result<Table
     Ok(asked)
 }
 
-/// Whether a record that is wanted came from the change of a number.
-fn is_source(rows: &UnitRows, wanted: &Wanted, number: u32) -> bool
-    ensures { result ≡ is_source_of rows.now (is_wanted wanted.now) number }
+/// The numbers of the changes that the wanted records came from.
+fn sources(
+    alloc: Global,
+    records: &[RecordEntry],
+    wanted: &Wanted<'_>,
+) -> Result<BTreeSet<u32>, Fault>
+    ensures value { IfOk result (λ numbers. AreSources numbers (is_wanted wanted.now) records.now) }
+    ensures memory { IfErr result (λ e. e ≡ Memory) }
 {
-    let mut records = rows.records.as_slice().iter();
-    records.any(|record| wanted.has(&record.tag) && record.change_no == number)
+    let mut numbers = BTreeSet::new(alloc);
+    for record in records {
+        if wanted.has(&record.tag) {
+            numbers.insert(record.change_no)?;
+        }
+    }
+    Ok(numbers)
 }
 
-/// Whether the scope takes in the change of a number.
-fn is_change_asked(rows: &UnitRows, scope: Scope<'_>, number: u32) -> bool
-    ensures { result ≡ (selection_by rows.now scope.entry).change number }
+/// Whether the scope takes in the change of a number. `sources` are those of the records that it takes in.
+fn is_change_asked(sources: &BTreeSet<u32>, scope: Scope<'_>, number: u32) -> bool
+    ensures { (rows : TheRows) → AreSources sources.now (selection_by rows scope.entry).rationale rows.records → result ≡ (selection_by rows scope.entry).change number }
 {
     let named = is_number(wanted_change(scope), number);
-    named || wants_sources(scope) && is_source(rows, &wanted_records(scope), number)
+    named || wants_sources(scope) && sources.contains(&number)
+}
+
+/// Copies of the changes that the scope takes in. `sources` are those of the records that it takes in.
+fn changes_among(
+    alloc: Global,
+    changes: &[ChangeEntry],
+    sources: &BTreeSet<u32>,
+    scope: Scope<'_>,
+) -> Result<Table<ChangeEntry>, Fault>
+    ensures value { (rows : TheRows) → AreSources sources.now (selection_by rows scope.entry).rationale rows.records → IfOk result (λ asked. asked ≡ filter (λ r. (selection_by rows scope.entry).change r.number) changes.now) }
+    ensures memory { IfErr result (λ e. e ≡ Memory) }
+{
+    let mut asked = Table::new(alloc);
+    for change in changes {
+        if is_change_asked(sources, scope, change.number) {
+            asked.push(change.duplicate(alloc)?)?;
+        }
+    }
+    Ok(asked)
 }
 
 /// Whether the scope takes in some change.
@@ -171,16 +202,11 @@ fn changes_asked(
     ensures value { IfOk result (λ asked. asked ≡ filter (λ r. (selection_by rows.now scope.entry).change r.number) rows.now.changes) }
     ensures memory { IfErr result (λ e. e ≡ Memory) }
 {
-    let mut asked = Table::new(alloc);
     if !wants_some_change(scope) {
-        return Ok(asked);
+        return Ok(Table::new(alloc));
     }
-    for change in rows.changes.as_slice() {
-        if is_change_asked(rows, scope, change.number) {
-            asked.push(change.duplicate(alloc)?)?;
-        }
-    }
-    Ok(asked)
+    let sources = sources(alloc, rows.records.as_slice(), &wanted_records(scope))?;
+    changes_among(alloc, rows.changes.as_slice(), &sources, scope)
 }
 
 /// The rows that the scope takes in.

@@ -1,0 +1,20 @@
+use Rattle.std.proofs.lemmas.Grind.{common_steps}
+use Rattle.std.proofs.Common.{ap, arith, drop, subst, sym, ◌+◌, ◌∙◌, ◌∷◌, ◌≡◌}
+use Rattle.plant_books.proofs.OrderLaws.{one_in_order}
+use Rattle.plant_books.specs.Changing.{whole}
+use Rattle.plant_books.specs.Order.{AreInOrder}
+use Rattle.plant_model.specs.RowChanges.{changed, changed_by}
+use Rattle.plant_books.proofs.changes.after_changes.Goals as goal
+
+pub loop-change-preserved : goal.loop-change-preserved
+loop-change-preserved c =
+    let at = c.loop-change.change-index in
+    let all = c.as_slice-change-items.result.now in
+    let split : drop at all ≡ c.change-item.result ∷ drop (at + 1) all = grind (arith, common_steps) in
+    record {
+      value = λ order.
+          let now : whole c.in_ok-after.after ≡ changed c.change-item.result (whole c.loop-change.after) = c.in_ok-after.ensures.value (c.loop-change.invariant.order order) in
+          ap (changed_by (drop (at + 1) all)) now ∙ ap (λ cs. changed_by cs (whole c.loop-change.after)) (sym split) ∙ c.loop-change.invariant.value order;
+      order = λ order. subst AreInOrder (sym (c.in_ok-after.ensures.value (c.loop-change.invariant.order order))) (one_in_order c.change-item.result (whole c.loop-change.after) (c.loop-change.invariant.order order));
+      events = c.in_ok-after.ensures.events ∙ c.loop-change.invariant.events;
+    }
