@@ -10,5 +10,7 @@ pub mod Shelves
 pub mod Counting
 pub mod Opening
 pub mod OldTables
+pub mod OnlyReads
+pub mod StaysInside
 pub mod Upgrading
 pub mod OldRules

@@ -2,15 +2,17 @@
 
 ghost use Rattle.std.specs.Prelude.{◌≡◌, ◌≢◌, [], false, map, IfErr, IfOk, IsErrAnd, IsTrue, OnErr, OnOk, Err};
 ghost use Rattle.sqlite.specs.Held.{state};
-ghost use Rattle.sqlite.specs.State.{HasCleanDisk, KeepsCommit, Survives};
+ghost use Rattle.sqlite.specs.State.{HasCleanDisk};
 ghost use Rattle.plant_books.specs.Contents.{Content};
 ghost use Rattle.plant_columns.specs.Tables.{AreBooks, no_schema};
 ghost use Rattle.plant_model.specs.declared.rows.Change.TheVariants.{Put};
 ghost use Rattle.plant_types.specs.declared.fault.Fault.TheVariants.{Store};
 ghost use Rattle.plant_store.specs.Changes.{Applies, CanTell};
+ghost use Rattle.plant_store.specs.OnlyReads.{OnlyReadsOld};
 ghost use Rattle.plant_store.specs.Keeping.{HaveRows, Keeps};
 ghost use Rattle.plant_store.specs.OldTables.{AreOldBooks, old_schema_no};
 ghost use Rattle.plant_store.specs.Opening.{IsOffice, has_office};
+ghost use Rattle.plant_store.specs.StaysInside.{StaysInside};
 ghost use Rattle.plant_store.specs.Upgrading.{AreTakenOver, HaveOldRows, all_kinds, old_codes, puts_all, puts_of, upgraded_rows};
 
 use crate::make::make_tables;
@@ -58,9 +60,7 @@ fn put_rows<T: OldRow, N: Alter>(
     ensures same_reference { tx.new.conn.ghost_name ≡ tx.old.conn.ghost_name }
     ensures made { HasCleanDisk (state N.Store tx.new.conn.now) → IsTrue tx.old.conn.now.in_transaction → AreBooks (state N.Store tx.old.conn.now).now
         → OnOk result (Applies unit.now (map (λ r. Put (T.becomes r)) rows.now) (state N.Store tx.old.conn.now).now (state N.Store tx.new.conn.now).now) }
-    ensures inside { HasCleanDisk (state N.Store tx.new.conn.now) → IsTrue tx.old.conn.now.in_transaction → OnOk result (IsTrue tx.new.conn.now.in_transaction) }
-    ensures kept { HasCleanDisk (state N.Store tx.new.conn.now) → IsTrue tx.old.conn.now.in_transaction → KeepsCommit (state N.Store tx.old.conn.now) (state N.Store tx.new.conn.now) }
-    ensures survives { Survives (state N.Store tx.old.conn.now) (state N.Store tx.new.conn.now) (λ _. ⊥) }
+    ensures stays { StaysInside result (state N.Store tx.old.conn.now) (state N.Store tx.new.conn.now) }
 {
     for row in rows {
         row.put(alloc, tx, unit)?;
@@ -77,14 +77,11 @@ fn take_rows<T: OldRow, O: Alter, N: Alter>(
 ) -> Result<(), Error>
     requires reading { from.old.in_transaction ≡ false }
     ensures mode { from.new.in_transaction ≡ false }
-    ensures same { CanTell (state O.Store from.new) → AreOldBooks (state O.Store from.old).now → (state O.Store from.new).now ≡ (state O.Store from.old).now }
-    ensures told { CanTell (state O.Store from.new) → CanTell (state O.Store from.old) }
+    ensures reads { OnlyReadsOld (state O.Store from.old) (state O.Store from.new) }
     ensures same_reference { tx.new.conn.ghost_name ≡ tx.old.conn.ghost_name }
     ensures made { CanTell (state O.Store from.new) → AreOldBooks (state O.Store from.old).now → HasCleanDisk (state N.Store tx.new.conn.now) → IsTrue tx.old.conn.now.in_transaction → AreBooks (state N.Store tx.old.conn.now).now
         → OnOk result (Applies unit.now (map (λ r. Put (T.becomes r)) (T.had unit.now (state O.Store from.old).now.trees)) (state N.Store tx.old.conn.now).now (state N.Store tx.new.conn.now).now) }
-    ensures inside { HasCleanDisk (state N.Store tx.new.conn.now) → IsTrue tx.old.conn.now.in_transaction → OnOk result (IsTrue tx.new.conn.now.in_transaction) }
-    ensures kept { HasCleanDisk (state N.Store tx.new.conn.now) → IsTrue tx.old.conn.now.in_transaction → KeepsCommit (state N.Store tx.old.conn.now) (state N.Store tx.new.conn.now) }
-    ensures survives { Survives (state N.Store tx.old.conn.now) (state N.Store tx.new.conn.now) (λ _. ⊥) }
+    ensures stays { StaysInside result (state N.Store tx.old.conn.now) (state N.Store tx.new.conn.now) }
 {
     let rows = old_rows_of::<T, O>(alloc, from, unit)?;
     put_rows::<T, N>(alloc, tx, unit, rows.as_slice())
@@ -100,14 +97,11 @@ fn take_table<O: Alter, N: Alter>(
 ) -> Result<(), Error>
     requires reading { from.old.in_transaction ≡ false }
     ensures mode { from.new.in_transaction ≡ false }
-    ensures same { CanTell (state O.Store from.new) → AreOldBooks (state O.Store from.old).now → (state O.Store from.new).now ≡ (state O.Store from.old).now }
-    ensures told { CanTell (state O.Store from.new) → CanTell (state O.Store from.old) }
+    ensures reads { OnlyReadsOld (state O.Store from.old) (state O.Store from.new) }
     ensures same_reference { tx.new.conn.ghost_name ≡ tx.old.conn.ghost_name }
     ensures made { CanTell (state O.Store from.new) → AreOldBooks (state O.Store from.old).now → HasCleanDisk (state N.Store tx.new.conn.now) → IsTrue tx.old.conn.now.in_transaction → AreBooks (state N.Store tx.old.conn.now).now
         → OnOk result (Applies unit.now (puts_of (upgraded_rows unit.now (state O.Store from.old).now.trees) kind.now) (state N.Store tx.old.conn.now).now (state N.Store tx.new.conn.now).now) }
-    ensures inside { HasCleanDisk (state N.Store tx.new.conn.now) → IsTrue tx.old.conn.now.in_transaction → OnOk result (IsTrue tx.new.conn.now.in_transaction) }
-    ensures kept { HasCleanDisk (state N.Store tx.new.conn.now) → IsTrue tx.old.conn.now.in_transaction → KeepsCommit (state N.Store tx.old.conn.now) (state N.Store tx.new.conn.now) }
-    ensures survives { Survives (state N.Store tx.old.conn.now) (state N.Store tx.new.conn.now) (λ _. ⊥) }
+    ensures stays { StaysInside result (state N.Store tx.old.conn.now) (state N.Store tx.new.conn.now) }
 {
     match kind {
         TableKind::Units => take_rows::<OldUnitRow, O, N>(alloc, from, tx, unit),
@@ -132,14 +126,11 @@ fn take_tables<O: Alter, N: Alter>(
 ) -> Result<(), Error>
     requires reading { from.old.in_transaction ≡ false }
     ensures mode { from.new.in_transaction ≡ false }
-    ensures same { CanTell (state O.Store from.new) → AreOldBooks (state O.Store from.old).now → (state O.Store from.new).now ≡ (state O.Store from.old).now }
-    ensures told { CanTell (state O.Store from.new) → CanTell (state O.Store from.old) }
+    ensures reads { OnlyReadsOld (state O.Store from.old) (state O.Store from.new) }
     ensures same_reference { tx.new.conn.ghost_name ≡ tx.old.conn.ghost_name }
     ensures made { CanTell (state O.Store from.new) → AreOldBooks (state O.Store from.old).now → HasCleanDisk (state N.Store tx.new.conn.now) → IsTrue tx.old.conn.now.in_transaction → AreBooks (state N.Store tx.old.conn.now).now
         → OnOk result (Applies unit.now (puts_all (upgraded_rows unit.now (state O.Store from.old).now.trees) kinds.now) (state N.Store tx.old.conn.now).now (state N.Store tx.new.conn.now).now) }
-    ensures inside { HasCleanDisk (state N.Store tx.new.conn.now) → IsTrue tx.old.conn.now.in_transaction → OnOk result (IsTrue tx.new.conn.now.in_transaction) }
-    ensures kept { HasCleanDisk (state N.Store tx.new.conn.now) → IsTrue tx.old.conn.now.in_transaction → KeepsCommit (state N.Store tx.old.conn.now) (state N.Store tx.new.conn.now) }
-    ensures survives { Survives (state N.Store tx.old.conn.now) (state N.Store tx.new.conn.now) (λ _. ⊥) }
+    ensures stays { StaysInside result (state N.Store tx.old.conn.now) (state N.Store tx.new.conn.now) }
 {
     for kind in kinds {
         take_table(alloc, from, tx, unit, kind)?;
@@ -156,14 +147,11 @@ fn take_unit<O: Alter, N: Alter>(
 ) -> Result<(), Error>
     requires reading { from.old.in_transaction ≡ false }
     ensures mode { from.new.in_transaction ≡ false }
-    ensures same { CanTell (state O.Store from.new) → AreOldBooks (state O.Store from.old).now → (state O.Store from.new).now ≡ (state O.Store from.old).now }
-    ensures told { CanTell (state O.Store from.new) → CanTell (state O.Store from.old) }
+    ensures reads { OnlyReadsOld (state O.Store from.old) (state O.Store from.new) }
     ensures same_reference { tx.new.conn.ghost_name ≡ tx.old.conn.ghost_name }
     ensures made { CanTell (state O.Store from.new) → AreOldBooks (state O.Store from.old).now → HasCleanDisk (state N.Store tx.new.conn.now) → IsTrue tx.old.conn.now.in_transaction → AreBooks (state N.Store tx.old.conn.now).now
         → OnOk result (Applies unit.now (puts_all (upgraded_rows unit.now (state O.Store from.old).now.trees) all_kinds) (state N.Store tx.old.conn.now).now (state N.Store tx.new.conn.now).now) }
-    ensures inside { HasCleanDisk (state N.Store tx.new.conn.now) → IsTrue tx.old.conn.now.in_transaction → OnOk result (IsTrue tx.new.conn.now.in_transaction) }
-    ensures kept { HasCleanDisk (state N.Store tx.new.conn.now) → IsTrue tx.old.conn.now.in_transaction → KeepsCommit (state N.Store tx.old.conn.now) (state N.Store tx.new.conn.now) }
-    ensures survives { Survives (state N.Store tx.old.conn.now) (state N.Store tx.new.conn.now) (λ _. ⊥) }
+    ensures stays { StaysInside result (state N.Store tx.old.conn.now) (state N.Store tx.new.conn.now) }
 {
     take_tables(
         alloc,
@@ -193,14 +181,11 @@ fn take_units<O: Alter, N: Alter>(
 ) -> Result<(), Error>
     requires reading { from.old.in_transaction ≡ false }
     ensures mode { from.new.in_transaction ≡ false }
-    ensures same { CanTell (state O.Store from.new) → AreOldBooks (state O.Store from.old).now → (state O.Store from.new).now ≡ (state O.Store from.old).now }
-    ensures told { CanTell (state O.Store from.new) → CanTell (state O.Store from.old) }
+    ensures reads { OnlyReadsOld (state O.Store from.old) (state O.Store from.new) }
     ensures same_reference { tx.new.conn.ghost_name ≡ tx.old.conn.ghost_name }
     ensures made { CanTell (state O.Store from.new) → AreOldBooks (state O.Store from.old).now → map (λ l. l.unit) lines.now ≡ old_codes (state O.Store from.old).now.trees → HasCleanDisk (state N.Store tx.new.conn.now) → IsTrue tx.old.conn.now.in_transaction → AreTakenOver [] (state O.Store from.old).now.trees (state N.Store tx.old.conn.now).now
         → OnOk result (AreTakenOver (old_codes (state O.Store from.old).now.trees) (state O.Store from.old).now.trees (state N.Store tx.new.conn.now).now × ((state N.Store tx.new.conn.now).now.trees 0 ≡ (state N.Store tx.old.conn.now).now.trees 0)) }
-    ensures inside { HasCleanDisk (state N.Store tx.new.conn.now) → IsTrue tx.old.conn.now.in_transaction → OnOk result (IsTrue tx.new.conn.now.in_transaction) }
-    ensures kept { HasCleanDisk (state N.Store tx.new.conn.now) → IsTrue tx.old.conn.now.in_transaction → KeepsCommit (state N.Store tx.old.conn.now) (state N.Store tx.new.conn.now) }
-    ensures survives { Survives (state N.Store tx.old.conn.now) (state N.Store tx.new.conn.now) (λ _. ⊥) }
+    ensures stays { StaysInside result (state N.Store tx.old.conn.now) (state N.Store tx.new.conn.now) }
 {
     for line in lines {
         take_unit(alloc, from, tx, &line.unit)?;
@@ -217,14 +202,11 @@ fn fill<O: Alter, N: Alter>(
 ) -> Result<(), Error>
     requires reading { from.old.in_transaction ≡ false }
     ensures mode { from.new.in_transaction ≡ false }
-    ensures same { CanTell (state O.Store from.new) → AreOldBooks (state O.Store from.old).now → (state O.Store from.new).now ≡ (state O.Store from.old).now }
-    ensures told { CanTell (state O.Store from.new) → CanTell (state O.Store from.old) }
+    ensures reads { OnlyReadsOld (state O.Store from.old) (state O.Store from.new) }
     ensures same_reference { tx.new.conn.ghost_name ≡ tx.old.conn.ghost_name }
     ensures made { CanTell (state O.Store from.new) → HasCleanDisk (state N.Store tx.new.conn.now) → IsTrue tx.old.conn.now.in_transaction → (state N.Store tx.old.conn.now).now.schema ≡ no_schema → (m : Content) → m.admin ≡ admin.now → HaveOldRows m (state O.Store from.old).now
         → OnOk result (HaveRows m (state N.Store tx.new.conn.now).now) }
-    ensures inside { HasCleanDisk (state N.Store tx.new.conn.now) → IsTrue tx.old.conn.now.in_transaction → OnOk result (IsTrue tx.new.conn.now.in_transaction) }
-    ensures kept { HasCleanDisk (state N.Store tx.new.conn.now) → IsTrue tx.old.conn.now.in_transaction → KeepsCommit (state N.Store tx.old.conn.now) (state N.Store tx.new.conn.now) }
-    ensures survives { Survives (state N.Store tx.old.conn.now) (state N.Store tx.new.conn.now) (λ _. ⊥) }
+    ensures stays { StaysInside result (state N.Store tx.old.conn.now) (state N.Store tx.new.conn.now) }
 {
     let lines = old_codes_of(alloc, from)?;
     make_tables(tx, admin)?;
@@ -241,8 +223,7 @@ fn take_over<O: Alter, N: Alter>(
     requires reading { from.old.in_transaction ≡ false }
     requires writing { into.old.in_transaction ≡ false }
     ensures mode { from.new.in_transaction ≡ false }
-    ensures same { CanTell (state O.Store from.new) → AreOldBooks (state O.Store from.old).now → (state O.Store from.new).now ≡ (state O.Store from.old).now }
-    ensures told { CanTell (state O.Store from.new) → CanTell (state O.Store from.old) }
+    ensures reads { OnlyReadsOld (state O.Store from.old) (state O.Store from.new) }
     ensures outside { into.new.in_transaction ≡ false }
     ensures taken { CanTell (state O.Store from.new) → CanTell (state N.Store into.new) → (state N.Store into.old).now.schema ≡ no_schema → (m : Content) → m.admin ≡ admin.now → HaveOldRows m (state O.Store from.old).now
         → OnOk result (HaveRows m (state N.Store into.new).now) }
@@ -265,8 +246,7 @@ fn take_into_blank<O: Alter, N: Alter>(
     requires reading { from.old.in_transaction ≡ false }
     requires writing { into.old.in_transaction ≡ false }
     ensures mode { from.new.in_transaction ≡ false }
-    ensures same { CanTell (state O.Store from.new) → AreOldBooks (state O.Store from.old).now → (state O.Store from.new).now ≡ (state O.Store from.old).now }
-    ensures told { CanTell (state O.Store from.new) → CanTell (state O.Store from.old) }
+    ensures reads { OnlyReadsOld (state O.Store from.old) (state O.Store from.new) }
     ensures outside { into.new.in_transaction ≡ false }
     ensures taken { CanTell (state O.Store from.new) → (m : Content) → m.admin ≡ admin.now → HaveOldRows m (state O.Store from.old).now → OnOk result (Keeps (state N.Store into.new) m) }
     ensures blank { OnOk result ((state N.Store into.old).now.schema ≡ no_schema) }

@@ -9,9 +9,9 @@ ghost use Rattle.plant_model.specs.Grants.{is_before};
 ghost use Rattle.plant_types.specs.Names.{same_name};
 ghost use Rattle.plant_store.specs.declared.mine.Line.{Line as LineRow};
 ghost use Rattle.plant_store.specs.Changes.{CanTell};
+ghost use Rattle.plant_store.specs.OnlyReads.{OnlyReads};
 ghost use Rattle.plant_store.specs.Keeping.{KeepsIn};
 ghost use Rattle.plant_store.specs.Mine.{line_cells, lines_of, runs_after, runs_of, standing_lines, started};
-ghost use Rattle.plant_columns.specs.Tables.{AreBooks};
 
 use crate::read::ask;
 use plant_books::MineUnit;
@@ -136,8 +136,7 @@ fn lines<S: Alter>(
     requires { conn.old.in_transaction ≡ false }
     ensures mode { conn.new.in_transaction ≡ false }
     ensures found { CanTell (state S.Store conn.new) → (m : Content) → KeepsIn (state S.Store conn.old) m → IfOk result (λ lines. lines ≡ lines_of person.now (state S.Store conn.old).now.trees) }
-    ensures same { CanTell (state S.Store conn.new) → AreBooks (state S.Store conn.old).now → (state S.Store conn.new).now ≡ (state S.Store conn.old).now }
-    ensures told { CanTell (state S.Store conn.new) → CanTell (state S.Store conn.old) }
+    ensures reads { OnlyReads (state S.Store conn.old) (state S.Store conn.new) }
 {
     let rows = ask(
         conn,
@@ -157,8 +156,7 @@ pub fn mine_units<S: Alter>(
     requires { conn.old.in_transaction ≡ false }
     ensures mode { conn.new.in_transaction ≡ false }
     ensures found { CanTell (state S.Store conn.new) → (m : Content) → KeepsIn (state S.Store conn.old) m → IfOk result (λ units. units ≡ contents.mine_units m now person.now) }
-    ensures same { CanTell (state S.Store conn.new) → AreBooks (state S.Store conn.old).now → (state S.Store conn.new).now ≡ (state S.Store conn.old).now }
-    ensures told { CanTell (state S.Store conn.new) → CanTell (state S.Store conn.old) }
+    ensures reads { OnlyReads (state S.Store conn.old) (state S.Store conn.new) }
 {
     let lines = lines(alloc, conn, person)?;
     group(alloc, lines.as_slice(), now)
@@ -188,8 +186,7 @@ pub fn held<S: Alter>(
     requires { conn.old.in_transaction ≡ false }
     ensures mode { conn.new.in_transaction ≡ false }
     ensures found { CanTell (state S.Store conn.new) → (m : Content) → KeepsIn (state S.Store conn.old) m → IfOk result (λ codes. codes ≡ contents.codes_held m now person.now) }
-    ensures same { CanTell (state S.Store conn.new) → AreBooks (state S.Store conn.old).now → (state S.Store conn.new).now ≡ (state S.Store conn.old).now }
-    ensures told { CanTell (state S.Store conn.new) → CanTell (state S.Store conn.old) }
+    ensures reads { OnlyReads (state S.Store conn.old) (state S.Store conn.new) }
 {
     let units = mine_units(alloc, conn, person, now)?;
     codes(alloc, units.as_slice())

@@ -9,6 +9,7 @@ ghost use Rattle.plant_columns.specs.Tables.Kept.{BandKept, CellKept, ChangeKept
 ghost use Rattle.plant_model.specs.Histories.{same_number};
 ghost use Rattle.plant_model.specs.declared.rows.UnitRows.{UnitRows as Rows};
 ghost use Rattle.plant_store.specs.Changes.{CanTell};
+ghost use Rattle.plant_store.specs.OnlyReads.{OnlyReads};
 ghost use Rattle.plant_store.specs.Mine.{own_row};
 ghost use Rattle.plant_store.specs.Numbers.{AreNumbers, with_number};
 
@@ -127,8 +128,7 @@ fn rows_numbered<T: Numbered, S: Alter>(
     requires { conn.old.in_transaction ≡ false }
     ensures mode { conn.new.in_transaction ≡ false }
     ensures rows { CanTell (state S.Store conn.new) → AreBooks (state S.Store conn.old).now → IfOk result (λ rows. rows ≡ flat_map (λ n. filter (λ r. same_number n (T.number r)) (T.seen unit.now (state S.Store conn.old).now.trees)) numbers.now) }
-    ensures same { CanTell (state S.Store conn.new) → AreBooks (state S.Store conn.old).now → (state S.Store conn.new).now ≡ (state S.Store conn.old).now }
-    ensures told { CanTell (state S.Store conn.new) → CanTell (state S.Store conn.old) }
+    ensures reads { OnlyReads (state S.Store conn.old) (state S.Store conn.new) }
 {
     let mut rows = Vec::new(alloc);
     for number in numbers {
@@ -149,8 +149,7 @@ pub fn some_bands<S: Alter>(
     requires { conn.old.in_transaction ≡ false }
     ensures mode { conn.new.in_transaction ≡ false }
     ensures rows { CanTell (state S.Store conn.new) → AreBooks (state S.Store conn.old).now → (rows : Rows) → rows.units ≡ units.now → IfOk result (λ bands. bands ≡ filter (λ r. (selection_by rows scope.entry).matrix r.matrix_no) (rows_seen unit.now (state S.Store conn.old).now.trees BandKept)) }
-    ensures same { CanTell (state S.Store conn.new) → AreBooks (state S.Store conn.old).now → (state S.Store conn.new).now ≡ (state S.Store conn.old).now }
-    ensures told { CanTell (state S.Store conn.new) → CanTell (state S.Store conn.old) }
+    ensures reads { OnlyReads (state S.Store conn.old) (state S.Store conn.new) }
 {
     let numbers = matrix_numbers(alloc, units.as_slice(), scope)?;
     rows_numbered(alloc, conn, unit, numbers.as_slice())
@@ -167,8 +166,7 @@ pub fn some_cells<S: Alter>(
     requires { conn.old.in_transaction ≡ false }
     ensures mode { conn.new.in_transaction ≡ false }
     ensures rows { CanTell (state S.Store conn.new) → AreBooks (state S.Store conn.old).now → (rows : Rows) → rows.units ≡ units.now → IfOk result (λ cells. cells ≡ filter (λ r. (selection_by rows scope.entry).matrix r.matrix_no) (rows_seen unit.now (state S.Store conn.old).now.trees CellKept)) }
-    ensures same { CanTell (state S.Store conn.new) → AreBooks (state S.Store conn.old).now → (state S.Store conn.new).now ≡ (state S.Store conn.old).now }
-    ensures told { CanTell (state S.Store conn.new) → CanTell (state S.Store conn.old) }
+    ensures reads { OnlyReads (state S.Store conn.old) (state S.Store conn.new) }
 {
     let numbers = matrix_numbers(alloc, units.as_slice(), scope)?;
     rows_numbered(alloc, conn, unit, numbers.as_slice())
@@ -185,8 +183,7 @@ pub fn some_changes<S: Alter>(
     requires { conn.old.in_transaction ≡ false }
     ensures mode { conn.new.in_transaction ≡ false }
     ensures rows { CanTell (state S.Store conn.new) → AreBooks (state S.Store conn.old).now → (rows : Rows) → records.now ≡ filter (λ r. (selection_by rows scope.entry).rationale r.tag) rows.records → IfOk result (λ changes. changes ≡ filter (λ r. (selection_by rows scope.entry).change r.number) (rows_seen unit.now (state S.Store conn.old).now.trees ChangeKept)) }
-    ensures same { CanTell (state S.Store conn.new) → AreBooks (state S.Store conn.old).now → (state S.Store conn.new).now ≡ (state S.Store conn.old).now }
-    ensures told { CanTell (state S.Store conn.new) → CanTell (state S.Store conn.old) }
+    ensures reads { OnlyReads (state S.Store conn.old) (state S.Store conn.new) }
 {
     let numbers = change_numbers(alloc, records.as_slice(), scope)?;
     rows_numbered(alloc, conn, unit, numbers.as_slice())

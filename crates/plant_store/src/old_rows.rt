@@ -2,7 +2,7 @@
 
 ghost use Rattle.std.specs.Prelude.{◌≡◌, ◌∷◌, [], false, map, IfOk, IsTrue, List, OnOk};
 ghost use Rattle.sqlite.specs.Held.{state};
-ghost use Rattle.sqlite.specs.State.{HasCleanDisk, KeepsCommit, Survives};
+ghost use Rattle.sqlite.specs.State.{HasCleanDisk};
 ghost use Rattle.sqlite.specs.Tree.{Trees};
 ghost use Rattle.sqlite_value.specs.declared.value.Value.TheVariants.{Text as TextValue};
 ghost use Rattle.plant_columns.specs.Tables.{AreBooks};
@@ -10,8 +10,10 @@ ghost use Rattle.plant_columns.specs.Tables.Kept.{AlarmKept, BandKept, CellKept,
 ghost use Rattle.plant_model.specs.declared.rows.Change.TheVariants.{Put};
 ghost use Rattle.plant_model.specs.declared.rows.Row.{Row as AnyRow};
 ghost use Rattle.plant_model.specs.declared.rows.Row.TheVariants.{Grant as GrantPut, Unit as UnitPut};
-ghost use Rattle.plant_store.specs.Changes.{Applies, CanTell};
+ghost use Rattle.plant_store.specs.Changes.{Applies};
+ghost use Rattle.plant_store.specs.OnlyReads.{OnlyReadsOld};
 ghost use Rattle.plant_store.specs.OldTables.{AreOldBooks, old_grant_shape, old_rows, old_unit_shape};
+ghost use Rattle.plant_store.specs.StaysInside.{StaysInside};
 ghost use Rattle.plant_store.specs.Statements.{ReadsOld};
 ghost use Rattle.plant_store.specs.Upgrading.{old_codes, upgraded_grant, upgraded_unit};
 ghost use Rattle.plant_types.specs.Names.{Name};
@@ -114,9 +116,7 @@ pub trait OldRow: Shown {
         ensures same_reference { tx.new.conn.ghost_name ≡ tx.old.conn.ghost_name }
         ensures made { HasCleanDisk (state N.Store tx.new.conn.now) → IsTrue tx.old.conn.now.in_transaction → AreBooks (state N.Store tx.old.conn.now).now
             → OnOk result (Applies unit.now (Put (becomes self.now) ∷ []) (state N.Store tx.old.conn.now).now (state N.Store tx.new.conn.now).now) }
-        ensures inside { HasCleanDisk (state N.Store tx.new.conn.now) → IsTrue tx.old.conn.now.in_transaction → OnOk result (IsTrue tx.new.conn.now.in_transaction) }
-        ensures kept { HasCleanDisk (state N.Store tx.new.conn.now) → IsTrue tx.old.conn.now.in_transaction → KeepsCommit (state N.Store tx.old.conn.now) (state N.Store tx.new.conn.now) }
-        ensures survives { Survives (state N.Store tx.old.conn.now) (state N.Store tx.new.conn.now) (λ _. ⊥) };
+        ensures stays { StaysInside result (state N.Store tx.old.conn.now) (state N.Store tx.new.conn.now) };
 }
 
 /// A row of a table that is the same in schema 1.
@@ -264,8 +264,7 @@ pub fn old_codes_of<S: Alter>(
     requires { conn.old.in_transaction ≡ false }
     ensures mode { conn.new.in_transaction ≡ false }
     ensures rows { HasCleanDisk (state S.Store conn.new) → AreOldBooks (state S.Store conn.old).now → IfOk result (λ lines. map (λ l. l.unit) lines ≡ old_codes (state S.Store conn.old).now.trees) }
-    ensures same { CanTell (state S.Store conn.new) → AreOldBooks (state S.Store conn.old).now → (state S.Store conn.new).now ≡ (state S.Store conn.old).now }
-    ensures told { CanTell (state S.Store conn.new) → CanTell (state S.Store conn.old) }
+    ensures reads { OnlyReadsOld (state S.Store conn.old) (state S.Store conn.new) }
 {
     read_rows(alloc, conn, "SELECT unit FROM units ORDER BY unit", &[])
 }
@@ -279,8 +278,7 @@ pub fn old_rows_of<T: OldRow, S: Alter>(
     requires { conn.old.in_transaction ≡ false }
     ensures mode { conn.new.in_transaction ≡ false }
     ensures rows { HasCleanDisk (state S.Store conn.new) → AreOldBooks (state S.Store conn.old).now → IfOk result (λ rows. rows ≡ T.had unit.now (state S.Store conn.old).now.trees) }
-    ensures same { CanTell (state S.Store conn.new) → AreOldBooks (state S.Store conn.old).now → (state S.Store conn.new).now ≡ (state S.Store conn.old).now }
-    ensures told { CanTell (state S.Store conn.new) → CanTell (state S.Store conn.old) }
+    ensures reads { OnlyReadsOld (state S.Store conn.old) (state S.Store conn.new) }
 {
     read_rows(alloc, conn, T::old_select(), &single(unit))
 }

@@ -5,12 +5,11 @@ ghost use Rattle.sqlite.specs.Held.{state};
 ghost use Rattle.sqlite_value.specs.Order.{column};
 ghost use Rattle.sqlite_value.specs.declared.value.Value.TheVariants.{Text as TextValue};
 ghost use Rattle.plant_store.specs.Changes.{CanTell};
-ghost use Rattle.plant_store.specs.OldTables.{AreOldBooks};
+ghost use Rattle.plant_store.specs.OnlyReads.{OnlyReads, OnlyReadsOld};
 ghost use Rattle.plant_columns.specs.Codes as codings;
 ghost use Rattle.plant_store.specs.Opening as opening;
 ghost use Rattle.plant_store.specs.Opening.{IsOffice, office_cells};
 ghost use Rattle.plant_columns.specs.Shown.{columns};
-ghost use Rattle.plant_columns.specs.Tables.{AreBooks};
 
 use crate::read::ask;
 use plant_types::Person;
@@ -87,9 +86,8 @@ fn has_its_row<S: Alter>(
     requires { conn.old.in_transaction ≡ false }
     ensures mode { conn.new.in_transaction ≡ false }
     ensures row { CanTell (state S.Store conn.new) → opening.has_office (state S.Store conn.old).now.schema ≡ true → IfOk result (λ is. IsTrue is ↔ IsOffice schema admin.now (state S.Store conn.old).now) }
-    ensures same { CanTell (state S.Store conn.new) → AreBooks (state S.Store conn.old).now → (state S.Store conn.new).now ≡ (state S.Store conn.old).now }
-    ensures old_same { CanTell (state S.Store conn.new) → AreOldBooks (state S.Store conn.old).now → (state S.Store conn.new).now ≡ (state S.Store conn.old).now }
-    ensures told { CanTell (state S.Store conn.new) → CanTell (state S.Store conn.old) }
+    ensures reads { OnlyReads (state S.Store conn.old) (state S.Store conn.new) }
+    ensures reads_old { OnlyReadsOld (state S.Store conn.old) (state S.Store conn.new) }
 {
     let rows = ask(conn, "SELECT id, schema_no, admin FROM office", &[])?;
     Ok(is_office_row(rows.as_slice(), schema, admin))
@@ -105,9 +103,8 @@ pub fn is_office_of<S: Alter>(
     ensures mode { conn.new.in_transaction ≡ false }
     ensures row { CanTell (state S.Store conn.new) → IfOk result (λ is. IsTrue is ↔ IsOffice schema admin.now (state S.Store conn.old).now) }
     ensures missing { opening.has_office (state S.Store conn.old).now.schema ≡ false → result ≡ Ok false }
-    ensures same { CanTell (state S.Store conn.new) → AreBooks (state S.Store conn.old).now → (state S.Store conn.new).now ≡ (state S.Store conn.old).now }
-    ensures old_same { CanTell (state S.Store conn.new) → AreOldBooks (state S.Store conn.old).now → (state S.Store conn.new).now ≡ (state S.Store conn.old).now }
-    ensures told { CanTell (state S.Store conn.new) → CanTell (state S.Store conn.old) }
+    ensures reads { OnlyReads (state S.Store conn.old) (state S.Store conn.new) }
+    ensures reads_old { OnlyReadsOld (state S.Store conn.old) (state S.Store conn.new) }
 {
     if !has_office(conn.schema()) {
         return Ok(false);

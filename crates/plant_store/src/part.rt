@@ -12,6 +12,7 @@ ghost use Rattle.plant_books.specs.Asking.{is_shelving as is_shelving_by, looks_
 ghost use Rattle.plant_model.specs.Histories.{same_number};
 ghost use Rattle.plant_books.specs.Contents.{Content, part_in, rows_in};
 ghost use Rattle.plant_store.specs.Changes.{CanTell};
+ghost use Rattle.plant_store.specs.OnlyReads.{OnlyReads};
 ghost use Rattle.plant_store.specs.Keeping.{KeepsIn};
 ghost use Rattle.plant_columns.specs.Tables.{AreBooks, rows_seen};
 ghost use Rattle.plant_columns.specs.Tables.Kept.{UnitKept, GrantKept, AlarmKept, ShelfKept, EventKept, RecordKept, ChangeKept};
@@ -52,8 +53,7 @@ pub fn some_grants<S: Alter>(
     ensures mode { conn.new.in_transaction ≡ false }
     ensures rows { HasCleanDisk (state S.Store conn.new) → AreBooks (state S.Store conn.old).now → IfOk result (λ rows. (p : Name) → own ≡ filter (λ g. same_name p g.person) (rows_seen unit.now (state S.Store conn.old).now.trees GrantKept)
         → rows ≡ filter (λ g. same_name p g.person || all) (rows_seen unit.now (state S.Store conn.old).now.trees GrantKept)) }
-    ensures same { CanTell (state S.Store conn.new) → AreBooks (state S.Store conn.old).now → (state S.Store conn.new).now ≡ (state S.Store conn.old).now }
-    ensures told { CanTell (state S.Store conn.new) → CanTell (state S.Store conn.old) }
+    ensures reads { OnlyReads (state S.Store conn.old) (state S.Store conn.new) }
 {
     if all {
         all_rows(alloc, conn, unit)
@@ -72,8 +72,7 @@ pub fn some_alarms<S: Alter>(
     requires { conn.old.in_transaction ≡ false }
     ensures mode { conn.new.in_transaction ≡ false }
     ensures rows { HasCleanDisk (state S.Store conn.new) → AreBooks (state S.Store conn.old).now → IfOk result (λ rows. rows ≡ alarms_with wanted.entry (rows_seen unit.now (state S.Store conn.old).now.trees AlarmKept)) }
-    ensures same { CanTell (state S.Store conn.new) → AreBooks (state S.Store conn.old).now → (state S.Store conn.new).now ≡ (state S.Store conn.old).now }
-    ensures told { CanTell (state S.Store conn.new) → CanTell (state S.Store conn.old) }
+    ensures reads { OnlyReads (state S.Store conn.old) (state S.Store conn.new) }
 {
     match wanted {
         Wanted::Nothing => Ok(Table::new(alloc)),
@@ -92,8 +91,7 @@ pub fn some_shelves<S: Alter>(
     requires { conn.old.in_transaction ≡ false }
     ensures mode { conn.new.in_transaction ≡ false }
     ensures rows { HasCleanDisk (state S.Store conn.new) → AreBooks (state S.Store conn.old).now → IfOk result (λ rows. rows ≡ shelves_with wanted.entry (rows_seen unit.now (state S.Store conn.old).now.trees ShelfKept)) }
-    ensures same { CanTell (state S.Store conn.new) → AreBooks (state S.Store conn.old).now → (state S.Store conn.new).now ≡ (state S.Store conn.old).now }
-    ensures told { CanTell (state S.Store conn.new) → CanTell (state S.Store conn.old) }
+    ensures reads { OnlyReads (state S.Store conn.old) (state S.Store conn.new) }
 {
     match wanted {
         Wanted::Nothing => Ok(Table::new(alloc)),
@@ -112,8 +110,7 @@ pub fn some_records<S: Alter>(
     requires { conn.old.in_transaction ≡ false }
     ensures mode { conn.new.in_transaction ≡ false }
     ensures rows { HasCleanDisk (state S.Store conn.new) → AreBooks (state S.Store conn.old).now → IfOk result (λ rows. rows ≡ records_with wanted.entry (rows_seen unit.now (state S.Store conn.old).now.trees RecordKept)) }
-    ensures same { CanTell (state S.Store conn.new) → AreBooks (state S.Store conn.old).now → (state S.Store conn.new).now ≡ (state S.Store conn.old).now }
-    ensures told { CanTell (state S.Store conn.new) → CanTell (state S.Store conn.old) }
+    ensures reads { OnlyReads (state S.Store conn.old) (state S.Store conn.new) }
 {
     match wanted {
         Wanted::Nothing => Ok(Table::new(alloc)),
@@ -132,8 +129,7 @@ pub fn some_events<S: Alter>(
     requires { conn.old.in_transaction ≡ false }
     ensures mode { conn.new.in_transaction ≡ false }
     ensures rows { HasCleanDisk (state S.Store conn.new) → AreBooks (state S.Store conn.old).now → IfOk result (λ rows. rows ≡ events_with wanted (rows_seen unit.now (state S.Store conn.old).now.trees EventKept)) }
-    ensures same { CanTell (state S.Store conn.new) → AreBooks (state S.Store conn.old).now → (state S.Store conn.new).now ≡ (state S.Store conn.old).now }
-    ensures told { CanTell (state S.Store conn.new) → CanTell (state S.Store conn.old) }
+    ensures reads { OnlyReads (state S.Store conn.old) (state S.Store conn.new) }
 {
     if wanted {
         all_rows(alloc, conn, unit)
@@ -167,8 +163,7 @@ fn count_for<S: Alter>(
     requires { conn.old.in_transaction ≡ false }
     ensures mode { conn.new.in_transaction ≡ false }
     ensures rows { HasCleanDisk (state S.Store conn.new) → AreBooks (state S.Store conn.old).now → IfOk result (λ n. (rows : Rows) → rows.alarms ≡ rows_seen unit.now (state S.Store conn.old).now.trees AlarmKept → rows.changes ≡ rows_seen unit.now (state S.Store conn.old).now.trees ChangeKept → (looks_at_events_by request.now ≡ true → rows.events ≡ events.now) → n ≡ counted_for rows request.now) }
-    ensures same { CanTell (state S.Store conn.new) → AreBooks (state S.Store conn.old).now → (state S.Store conn.new).now ≡ (state S.Store conn.old).now }
-    ensures told { CanTell (state S.Store conn.new) → CanTell (state S.Store conn.old) }
+    ensures reads { OnlyReads (state S.Store conn.old) (state S.Store conn.new) }
 {
     match request.kind().count() {
         Counted::Nothing => Ok(0),
@@ -188,8 +183,7 @@ fn crowded_for<S: Alter>(
     requires { conn.old.in_transaction ≡ false }
     ensures mode { conn.new.in_transaction ≡ false }
     ensures rows { HasCleanDisk (state S.Store conn.new) → AreBooks (state S.Store conn.old).now → IfOk result (λ crowded. (rows : Rows) → rows.units ≡ units.now → rows.shelves ≡ rows_seen unit.now (state S.Store conn.old).now.trees ShelfKept → is_shelving_by request.now ≡ true → is_crowded_in rows ≡ crowded) }
-    ensures same { CanTell (state S.Store conn.new) → AreBooks (state S.Store conn.old).now → (state S.Store conn.new).now ≡ (state S.Store conn.old).now }
-    ensures told { CanTell (state S.Store conn.new) → CanTell (state S.Store conn.old) }
+    ensures reads { OnlyReads (state S.Store conn.old) (state S.Store conn.new) }
 {
     if is_shelving(request) {
         Ok(is_crowded(units, count_of_shelves(conn, unit)?))
@@ -208,8 +202,7 @@ fn approved_for<S: Alter>(
     requires { conn.old.in_transaction ≡ false }
     ensures mode { conn.new.in_transaction ≡ false }
     ensures rows { HasCleanDisk (state S.Store conn.new) → AreBooks (state S.Store conn.old).now → IfOk result (λ rows. (n : ℕ) → number_approved_by request.now ≡ Some n → rows ≡ filter (λ r. same_number n r.number) (rows_seen unit.now (state S.Store conn.old).now.trees ChangeKept)) }
-    ensures same { CanTell (state S.Store conn.new) → AreBooks (state S.Store conn.old).now → (state S.Store conn.new).now ≡ (state S.Store conn.old).now }
-    ensures told { CanTell (state S.Store conn.new) → CanTell (state S.Store conn.old) }
+    ensures reads { OnlyReads (state S.Store conn.old) (state S.Store conn.new) }
 {
     match number_approved(request) {
         Some(number) => rows_of_number(alloc, conn, unit, number),
@@ -231,8 +224,7 @@ fn holders_part<S: Alter>(
     ensures found { CanTell (state S.Store conn.new) → (m : Content) → KeepsIn (state S.Store conn.old) m
         → units ≡ rows_seen unit.now (state S.Store conn.old).now.trees UnitKept → own ≡ filter (λ g. same_name call.now.person g.person) (rows_seen unit.now (state S.Store conn.old).now.trees GrantKept)
         → IfOk result (λ part. part ≡ part_of_holder call.now (rows_in m unit.now)) }
-    ensures same { CanTell (state S.Store conn.new) → AreBooks (state S.Store conn.old).now → (state S.Store conn.new).now ≡ (state S.Store conn.old).now }
-    ensures told { CanTell (state S.Store conn.new) → CanTell (state S.Store conn.old) }
+    ensures reads { OnlyReads (state S.Store conn.old) (state S.Store conn.new) }
 {
     let request = &call.request;
     let crowded = crowded_for(conn, unit, &units, request)?;
@@ -280,8 +272,7 @@ fn unit_part<S: Alter>(
     requires { conn.old.in_transaction ≡ false }
     ensures mode { conn.new.in_transaction ≡ false }
     ensures found { CanTell (state S.Store conn.new) → (m : Content) → KeepsIn (state S.Store conn.old) m → IfOk result (λ part. part ≡ part_in m call.now unit.now) }
-    ensures same { CanTell (state S.Store conn.new) → AreBooks (state S.Store conn.old).now → (state S.Store conn.new).now ≡ (state S.Store conn.old).now }
-    ensures told { CanTell (state S.Store conn.new) → CanTell (state S.Store conn.old) }
+    ensures reads { OnlyReads (state S.Store conn.old) (state S.Store conn.new) }
 {
     let units = all_rows(alloc, conn, unit)?;
     if !has_row(&units) {
@@ -304,8 +295,7 @@ pub fn part_of<S: Alter>(
     requires { conn.old.in_transaction ≡ false }
     ensures mode { conn.new.in_transaction ≡ false }
     ensures found { CanTell (state S.Store conn.new) → (m : Content) → KeepsIn (state S.Store conn.old) m → (u : Name) → unit_named call.now.request ≡ Some u → IfOk result (λ part. part ≡ part_in m call.now u) }
-    ensures same { CanTell (state S.Store conn.new) → AreBooks (state S.Store conn.old).now → (state S.Store conn.new).now ≡ (state S.Store conn.old).now }
-    ensures told { CanTell (state S.Store conn.new) → CanTell (state S.Store conn.old) }
+    ensures reads { OnlyReads (state S.Store conn.old) (state S.Store conn.new) }
 {
     match call.request.unit() {
         Some(unit) => unit_part(alloc, conn, unit, call),

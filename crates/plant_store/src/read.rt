@@ -12,6 +12,7 @@ ghost use Rattle.plant_model.specs.Histories.{same_number};
 ghost use Rattle.plant_model.specs.RowFacts.{last_number};
 ghost use Rattle.plant_types.specs.Names.{same_name};
 ghost use Rattle.plant_store.specs.Changes.{CanTell};
+ghost use Rattle.plant_store.specs.OnlyReads.{OnlyReads};
 ghost use Rattle.plant_columns.specs.Shown.{columns};
 ghost use Rattle.plant_columns.specs.Tables.{AreBooks, rows_seen};
 ghost use Rattle.plant_columns.specs.Tables.Kept.{AlarmKept, ChangeKept, GrantKept, ShelfKept};
@@ -67,8 +68,7 @@ pub fn all_rows<T: Stored, S: Alter>(
     requires { conn.old.in_transaction ≡ false }
     ensures mode { conn.new.in_transaction ≡ false }
     ensures rows { HasCleanDisk (state S.Store conn.new) → AreBooks (state S.Store conn.old).now → IfOk result (λ rows. rows ≡ T.seen unit.now (state S.Store conn.old).now.trees) }
-    ensures same { CanTell (state S.Store conn.new) → AreBooks (state S.Store conn.old).now → (state S.Store conn.new).now ≡ (state S.Store conn.old).now }
-    ensures told { CanTell (state S.Store conn.new) → CanTell (state S.Store conn.old) }
+    ensures reads { OnlyReads (state S.Store conn.old) (state S.Store conn.new) }
 {
     read_rows(alloc, conn, T::select(), &single(unit))
 }
@@ -83,8 +83,7 @@ pub fn row_of_tag<T: Tagged, S: Alter>(
     requires { conn.old.in_transaction ≡ false }
     ensures mode { conn.new.in_transaction ≡ false }
     ensures rows { HasCleanDisk (state S.Store conn.new) → AreBooks (state S.Store conn.old).now → IfOk result (λ rows. rows ≡ filter (λ r. same_name tag.now (T.tag r)) (T.seen unit.now (state S.Store conn.old).now.trees)) }
-    ensures same { CanTell (state S.Store conn.new) → AreBooks (state S.Store conn.old).now → (state S.Store conn.new).now ≡ (state S.Store conn.old).now }
-    ensures told { CanTell (state S.Store conn.new) → CanTell (state S.Store conn.old) }
+    ensures reads { OnlyReads (state S.Store conn.old) (state S.Store conn.new) }
 {
     read_rows(alloc, conn, T::select_of_tag(), &pair(unit, tag))
 }
@@ -99,8 +98,7 @@ pub fn rows_of_number<T: Numbered, S: Alter>(
     requires { conn.old.in_transaction ≡ false }
     ensures mode { conn.new.in_transaction ≡ false }
     ensures rows { HasCleanDisk (state S.Store conn.new) → AreBooks (state S.Store conn.old).now → IfOk result (λ rows. rows ≡ filter (λ r. same_number number (T.number r)) (T.seen unit.now (state S.Store conn.old).now.trees)) }
-    ensures same { CanTell (state S.Store conn.new) → AreBooks (state S.Store conn.old).now → (state S.Store conn.new).now ≡ (state S.Store conn.old).now }
-    ensures told { CanTell (state S.Store conn.new) → CanTell (state S.Store conn.old) }
+    ensures reads { OnlyReads (state S.Store conn.old) (state S.Store conn.new) }
 {
     read_rows(alloc, conn, T::select_of_number(), &numbered(unit, number))
 }
@@ -115,8 +113,7 @@ pub fn own_grants<S: Alter>(
     requires { conn.old.in_transaction ≡ false }
     ensures mode { conn.new.in_transaction ≡ false }
     ensures rows { HasCleanDisk (state S.Store conn.new) → AreBooks (state S.Store conn.old).now → IfOk result (λ rows. rows ≡ filter (λ g. same_name person.now g.person) (rows_seen unit.now (state S.Store conn.old).now.trees GrantKept)) }
-    ensures same { CanTell (state S.Store conn.new) → AreBooks (state S.Store conn.old).now → (state S.Store conn.new).now ≡ (state S.Store conn.old).now }
-    ensures told { CanTell (state S.Store conn.new) → CanTell (state S.Store conn.old) }
+    ensures reads { OnlyReads (state S.Store conn.old) (state S.Store conn.new) }
 {
     read_rows(
         alloc,
@@ -131,8 +128,7 @@ pub fn count_of_alarms<S: Alter>(conn: &mut Connection<S>, unit: &UnitCode) -> R
     requires { conn.old.in_transaction ≡ false }
     ensures mode { conn.new.in_transaction ≡ false }
     ensures rows { HasCleanDisk (state S.Store conn.new) → AreBooks (state S.Store conn.old).now → IfOk result (λ n. n ≡ length (rows_seen unit.now (state S.Store conn.old).now.trees AlarmKept)) }
-    ensures same { CanTell (state S.Store conn.new) → AreBooks (state S.Store conn.old).now → (state S.Store conn.new).now ≡ (state S.Store conn.old).now }
-    ensures told { CanTell (state S.Store conn.new) → CanTell (state S.Store conn.old) }
+    ensures reads { OnlyReads (state S.Store conn.old) (state S.Store conn.new) }
 {
     let tags = ask(
         conn,
@@ -147,8 +143,7 @@ pub fn count_of_shelves<S: Alter>(conn: &mut Connection<S>, unit: &UnitCode) -> 
     requires { conn.old.in_transaction ≡ false }
     ensures mode { conn.new.in_transaction ≡ false }
     ensures rows { HasCleanDisk (state S.Store conn.new) → AreBooks (state S.Store conn.old).now → IfOk result (λ n. n ≡ length (rows_seen unit.now (state S.Store conn.old).now.trees ShelfKept)) }
-    ensures same { CanTell (state S.Store conn.new) → AreBooks (state S.Store conn.old).now → (state S.Store conn.new).now ≡ (state S.Store conn.old).now }
-    ensures told { CanTell (state S.Store conn.new) → CanTell (state S.Store conn.old) }
+    ensures reads { OnlyReads (state S.Store conn.old) (state S.Store conn.new) }
 {
     let tags = ask(
         conn,
@@ -163,8 +158,7 @@ pub fn last_change_number<S: Alter>(conn: &mut Connection<S>, unit: &UnitCode) -
     requires { conn.old.in_transaction ≡ false }
     ensures mode { conn.new.in_transaction ≡ false }
     ensures rows { HasCleanDisk (state S.Store conn.new) → AreBooks (state S.Store conn.old).now → IfOk result (λ n. n ≡ last_number (rows_seen unit.now (state S.Store conn.old).now.trees ChangeKept)) }
-    ensures same { CanTell (state S.Store conn.new) → AreBooks (state S.Store conn.old).now → (state S.Store conn.new).now ≡ (state S.Store conn.old).now }
-    ensures told { CanTell (state S.Store conn.new) → CanTell (state S.Store conn.old) }
+    ensures reads { OnlyReads (state S.Store conn.old) (state S.Store conn.new) }
 {
     let rows = ask(
         conn,

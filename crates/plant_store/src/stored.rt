@@ -2,7 +2,7 @@
 
 ghost use Rattle.std.specs.Prelude.{◌≡◌, ◌∷◌, [], ℕ, filter, IfOk, IsTrue, List, OnOk};
 ghost use Rattle.sqlite.specs.Held.{state};
-ghost use Rattle.sqlite.specs.State.{HasCleanDisk, KeepsCommit, Survives};
+ghost use Rattle.sqlite.specs.State.{HasCleanDisk};
 ghost use Rattle.sqlite.specs.Tree.{Trees};
 ghost use Rattle.sqlite_value.specs.declared.value.Value.TheVariants.{Text as TextValue};
 ghost use Rattle.plant_columns.specs.Codes as codes;
@@ -14,6 +14,7 @@ ghost use Rattle.plant_model.specs.declared.rows.Change.TheVariants.{Put};
 ghost use Rattle.plant_model.specs.declared.rows.Row.{Row as AnyRow};
 ghost use Rattle.plant_model.specs.declared.rows.Row.TheVariants.{Alarm as AlarmPut, Band as BandPut, Cell as CellPut, Change as ChangePut, Event as EventPut, Grant as GrantPut, Record as RecordPut, Shelf as ShelfPut, Unit as UnitPut};
 ghost use Rattle.plant_store.specs.Changes.{Applies};
+ghost use Rattle.plant_store.specs.StaysInside.{StaysInside};
 ghost use Rattle.plant_store.specs.Statements.{Reads, changes_written};
 ghost use Rattle.plant_store.specs.Texts.{alarms_of_text, bands_of_text, cells_of_text, changes_of_text, events_of_text, grants_of_text, records_of_text, shelves_of_text, units_of_text};
 ghost use Rattle.plant_types.specs.Names.{Name, same_name};
@@ -51,9 +52,7 @@ pub trait Stored: Shown {
         ensures same_reference { tx.new.conn.ghost_name ≡ tx.old.conn.ghost_name }
         ensures made { HasCleanDisk (state S.Store tx.new.conn.now) → IsTrue tx.old.conn.now.in_transaction → AreBooks (state S.Store tx.old.conn.now).now
             → IfOk result (λ count. Applies unit.now (changes_written count (Put (as_row self.now))) (state S.Store tx.old.conn.now).now (state S.Store tx.new.conn.now).now) }
-        ensures inside { HasCleanDisk (state S.Store tx.new.conn.now) → IsTrue tx.old.conn.now.in_transaction → OnOk result (IsTrue tx.new.conn.now.in_transaction) }
-        ensures kept { HasCleanDisk (state S.Store tx.new.conn.now) → IsTrue tx.old.conn.now.in_transaction → KeepsCommit (state S.Store tx.old.conn.now) (state S.Store tx.new.conn.now) }
-        ensures survives { Survives (state S.Store tx.old.conn.now) (state S.Store tx.new.conn.now) (λ _. ⊥) }
+        ensures stays { StaysInside result (state S.Store tx.old.conn.now) (state S.Store tx.new.conn.now) }
     {
         Ok(0)
     }
@@ -63,9 +62,7 @@ pub trait Stored: Shown {
         ensures same_reference { tx.new.conn.ghost_name ≡ tx.old.conn.ghost_name }
         ensures made { HasCleanDisk (state S.Store tx.new.conn.now) → IsTrue tx.old.conn.now.in_transaction → AreBooks (state S.Store tx.old.conn.now).now
             → OnOk result (Applies unit.now (Put (as_row self.now) ∷ []) (state S.Store tx.old.conn.now).now (state S.Store tx.new.conn.now).now) }
-        ensures inside { HasCleanDisk (state S.Store tx.new.conn.now) → IsTrue tx.old.conn.now.in_transaction → OnOk result (IsTrue tx.new.conn.now.in_transaction) }
-        ensures kept { HasCleanDisk (state S.Store tx.new.conn.now) → IsTrue tx.old.conn.now.in_transaction → KeepsCommit (state S.Store tx.old.conn.now) (state S.Store tx.new.conn.now) }
-        ensures survives { Survives (state S.Store tx.old.conn.now) (state S.Store tx.new.conn.now) (λ _. ⊥) };
+        ensures stays { StaysInside result (state S.Store tx.old.conn.now) (state S.Store tx.new.conn.now) };
 }
 
 /// A row of a table whose key has a tag.

@@ -6,8 +6,8 @@ ghost use Rattle.sqlite.specs.Held.{state};
 ghost use Rattle.plant_books.specs.Contents as contents;
 ghost use Rattle.plant_books.specs.Contents.{Content, events_in};
 ghost use Rattle.plant_store.specs.Changes.{CanTell};
+ghost use Rattle.plant_store.specs.OnlyReads.{OnlyReads};
 ghost use Rattle.plant_store.specs.Keeping.{KeepsIn, has_any};
-ghost use Rattle.plant_columns.specs.Tables.{AreBooks};
 
 use crate::read::all_rows;
 use plant_alarm::Event;
@@ -32,8 +32,7 @@ pub fn taken<S: Alter>(
     requires { conn.old.in_transaction ≡ false }
     ensures mode { conn.new.in_transaction ≡ false }
     ensures found { CanTell (state S.Store conn.new) → (m : Content) → KeepsIn (state S.Store conn.old) m → IfOk result (λ taken. taken ≡ contains_key m.units unit.now) }
-    ensures same { CanTell (state S.Store conn.new) → AreBooks (state S.Store conn.old).now → (state S.Store conn.new).now ≡ (state S.Store conn.old).now }
-    ensures told { CanTell (state S.Store conn.new) → CanTell (state S.Store conn.old) }
+    ensures reads { OnlyReads (state S.Store conn.old) (state S.Store conn.new) }
 {
     let units = all_rows(alloc, conn, unit)?;
     Ok(has_row(&units))
@@ -48,8 +47,7 @@ pub fn rows_but_events<S: Alter>(
     requires { conn.old.in_transaction ≡ false }
     ensures mode { conn.new.in_transaction ≡ false }
     ensures found { CanTell (state S.Store conn.new) → (m : Content) → KeepsIn (state S.Store conn.old) m → IfOk result (λ rows. rows ≡ contents.rows_but_events m unit.now) }
-    ensures same { CanTell (state S.Store conn.new) → AreBooks (state S.Store conn.old).now → (state S.Store conn.new).now ≡ (state S.Store conn.old).now }
-    ensures told { CanTell (state S.Store conn.new) → CanTell (state S.Store conn.old) }
+    ensures reads { OnlyReads (state S.Store conn.old) (state S.Store conn.new) }
 {
     let units = all_rows(alloc, conn, unit)?;
     if !has_row(&units) {
@@ -84,8 +82,7 @@ pub fn events<S: Alter>(
     requires { conn.old.in_transaction ≡ false }
     ensures mode { conn.new.in_transaction ≡ false }
     ensures found { CanTell (state S.Store conn.new) → (m : Content) → KeepsIn (state S.Store conn.old) m → IfOk result (λ events. events ≡ events_in m unit.now) }
-    ensures same { CanTell (state S.Store conn.new) → AreBooks (state S.Store conn.old).now → (state S.Store conn.new).now ≡ (state S.Store conn.old).now }
-    ensures told { CanTell (state S.Store conn.new) → CanTell (state S.Store conn.old) }
+    ensures reads { OnlyReads (state S.Store conn.old) (state S.Store conn.new) }
 {
     all_rows(alloc, conn, unit)
 }
@@ -99,8 +96,7 @@ pub fn rows_of<S: Alter>(
     requires { conn.old.in_transaction ≡ false }
     ensures mode { conn.new.in_transaction ≡ false }
     ensures found { CanTell (state S.Store conn.new) → (m : Content) → KeepsIn (state S.Store conn.old) m → IfOk result (λ rows. rows ≡ get m.units unit.now) }
-    ensures same { CanTell (state S.Store conn.new) → AreBooks (state S.Store conn.old).now → (state S.Store conn.new).now ≡ (state S.Store conn.old).now }
-    ensures told { CanTell (state S.Store conn.new) → CanTell (state S.Store conn.old) }
+    ensures reads { OnlyReads (state S.Store conn.old) (state S.Store conn.new) }
 {
     match rows_but_events(alloc, conn, unit)? {
         None => Ok(None),

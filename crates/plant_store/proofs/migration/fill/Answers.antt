@@ -16,11 +16,11 @@ returns-clause-made g c told clean started blank m is had =
     let between = (state g.O.Store c.old_codes_of.new.conn).now in
     let made = state g.N.Store c.make_tables.new.tx.conn.now in
     let new = (state g.N.Store c.take_units.new.tx.conn.now).now in
-    let known = c.take_units.ensures.told told in
-    let same : between ≡ before = c.old_codes_of.ensures.same known had.books in
-    let clean_made : HasCleanDisk made = omega (arith, c.take_units.ensures.survives.clean) in
+    let known = c.take_units.ensures.reads.told told in
+    let same : between ≡ before = c.old_codes_of.ensures.reads.same known had.books in
+    let clean_made : HasCleanDisk made = omega (arith, c.take_units.ensures.stays.survives.clean) in
     let empty = c.in_ok-make_tables.ensures.made clean_made started blank in
-    let inside = c.in_ok-make_tables.ensures.inside clean_made started in
+    let inside = c.in_ok-make_tables.ensures.stays.inside clean_made started in
     let lines : units_of c.as_slice.result.now ≡ old_codes between.trees = ap units_of c.as_slice.ensures ∙ c.in_ok-lines.ensures.rows known.0 had.books ∙ ap (λ (d : Database). old_codes d.trees) (sym same) in
     on_ok c.take_units.result
     (λ it.

@@ -4,5 +4,5 @@ use Rattle.plant_store.proofs.migration.migrate.Goals as goal
 
 pub returns-in-Ok-clause-taken : goal.returns-in-Ok-clause-taken
 returns-in-Ok-clause-taken g c m is told had =
-    let same = c.is_office_of.ensures.old_same (c.take_into_blank.ensures.told told) had.books in
+    let same = c.is_office_of.ensures.reads_old.same (c.take_into_blank.ensures.reads.told told) had.books in
     rw c.of.ensures.same (c.in-Ok.ensures.taken told m is (subst (HaveOldRows m) (sym same) had))

@@ -1,14 +1,13 @@
-use Rattle.std.proofs.Common.{◌≡◌, sym, subst, arith, rules, take, List}
+use Rattle.std.proofs.Common.{◌≡◌, sym, subst, arith, rules, take, List, Ok}
 use Rattle.std.proofs.lemmas.List.{take_all}
 use Rattle.sqlite.specs.State.{HasCleanDisk}
 use Rattle.sqlite.specs.Held.{state}
-use Rattle.sqlite.proofs.StateLemmas.{survives_then}
 use Rattle.plant_model.specs.declared.rows.Change.{Change}
 use Rattle.plant_model.specs.declared.rows.Change.TheVariants.{Put}
 use Rattle.plant_store.specs.Changes.{Applies}
+use Rattle.plant_store.proofs.StepsInside.{stays_then}
 use Rattle.plant_store.proofs.Upgrades.{mapped_more}
 use Rattle.plant_store.proofs.Writes.{applies_then}
-use Rattle.plant_tables.proofs.Asking.{keeps_then}
 use Rattle.plant_store.proofs.migration.put_rows.Goals as goal
 
 pub loop-row-preserved : goal.loop-row-preserved
@@ -16,19 +15,17 @@ loop-row-preserved g c =
     let old = state g.N.Store c.args.tx.now.conn.now in
     let mid = state g.N.Store c.loop-row.tx.conn.now in
     let now = state g.N.Store c.put.new.tx.conn.now in
-    let early = λ (clean : HasCleanDisk now). let before : HasCleanDisk mid = omega (arith, c.put.ensures.survives.clean) in before in
+    let early = λ (clean : HasCleanDisk now). let before : HasCleanDisk mid = omega (arith, c.put.ensures.stays.survives.clean) in before in
     record {
       same_reference = search rules;
       made = λ clean started books.
           let so_far = c.loop-row.invariant.made (early clean) started books in
-          let one = c.in_ok-put.ensures.made clean (c.loop-row.invariant.inside (early clean) started) so_far.books in
+          let one = c.in_ok-put.ensures.made clean (c.loop-row.invariant.stays.inside (early clean) started) so_far.books in
           let xs = c.args.rows.now in
           let at = c.loop-row.row-index in
           let more = mapped_more (λ r. Put (g.T.OldRow.becomes r)) xs at c.row-item.result (omega arith) c.row-item.is in
           subst (λ (l : List Change). Applies c.args.unit.now l old.now now.now) (sym more) (applies_then c.args.unit.now _ _ old.now mid.now now.now so_far one);
-      inside = λ clean started. c.in_ok-put.ensures.inside clean (c.loop-row.invariant.inside (early clean) started);
-      kept = λ clean started. keeps_then old mid now (c.loop-row.invariant.kept (early clean) started) (c.put.ensures.kept clean (c.loop-row.invariant.inside (early clean) started));
-      survives = survives_then old mid now (λ _. ⊥) (λ _. ⊥) (λ _. ⊥) (λ _ db none. none) (λ _ db none. none) c.loop-row.invariant.survives c.put.ensures.survives;
+      stays = stays_then {W = Unit {0}} {result = Ok tt} c.loop-row.invariant.stays c.in_ok-put.ensures.stays;
     }
 
 pub returns-clause-made : goal.returns-clause-made

@@ -1,9 +1,10 @@
-use Rattle.std.proofs.Common.{◌≡◌, map, take, IsTrue}
-use Rattle.sqlite.specs.State.{HasCleanDisk, KeepsCommit, Survives}
+use Rattle.std.proofs.Common.{◌≡◌, map, take, IsTrue, Ok}
+use Rattle.sqlite.specs.State.{HasCleanDisk}
 use Rattle.sqlite.specs.Held.{state}
 use Rattle.plant_columns.specs.Tables.{AreBooks}
 use Rattle.plant_model.specs.declared.rows.Change.TheVariants.{Put}
 use Rattle.plant_store.specs.Changes.{Applies}
+use Rattle.plant_store.specs.StaysInside.{StaysInside}
 use Rattle.plant_store.proofs.migration.put_rows.Given as goal
 
 -- what has been put so far
@@ -14,7 +15,5 @@ invariant-loop-row g l =
     record {
       same_reference : l.tx.conn.ghost_name ≡ l.fn.tx.conn.ghost_name;
       made : HasCleanDisk now → IsTrue l.fn.tx.conn.now.in_transaction → AreBooks old.now → Applies l.unit (map (λ r. Put (g.T.OldRow.becomes r)) (take l.row-index l.rows)) old.now now.now;
-      inside : HasCleanDisk now → IsTrue l.fn.tx.conn.now.in_transaction → IsTrue l.tx.conn.now.in_transaction;
-      kept : HasCleanDisk now → IsTrue l.fn.tx.conn.now.in_transaction → KeepsCommit old now;
-      survives : Survives old now (λ _. ⊥);
+      stays : StaysInside {V = Unit {0}} (Ok tt) old now;
     }

@@ -1,19 +1,19 @@
-use Rattle.std.proofs.Common.{◌≡◌, ap, sym, subst, ◌∙◌, arith, rules, List, ◌++◌, take, ◌+◌, get_or}
+use Rattle.std.proofs.Common.{◌≡◌, ap, sym, subst, ◌∙◌, arith, rules, List, ◌++◌, take, ◌+◌, get_or, Ok}
 use Rattle.std.proofs.lemmas.List.{take_more}
 use Rattle.std.specs.List.{flat_map}
 use Rattle.sqlite.specs.Effect.{Database}
 use Rattle.sqlite.specs.State.{HasCleanDisk}
 use Rattle.sqlite.specs.Held.{state}
-use Rattle.sqlite.proofs.StateLemmas.{survives_then}
 use Rattle.plant_model.specs.declared.rows.Change.{Change}
 use Rattle.plant_store.specs.declared.migration.TableKind.{TableKind}
 use Rattle.plant_store.specs.declared.migration.TableKind.TheVariants.{Units}
 use Rattle.plant_store.specs.Changes.{Applies}
 use Rattle.plant_store.specs.OldTables.{AreOldBooks}
 use Rattle.plant_store.specs.Upgrading.{puts_all, puts_of, upgraded_rows}
+use Rattle.plant_store.proofs.ReadsOnly.{reads_then}
+use Rattle.plant_store.proofs.StepsInside.{stays_then}
 use Rattle.plant_store.proofs.Upgrades.{joined}
 use Rattle.plant_store.proofs.Writes.{applies_then}
-use Rattle.plant_tables.proofs.Asking.{keeps_then}
 use Rattle.plant_store.proofs.migration.take_tables.Goals as goal
 
 pub loop-kind-preserved : goal.loop-kind-preserved
@@ -24,19 +24,16 @@ loop-kind-preserved g c =
     let old = state g.N.Store c.args.tx.now.conn.now in
     let mid = state g.N.Store c.loop-kind.tx.conn.now in
     let now = state g.N.Store c.take_table.new.tx.conn.now in
-    let early = λ (clean : HasCleanDisk now). let before : HasCleanDisk mid = omega (arith, c.take_table.ensures.survives.clean) in before in
+    let early = λ (clean : HasCleanDisk now). let before : HasCleanDisk mid = omega (arith, c.take_table.ensures.stays.survives.clean) in before in
     record {
       mode = c.take_table.ensures.mode;
-      same = λ told books.
-          let one = c.loop-kind.invariant.same (c.take_table.ensures.told told) books in
-          c.take_table.ensures.same told (subst AreOldBooks (sym one) books) ∙ one;
-      told = λ told. c.loop-kind.invariant.told (c.take_table.ensures.told told);
+      reads = reads_then c.loop-kind.invariant.reads c.take_table.ensures.reads;
       same_reference = search rules;
       made = λ told old_books clean started books.
-          let before = c.take_table.ensures.told told in
-          let is = c.loop-kind.invariant.same before old_books in
+          let before = c.take_table.ensures.reads.told told in
+          let is = c.loop-kind.invariant.reads.same before old_books in
           let so_far = c.loop-kind.invariant.made before old_books (early clean) started books in
-          let one = c.in_ok-take_table.ensures.made told (subst AreOldBooks (sym is) old_books) clean (c.loop-kind.invariant.inside (early clean) started) so_far.books in
+          let one = c.in_ok-take_table.ensures.made told (subst AreOldBooks (sym is) old_books) clean (c.loop-kind.invariant.stays.inside (early clean) started) so_far.books in
           let u = c.args.unit.now in
           let xs : List TableKind = c.args.kinds.now in
           let at = c.loop-kind.kind-index in
@@ -45,7 +42,5 @@ loop-kind-preserved g c =
           let here = subst (λ (d : Database). Applies u (puts_of (upgraded_rows u d.trees) kind) mid.now now.now) is one in
           let more : puts_all rows (take (at + 1) xs) ≡ puts_all rows (take at xs) ++ puts_of rows kind = ap (flat_map (puts_of rows)) (take_more xs at Units (omega arith)) ∙ joined (puts_of rows) (take at xs) kind in
           subst (λ (l : List Change). Applies u l old.now now.now) (sym more) (applies_then u (puts_all rows (take at xs)) (puts_of rows kind) old.now mid.now now.now so_far here);
-      inside = λ clean started. c.in_ok-take_table.ensures.inside clean (c.loop-kind.invariant.inside (early clean) started);
-      kept = λ clean started. keeps_then old mid now (c.loop-kind.invariant.kept (early clean) started) (c.take_table.ensures.kept clean (c.loop-kind.invariant.inside (early clean) started));
-      survives = survives_then old mid now (λ _. ⊥) (λ _. ⊥) (λ _. ⊥) (λ _ db none. none) (λ _ db none. none) c.loop-kind.invariant.survives c.take_table.ensures.survives;
+      stays = stays_then {W = Unit {0}} {result = Ok tt} c.loop-kind.invariant.stays c.in_ok-take_table.ensures.stays;
     }

@@ -1,10 +1,12 @@
-use Rattle.std.proofs.Common.{◌≡◌, false, take, IsTrue}
-use Rattle.sqlite.specs.State.{HasCleanDisk, KeepsCommit, Survives}
+use Rattle.std.proofs.Common.{◌≡◌, false, take, IsTrue, Ok}
+use Rattle.sqlite.specs.State.{HasCleanDisk}
 use Rattle.sqlite.specs.Held.{state}
 use Rattle.plant_columns.specs.Tables.{AreBooks}
 use Rattle.plant_store.specs.Changes.{Applies, CanTell}
 use Rattle.plant_store.specs.OldTables.{AreOldBooks}
+use Rattle.plant_store.specs.OnlyReads.{OnlyReadsOld}
 use Rattle.plant_store.specs.Upgrading.{puts_all, upgraded_rows}
+use Rattle.plant_store.specs.StaysInside.{StaysInside}
 use Rattle.plant_store.proofs.migration.take_tables.Given as goal
 
 -- what has been taken over so far
@@ -16,11 +18,8 @@ invariant-loop-kind g l =
     let now = state g.N.Store l.tx.conn.now in
     record {
       mode : l.from.in_transaction ≡ false;
-      same : CanTell has → AreOldBooks had.now → has.now ≡ had.now;
-      told : CanTell has → CanTell had;
+      reads : OnlyReadsOld had has;
       same_reference : l.tx.conn.ghost_name ≡ l.fn.tx.conn.ghost_name;
       made : CanTell has → AreOldBooks had.now → HasCleanDisk now → IsTrue l.fn.tx.conn.now.in_transaction → AreBooks old.now → Applies l.unit (puts_all (upgraded_rows l.unit had.now.trees) (take l.kind-index l.kinds)) old.now now.now;
-      inside : HasCleanDisk now → IsTrue l.fn.tx.conn.now.in_transaction → IsTrue l.tx.conn.now.in_transaction;
-      kept : HasCleanDisk now → IsTrue l.fn.tx.conn.now.in_transaction → KeepsCommit old now;
-      survives : Survives old now (λ _. ⊥);
+      stays : StaysInside {V = Unit {0}} (Ok tt) old now;
     }

@@ -1,16 +1,16 @@
-use Rattle.std.proofs.Common.{◌≡◌, ap, sym, subst, ◌∙◌, arith, rules, List, ◌∷◌, [], ◌++◌, take, ◌+◌, false, Less}
+use Rattle.std.proofs.Common.{◌≡◌, ap, sym, subst, ◌∙◌, arith, rules, List, ◌∷◌, [], ◌++◌, take, ◌+◌, false, Less, Ok}
 use Rattle.std.proofs.lemmas.List.{take_more}
 use Rattle.sqlite.specs.Effect.{Database}
 use Rattle.sqlite.specs.State.{HasCleanDisk}
 use Rattle.sqlite.specs.Held.{state}
-use Rattle.sqlite.proofs.StateLemmas.{survives_then}
 use Rattle.sqlite_trees.specs.Tree.{IsAscending}
 use Rattle.plant_store.specs.declared.old_rows.CodeLine.{CodeLine}
 use Rattle.plant_store.specs.Changes.{Applies}
 use Rattle.plant_store.specs.OldTables.{AreOldBooks}
 use Rattle.plant_store.specs.Upgrading.{AreTakenOver, all_kinds, is_among, puts_all, upgraded_rows}
+use Rattle.plant_store.proofs.ReadsOnly.{reads_then}
+use Rattle.plant_store.proofs.StepsInside.{stays_then}
 use Rattle.plant_store.proofs.Upgrades.{codes_rise, mapped, not_before, taken_next, units_of}
-use Rattle.plant_tables.proofs.Asking.{keeps_then}
 use Rattle.plant_types.specs.Names.{Name, name_cmp}
 use Rattle.plant_store.proofs.migration.take_units.Goals as goal
 
@@ -22,19 +22,16 @@ loop-line-preserved g c =
     let old = state g.N.Store c.args.tx.now.conn.now in
     let mid = state g.N.Store c.loop-line.tx.conn.now in
     let now = state g.N.Store c.take_unit.new.tx.conn.now in
-    let early = λ (clean : HasCleanDisk now). let before : HasCleanDisk mid = omega (arith, c.take_unit.ensures.survives.clean) in before in
+    let early = λ (clean : HasCleanDisk now). let before : HasCleanDisk mid = omega (arith, c.take_unit.ensures.stays.survives.clean) in before in
     record {
       mode = c.take_unit.ensures.mode;
-      same = λ told books.
-          let one = c.loop-line.invariant.same (c.take_unit.ensures.told told) books in
-          c.take_unit.ensures.same told (subst AreOldBooks (sym one) books) ∙ one;
-      told = λ told. c.loop-line.invariant.told (c.take_unit.ensures.told told);
+      reads = reads_then c.loop-line.invariant.reads c.take_unit.ensures.reads;
       same_reference = search rules;
       made = λ told old_books all clean started none.
-          let before = c.take_unit.ensures.told told in
-          let is = c.loop-line.invariant.same before old_books in
+          let before = c.take_unit.ensures.reads.told told in
+          let is = c.loop-line.invariant.reads.same before old_books in
           let so_far = c.loop-line.invariant.made before old_books all (early clean) started none in
-          let one = c.in_ok-take_unit.ensures.made told (subst AreOldBooks (sym is) old_books) clean (c.loop-line.invariant.inside (early clean) started) so_far.0.books in
+          let one = c.in_ok-take_unit.ensures.made told (subst AreOldBooks (sym is) old_books) clean (c.loop-line.invariant.stays.inside (early clean) started) so_far.0.books in
           let xs = c.args.lines.now in
           let at = c.loop-line.line-index in
           let x : CodeLine = c.line-item.result in
@@ -44,7 +41,5 @@ loop-line-preserved g c =
           let more : units_of (take (at + 1) xs) ≡ units_of (take at xs) ++ x.unit ∷ [] =
           ap units_of (take_more xs at x (omega arith) ∙ ap (λ (y : CodeLine). take at xs ++ y ∷ []) (sym c.line-item.is)) ∙ mapped (λ (l : CodeLine). l.unit) (take at xs) x in
           (subst (λ (us : List Name). AreTakenOver us had.now.trees now.now) (sym more) (taken_next (units_of (take at xs)) x.unit had.now old_books mid.now now.now fresh so_far.0 here), here.office ∙ so_far.1);
-      inside = λ clean started. c.in_ok-take_unit.ensures.inside clean (c.loop-line.invariant.inside (early clean) started);
-      kept = λ clean started. keeps_then old mid now (c.loop-line.invariant.kept (early clean) started) (c.take_unit.ensures.kept clean (c.loop-line.invariant.inside (early clean) started));
-      survives = survives_then old mid now (λ _. ⊥) (λ _. ⊥) (λ _. ⊥) (λ _ db none. none) (λ _ db none. none) c.loop-line.invariant.survives c.take_unit.ensures.survives;
+      stays = stays_then {W = Unit {0}} {result = Ok tt} c.loop-line.invariant.stays c.in_ok-take_unit.ensures.stays;
     }

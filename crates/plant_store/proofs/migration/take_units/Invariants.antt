@@ -1,9 +1,11 @@
-use Rattle.std.proofs.Common.{◌≡◌, [], false, take, IsTrue}
-use Rattle.sqlite.specs.State.{HasCleanDisk, KeepsCommit, Survives}
+use Rattle.std.proofs.Common.{◌≡◌, [], false, take, IsTrue, Ok}
+use Rattle.sqlite.specs.State.{HasCleanDisk}
 use Rattle.sqlite.specs.Held.{state}
 use Rattle.plant_store.specs.Changes.{CanTell}
 use Rattle.plant_store.specs.OldTables.{AreOldBooks}
+use Rattle.plant_store.specs.OnlyReads.{OnlyReadsOld}
 use Rattle.plant_store.specs.Upgrading.{AreTakenOver, old_codes}
+use Rattle.plant_store.specs.StaysInside.{StaysInside}
 use Rattle.plant_store.proofs.Upgrades.{units_of}
 use Rattle.plant_store.proofs.migration.take_units.Given as goal
 
@@ -16,12 +18,9 @@ invariant-loop-line g l =
     let now = state g.N.Store l.tx.conn.now in
     record {
       mode : l.from.in_transaction ≡ false;
-      same : CanTell has → AreOldBooks had.now → has.now ≡ had.now;
-      told : CanTell has → CanTell had;
+      reads : OnlyReadsOld had has;
       same_reference : l.tx.conn.ghost_name ≡ l.fn.tx.conn.ghost_name;
       made : CanTell has → AreOldBooks had.now → units_of l.lines ≡ old_codes had.now.trees → HasCleanDisk now → IsTrue l.fn.tx.conn.now.in_transaction → AreTakenOver [] had.now.trees old.now
           → AreTakenOver (units_of (take l.line-index l.lines)) had.now.trees now.now × (now.now.trees 0 ≡ old.now.trees 0);
-      inside : HasCleanDisk now → IsTrue l.fn.tx.conn.now.in_transaction → IsTrue l.tx.conn.now.in_transaction;
-      kept : HasCleanDisk now → IsTrue l.fn.tx.conn.now.in_transaction → KeepsCommit old now;
-      survives : Survives old now (λ _. ⊥);
+      stays : StaysInside {V = Unit {0}} (Ok tt) old now;
     }

@@ -4,6 +4,7 @@ use Rattle.sqlite.specs.Held.{state}
 use Rattle.plant_columns.specs.Tables.{AreBooks}
 use Rattle.plant_model.specs.Histories.{same_number}
 use Rattle.plant_store.specs.Changes.{CanTell}
+use Rattle.plant_store.specs.OnlyReads.{OnlyReads}
 use Rattle.plant_store.proofs.numbers.rows_numbered.Given as goal
 
 -- what has been read so far
@@ -14,6 +15,5 @@ invariant-loop-number g l =
     record {
       mode : l.conn.in_transaction ≡ false;
       rows : CanTell now → AreBooks old.now → l.rows.items ≡ flat_map (λ n. filter (λ r. same_number n (g.T.Numbered.number r)) (g.T.Stored.seen l.unit old.now.trees)) (take l.number-index l.numbers);
-      same : CanTell now → AreBooks old.now → now.now ≡ old.now;
-      told : CanTell now → CanTell old;
+      reads : OnlyReads old now;
     }

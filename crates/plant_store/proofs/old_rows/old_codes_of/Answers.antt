@@ -3,12 +3,12 @@ use Rattle.sqlite.specs.Held.{state}
 use Rattle.sqlite_value.specs.declared.value.Value.TheVariants.{Text}
 use Rattle.sqlite_value.specs.Order.{Row, bytes, column}
 use Rattle.plant_store.specs.declared.old_rows.CodeLine.{CodeLine}
-use Rattle.plant_store.specs.OldTables.{old_books_schema}
 use Rattle.plant_store.proofs.OldMeanings.{old_codes_plain}
 use Rattle.plant_store.proofs.OldQueries.{find_old_codes}
 use Rattle.plant_store.proofs.Queries.{if_ok}
 use Rattle.plant_columns.specs.Shown.{columns}
 use Rattle.plant_types.specs.Names.{Name}
+use Rattle.plant_store.proofs.ReadsOnly.{reads_plain_old}
 use Rattle.plant_store.proofs.old_rows.old_codes_of.Goals as goal
 
 told : (rows : List Row) (cs : List Name) (lines : List CodeLine) → rows ≡ map (λ c. Text c ∷ []) cs → map (columns 1) rows ≡ map (λ (l : CodeLine). Text l.unit ∷ []) lines → map (λ (l : CodeLine). l.unit) lines ≡ cs
@@ -31,5 +31,5 @@ returns-clause-rows g c clean books =
     let new = state g.S.Store c.read_rows.new.conn in
     if_ok c.read_rows.result (λ lines it. told it.0 _ lines (find_old_codes old new books it.0 it.1.0) it.1.1) (c.read_rows.ensures.rows clean)
 
-pub returns-clause-same : goal.returns-clause-same
-returns-clause-same g c told books = c.read_rows.ensures.same told old_books_schema books.same_schema old_codes_plain
+pub returns-clause-reads : goal.returns-clause-reads
+returns-clause-reads g c = reads_plain_old _ old_codes_plain c.read_rows.ensures.same c.read_rows.ensures.told

@@ -1,4 +1,4 @@
-use Rattle.std.proofs.Common.{◌≡◌, ap, sym, ◌∙◌, subst, true, ◌||◌, filter, rules}
+use Rattle.std.proofs.Common.{◌≡◌, ap, sym, ◌∙◌, subst, ◌||◌, filter, rules}
 use Rattle.sqlite.specs.Effect.{Database}
 use Rattle.sqlite.specs.Held.{state}
 use Rattle.plant_books.specs.Contents.{rows_in}
@@ -9,7 +9,6 @@ use Rattle.plant_model.specs.declared.rows.ChangeEntry.{ChangeEntry}
 use Rattle.plant_model.specs.declared.rows.GrantRow.{GrantRow}
 use Rattle.plant_model.specs.declared.rows.RecordEntry.{RecordEntry}
 use Rattle.plant_types.specs.Names.{same_name}
-use Rattle.plant_store.specs.Keeping.{has_any}
 use Rattle.plant_columns.specs.Tables.{AreBooks, rows_seen}
 use Rattle.plant_columns.specs.Tables.Kept.{UnitKept, GrantKept, AlarmKept, ShelfKept, BandKept, CellKept, EventKept, RecordKept, ChangeKept}
 use Rattle.plant_store.specs.Wanted.{alarms_with, events_with, records_with, shelves_with}
@@ -40,35 +39,35 @@ returns-clause-found g c told m k units own =
     let s8 = state g.S.Store c.some_bands.new.conn in
     let s9 = state g.S.Store c.some_cells.new.conn in
     let s10 = state g.S.Store c.some_changes.new.conn in
-    let t10 = c.count_for.ensures.told told in
-    let t9 = c.some_changes.ensures.told t10 in
-    let t8 = c.some_cells.ensures.told t9 in
-    let t7 = c.some_bands.ensures.told t8 in
-    let t6 = c.some_records.ensures.told t7 in
-    let t5 = c.some_events.ensures.told t6 in
-    let t4 = c.some_shelves.ensures.told t5 in
-    let t3 = c.some_alarms.ensures.told t4 in
-    let t2 = c.some_grants.ensures.told t3 in
-    let t1 = c.approved_for.ensures.told t2 in
-    let e1 : s1.now ≡ old.now = c.crowded_for.ensures.same t1 k.books in
+    let t10 = c.count_for.ensures.reads.told told in
+    let t9 = c.some_changes.ensures.reads.told t10 in
+    let t8 = c.some_cells.ensures.reads.told t9 in
+    let t7 = c.some_bands.ensures.reads.told t8 in
+    let t6 = c.some_records.ensures.reads.told t7 in
+    let t5 = c.some_events.ensures.reads.told t6 in
+    let t4 = c.some_shelves.ensures.reads.told t5 in
+    let t3 = c.some_alarms.ensures.reads.told t4 in
+    let t2 = c.some_grants.ensures.reads.told t3 in
+    let t1 = c.approved_for.ensures.reads.told t2 in
+    let e1 : s1.now ≡ old.now = c.crowded_for.ensures.reads.same t1 k.books in
     let b1 : AreBooks s1.now = subst AreBooks (sym e1) k.books in
-    let e2 : s2.now ≡ old.now = c.approved_for.ensures.same t2 b1 ∙ e1 in
+    let e2 : s2.now ≡ old.now = c.approved_for.ensures.reads.same t2 b1 ∙ e1 in
     let b2 : AreBooks s2.now = subst AreBooks (sym e2) k.books in
-    let e3 : s3.now ≡ old.now = c.some_grants.ensures.same t3 b2 ∙ e2 in
+    let e3 : s3.now ≡ old.now = c.some_grants.ensures.reads.same t3 b2 ∙ e2 in
     let b3 : AreBooks s3.now = subst AreBooks (sym e3) k.books in
-    let e4 : s4.now ≡ old.now = c.some_alarms.ensures.same t4 b3 ∙ e3 in
+    let e4 : s4.now ≡ old.now = c.some_alarms.ensures.reads.same t4 b3 ∙ e3 in
     let b4 : AreBooks s4.now = subst AreBooks (sym e4) k.books in
-    let e5 : s5.now ≡ old.now = c.some_shelves.ensures.same t5 b4 ∙ e4 in
+    let e5 : s5.now ≡ old.now = c.some_shelves.ensures.reads.same t5 b4 ∙ e4 in
     let b5 : AreBooks s5.now = subst AreBooks (sym e5) k.books in
-    let e6 : s6.now ≡ old.now = c.some_events.ensures.same t6 b5 ∙ e5 in
+    let e6 : s6.now ≡ old.now = c.some_events.ensures.reads.same t6 b5 ∙ e5 in
     let b6 : AreBooks s6.now = subst AreBooks (sym e6) k.books in
-    let e7 : s7.now ≡ old.now = c.some_records.ensures.same t7 b6 ∙ e6 in
+    let e7 : s7.now ≡ old.now = c.some_records.ensures.reads.same t7 b6 ∙ e6 in
     let b7 : AreBooks s7.now = subst AreBooks (sym e7) k.books in
-    let e8 : s8.now ≡ old.now = c.some_bands.ensures.same t8 b7 ∙ e7 in
+    let e8 : s8.now ≡ old.now = c.some_bands.ensures.reads.same t8 b7 ∙ e7 in
     let b8 : AreBooks s8.now = subst AreBooks (sym e8) k.books in
-    let e9 : s9.now ≡ old.now = c.some_cells.ensures.same t9 b8 ∙ e8 in
+    let e9 : s9.now ≡ old.now = c.some_cells.ensures.reads.same t9 b8 ∙ e8 in
     let b9 : AreBooks s9.now = subst AreBooks (sym e9) k.books in
-    let e10 : s10.now ≡ old.now = c.some_changes.ensures.same t10 b9 ∙ e9 in
+    let e10 : s10.now ≡ old.now = c.some_changes.ensures.reads.same t10 b9 ∙ e9 in
     let b10 : AreBooks s10.now = subst AreBooks (sym e10) k.books in
     let all = rows_in m u in
     let seen : IsSeenIn all call.request c.in_ok-crowded.crowded (slice_get c.in_ok-approved.approved 0) = record {

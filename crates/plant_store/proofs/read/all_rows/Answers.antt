@@ -1,7 +1,7 @@
 use Rattle.sqlite.specs.Held.{state}
-use Rattle.plant_columns.specs.Tables.{books_schema}
 use Rattle.plant_store.proofs.Queries.{if_ok}
 use Rattle.plant_store.proofs.Reading.{shown_decoded}
+use Rattle.plant_store.proofs.ReadsOnly.{reads_plain}
 use Rattle.plant_store.proofs.read.all_rows.Goals as goal
 
 pub returns-clause-rows : goal.returns-clause-rows
@@ -10,5 +10,5 @@ returns-clause-rows g c clean books =
     let new = state g.S.Store c.read_rows.new.conn in
     if_ok c.read_rows.result (λ read it. shown_decoded (c.select.ensures.reads c.args.unit.now) old new books.same_schema books it.0 (rw c.single.ensures at it.1.0) read it.1.1) (c.read_rows.ensures.rows clean)
 
-pub returns-clause-same : goal.returns-clause-same
-returns-clause-same g c told books = c.read_rows.ensures.same told books_schema books.same_schema (c.select.ensures.reads c.args.unit.now).plain
+pub returns-clause-reads : goal.returns-clause-reads
+returns-clause-reads g c = reads_plain _ (c.select.ensures.reads c.args.unit.now).plain c.read_rows.ensures.same c.read_rows.ensures.told

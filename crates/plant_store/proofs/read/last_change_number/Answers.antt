@@ -1,10 +1,10 @@
 use Rattle.std.proofs.Common.{sym, ap, slice_get, ◌∙◌}
 use Rattle.std.specs.Option.{option_copied}
 use Rattle.sqlite.specs.Held.{state}
-use Rattle.plant_columns.specs.Tables.{books_schema}
 use Rattle.plant_store.proofs.Lasts.{last_came, no_last_came}
 use Rattle.plant_store.proofs.Meanings.{last_change_plain}
 use Rattle.plant_store.proofs.Queries.{if_ok}
+use Rattle.plant_store.proofs.ReadsOnly.{reads_plain}
 use Rattle.plant_store.proofs.read.last_change_number.Goals as goal
 
 pub returns-in-Some-clause-rows : goal.returns-in-Some-clause-rows
@@ -19,11 +19,11 @@ returns-clause-rows g c clean books =
     let none = sym (ap option_copied c.in-None.is) ∙ c.first.ensures.value ∙ ap (λ l. slice_get l 0) c.as_slice.ensures.value in
     no_last_came c.args.unit.now (state g.S.Store c.args.conn.now) (state g.S.Store c.ask.new.conn) books c.in_ok-rows.rows.items shown none
 
-pub returns-in_err-rows-clause-same : goal.returns-in_err-rows-clause-same
-returns-in_err-rows-clause-same g c told books = c.ask.ensures.same told books_schema books.same_schema last_change_plain
+pub returns-in_err-rows-clause-reads : goal.returns-in_err-rows-clause-reads
+returns-in_err-rows-clause-reads g c = reads_plain _ last_change_plain c.ask.ensures.same c.ask.ensures.told
 
-pub returns-in-Some-clause-same : goal.returns-in-Some-clause-same
-returns-in-Some-clause-same g c told books = c.ask.ensures.same told books_schema books.same_schema last_change_plain
+pub returns-in-Some-clause-reads : goal.returns-in-Some-clause-reads
+returns-in-Some-clause-reads g c = reads_plain _ last_change_plain c.ask.ensures.same c.ask.ensures.told
 
-pub returns-clause-same : goal.returns-clause-same
-returns-clause-same g c told books = c.ask.ensures.same told books_schema books.same_schema last_change_plain
+pub returns-clause-reads : goal.returns-clause-reads
+returns-clause-reads g c = reads_plain _ last_change_plain c.ask.ensures.same c.ask.ensures.told

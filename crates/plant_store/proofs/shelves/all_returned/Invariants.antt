@@ -1,9 +1,9 @@
 use Rattle.std.proofs.Common.{◌≡◌, false, map, take}
 use Rattle.sqlite.specs.Held.{state}
 use Rattle.plant_books.specs.Contents.{Content}
-use Rattle.plant_columns.specs.Tables.{AreBooks}
 use Rattle.plant_store.specs.Changes.{CanTell}
 use Rattle.plant_store.specs.Keeping.{KeepsIn}
+use Rattle.plant_store.specs.OnlyReads.{OnlyReads}
 use Rattle.plant_store.specs.Shelves.{with_return}
 use Rattle.plant_store.proofs.shelves.all_returned.Given as goal
 
@@ -15,6 +15,5 @@ invariant-loop-shelf g l =
     record {
       mode : l.conn.in_transaction ≡ false;
       found : CanTell now → (m : Content) → KeepsIn old m → l.mine ≡ map (with_return m) (take l.shelf-index l.shelves);
-      same : CanTell now → AreBooks old.now → now.now ≡ old.now;
-      told : CanTell now → CanTell old;
+      reads : OnlyReads old now;
     }

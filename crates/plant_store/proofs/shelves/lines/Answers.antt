@@ -2,13 +2,13 @@ use Rattle.std.proofs.Common.{◌≡◌, refl}
 use Rattle.sqlite.specs.Held.{state}
 use Rattle.sqlite_value.specs.Order.{Row, bytes, column}
 use Rattle.plant_columns.specs.Codes.{flag_in, number_in, open_number_in}
-use Rattle.plant_columns.specs.Tables.{books_schema}
 use Rattle.plant_columns.proofs.ShapeLaws.{flag_back, open_number_back}
 use Rattle.plant_store.specs.declared.shelves.ShelfLine.{ShelfLine}
 use Rattle.plant_store.specs.Shelves.{shelf_line_cells}
 use Rattle.plant_store.proofs.JoinedShelves.{find_mine_shelves}
 use Rattle.plant_store.proofs.Meanings.{mine_shelves_plain}
 use Rattle.plant_store.proofs.Queries.{if_ok, told_by}
+use Rattle.plant_store.proofs.ReadsOnly.{reads_plain}
 use Rattle.plant_store.proofs.shelves.lines.Goals as goal
 
 line_back : Row → ShelfLine
@@ -31,8 +31,8 @@ returns-clause-found g c told m k =
     let shown = find_mine_shelves (state g.S.Store c.args.conn.now) m k c.args.person.now (state g.S.Store c.ask.new.conn) c.in_ok-rows.rows.items (rw c.single.ensures at (c.in_ok-rows.ensures.rows told.0)) in
     if_ok c.read_all.result (λ read. told_by shelf_line_cells line_back read_back 8 (λ x. refl) c.in_ok-rows.rows.items _ read shown) (rw c.as_slice.ensures.value at c.read_all.ensures)
 
-pub returns-clause-same : goal.returns-clause-same
-returns-clause-same g c told books = c.ask.ensures.same told books_schema books.same_schema mine_shelves_plain
+pub returns-clause-reads : goal.returns-clause-reads
+returns-clause-reads g c = reads_plain _ mine_shelves_plain c.ask.ensures.same c.ask.ensures.told
 
-pub returns-in_err-rows-clause-same : goal.returns-in_err-rows-clause-same
-returns-in_err-rows-clause-same g c told books = c.ask.ensures.same told books_schema books.same_schema mine_shelves_plain
+pub returns-in_err-rows-clause-reads : goal.returns-in_err-rows-clause-reads
+returns-in_err-rows-clause-reads g c = reads_plain _ mine_shelves_plain c.ask.ensures.same c.ask.ensures.told

@@ -1,5 +1,4 @@
 use Rattle.std.proofs.Common.{◌∙◌}
-use Rattle.sqlite.specs.Held.{state}
 use Rattle.plant_columns.specs.Tables.Kept.{EventKept}
 use Rattle.plant_store.proofs.Queries.{if_ok}
 use Rattle.plant_store.proofs.unit.events.Goals as goal

@@ -14,7 +14,7 @@ loop-change-preserved g c =
     let old = state g.S.Store c.args.tx.now.conn.now in
     let mid = state g.S.Store c.loop-change.tx.conn.now in
     let now = state g.S.Store c.change_one.new.tx.conn.now in
-    let early = λ (clean : HasCleanDisk now). let before : HasCleanDisk mid = omega (arith, c.change_one.ensures.survives.clean) in before in
+    let early = λ (clean : HasCleanDisk now). let before : HasCleanDisk mid = omega (arith, c.change_one.ensures.stays.survives.clean) in before in
     record {
       same_reference = search rules;
       made = λ clean books.
@@ -25,7 +25,7 @@ loop-change-preserved g c =
           let x : Change = c.change-item.result in
           let more : take (at + 1) xs ≡ take at xs ++ x ∷ [] = take_more xs at x (omega arith) ∙ ap (λ (y : Change). take at xs ++ y ∷ []) (sym c.change-item.is) in
           subst (λ (l : List Change). Applies c.args.unit.now l old.now now.now) (sym more) (applies_then c.args.unit.now (take at xs) (x ∷ []) old.now mid.now now.now so_far one);
-      inside = λ clean. c.in_ok-change_one.ensures.inside clean (c.loop-change.invariant.inside (early clean));
-      kept = λ clean. keeps_then old mid now (c.loop-change.invariant.kept (early clean)) (c.change_one.ensures.kept clean (c.loop-change.invariant.inside (early clean)));
-      survives = survives_then old mid now (λ _. ⊥) (λ _. ⊥) (λ _. ⊥) (λ _ db none. none) (λ _ db none. none) c.loop-change.invariant.survives c.change_one.ensures.survives;
+      inside = λ clean. c.in_ok-change_one.ensures.stays.inside clean (c.loop-change.invariant.inside (early clean));
+      kept = λ clean. keeps_then old mid now (c.loop-change.invariant.kept (early clean)) (c.change_one.ensures.stays.kept clean (c.loop-change.invariant.inside (early clean)));
+      survives = survives_then old mid now (λ _. ⊥) (λ _. ⊥) (λ _. ⊥) (λ _ db none. none) (λ _ db none. none) c.loop-change.invariant.survives c.change_one.ensures.stays.survives;
     }

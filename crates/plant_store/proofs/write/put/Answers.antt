@@ -19,7 +19,7 @@ returns-clause-made g c clean inside books =
     let old = state g.S.Store c.args.tx.now.conn.now in
     let between = state g.S.Store c.update.new.tx.conn.now in
     let new = state g.S.Store c.insert.new.tx.conn.now in
-    let before : HasCleanDisk between = omega (arith, c.insert.ensures.survives.clean) in
+    let before : HasCleanDisk between = omega (arith, c.insert.ensures.stays.survives.clean) in
     let first = none_put u change old.now between.now c.in_ok-written.written (search rules) (c.in_ok-written.ensures.made before inside books) in
-    let within = c.in_ok-written.ensures.inside before inside in
+    let within = c.in_ok-written.ensures.stays.inside before inside in
     on_ok c.insert.result (applies_then u [] (change ∷ []) old.now between.now new.now first) (c.insert.ensures.made clean within first.books)

@@ -1,0 +1,19 @@
+-- What a connection that was only read is afterwards.
+use Rattle.sqlite.specs.Effect.{Database}
+use Rattle.sqlite.specs.State.{State}
+use Rattle.std.specs.Prelude.{◌≡◌}
+use Rattle.plant_columns.specs.Tables.{AreBooks}
+use Rattle.plant_store.specs.Changes.{CanTell}
+use Rattle.plant_store.specs.OldTables.{AreOldBooks}
+
+-- what can be told of it now could be told before, and such tables are as they were
+pub record OnlyReadsIn (AreIts : Database → Type 0) (before after : State) : Type 0 where
+  pub same : CanTell after → AreIts before.now → after.now ≡ before.now
+  pub told : CanTell after → CanTell before
+
+-- over the tables of the books, and over those of schema 1
+abbrev pub OnlyReads : State → State → Type 0
+OnlyReads before after = OnlyReadsIn AreBooks before after
+
+abbrev pub OnlyReadsOld : State → State → Type 0
+OnlyReadsOld before after = OnlyReadsIn AreOldBooks before after
