@@ -5,7 +5,7 @@ use Rattle.std.proofs.lemmas.List.Elements.{filter_map-append}
 use Rattle.std.specs.FinMap.Entries.{find as found}
 use Rattle.std.specs.FinMap.{contains_key, get, get-insert, keys}
 use Rattle.std.specs.List.{cons_option, flat_map}
-use Rattle.std.specs.Prelude.{Bool, Err, IfOk, List, None, Ok, OnErr, Option, Result, Some, [], cond, false, filter_map, fold, if◌then◌else◌, is_ok, is_some, map, max, nat_lt, not, option_and_then, option_map, true, unwrap_or, ℕ, ◌<◌, ◌∷◌, ◌≡◌, ◌≤◌}
+use Rattle.std.specs.Prelude.{Bool, Err, IfOk, IsErrAnd, List, None, Ok, OnErr, Option, Result, Some, [], cond, false, filter_map, fold, if◌then◌else◌, is_ok, is_some, map, max, nat_lt, not, option_and_then, option_map, true, unwrap_or, ℕ, ◌<◌, ◌∷◌, ◌≡◌, ◌≤◌}
 use Rattle.plant_books.specs.declared.books.MineShelf.{MineShelf}
 use Rattle.plant_books.specs.declared.books.MineUnit.{MineUnit}
 use Rattle.plant_model.specs.declared.call.Call.{Call}
@@ -28,7 +28,8 @@ use Rattle.plant_model.specs.declared.rows.Verdict.{Verdict}
 use Rattle.plant_types.specs.declared.fault.Fault.{Fault}
 use Rattle.plant_alarm.specs.Shelves.{shelf_state}
 use Rattle.plant_books.specs.Contents.{Content, IsKnownTo, after_changes, last_return, mine_shelf, mine_shelves, mine_unit, mine_units, part_in, rows_in, shelves_mine, with_rows}
-use Rattle.plant_books.specs.Counting.{Counts}
+use Rattle.plant_books.specs.Counting.{Counts, CountsFault}
+use Rattle.plant_books.specs.declared.books.Books.{Ghosts}
 use Rattle.plant_model.proofs.Base.{lt}
 use Rattle.plant_model.proofs.FactLaws.{alarm_in}
 use Rattle.plant_model.proofs.HeldLaws.{any_of_rows, roles_of_rows}
@@ -50,6 +51,7 @@ use Rattle.plant_office.specs.Answers.{CountsAnswer, IfSaid, OnFault, answer_as}
 use Rattle.plant_office.specs.Lines.{line_of_mine, line_of_shelf}
 use Rattle.plant_office.specs.Runs.{IsAlike}
 use Rattle.plant_office.specs.Served.{Holds, IsIsolated, IsOwnUnit, IsServed}
+use Rattle.plant_office.specs.Serves.{Serves}
 use Rattle.plant_types.proofs.DateTests.{left}
 use Rattle.plant_types.proofs.Orders.{name_total}
 use Rattle.plant_types.specs.Names.{Name, same_name}
@@ -57,7 +59,7 @@ use Rattle.plant_types.specs.Options.{when}
 use Rattle.plant_unit.specs.Judged.{IsOpening, IsPartOf, IsVerdictOn}
 
 -- a call was answered as the world answers it, and these contents hold the rows of the world after it
-pub record Serves (w : World) (c : Call) (a : Said) (left : Content → Type 0) : Type 0 where
+pub record IsAnswered (w : World) (c : Call) (a : Said) (left : Content → Type 0) : Type 0 where
   pub answered : a ≡ answer w c
   pub after : Content
   pub left_it : left after
@@ -106,7 +108,7 @@ put b w c u a rows h is changing left =
           ∙ sym (ap (option_map rows_of) (get-insert name_total w.units u (c ∷ history w u) q));
     })
 
-served : (b : Content) (w : World) (c : Call) (u : Name) (a : Said) → unit_named c.request ≡ Some u → answer_at w c (Some u) ≡ a → Holds b (next_at w c (Some u)) → Serves w c a (λ m. m ≡ b)
+served : (b : Content) (w : World) (c : Call) (u : Name) (a : Said) → unit_named c.request ≡ Some u → answer_at w c (Some u) ≡ a → Holds b (next_at w c (Some u)) → IsAnswered w c a (λ m. m ≡ b)
 served b w c u a named is h =
     record {
       answered = sym (ap (answer_at w c) named ∙ is);
@@ -122,17 +124,17 @@ opening_answer : (w : World) (c : Call) (u : Name) → is_opening c.request ≡ 
 opening_answer w c u e = ap (λ x. if x then opening (by_admin w c) (is_taken w u) else verdict (history w u) c) e
 
 -- a call on a unit that is there or not, and is no opening
-pub refused_call : (b : Content) (w : World) (c : Call) (u : Name) (r : Refused) → Holds b w → unit_named c.request ≡ Some u → is_opening c.request ≡ false → IsVerdictOn (history w u) c (IsRefused r) → Serves w c (Err r) (λ m. m ≡ b)
+pub refused_call : (b : Content) (w : World) (c : Call) (u : Name) (r : Refused) → Holds b w → unit_named c.request ≡ Some u → is_opening c.request ≡ false → IsVerdictOn (history w u) c (IsRefused r) → IsAnswered w c (Err r) (λ m. m ≡ b)
 refused_call b w c u r h named plain v =
     let is : answer_at w c (Some u) ≡ Err r = not_opening_answer w c u plain ∙ sym v.answer in
     served b w c u (Err r) named is (kept b w c u (Err r) h is refl)
 
-pub read_call : (b : Content) (w : World) (c : Call) (u : Name) (reply : Reply) (cs : List Change) → Holds b w → unit_named c.request ≡ Some u → is_opening c.request ≡ false → is_read c.request ≡ true → IsVerdictOn (history w u) c (IsAccepted reply cs) → Serves w c (Ok reply) (λ m. m ≡ b)
+pub read_call : (b : Content) (w : World) (c : Call) (u : Name) (reply : Reply) (cs : List Change) → Holds b w → unit_named c.request ≡ Some u → is_opening c.request ≡ false → is_read c.request ≡ true → IsVerdictOn (history w u) c (IsAccepted reply cs) → IsAnswered w c (Ok reply) (λ m. m ≡ b)
 read_call b w c u reply cs h named plain read v =
     let is : answer_at w c (Some u) ≡ Ok reply = not_opening_answer w c u plain ∙ sym v.answer in
     served b w c u (Ok reply) named is (kept b w c u (Ok reply) h is (ap not read))
 
-pub changing_call : (b : Content) (w : World) (c : Call) (u : Name) (reply : Reply) (cs : List Change) → Holds b w → unit_named c.request ≡ Some u → is_opening c.request ≡ false → is_read c.request ≡ false → IsVerdictOn (history w u) c (IsAccepted reply cs) → Serves w c (Ok reply) (λ m. m ≡ after_changes b u cs)
+pub changing_call : (b : Content) (w : World) (c : Call) (u : Name) (reply : Reply) (cs : List Change) → Holds b w → unit_named c.request ≡ Some u → is_opening c.request ≡ false → is_read c.request ≡ false → IsVerdictOn (history w u) c (IsAccepted reply cs) → IsAnswered w c (Ok reply) (λ m. m ≡ after_changes b u cs)
 changing_call b w c u reply cs h named plain read v =
     let is : answer_at w c (Some u) ≡ Ok reply = not_opening_answer w c u plain ∙ sym v.answer in
     let changing : changes_history (Ok reply) c ≡ true = ap not read in
@@ -142,11 +144,11 @@ changing_call b w c u reply cs h named plain read v =
     served _ w c u (Ok reply) named is (put b w c u (Ok reply) _ h is changing left)
 
 -- a reply to a call that is no read changes a history
-pub changing_reply : (reply : Reply) (c : Call) (A : Type 0) → is_read c.request ≡ false → changes_history (Ok reply) c ≡ false → A
+changing_reply : (reply : Reply) (c : Call) (A : Type 0) → is_read c.request ≡ false → changes_history (Ok reply) c ≡ false → A
 changing_reply reply c A plain still = absurd (true≢false (sym (ap not plain) ∙ still))
 
 -- an opening
-pub refused_opening : (b : Content) (w : World) (c : Call) (u : Name) (r : Refused) → Holds b w → unit_named c.request ≡ Some u → is_opening c.request ≡ true → IsOpening (by_admin w c) (is_taken w u) c (IsRefused r) → Serves w c (Err r) (λ m. m ≡ b)
+pub refused_opening : (b : Content) (w : World) (c : Call) (u : Name) (r : Refused) → Holds b w → unit_named c.request ≡ Some u → is_opening c.request ≡ true → IsOpening (by_admin w c) (is_taken w u) c (IsRefused r) → IsAnswered w c (Err r) (λ m. m ≡ b)
 refused_opening b w c u r h named opens v =
     let is : answer_at w c (Some u) ≡ Err r = opening_answer w c u opens ∙ sym v.answer in
     served b w c u (Err r) named is (kept b w c u (Err r) h is refl)
@@ -163,7 +165,7 @@ pub opening_changes : (q : Request) → is_opening q ≡ true → is_read q ≡ 
 opening_changes (OpenUnit u s m q) e = refl
 opening_changes _ e = cc
 
-pub accepted_opening : (b : Content) (w : World) (c : Call) (u : Name) (reply : Reply) (cs : List Change) → Holds b w → unit_named c.request ≡ Some u → is_opening c.request ≡ true → IsOpening (by_admin w c) (is_taken w u) c (IsAccepted reply cs) → Serves w c (Ok reply) (λ m. m ≡ after_changes b u cs)
+pub accepted_opening : (b : Content) (w : World) (c : Call) (u : Name) (reply : Reply) (cs : List Change) → Holds b w → unit_named c.request ≡ Some u → is_opening c.request ≡ true → IsOpening (by_admin w c) (is_taken w u) c (IsAccepted reply cs) → IsAnswered w c (Ok reply) (λ m. m ≡ after_changes b u cs)
 accepted_opening b w c u reply cs h named opens v =
     let is : answer_at w c (Some u) ≡ Ok reply = opening_answer w c u opens ∙ sym v.answer in
     let changing : changes_history (Ok reply) c ≡ true = ap not (opening_changes c.request opens) in
@@ -209,7 +211,7 @@ alike_if w c (WasRefused r) is = record { alike = λ v admin e. (is ∙ (equal_v
 alike_if w c (Faulted f) is = record { alike = λ v admin e. tt }
 
 -- the keeper holds the content that the call left
-pub leaves : (w : World) (c : Call) (a : Said) (b : Content) (left : Content → Type 0) → IsLegalWorld w → has_matrix c.request ≡ true → Serves w c a (λ m. m ≡ b) → left b → IsServed w c a left
+pub leaves : (w : World) (c : Call) (a : Said) (b : Content) (left : Content → Type 0) → IsLegalWorld w → has_matrix c.request ≡ true → IsAnswered w c a (λ m. m ≡ b) → left b → IsServed w c a left
 leaves w c a b left legal matrix s h = record { answered = s.answered; after = s.after; left_it = subst left (sym s.left_it) h; holds = s.holds; legal = next_legal w c legal matrix }
 
 -- the changes of an accepted call put the unit's own row
@@ -267,7 +269,7 @@ last_told : (t : ℕ) (p : Name) (us : List (Name × List Call)) (units : List M
 last_told t p us units last is e =
     e ∙ ap (λ xs. fold max t (map (λ (u : MineUnit). u.last) xs)) is ∙ ap (fold max t) (map-mapped (λ (u : MineUnit). u.last) (mine_of t p) us) ∙ latest_of t (map (λ e. last_moment e.1) us)
 
-answered_of_units : (b : Content) (w : World) (c : Call) (a : Said) → Holds b w → unit_named c.request ≡ None → a ≡ answer_of_units (units_held w c.moment c.person) c → Serves w c a (λ m. m ≡ b)
+answered_of_units : (b : Content) (w : World) (c : Call) (a : Said) → Holds b w → unit_named c.request ≡ None → a ≡ answer_of_units (units_held w c.moment c.person) c → IsAnswered w c a (λ m. m ≡ b)
 answered_of_units b w c a h named is =
     record { answered = is ∙ sym (ap (answer_at w c) named); after = b; left_it = refl; holds = subst (λ o. Holds b (next_at w c o)) (sym named) h }
 
@@ -282,11 +284,11 @@ units_told us c last reply e is le =
     let least : greatest_last us ≤ c.moment = omega (arith, e, le) in
     ap (λ x. Ok x) is ∙ sym (ap (λ b. if b then Err (MomentBehind (greatest_last us)) else Ok (reply_of_units us c c.request)) (lt_false c.moment (greatest_last us) least))
 
-pub behind_units : (b : Content) (w : World) (c : Call) (units : List MineUnit) (last : ℕ) → Holds b w → unit_named c.request ≡ None → units ≡ mine_units b c.moment c.person → last ≡ fold max c.moment (map (λ (u : MineUnit). u.last) units) → c.moment < last → Serves w c (Err (MomentBehind last)) (λ m. m ≡ b)
+pub behind_units : (b : Content) (w : World) (c : Call) (units : List MineUnit) (last : ℕ) → Holds b w → unit_named c.request ≡ None → units ≡ mine_units b c.moment c.person → last ≡ fold max c.moment (map (λ (u : MineUnit). u.last) units) → c.moment < last → IsAnswered w c (Err (MomentBehind last)) (λ m. m ≡ b)
 behind_units b w c units last h named is e lt =
     answered_of_units b w c _ h named (units_behind (units_held w c.moment c.person) c last (last_told c.moment c.person (units_held w c.moment c.person) units last (is ∙ mine_told b w c.moment c.person h) e) lt)
 
-pub told_units : (b : Content) (w : World) (c : Call) (units : List MineUnit) (last : ℕ) (lines : List UnitLine) → Holds b w → c.request ≡ MyUnits → units ≡ mine_units b c.moment c.person → last ≡ fold max c.moment (map (λ (u : MineUnit). u.last) units) → lines ≡ map line_of_mine units → last ≤ c.moment → Serves w c (Ok (Units lines)) (λ m. m ≡ b)
+pub told_units : (b : Content) (w : World) (c : Call) (units : List MineUnit) (last : ℕ) (lines : List UnitLine) → Holds b w → c.request ≡ MyUnits → units ≡ mine_units b c.moment c.person → last ≡ fold max c.moment (map (λ (u : MineUnit). u.last) units) → lines ≡ map line_of_mine units → last ≤ c.moment → IsAnswered w c (Ok (Units lines)) (λ m. m ≡ b)
 told_units b w c units last lines h asked is e l le =
     let us = units_held w c.moment c.person in
     let told = is ∙ mine_told b w c.moment c.person h in
@@ -339,11 +341,26 @@ all_shelf_lines t (e ∷ us) =
     filter_map-append (line_of_shelf t) (shelves_of e) (flat_map shelves_of us)
     ∙ (λ i. unit_shelf_lines t e.0 e.1 i ++ all_shelf_lines t us i)
 
-pub told_shelves : (b : Content) (w : World) (c : Call) (units : List MineUnit) (last : ℕ) (shelves : List MineShelf) (lines : List MineLine) (person : Name) → Holds b w → c.request ≡ MyShelves → units ≡ mine_units b c.moment c.person → last ≡ fold max c.moment (map (λ (u : MineUnit). u.last) units) → shelves ≡ mine_shelves b c.moment c.person → lines ≡ filter_map (line_of_shelf c.moment) shelves → last ≤ c.moment → person ≡ c.person → Serves w c (Ok (Mine person c.moment lines)) (λ m. m ≡ b)
+pub told_shelves : (b : Content) (w : World) (c : Call) (units : List MineUnit) (last : ℕ) (shelves : List MineShelf) (lines : List MineLine) (person : Name) → Holds b w → c.request ≡ MyShelves → units ≡ mine_units b c.moment c.person → last ≡ fold max c.moment (map (λ (u : MineUnit). u.last) units) → shelves ≡ mine_shelves b c.moment c.person → lines ≡ filter_map (line_of_shelf c.moment) shelves → last ≤ c.moment → person ≡ c.person → IsAnswered w c (Ok (Mine person c.moment lines)) (λ m. m ≡ b)
 told_shelves b w c units last shelves lines person h asked is e found l le copied =
     let us = units_held w c.moment c.person in
     let same : lines ≡ mine_lines c.moment us = l ∙ ap (filter_map (line_of_shelf c.moment)) (found ∙ shelves_told b w c.moment c.person h) ∙ all_shelf_lines c.moment us in
     answered_of_units b w c _ h (ap unit_named asked) (units_told us c last (Mine person c.moment lines) (last_told c.moment c.person us units last (is ∙ mine_told b w c.moment c.person h) e) ((λ i. Mine (copied i) c.moment (same i)) ∙ ap (reply_of_units us c) (sym asked)) le)
+
+-- a call whose answer leaves the books as they were
+pub serves_same : {B : Type 0} {books : Ghosts B} {c : Call} {a : Said} {before after : B} → ((m : Content) → books.holds before m → (w : World) → IsLegalWorld w → Holds m w → books.can_tell after → IsServed w c a (books.holds after)) → (books.can_tell after → books.can_tell before) → ((m : Content) → books.holds before m → books.holds after m) → books.stores after ≡ books.stores before → Serves books c (Ok a) before after
+serves_same served told same count = record { served = served; told = told; unchanged = λ m k _. same m k; fault = λ _ _. tt; count = count }
+
+-- a call whose reply changed the books
+pub serves_changing : {B : Type 0} {books : Ghosts B} {c : Call} {reply : Reply} {before after : B} → ((m : Content) → books.holds before m → (w : World) → IsLegalWorld w → Holds m w → books.can_tell after → IsServed w c (Ok reply) (books.holds after)) → (books.can_tell after → books.can_tell before) → is_read c.request ≡ false → books.stores after ≡ books.stores before → Serves books c (Ok (Ok reply)) before after
+serves_changing {B} {books} {c} {reply} {before} {after} served told changes count =
+    record { served = served; told = told; unchanged = λ m _ still. changing_reply reply c (books.holds after m) changes still; fault = λ _ _. tt; count = count }
+
+-- a call that a fault ended, after a read that left the count as it was
+pub serves_fault : {B : Type 0} {books : Ghosts B} {c : Call} {before after : B} {n : ℕ} (said : Result Said Fault) (e : Fault) → IsErrAnd said (λ f. f ≡ e) → (books.can_tell after → books.can_tell before) → ((m : Content) → books.holds before m → books.holds after m) → n ≡ books.stores before → CountsFault n (books.stores after) e → Serves books c said before after
+serves_fault (Ok a) e is told same read count = absurd is
+serves_fault {B} {books} {c} {before} {after} {n} (Err f) e is told same read count =
+    record { served = λ _ _ _ _ _ _. tt; told = told; unchanged = λ _ _. tt; fault = same; count = subst (λ k. CountsFault k (books.stores after) f) read (subst (CountsFault n (books.stores after)) (sym is) count) }
 
 -- what a call said, as an answer
 pub said_if : (r : Result Said Fault) (P : Said → Type 0) → IfOk r P → IfSaid (answer_as r) P

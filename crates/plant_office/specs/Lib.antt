@@ -2,3 +2,4 @@ pub mod Lines
 pub mod Answers
 pub mod Served
 pub mod Runs
+pub mod Serves

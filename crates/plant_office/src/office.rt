@@ -6,11 +6,11 @@ ghost use Rattle.plant_model.specs.Verdicts.{changes_history, is_opening};
 ghost use Rattle.plant_model.specs.Views.{view};
 ghost use Rattle.plant_model.specs.Worlds.{World, IsLegalWorld, unit_named};
 ghost use Rattle.plant_books.specs.Contents.{Content, no_units};
-ghost use Rattle.plant_books.specs.Counting.{Counts};
 ghost use Rattle.plant_books.specs.declared.books.MineUnit.{MineUnit};
 ghost use Rattle.plant_office.specs.Answers.{CountsAnswer, IfSaid, OnFault, answer_as};
 ghost use Rattle.plant_office.specs.Runs.{IsRun, stores_in};
 ghost use Rattle.plant_office.specs.Served.{Holds, IsIsolated, IsServed};
+ghost use Rattle.plant_office.specs.Serves.{Serves};
 ghost use Rattle.plant_office.specs.Lines.{line_of_mine, line_of_shelf};
 
 use plant_books::{Books, MineShelf, MineUnit};
@@ -82,11 +82,7 @@ impl<B: Books> Office<B> {
 
     fn my_units(&mut self, call: &Call) -> Result<Result<Reply, Refused>, Fault>
         requires { call.now.request ≡ MyUnits }
-        ensures served { (m : Content) → B.holds self.old.books m → (w : World) → IsLegalWorld w → Holds m w → B.can_tell self.new.books → IfOk result (λ a. IsServed w call.now a (B.holds self.new.books)) }
-        ensures told { B.can_tell self.new.books → B.can_tell self.old.books }
-        ensures unchanged { (m : Content) → B.holds self.old.books m → IfOk result (λ a. changes_history a call.now ≡ false → B.holds self.new.books m) }
-        ensures fault { (m : Content) → B.holds self.old.books m → OnErr result (B.holds self.new.books m) }
-        ensures count { Counts (B.stores self.old.books) (B.stores self.new.books) result }
+        ensures serves { Serves B.Books call.now result self.old.books self.new.books }
     {
         note_matrix(&call.request);
         let now = call.moment;
@@ -101,11 +97,7 @@ impl<B: Books> Office<B> {
 
     fn my_shelves(&mut self, call: &Call) -> Result<Result<Reply, Refused>, Fault>
         requires { call.now.request ≡ MyShelves }
-        ensures served { (m : Content) → B.holds self.old.books m → (w : World) → IsLegalWorld w → Holds m w → B.can_tell self.new.books → IfOk result (λ a. IsServed w call.now a (B.holds self.new.books)) }
-        ensures told { B.can_tell self.new.books → B.can_tell self.old.books }
-        ensures unchanged { (m : Content) → B.holds self.old.books m → IfOk result (λ a. changes_history a call.now ≡ false → B.holds self.new.books m) }
-        ensures fault { (m : Content) → B.holds self.old.books m → OnErr result (B.holds self.new.books m) }
-        ensures count { Counts (B.stores self.old.books) (B.stores self.new.books) result }
+        ensures serves { Serves B.Books call.now result self.old.books self.new.books }
     {
         note_matrix(&call.request);
         let now = call.moment;
@@ -127,11 +119,7 @@ impl<B: Books> Office<B> {
     fn serve_unit(&mut self, unit: &UnitCode, call: &Call) -> Result<Result<Reply, Refused>, Fault>
         requires named { unit_named call.now.request ≡ Some unit.now }
         requires plain { is_opening call.now.request ≡ false }
-        ensures served { (m : Content) → B.holds self.old.books m → (w : World) → IsLegalWorld w → Holds m w → B.can_tell self.new.books → IfOk result (λ a. IsServed w call.now a (B.holds self.new.books)) }
-        ensures told { B.can_tell self.new.books → B.can_tell self.old.books }
-        ensures unchanged { (m : Content) → B.holds self.old.books m → IfOk result (λ a. changes_history a call.now ≡ false → B.holds self.new.books m) }
-        ensures fault { (m : Content) → B.holds self.old.books m → OnErr result (B.holds self.new.books m) }
-        ensures count { Counts (B.stores self.old.books) (B.stores self.new.books) result }
+        ensures serves { Serves B.Books call.now result self.old.books self.new.books }
     {
         note_matrix(&call.request);
         let part = self.books.part(call)?;
@@ -154,11 +142,7 @@ impl<B: Books> Office<B> {
     ) -> Result<Result<Reply, Refused>, Fault>
         requires named { unit_named call.now.request ≡ Some unit.now }
         requires opening { is_opening call.now.request ≡ true }
-        ensures served { (m : Content) → B.holds self.old.books m → (w : World) → IsLegalWorld w → Holds m w → B.can_tell self.new.books → IfOk result (λ a. IsServed w call.now a (B.holds self.new.books)) }
-        ensures told { B.can_tell self.new.books → B.can_tell self.old.books }
-        ensures unchanged { (m : Content) → B.holds self.old.books m → IfOk result (λ a. changes_history a call.now ≡ false → B.holds self.new.books m) }
-        ensures fault { (m : Content) → B.holds self.old.books m → OnErr result (B.holds self.new.books m) }
-        ensures count { Counts (B.stores self.old.books) (B.stores self.new.books) result }
+        ensures serves { Serves B.Books call.now result self.old.books self.new.books }
     {
         note_matrix(&call.request);
         let taken = self.books.taken(unit)?;
@@ -172,36 +156,14 @@ impl<B: Books> Office<B> {
     }
 
     fn serve_call(&mut self, call: &Call) -> Result<Result<Reply, Refused>, Fault>
-        ensures served { (m : Content) → B.holds self.old.books m → (w : World) → IsLegalWorld w → Holds m w → B.can_tell self.new.books → IfOk result (λ a. IsServed w call.now a (B.holds self.new.books)) }
-        ensures told { B.can_tell self.new.books → B.can_tell self.old.books }
-        ensures unchanged { (m : Content) → B.holds self.old.books m → IfOk result (λ a. changes_history a call.now ≡ false → B.holds self.new.books m) }
-        ensures fault { (m : Content) → B.holds self.old.books m → OnErr result (B.holds self.new.books m) }
-        ensures count { Counts (B.stores self.old.books) (B.stores self.new.books) result }
+        ensures serves { Serves B.Books call.now result self.old.books self.new.books }
     {
         match &call.request {
-            Request::OpenUnit { unit, .. } => self.serve_opening(unit, call),
-            Request::Grant { unit, .. }
-            | Request::Withdraw { unit, .. }
-            | Request::Register { unit, .. }
-            | Request::Import { unit, .. }
-            | Request::TimedShelve { unit, .. }
-            | Request::OneShotShelve { unit, .. }
-            | Request::Unshelve { unit, .. }
-            | Request::RemoveFromService { unit, .. }
-            | Request::PlaceInService { unit, .. }
-            | Request::Propose { unit, .. }
-            | Request::WithdrawChange { unit, .. }
-            | Request::Approve { unit, .. }
-            | Request::Reject { unit, .. }
-            | Request::Status { unit, .. }
-            | Request::RecordOf { unit, .. }
-            | Request::ChangeOf { unit, .. }
-            | Request::Shelves { unit }
-            | Request::Alarms { unit }
-            | Request::Standing { unit }
-            | Request::Floods { unit, .. } => self.serve_unit(unit, call),
             Request::MyUnits => self.my_units(call),
             Request::MyShelves => self.my_shelves(call),
+            Request::OpenUnit { unit, .. } => self.serve_opening(unit, call),
+            // Each other request names a unit.
+            request => self.serve_unit(request.unit().unwrap(), call),
         }
     }
 

@@ -2,19 +2,27 @@ use Rattle.std.proofs.Common.{◌∙◌, ap, arith}
 use Rattle.std.specs.Prelude.{fold, map, max}
 use Rattle.plant_books.specs.declared.books.MineUnit.{MineUnit}
 use Rattle.plant_model.specs.Worlds.{unit_named}
-use Rattle.plant_office.proofs.Serving.{behind_units, leaves, told_units}
+use Rattle.plant_office.proofs.Serving.{behind_units, leaves, serves_same, told_units}
 use Rattle.plant_office.proofs.office.Office.my_units.Goals as goal
 
-pub returns-then-seconds-clause-served : goal.returns-then-seconds-clause-served
-returns-then-seconds-clause-served g c = λ m k w legal h told.
+pub returns-then-seconds : goal.returns-then-seconds
+returns-then-seconds g c =
     let call = c.args.call.now in
-    leaves w call _ m _ legal c.note_matrix.ensures
-    (behind_units m w call c.in_ok-units.units c.latest-last.result h (ap unit_named c.requires) (c.in_ok-units.ensures.found m k told) (c.latest-last.ensures ∙ ap (λ xs. fold max c.args.call.now.moment (map (λ (u : MineUnit). u.last) xs)) c.as_slice.ensures) (omega (arith, c.seconds.ensures.value, c.seconds-2.ensures.value, c.if-seconds.true)))
-    (c.mine_units.ensures.same m k)
+    record {
+      serves = serves_same (λ m k w legal h told.
+          leaves w call _ m (g.B.Books.holds c.mine_units.new.self) legal c.note_matrix.ensures
+          (behind_units m w call c.in_ok-units.units c.latest-last.result h (ap unit_named c.requires) (c.in_ok-units.ensures.found m k told) (c.latest-last.ensures ∙ ap (λ xs. fold max c.args.call.now.moment (map (λ (u : MineUnit). u.last) xs)) c.as_slice.ensures) (omega (arith, c.seconds.ensures.value, c.seconds-2.ensures.value, c.if-seconds.true)))
+          (c.mine_units.ensures.same m k))
+          c.mine_units.ensures.told c.mine_units.ensures.same c.in_ok-units.ensures.count;
+    }
 
-pub returns-in_ok-lines-clause-served : goal.returns-in_ok-lines-clause-served
-returns-in_ok-lines-clause-served g c = λ m k w legal h told.
+pub returns-in_ok-lines : goal.returns-in_ok-lines
+returns-in_ok-lines g c =
     let call = c.args.call.now in
-    leaves w call _ m _ legal c.note_matrix.ensures
-    (told_units m w call c.in_ok-units.units c.latest-last.result c.in_ok-lines.field-0 h c.requires (c.in_ok-units.ensures.found m k told) (c.latest-last.ensures ∙ ap (λ xs. fold max c.args.call.now.moment (map (λ (u : MineUnit). u.last) xs)) c.as_slice.ensures) c.in_ok-lines.ensures.value (omega (arith, c.seconds.ensures.value, c.seconds-2.ensures.value, c.if-seconds.false)))
-    (c.mine_units.ensures.same m k)
+    record {
+      serves = serves_same (λ m k w legal h told.
+          leaves w call _ m (g.B.Books.holds c.mine_units.new.self) legal c.note_matrix.ensures
+          (told_units m w call c.in_ok-units.units c.latest-last.result c.in_ok-lines.field-0 h c.requires (c.in_ok-units.ensures.found m k told) (c.latest-last.ensures ∙ ap (λ xs. fold max c.args.call.now.moment (map (λ (u : MineUnit). u.last) xs)) c.as_slice.ensures) c.in_ok-lines.ensures.value (omega (arith, c.seconds.ensures.value, c.seconds-2.ensures.value, c.if-seconds.false)))
+          (c.mine_units.ensures.same m k))
+          c.mine_units.ensures.told c.mine_units.ensures.same c.in_ok-units.ensures.count;
+    }

@@ -1,0 +1,22 @@
+-- What serving a call says, and leaves of the books.
+use Rattle.std.specs.Prelude.{IfOk, OnErr, Result, false, ◌≡◌}
+use Rattle.plant_books.specs.Contents.{Content}
+use Rattle.plant_books.specs.Counting.{Counts}
+use Rattle.plant_books.specs.declared.books.Books.{Ghosts}
+use Rattle.plant_model.specs.Verdicts.{changes_history}
+use Rattle.plant_model.specs.Worlds.{IsLegalWorld, World}
+use Rattle.plant_model.specs.declared.call.Call.{Call}
+use Rattle.plant_model.specs.declared.reply.Refused.{Refused}
+use Rattle.plant_model.specs.declared.reply.Reply.{Reply}
+use Rattle.plant_office.specs.Served.{Holds, IsServed}
+use Rattle.plant_types.specs.declared.fault.Fault.{Fault}
+
+-- what is said is the answer of the world whose rows the books hold; a fault leaves them as they were, and so does what
+-- changes no history
+pub record Serves {B : Type 0} (books : Ghosts B) (c : Call) (said : Result (Result Reply Refused) Fault) (before after : B) : Type 0 where
+  pub served : (m : Content) → books.holds before m → (w : World) → IsLegalWorld w → Holds m w → books.can_tell after
+      → IfOk said (λ a. IsServed w c a (books.holds after))
+  pub told : books.can_tell after → books.can_tell before
+  pub unchanged : (m : Content) → books.holds before m → IfOk said (λ a. changes_history a c ≡ false → books.holds after m)
+  pub fault : (m : Content) → books.holds before m → OnErr said (books.holds after m)
+  pub count : Counts (books.stores before) (books.stores after) said
