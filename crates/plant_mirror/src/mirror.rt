@@ -1,17 +1,17 @@
 ghost use Rattle.std.specs.FinMap as fin;
+ghost use Rattle.std.specs.List.{list_any};
 ghost use Rattle.std.specs.Prelude.{◌≡◌, [], IfOk, Some, option_map};
-ghost use Rattle.plant_books.specs.Contents.{Content, part_in};
-ghost use Rattle.plant_books.specs.Counting.{Counts};
+ghost use Rattle.plant_books.specs.Contents.{Content, codes_held, part_in};
 ghost use Rattle.plant_mirror.specs.Copies.{IsMirrored, seen};
+ghost use Rattle.plant_mirror.specs.Leaves.{Leaves};
 ghost use Rattle.plant_model.specs.Worlds.{unit_named};
-ghost use Rattle.plant_types.specs.Names.{Name};
+ghost use Rattle.plant_types.specs.Names.{Name, same_name};
 
 use crate::at_hand::AtHand;
 use crate::copies::Copies;
 use plant_alarm::Event;
 use plant_books::{
-    Books, MineShelf, MineUnit, are_in_order, holds_some_by, looks_at_events, part_of,
-    rows_but_events,
+    Books, MineShelf, MineUnit, are_in_order, looks_at_events, part_of, rows_but_events,
 };
 use plant_model::{Call, Change, UnitPart, UnitRows};
 use plant_types::{Duplicate, Fault, Moment, Person, Table, UnitCode};
@@ -26,9 +26,11 @@ pub struct Mirror<B: Books> {
     alloc: Global,
 }
 
-/// Whether the caller holds a role, as the part of the call tells.
-fn holds_some(part: &UnitPart, call: &Call) -> bool {
-    holds_some_by(part.rows.grants.as_slice(), &call.person, call.moment)
+/// Whether the unit is one of these.
+fn is_among(unit: &UnitCode, units: &[UnitCode]) -> bool
+    ensures { result ≡ list_any (same_name unit.now) units.now }
+{
+    units.iter().any(|other| *unit == *other)
 }
 
 impl<B: Books> Mirror<B> {
@@ -74,9 +76,7 @@ impl<B: Books> Mirror<B> {
     /// The unit's rows below, with the events or without.
     fn rows_below(&mut self, unit: &UnitCode, has_events: bool) -> Result<Option<UnitRows>, Fault>
         ensures found { (m : Content) → B.holds self.old.books m → B.can_tell self.new.books → IfOk result (λ rows. rows ≡ option_map (seen has_events) (fin.get m.units unit.now)) }
-        ensures same { (m : Content) → IsMirrored (B.holds self.old.books) (B.can_tell self.old.books) self.old.copies.units.entries m → IsMirrored (B.holds self.new.books) (B.can_tell self.new.books) self.new.copies.units.entries m }
-        ensures told { B.can_tell self.new.books → B.can_tell self.old.books }
-        ensures count { Counts (B.stores self.old.books) (B.stores self.new.books) result }
+        ensures leaves { Leaves B.Books result self.old self.new }
     {
         if has_events {
             self.books.rows(unit)
@@ -87,9 +87,7 @@ impl<B: Books> Mirror<B> {
 
     /// Reads the unit's rows, with the events or without, and keeps them at hand if memory suffices.
     fn bring(&mut self, unit: &UnitCode, has_events: bool) -> Result<(), Fault>
-        ensures same { (m : Content) → IsMirrored (B.holds self.old.books) (B.can_tell self.old.books) self.old.copies.units.entries m → IsMirrored (B.holds self.new.books) (B.can_tell self.new.books) self.new.copies.units.entries m }
-        ensures told { B.can_tell self.new.books → B.can_tell self.old.books }
-        ensures count { Counts (B.stores self.old.books) (B.stores self.new.books) result }
+        ensures leaves { Leaves B.Books result self.old self.new }
     {
         if let Some(rows) = self.rows_below(unit, has_events)? {
             self.keep(unit, AtHand { rows, has_events });
@@ -99,9 +97,7 @@ impl<B: Books> Mirror<B> {
 
     /// Reads the events of a unit whose other rows are at hand, and keeps them there.
     fn bring_events(&mut self, unit: &UnitCode) -> Result<(), Fault>
-        ensures same { (m : Content) → IsMirrored (B.holds self.old.books) (B.can_tell self.old.books) self.old.copies.units.entries m → IsMirrored (B.holds self.new.books) (B.can_tell self.new.books) self.new.copies.units.entries m }
-        ensures told { B.can_tell self.new.books → B.can_tell self.old.books }
-        ensures count { Counts (B.stores self.old.books) (B.stores self.new.books) result }
+        ensures leaves { Leaves B.Books result self.old self.new }
     {
         let events = self.books.events(unit)?;
         if let Some((_, copy)) = self.copies.take(unit) {
@@ -120,55 +116,45 @@ impl<B: Books> Mirror<B> {
         Ok(())
     }
 
-    /// Whether the unit is at hand without events that the call looks at.
-    fn lacks_events(&self, unit: &UnitCode, call: &Call) -> bool {
-        match self.copies.copy_of(unit) {
-            Some(copy) => !copy.serves(call),
-            None => false,
-        }
+    /// Whether the caller holds a role in the unit.
+    fn is_held(&mut self, unit: &UnitCode, call: &Call) -> Result<bool, Fault>
+        ensures found { (m : Content) → B.holds self.old.books m → B.can_tell self.new.books → IfOk result (λ held. held ≡ list_any (same_name unit.now) (codes_held m call.now.moment call.now.person)) }
+        ensures leaves { Leaves B.Books result self.old self.new }
+    {
+        let units = self.books.held(&call.person, call.moment)?;
+        Ok(is_among(unit, units.as_slice()))
     }
 
-    /// Brings the events of a unit to hand, where it is at hand without them and the call looks at them.
-    fn complete(&mut self, unit: &UnitCode, call: &Call) -> Result<(), Fault>
-        ensures same { (m : Content) → IsMirrored (B.holds self.old.books) (B.can_tell self.old.books) self.old.copies.units.entries m → IsMirrored (B.holds self.new.books) (B.can_tell self.new.books) self.new.copies.units.entries m }
-        ensures told { B.can_tell self.new.books → B.can_tell self.old.books }
-        ensures count { Counts (B.stores self.old.books) (B.stores self.new.books) result }
+    /// Brings the rows of a unit to hand, with the events if the call looks at them. For a caller who holds no role in the
+    /// unit nothing is read.
+    fn bring_for(&mut self, unit: &UnitCode, call: &Call) -> Result<(), Fault>
+        ensures leaves { Leaves B.Books result self.old self.new }
     {
-        if self.lacks_events(unit, call) {
-            return self.bring_events(unit);
+        if self.is_held(unit, call)? {
+            self.bring(unit, looks_at_events(&call.request))?;
         }
         Ok(())
     }
 
-    /// The part of a call on a unit whose rows are not at hand. They are brought to hand for the next call, with the events
-    /// if this call looks at them, unless the caller holds no role in the unit.
-    fn part_below(&mut self, unit: &UnitCode, call: &Call) -> Result<Option<UnitPart>, Fault>
-        ensures found { (m : Content) → IsMirrored (B.holds self.old.books) (B.can_tell self.old.books) self.old.copies.units.entries m → B.can_tell self.new.books → (u : Name) → unit_named call.now.request ≡ Some u → IfOk result (λ part. part ≡ part_in m call.now u) }
-        ensures same { (m : Content) → IsMirrored (B.holds self.old.books) (B.can_tell self.old.books) self.old.copies.units.entries m → IsMirrored (B.holds self.new.books) (B.can_tell self.new.books) self.new.copies.units.entries m }
-        ensures told { B.can_tell self.new.books → B.can_tell self.old.books }
-        ensures count { Counts (B.stores self.old.books) (B.stores self.new.books) result }
+    /// Brings to hand what the call looks at, where it is not there yet.
+    fn prepare(&mut self, unit: &UnitCode, call: &Call) -> Result<(), Fault>
+        ensures leaves { Leaves B.Books result self.old self.new }
     {
-        match self.books.part(call)? {
-            None => Ok(None),
-            Some(part) => {
-                if holds_some(&part, call) {
-                    self.bring(unit, looks_at_events(&call.request))?;
-                }
-                Ok(Some(part))
-            }
+        match self.copies.copy_of(unit) {
+            None => self.bring_for(unit, call),
+            Some(copy) if copy.serves(call) => Ok(()),
+            Some(_) => self.bring_events(unit),
         }
     }
 
     /// The part of a call on this unit: from what is at hand, if that serves the call.
     fn part_of(&mut self, unit: &UnitCode, call: &Call) -> Result<Option<UnitPart>, Fault>
         ensures found { (m : Content) → IsMirrored (B.holds self.old.books) (B.can_tell self.old.books) self.old.copies.units.entries m → B.can_tell self.new.books → unit_named call.now.request ≡ Some unit.now → IfOk result (λ part. part ≡ part_in m call.now unit.now) }
-        ensures same { (m : Content) → IsMirrored (B.holds self.old.books) (B.can_tell self.old.books) self.old.copies.units.entries m → IsMirrored (B.holds self.new.books) (B.can_tell self.new.books) self.new.copies.units.entries m }
-        ensures told { B.can_tell self.new.books → B.can_tell self.old.books }
-        ensures count { Counts (B.stores self.old.books) (B.stores self.new.books) result }
+        ensures leaves { Leaves B.Books result self.old self.new }
     {
         match self.copies.copy_of(unit) {
             Some(copy) if copy.serves(call) => Ok(Some(part_of(self.alloc, &copy.rows, call)?)),
-            _ => self.part_below(unit, call),
+            _ => self.books.part(call),
         }
     }
 }
@@ -217,7 +203,7 @@ impl<B: Books> Books for Mirror<B> {
             return Ok(None);
         };
         self.copies.touch(unit);
-        self.complete(unit, call)?;
+        self.prepare(unit, call)?;
         self.part_of(unit, call)
     }
 

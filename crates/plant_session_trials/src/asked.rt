@@ -3,7 +3,7 @@
 ghost use Rattle.std.specs.Prelude.{◌≡◌};
 
 use plant_alarm::Event;
-use plant_books::{Books, MineShelf, MineUnit};
+use plant_books::{Books, MineShelf, MineUnit, Plain};
 use plant_examples::{BASE, Exchanges, LOOKED_AT, SHELVED};
 use plant_mirror::ROWS_AT_HAND;
 use plant_model::{Call, Change, UnitPart, UnitRows};
@@ -38,6 +38,16 @@ bob 10:30:00 GET /units/U1/alarms/PT-101
 
 bob 10:30:00 GET /units/U1/floods/2026-03-01T10:00:00Z/2026-03-01T10:10:00Z
 403 {"name":"NotGranted","refused":3}"#;
+
+/// A stranger asks for an alarm, and then a viewer for the alarms that are active, twice.
+const FIRST_ASKED: &str = r#"bob 10:30:00 GET /units/U1/alarms/PT-101
+403 {"name":"NotGranted","refused":3}
+
+vic 10:30:00 GET /units/U1/standing
+200 STANDING U1 AT 2026-03-01T10:30:00Z COUNT 0
+
+vic 10:30:00 GET /units/U1/standing
+200 STANDING U1 AT 2026-03-01T10:30:00Z COUNT 0"#;
 
 /// A viewer asks for the floods of ten minutes, and an operator imports an event.
 const LOOKED_AT_EVENTS: &str =
@@ -154,21 +164,34 @@ impl<B: Books> Books for Counting<B> {
     }
 }
 
-/// What the books below are asked for while these exchanges are answered as expected.
-fn count_of(rt: &(impl Abort + AllocGlobal), texts: &[&str]) -> Count {
-    let wanted = Exchanges::of(rt.alloc(), texts).expect(rt, "exchanges");
-    let below = Counting {
+/// Books in lists that were asked for nothing yet.
+fn unasked(rt: &(impl Abort + AllocGlobal)) -> Counting<Plain> {
+    Counting {
         books: lists(rt.alloc()).expect(rt, "lists"),
         count: Count {
             asked: 0,
             events: 0,
             changed: 0,
         },
-    };
+    }
+}
+
+/// These books once the exchanges are answered over them as expected, with no rows at hand at first.
+fn asked<B: Books + Drop>(
+    rt: &(impl Abort + AllocGlobal),
+    below: Counting<B>,
+    texts: &[&str],
+) -> Counting<B> {
+    let wanted = Exchanges::of(rt.alloc(), texts).expect(rt, "exchanges");
     let books = mirrored(rt.alloc(), below, ROWS_AT_HAND).expect(rt, "books with rows at hand");
     let (requests, answers) = (wanted.requests.as_bytes(), wanted.answers.as_bytes());
     let books = after(rt.alloc(), books, requests, answers).expect(rt, "answers");
-    books.into_books().count
+    books.into_books()
+}
+
+/// What the books below are asked for while these exchanges are answered as expected.
+fn count_of(rt: &(impl Abort + AllocGlobal), texts: &[&str]) -> Count {
+    asked(rt, unasked(rt), texts).count
 }
 
 #[test]
@@ -193,4 +216,14 @@ fn events_are_read_at_the_first_call_that_looks_at_them(rt: HostRuntime) {
     let once = count_of(&rt, &[BASE, SHELVED, READ, LOOKED_AT_EVENTS]);
     assert_eq!(rt; once.events, 1);
     assert_eq!(rt; once.asked, before.asked.saturating_add(1));
+}
+
+#[test]
+fn a_unit_is_read_once_and_for_no_stranger(rt: HostRuntime) {
+    let before = asked(&rt, unasked(&rt), &[BASE, SHELVED]);
+    let count = before.count;
+    let after = asked(&rt, before, &[FIRST_ASKED]);
+    // The part of the stranger's call, and then all rows but the events.
+    assert_eq!(rt; after.count.asked, count.asked.saturating_add(2));
+    assert_eq!(rt; after.count.events, count.events);
 }

@@ -1,26 +1,38 @@
-use Rattle.std.proofs.Common.{Some, ap, refl, sym, true, ◌∙◌}
+use Rattle.std.proofs.Common.{Some, ap, refl, rules, sym, true, ◌∙◌}
 use Rattle.std.specs.FinMap.{get}
 use Rattle.std.specs.Prelude.{option_map}
 use Rattle.plant_mirror.proofs.CopyLaws.{taken_there, with_events}
 use Rattle.plant_mirror.specs.Copies.{seen}
 use Rattle.plant_mirror.proofs.mirror.Mirror.bring_events.Goals as goal
 
-pub returns-in-Some-clause-same : goal.returns-in-Some-clause-same
-returns-in-Some-clause-same g c = λ m h.
-    let u = c.args.unit.now in
-    let rows = c.in-Some.copy.rows in
-    c.keep.ensures.kept m
-    (record {
+pub returns-in-Some : goal.returns-in-Some
+returns-in-Some g c = record {
+  leaves = record {
+    same = λ m h.
+        let u = c.args.unit.now in
+        let rows = c.in-Some.copy.rows in
+        c.keep.ensures.kept m
+        (record {
+          held = c.events.ensures.same m h.held;
+          copied = λ told. c.take.ensures.rest (get m.units) (get m.units) (λ _ _. refl) (h.copied (c.events.ensures.told told));
+        })
+        (λ told.
+        let copy = taken_there u (get m.units) c.args.self.now.copies.units.entries (c.in-Some.field-0-0, c.in-Some.copy) (h.copied (c.events.ensures.told told)) c.in-Some.ensures.taken in
+        ap (option_map (seen true)) (with_events c.in-Some.copy.has_events (get m.units u) rows copy.1.same)
+        ∙ ap (λ es. Some (record rows { events = es })) (sym (c.in_ok-events.ensures.found m h.held told)));
+    told = search rules;
+    count = search rules;
+  };
+}
+
+pub returns-in_default : goal.returns-in_default
+returns-in_default g c = record {
+  leaves = record {
+    same = λ m h. record {
       held = c.events.ensures.same m h.held;
       copied = λ told. c.take.ensures.rest (get m.units) (get m.units) (λ _ _. refl) (h.copied (c.events.ensures.told told));
-    })
-    (λ told.
-    let copy = taken_there u (get m.units) c.args.self.now.copies.units.entries (c.in-Some.field-0-0, c.in-Some.copy) (h.copied (c.events.ensures.told told)) c.in-Some.ensures.taken in
-    ap (option_map (seen true)) (with_events c.in-Some.copy.has_events (get m.units u) rows copy.1.same)
-    ∙ ap (λ es. Some (record rows { events = es })) (sym (c.in_ok-events.ensures.found m h.held told)))
-
-pub returns-in_default-clause-same : goal.returns-in_default-clause-same
-returns-in_default-clause-same g c = λ m h. record {
-  held = c.events.ensures.same m h.held;
-  copied = λ told. c.take.ensures.rest (get m.units) (get m.units) (λ _ _. refl) (h.copied (c.events.ensures.told told));
+    };
+    told = search rules;
+    count = search rules;
+  };
 }

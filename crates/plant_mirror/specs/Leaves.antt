@@ -1,0 +1,15 @@
+-- What a question leaves of the books, and of the copies beside them.
+use Rattle.std.specs.Prelude.{Result}
+use Rattle.plant_books.specs.Contents.{Content}
+use Rattle.plant_books.specs.Counting.{Counts}
+use Rattle.plant_books.specs.declared.books.Books.{Ghosts}
+use Rattle.plant_mirror.specs.Copies.{IsMirrored}
+use Rattle.plant_mirror.specs.declared.mirror.Mirror.{Mirror}
+use Rattle.plant_types.specs.declared.fault.Fault.{Fault}
+
+-- the content that they held they hold still, what can be told of it now could be told before, and answers Store are counted
+pub record Leaves {B A : Type 0} (books : Ghosts B) (said : Result A Fault) (before after : Mirror B) : Type 0 where
+  pub same : (m : Content) → IsMirrored (books.holds before.books) (books.can_tell before.books) before.copies.units.entries m
+      → IsMirrored (books.holds after.books) (books.can_tell after.books) after.copies.units.entries m
+  pub told : books.can_tell after.books → books.can_tell before.books
+  pub count : Counts (books.stores before.books) (books.stores after.books) said
