@@ -1,4 +1,5 @@
-//! Calls at the front of a buffer.
+//! Calls at the front of a buffer. A request that was looked at is dropped by `drop`, which is proved at once: where it is left to the
+//! end of its scope, each of its kinds is proved there anew.
 
 use plant_call::{Cut, next_call};
 use plant_import::{BadFile, Cause as FileCause};
@@ -90,10 +91,14 @@ fn reads_a_call(rt: HostRuntime) {
     assert!(rt; call.person.as_bytes() == b"ste".as_slice());
     assert!(rt; call.moment.write().as_slice() == b"2026-03-01T10:00:00Z".as_slice());
     assert!(rt; is_shelving(&call.request));
+    drop(call);
 }
 
 pub(crate) fn waits(alloc: Global, bytes: &[u8]) -> bool {
-    matches!(next_call(alloc, bytes), Cut::More)
+    let cut = next_call(alloc, bytes);
+    let waits = matches!(&cut, Cut::More);
+    drop(cut);
+    waits
 }
 
 #[test]
@@ -156,7 +161,9 @@ const QUESTIONS: [(&[u8], CallKind); 3] = [
 /// The kind of the call at the front of these bytes.
 fn read_as(rt: &impl Abort, alloc: Global, bytes: &[u8]) -> CallKind {
     let (call, _) = call(rt, alloc, bytes);
-    call.request.kind()
+    let kind = call.request.kind();
+    drop(call);
+    kind
 }
 
 #[test]
@@ -212,6 +219,7 @@ fn reads_imports(rt: HostRuntime) {
         let bytes = posted(&rt, rt.alloc(), b"/units/U1/imports", body);
         let request = asked(&rt, rt.alloc(), &bytes);
         assert!(rt; rows_of(&rt, &request) == *wanted, "{body:?}");
+        drop(request);
     }
 }
 
@@ -220,12 +228,14 @@ fn reads_floods(rt: HostRuntime) {
     let alloc = rt.alloc();
     let target = b"/units/U1/floods/2026-03-01T10:00:00Z/2026-03-01T10:50:00Z";
     let bytes = got(&rt, alloc, target);
-    let Request::Floods { unit, begin, until } = asked(&rt, alloc, &bytes) else {
+    let request = asked(&rt, alloc, &bytes);
+    let Request::Floods { unit, begin, until } = &request else {
         rt.panic("no floods")
     };
     assert!(rt; unit.as_bytes() == b"U1".as_slice());
     assert!(rt; begin.seconds() == 825_674_400);
     assert!(rt; until.seconds() == 825_677_400);
+    drop(request);
 }
 
 const LIMIT: &[u8] = b"{\"kind\":\"limit\",\"base\":1,\"tag\":\"PT-101\",\"max\":600}";
@@ -235,7 +245,8 @@ const LIMIT: &[u8] = b"{\"kind\":\"limit\",\"base\":1,\"tag\":\"PT-101\",\"max\"
 fn reads_proposals(rt: HostRuntime) {
     let alloc = rt.alloc();
     let bytes = posted(&rt, alloc, b"/units/U1/changes", LIMIT);
-    let Request::Propose { unit, proposal } = asked(&rt, alloc, &bytes) else {
+    let request = asked(&rt, alloc, &bytes);
+    let Request::Propose { unit, proposal } = &request else {
         rt.panic("no proposal")
     };
     assert!(rt; unit.as_bytes() == b"U1".as_slice());
@@ -245,6 +256,7 @@ fn reads_proposals(rt: HostRuntime) {
     };
     assert!(rt; tag.as_bytes() == b"PT-101".as_slice());
     assert!(rt; max.get() == 600);
+    drop(request);
 }
 
 /// Decisions and changes asked for, with their numbers.
@@ -281,17 +293,20 @@ fn reads_decisions(rt: HostRuntime) {
         let bytes = posted(&rt, rt.alloc(), target, body);
         let request = asked(&rt, rt.alloc(), &bytes);
         assert!(rt; numbered(&request) == Some((*kind, *number)), "{kind:?}");
+        drop(request);
     }
 }
 
 #[test]
 fn reads_questions_of_records(rt: HostRuntime) {
     let bytes = got(&rt, rt.alloc(), b"/units/U1/alarms/PT-101/record");
-    let Request::RecordOf { unit, tag } = asked(&rt, rt.alloc(), &bytes) else {
+    let request = asked(&rt, rt.alloc(), &bytes);
+    let Request::RecordOf { unit, tag } = &request else {
         rt.panic("no record")
     };
     assert!(rt; unit.as_bytes() == b"U1".as_slice());
     assert!(rt; tag.as_bytes() == b"PT-101".as_slice());
+    drop(request);
 }
 
 #[test]
@@ -299,4 +314,5 @@ fn reads_questions_of_changes(rt: HostRuntime) {
     let bytes = got(&rt, rt.alloc(), b"/units/U1/changes/99999");
     let request = asked(&rt, rt.alloc(), &bytes);
     assert!(rt; numbered(&request) == Some((CallKind::ChangeOf, 99_999)));
+    drop(request);
 }

@@ -6,18 +6,24 @@ use std::alloc::Global;
 
 /// The cause of a malformed request whose end is known.
 fn malformed(alloc: Global, bytes: &[u8]) -> Option<Cause> {
-    match next_call(alloc, bytes) {
-        Cut::Malformed(cause, n) if n == bytes.len() => Some(cause),
+    let cut = next_call(alloc, bytes);
+    let cause = match &cut {
+        Cut::Malformed(cause, n) if *n == bytes.len() => Some(*cause),
         _ => None,
-    }
+    };
+    drop(cut);
+    cause
 }
 
 /// The cause of a request whose end is not known.
 fn broken(alloc: Global, bytes: &[u8]) -> Option<Cause> {
-    match next_call(alloc, bytes) {
-        Cut::Broken(cause) => Some(cause),
+    let cut = next_call(alloc, bytes);
+    let cause = match &cut {
+        Cut::Broken(cause) => Some(*cause),
         _ => None,
-    }
+    };
+    drop(cut);
+    cause
 }
 
 /// The range of a question of floods is of two moments.
