@@ -7,7 +7,7 @@ use Rattle.plant_mirror.specs.Copies.{IsMirrored}
 use Rattle.plant_mirror.specs.declared.mirror.Mirror.{Mirror}
 use Rattle.plant_types.specs.declared.fault.Fault.{Fault}
 
--- the content that they held they hold still, what can be told of it now could be told before, and answers Store are counted
+-- a question changes nothing: books and copies hold the same content, the keeper's premise held before, and answers Store are counted
 pub record Leaves {B A : Type 0} (books : Ghosts B) (said : Result A Fault) (before after : Mirror B) : Type 0 where
   pub same : (m : Content) → IsMirrored (books.holds before.books) (books.can_tell before.books) before.copies.units.entries m
       → IsMirrored (books.holds after.books) (books.can_tell after.books) after.copies.units.entries m

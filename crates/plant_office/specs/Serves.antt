@@ -11,8 +11,8 @@ use Rattle.plant_model.specs.declared.reply.Reply.{Reply}
 use Rattle.plant_office.specs.Served.{Holds, IsServed}
 use Rattle.plant_types.specs.declared.fault.Fault.{Fault}
 
--- what is said is the answer of the world whose rows the books hold; a fault leaves them as they were, and so does what
--- changes no history
+-- the answer is that of the world whose rows the books hold; after a fault, a refusal or a reply to a read the books are
+-- unchanged
 pub record Serves {B : Type 0} (books : Ghosts B) (c : Call) (said : Result (Result Reply Refused) Fault) (before after : B) : Type 0 where
   pub served : (m : Content) → books.holds before m → (w : World) → IsLegalWorld w → Holds m w → books.can_tell after
       → IfOk said (λ a. IsServed w c a (books.holds after))

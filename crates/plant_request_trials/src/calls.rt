@@ -1,5 +1,5 @@
-//! Calls at the front of a buffer. A request that was looked at is dropped by `drop`, which is proved at once: where it is left to the
-//! end of its scope, each of its kinds is proved there anew.
+//! Calls at the front of a buffer. Tests end a request with `drop`, which is quick to prove: at the end of a scope the prover goes
+//! through every kind of request.
 
 use plant_call::{Cut, next_call};
 use plant_import::{BadFile, Cause as FileCause};

@@ -6,7 +6,7 @@ use Rattle.plant_columns.specs.Tables.{AreBooks}
 use Rattle.plant_store.specs.Changes.{CanTell}
 use Rattle.plant_store.specs.OldTables.{AreOldBooks}
 
--- what can be told of it now could be told before, and such tables are as they were
+-- reading changes nothing: the tables are the same, and if the disk is honest and the store open now, they were before
 pub record OnlyReadsIn (AreIts : Database → Type 0) (before after : State) : Type 0 where
   pub same : CanTell after → AreIts before.now → after.now ≡ before.now
   pub told : CanTell after → CanTell before

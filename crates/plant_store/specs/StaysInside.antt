@@ -3,7 +3,7 @@ use Rattle.sqlite.specs.State.{HasCleanDisk, KeepsCommit, State, Survives}
 use Rattle.sqlite.specs.declared.error.Error.{Error}
 use Rattle.std.specs.Prelude.{IsTrue, OnOk, Result}
 
--- a step that succeeds is within it still, nothing is committed, and no crash makes what was written last
+-- after a successful step the transaction is still open; nothing is committed, so a crash loses what the step wrote
 pub record StaysInside {V : Type 0} (result : Result V Error) (before after : State) : Type 0 where
   pub inside : HasCleanDisk after → IsTrue before.in_transaction → OnOk result (IsTrue after.in_transaction)
   pub kept : HasCleanDisk after → IsTrue before.in_transaction → KeepsCommit before after

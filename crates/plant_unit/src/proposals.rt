@@ -31,8 +31,8 @@ fn has_row(matrix: &Matrix, severity: u8) -> bool
     severity != 0 && severity as usize <= matrix.cells().len()
 }
 
-/// The priority of a sheet by a matrix, or its refusal: its severity is no row of the matrix, or no
-/// alarm is needed.
+/// The priority of a sheet by a matrix. Refused if the matrix has no row of its severity, or says that
+/// no alarm is needed.
 fn sheet_priority(matrix: &Matrix, severity: u8, response: Seconds) -> Result<Cell, Refused>
     ensures { result ≡ sheet_decision matrix.now severity response }
 {
