@@ -117,7 +117,9 @@ fn grants_and_shelves(
     unit: &UnitCode,
 ) -> Result<(usize, usize), Fault> {
     let rows = books.rows(unit)?.expect(rt, "the unit was opened");
-    Ok((rows.grants.len(), rows.shelves.len()))
+    let counts = (rows.grants.len(), rows.shelves.len());
+    drop(rows);
+    Ok(counts)
 }
 
 fn change_through_faults(rt: &(impl Abort + Eprint), alloc: Global) -> Result<(), Fault> {

@@ -66,6 +66,7 @@ fn keeps_rows_by_their_keys(rt: HostRuntime) {
     assert!(rt; rows.grants.len() == 2);
     assert!(rt; have_cells(rows.cells.as_slice(), &[Cell::P3, Cell::P4, Cell::P2]));
     assert!(rt; have_limits(rows.alarms.as_slice(), &[86400, 3600]));
+    drop(rows);
 }
 
 /// How many grants and shelves a unit has.
@@ -76,7 +77,9 @@ fn grants_and_shelves(
     unit: &[u8],
 ) -> (usize, usize) {
     let rows = rows_in(rt, alloc, books, unit);
-    (rows.grants.len(), rows.shelves.len())
+    let counts = (rows.grants.len(), rows.shelves.len());
+    drop(rows);
+    counts
 }
 
 #[test]
@@ -88,6 +91,7 @@ fn changes_the_rows_of_one_unit(rt: HostRuntime) {
     assert!(rt; grants_and_shelves(&rt, alloc, &mut books, b"U1") == (1, 2));
     let rows = rows_in(&rt, alloc, &mut books, b"U1");
     assert!(rt; have_limits(rows.alarms.as_slice(), &[60, 3600]));
+    drop(rows);
     assert!(rt; grants_and_shelves(&rt, alloc, &mut books, b"U2") == (2, 0));
 }
 
@@ -191,4 +195,5 @@ fn keeps_changes_and_records_by_their_keys(rt: HostRuntime) {
     let rows = rows_in(&rt, alloc, &mut books, b"U1");
     assert!(rt; have_numbers(rows.changes.as_slice(), &[1, 2, 3, 4]));
     assert!(rt; have_sources(rows.records.as_slice(), &[1, 4]));
+    drop(rows);
 }

@@ -31,12 +31,14 @@ fn part(
         moment: at(rt, 200),
         request: request.expect(rt, "memory"),
     };
-    books.part(&call).expect(rt, "memory")
+    let part = books.part(&call).expect(rt, "memory");
+    drop(call);
+    part
 }
 
 /// How many grants, alarms and shelves the part has, and the number of alarms in it.
-fn sizes(part: &Option<UnitPart>) -> Option<[usize; 4]> {
-    match part {
+fn sizes(part: Option<UnitPart>) -> Option<[usize; 4]> {
+    let sizes = match &part {
         None => None,
         Some(part) => Some([
             part.rows.grants.len(),
@@ -44,7 +46,9 @@ fn sizes(part: &Option<UnitPart>) -> Option<[usize; 4]> {
             part.rows.shelves.len(),
             part.count as usize,
         ]),
-    }
+    };
+    drop(part);
+    sizes
 }
 
 fn status(rt: &impl Abort, alloc: Global) -> Result<Request, Fault> {
@@ -87,24 +91,24 @@ fn elsewhere(rt: &impl Abort, alloc: Global) -> Result<Request, Fault> {
 fn gives_the_part_that_a_call_looks_at(rt: HostRuntime) {
     let alloc = rt.alloc();
     let mut books = changed(&rt, alloc);
-    let one = part(&rt, alloc, &mut books, b"ste", status(&rt, alloc));
-    assert!(rt; sizes(&one) == Some([1, 1, 1, 0]));
-    let number = part(&rt, alloc, &mut books, b"ste", register(&rt, alloc));
-    assert!(rt; sizes(&number) == Some([1, 0, 0, 2]));
-    let own = part(&rt, alloc, &mut books, b"ste", shelving(&rt, alloc));
-    assert!(rt; sizes(&own) == Some([1, 1, 1, 0]));
+    let one = sizes(part(&rt, alloc, &mut books, b"ste", status(&rt, alloc)));
+    assert!(rt; one == Some([1, 1, 1, 0]));
+    let number = sizes(part(&rt, alloc, &mut books, b"ste", register(&rt, alloc)));
+    assert!(rt; number == Some([1, 0, 0, 2]));
+    let own = sizes(part(&rt, alloc, &mut books, b"ste", shelving(&rt, alloc)));
+    assert!(rt; own == Some([1, 1, 1, 0]));
 }
 
 #[test]
 fn gives_a_stranger_nothing(rt: HostRuntime) {
     let alloc = rt.alloc();
     let mut books = changed(&rt, alloc);
-    let number = part(&rt, alloc, &mut books, b"ann", register(&rt, alloc));
-    assert!(rt; sizes(&number) == Some([0, 0, 0, 0]));
-    let own = part(&rt, alloc, &mut books, b"bob", shelving(&rt, alloc));
-    assert!(rt; sizes(&own) == Some([0, 0, 0, 0]));
-    let grants = part(&rt, alloc, &mut books, b"bob", withdrawal(&rt, alloc));
-    assert!(rt; sizes(&grants) == Some([0, 0, 0, 0]));
+    let number = sizes(part(&rt, alloc, &mut books, b"ann", register(&rt, alloc)));
+    assert!(rt; number == Some([0, 0, 0, 0]));
+    let own = sizes(part(&rt, alloc, &mut books, b"bob", shelving(&rt, alloc)));
+    assert!(rt; own == Some([0, 0, 0, 0]));
+    let grants = sizes(part(&rt, alloc, &mut books, b"bob", withdrawal(&rt, alloc)));
+    assert!(rt; grants == Some([0, 0, 0, 0]));
 }
 
 #[test]
@@ -113,18 +117,18 @@ fn gives_all_shelves_where_the_quota_may_be_used_up(rt: HostRuntime) {
     let mut books = changed(&rt, alloc);
     let quota = small_quota(&rt, alloc).expect(&rt, "memory");
     put(&rt, alloc, &mut books, b"U1", &quota);
-    let all = part(&rt, alloc, &mut books, b"ste", shelving(&rt, alloc));
-    assert!(rt; sizes(&all) == Some([1, 2, 2, 0]));
+    let all = sizes(part(&rt, alloc, &mut books, b"ste", shelving(&rt, alloc)));
+    assert!(rt; all == Some([1, 2, 2, 0]));
 }
 
 #[test]
 fn gives_all_grants_to_a_withdrawal(rt: HostRuntime) {
     let alloc = rt.alloc();
     let mut books = changed(&rt, alloc);
-    let grants = part(&rt, alloc, &mut books, b"ste", withdrawal(&rt, alloc));
-    assert!(rt; sizes(&grants) == Some([2, 0, 0, 0]));
-    let none = part(&rt, alloc, &mut books, b"bob", elsewhere(&rt, alloc));
-    assert!(rt; sizes(&none).is_none());
+    let grants = sizes(part(&rt, alloc, &mut books, b"ste", withdrawal(&rt, alloc)));
+    assert!(rt; grants == Some([2, 0, 0, 0]));
+    let none = sizes(part(&rt, alloc, &mut books, b"bob", elsewhere(&rt, alloc)));
+    assert!(rt; none.is_none());
 }
 
 /// Books with U1, which has changes and records too.
@@ -138,8 +142,8 @@ fn rationalised(rt: &impl Abort, alloc: Global) -> Plain {
 }
 
 /// How many alarms, bands, records and changes the part has, and the number of changes in it.
-fn records_in(part: &Option<UnitPart>) -> Option<[usize; 5]> {
-    match part {
+fn records_in(part: Option<UnitPart>) -> Option<[usize; 5]> {
+    let sizes = match &part {
         None => None,
         Some(part) => Some([
             part.rows.alarms.len(),
@@ -148,7 +152,9 @@ fn records_in(part: &Option<UnitPart>) -> Option<[usize; 5]> {
             part.rows.changes.len(),
             part.count as usize,
         ]),
-    }
+    };
+    drop(part);
+    sizes
 }
 
 fn change_asked(rt: &impl Abort, alloc: Global) -> Result<Request, Fault> {
@@ -182,18 +188,18 @@ fn proposing(rt: &impl Abort, alloc: Global) -> Result<Request, Fault> {
 fn gives_changes_with_what_they_are_of(rt: HostRuntime) {
     let alloc = rt.alloc();
     let mut books = rationalised(&rt, alloc);
-    let one = part(&rt, alloc, &mut books, b"ann", change_asked(&rt, alloc));
-    assert!(rt; records_in(&one) == Some([0, 1, 0, 1, 0]));
-    let all = part(&rt, alloc, &mut books, b"ann", approval(&rt, alloc));
-    assert!(rt; records_in(&all) == Some([0, 2, 2, 3, 0]));
+    let one = records_in(part(&rt, alloc, &mut books, b"ann", change_asked(&rt, alloc)));
+    assert!(rt; one == Some([0, 1, 0, 1, 0]));
+    let all = records_in(part(&rt, alloc, &mut books, b"ann", approval(&rt, alloc)));
+    assert!(rt; all == Some([0, 2, 2, 3, 0]));
 }
 
 #[test]
 fn gives_a_record_with_its_change(rt: HostRuntime) {
     let alloc = rt.alloc();
     let mut books = rationalised(&rt, alloc);
-    let one = part(&rt, alloc, &mut books, b"ann", record_asked(&rt, alloc));
-    assert!(rt; records_in(&one) == Some([1, 0, 1, 1, 0]));
-    let number = part(&rt, alloc, &mut books, b"ann", proposing(&rt, alloc));
-    assert!(rt; records_in(&number) == Some([1, 1, 1, 0, 4]));
+    let one = records_in(part(&rt, alloc, &mut books, b"ann", record_asked(&rt, alloc)));
+    assert!(rt; one == Some([1, 0, 1, 1, 0]));
+    let number = records_in(part(&rt, alloc, &mut books, b"ann", proposing(&rt, alloc)));
+    assert!(rt; number == Some([1, 1, 1, 0, 4]));
 }
