@@ -61,6 +61,7 @@ fn our_answer<B: Books + Drop>(
     if !is_fault(&answer) {
         return (answer, ours);
     }
+    drop(answer);
     let _ = rt.eprintln("a call answers a fault");
     hold_the_same(rt, &mut ours, theirs, units, "changed by a fault");
     answer_over(rt, ours, call)
@@ -69,6 +70,12 @@ fn our_answer<B: Books + Drop>(
 /// Lists that had no call yet.
 fn empty_lists(rt: &(impl Abort + AllocGlobal)) -> Plain {
     lists(rt.alloc()).expect(rt, "lists")
+}
+
+/// Both answers are the same bytes. An answer is then dropped by its own name: at the end of a scope the prover goes through every kind
+/// of answer.
+fn is_alike(rt: &(impl Abort + AllocGlobal), ours: &Answer, theirs: &Answer) {
+    alike(rt.alloc(), ours, theirs).expect(rt, "an answer");
 }
 
 /// Our books and theirs after a call that ours get first, and both answer alike.
@@ -81,7 +88,9 @@ fn after_one<B: Books + Drop>(
 ) -> (B, Plain) {
     let (answer, ours) = our_answer(rt, ours, &mut theirs, call, units);
     let (due, theirs) = their_answer(rt, theirs, call);
-    alike(rt.alloc(), &answer, &due).expect(rt, "an answer");
+    is_alike(rt, &answer, &due);
+    drop(answer);
+    drop(due);
     (ours, theirs)
 }
 
@@ -150,7 +159,8 @@ fn after_others(
         if !is_fault(answer) {
             let (due, left) = their_answer(rt, theirs, call);
             theirs = left;
-            alike(rt.alloc(), answer, &due).expect(rt, "an answer");
+            is_alike(rt, answer, &due);
+            drop(due);
         }
     }
     theirs
