@@ -70,10 +70,8 @@ pub(crate) fn made_by(rt: &impl Abort, alloc: Global, statements: &str) -> Conne
 /// Books without units.
 fn new_books(rt: &impl Abort, alloc: Global) -> Tables<MemStore> {
     let conn = Connection::open_in_memory(alloc).expect(rt, "a database");
-    match Tables::create(alloc, conn, person(rt, alloc, b"root")) {
-        Ok(books) => books,
-        Err(_) => rt.panic("no books"),
-    }
+    let books = Tables::create(alloc, conn, person(rt, alloc, b"root"));
+    books.ok().expect(rt, "books")
 }
 
 fn push(rt: &impl Abort, list: &mut Table<Change>, row: Row) {

@@ -39,6 +39,7 @@ fn keeps_the_rows_of_a_unit(rt: HostRuntime) {
     assert!(rt; is_last(&rows, 80));
     assert!(rt; is_shelved_until(&rows, 3670));
     assert!(rt; are_both_events(&rt, alloc, rows.events.as_slice()));
+    drop(rows);
 }
 
 /// Books with the same unit twice, as U1 and as U0.
@@ -163,20 +164,17 @@ fn too_wide(rt: &impl Abort, alloc: Global) -> Table<Change> {
     list
 }
 
-fn is_fault_of_store<T: Drop>(answer: Result<T, Fault>) -> bool {
-    matches!(answer, Err(Fault::Store))
-}
-
 #[test]
 fn changes_nothing_where_it_is_interrupted(rt: HostRuntime) {
     let alloc = rt.alloc();
     let mut books = opened(&rt, alloc);
     let unit = unit(&rt, alloc, b"U1");
     books.set_steps(Some(0));
-    assert!(rt; is_fault_of_store(books.taken(&unit)));
+    assert!(rt; matches!(books.taken(&unit).err(), Some(Fault::Store)));
     books.set_steps(None);
     let wide = too_wide(&rt, alloc);
-    assert!(rt; is_fault_of_store(books.apply(&unit, &wide)));
+    assert!(rt; matches!(books.apply(&unit, &wide).err(), Some(Fault::Store)));
     let rows = rows(&rt, alloc, &mut books);
     assert!(rt; is_last(&rows, 80));
+    drop(rows);
 }

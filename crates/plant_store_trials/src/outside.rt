@@ -250,14 +250,6 @@ fn request(rt: &impl Abort, alloc: Global, asked: Asked) -> Request {
     }
 }
 
-/// The fault of an answer, if it is one.
-fn fault_of<T: Drop>(answer: Result<T, Fault>) -> Option<Fault> {
-    match answer {
-        Ok(_) => None,
-        Err(fault) => Some(fault),
-    }
-}
-
 /// The fault of what the books answer to a call of `ann`.
 fn fault_of_part(
     rt: &impl Abort,
@@ -266,7 +258,9 @@ fn fault_of_part(
     asked: Asked,
 ) -> Option<Fault> {
     let call = call(rt, alloc, request(rt, alloc, asked));
-    fault_of(books.part(&call))
+    let fault = books.part(&call).err();
+    drop(call);
+    fault
 }
 
 /// The fault of what the books answer, if it is one.
@@ -277,10 +271,12 @@ fn fault(
     asked: Asked,
 ) -> Option<Fault> {
     match asked {
-        Asked::Taken => fault_of(books.taken(&unit(rt, alloc, b"U1"))),
-        Asked::Rows => fault_of(books.rows(&unit(rt, alloc, b"U1"))),
-        Asked::Held => fault_of(books.held(&person(rt, alloc, b"ann"), at(rt, 90))),
-        Asked::MineUnits => fault_of(books.mine_units(&person(rt, alloc, b"ann"), at(rt, 90))),
+        Asked::Taken => books.taken(&unit(rt, alloc, b"U1")).err(),
+        Asked::Rows => books.rows(&unit(rt, alloc, b"U1")).err(),
+        Asked::Held => books.held(&person(rt, alloc, b"ann"), at(rt, 90)).err(),
+        Asked::MineUnits => books
+            .mine_units(&person(rt, alloc, b"ann"), at(rt, 90))
+            .err(),
         _ => fault_of_part(rt, alloc, books, asked),
     }
 }
@@ -288,10 +284,8 @@ fn fault(
 /// The books of `opened`, after these statements.
 fn spoiled(rt: &impl Abort, alloc: Global, statements: &str) -> Tables<MemStore> {
     let conn = after(rt, opened(rt, alloc).close(), statements);
-    match Tables::open(alloc, conn, person(rt, alloc, b"root")) {
-        Ok(books) => books,
-        Err(_) => rt.panic("no books"),
-    }
+    let books = Tables::open(alloc, conn, person(rt, alloc, b"root"));
+    books.ok().expect(rt, "books")
 }
 
 /// What does not answer as is due after these statements: each of the readers a fault of the store, and each other none.

@@ -9,13 +9,23 @@ use sqlite::MemStore;
 use std::alloc::Global;
 use std::process::Abort;
 
+/// What a call that asks so sees of these books. The call is dropped by its own name: at the end of a scope the prover goes through
+/// every kind of request.
+fn part_of(
+    rt: &impl Abort,
+    alloc: Global,
+    books: &mut Tables<MemStore>,
+    request: Request,
+) -> UnitPart {
+    let call = call(rt, alloc, request);
+    let part = books.part(&call).expect(rt, "a part");
+    drop(call);
+    part.expect(rt, "the unit was opened")
+}
+
 /// What a call of `ann` looks at.
 fn part(rt: &impl Abort, alloc: Global, request: Request) -> UnitPart {
-    let mut books = opened(rt, alloc);
-    books
-        .part(&call(rt, alloc, request))
-        .expect(rt, "a part")
-        .expect(rt, "the unit was opened")
+    part_of(rt, alloc, &mut opened(rt, alloc), request)
 }
 
 /// What a shelving of LT-2 by `ann` looks at.
@@ -25,10 +35,7 @@ fn shelving_part(rt: &impl Abort, alloc: Global, books: &mut Tables<MemStore>) -
         tag: tag(rt, alloc, b"LT-2"),
         words: words(rt, alloc, b"noise"),
     };
-    books
-        .part(&call(rt, alloc, request))
-        .expect(rt, "a part")
-        .expect(rt, "the unit was opened")
+    part_of(rt, alloc, books, request)
 }
 
 #[test]
@@ -37,11 +44,13 @@ fn gives_a_shelving_its_own_shelf_or_all(rt: HostRuntime) {
     let mut books = opened(&rt, alloc);
     let own = shelving_part(&rt, alloc, &mut books);
     assert!(rt; counts(&own.rows) == [1, 2, 1, 0, 0, 0, 0, 0, 0]);
+    drop(own);
     let mut list = Table::new(alloc);
     push_shelf(&rt, alloc, &mut list, b"LT-2");
     put(&rt, alloc, &mut books, b"U1", &list);
     let all = shelving_part(&rt, alloc, &mut books);
     assert!(rt; counts(&all.rows) == [1, 2, 2, 2, 0, 0, 0, 0, 0]);
+    drop(all);
 }
 
 /// Whether these are the bands of the matrix in force, and of the matrix that is asked for.
@@ -73,6 +82,7 @@ fn gives_an_approval_of_a_matrix_both_matrices_and_the_changes_of_records(rt: Ho
     assert!(rt; counts(&part.rows) == [1, 2, 0, 0, 0, 2, 3, 2, 3]);
     assert!(rt; are_three_changes(part.rows.changes.as_slice()));
     assert!(rt; are_both_bands(part.rows.bands.as_slice()));
+    drop(part);
 }
 
 #[test]
@@ -84,6 +94,7 @@ fn gives_an_approval_of_a_record_and_of_a_limit_their_alarm(rt: HostRuntime) {
     let part_of_record = part(&rt, rt.alloc(), record);
     assert!(rt; counts(&part_of_record.rows) == [1, 2, 1, 0, 0, 1, 2, 1, 1]);
     assert!(rt; is_change(part_of_record.rows.changes.as_slice(), 3));
+    drop(part_of_record);
     let limit = Request::Approve {
         unit: unit(&rt, rt.alloc(), b"U1"),
         number: 4,
@@ -91,6 +102,7 @@ fn gives_an_approval_of_a_record_and_of_a_limit_their_alarm(rt: HostRuntime) {
     let part_of_limit = part(&rt, rt.alloc(), limit);
     assert!(rt; counts(&part_of_limit.rows) == [1, 2, 1, 0, 0, 1, 2, 1, 1]);
     assert!(rt; is_change(part_of_limit.rows.changes.as_slice(), 4));
+    drop(part_of_limit);
 }
 
 /// Whether there is one change, of this number.
@@ -109,6 +121,7 @@ fn gives_a_record_its_change_alone(rt: HostRuntime) {
     assert!(rt; counts(&part.rows) == [1, 2, 1, 0, 0, 0, 0, 1, 1]);
     assert!(rt; is_change(part.rows.changes.as_slice(), 3));
     assert!(rt; part.count == 0);
+    drop(part);
 }
 
 #[test]
@@ -116,4 +129,5 @@ fn gives_a_change_with_its_matrix(rt: HostRuntime) {
     let unit = unit(&rt, rt.alloc(), b"U1");
     let part = part(&rt, rt.alloc(), Request::ChangeOf { unit, number: 2 });
     assert!(rt; counts(&part.rows) == [1, 2, 0, 0, 0, 1, 1, 0, 1]);
+    drop(part);
 }
