@@ -1,8 +1,11 @@
 -- New numbers, each counted once, and events put twice.
-use Rattle.std.proofs.Common.{ap, arith, cond, drop, get_or, refl, set, subst, sym, take, ◌∙◌}
-use Rattle.std.specs.Cmp.{eq_by_cmp_equiv, nat_cmp_total, unsigned_tied}
+use Rattle.std.proofs.Common.{ap, arith, cond, drop, get_or, refl, subst, sym, take, ◌∙◌}
+use Rattle.std.specs.BTreeSet.{insert_key}
+use Rattle.std.specs.Cmp.{eq_by_cmp_equiv, nat_cmp_total, ranked, unsigned_tied}
+use Rattle.std.specs.FinMap.Entries.{by_order}
 use Rattle.std.specs.List.{list_any}
-use Rattle.std.specs.Ordering.{eq_by_cmp, nat_cmp}
+use Rattle.std.specs.Ordering.{eq_by_cmp, match_ordering, nat_cmp}
+use Rattle.std.specs.declared.cmp.Ordering.TheVariants.{Equal, Greater, Less}
 use Rattle.std.specs.Prelude.{Bool, Err, IfOk, List, None, Ok, Option, Result, Some, [], nat_lt, false, filter, if◌then◌else◌, length, not, option_map, suc, true, zero, ℕ, ◌&&◌, ◌++◌, ◌+◌, ◌-◌, ◌<◌, ◌==◌, ◌∷◌, ◌≡◌, ◌≤◌, ◌||◌}
 use Rattle.std.proofs.lemmas.List.{drop_more, take_more}
 use Rattle.std.proofs.lemmas.List.Sums.{fold-append}
@@ -15,7 +18,7 @@ use Rattle.plant_import.specs.Reading.{bad}
 use Rattle.plant_import.specs.declared.bad_file.BadFile.{BadFile}
 use Rattle.plant_import.specs.declared.bad_file.Cause.{Cause}
 use Rattle.plant_import.specs.declared.bad_file.Cause.TheVariants.{MomentAhead, MomentOutOfOrder, SequenceClash, TagUnknown}
-use Rattle.plant_import.proofs.Placed.{AllAbove, Parts, Rises, is_at, above_it, other_above, put_before, put_behind, put_over, put_there_at, rises_of}
+use Rattle.plant_import.proofs.Placed.{AllAbove, Rises, above_it, other_above, put_before, put_behind, put_over, rises_of}
 use Rattle.std.proofs.Common.{inl, inr, ◌⊎◌}
 use Rattle.std.proofs.lemmas.Bool.{cases_lt}
 use Rattle.plant_types.proofs.Orders.{same_numbers}
@@ -33,15 +36,15 @@ same_of m n t = same_numbers m n (tied (nat_cmp m n) true t refl)
 pub turned : (m n : ℕ) → ties m n ≡ ties n m
 turned m n = (eq_by_cmp_equiv nat_cmp_total).symm m n
 
--- a number that is there already
-set_same : (xs : List ℕ) (p n : ℕ) → is_at (λ m. m) xs p n ≡ true → set xs p n ≡ xs
-set_same [] p n t = refl
-set_same (x ∷ xs) zero n t = ap (λ m. m ∷ xs) (same_of n x t)
-set_same (x ∷ xs) (suc p) n t = ap (λ l. x ∷ l) (set_same xs p n t)
-
-pub put_known : (n : ℕ) (xs ys zs : List ℕ) (p : ℕ) (b : Bool) → IsInOrder nat_cmp (λ m. m) xs → ys ≡ xs → zs ≡ xs → (IsInOrder nat_cmp (λ m. m) ys → Parts (λ m. m) n ys p) → b ≡ is_at (λ m. m) zs p n → b ≡ true → put_row nat_cmp (λ m. m) n xs ≡ xs
-put_known n xs ys zs p b order ey ez parts eb t =
-    put_there_at (λ m. m) n xs ys zs p b order ey ez parts eb t ∙ set_same xs p n (ap (λ l. is_at (λ m. m) l p n) (sym ez) ∙ sym eb ∙ t)
+-- a set of numbers, one more put in
+pub put_key : (n : ℕ) (ks : List ℕ) → insert_key nat_cmp ks n ≡ put_row nat_cmp (λ m. m) n ks
+put_key n [] = refl
+put_key n (k ∷ ks) =
+    elim (nat_cmp n k) as (λ o. o ≡ nat_cmp n k → match_ordering o (n ∷ k ∷ ks) (k ∷ ks) (k ∷ insert_key nat_cmp ks n) ≡ by_order o (n ∷ k ∷ ks) (n ∷ ks) (k ∷ put_row nat_cmp (λ m. m) n ks)) [
+      | Less ↦ λ _. refl
+      | Equal ↦ λ is. ap (λ m. m ∷ ks) (sym (ranked n k Equal is))
+      | Greater ↦ λ _. ap (λ l. k ∷ l) (put_key n ks)
+    ] refl
 
 -- numbers in order
 pub order_of : (ks : List ℕ) → IsInOrder nat_cmp (λ m. m) (in_order nat_cmp ks)
@@ -175,6 +178,17 @@ pub no_clash : (tags : List Name) (now : ℕ) (others : List Event) (e : Event) 
 unfolding merge_fault
 no_clash tags now others e h = third_none (not (list_any (same_name e.tag) tags)) (nat_lt now e.moment) (list_any (clashes e) others) TagUnknown MomentAhead SequenceClash ((list_any (out_of_order e) others, MomentOutOfOrder) ∷ []) h
 
+fourth_none : (a b c d : Bool) (w x y z : Cause) → first_cause ((a, w) ∷ (b, x) ∷ (c, y) ∷ (d, z) ∷ []) ≡ None → d ≡ false
+fourth_none true b c d w x y z h = cc
+fourth_none false true c d w x y z h = cc
+fourth_none false false true d w x y z h = cc
+fourth_none false false false true w x y z h = cc
+fourth_none false false false false w x y z h = refl
+
+pub no_disorder : (tags : List Name) (now : ℕ) (others : List Event) (e : Event) → merge_fault tags now others e ≡ None → list_any (out_of_order e) others ≡ false
+unfolding merge_fault
+no_disorder tags now others e h = fourth_none (not (list_any (same_name e.tag) tags)) (nat_lt now e.moment) (list_any (clashes e) others) (list_any (out_of_order e) others) TagUnknown MomentAhead SequenceClash MomentOutOfOrder h
+
 -- rows by their numbers, beside one more event
 abbrev is_other : List Event → Event → Bool
 is_other kept x = not (list_any (has_number x.seq) kept)
@@ -280,22 +294,19 @@ put_twice kept more order =
 
 -- the loops
 pub count_put : (kept rows : List Event) (numbers new : List ℕ) (i : ℕ) (d : Event) (b : Bool) → 0 < i → i ≤ length rows → d ≡ get_or rows (i - 1) d → numbers ≡ new_numbers kept (drop i rows)
-    → (IsInOrder nat_cmp (λ k. k) numbers → new ≡ put_row nat_cmp (λ k. k) d.seq numbers) → b ≡ list_any (has_number d.seq) kept → b ≡ false → new ≡ new_numbers kept (drop (i - 1) rows)
+    → new ≡ insert_key nat_cmp numbers d.seq → b ≡ list_any (has_number d.seq) kept → b ≡ false → new ≡ new_numbers kept (drop (i - 1) rows)
 count_put kept rows numbers new i d b some le is so put eb f =
-    put (subst (λ (l : List ℕ). IsInOrder nat_cmp (λ k. k) l) (sym so) (new_in_order kept (drop i rows))) ∙ ap (put_row nat_cmp (λ k. k) d.seq) so
+    put ∙ put_key d.seq numbers ∙ ap (put_row nat_cmp (λ k. k) d.seq) so
     ∙ sym (ap (new_numbers kept) (last_drop rows i d some le is) ∙ new_more kept (drop i rows) d (sym eb ∙ f))
 
 pub count_known : (kept rows : List Event) (numbers : List ℕ) (i : ℕ) (d : Event) (b : Bool) → 0 < i → i ≤ length rows → d ≡ get_or rows (i - 1) d → numbers ≡ new_numbers kept (drop i rows)
     → b ≡ list_any (has_number d.seq) kept → b ≡ true → numbers ≡ new_numbers kept (drop (i - 1) rows)
 count_known kept rows numbers i d b some le is so eb t = so ∙ sym (ap (new_numbers kept) (last_drop rows i d some le is) ∙ new_same kept (drop i rows) d (sym eb ∙ t))
 
-pub sorted_more : (events : List Event) (i : ℕ) (d e : Event) (rising new : List Event) → i < length events → d ≡ get_or events i d → e ≡ d → rising ≡ with_events [] (take i events) → (IsInOrder nat_cmp event_number rising → new ≡ put_row nat_cmp event_number e rising) → new ≡ with_events [] (take (i + 1) events)
-sorted_more events i d e rising new lt is copy so put =
-    let order : IsInOrder nat_cmp event_number rising = subst (λ (l : List Event). IsInOrder nat_cmp event_number l) (sym so) (order_puts (take i events) [] tt) in
-    let whole : with_events [] (take (i + 1) events) ≡ put_row nat_cmp event_number d (with_events [] (take i events)) =
-    ap (with_events []) (take_more events i d lt) ∙ fold-append (λ es e. put_row nat_cmp event_number e es) [] (take i events) (get_or events i d ∷ [])
-    ∙ ap (λ x. put_row nat_cmp event_number x (with_events [] (take i events))) (sym is) in
-    put order ∙ ap (λ x. put_row nat_cmp event_number x rising) copy ∙ ap (put_row nat_cmp event_number d) so ∙ sym whole
+pub with_more : (events : List Event) (i : ℕ) (d e : Event) → i < length events → d ≡ get_or events i d → e ≡ d → put_row nat_cmp event_number e (with_events [] (take i events)) ≡ with_events [] (take (i + 1) events)
+with_more events i d e lt is copy =
+    ap (λ x. put_row nat_cmp event_number x (with_events [] (take i events))) (copy ∙ is)
+    ∙ sym (ap (with_events []) (take_more events i d lt) ∙ fold-append (λ es e. put_row nat_cmp event_number e es) [] (take i events) (get_or events i d ∷ []))
 
 pub joined_twice : {E : Type 0} (kept more rising seen : List Event) (r : Result (List Event) E) → IsInOrder nat_cmp event_number kept → rising ≡ with_events [] more → seen ≡ rising
     → (IsInOrder nat_cmp event_number kept → IsInOrder nat_cmp event_number seen → IfOk r (λ all. all ≡ with_events kept seen)) → IfOk r (λ all. all ≡ with_events kept more)

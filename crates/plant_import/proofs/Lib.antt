@@ -6,6 +6,8 @@ pub mod Rows
 pub mod Merges
 pub mod Known
 pub mod Placed
+pub mod Appended
+pub mod ByNumber
 pub mod Counted
 pub mod Risings
 pub mod Nearest

@@ -10,10 +10,12 @@ use Rattle.plant_import.specs.declared.bad_file.BadFile.{BadFile}
 use Rattle.plant_import.specs.declared.bad_file.Cause.{Cause}
 use Rattle.plant_import.specs.declared.merging.Merged.{Merged}
 use Rattle.plant_import.specs.Reading.{bad}
-use Rattle.std.specs.List.{list_any, insert}
-use Rattle.std.proofs.lemmas.List.Sorted.{list_any-IsPermutation, IsPermutation-insert}
+use Rattle.std.specs.List.{list_any}
 use Rattle.plant_import.specs.Fields.{first_cause}
+use Rattle.plant_import.proofs.ByNumber.{any_put, put_in, rises_put}
+use Rattle.plant_import.proofs.Counted.{no_clash, no_disorder, or_parts, same_by_number}
 use Rattle.plant_import.proofs.Nearest.{same_any}
+use Rattle.plant_import.specs.Numbers.{has_number}
 use Rattle.std.proofs.lemmas.Bool.{lt-ltb, le-ltb}
 use Rattle.std.proofs.lemmas.List.Folds.{list_any-append}
 use Rattle.plant_import.specs.declared.bad_file.Cause.TheVariants.{TagUnknown, MomentAhead, SequenceClash, MomentOutOfOrder}
@@ -150,28 +152,23 @@ module _ (tags : List Name) (now : ℕ) (kept fresh : List Event) (e : Event) (t
   abbrev others : List Event
   others = kept ++ fresh
 
+  seen_so : (same : Bool) → StandsSo others e same false false → IsJudged tags now kept fresh e (Ok (not same))
+  seen_so same is = (in_order tags now others e same tag le is, ap not is.same_is)
+
   pub judged_so : (k f : Standing) → Stands kept e k → Stands fresh e f → IsJudged tags now kept fresh e (joined k f)
   judged_so Clash f h g = clash tags now others e tag le (clash_first kept fresh e h)
-  judged_so (New place) Clash h g = clash tags now others e tag le (clash_second kept fresh e g)
+  judged_so New Clash h g = clash tags now others e tag le (clash_second kept fresh e g)
   judged_so Known Clash h g = clash tags now others e tag le (clash_second kept fresh e g)
   judged_so OutOfOrder Clash h g = clash tags now others e tag le (clash_second kept fresh e g)
-  judged_so OutOfOrder (New place) h g = disorder tags now others e false tag le (both kept fresh e false false true false false false h g.0)
+  judged_so OutOfOrder New h g = disorder tags now others e false tag le (both kept fresh e false false true false false false h g)
   judged_so OutOfOrder Known h g = disorder tags now others e true tag le (both kept fresh e false false true true false false h g)
   judged_so OutOfOrder OutOfOrder h g = disorder tags now others e false tag le (both kept fresh e false false true false false true h g)
-  judged_so (New place) OutOfOrder h g = disorder tags now others e false tag le (both kept fresh e false false false false false true h.0 g)
+  judged_so New OutOfOrder h g = disorder tags now others e false tag le (both kept fresh e false false false false false true h g)
   judged_so Known OutOfOrder h g = disorder tags now others e true tag le (both kept fresh e true false false false false true h g)
-  judged_so (New place) (New at) h g =
-      let is = both kept fresh e false false false false false false h.0 g.0 in
-      (in_order tags now others e false tag le is, ap not is.same_is, g.1)
-  judged_so (New place) Known h g =
-      let is = both kept fresh e false false false true false false h.0 g in
-      (in_order tags now others e true tag le is, ap not is.same_is)
-  judged_so Known (New at) h g =
-      let is = both kept fresh e true false false false false false h g.0 in
-      (in_order tags now others e true tag le is, ap not is.same_is)
-  judged_so Known Known h g =
-      let is = both kept fresh e true false false true false false h g in
-      (in_order tags now others e true tag le is, ap not is.same_is)
+  judged_so New New h g = seen_so false (both kept fresh e false false false false false false h g)
+  judged_so New Known h g = seen_so true (both kept fresh e false false false true false false h g)
+  judged_so Known New h g = seen_so true (both kept fresh e true false false false false false h g)
+  judged_so Known Known h g = seen_so true (both kept fresh e true false false true false false h g)
 
 -- the new rows stand for all rows so far: a test finds the same among both, beside the kept events
 abbrev pub Alike : List Event → List Event → List Event → Type 0
@@ -202,10 +199,10 @@ moved false true false = refl
 moved false false true = refl
 moved false false false = refl
 
-alike_new : (kept rising rows : List Event) (e : Event) (place : ℕ) → Alike kept rising rows → Alike kept (insert rising place e) (rows ++ e ∷ [])
-alike_new kept rising rows e place alike p =
-    list_any-append p kept (insert rising place e)
-    ∙ ap (λ b. list_any p kept || b) (sym (list_any-IsPermutation p (e ∷ rising) (insert rising place e) (IsPermutation-insert rising place e)))
+alike_new : (kept rising rows : List Event) (e : Event) → list_any (has_number e.seq) rising ≡ false → Alike kept rising rows → Alike kept (put_in e rising) (rows ++ e ∷ [])
+alike_new kept rising rows e other alike p =
+    list_any-append p kept (put_in e rising)
+    ∙ ap (λ b. list_any p kept || b) (any_put p e rising other)
     ∙ moved (list_any p kept) (p e) (list_any p rising)
     ∙ ap (λ b. b || (p e || false)) (sym (list_any-append p kept rising) ∙ alike p)
     ∙ sym (one_more p kept rows e)
@@ -230,16 +227,25 @@ was_known true e = refl
 was_known false e = cc
 
 -- one more row
-pub so_new : (tags : List Name) (now : ℕ) (kept rows new rising : List Event) (repeated place : ℕ) (e : Event) → MergedSo tags now kept rows new rising repeated → IsJudged tags now kept rising e (Ok (Some place))
-    → MergedSo tags now kept (rows ++ e ∷ []) (new ++ e ∷ []) (insert rising place e) repeated
-so_new tags now kept rows new rising repeated place e h j =
+among : (p : Event → Bool) (kept rising : List Event) → list_any p (kept ++ rising) ≡ false → list_any p rising ≡ false
+among p kept rising h = (or_parts (list_any p kept) (list_any p rising) (sym (list_any-append p kept rising) ∙ h)).1
+
+was_new : (b : Bool) → not b ≡ true → b ≡ false
+was_new true e = cc
+was_new false e = refl
+
+pub so_new : (tags : List Name) (now : ℕ) (kept rows new rising : List Event) (repeated : ℕ) (e : Event) → MergedSo tags now kept rows new rising repeated → IsJudged tags now kept rising e (Ok true)
+    → MergedSo tags now kept (rows ++ e ∷ []) (new ++ e ∷ []) (put_in e rising) repeated
+so_new tags now kept rows new rising repeated e h j =
+    let numbers = same_by_number e (kept ++ rising) (no_clash tags now (kept ++ rising) e j.0) in
+    let other = among (has_number e.seq) kept rising (sym numbers ∙ was_new (list_any (same_event e) (kept ++ rising)) j.1) in
     record {
       merged = merged_new tags now kept rows new repeated e h.merged (sym (fault_alike tags now kept rising rows e h.alike) ∙ j.0) (sym (ap not (h.alike (same_event e))) ∙ j.1);
-      rises = j.2;
-      alike = alike_new kept rising rows e place h.alike;
+      rises = rises_put e rising other (among (out_of_order e) kept rising (no_disorder tags now (kept ++ rising) e j.0)) h.rises;
+      alike = alike_new kept rising rows e other h.alike;
     }
 
-pub so_known : (tags : List Name) (now : ℕ) (kept rows new rising : List Event) (repeated : ℕ) (e : Event) → MergedSo tags now kept rows new rising repeated → IsJudged tags now kept rising e (Ok None)
+pub so_known : (tags : List Name) (now : ℕ) (kept rows new rising : List Event) (repeated : ℕ) (e : Event) → MergedSo tags now kept rows new rising repeated → IsJudged tags now kept rising e (Ok false)
     → MergedSo tags now kept (rows ++ e ∷ []) new rising (repeated + 1)
 so_known tags now kept rows new rising repeated e h j =
     record {
@@ -252,13 +258,13 @@ so_known tags now kept rows new rising repeated e h j =
 at_place : (file : List Event) (i : ℕ) (e d : Event) → i < length file → e ≡ get_or file i d → take (i + 1) file ≡ take i file ++ e ∷ []
 at_place file i e d lt is = take_more file i d lt ∙ ap (λ x. take i file ++ x ∷ []) (sym is)
 
-pub so_new_at : (tags : List Name) (now : ℕ) (kept file new rising : List Event) (repeated place i : ℕ) (e : Event) → i < length file → e ≡ get_or file i e → MergedSo tags now kept (take i file) new rising repeated
-    → IsJudged tags now kept rising e (Ok (Some place)) → MergedSo tags now kept (take (i + 1) file) (new ++ e ∷ []) (insert rising place e) repeated
-so_new_at tags now kept file new rising repeated place i e lt is h j =
-    subst (λ (l : List Event). MergedSo tags now kept l (new ++ e ∷ []) (insert rising place e) repeated) (sym (at_place file i e e lt is)) (so_new tags now kept (take i file) new rising repeated place e h j)
+pub so_new_at : (tags : List Name) (now : ℕ) (kept file new rising : List Event) (repeated i : ℕ) (e : Event) → i < length file → e ≡ get_or file i e → MergedSo tags now kept (take i file) new rising repeated
+    → IsJudged tags now kept rising e (Ok true) → MergedSo tags now kept (take (i + 1) file) (new ++ e ∷ []) (put_in e rising) repeated
+so_new_at tags now kept file new rising repeated i e lt is h j =
+    subst (λ (l : List Event). MergedSo tags now kept l (new ++ e ∷ []) (put_in e rising) repeated) (sym (at_place file i e e lt is)) (so_new tags now kept (take i file) new rising repeated e h j)
 
 pub so_known_at : (tags : List Name) (now : ℕ) (kept file new rising : List Event) (repeated i : ℕ) (e : Event) → i < length file → e ≡ get_or file i e → MergedSo tags now kept (take i file) new rising repeated
-    → IsJudged tags now kept rising e (Ok None) → MergedSo tags now kept (take (i + 1) file) new rising (repeated + 1)
+    → IsJudged tags now kept rising e (Ok false) → MergedSo tags now kept (take (i + 1) file) new rising (repeated + 1)
 so_known_at tags now kept file new rising repeated i e lt is h j =
     subst (λ (l : List Event). MergedSo tags now kept l new rising (repeated + 1)) (sym (at_place file i e e lt is)) (so_known tags now kept (take i file) new rising repeated e h j)
 
@@ -273,9 +279,3 @@ so_fault_at tags now kept file new rising repeated i e cause lt is h j =
 
 pub so_all : (tags : List Name) (now : ℕ) (kept file new rising : List Event) (repeated i : ℕ) → length file ≤ i → MergedSo tags now kept (take i file) new rising repeated → merge kept file tags now ≡ Ok (record { fresh = new; repeated = repeated })
 so_all tags now kept file new rising repeated i le h = rw (take_all i file le) at (merged_whole tags now kept (take i file) new repeated h.merged)
-
--- what was judged, of the same rows
-pub judged_along : (tags : List Name) (now : ℕ) (kept fresh fresh' : List Event) (e : Event) (r r' : Result (Option ℕ) Cause) → fresh ≡ fresh' → r ≡ r' → (IsRising kept → IsRising fresh → IsJudged tags now kept fresh e r)
-    → IsRising kept → IsRising fresh' → IsJudged tags now kept fresh' e r'
-judged_along tags now kept fresh fresh' e r r' ef er told kept_rises rises =
-    subst (λ (x : Result (Option ℕ) Cause). IsJudged tags now kept fresh' e x) er (subst (λ (l : List Event). IsRising kept → IsRising l → IsJudged tags now kept l e r) ef told kept_rises rises)

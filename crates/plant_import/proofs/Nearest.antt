@@ -15,7 +15,7 @@ use Rattle.plant_alarm.specs.declared.event.EventKind.{EventKind}
 use Rattle.plant_alarm.specs.declared.event.EventKind.TheVariants.{Act, Rtn, Ack, Reset, Sup, Unsup}
 use Rattle.plant_import.specs.Merging.{IsRising, same_event, clashes, out_of_order, kind_no}
 use Rattle.plant_import.specs.Standing.{StandsSo}
-use Rattle.plant_import.proofs.Risings.{Each, each_of, each_weaker, each_both, each_append, each_back, Before, Rising, rising_of, is_rising, rising_front, rising_back, rising_between, any_none, any_same, each_not, any_there}
+use Rattle.plant_import.proofs.Risings.{Each, each_of, each_weaker, each_both, each_append, each_back, Before, Rising, rising_of, is_rising, rising_front, rising_back, any_none, any_same, each_not, any_there}
 
 -- events that are the same
 kind_of_no : ℕ → EventKind
@@ -93,14 +93,6 @@ apart below above e low high =
           ∙ ap (λ b. b || list_any (out_of_order e) above) (any_same (out_of_order e) (λ x. nat_lt e.moment x.moment) below (each_weaker (λ x. x.seq < e.seq) (λ x. out_of_order e x ≡ nat_lt e.moment x.moment) (order_below e) below low))
           ∙ ap (λ b. list_any (λ x. nat_lt e.moment x.moment) below || b) (any_same (out_of_order e) (λ x. nat_lt x.moment e.moment) above (each_weaker (λ x. e.seq < x.seq) (λ x. out_of_order e x ≡ nat_lt x.moment e.moment) (order_above e) above high));
     }
-
--- and it is in order with all
-pub between : (below above : List Event) (e : Event) → Rising below → Rising above → Each (λ x. x.seq < e.seq) below → Each (λ x. e.seq < x.seq) above
-    → list_any (λ x. nat_lt e.moment x.moment) below ≡ false → list_any (λ x. nat_lt x.moment e.moment) above ≡ false → Rising (below ++ e ∷ above)
-between below above e rb ra low high none nor =
-    rising_between below above e rb ra
-    (each_both (λ x. x.seq < e.seq) (λ x. nat_lt e.moment x.moment ≡ false) (λ x. Before x e) (λ x lt q. (lt, ltb-false e.moment x.moment q)) below low (each_not (λ x. nat_lt e.moment x.moment) below none))
-    (each_both (λ x. e.seq < x.seq) (λ x. nat_lt x.moment e.moment ≡ false) (Before e) (λ x lt q. (lt, ltb-false x.moment e.moment q)) above high (each_not (λ x. nat_lt x.moment e.moment) above nor))
 
 -- those before an event, in rising events
 pub before_it : (below rest : List Event) (e : Event) → Rising (below ++ e ∷ rest) → Each (λ x. Before x e) below
@@ -199,10 +191,3 @@ pub stands_apart : (events below above : List Event) (e : Event) (b c d : Bool) 
 stands_apart events below above e b c d p high eb ec ed =
     let told : (list_any (λ x. nat_lt e.moment x.moment) below || list_any (λ x. nat_lt x.moment e.moment) above) ≡ d = ap (λ x. x || list_any (λ x. nat_lt x.moment e.moment) above) (sym eb) ∙ ap (λ x. b || x) (sym ec) ∙ ed in
     subst (λ (l : List Event). StandsSo l e false false d) (sym p.whole) (subst (λ (x : Bool). StandsSo (below ++ above) e false false x) told (apart below above e p.low high))
-
-pub stands_new : (events below above : List Event) (e : Event) → AreParts events e.seq below above → Each (λ x. e.seq < x.seq) above
-    → false ≡ list_any (λ x. nat_lt e.moment x.moment) below → false ≡ list_any (λ x. nat_lt x.moment e.moment) above → IsRising (insert events (length below) e)
-stands_new events below above e p high none nor =
-    let seam : insert (below ++ above) (length below) e ≡ below ++ e ∷ above = ap (λ l. l ++ e ∷ drop (length below) (below ++ above)) (take-append_seam below above) ∙ ap (λ l. below ++ e ∷ l) (drop-append_seam below above) in
-    subst (λ (l : List Event). IsRising l) (sym (ap (λ l. insert l (length below) e) p.whole ∙ seam))
-    (is_rising (below ++ e ∷ above) (between below above e (rising_front below above p.rising) (rising_back below above p.rising) p.low high (sym none) (sym nor)))

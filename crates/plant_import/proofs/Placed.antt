@@ -175,7 +175,7 @@ module _ {X : Type 0} (key : X → ℕ) where
   EachBehind xs [] = Unit {0}
   EachBehind xs (r ∷ rs) = AllBelow (key r) xs × EachBehind xs rs
 
-  puts_after : (rs xs ys : List X) → EachBehind xs rs → puts (xs ++ ys) rs ≡ xs ++ puts ys rs
+  pub puts_after : (rs xs ys : List X) → EachBehind xs rs → puts (xs ++ ys) rs ≡ xs ++ puts ys rs
   puts_after [] xs ys h = refl
   puts_after (r ∷ rs) xs ys h = ap (λ l. puts l rs) (put_after r xs ys h.0) ∙ puts_after rs xs (put r ys) h.1
 

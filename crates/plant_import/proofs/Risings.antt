@@ -71,14 +71,6 @@ pub rising_back : (xs ys : List Event) → Rising (xs ++ ys) → Rising ys
 rising_back [] ys h = h
 rising_back (x ∷ xs) ys h = rising_back xs ys h.1
 
--- one more between those before it and those after it
-pub rising_between : (xs ys : List Event) (e : Event) → Rising xs → Rising ys → Each (λ x. Before x e) xs → Each (Before e) ys → Rising (xs ++ e ∷ ys)
-rising_between [] ys e h k before after = (after, k)
-rising_between (x ∷ xs) ys e h k before after = (
-  each_append (Before x) xs (e ∷ ys) h.0 (before.0, each_weaker (Before e) (Before x) (λ y b. (omega (arith, before.0.0, b.0), omega (arith, before.0.1, b.1))) ys after),
-  rising_between xs ys e h.1 k before.1 after,
-)
-
 -- tests over lists
 pub any_none : (p : Event → Bool) (xs : List Event) → Each (λ x. p x ≡ false) xs → list_any p xs ≡ false
 any_none p [] h = refl

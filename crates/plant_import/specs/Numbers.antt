@@ -1,9 +1,10 @@
 -- Events by their numbers.
 use Rattle.plant_alarm.specs.declared.event.Event.{Event}
 use Rattle.plant_types.specs.Tables.{in_order, put_row}
+use Rattle.std.specs.BTreeMap.{BTreeMap}
 use Rattle.std.specs.List.{list_any}
 use Rattle.std.specs.Ordering.{eq_by_cmp, nat_cmp}
-use Rattle.std.specs.Prelude.{Bool, List, filter, fold, map, not, ℕ}
+use Rattle.std.specs.Prelude.{Bool, List, filter, fold, map, not, ℕ, ◌≡◌}
 
 abbrev pub event_number : Event → ℕ
 event_number e = e.seq
@@ -21,3 +22,7 @@ new_numbers kept rows = in_order nat_cmp (numbers_of (filter (λ e. not (list_an
 -- events with more of them, each put where its number belongs
 abbrev pub with_events : List Event → List Event → List Event
 with_events kept more = fold (λ es e. put_row nat_cmp event_number e es) kept more
+
+-- the map has these events, each under its number
+abbrev pub AreByNumber : BTreeMap ℕ Event → List Event → Type 0
+AreByNumber m es = m.entries ≡ map (λ e. (e.seq, e)) es

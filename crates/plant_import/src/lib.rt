@@ -14,5 +14,5 @@ mod standing;
 pub use bad_file::{BadFile, Cause};
 pub use merging::{Merged, merge};
 pub use needs::{has_late, needed};
-pub use numbers::{count_new, events_after};
+pub use numbers::{count_new, events_after, put_events};
 pub use reading::{FileRead, read_file};

@@ -1,18 +1,22 @@
 ghost use Rattle.std.specs.Prelude.{◌≡◌, ◌+◌, ◌++◌, ◌∷◌, [], IfOk, IfErr, List, OnOk, length};
-ghost use Rattle.std.specs.List.{insert};
+ghost use Rattle.std.specs.Ordering.{nat_cmp};
+ghost use Rattle.plant_alarm.specs.declared.event.Event.{Event as TheEvent};
 ghost use Rattle.plant_types.specs.Names.{Name};
+ghost use Rattle.plant_types.specs.Tables.{put_row};
 ghost use Rattle.plant_types.specs.declared.fault.Fault.TheVariants.{Memory};
 ghost use Rattle.plant_import.specs.Merging as merging;
 ghost use Rattle.plant_import.specs.Merging.{IsRising};
+ghost use Rattle.plant_import.specs.Numbers.{AreByNumber, event_number};
 ghost use Rattle.plant_import.specs.Standing as standing;
 ghost use Rattle.plant_import.specs.Standing.{AreKnown, IsJudged};
 
-use crate::standing::{Standing, stands};
+use crate::numbers::put;
+use crate::standing::{Standing, nearest_among, nearest_by_number, stands};
 use crate::{BadFile, Cause};
-use plant_alarm::Event;
+use plant_alarm::{Event, Number};
 use plant_types::{Fault, Moment, Table, Tag};
 use std::alloc::Global;
-use std::collections::BTreeSet;
+use std::collections::{BTreeMap, BTreeSet};
 
 /// What a file adds to the events of a unit.
 #[derive(Drop)]
@@ -39,11 +43,11 @@ pub fn merge(
 {
     let known = known_tags(alloc, tags)?;
     let mut fresh = Table::new(alloc);
-    let mut rising = Table::new(alloc);
+    let mut rising = BTreeMap::new(alloc);
     let mut repeated = 0;
     for (i, event) in file.iter().enumerate() {
-        let place = match judged(kept, rising.as_slice(), event, &known, now) {
-            Ok(place) => place,
+        let is_new = match judged(kept, &rising, event, &known, now) {
+            Ok(is_new) => is_new,
             Err(cause) => {
                 return Ok(Err(BadFile {
                     line: i as u64 + 2,
@@ -51,9 +55,10 @@ pub fn merge(
                 }));
             }
         };
-        match place {
-            Some(place) => add(alloc, &mut fresh, &mut rising, place, event)?,
-            None => repeated += 1,
+        if is_new {
+            add(alloc, &mut fresh, &mut rising, event)?;
+        } else {
+            repeated += 1;
         }
     }
     Ok(Ok(Merged { fresh, repeated }))
@@ -71,31 +76,31 @@ fn known_tags(alloc: Global, tags: &[Tag]) -> Result<BTreeSet<Tag>, Fault>
     Ok(known)
 }
 
-/// Adds a new row to those in the file's order and, at its place, to those in rising number.
+/// Adds a new row to those in the file's order and to those by their numbers.
 fn add(
     alloc: Global,
     fresh: &mut Table<Event>,
-    rising: &mut Table<Event>,
-    place: usize,
+    rising: &mut BTreeMap<Number, Event>,
     event: &Event,
 ) -> Result<(), Fault>
     ensures fresh { OnOk result (fresh.new ≡ fresh.old ++ event.now ∷ []) }
-    ensures rising { OnOk result (rising.new ≡ insert rising.old place event.now) }
+    ensures rising { (es : List TheEvent) → AreByNumber rising.old es → OnOk result (AreByNumber rising.new (put_row nat_cmp event_number event.now es)) }
     ensures err { IfErr result (λ e. e ≡ Memory) }
 {
     fresh.push(event.copy(alloc)?)?;
-    rising.insert_at(place, event.copy(alloc)?)
+    put(rising, event.copy(alloc)?)
 }
 
-/// The place of a row among the earlier rows that were new, if it is new too, or its first fault.
+/// Whether a row is new beside the kept events and the earlier rows that were new, or its first fault.
 fn judged(
     kept: &[Event],
-    fresh: &[Event],
+    fresh: &BTreeMap<Number, Event>,
     event: &Event,
     known: &BTreeSet<Tag>,
     now: Moment,
-) -> Result<Option<usize>, Cause>
-    ensures { (tags : List Name) → AreKnown known.now tags → IsRising kept.now → IsRising fresh.now → IsJudged tags now kept.now fresh.now event.now result }
+) -> Result<bool, Cause>
+    ensures { (tags : List Name) → AreKnown known.now tags → IsRising kept.now
+        → (seen : List TheEvent) → AreByNumber fresh.now seen → IsRising seen → IsJudged tags now kept.now seen event.now result }
 {
     if !known.contains(&event.tag) {
         return Err(Cause::TagUnknown);
@@ -103,17 +108,20 @@ fn judged(
     if now < event.moment {
         return Err(Cause::MomentAhead);
     }
-    joined(stands(kept, event), stands(fresh, event))
+    joined(
+        stands(nearest_among(kept, event.seq), event),
+        stands(nearest_by_number(fresh, event.seq), event),
+    )
 }
 
 /// What a row's standing to the kept events and to the earlier new rows comes to.
-fn joined(kept: Standing, fresh: Standing) -> Result<Option<usize>, Cause>
+fn joined(kept: Standing, fresh: Standing) -> Result<bool, Cause>
     ensures { result ≡ standing.joined kept fresh }
 {
     match (kept, fresh) {
         (Standing::Clash, _) | (_, Standing::Clash) => Err(Cause::SequenceClash),
         (Standing::OutOfOrder, _) | (_, Standing::OutOfOrder) => Err(Cause::MomentOutOfOrder),
-        (Standing::New(_), Standing::New(place)) => Ok(Some(place)),
-        (Standing::Known, _) | (_, Standing::Known) => Ok(None),
+        (Standing::New, Standing::New) => Ok(true),
+        (Standing::Known, _) | (_, Standing::Known) => Ok(false),
     }
 }

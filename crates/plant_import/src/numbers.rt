@@ -1,19 +1,21 @@
 //! Events by their numbers: how many of a file are new, and all events with those of a file.
 
-ghost use Rattle.std.specs.Prelude.{◌≡◌, ◌<◌, ◌≤◌, ◌++◌, [], IfErr, IfOk, OnOk, drop, false, if◌then◌else◌, length, option_map, slice_get, unwrap_or};
-ghost use Rattle.std.specs.List.{list_any};
-ghost use Rattle.std.specs.List.Sorted.{IsPartitionPoint};
-ghost use Rattle.std.specs.Ordering.{eq_by_cmp, nat_cmp};
+ghost use Rattle.std.specs.Prelude.{◌≡◌, ◌++◌, [], IfErr, IfOk, List, OnOk, drop, false, if◌then◌else◌, length, option_map, slice_get, unwrap_or};
+ghost use Rattle.std.specs.List.{list_all, list_any};
+ghost use Rattle.std.specs.Ordering.{nat_cmp};
+ghost use Rattle.plant_alarm.specs.declared.event.Event.{Event as TheEvent};
 ghost use Rattle.plant_types.specs.Tables.{IsInOrder, put_row};
 ghost use Rattle.plant_types.specs.declared.fault.Fault.TheVariants.{Memory};
 ghost use Rattle.plant_import.specs.Merging.{IsRising};
+ghost use Rattle.plant_import.specs.Needed.{is_before_all};
 ghost use Rattle.plant_import.specs.Numbers as numbers;
-ghost use Rattle.plant_import.specs.Numbers.{event_number, new_numbers, with_events};
+ghost use Rattle.plant_import.specs.Numbers.{AreByNumber, event_number, new_numbers, with_events};
 
 use crate::standing::place_of;
 use plant_alarm::{Event, Number};
 use plant_types::{Fault, Table};
 use std::alloc::Global;
+use std::collections::{BTreeMap, BTreeSet};
 
 /// Whether the event at a place, if there is one, has this number.
 fn is_at(events: &[Event], place: usize, number: Number) -> bool
@@ -32,62 +34,40 @@ pub fn has_number(events: &[Event], number: Number) -> bool
     is_at(events, place_of(events, number), number)
 }
 
-/// How many of the numbers, which stand in rising order, are smaller.
-fn place_of_number(numbers: &[Number], number: Number) -> usize
-    ensures bound { result ≤ length numbers.now }
-    ensures place { IsInOrder nat_cmp (λ n. n) numbers.now → IsPartitionPoint (λ n. n < number) (λ n. number ≤ n) numbers.now result }
-{
-    numbers.partition_point(|other| *other < number)
-}
-
-/// Whether the number stands at a place.
-fn is_number_at(numbers: &[Number], place: usize, number: Number) -> bool
-    ensures { result ≡ unwrap_or (option_map (eq_by_cmp nat_cmp number) (slice_get numbers.now place)) false }
-{
-    match numbers.get(place) {
-        Some(other) => *other == number,
-        None => false,
-    }
-}
-
-/// Puts a number among others in rising order, where it isn't there.
-fn put_number(numbers: &mut Table<Number>, number: Number) -> Result<(), Fault>
-    ensures value { IsInOrder nat_cmp (λ n. n) numbers.old → OnOk result (numbers.new ≡ put_row nat_cmp (λ n. n) number numbers.old) }
-    ensures err { IfErr result (λ e. e ≡ Memory) }
-{
-    let place = place_of_number(numbers.as_slice(), number);
-    if is_number_at(numbers.as_slice(), place, number) {
-        return Ok(());
-    }
-    numbers.insert_at(place, number)
-}
-
 /// How many numbers the file has that no kept event has, each counted once. The kept events are in rising number.
 pub fn count_new(alloc: Global, kept: &[Event], file: &[Event]) -> Result<usize, Fault>
     ensures value { IsRising kept.now → IfOk result (λ count. count ≡ length (new_numbers kept.now file.now)) }
     ensures err { IfErr result (λ e. e ≡ Memory) }
 {
-    let mut numbers = Table::new(alloc);
+    let mut numbers = BTreeSet::new(alloc);
     for i in (0..file.len()).rev() {
         let number = file[i].seq;
         if !has_number(kept, number) {
-            put_number(&mut numbers, number)?;
+            numbers.insert(number)?;
         }
     }
     Ok(numbers.len())
 }
 
-/// Puts an event among others in rising number, over the one of its number if any.
-fn put(events: &mut Table<Event>, event: Event) -> Result<(), Fault>
-    ensures value { IsInOrder nat_cmp event_number events.old → OnOk result (events.new ≡ put_row nat_cmp event_number event events.old) }
+/// Puts an event among others by their numbers, over the one of its number if any.
+pub fn put(events: &mut BTreeMap<Number, Event>, event: Event) -> Result<(), Fault>
+    ensures value { (es : List TheEvent) → AreByNumber events.old es → OnOk result (AreByNumber events.new (put_row nat_cmp event_number event es)) }
     ensures err { IfErr result (λ e. e ≡ Memory) }
 {
-    let place = place_of(events.as_slice(), event.seq);
-    if is_at(events.as_slice(), place, event.seq) {
-        events.replace_at(place, event);
-        return Ok(());
+    events.insert(event.seq, event)?;
+    Ok(())
+}
+
+/// The events by their numbers. Of two with the same number the last counts.
+fn by_number(alloc: Global, events: &[Event]) -> Result<BTreeMap<Number, Event>, Fault>
+    ensures value { IfOk result (λ rising. AreByNumber rising (with_events [] events.now)) }
+    ensures err { IfErr result (λ e. e ≡ Memory) }
+{
+    let mut rising = BTreeMap::new(alloc);
+    for event in events {
+        put(&mut rising, event.copy(alloc)?)?;
     }
-    events.insert_at(place, event)
+    Ok(rising)
 }
 
 /// The events in rising number. Of two with the same number the last counts.
@@ -96,8 +76,8 @@ fn in_rising_number(alloc: Global, events: &[Event]) -> Result<Table<Event>, Fau
     ensures err { IfErr result (λ e. e ≡ Memory) }
 {
     let mut rising = Table::new(alloc);
-    for event in events {
-        put(&mut rising, event.copy(alloc)?)?;
+    for event in by_number(alloc, events)?.into_values() {
+        rising.push(event)?;
     }
     Ok(rising)
 }
@@ -148,4 +128,31 @@ pub fn events_after(alloc: Global, kept: &[Event], more: &[Event]) -> Result<Tab
 {
     let rising = in_rising_number(alloc, more)?;
     joined(alloc, kept, rising.as_slice())
+}
+
+/// Whether events, in rising number, all come after others, in rising number too.
+fn come_after(events: &[Event], others: &[Event]) -> bool
+    ensures { IsInOrder nat_cmp event_number others.now → IsInOrder nat_cmp event_number events.now → result ≡ list_all (is_before_all events.now) others.now }
+{
+    let Some(last) = others.last() else {
+        return true;
+    };
+    let Some(first) = events.first() else {
+        return true;
+    };
+    last.seq < first.seq
+}
+
+/// Puts events, in any order, among the kept ones, which are in rising number. Its time is that of the new events where they come after
+/// all others, else that of going over the kept events once.
+pub fn put_events(alloc: Global, kept: &mut Table<Event>, more: &[Event]) -> Result<(), Fault>
+    ensures value { IsInOrder nat_cmp event_number kept.old → OnOk result (kept.new ≡ with_events kept.old more.now) }
+    ensures err { IfErr result (λ e. e ≡ Memory) }
+{
+    let rising = in_rising_number(alloc, more)?;
+    if come_after(rising.as_slice(), kept.as_slice()) {
+        return push_all(alloc, kept, rising.as_slice());
+    }
+    *kept = joined(alloc, kept.as_slice(), rising.as_slice())?;
+    Ok(())
 }

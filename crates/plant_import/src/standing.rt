@@ -1,19 +1,23 @@
-ghost use Rattle.std.specs.Prelude.{◌≡◌, ◌≤◌, ◌<◌, ℕ, length, nat_lt};
+ghost use Rattle.std.specs.Prelude.{◌≡◌, ◌≤◌, ◌<◌, List, length, nat_lt};
+ghost use Rattle.std.specs.Option.{option_copied};
 ghost use Rattle.std.specs.List.{list_any};
 ghost use Rattle.std.specs.List.Sorted.{IsPartitionPoint};
 ghost use Rattle.std.specs.Ordering.{nat_cmp};
+ghost use Rattle.plant_alarm.specs.declared.event.Event.{Event as TheEvent};
 ghost use Rattle.plant_types.specs.Tables.{IsInOrder};
 ghost use Rattle.plant_import.specs.Merging.{IsRising, same_event};
-ghost use Rattle.plant_import.specs.Numbers.{event_number};
-ghost use Rattle.plant_import.specs.Standing.{Stands};
+ghost use Rattle.plant_import.specs.Numbers.{AreByNumber, event_number};
+ghost use Rattle.plant_import.specs.Standing as standing;
+ghost use Rattle.plant_import.specs.Standing.{AreNearest, IsFirst, IsLast, Stands};
 
 use plant_alarm::{Event, Number};
+use std::collections::BTreeMap;
 
 /// How an event stands to events in rising number.
 #[derive(Clone, Copy)]
 pub enum Standing {
-    /// None has its number, and it may stand at this place.
-    New(usize),
+    /// None has its number, and it may stand among them.
+    New,
     /// It is one of them.
     Known,
     /// One has its number and other content.
@@ -23,13 +27,59 @@ pub enum Standing {
     OutOfOrder,
 }
 
-/// How an event stands to events in rising number whose moments don't fall. It looks at the nearest
-/// numbers alone.
-pub fn stands(events: &[Event], event: &Event) -> Standing
-    ensures { IsRising events.now → Stands events.now event.now result }
+/// The events on both sides of a number.
+#[derive(Clone, Copy)]
+pub struct Nearest<'a> {
+    /// The last with a smaller number.
+    pub below: Option<&'a Event>,
+    /// The first with this number or a greater one.
+    pub from: Option<&'a Event>,
+}
+
+/// The nearest to a number of events in rising number whose moments don't fall.
+pub fn nearest_among<'a>(events: &'a [Event], seq: Number) -> Nearest<'a>
+    ensures { IsRising events.now → AreNearest events.now seq result }
 {
-    let (below, above) = events.split_at(place_of(events, event.seq));
-    if let Some(other) = above.first() {
+    let (below, from) = events.split_at(place_of(events, seq));
+    Nearest {
+        below: below.last(),
+        from: from.first(),
+    }
+}
+
+/// The nearest to a number of events by their numbers.
+pub fn nearest_by_number<'a>(events: &'a BTreeMap<Number, Event>, seq: Number) -> Nearest<'a>
+    ensures { (es : List TheEvent) → AreByNumber events.now es → AreNearest es seq result }
+{
+    Nearest {
+        below: last_below(events, seq),
+        from: first_from(events, seq),
+    }
+}
+
+fn last_below(events: &BTreeMap<Number, Event>, seq: Number) -> Option<&Event>
+    ensures { (es : List TheEvent) → AreByNumber events.now es → IsLast (standing.below seq es) result }
+{
+    match events.range(..seq).next_back() {
+        Some((_, event)) => Some(event),
+        None => None,
+    }
+}
+
+fn first_from(events: &BTreeMap<Number, Event>, seq: Number) -> Option<&Event>
+    ensures { (es : List TheEvent) → AreByNumber events.now es → IsFirst (standing.from seq es) result }
+{
+    match events.range(seq..).next() {
+        Some((_, event)) => Some(event),
+        None => None,
+    }
+}
+
+/// How an event stands to events in rising number whose moments don't fall, of which these are the nearest to its number.
+pub fn stands(nearest: Nearest<'_>, event: &Event) -> Standing
+    ensures { (es : List TheEvent) → IsRising es → AreNearest es event.now.seq nearest.entry → Stands es event.now result }
+{
+    if let Some(other) = nearest.from {
         if other.seq == event.seq {
             return if is_same(event, other) {
                 Standing::Known
@@ -38,13 +88,13 @@ pub fn stands(events: &[Event], event: &Event) -> Standing
             };
         }
     }
-    if is_before_last(event, below) {
+    if is_before_last(event, nearest.below) {
         return Standing::OutOfOrder;
     }
-    if is_after_first(event, above) {
+    if is_after_first(event, nearest.from) {
         return Standing::OutOfOrder;
     }
-    Standing::New(below.len())
+    Standing::New
 }
 
 /// How many of the events, which stand in rising number, have a smaller number.
@@ -55,19 +105,21 @@ pub fn place_of(events: &[Event], seq: Number) -> usize
     events.partition_point(|event| event.seq < seq)
 }
 
-fn is_before_last(event: &Event, below: &[Event]) -> bool
-    ensures { IsRising below.now → result ≡ list_any (λ e. nat_lt event.now.moment e.moment) below.now }
+/// Whether an event is earlier than the last of others, and so than one of them.
+fn is_before_last(event: &Event, last: Option<&Event>) -> bool
+    ensures { (es : List TheEvent) → IsRising es → IsLast es last.entry → result ≡ list_any (λ e. nat_lt event.now.moment e.moment) es }
 {
-    match below.last() {
+    match last {
         Some(last) => event.moment < last.moment,
         None => false,
     }
 }
 
-fn is_after_first(event: &Event, above: &[Event]) -> bool
-    ensures { IsRising above.now → result ≡ list_any (λ e. nat_lt e.moment event.now.moment) above.now }
+/// Whether an event is later than the first of others, and so than one of them.
+fn is_after_first(event: &Event, first: Option<&Event>) -> bool
+    ensures { (es : List TheEvent) → IsRising es → IsFirst es first.entry → result ≡ list_any (λ e. nat_lt e.moment event.now.moment) es }
 {
-    match above.first() {
+    match first {
         Some(first) => first.moment < event.moment,
         None => false,
     }

@@ -1,40 +1,55 @@
-use Rattle.std.proofs.Common.{◌≡◌, ◌∙◌, ◌++◌, ◌∷◌, [], ap, arith, rules, sym, refl, Some, None, Ok, Err, length, length-append}
-use Rattle.std.specs.List.{insert}
-use Rattle.plant_import.proofs.Merges.{so_none, so_new_at, so_known_at, so_fault_at, so_all, judged_along}
+use Rattle.std.proofs.Common.{Err, List, Ok, [], ap, arith, false, length, length-append, refl, rules, subst, sym, true, ◌++◌, ◌∙◌, ◌∷◌, ◌≡◌}
+use Rattle.std.specs.Prelude.{Bool, Result}
+use Rattle.plant_import.specs.declared.bad_file.Cause.{Cause}
+use Rattle.plant_alarm.specs.declared.event.Event.{Event}
+use Rattle.plant_import.specs.Merging.{IsRising}
+use Rattle.plant_import.specs.Numbers.{AreByNumber}
+use Rattle.plant_import.specs.Standing.{IsJudged}
+use Rattle.plant_import.proofs.ByNumber.{put_in}
+use Rattle.plant_import.proofs.Merges.{so_none, so_new_at, so_known_at, so_fault_at, so_all}
 use Rattle.plant_import.proofs.merging.merge.Goals as goal
-use Rattle.plant_import.proofs.merging.merge.Goals.{in-Some+in_ok-add-in-Some, in-None}
+use Rattle.plant_import.proofs.merging.merge.Goals.{else-is_new, then-is_new+in_ok-add}
 
 pub loop-i-init : goal.loop-i-init
-loop-i-init c = record { count = rw c.new-fresh.ensures refl; so = λ rising. rw (c.new-fresh.ensures, c.new-rising.ensures) (so_none c.args.tags.now c.args.now c.args.kept.now) }
+loop-i-init c = record { count = rw c.new-fresh.ensures refl; so = λ rising. ([], c.new-rising.ensures.empty, rw c.new-fresh.ensures (so_none c.args.tags.now c.args.now c.args.kept.now)) }
 
 pub returns-in-Err-clause-value : goal.returns-in-Err-clause-value
 returns-in-Err-clause-value c rising =
     let so = c.loop-i.invariant.so rising in
-    let told = judged_along c.args.tags.now c.args.now c.args.kept.now c.as_slice.result.now c.loop-i.rising c.index-file-i.result c.judged.result (Err c.in-Err.cause) c.as_slice.ensures c.in-Err.is (c.judged.ensures c.args.tags.now c.in_ok-known.ensures.value) rising so.rises in
-    sym (so_fault_at c.args.tags.now c.args.now c.args.kept.now c.args.file.now c.loop-i.fresh c.loop-i.rising c.loop-i.repeated c.loop-i.i c.index-file-i.result c.in-Err.cause (omega arith) c.index-file-i.is so told)
+    let is = subst (λ (r : Result Bool Cause). IsJudged c.args.tags.now c.args.now c.args.kept.now so.0 c.index-file-i.result r) c.in-Err.is (c.judged.ensures c.args.tags.now c.in_ok-known.ensures.value rising so.0 so.1 so.2.rises) in
+    sym (so_fault_at c.args.tags.now c.args.now c.args.kept.now c.args.file.now c.loop-i.fresh so.0 c.loop-i.repeated c.loop-i.i c.index-file-i.result c.in-Err.cause (omega arith) c.index-file-i.is so.2 is)
 
 pub loop-i-preserved : goal.loop-i-preserved
 loop-i-preserved c =
-    elim c.match-place.branch [
-      | in-Some+in_ok-add-in-Some w ↦
-          let fresh : w.add.new.fresh ≡ c.loop-i.fresh ++ c.index-file-i.result ∷ [] = search rules in
-          let sorted : w.add.new.rising ≡ insert c.loop-i.rising w.in-Some.place c.index-file-i.result = search rules in
+    let judged : IsRising c.args.kept.now → (seen : List Event) → AreByNumber c.loop-i.rising seen → IsRising seen → IsJudged c.args.tags.now c.args.now c.args.kept.now seen c.index-file-i.result (Ok c.in-Ok.is_new) =
+    λ rising seen holds rises. subst (λ (r : Result Bool Cause). IsJudged c.args.tags.now c.args.now c.args.kept.now seen c.index-file-i.result r) c.in-Ok.is (c.judged.ensures c.args.tags.now c.in_ok-known.ensures.value rising seen holds rises) in
+    elim c.if-is_new.branch [
+      | then-is_new+in_ok-add w ↦
+          let added : w.add.new.fresh ≡ c.loop-i.fresh ++ c.index-file-i.result ∷ [] = search rules in
           record {
-            count = omega (arith, ap length w.fresh-is, ap length fresh, length-append c.loop-i.fresh (c.index-file-i.result ∷ []), w.repeated-is);
+            count = omega (arith, ap length w.fresh-is, ap length added, length-append c.loop-i.fresh (c.index-file-i.result ∷ []), w.repeated-is);
             so = λ rising.
                 let so = c.loop-i.invariant.so rising in
-                let told = judged_along c.args.tags.now c.args.now c.args.kept.now c.as_slice.result.now c.loop-i.rising c.index-file-i.result c.judged.result (Ok (Some w.in-Some.place)) c.as_slice.ensures (c.in-Ok.is ∙ ap Ok w.in-Some.is) (c.judged.ensures c.args.tags.now c.in_ok-known.ensures.value) rising so.rises in
-                rw (w.fresh-is, w.rising-is, w.repeated-is, fresh, sorted) (so_new_at c.args.tags.now c.args.now c.args.kept.now c.args.file.now c.loop-i.fresh c.loop-i.rising c.loop-i.repeated w.in-Some.place c.loop-i.i c.index-file-i.result (omega arith) c.index-file-i.is so told);
+                let is = rw w.if-is_new.true at (judged rising so.0 so.1 so.2.rises) in (
+                  put_in c.index-file-i.result so.0,
+                  rw w.rising-is (w.in_ok-add.ensures.rising so.0 so.1),
+                  rw (w.fresh-is, w.repeated-is, added) (so_new_at c.args.tags.now c.args.now c.args.kept.now c.args.file.now c.loop-i.fresh so.0 c.loop-i.repeated c.loop-i.i c.index-file-i.result (omega arith) c.index-file-i.is so.2 is),
+                );
           }
-      | in-None w ↦
+      | else-is_new w ↦
           record {
             count = omega (arith, ap length w.fresh-is, w.repeated-is);
             so = λ rising.
                 let so = c.loop-i.invariant.so rising in
-                let told = judged_along c.args.tags.now c.args.now c.args.kept.now c.as_slice.result.now c.loop-i.rising c.index-file-i.result c.judged.result (Ok None) c.as_slice.ensures (c.in-Ok.is ∙ ap Ok w.in-None.is) (c.judged.ensures c.args.tags.now c.in_ok-known.ensures.value) rising so.rises in
-                rw (w.fresh-is, w.rising-is, w.repeated-is) (so_known_at c.args.tags.now c.args.now c.args.kept.now c.args.file.now c.loop-i.fresh c.loop-i.rising c.loop-i.repeated c.loop-i.i c.index-file-i.result (omega arith) c.index-file-i.is so told);
+                let is = rw w.if-is_new.false at (judged rising so.0 so.1 so.2.rises) in (
+                  so.0,
+                  rw w.rising-is so.1,
+                  rw (w.fresh-is, w.repeated-is) (so_known_at c.args.tags.now c.args.now c.args.kept.now c.args.file.now c.loop-i.fresh so.0 c.loop-i.repeated c.loop-i.i c.index-file-i.result (omega arith) c.index-file-i.is so.2 is),
+                );
           }
     ]
 
 pub returns-clause-value : goal.returns-clause-value
-returns-clause-value c rising = sym (so_all c.args.tags.now c.args.now c.args.kept.now c.args.file.now c.loop-i.fresh c.loop-i.rising c.loop-i.repeated c.loop-i.i (omega arith) (c.loop-i.invariant.so rising))
+returns-clause-value c rising =
+    let so = c.loop-i.invariant.so rising in
+    sym (so_all c.args.tags.now c.args.now c.args.kept.now c.args.file.now c.loop-i.fresh so.0 c.loop-i.repeated c.loop-i.i (omega arith) so.2)

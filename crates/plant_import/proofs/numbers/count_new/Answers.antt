@@ -5,12 +5,12 @@ use Rattle.plant_import.proofs.Counted.{count_known, count_put}
 use Rattle.plant_import.proofs.Risings.{in_number_order}
 use Rattle.plant_import.proofs.numbers.count_new.Goals as goal
 
-pub loop-i-preserved-in-Continue-1 : goal.loop-i-preserved-in-Continue-1
-loop-i-preserved-in-Continue-1 c rising =
-    count_put c.args.kept.now c.args.file.now c.loop-i.numbers c.put_number.new.numbers c.loop-i.i c.index-file-i.result c.has_number.result (omega arith) (omega arith) c.index-file-i.is (c.loop-i.invariant rising)
+pub loop-i-preserved-in_ok-insert : goal.loop-i-preserved-in_ok-insert
+loop-i-preserved-in_ok-insert c rising =
+    count_put c.args.kept.now c.args.file.now c.loop-i.numbers.keys c.insert.new.self.keys c.loop-i.i c.index-file-i.result c.has_number.result (omega arith) (omega arith) c.index-file-i.is (c.loop-i.invariant rising)
     (search rules) (c.has_number.ensures (in_number_order c.args.kept.now rising) ∙ ap (λ e. list_any (has_number e.seq) c.args.kept.now) (sym c.index-file-i.is)) (search rules)
 
 pub loop-i-preserved : goal.loop-i-preserved
 loop-i-preserved c rising =
-    count_known c.args.kept.now c.args.file.now c.loop-i.numbers c.loop-i.i c.index-file-i.result c.has_number.result (omega arith) (omega arith) c.index-file-i.is (c.loop-i.invariant rising)
+    count_known c.args.kept.now c.args.file.now c.loop-i.numbers.keys c.loop-i.i c.index-file-i.result c.has_number.result (omega arith) (omega arith) c.index-file-i.is (c.loop-i.invariant rising)
     (c.has_number.ensures (in_number_order c.args.kept.now rising) ∙ ap (λ e. list_any (has_number e.seq) c.args.kept.now) (sym c.index-file-i.is)) (search rules)

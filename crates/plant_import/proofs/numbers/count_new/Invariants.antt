@@ -4,4 +4,4 @@ use Rattle.plant_import.specs.Numbers.{new_numbers}
 use Rattle.plant_import.proofs.numbers.count_new.Given as goal
 
 abbrev pub invariant-loop-i : goal.invariant-loop-i
-invariant-loop-i l = IsRising l.kept → l.numbers ≡ new_numbers l.kept (drop l.i l.file)
+invariant-loop-i l = IsRising l.kept → l.numbers.keys ≡ new_numbers l.kept (drop l.i l.file)

@@ -1,7 +1,14 @@
-use Rattle.std.proofs.Common.{◌≡◌, ◌∙◌, rules}
+use Rattle.std.proofs.Common.{ap, rules, sym, ◌∙◌, ◌≡◌}
+use Rattle.std.specs.List.{list_any}
+use Rattle.std.specs.Option.{option_copied}
 use Rattle.std.specs.Prelude.{nat_lt}
-use Rattle.plant_import.proofs.Risings.{last_settles_at}
+use Rattle.plant_import.proofs.Risings.{last_none, last_settles_at}
 use Rattle.plant_import.proofs.standing.is_before_last.Goals as goal
 
 pub returns-in-Some : goal.returns-in-Some
-returns-in-Some c rising = (let told : c.lt.result ≡ nat_lt c.args.event.now.moment c.in-Some.last.now.moment = search rules in told) ∙ last_settles_at c.args.event.now.moment c.args.below.now c.in-Some.last.now c.in-Some.ensures.value rising
+returns-in-Some c es rising last =
+    let earlier : c.lt.result ≡ nat_lt c.args.event.now.moment c.in-Some.last.now.moment = search rules in
+    earlier ∙ last_settles_at c.args.event.now.moment es c.in-Some.last.now (sym (ap option_copied c.in-Some.is) ∙ last) rising
+
+pub returns-in-None : goal.returns-in-None
+returns-in-None c es rising last = sym (ap (list_any (λ e. nat_lt c.args.event.now.moment e.moment)) (last_none es (sym (ap option_copied c.in-None.is) ∙ last)))

@@ -1,54 +1,60 @@
-use Rattle.std.proofs.Common.{◌<◌, refl, sym, rules, Some, None, true, false}
-use Rattle.std.specs.Prelude.{nat_lt}
+use Rattle.std.proofs.Common.{ap, false, refl, rules, sym, true, Some, None, ◌<◌, ◌∙◌, ◌≡◌}
 use Rattle.std.specs.List.{list_any}
-use Rattle.std.proofs.lemmas.Bool.{eqb-false}
-use Rattle.plant_import.proofs.Risings.{Each, in_number_order, rising_back}
-use Rattle.plant_import.proofs.Nearest.{parts, higher, below_rising, above_rising, stands_known, stands_apart, stands_new}
+use Rattle.std.specs.Option.{option_copied}
+use Rattle.std.specs.Prelude.{nat_lt}
+use Rattle.std.proofs.lemmas.Bool.{eqb-false, eqb-true}
+use Rattle.plant_import.specs.Standing.{below, from}
+use Rattle.plant_import.proofs.ByNumber.{halves}
+use Rattle.plant_import.proofs.Nearest.{above_rising, below_rising, higher, stands_apart, stands_clash, stands_known}
+use Rattle.plant_import.proofs.Risings.{Each, rising_back}
 use Rattle.plant_import.proofs.standing.stands.Goals as goal
 use Rattle.plant_import.proofs.standing.stands.Goals.{in-Some+else-eq, in_default}
 
 pub returns-then-is_same : goal.returns-then-is_same
-returns-then-is_same c rising =
-    let p = parts c.args.events.now c.split_at.result.0.now c.split_at.result.1.now c.args.event.now.seq c.place_of.result rising (c.place_of.ensures.place (in_number_order c.args.events.now rising)) c.place_of.ensures.bound c.split_at.ensures.front c.split_at.ensures.back in
-    stands_known c.args.events.now c.split_at.result.0.now c.split_at.result.1.now c.args.event.now c.in-Some.other.now p c.in-Some.ensures.value (search rules)
+returns-then-is_same c es rising near =
+    let e = c.args.event.now in
+    stands_known es (below e.seq es) (from e.seq es) e c.in-Some.other.now (halves e.seq es rising) (sym (ap option_copied c.in-Some.is) ∙ near.1) (search rules)
+
+pub returns-else-is_same : goal.returns-else-is_same
+returns-else-is_same c es rising near =
+    let e = c.args.event.now in
+    stands_clash es (below e.seq es) (from e.seq es) e c.in-Some.other.now (halves e.seq es rising) (sym (ap option_copied c.in-Some.is) ∙ near.1) (search rules) (search rules)
 
 pub returns-then-is_before_last : goal.returns-then-is_before_last
-returns-then-is_before_last c rising =
-    let below = c.split_at.result.0.now in
-    let above = c.split_at.result.1.now in
+returns-then-is_before_last c es rising near =
     let e = c.args.event.now in
-    let p = parts c.args.events.now below above e.seq c.place_of.result rising (c.place_of.ensures.place (in_number_order c.args.events.now rising)) c.place_of.ensures.bound c.split_at.ensures.front c.split_at.ensures.back in
-    let high : Each (λ x. e.seq < x.seq) above =
-    elim c.match-first.branch [
-      | in-Some+else-eq w ↦ higher e.seq above p.high (rising_back below above p.rising) (Some w.in-Some.other.now) w.in-Some.ensures.value (eqb-false _ _ (sym w.if-eq.ensures))
-      | in_default w ↦ higher e.seq above p.high (rising_back below above p.rising) None w.in_default.ensures.value tt
+    let low = below e.seq es in
+    let up = from e.seq es in
+    let p = halves e.seq es rising in
+    let high : Each (λ x. e.seq < x.seq) up =
+    elim c.match-nearest.branch [
+      | in-Some+else-eq w ↦ higher e.seq up p.high (rising_back low up p.rising) (Some w.in-Some.other.now) (sym (ap option_copied w.in-Some.is) ∙ near.1) (eqb-false _ _ (sym w.if-eq.ensures))
+      | in_default w ↦ higher e.seq up p.high (rising_back low up p.rising) None (sym (ap option_copied w.in_default.is) ∙ near.1) tt
     ] in
-    stands_apart c.args.events.now below above e true (list_any (λ x. nat_lt x.moment e.moment) above) true p high (c.if-is_before_last.ensures (below_rising c.args.events.now below above e.seq p)) refl refl
+    stands_apart es low up e true (list_any (λ x. nat_lt x.moment e.moment) up) true p high (c.if-is_before_last.ensures low (below_rising es low up e.seq p) near.0) refl refl
 
 pub returns-then-is_after_first : goal.returns-then-is_after_first
-returns-then-is_after_first c rising =
-    let below = c.split_at.result.0.now in
-    let above = c.split_at.result.1.now in
+returns-then-is_after_first c es rising near =
     let e = c.args.event.now in
-    let p = parts c.args.events.now below above e.seq c.place_of.result rising (c.place_of.ensures.place (in_number_order c.args.events.now rising)) c.place_of.ensures.bound c.split_at.ensures.front c.split_at.ensures.back in
-    let high : Each (λ x. e.seq < x.seq) above =
-    elim c.match-first.branch [
-      | in-Some+else-eq w ↦ higher e.seq above p.high (rising_back below above p.rising) (Some w.in-Some.other.now) w.in-Some.ensures.value (eqb-false _ _ (sym w.if-eq.ensures))
-      | in_default w ↦ higher e.seq above p.high (rising_back below above p.rising) None w.in_default.ensures.value tt
+    let low = below e.seq es in
+    let up = from e.seq es in
+    let p = halves e.seq es rising in
+    let high : Each (λ x. e.seq < x.seq) up =
+    elim c.match-nearest.branch [
+      | in-Some+else-eq w ↦ higher e.seq up p.high (rising_back low up p.rising) (Some w.in-Some.other.now) (sym (ap option_copied w.in-Some.is) ∙ near.1) (eqb-false _ _ (sym w.if-eq.ensures))
+      | in_default w ↦ higher e.seq up p.high (rising_back low up p.rising) None (sym (ap option_copied w.in_default.is) ∙ near.1) tt
     ] in
-    stands_apart c.args.events.now below above e false true true p high (c.if-is_before_last.ensures (below_rising c.args.events.now below above e.seq p)) (c.if-is_after_first.ensures (above_rising c.args.events.now below above e.seq p)) refl
+    stands_apart es low up e false true true p high (c.if-is_before_last.ensures low (below_rising es low up e.seq p) near.0) (c.if-is_after_first.ensures up (above_rising es low up e.seq p) near.1) refl
 
 pub returns : goal.returns
-returns c rising =
-    let below = c.split_at.result.0.now in
-    let above = c.split_at.result.1.now in
+returns c es rising near =
     let e = c.args.event.now in
-    let p = parts c.args.events.now below above e.seq c.place_of.result rising (c.place_of.ensures.place (in_number_order c.args.events.now rising)) c.place_of.ensures.bound c.split_at.ensures.front c.split_at.ensures.back in
-    let high : Each (λ x. e.seq < x.seq) above =
-    elim c.match-first.branch [
-      | in-Some+else-eq w ↦ higher e.seq above p.high (rising_back below above p.rising) (Some w.in-Some.other.now) w.in-Some.ensures.value (eqb-false _ _ (sym w.if-eq.ensures))
-      | in_default w ↦ higher e.seq above p.high (rising_back below above p.rising) None w.in_default.ensures.value tt
+    let low = below e.seq es in
+    let up = from e.seq es in
+    let p = halves e.seq es rising in
+    let high : Each (λ x. e.seq < x.seq) up =
+    elim c.match-nearest.branch [
+      | in-Some+else-eq w ↦ higher e.seq up p.high (rising_back low up p.rising) (Some w.in-Some.other.now) (sym (ap option_copied w.in-Some.is) ∙ near.1) (eqb-false _ _ (sym w.if-eq.ensures))
+      | in_default w ↦ higher e.seq up p.high (rising_back low up p.rising) None (sym (ap option_copied w.in_default.is) ∙ near.1) tt
     ] in
-    let none = c.if-is_before_last.ensures (below_rising c.args.events.now below above e.seq p) in
-    let nor = c.if-is_after_first.ensures (above_rising c.args.events.now below above e.seq p) in
-    (stands_apart c.args.events.now below above e false false false p high none nor refl, stands_new c.args.events.now below above e p high none nor)
+    stands_apart es low up e false false false p high (c.if-is_before_last.ensures low (below_rising es low up e.seq p) near.0) (c.if-is_after_first.ensures up (above_rising es low up e.seq p) near.1) refl

@@ -1,0 +1,208 @@
+-- Events by their numbers in a map: one more put, and those on both sides of a number.
+use Rattle.std.proofs.Common.{List, [], ap, append_assoc, arith, cond, refl, subst, sym, ◌++◌, ◌∙◌, ◌∷◌}
+use Rattle.std.proofs.lemmas.List.{map-append}
+use Rattle.std.proofs.lemmas.Bool.{false≢true, le-ltb, lt-ltb, ltb-false, ltb-true}
+use Rattle.std.specs.BTreeMap.{insert_entry}
+use Rattle.std.specs.BTreeMap.Range.{entries_between}
+use Rattle.std.specs.Cmp.{ranked}
+use Rattle.std.specs.List.{list_any}
+use Rattle.std.specs.FinMap.Entries.{by_order}
+use Rattle.std.specs.Ordering.{is_eq, is_le, match_ordering, nat_cmp}
+use Rattle.std.specs.Prelude.{Bool, Option, Some, None, false, filter, if◌then◌else◌, length, map, nat_lt, not, slice_get, true, ℕ, ◌+◌, ◌-◌, ◌<◌, ◌≡◌, ◌≤◌, ◌&&◌, ◌||◌, suc}
+use Rattle.std.specs.declared.cmp.Ordering.TheVariants.{Equal, Greater, Less}
+use Rattle.std.specs.declared.ops.Bound.TheVariants.{Excluded, Included, Unbounded}
+use Rattle.plant_alarm.specs.declared.event.Event.{Event}
+use Rattle.plant_import.proofs.Counted.{or_parts}
+use Rattle.plant_import.proofs.Nearest.{AreParts, order_above, order_below}
+use Rattle.plant_import.proofs.Risings.{Before, Each, Rising, each_weaker, is_rising, rising_of}
+use Rattle.plant_import.specs.Merging.{IsRising, out_of_order}
+use Rattle.plant_import.specs.Numbers.{event_number, has_number}
+use Rattle.plant_import.specs.Standing.{below, from}
+use Rattle.plant_types.specs.Tables.{put_row}
+
+abbrev pub numbered : List Event → List (ℕ × Event)
+numbered es = map (λ e. (e.seq, e)) es
+
+abbrev pub put_in : Event → List Event → List Event
+put_in = put_row nat_cmp event_number
+
+-- an event more
+pub put_entry : (r : Event) (es : List Event) → insert_entry nat_cmp (numbered es) r.seq r ≡ numbered (put_in r es)
+put_entry r [] = refl
+put_entry r (x ∷ xs) =
+    elim (nat_cmp r.seq x.seq) as (λ o. o ≡ nat_cmp r.seq x.seq
+    → match_ordering o ((r.seq, r) ∷ (x.seq, x) ∷ numbered xs) ((x.seq, r) ∷ numbered xs) ((x.seq, x) ∷ insert_entry nat_cmp (numbered xs) r.seq r)
+    ≡ numbered (by_order o (r ∷ x ∷ xs) (r ∷ xs) (x ∷ put_in r xs))) [
+      | Less ↦ λ _. refl
+      | Equal ↦ λ is. ap (λ n. (n, r) ∷ numbered xs) (sym (ranked r.seq x.seq Equal is))
+      | Greater ↦ λ _. ap (λ l. (x.seq, x) ∷ l) (put_entry r xs)
+    ] refl
+
+pub values_are : (es : List Event) → map (λ e. e.1) (numbered es) ≡ es
+values_are [] = refl
+values_are (x ∷ xs) = ap (λ l. x ∷ l) (values_are xs)
+
+-- the entries on both sides of a number
+is_below : (n m : ℕ) → not (is_le (nat_cmp n m)) ≡ nat_lt m n
+is_below n m =
+    elim (nat_cmp n m) as (λ o. o ≡ nat_cmp n m → not (is_le o) ≡ nat_lt m n) [
+      | Less ↦ λ is. let lt : n < m = ranked n m Less is in sym (le-ltb m n (omega (arith, lt)))
+      | Equal ↦ λ is. let same : n ≡ m = ranked n m Equal is in sym (le-ltb m n (omega (arith, same)))
+      | Greater ↦ λ is. let gt : m < n = ranked n m Greater is in sym (lt-ltb m n gt)
+    ] refl
+
+is_from : (n m : ℕ) → (is_le (nat_cmp n m) && true) ≡ not (nat_lt m n)
+is_from n m = by (is_le (nat_cmp n m)) (nat_lt m n) (is_below n m)
+  where
+    by : (a b : Bool) → not a ≡ b → (a && true) ≡ not b
+    by true b e = ap not e
+    by false b e = ap not e
+
+pub entries_below : (n : ℕ) (es : List Event) → entries_between nat_cmp Unbounded (Excluded n) (numbered es) ≡ numbered (below n es)
+entries_below n [] = refl
+entries_below n (x ∷ xs) =
+    ap (λ b. if b then (x.seq, x) ∷ entries_between nat_cmp Unbounded (Excluded n) (numbered xs) else entries_between nat_cmp Unbounded (Excluded n) (numbered xs)) (is_below n x.seq)
+    ∙ elim (nat_lt x.seq n) as (λ b. (if b then (x.seq, x) ∷ entries_between nat_cmp Unbounded (Excluded n) (numbered xs) else entries_between nat_cmp Unbounded (Excluded n) (numbered xs))
+    ≡ numbered (if b then x ∷ below n xs else below n xs)) [
+      | true ↦ ap (λ l. (x.seq, x) ∷ l) (entries_below n xs)
+      | false ↦ entries_below n xs
+    ]
+
+pub entries_from : (n : ℕ) (es : List Event) → entries_between nat_cmp (Included n) Unbounded (numbered es) ≡ numbered (from n es)
+entries_from n [] = refl
+entries_from n (x ∷ xs) =
+    ap (λ b. if b then (x.seq, x) ∷ entries_between nat_cmp (Included n) Unbounded (numbered xs) else entries_between nat_cmp (Included n) Unbounded (numbered xs)) (is_from n x.seq)
+    ∙ elim (nat_lt x.seq n) as (λ b. (if not b then (x.seq, x) ∷ entries_between nat_cmp (Included n) Unbounded (numbered xs) else entries_between nat_cmp (Included n) Unbounded (numbered xs))
+    ≡ numbered (if not b then x ∷ from n xs else from n xs)) [
+      | true ↦ entries_from n xs
+      | false ↦ ap (λ l. (x.seq, x) ∷ l) (entries_from n xs)
+    ]
+
+-- rising events are those below a number and then the others
+none_below : (n : ℕ) (xs : List Event) → Each (λ x. n ≤ x.seq) xs → below n xs ≡ []
+none_below n [] h = refl
+none_below n (x ∷ xs) h = ap (λ b. if b then x ∷ below n xs else below n xs) (le-ltb x.seq n h.0) ∙ none_below n xs h.1
+
+all_from : (n : ℕ) (xs : List Event) → Each (λ x. n ≤ x.seq) xs → from n xs ≡ xs
+all_from n [] h = refl
+all_from n (x ∷ xs) h = ap (λ b. if not b then x ∷ from n xs else from n xs) (le-ltb x.seq n h.0) ∙ ap (λ l. x ∷ l) (all_from n xs h.1)
+
+whole_is : (n : ℕ) (es : List Event) → Rising es → es ≡ below n es ++ from n es
+whole_is n [] h = refl
+whole_is n (x ∷ xs) h =
+    elim (nat_lt x.seq n) as (λ b. nat_lt x.seq n ≡ b → x ∷ xs ≡ (if b then x ∷ below n xs else below n xs) ++ (if not b then x ∷ from n xs else from n xs)) [
+      | true ↦ λ _. ap (λ l. x ∷ l) (whole_is n xs h.1)
+      | false ↦ λ f.
+          let le : n ≤ x.seq = ltb-false x.seq n f in
+          let high = each_weaker (Before x) (λ y. n ≤ y.seq) (λ y b. omega (arith, le, b.0)) xs h.0 in
+          sym (ap (λ l. l ++ x ∷ from n xs) (none_below n xs high) ∙ ap (λ l. x ∷ l) (all_from n xs high))
+    ] refl
+
+low_all : (n : ℕ) (es : List Event) → Each (λ x. x.seq < n) (below n es)
+low_all n [] = tt
+low_all n (x ∷ xs) =
+    elim (nat_lt x.seq n) as (λ b. nat_lt x.seq n ≡ b → Each (λ y. y.seq < n) (if b then x ∷ below n xs else below n xs)) [
+      | true ↦ λ t. (ltb-true x.seq n t, low_all n xs)
+      | false ↦ λ _. low_all n xs
+    ] refl
+
+high_all : (n : ℕ) (es : List Event) → Each (λ x. n ≤ x.seq) (from n es)
+high_all n [] = tt
+high_all n (x ∷ xs) =
+    elim (nat_lt x.seq n) as (λ b. nat_lt x.seq n ≡ b → Each (λ y. n ≤ y.seq) (if not b then x ∷ from n xs else from n xs)) [
+      | true ↦ λ _. high_all n xs
+      | false ↦ λ f. (ltb-false x.seq n f, high_all n xs)
+    ] refl
+
+pub halves : (n : ℕ) (es : List Event) → IsRising es → AreParts es n (below n es) (from n es)
+halves n es h =
+    let whole = whole_is n es (rising_of es h) in
+    record {
+      whole = whole;
+      rising = subst (λ (l : List Event). Rising l) whole (rising_of es h);
+      low = low_all n es;
+      high = high_all n es;
+    }
+
+-- two parts of events at a number are those below it and the others
+below_part : (n : ℕ) (xs ys : List Event) → Each (λ x. x.seq < n) xs → Each (λ x. n ≤ x.seq) ys → below n (xs ++ ys) ≡ xs
+below_part n [] ys low high = none_below n ys high
+below_part n (x ∷ xs) ys low high = ap (λ b. if b then x ∷ below n (xs ++ ys) else below n (xs ++ ys)) (lt-ltb x.seq n low.0) ∙ ap (λ l. x ∷ l) (below_part n xs ys low.1 high)
+
+from_part : (n : ℕ) (xs ys : List Event) → Each (λ x. x.seq < n) xs → Each (λ x. n ≤ x.seq) ys → from n (xs ++ ys) ≡ ys
+from_part n [] ys low high = all_from n ys high
+from_part n (x ∷ xs) ys low high = ap (λ b. if not b then x ∷ from n (xs ++ ys) else from n (xs ++ ys)) (lt-ltb x.seq n low.0) ∙ from_part n xs ys low.1 high
+
+pub below_is : (n : ℕ) (es xs ys : List Event) → AreParts es n xs ys → xs ≡ below n es
+below_is n es xs ys p = sym (ap (below n) p.whole ∙ below_part n xs ys p.low p.high)
+
+pub from_is : (n : ℕ) (es xs ys : List Event) → AreParts es n xs ys → ys ≡ from n es
+from_is n es xs ys p = sym (ap (from n) p.whole ∙ from_part n xs ys p.low p.high)
+
+-- an event put among those of other numbers
+either : (p q r : Bool) → (p || (q || r)) ≡ (q || (p || r))
+either true true r = refl
+either true false r = refl
+either false q r = refl
+
+pub any_put : (p : Event → Bool) (e : Event) (xs : List Event) → list_any (has_number e.seq) xs ≡ false → list_any p (put_in e xs) ≡ (p e || list_any p xs)
+any_put p e [] h = refl
+any_put p e (x ∷ xs) h =
+    let parts = or_parts (has_number e.seq x) (list_any (has_number e.seq) xs) h in
+    elim (nat_cmp e.seq x.seq) as (λ o. is_eq o ≡ false → list_any p (by_order o (e ∷ x ∷ xs) (e ∷ xs) (x ∷ put_in e xs)) ≡ (p e || (p x || list_any p xs))) [
+      | Less ↦ λ _. refl
+      | Equal ↦ λ f. absurd (false≢true (sym f))
+      | Greater ↦ λ _. ap (λ b. p x || b) (any_put p e xs parts.1) ∙ either (p x) (p e) (list_any p xs)
+    ] parts.0
+
+each_put : (P : Event → Type 0) (e : Event) (xs : List Event) → P e → Each P xs → Each P (put_in e xs)
+each_put P e [] h k = (h, tt)
+each_put P e (x ∷ xs) h k =
+    elim (nat_cmp e.seq x.seq) as (λ o. Each P (by_order o (e ∷ x ∷ xs) (e ∷ xs) (x ∷ put_in e xs))) [
+      | Less ↦ (h, k)
+      | Equal ↦ (h, k.1)
+      | Greater ↦ (k.0, each_put P e xs h k.1)
+    ]
+
+-- one that none of them is out of order with
+rising_put : (e : Event) (xs : List Event) → list_any (has_number e.seq) xs ≡ false → list_any (out_of_order e) xs ≡ false → Rising xs → Rising (put_in e xs)
+rising_put e [] other order h = (tt, tt)
+rising_put e (x ∷ xs) other order h =
+    let numbers = or_parts (has_number e.seq x) (list_any (has_number e.seq) xs) other in
+    let orders = or_parts (out_of_order e x) (list_any (out_of_order e) xs) order in
+    elim (nat_cmp e.seq x.seq) as (λ o. o ≡ nat_cmp e.seq x.seq → is_eq o ≡ false → Rising (by_order o (e ∷ x ∷ xs) (e ∷ xs) (x ∷ put_in e xs))) [
+      | Less ↦ λ is _.
+          let lt : e.seq < x.seq = ranked e.seq x.seq Less is in
+          let le : e.moment ≤ x.moment = ltb-false x.moment e.moment (sym (order_above e x lt) ∙ orders.0) in
+          ((let first : Before e x = (lt, le) in first, each_weaker (Before x) (Before e) (λ y b. (omega (arith, lt, b.0), omega (arith, le, b.1))) xs h.0), h)
+      | Equal ↦ λ _ f. absurd (false≢true (sym f))
+      | Greater ↦ λ is _.
+          let lt : x.seq < e.seq = ranked e.seq x.seq Greater is in
+          let le : x.moment ≤ e.moment = ltb-false e.moment x.moment (sym (order_below e x lt) ∙ orders.0) in
+          (each_put (Before x) e xs (lt, le) h.0, rising_put e xs numbers.1 orders.1 h.1)
+    ] refl numbers.0
+
+pub rises_put : (e : Event) (xs : List Event) → list_any (has_number e.seq) xs ≡ false → list_any (out_of_order e) xs ≡ false → IsRising xs → IsRising (put_in e xs)
+rises_put e xs other order h = is_rising (put_in e xs) (rising_put e xs other order (rising_of xs h))
+
+-- the entry at an end of a part of the map
+pub first_value : (k : ℕ) (v : Event) (t : List (ℕ × Event)) (xs : List Event) → (k, v) ∷ t ≡ numbered xs → Some v ≡ slice_get xs 0
+first_value k v t xs e = ap (λ l. slice_get l 0) (ap (map (λ e. e.1)) e ∙ values_are xs)
+
+pub no_first : (xs : List Event) → [] ≡ numbered xs → None ≡ slice_get xs 0
+no_first xs e = ap (λ l. slice_get l 0) (ap (map (λ e. e.1)) e ∙ values_are xs)
+
+last_at_end : (ys : List Event) (v : Event) → Some v ≡ slice_get (ys ++ v ∷ []) (length (ys ++ v ∷ []) - 1)
+last_at_end [] v = refl
+last_at_end (y ∷ []) v = refl
+last_at_end (y ∷ z ∷ zs) v =
+    let one : length (y ∷ z ∷ zs ++ v ∷ []) - 1 ≡ suc (length (z ∷ zs ++ v ∷ []) - 1) = omega arith in
+    last_at_end (z ∷ zs) v ∙ ap (slice_get (y ∷ z ∷ zs ++ v ∷ [])) (sym one)
+
+pub last_value : (k : ℕ) (v : Event) (t : List (ℕ × Event)) (xs : List Event) → t ++ (k, v) ∷ [] ≡ numbered xs → Some v ≡ slice_get xs (length xs - 1)
+last_value k v t xs e =
+    let values : map (λ e. e.1) t ++ v ∷ [] ≡ xs = sym (map-append (λ e. e.1) t ((k, v) ∷ [])) ∙ ap (map (λ e. e.1)) e ∙ values_are xs in
+    last_at_end (map (λ e. e.1) t) v ∙ ap (λ l. slice_get l (length l - 1)) values
+
+pub no_last : (xs : List Event) → [] ≡ numbered xs → None ≡ slice_get xs (length xs - 1)
+no_last xs e = ap (λ l. slice_get l (length l - 1)) (ap (map (λ e. e.1)) e ∙ values_are xs)

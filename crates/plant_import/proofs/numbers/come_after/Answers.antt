@@ -1,0 +1,18 @@
+use Rattle.std.proofs.Common.{ap, rules, sym, ◌∙◌, ◌≡◌}
+use Rattle.std.specs.List.{list_all}
+use Rattle.std.specs.Prelude.{nat_lt}
+use Rattle.plant_import.specs.Needed.{is_before_all}
+use Rattle.plant_import.proofs.Appended.{after_last, after_none}
+use Rattle.plant_import.proofs.Risings.{first_none, last_none}
+use Rattle.plant_import.proofs.numbers.come_after.Goals as goal
+
+pub returns-in_default : goal.returns-in_default
+returns-in_default c low high = ap (list_all (is_before_all c.args.events.now)) (sym (last_none c.args.others.now c.in_default.ensures.value))
+
+pub returns-in_default-first : goal.returns-in_default-first
+returns-in_default-first c low high = sym (ap (λ es. list_all (is_before_all es) c.args.others.now) (first_none c.args.events.now c.in_default-first.ensures.value) ∙ after_none c.args.others.now)
+
+pub returns : goal.returns
+returns c low high =
+    let less : c.lt.result ≡ nat_lt c.in-Some.last.now.seq c.in-Some-first.first.now.seq = search rules in
+    less ∙ after_last c.args.others.now c.args.events.now c.in-Some.last.now c.in-Some-first.first.now c.in-Some.ensures.value c.in-Some-first.ensures.value low high
