@@ -1,6 +1,10 @@
 -- A unit's rows with and without its events: the part of a call that looks at none, and changes that put none.
-use Rattle.std.proofs.Common.{Bool, List, None, Option, Some, [], ap, cond, false, refl, sym, true, ℕ, ◌∙◌, ◌∷◌, ◌≡◌}
-use Rattle.std.specs.Prelude.{◌||◌}
+use Rattle.std.proofs.Common.{List, None, Option, Some, [], ap, cond, false, refl, sym, true, ℕ, ◌∙◌, ◌∷◌, ◌≡◌}
+use Rattle.std.proofs.lemmas.List.Sums.{fold-append}
+use Rattle.std.specs.Ordering.{nat_cmp}
+use Rattle.std.specs.Prelude.{◌++◌, ◌||◌}
+use Rattle.plant_import.specs.Numbers.{event_number, with_events}
+use Rattle.plant_types.specs.Tables.{put_row}
 use Rattle.plant_alarm.specs.declared.event.Event.{Event}
 use Rattle.plant_books.specs.Asking.{has_events, looks_at_events}
 use Rattle.plant_books.specs.Changing.{is_event_put, puts_event}
@@ -18,9 +22,13 @@ use Rattle.plant_model.specs.declared.rows.ChangeTopic.{ChangeTopic}
 use Rattle.plant_model.specs.declared.rows.ChangeTopic.TheVariants.{Limit as LimitTopic, Matrix as MatrixTopic, Record as RecordTopic}
 use Rattle.plant_model.specs.declared.rows.Key.TheVariants.{Grant as GrantKey, Shelf as ShelfKey}
 use Rattle.plant_model.specs.declared.rows.Row.TheVariants.{Alarm as AlarmPut, Band as BandPut, Cell as CellPut, Change as ChangePut, Event as EventPut, Grant as GrantPut, Record as RecordPut, Shelf as ShelfPut, Unit as UnitPut}
-use Rattle.plant_model.specs.declared.rows.UnitPart.{UnitPart}
 use Rattle.plant_model.specs.declared.rows.UnitRows.{UnitRows}
 use Rattle.plant_types.specs.Names.{Name}
+
+-- ---- an event more of those that wait
+
+pub with_push : (kept fresh : List Event) (e : Event) → with_events kept (fresh ++ e ∷ []) ≡ put_row nat_cmp event_number e (with_events kept fresh)
+with_push kept fresh e = fold-append (λ es x. put_row nat_cmp event_number x es) kept fresh (e ∷ [])
 
 -- ---- what is selected of a unit's rows does not depend on its events
 

@@ -1,7 +1,7 @@
 pub mod KeyedLaws
 pub mod ListedLaws
-pub mod MergingLaws
 pub mod PassingLaws
 pub mod RowsFound
 pub mod OrderLaws
+pub mod ChangesFound
 pub mod EventLaws

@@ -93,3 +93,7 @@ is_number (Some m) n = same_number m n
 -- the set has the numbers of the changes that records of these tags came from
 abbrev pub AreSources : BTreeSet ℕ → (Name → Bool) → List RecordEntry → Type 0
 AreSources numbers tags records = (n : ℕ) → contains nat_cmp numbers n ≡ list_any (λ r. tags r.tag && same_number n r.change_no) records
+
+-- the set has the numbers that pass, and no others
+abbrev pub HasNumbers : BTreeSet ℕ → (ℕ → Bool) → Type 0
+HasNumbers numbers passes = (n : ℕ) → contains nat_cmp numbers n ≡ passes n

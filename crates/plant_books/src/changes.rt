@@ -11,9 +11,9 @@ ghost use Rattle.plant_types.specs.declared.fault.Fault.TheVariants.{Memory};
 
 use crate::found::remove;
 use crate::keyed::{put, put_sorted};
-use crate::merging::put_events;
 use crate::rows::compare_pair;
 use plant_alarm::Event;
+use plant_import::put_events;
 use plant_model::{Change, GrantRow, Key, Row, ShelfRow, UnitRow, UnitRows};
 use plant_types::{Duplicate, Fault, Person, Role, Table, Tag};
 use std::alloc::Global;
@@ -36,7 +36,7 @@ fn one_row(alloc: Global, row: UnitRow) -> Result<Table<UnitRow>, Fault>
 }
 
 /// Puts a row of a unit.
-#[tactic(auto, using(crate::proofs::MergingLaws::with_push))]
+#[tactic(auto, using(crate::proofs::EventLaws::with_push))]
 fn put_row(alloc: Global, changing: &mut Changing, row: Row) -> Result<(), Fault>
     ensures ok { AreInOrder (whole changing.old) → OnOk result (whole changing.new ≡ row_put row (whole changing.old)) }
     ensures events { OnOk result (changing.new.rows.events ≡ changing.old.rows.events) }

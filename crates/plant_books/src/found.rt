@@ -1,19 +1,21 @@
-//! Rows found by their tags, in a table that stands in the order of the tags.
+//! Rows found by their tags, in a table that stands in the order of the tags, and changes by their numbers.
 
-ghost use Rattle.std.specs.Prelude.{◌≡◌, IfErr, IfOk, true, false, filter, option_copied};
+ghost use Rattle.std.specs.BTreeSet.{contains};
+ghost use Rattle.std.specs.Prelude.{◌≡◌, ◌<◌, ◌≤◌, IfErr, IfOk, true, false, filter, length, option_copied};
 ghost use Rattle.std.specs.Option.{option_to_list};
 ghost use Rattle.std.specs.List.Sorted.{IsPartitionPoint};
-ghost use Rattle.std.specs.Ordering.{is_lt};
+ghost use Rattle.std.specs.Ordering.{is_lt, nat_cmp};
 ghost use Rattle.plant_books.specs.Asking.{is_wanted};
-ghost use Rattle.plant_model.specs.RowFacts.{alarm_tag, record_tag, shelf_tag};
+ghost use Rattle.plant_model.specs.RowFacts.{alarm_tag, change_number, record_tag, shelf_tag};
 ghost use Rattle.plant_types.specs.Names.{Name, name_cmp};
 ghost use Rattle.plant_types.specs.Tables.{IsInOrder, remove_row, row_at};
 ghost use Rattle.plant_types.specs.declared.fault.Fault.TheVariants.{Memory};
 
 use crate::asking::Wanted;
-use plant_model::{AlarmRow, RecordEntry, ShelfRow};
+use plant_model::{AlarmRow, ChangeEntry, RecordEntry, ShelfRow};
 use plant_types::{Duplicate, Fault, Table, Tag};
 use std::alloc::Global;
+use std::collections::BTreeSet;
 
 /// A row of an alarm, of which its table has one at most.
 pub trait Tagged: Drop {
@@ -103,4 +105,40 @@ pub fn rows_wanted<T: Tagged + Duplicate>(
         Wanted::One(tag) => one_copy(alloc, row_of(rows.as_slice(), tag)),
         Wanted::Every => rows.duplicate(alloc),
     }
+}
+
+/// How many of the changes, which stand in rising number, have a smaller number.
+fn place_of_change(changes: &[ChangeEntry], number: u32) -> usize
+    ensures bound { result ≤ length changes.now }
+    ensures place { IsInOrder nat_cmp change_number changes.now → IsPartitionPoint (λ c. c.number < number) (λ c. number ≤ c.number) changes.now result }
+{
+    changes.partition_point(|change| change.number < number)
+}
+
+/// The change of a number, of changes in rising number.
+pub fn change_at(changes: &[ChangeEntry], number: u32) -> Option<&ChangeEntry>
+    ensures { IsInOrder nat_cmp change_number changes.now → option_copied result ≡ row_at nat_cmp change_number number changes.now }
+{
+    match changes.get(place_of_change(changes, number)) {
+        Some(change) if change.number == number => Some(change),
+        _ => None,
+    }
+}
+
+/// Copies of the changes of these numbers, of changes in rising number.
+pub fn changes_of(
+    alloc: Global,
+    changes: &[ChangeEntry],
+    numbers: &BTreeSet<u32>,
+) -> Result<Table<ChangeEntry>, Fault>
+    ensures value { IsInOrder nat_cmp change_number changes.now → IfOk result (λ found. found ≡ filter (λ c. contains nat_cmp numbers.now c.number) changes.now) }
+    ensures memory { IfErr result (λ e. e ≡ Memory) }
+{
+    let mut found = Table::new(alloc);
+    for number in numbers {
+        if let Some(change) = change_at(changes, *number) {
+            found.push(change.duplicate(alloc)?)?;
+        }
+    }
+    Ok(found)
 }

@@ -7,7 +7,6 @@ mod changes;
 mod found;
 mod grants;
 mod keyed;
-mod merging;
 mod opened;
 mod parts;
 mod plain;
@@ -20,7 +19,7 @@ pub use asking::{
 };
 pub use books::{Books, MineShelf, MineUnit};
 pub use changes::{after_changes, puts_event};
-pub use found::{Tagged, place_of, row_of};
+pub use found::{Tagged, change_at, place_of, row_of};
 pub use grants::{holds_some_by, is_before, is_held_by, is_pair};
 pub use opened::{alarm_of, last_return, push_shelves};
 pub use parts::{events_asked, part_of, part_of_grants, rows_but_events};

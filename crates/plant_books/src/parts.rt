@@ -1,12 +1,12 @@
 ghost use Rattle.std.specs.Prelude.{◌≡◌, ◌||◌, ℕ, IfErr, IfOk, Some, false, filter, option_copied, true};
-ghost use Rattle.plant_books.specs.Asking.{AreSources, events_wanted, is_shelving as is_shelving_by, is_wanted, number_approved as number_approved_by, selection_by};
+ghost use Rattle.plant_books.specs.Asking.{AreSources, HasNumbers, events_wanted, is_shelving as is_shelving_by, is_wanted, number_approved as number_approved_by, selection_by};
 ghost use Rattle.plant_books.specs.Contents.{without_events};
 ghost use Rattle.plant_books.specs.Order.{AreInOrder};
 ghost use Rattle.plant_model.specs.Parts.{counted_for, is_crowded as is_crowded_in, part_of as the_part, part_of_holder as holders_part, rows_selected, selected};
 ghost use Rattle.plant_model.specs.RowChanges.{no_rows};
 ghost use Rattle.plant_model.specs.declared.rows.UnitRows.{UnitRows as TheRows};
 ghost use Rattle.plant_model.specs.RowFacts.{change_found, change_number, event_number, last_number as last_number_of, pair_of, unit_read};
-ghost use Rattle.plant_types.specs.Tables.{IsInOrder, row_at};
+ghost use Rattle.plant_types.specs.Tables.{IsInOrder};
 ghost use Rattle.std.specs.Ordering.{nat_cmp};
 ghost use Rattle.plant_types.specs.Names.{same_name};
 ghost use Rattle.plant_types.specs.declared.fault.Fault.TheVariants.{Memory};
@@ -16,7 +16,7 @@ use crate::asking::{
     wanted_alarms, wanted_change, wanted_events, wanted_records, wanted_shelves, wants_all_grants,
     wants_matrix, wants_sources,
 };
-use crate::found::rows_wanted;
+use crate::found::{change_at, changes_of, rows_wanted};
 use crate::grants::holds_some_by;
 use plant_alarm::Event;
 use plant_import::needed;
@@ -159,38 +159,24 @@ fn sources(
     Ok(numbers)
 }
 
-/// Whether the scope takes in the change of a number. `sources` are those of the records that it takes in.
-fn is_change_asked(sources: &BTreeSet<u32>, scope: Scope<'_>, number: u32) -> bool
-    ensures { (rows : TheRows) → AreSources sources.now (selection_by rows scope.entry).rationale rows.records → result ≡ (selection_by rows scope.entry).change number }
-{
-    let named = is_number(wanted_change(scope), number);
-    named || wants_sources(scope) && sources.contains(&number)
-}
-
-/// Copies of the changes that the scope takes in. `sources` are those of the records that it takes in.
-fn changes_among(
+/// The numbers of the changes that the scope takes in.
+fn numbers_asked(
     alloc: Global,
-    changes: &[ChangeEntry],
-    sources: &BTreeSet<u32>,
+    records: &[RecordEntry],
     scope: Scope<'_>,
-) -> Result<Table<ChangeEntry>, Fault>
-    ensures value { (rows : TheRows) → AreSources sources.now (selection_by rows scope.entry).rationale rows.records → IfOk result (λ asked. asked ≡ filter (λ r. (selection_by rows scope.entry).change r.number) changes.now) }
+) -> Result<BTreeSet<u32>, Fault>
+    ensures value { (rows : TheRows) → rows.records ≡ records.now → IfOk result (λ numbers. HasNumbers numbers (selection_by rows scope.entry).change) }
     ensures memory { IfErr result (λ e. e ≡ Memory) }
 {
-    let mut asked = Table::new(alloc);
-    for change in changes {
-        if is_change_asked(sources, scope, change.number) {
-            asked.push(change.duplicate(alloc)?)?;
-        }
+    let mut numbers = if wants_sources(scope) {
+        sources(alloc, records, &wanted_records(scope))?
+    } else {
+        BTreeSet::new(alloc)
+    };
+    if let Some(number) = wanted_change(scope) {
+        numbers.insert(number)?;
     }
-    Ok(asked)
-}
-
-/// Whether the scope takes in some change.
-fn wants_some_change(scope: Scope<'_>) -> bool
-    ensures { result ≡ false → (rows : TheRows) (n : ℕ) → (selection_by rows scope.entry).change n ≡ false }
-{
-    wants_sources(scope) || wanted_change(scope).is_some()
+    Ok(numbers)
 }
 
 /// The changes that the scope takes in.
@@ -199,14 +185,11 @@ fn changes_asked(
     rows: &UnitRows,
     scope: Scope<'_>,
 ) -> Result<Table<ChangeEntry>, Fault>
-    ensures value { IfOk result (λ asked. asked ≡ filter (λ r. (selection_by rows.now scope.entry).change r.number) rows.now.changes) }
+    ensures value { IsInOrder nat_cmp change_number rows.now.changes → IfOk result (λ asked. asked ≡ filter (λ r. (selection_by rows.now scope.entry).change r.number) rows.now.changes) }
     ensures memory { IfErr result (λ e. e ≡ Memory) }
 {
-    if !wants_some_change(scope) {
-        return Ok(Table::new(alloc));
-    }
-    let sources = sources(alloc, rows.records.as_slice(), &wanted_records(scope))?;
-    changes_among(alloc, rows.changes.as_slice(), &sources, scope)
+    let numbers = numbers_asked(alloc, rows.records.as_slice(), scope)?;
+    changes_of(alloc, rows.changes.as_slice(), &numbers)
 }
 
 /// The rows that the scope takes in.
@@ -239,16 +222,9 @@ fn is_crowded_by(rows: &UnitRows, request: &Request) -> bool
     is_shelving(request) && is_crowded(&rows.units, rows.shelves.len() as u64)
 }
 
-/// The change of a number.
-fn change_at(changes: &[ChangeEntry], number: u32) -> Option<&ChangeEntry>
-    ensures { option_copied result ≡ row_at nat_cmp change_number number changes.now }
-{
-    changes.iter().find(|change| number == change.number)
-}
-
 /// The change that the request approves, if it is there.
 fn approved_by<'a>(rows: &'a UnitRows, request: &Request) -> Option<&'a ChangeEntry>
-    ensures { (n : ℕ) → number_approved_by request.now ≡ Some n → change_found rows.now n ≡ option_copied result }
+    ensures { AreInOrder rows.now → (n : ℕ) → number_approved_by request.now ≡ Some n → change_found rows.now n ≡ option_copied result }
 {
     match number_approved(request) {
         Some(number) => change_at(rows.changes.as_slice(), number),
@@ -258,7 +234,7 @@ fn approved_by<'a>(rows: &'a UnitRows, request: &Request) -> Option<&'a ChangeEn
 
 /// What the request looks at in a unit of these rows.
 fn scope_in<'a>(rows: &'a UnitRows, request: &'a Request) -> Scope<'a>
-    ensures { selection_by rows.now result ≡ selected rows.now request.now }
+    ensures { AreInOrder rows.now → selection_by rows.now result ≡ selected rows.now request.now }
 {
     scope_of(
         request,

@@ -1,5 +1,4 @@
-use Rattle.std.proofs.Common.{None, Some, ap, false, rules, slice_get, subst, sym, true, ◌∙◌, ◌≡◌}
-use Rattle.std.specs.Prelude.{IfSome}
+use Rattle.std.proofs.Common.{None, Some, false, rules, slice_get, subst, sym, true, ◌∙◌, ◌≡◌}
 use Rattle.plant_types.specs.Names.{same_name}
 use Rattle.plant_books.proofs.RowsFound.{IsOther, get_none, get_some, none_goes, one_goes, ordered}
 use Rattle.plant_books.proofs.found.remove.Goals as goal

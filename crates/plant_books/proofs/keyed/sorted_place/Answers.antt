@@ -1,4 +1,4 @@
-use Rattle.std.proofs.Common.{[], ap, arith, drop, length, refl, rules, subst, sym, true, ◌<◌, ◌≡◌, ◌∙◌, ℕ}
+use Rattle.std.proofs.Common.{ap, arith, drop, length, refl, rules, sym, true, ◌<◌, ◌≡◌, ◌∙◌}
 use Rattle.std.proofs.Math.Seq.{drop-length}
 use Rattle.std.proofs.lemmas.Bool.{ltb-false, ltb-true}
 use Rattle.std.proofs.lemmas.List.Sorted.{IsPartitionPoint-from_clause}

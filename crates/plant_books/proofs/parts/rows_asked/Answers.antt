@@ -12,5 +12,5 @@ returns-clause-value c order = λ i. record {
   bands = c.in_ok-bands_asked.ensures.value i;
   cells = c.in_ok-cells_asked.ensures.value i;
   records = (c.in_ok-rows_wanted-3.ensures.value order.records ∙ passing_as (λ r. sym (c.wanted_records.ensures c.args.rows.now r.tag)) c.args.rows.now.records) i;
-  changes = c.in_ok-changes_asked.ensures.value i;
+  changes = c.in_ok-changes_asked.ensures.value order.changes i;
 }

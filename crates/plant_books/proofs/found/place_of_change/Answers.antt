@@ -1,0 +1,13 @@
+use Rattle.std.proofs.Common.{rules}
+use Rattle.std.specs.Prelude.{nat_lt}
+use Rattle.std.proofs.lemmas.Bool.{ltb-false, ltb-true}
+use Rattle.std.proofs.lemmas.List.Sorted.{IsPartitionPoint-from_clause}
+use Rattle.plant_import.proofs.Placed.{parted}
+use Rattle.plant_model.specs.RowFacts.{change_number}
+use Rattle.plant_model.specs.declared.rows.ChangeEntry.{ChangeEntry}
+use Rattle.plant_books.proofs.found.place_of_change.Goals as goal
+
+pub returns-clause-place : goal.returns-clause-place
+returns-clause-place c order =
+    let part = IsPartitionPoint-from_clause (λ (y : ChangeEntry). nat_lt y.number c.args.number) c.args.changes.now c.partition_point.result c.partition_point.ensures.partitioned (parted change_number c.args.changes.now c.args.number order) (λ a r f' k. search rules) in
+    (λ k d low high. ltb-true _ _ (part.0 k d low high), λ k d low high. ltb-false _ _ (part.1 k d low high))
