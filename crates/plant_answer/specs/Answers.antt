@@ -27,7 +27,13 @@ reply_media (reply.Standing unit at lines) = Plain
 reply_media (reply.Alarms unit at lines) = Plain
 reply_media (reply.Floods unit begin until lines) = Plain
 reply_media (reply.Mine person at lines) = Plain
-reply_media _ = Json
+reply_media reply.Done = Json
+reply_media (reply.Imported fresh repeated) = Json
+reply_media (reply.Number number) = Json
+reply_media (reply.Status row) = Json
+reply_media (reply.RecordOf row) = Json
+reply_media (reply.ChangeOf row) = Json
+reply_media (reply.Units lines) = Json
 
 abbrev pub reply_body : Reply → List ℕ
 reply_body reply.Done = done_body

@@ -22,7 +22,13 @@ fn media_of(reply: &Reply) -> Media
         | Reply::Alarms { .. }
         | Reply::Floods { .. }
         | Reply::Mine { .. } => Media::Plain,
-        _ => Media::Json,
+        Reply::Done
+        | Reply::Imported { .. }
+        | Reply::Number(_)
+        | Reply::Status(_)
+        | Reply::RecordOf(_)
+        | Reply::ChangeOf(_)
+        | Reply::Units(_) => Media::Json,
     }
 }
 

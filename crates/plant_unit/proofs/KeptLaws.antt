@@ -2,7 +2,7 @@
 use Rattle.plant_alarm.specs.declared.event.Event.{Event}
 use Rattle.plant_model.proofs.CountLaws.{few_limits, few_matrices, few_proposals, few_records}
 use Rattle.plant_model.proofs.FactLaws.{alarm_in, change_entry_in, not_true, revision_in, same_number_of, sheet_source}
-use Rattle.plant_model.proofs.HistoryLaws.{alarm_of, alarms_told, change_with, record_with, records_told, shelves_told, tag_of_record, tags_of_alarms, tags_of_records, tags_of_shelves}
+use Rattle.plant_model.proofs.HistoryLaws.{alarm_of, alarms_told, change_with, changes_told, number_of_change, numbers_of_changes, record_with, records_told, shelves_told, tag_of_record, tags_of_alarms, tags_of_records, tags_of_shelves}
 use Rattle.plant_model.proofs.PartLaws.{matrix_there, own_holds}
 use Rattle.plant_alarm.specs.States.{summary}
 use Rattle.plant_unit.specs.Summaries.{summary_in, summary_of}
@@ -18,7 +18,7 @@ use Rattle.plant_model.specs.Legality.{IsLegal}
 use Rattle.plant_model.specs.Matrices.{matrix_numbered}
 use Rattle.plant_model.specs.Parts.{AllEvents, AllRecords, Approval, File, OneChange, OneRecord, Scope, Selection, counted_for, every, is_source, none, of_approved, of_topic, part_of, part_of_holder, part_of_stranger, rows_selected, scope_of, selected, selection}
 use Rattle.plant_model.specs.RowFacts.{alarm_tag, cells_at, change_found, change_number, change_read, has_cells, holds_by, matrix_read, record_found, record_tag, shelf_tag, unit_read}
-use Rattle.plant_model.specs.Rows.{alarm_row, alarm_rows, cell_rows, change_entry, change_rows, max_of_kind, record_entry, record_rows, records_of, rows_of, shelf_rows, sheet_of_kind, tag_of_kind, topic}
+use Rattle.plant_model.specs.Rows.{alarm_row, alarm_rows, cell_rows, change_entry, change_rows, changes_of, max_of_kind, record_entry, record_rows, records_of, rows_of, shelf_rows, sheet_of_kind, tag_of_kind, topic}
 use Rattle.plant_model.specs.declared.call.Call.{Call}
 use Rattle.plant_model.specs.declared.call.Request.{Request}
 use Rattle.plant_model.specs.declared.call.Request.TheVariants.{Alarms, Approve, ChangeOf, Floods, MyShelves, MyUnits, Grant, Import, OneShotShelve, OpenUnit, PlaceInService, Propose, RecordOf, Register, Reject, RemoveFromService, Shelves, Standing, Status, TimedShelve, Unshelve, Withdraw, WithdrawChange}
@@ -46,7 +46,8 @@ use Rattle.plant_unit.specs.Additions.{AreEventsFor, AreKept}
 use Rattle.plant_unit.specs.Readings.{has_its_sheet, has_kind, has_sheet, is_left_out, is_matrix_at}
 use Rattle.std.proofs.Common.{ap, arith, cond, inl, inr, refl, subst, sym, ◌∙◌, ◌⊎◌}
 use Rattle.std.specs.List.{cons_option, list_all, list_any}
-use Rattle.std.specs.Ordering.{nat_cmp}
+use Rattle.std.specs.Ordering.{is_lt, nat_cmp}
+use Rattle.std.specs.declared.cmp.Ordering.{Ordering}
 use Rattle.std.specs.Prelude.{Bool, List, None, Option, Some, T, [], false, filter, filter_map, if◌then◌else◌, is_some, length, map, max, option_map, true, unwrap_or, ℕ, ◌&&◌, ◌<◌, ◌==◌, ◌||◌, ◌∷◌, ◌≡◌, ◌≤◌}
 use Rattle.plant_import.specs.Merging.{IsRising}
 use Rattle.plant_import.proofs.NeededLaws.{needed_few, needed_rises}
@@ -112,16 +113,21 @@ second : (a b : Bool) → T (a && b) → T b
 second true b p = p
 second false b p = absurd p
 
-below_entries : (k : Name) (rows : List RecordRow) → T (below_all name_cmp k (map (λ r. (tag_of_record r, r)) rows)) → T (below_all name_cmp k (map (λ r. (record_tag r, r)) (map record_entry rows)))
-below_entries k [] h = tt
-below_entries k (r ∷ rows) h = both _ _ (first _ _ h) (below_entries k rows (second _ _ h))
+module _ {K X Y : Type 0} (R : K → K → Ordering) (key : X → K) (row : X → Y) (read : Y → K) (same : (x : X) → key x ≡ read (row x)) where
+  below_rows : (k : K) (xs : List X) → T (below_all R k (map (λ x. (key x, x)) xs)) → T (below_all R k (map (λ y. (read y, y)) (map row xs)))
+  below_rows k [] h = tt
+  below_rows k (x ∷ xs) h = both _ _ (subst (λ n. T (is_lt (R k n))) (same x) (first _ _ h)) (below_rows k xs (second _ _ h))
 
-entries_rise : (rows : List RecordRow) → IsInOrder name_cmp tag_of_record rows → IsInOrder name_cmp record_tag (map record_entry rows)
-entries_rise [] h = tt
-entries_rise (r ∷ rows) h = both _ _ (below_entries r.tag rows (first _ _ h)) (entries_rise rows (second _ _ h))
+  rows_rise : (xs : List X) → IsInOrder R key xs → IsInOrder R read (map row xs)
+  rows_rise [] h = tt
+  rows_rise (x ∷ xs) h = both _ _ (subst (λ k. T (below_all R k (map (λ y. (read y, y)) (map row xs)))) (same x) (below_rows (key x) xs (first _ _ h))) (rows_rise xs (second _ _ h))
 
 records_rise : (h : List Call) → IsInOrder name_cmp record_tag (record_rows h)
-records_rise h = entries_rise (records_of h) (IsInOrder-rows (record_of h) (tags_of_records h) (records_told h))
+records_rise h = rows_rise name_cmp tag_of_record record_entry record_tag (λ r. refl) (records_of h) (IsInOrder-rows (record_of h) (tags_of_records h) (records_told h))
+
+-- and the changes in that of their numbers
+changes_rise : (h : List Call) → IsInOrder nat_cmp change_number (change_rows h)
+changes_rise h = rows_rise nat_cmp number_of_change change_entry change_number (λ r. refl) (changes_of h) (IsInOrder-rows (change h) (numbers_of_changes h) (changes_told h))
 
 -- A source of a record is a change of a record
 module _ (h : List Call) (n : ℕ) (m : Grid) (is : kind_of_change h n ≡ Some (Matrix m)) where
@@ -302,6 +308,7 @@ module _ (h : List Call) (legal : IsLegal h) (p : Name) (t : ℕ) (q : Request) 
         alarms_in_order = left_in_order name_cmp alarm_tag (λ r. s.alarm r.tag) (alarm_rows h) (IsInOrder-rows (alarm_row h) (tags_of_alarms h) (alarms_told h));
         shelves_in_order = left_in_order name_cmp shelf_tag (λ r. s.shelf r.tag) (shelf_rows h) (IsInOrder-rows (shelf h) (tags_of_shelves h) (shelves_told h));
         records_in_order = left_in_order name_cmp record_tag (λ r. s.rationale r.tag) (record_rows h) (records_rise h);
+        changes_in_order = left_in_order nat_cmp change_number (λ r. s.change r.number) (change_rows h) (changes_rise h);
         matrix_whole = matrix_whole;
         changes_whole = changes_whole;
         changes_read = changes_read;
@@ -320,6 +327,7 @@ module _ (h : List Call) (legal : IsLegal h) (p : Name) (t : ℕ) (q : Request) 
         alarms_in_order = tt;
         shelves_in_order = tt;
         records_in_order = tt;
+        changes_in_order = tt;
         matrix_whole = refl;
         changes_whole = λ n c e. cc;
         changes_read = λ n c e. cc;

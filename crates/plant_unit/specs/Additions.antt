@@ -9,7 +9,7 @@ use Rattle.plant_unit.specs.Summaries.{AreTold}
 use Rattle.plant_import.specs.declared.merging.Merged.{Merged}
 use Rattle.plant_model.specs.Facts.{Facts, limit_revision_of}
 use Rattle.plant_model.specs.Refusals.{file_refusals, first_refusal}
-use Rattle.plant_model.specs.RowFacts.{alarm_tag, change_found, change_read, facts_in, record_tag, shelf_tag, unit_read}
+use Rattle.plant_model.specs.RowFacts.{alarm_tag, change_found, change_number, change_read, facts_in, record_tag, shelf_tag, unit_read}
 use Rattle.plant_model.specs.Rows.{change_entry}
 use Rattle.plant_model.specs.declared.reply.Refused.{Refused}
 use Rattle.plant_model.specs.declared.rows.ChangeEntry.{ChangeEntry}
@@ -18,6 +18,7 @@ use Rattle.plant_types.specs.Names.{Name, name_cmp}
 use Rattle.plant_types.specs.Tables.{IsInOrder}
 use Rattle.plant_unit.specs.Readings.{has_its_sheet, has_kind, is_left_out, is_matrix_at}
 use Rattle.std.specs.List.{list_all}
+use Rattle.std.specs.Ordering.{nat_cmp}
 use Rattle.std.specs.Prelude.{Err, List, None, Ok, Option, Result, Some, length, true, ℕ, ◌-◌, ◌<◌, ◌||◌, ◌≡◌, ◌≤◌}
 
 abbrev pub addition_or : Option Refused → Merged → Result Merged Refused
@@ -55,12 +56,13 @@ pub record AreAdded (es rows added : List Event) : Type 0 where
 
 -- what the parts of a legal history keep
 pub record AreKept (part : UnitPart) : Type 0 where
-  -- events in rising number, not too many to be counted; alarms, shelves and records in the order of their tags
+  -- events and changes in rising number, events not too many to be counted; alarms, shelves and records in the order of their tags
   pub events_rise : IsRising part.rows.events
   pub events_few : length part.rows.events ≤ 4294967295
   pub alarms_in_order : IsInOrder name_cmp alarm_tag part.rows.alarms
   pub shelves_in_order : IsInOrder name_cmp shelf_tag part.rows.shelves
   pub records_in_order : IsInOrder name_cmp record_tag part.rows.records
+  pub changes_in_order : IsInOrder nat_cmp change_number part.rows.changes
   -- the matrix in force, where the part has cells of it, is a matrix
   pub matrix_whole : (is_left_out part.rows (unit_read part.rows).matrix_no || is_matrix_at part.rows (unit_read part.rows).matrix_no) ≡ true
   -- a change has what its kind needs: the columns, or the rows of a matrix

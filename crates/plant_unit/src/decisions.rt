@@ -232,7 +232,7 @@ fn rerated(
     matrix: &Matrix,
     row: &RecordEntry,
 ) -> Result<Option<RecordEntry>, Fault>
-    ensures value { has_its_sheet part.now.rows row.now ≡ true → IfOk result (λ entry. entry ≡ option_map (row_changes.rerated matrix.now) (record_read part.now.rows row.now)) }
+    ensures value { AreKept part.now → has_its_sheet part.now.rows row.now ≡ true → IfOk result (λ entry. entry ≡ option_map (row_changes.rerated matrix.now) (record_read part.now.rows row.now)) }
     ensures err { IfErr result (λ e. e ≡ Memory) }
 {
     let Some(entry) = source_of(part, row) else {
@@ -279,7 +279,7 @@ fn push_matrix_in_force(
     matrix: &Matrix,
 ) -> Result<Option<Refused>, Fault>
     requires { unit_read part.now.rows ≡ unit.now }
-    ensures refused { IfOk result (λ r. r ≡ first_refusal
+    ensures refused { AreKept part.now → IfOk result (λ r. r ≡ first_refusal
         (kind_refusals (facts_in part.now) change.now.base (MatrixKind matrix.now))) }
     ensures added { AreKept part.now → IfOk result (λ r. r ≡ None
         → changes.new ≡ changes.old

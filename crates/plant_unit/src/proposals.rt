@@ -70,7 +70,7 @@ pub fn record_priority(
 /// Whether the record has a severity that is no row of the matrix.
 #[tactic(auto, unfolding(crate::specs::Readings::is_outside))]
 fn is_outside(part: &UnitPart, matrix: &Matrix, row: &RecordEntry) -> bool
-    ensures { result ≡ readings.is_outside matrix.now part.now.rows row.now }
+    ensures { AreKept part.now → result ≡ readings.is_outside matrix.now part.now.rows row.now }
 {
     match source_of(part, row) {
         None => false,
@@ -80,7 +80,7 @@ fn is_outside(part: &UnitPart, matrix: &Matrix, row: &RecordEntry) -> bool
 
 /// Whether some record has a severity that is no row of the matrix.
 fn has_outside(part: &UnitPart, matrix: &Matrix) -> bool
-    ensures { result ≡ list_any (λ r. not (refusals.has_row matrix.now r.severity)) (facts_in part.now).rationales }
+    ensures { AreKept part.now → result ≡ list_any (λ r. not (refusals.has_row matrix.now r.severity)) (facts_in part.now).rationales }
 {
     for row in part.rows.records.as_slice() {
         if is_outside(part, matrix, row) {
@@ -98,7 +98,7 @@ pub fn matrix_refusal(
     matrix: &Matrix,
 ) -> Option<Refused>
     requires { unit_read part.now.rows ≡ unit.now }
-    ensures { result ≡ first_refusal (kind_refusals (facts_in part.now) base (MatrixKind matrix.now)) }
+    ensures { AreKept part.now → result ≡ first_refusal (kind_refusals (facts_in part.now) base (MatrixKind matrix.now)) }
 {
     let revision = unit.matrix_rev;
     if base != revision {

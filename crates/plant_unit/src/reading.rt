@@ -12,7 +12,7 @@ ghost use Rattle.plant_unit.specs.Additions.{AreKept};
 ghost use Rattle.plant_unit.specs.Readings.{change_whole, kind_found, sheet_found};
 
 use crate::matrices::matrix_of;
-use plant_books::row_of;
+use plant_books::{change_at, row_of};
 use plant_model::{
     ChangeEntry, ChangeRow, ChangeTopic, RecordEntry, RecordRow, UnitPart, UnitRows,
 };
@@ -36,9 +36,9 @@ pub fn entry_of<'a>(changes: &'a [ChangeEntry], number: u32) -> Option<&'a Chang
 
 /// The row of the change that a record came from.
 pub fn source_of<'a>(part: &'a UnitPart, row: &RecordEntry) -> Option<&'a ChangeEntry>
-    ensures { option_copied result ≡ change_found part.now.rows row.now.change_no }
+    ensures { AreKept part.now → option_copied result ≡ change_found part.now.rows row.now.change_no }
 {
-    entry_of(part.rows.changes.as_slice(), row.change_no)
+    change_at(part.rows.changes.as_slice(), row.change_no)
 }
 
 /// How many changes of an alarm's record were approved.

@@ -1,8 +1,9 @@
 use Rattle.std.proofs.Common.{take, ◌≡◌}
 use Rattle.std.specs.List.{list_any}
 use Rattle.std.specs.Prelude.{false}
+use Rattle.plant_unit.specs.Additions.{AreKept}
 use Rattle.plant_unit.specs.Readings.{is_outside}
 use Rattle.plant_unit.proofs.proposals.has_outside.Given as goal
 
 abbrev pub invariant-loop-row : goal.invariant-loop-row
-invariant-loop-row l = list_any (is_outside l.fn.matrix l.part.rows) (take l.row-index l.row-items) ≡ false
+invariant-loop-row l = AreKept l.part → list_any (is_outside l.fn.matrix l.part.rows) (take l.row-index l.row-items) ≡ false
