@@ -8,24 +8,36 @@ use plant_examples::{
 use plant_model::{Answer, Call};
 use plant_office::{Books, Office};
 use plant_store::Tables;
-use plant_trials::{after, bytes_of, call_of, check_rows, lists, tables, text};
+use plant_trials::{Calls, after, bytes_of, calls_of, check_rows, lists, tables, text};
 use plant_types::Fault;
 use sqlite::MemStore;
 use std::process::Abort;
 
-/// The answer to a call whose statements may each take so many steps, and the books after it, without that limit.
+/// The bytes of an answer, or nothing where it is a fault of the store.
+fn answered(rt: &(impl Abort + AllocGlobal), answer: &Answer) -> Option<Vec<u8>> {
+    if matches!(answer, Answer::Fault(Fault::Store)) {
+        return None;
+    }
+    Some(bytes_of(rt.alloc(), answer).expect(rt, "memory"))
+}
+
+/// What a call answers whose statements may each take so many steps, or nothing where that is a fault of the store; and the books
+/// after it, without that limit. The answer is dropped by its own name: at the end of a scope the prover goes through every kind of
+/// answer.
 fn limited(
     rt: &(impl Abort + AllocGlobal),
     mut books: Tables<MemStore>,
     steps: u64,
     call: &Call,
-) -> (Answer, Tables<MemStore>) {
+) -> (Option<Vec<u8>>, Tables<MemStore>) {
     books.set_steps(Some(steps));
     let mut office = Office::new(rt.alloc(), books);
     let answer = office.serve(call);
+    let bytes = answered(rt, &answer);
+    drop(answer);
     let mut books = office.into_books();
     books.set_steps(None);
-    (answer, books)
+    (bytes, books)
 }
 
 /// The books after the exchanges between these marks.
@@ -50,16 +62,11 @@ fn tables_before(
     after_marks(rt, tables, wanted, BEGIN, mark)
 }
 
-/// The call between these marks.
-fn call_between(
-    rt: &(impl Abort + AllocGlobal),
-    wanted: &Exchanges,
-    last: Mark,
-    next: Mark,
-) -> Call {
-    let (request, _) = between(wanted, last, next).expect(rt, "exchanges");
-    let call = call_of(rt.alloc(), request).expect(rt, "memory");
-    call.expect(rt, "a call")
+/// The calls of these exchanges, none of which is malformed.
+fn calls(rt: &(impl Abort + AllocGlobal), wanted: &Exchanges) -> Calls {
+    let all = calls_of(rt.alloc(), wanted).expect(rt, "calls");
+    assert_eq!(rt; all.calls.len(), wanted.marks.len());
+    all
 }
 
 /// The answer is the one that is expected between these marks.
@@ -68,11 +75,10 @@ fn is_wanted(
     wanted: &Exchanges,
     last: Mark,
     next: Mark,
-    answer: &Answer,
+    answer: &[u8],
 ) {
     let (_, due) = between(wanted, last, next).expect(rt, "exchanges");
-    let bytes = bytes_of(rt.alloc(), answer).expect(rt, "memory");
-    assert_eq!(rt; text(&bytes), text(due));
+    assert_eq!(rt; text(answer), text(due));
 }
 
 /// The books hold what they held before the call between these marks, as lists do; the call is then answered as expected, and leaves
@@ -99,23 +105,29 @@ fn passes(
     wanted: &Exchanges,
     last: Mark,
     next: Mark,
+    call: &Call,
     steps: u64,
 ) -> bool {
-    let call = call_between(rt, wanted, last, next);
     let books = tables_before(rt, wanted, last);
-    let (answer, books) = limited(rt, books, steps, &call);
-    if matches!(answer, Answer::Fault(Fault::Store)) {
+    let (answer, books) = limited(rt, books, steps, call);
+    let Some(answer) = answer else {
         goes_on(rt, books, wanted, last, next);
         return false;
-    }
+    };
     is_wanted(rt, wanted, last, next, &answer);
     true
 }
 
 /// The number of steps with which the call between these marks passes.
-fn steps_of(rt: &(impl Abort + AllocGlobal), wanted: &Exchanges, last: Mark, next: Mark) -> u64 {
+fn steps_of(
+    rt: &(impl Abort + AllocGlobal),
+    wanted: &Exchanges,
+    last: Mark,
+    next: Mark,
+    call: &Call,
+) -> u64 {
     for steps in 0..10_000u64 {
-        if passes(rt, wanted, last, next, steps) {
+        if passes(rt, wanted, last, next, call, steps) {
             return steps;
         }
     }
@@ -126,9 +138,10 @@ fn steps_of(rt: &(impl Abort + AllocGlobal), wanted: &Exchanges, last: Mark, nex
 #[test]
 fn changes_nothing_where_a_call_is_interrupted(rt: HostRuntime) {
     let wanted = Exchanges::of(rt.alloc(), &[BASE, SHELVED]).expect(&rt, "exchanges");
+    let all = calls(&rt, &wanted);
     let mut last = BEGIN;
-    for mark in &wanted.marks {
-        assert!(rt; steps_of(&rt, &wanted, last, *mark) > 0);
+    for (mark, call) in wanted.marks.iter().zip(&all.calls) {
+        assert!(rt; steps_of(&rt, &wanted, last, *mark, call) > 0);
         last = *mark;
     }
 }
@@ -142,11 +155,11 @@ fn after_interruptions(
     wanted: &Exchanges,
     last: Mark,
     next: Mark,
+    call: &Call,
 ) -> Tables<MemStore> {
-    let call = call_between(rt, wanted, last, next);
     for steps in 0..10_000u64 {
-        let (answer, mut left) = limited(rt, books, steps, &call);
-        if !matches!(answer, Answer::Fault(Fault::Store)) {
+        let (answer, mut left) = limited(rt, books, steps, call);
+        if let Some(answer) = answer {
             is_wanted(rt, wanted, last, next, &answer);
             return left;
         }
@@ -161,9 +174,10 @@ fn passes_in_the_end(rt: &(impl Abort + AllocGlobal), texts: &[&str]) {
     let wanted = Exchanges::of(rt.alloc(), texts).expect(rt, "exchanges");
     let mut books = tables(rt.alloc()).expect(rt, "tables");
     let mut theirs = lists(rt.alloc()).expect(rt, "lists");
+    let all = calls(rt, &wanted);
     let mut last = BEGIN;
-    for mark in &wanted.marks {
-        books = after_interruptions(rt, books, &mut theirs, &wanted, last, *mark);
+    for (mark, call) in wanted.marks.iter().zip(&all.calls) {
+        books = after_interruptions(rt, books, &mut theirs, &wanted, last, *mark, call);
         theirs = after_marks(rt, theirs, &wanted, last, *mark);
         check_rows(&mut theirs, &mut books, &wanted.units).expect(rt, "after the call");
         last = *mark;

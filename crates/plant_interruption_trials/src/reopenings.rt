@@ -58,9 +58,9 @@ fn shelved<D: Disk + Drop>(
     requires { conn.in_transaction ≡ false }
 {
     let root = root(rt.alloc()).expect(rt, "a person");
-    let Ok(books) = Tables::create(rt.alloc(), conn, root) else {
-        rt.panic("no books")
-    };
+    let books = Tables::create(rt.alloc(), conn, root)
+        .ok()
+        .expect(rt, "books");
     after_all_at_hand(rt, books, &[BASE, SHELVED, LOOKED_AT], "first")
 }
 

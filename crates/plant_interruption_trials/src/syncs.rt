@@ -4,10 +4,10 @@ ghost use Rattle.std.specs.Prelude.{◌≡◌, ◌+◌, ◌&&◌, not};
 
 use plant_examples::{BASE, BEGIN, Exchanges, LOOKED_AT, Mark, SHELVED, between};
 use plant_mirror::ROWS_AT_HAND;
-use plant_model::Answer;
+use plant_model::{Answer, Call};
 use plant_office::{Books, Office};
 use plant_store::Tables;
-use plant_trials::{bytes_of, call_of, mirrored, root, served, text};
+use plant_trials::{Calls, bytes_of, calls_of, mirrored, root, served, text};
 use plant_types::Fault;
 use sqlite::{Connection, FileStore, Files, Options};
 use sqlite_disk::{Disk, Memory, Tally};
@@ -105,12 +105,12 @@ fn failing(rt: &(impl Abort + AllocGlobal), syncs: u64) -> FailingDisk<Memory> {
     }
 }
 
-/// Books over a disk on which so many syncs of the log succeed, or none if these are too few to make them.
-fn books_over(
+/// Books kept on these disks, or none if too few syncs succeed to make them.
+fn books_over<D: Disk + Drop>(
     rt: &(impl Abort + AllocGlobal),
-    syncs: u64,
-) -> Option<Tables<FileStore<FailingDisk<Memory>>>> {
-    let (log, db) = (failing(rt, syncs), failing(rt, u64::MAX));
+    log: D,
+    db: D,
+) -> Option<Tables<FileStore<D>>> {
     if !log.may_be_used() || !db.may_be_used() {
         rt.panic("no disk")
     }
@@ -120,36 +120,41 @@ fn books_over(
     Tables::create(rt.alloc(), conn, root(rt.alloc()).expect(rt, "a person")).ok()
 }
 
-/// Whether the call between these marks is answered by a fault of the store. Any other answer is the one that is expected.
+/// Whether the call is answered by a fault of the store. Any other answer is the one that is expected between these marks.
 fn is_faulty<B: Books>(
     rt: &(impl Abort + AllocGlobal),
     office: &mut Office<B>,
     wanted: &Exchanges,
     last: Mark,
     next: Mark,
+    call: &Call,
 ) -> bool {
-    let (request, due) = between(wanted, last, next).expect(rt, "exchanges");
-    let call = call_of(rt.alloc(), request).expect(rt, "memory");
-    let answer = served(office, &call.expect(rt, "a call"));
-    if matches!(answer, Answer::Fault(Fault::Store)) {
-        return true;
-    }
+    let (_, due) = between(wanted, last, next).expect(rt, "exchanges");
+    let answer = served(office, call);
+    let is_fault = matches!(answer, Answer::Fault(Fault::Store));
     let bytes = bytes_of(rt.alloc(), &answer).expect(rt, "memory");
-    assert_eq!(rt; text(&bytes), text(due));
-    false
+    drop(answer);
+    assert!(rt;
+        is_fault || bytes.as_slice() == due,
+        "{} in place of {}",
+        text(&bytes),
+        text(due)
+    );
+    is_fault
 }
 
-/// How many calls of these exchanges are answered before the first fault. Each call after that one is answered by a fault too.
+/// How many of the calls are answered before the first fault. Each call after that one is answered by a fault too.
 fn answered<B: Books>(
     rt: &(impl Abort + AllocGlobal),
     office: &mut Office<B>,
     wanted: &Exchanges,
+    calls: &[Call],
 ) -> usize {
     let mut count = 0usize;
     let mut has_failed = false;
     let mut last = BEGIN;
-    for mark in &wanted.marks {
-        let is_faulty = is_faulty(rt, office, wanted, last, *mark);
+    for (mark, call) in wanted.marks.iter().zip(calls) {
+        let is_faulty = is_faulty(rt, office, wanted, last, *mark, call);
         assert!(rt; is_faulty || !has_failed, "answered after a fault");
         has_failed = is_faulty;
         if !is_faulty {
@@ -160,27 +165,53 @@ fn answered<B: Books>(
     count
 }
 
-/// Each sync fails in turn, until all calls are answered. To make the books takes nine.
-#[test]
-fn answers_nothing_after_a_failed_sync(rt: HostRuntime) {
-    let wanted = Exchanges::of(rt.alloc(), &[BASE, SHELVED, LOOKED_AT]).expect(&rt, "exchanges");
+/// The same of an office over these books with rows at hand.
+fn answered_at_hand<B: Books + Drop>(
+    rt: &(impl Abort + AllocGlobal),
+    below: B,
+    wanted: &Exchanges,
+    calls: &[Call],
+) -> usize {
+    let books = mirrored(rt.alloc(), below, ROWS_AT_HAND).expect(rt, "books with rows at hand");
+    let mut office = Office::new(rt.alloc(), books);
+    let count = answered(rt, &mut office, wanted, calls);
+    drop(office.into_books());
+    count
+}
+
+/// The same of an office on these disks, or nothing if too few syncs succeed to make it.
+fn answered_on<D: Disk + Drop>(
+    rt: &(impl Abort + AllocGlobal),
+    log: D,
+    db: D,
+    wanted: &Exchanges,
+    calls: &[Call],
+) -> Option<usize> {
+    let books = books_over(rt, log, db)?;
+    Some(answered_at_hand(rt, books, wanted, calls))
+}
+
+/// How many offices answer a fault, where each sync of the log fails in turn until all calls are answered. To make the books takes nine.
+fn faults(rt: &(impl Abort + AllocGlobal), wanted: &Exchanges, calls: &[Call]) -> u32 {
     let mut faults = 0u32;
     for syncs in 9..1000u64 {
-        let Some(books) = books_over(&rt, syncs) else {
+        let (log, db) = (failing(rt, syncs), failing(rt, u64::MAX));
+        let Some(count) = answered_on(rt, log, db, wanted, calls) else {
             continue;
         };
-        let books = mirrored(rt.alloc(), books, ROWS_AT_HAND).expect(
-            &rt,
-            "books with rows at hand",
-        );
-        let mut office = Office::new(rt.alloc(), books);
-        let count = answered(&rt, &mut office, &wanted);
-        drop(office.into_books());
-        if count == wanted.marks.len() {
-            assert!(rt; faults > 8, "{faults}");
-            return;
+        if count == calls.len() {
+            return faults;
         }
         faults = faults.saturating_add(1);
     }
     rt.panic("no end")
+}
+
+#[test]
+fn answers_nothing_after_a_failed_sync(rt: HostRuntime) {
+    let wanted = Exchanges::of(rt.alloc(), &[BASE, SHELVED, LOOKED_AT]).expect(&rt, "exchanges");
+    let Calls { calls, answers: _ } = calls_of(rt.alloc(), &wanted).expect(&rt, "calls");
+    assert_eq!(rt; calls.len(), wanted.marks.len());
+    let faults = faults(&rt, &wanted, &calls);
+    assert!(rt; faults > 8, "{faults}");
 }

@@ -314,10 +314,10 @@ pub(crate) fn counts(rows: &UnitRows) -> [usize; 9] {
 }
 
 /// Makes changes to the rows of a unit.
-pub(crate) fn put(
+pub(crate) fn put<B: Books>(
     rt: &impl Abort,
     alloc: Global,
-    books: &mut Tables<MemStore>,
+    books: &mut B,
     code: &[u8],
     changes: &Table<Change>,
 ) {

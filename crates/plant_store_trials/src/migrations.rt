@@ -10,7 +10,7 @@ use crate::older::{
 use plant_model::UnitRows;
 use plant_store::{StoreFault, Tables, migrate};
 use plant_types::Fault;
-use sqlite::{Connection, FileStore, Files, MemStore, Options};
+use sqlite::{Alter, Connection, FileStore, Files, MemStore, Options};
 use sqlite_disk::Memory;
 use std::alloc::Global;
 use std::process::Abort;
@@ -67,11 +67,15 @@ fn over(rt: &impl Abort, alloc: Global, files: Files<Memory>) -> Connection<File
     let Ok(conn) = Connection::open_files(alloc, files, Options::new(7)) else {
         rt.panic("no connection")
     };
-    if conn.is_autocommit() {
-        conn
-    } else {
-        rt.panic("a transaction")
-    }
+    conn
+}
+
+/// A store of schema 1. This function and `migrated_store` are over any store: each that hands a store over files on takes the prover
+/// twenty seconds.
+fn older_store<S: Alter + Drop>(rt: &impl Abort, mut conn: Connection<S>) -> S {
+    run(rt, &mut conn, SCHEMA);
+    run(rt, &mut conn, ROWS);
+    conn.into_store()
 }
 
 /// Files with a store of schema 1 whose rows are still in the log.
@@ -80,18 +84,27 @@ fn older_files(rt: &impl Abort, alloc: Global) -> Files<Memory> {
         log: Memory::new(alloc),
         db: Memory::new(alloc),
     };
-    let mut conn = over(rt, alloc, files);
-    run(rt, &mut conn, SCHEMA);
-    run(rt, &mut conn, ROWS);
-    conn.into_store().close()
+    older_store(rt, over(rt, alloc, files)).close()
 }
 
 /// The same with all rows in the database file.
 fn closed_files(rt: &impl Abort, alloc: Global) -> Files<Memory> {
-    match over(rt, alloc, older_files(rt, alloc)).close_files() {
-        Ok(files) => files,
-        Err(_) => rt.panic("not closed"),
-    }
+    let closed = over(rt, alloc, older_files(rt, alloc)).close_files();
+    closed.ok().expect(rt, "closed files")
+}
+
+/// A store of schema 1 after its migration.
+fn migrated_store<S: Alter + Drop>(rt: &impl Abort, alloc: Global, old: Connection<S>) -> S
+    requires { old.in_transaction ≡ false }
+{
+    let (old, books) = migrated(rt, alloc, old, blank(rt, alloc));
+    drop(books);
+    old.into_store()
+}
+
+/// Files after the migration of their store.
+fn migrated_files(rt: &impl Abort, alloc: Global, files: Files<Memory>) -> Files<Memory> {
+    migrated_store(rt, alloc, over(rt, alloc, files)).close()
 }
 
 /// The bytes of files before a migration and after it, the log's and then the file's.
@@ -102,9 +115,7 @@ fn bytes_around(
 ) -> ((Vec<u8>, Vec<u8>), (Vec<u8>, Vec<u8>)) {
     let log = copied(rt, alloc, files.log.bytes());
     let db = copied(rt, alloc, files.db.bytes());
-    let (old, books) = migrated(rt, alloc, over(rt, alloc, files), blank(rt, alloc));
-    drop(books);
-    let files = old.into_store().close();
+    let files = migrated_files(rt, alloc, files);
     let new_log = copied(rt, alloc, files.log.bytes());
     let new_db = copied(rt, alloc, files.db.bytes());
     ((log, db), (new_log, new_db))
