@@ -8,7 +8,7 @@ use plant_model::{
     Answer, ChangeRow, FloodLine, RecordRow, Refused, Reply, ShelfLine, StatusRow, UnitLine,
 };
 use plant_ration::{Cell, ChangeKind, ChangeState, Matrix, Sheet};
-use plant_types::{Role, Table};
+use plant_types::{List, Role};
 use std::alloc::Global;
 use std::process::Abort;
 
@@ -226,7 +226,7 @@ fn renders_a_change_of_a_limit(rt: HostRuntime) {
 
 #[test]
 fn renders_no_units(rt: HostRuntime) {
-    let reply = Reply::Units(Table::new(rt.alloc()));
+    let reply = Reply::Units(List::new(rt.alloc()));
     is_replied(&rt, rt.alloc(), reply, b"{\"units\":[]}");
 }
 
@@ -234,12 +234,12 @@ fn unit_line(rt: &impl Abort, alloc: Global, roles: &[Role]) -> UnitLine {
     let roles = Vec::from_slice(alloc, roles).expect(rt, "memory");
     UnitLine {
         unit: unit(rt, alloc, b"U1"),
-        roles: Table::from_vec(roles),
+        roles: List::from_vec(roles),
     }
 }
 
-fn two_units(rt: &impl Abort, alloc: Global) -> Table<UnitLine> {
-    let mut lines = Table::new(alloc);
+fn two_units(rt: &impl Abort, alloc: Global) -> List<UnitLine> {
+    let mut lines = List::new(alloc);
     lines
         .push(unit_line(rt, alloc, &[Role::Viewer, Role::Steward]))
         .expect(rt, "memory");
@@ -259,8 +259,8 @@ fn renders_units(rt: HostRuntime) {
     );
 }
 
-fn one_shelf(rt: &impl Abort, alloc: Global) -> Table<ShelfLine> {
-    let mut lines = Table::new(alloc);
+fn one_shelf(rt: &impl Abort, alloc: Global) -> List<ShelfLine> {
+    let mut lines = List::new(alloc);
     lines
         .push(line(rt, alloc, false, b"2026-03-01T10:00:00Z", 1))
         .expect(rt, "memory");
@@ -283,8 +283,8 @@ fn renders_shelves_as_text(rt: HostRuntime) {
     );
 }
 
-fn one_flood(rt: &impl Abort, alloc: Global) -> Table<FloodLine> {
-    let mut lines = Table::new(alloc);
+fn one_flood(rt: &impl Abort, alloc: Global) -> List<FloodLine> {
+    let mut lines = List::new(alloc);
     let flood = FloodLine {
         start: moment(rt, b"2026-03-01T10:00:00Z"),
         until: moment(rt, b"2026-03-01T10:20:00Z"),

@@ -9,7 +9,7 @@ use Rattle.plant_body.specs.declared.members.BodyError.{BodyError}
 use Rattle.plant_body.specs.declared.members.BodyError.TheVariants.{Memory, Because}
 use Rattle.plant_body.specs.declared.members.Unfit.{Unfit}
 use Rattle.plant_body.specs.declared.members.Unfit.TheVariants.{Body}
-use Rattle.plant_body.specs.Members.{told, Fails}
+use Rattle.plant_body.specs.Members.{or_body, Fails}
 use Rattle.plant_body.specs.Lists.{before, all_of}
 
 -- the items before i were read as out, and the others are left
@@ -47,17 +47,17 @@ pub read_all : {A : Type 0} (reads : Data → Option A) (items : List Value) (i 
 read_all {A = A} reads items i out so_far end = so_far.is ∙ rw (drop_all i items end) (ap (λ (t : List A). Some t) (append-nil out))
 
 -- what is given is there
-pub told_some : {A : Type 0} (o : Option A) (x : A) → told o ≡ Ok x → o ≡ Some x
+pub told_some : {A : Type 0} (o : Option A) (x : A) → or_body o ≡ Ok x → o ≡ Some x
 told_some None x e = cc
 told_some (Some y) x e = cc
 
-told_none : {A : Type 0} (o : Option A) (u : Unfit) → told o ≡ Err u → (o ≡ None) × (u ≡ Body)
+told_none : {A : Type 0} (o : Option A) (u : Unfit) → or_body o ≡ Err u → (o ≡ None) × (u ≡ Body)
 told_none None u e = (refl, cc)
 told_none (Some y) u e = cc
 
 -- an item that can't be read is not a list either
 pub fails_with : {A : Type 0} (reads : Data → Option A) (items : List Value) (i : ℕ) (d : Value) (out : List A) (e : BodyError) → IsReadTo reads items i out
-    → i < length items → Fails e (told (reads (view (get_or items i d)))) → Fails e (told (all_of reads (items_view items)))
+    → i < length items → Fails e (or_body (reads (view (get_or items i d)))) → Fails e (or_body (all_of reads (items_view items)))
 fails_with reads items i d out Memory so_far lt h = tt
 fails_with reads items i d out (Because u) so_far lt h =
     let n = told_none (reads (view (get_or items i d))) u h in

@@ -12,7 +12,7 @@ use Rattle.plant_body.specs.declared.bodies.Registration.{Registration}
 use Rattle.plant_body.specs.declared.bodies.TimedShelving.{TimedShelving}
 use Rattle.plant_body.specs.declared.members.Unfit.{Unfit}
 use Rattle.plant_body.specs.declared.members.Unfit.TheVariants.{Matrix}
-use Rattle.plant_body.specs.Members.{value_of, told, ◌>>=◌, person_at, tag_at, words_at, seconds_at, truth_at, role_at, end_at, quota_at, tenure_of}
+use Rattle.plant_body.specs.Members.{value_of, or_body, ◌>>=◌, person_at, tag_at, words_at, seconds_at, truth_at, role_at, end_at, quota_at, tenure_of}
 use Rattle.plant_body.specs.Lists.{numbers_at, rows_at}
 
 -- the matrix, or why it is none
@@ -26,48 +26,48 @@ matrix_from limits rows = matrix_or (matrix_of limits rows)
 -- of the opening of a unit; whether its table is a matrix is looked at last
 unfoldable pub opening_in : Data → Result Opening Unfit
 opening_in d = do
-  steward ← told (person_at (codes "steward") d)
-  limits ← told (numbers_at (codes "bands") d)
-  rows ← told (rows_at (codes "cells") d)
-  quota ← told (quota_at (codes "quota") d)
+  steward ← or_body (person_at (codes "steward") d)
+  limits ← or_body (numbers_at (codes "bands") d)
+  rows ← or_body (rows_at (codes "cells") d)
+  quota ← or_body (quota_at (codes "quota") d)
   matrix ← matrix_from limits rows
   Ok (record { steward = steward; matrix = matrix; quota = quota })
 
 -- of a grant
 unfoldable pub granting_in : Data → Result Granting Unfit
 granting_in d = do
-  person ← told (person_at (codes "person") d)
-  role ← told (role_at (codes "role") d)
-  until ← told (end_at (codes "end") d)
-  tenure ← told (tenure_of role until)
+  person ← or_body (person_at (codes "person") d)
+  role ← or_body (role_at (codes "role") d)
+  until ← or_body (end_at (codes "end") d)
+  tenure ← or_body (tenure_of role until)
   Ok (record { person = person; tenure = tenure })
 
 -- of a withdrawal
 unfoldable pub withdrawal_in : Data → Result Withdrawal Unfit
 withdrawal_in d = do
-  person ← told (person_at (codes "person") d)
-  role ← told (role_at (codes "role") d)
+  person ← or_body (person_at (codes "person") d)
+  role ← or_body (role_at (codes "role") d)
   Ok (record { person = person; role = role })
 
 -- of the registration of an alarm
 unfoldable pub registration_in : Data → Result Registration Unfit
 registration_in d = do
-  tag ← told (tag_at (codes "tag") d)
-  latching ← told (truth_at (codes "latching") d)
-  max ← told (seconds_at (codes "max") d)
+  tag ← or_body (tag_at (codes "tag") d)
+  latching ← or_body (truth_at (codes "latching") d)
+  max ← or_body (seconds_at (codes "max") d)
   Ok (record { tag = tag; latching = latching; max = max })
 
 -- of a timed shelving
 unfoldable pub timed_shelving_in : Data → Result TimedShelving Unfit
 timed_shelving_in d = do
-  seconds ← told (seconds_at (codes "seconds") d)
-  words ← told (words_at (codes "words") d)
+  seconds ← or_body (seconds_at (codes "seconds") d)
+  words ← or_body (words_at (codes "words") d)
   Ok (record { seconds = seconds; words = words })
 
 -- of a one-shot shelving: the words alone
 abbrev pub reason_in : Data → Result (List ℕ) Unfit
-reason_in d = told (words_at (codes "words") d)
+reason_in d = or_body (words_at (codes "words") d)
 
 -- the same over the bytes of a body
 abbrev pub read_by : {A : Type 0} → (Data → Result A Unfit) → List ℕ → Result A Unfit
-read_by reads bytes = told (value_of bytes) >>= reads
+read_by reads bytes = or_body (value_of bytes) >>= reads

@@ -1,4 +1,5 @@
 -- What a body's members say. `read` is serde_json's reader of a `Value`, which takes text.
+use Rattle.plant_types.specs.Limits.{max_changes, max_quota}
 use Rattle.std.specs.Prelude.{◌≡◌, ℕ, List, Option, Some, None, option_and_then, option_map, is_some, Result, Ok, Err, Bool, ◌&&◌, nat_le, codes, if◌then◌else◌}
 use Rattle.std.specs.Option.{ok_or}
 use Rattle.std.specs.Str.{is_utf8, bytes_eq}
@@ -53,7 +54,7 @@ seconds_at name d = option_and_then (λ n. number_if (is_seconds n) n) (number_a
 
 -- the revision that a proposal is drawn up for: as many changes as a unit has at most
 abbrev pub base_at : List ℕ → Data → Option ℕ
-base_at name d = option_and_then (λ n. number_if (nat_le n 20000) n) (number_at name d)
+base_at name d = option_and_then (λ n. number_if (nat_le n max_changes) n) (number_at name d)
 
 -- the severity of a consequence, from 1, the least, to 5
 abbrev pub severity_at : List ℕ → Data → Option ℕ
@@ -75,7 +76,7 @@ role_at name d = option_and_then role_of (string_at name d)
 
 -- a quota: default 2000
 abbrev pub quota_in : Option Data → Option ℕ
-quota_in None = Some 2000
+quota_in None = Some max_quota
 quota_in (Some d) = option_and_then (λ n. number_if (is_quota n) n) (number_of d)
 
 abbrev pub quota_at : List ℕ → Data → Option ℕ
@@ -96,8 +97,8 @@ abbrev pub tenure_of : Role → Option ℕ → Option (Role × Option ℕ)
 tenure_of role until = if is_tenure role until then Some (role, until) else None
 
 -- what isn't there makes the body unfit
-abbrev pub told : {A : Type 0} → Option A → Result A Unfit
-told o = ok_or o Body
+abbrev pub or_body : {A : Type 0} → Option A → Result A Unfit
+or_body o = ok_or o Body
 
 infixl 10 ◌>>=◌
 abbrev pub ◌>>=◌ : {A B : Type 0} → Result A Unfit → (A → Result B Unfit) → Result B Unfit

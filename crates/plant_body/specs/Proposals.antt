@@ -8,40 +8,40 @@ use Rattle.plant_ration.specs.declared.change.ChangeKind.TheVariants.{Rationale,
 use Rattle.plant_ration.specs.declared.change.Proposal.{Proposal}
 use Rattle.plant_body.specs.declared.members.Unfit.{Unfit}
 use Rattle.plant_body.specs.declared.members.Unfit.TheVariants.{Body}
-use Rattle.plant_body.specs.Members.{told, ◌>>=◌, string_at, tag_at, words_at, seconds_at, base_at, severity_at}
+use Rattle.plant_body.specs.Members.{or_body, ◌>>=◌, string_at, tag_at, words_at, seconds_at, base_at, severity_at}
 use Rattle.plant_body.specs.Lists.{numbers_at, rows_at}
 use Rattle.plant_body.specs.Bodies.{matrix_from}
 
 -- what is recorded of an alarm
 unfoldable pub sheet_in : Data → Result Sheet Unfit
 sheet_in d = do
-  cause ← told (words_at (codes "cause") d)
-  consequence ← told (words_at (codes "consequence") d)
-  action ← told (words_at (codes "action") d)
-  severity ← told (severity_at (codes "severity") d)
-  response ← told (seconds_at (codes "response") d)
+  cause ← or_body (words_at (codes "cause") d)
+  consequence ← or_body (words_at (codes "consequence") d)
+  action ← or_body (words_at (codes "action") d)
+  severity ← or_body (severity_at (codes "severity") d)
+  response ← or_body (seconds_at (codes "response") d)
   Ok (record { cause = cause; consequence = consequence; action = action; severity = severity; response = response })
 
 -- of the record of an alarm
 unfoldable pub record_in : Data → Result ChangeKind Unfit
 record_in d = do
-  tag ← told (tag_at (codes "tag") d)
+  tag ← or_body (tag_at (codes "tag") d)
   sheet ← sheet_in d
   Ok (Rationale tag sheet)
 
 -- of the unit's matrix; whether its table is one is looked at last
 unfoldable pub matrix_in : Data → Result ChangeKind Unfit
 matrix_in d = do
-  limits ← told (numbers_at (codes "bands") d)
-  rows ← told (rows_at (codes "cells") d)
+  limits ← or_body (numbers_at (codes "bands") d)
+  rows ← or_body (rows_at (codes "cells") d)
   matrix ← matrix_from limits rows
   Ok (Matrix matrix)
 
 -- of the limit of an alarm's shelves
 unfoldable pub limit_in : Data → Result ChangeKind Unfit
 limit_in d = do
-  tag ← told (tag_at (codes "tag") d)
-  max ← told (seconds_at (codes "max") d)
+  tag ← or_body (tag_at (codes "tag") d)
+  max ← or_body (seconds_at (codes "max") d)
   Ok (Limit tag max)
 
 -- of a change of the named kind
@@ -55,7 +55,7 @@ change_in kind d =
 -- of a proposal: the base stands before the change, so that the faults of a matrix come after all else
 unfoldable pub proposal_in : Data → Result Proposal Unfit
 proposal_in d = do
-  name ← told (string_at (codes "kind") d)
-  base ← told (base_at (codes "base") d)
+  name ← or_body (string_at (codes "kind") d)
+  base ← or_body (base_at (codes "base") d)
   kind ← change_in name d
   Ok (record { kind = kind; base = base })

@@ -1,9 +1,10 @@
 ghost use Rattle.std.specs.Prelude.{◌≡◌, option_map};
 ghost use Rattle.serde_json.specs.View.{view};
-ghost use Rattle.plant_body.specs.Members.{Gives, GivesBy, told, value_of, number_of, number_at, string_at, truth_at, text_at, seconds_at, base_at, severity_at, role_at, quota_at, end_at, tenure_of};
+ghost use Rattle.plant_body.specs.Members.{Gives, GivesBy, or_body, value_of, number_of, number_at, string_at, truth_at, text_at, seconds_at, base_at, severity_at, role_at, quota_at, end_at, tenure_of};
 ghost use Rattle.plant_body.specs.Members as spec;
 
 use plant_ration::MatrixFault;
+use plant_types::limits::{MAX_CHANGES, MAX_QUOTA};
 use plant_types::{Alphabet, Fault, Moment, Quota, Role, Seconds, Tenure, Text};
 use serde_json::Value;
 use std::alloc::{AllocError, AllocFailed, Global};
@@ -63,7 +64,7 @@ const BAD: BodyError = BodyError::Because(Unfit::Body);
 
 /// The JSON value that the bytes are.
 pub(crate) fn value_in(alloc: Global, bytes: &[u8]) -> Result<Value, BodyError>
-    ensures { GivesBy view result (told (value_of bytes.now)) }
+    ensures { GivesBy view result (or_body (value_of bytes.now)) }
 {
     match Value::from_slice(alloc, bytes) {
         Ok(value) => Ok(value),
@@ -96,7 +97,7 @@ pub(crate) fn string_in<'v>(value: &'v Value, name: &str) -> Option<&'v str>
 }
 
 pub(crate) fn truth_in(value: &Value, name: &str) -> Result<bool, BodyError>
-    ensures { Gives result (told (truth_at name.now (view value.now))) }
+    ensures { Gives result (or_body (truth_at name.now (view value.now))) }
 {
     match value.get(name).and_then(Value::as_bool) {
         Some(truth) => Ok(truth),
@@ -109,7 +110,7 @@ pub(crate) fn text_in<C: Alphabet>(
     value: &Value,
     name: &str,
 ) -> Result<Text<C>, BodyError>
-    ensures { Gives result (told (text_at C.admits C.longest name.now (view value.now))) }
+    ensures { Gives result (or_body (text_at C.admits C.longest name.now (view value.now))) }
 {
     let Some(string) = string_in(value, name) else {
         return Err(BAD);
@@ -121,7 +122,7 @@ pub(crate) fn text_in<C: Alphabet>(
 }
 
 pub(crate) fn seconds_in(value: &Value, name: &str) -> Result<Seconds, BodyError>
-    ensures { Gives result (told (seconds_at name.now (view value.now))) }
+    ensures { Gives result (or_body (seconds_at name.now (view value.now))) }
 {
     match number_in(value, name).and_then(Seconds::new) {
         Some(seconds) => Ok(seconds),
@@ -131,17 +132,17 @@ pub(crate) fn seconds_in(value: &Value, name: &str) -> Result<Seconds, BodyError
 
 /// The revision that a proposal is drawn up for: 0 to 20,000.
 pub(crate) fn base_in(value: &Value, name: &str) -> Result<u32, BodyError>
-    ensures { Gives result (told (base_at name.now (view value.now))) }
+    ensures { Gives result (or_body (base_at name.now (view value.now))) }
 {
     match number_in(value, name) {
-        Some(base) if base <= 20_000 => Ok(base as u32),
+        Some(base) if base <= MAX_CHANGES => Ok(base as u32),
         _ => Err(BAD),
     }
 }
 
 /// The severity of a consequence: 1 to 5.
 pub(crate) fn severity_in(value: &Value, name: &str) -> Result<u8, BodyError>
-    ensures { Gives result (told (severity_at name.now (view value.now))) }
+    ensures { Gives result (or_body (severity_at name.now (view value.now))) }
 {
     match number_in(value, name) {
         Some(severity) if severity >= 1 && severity <= 5 => Ok(severity as u8),
@@ -170,7 +171,7 @@ fn role_of(name: &str) -> Option<Role>
 }
 
 pub(crate) fn role_in(value: &Value, name: &str) -> Result<Role, BodyError>
-    ensures { Gives result (told (role_at name.now (view value.now))) }
+    ensures { Gives result (or_body (role_at name.now (view value.now))) }
 {
     match string_in(value, name).and_then(role_of) {
         Some(role) => Ok(role),
@@ -180,13 +181,13 @@ pub(crate) fn role_in(value: &Value, name: &str) -> Result<Role, BodyError>
 
 /// The quota: the greatest one where the member isn't there.
 pub(crate) fn quota_in(value: &Value, name: &str) -> Result<Quota, BodyError>
-    ensures { Gives result (told (quota_at name.now (view value.now))) }
+    ensures { Gives result (or_body (quota_at name.now (view value.now))) }
 {
-    let told = match value.get(name) {
+    let given = match value.get(name) {
         Some(quota) => number_of(quota),
-        None => Some(2000),
+        None => Some(MAX_QUOTA),
     };
-    match told.and_then(Quota::new) {
+    match given.and_then(Quota::new) {
         Some(quota) => Ok(quota),
         None => Err(BAD),
     }
@@ -194,7 +195,7 @@ pub(crate) fn quota_in(value: &Value, name: &str) -> Result<Quota, BodyError>
 
 /// The end: none where the member isn't there or is null.
 pub(crate) fn end_in(value: &Value, name: &str) -> Result<Option<Moment>, BodyError>
-    ensures { Gives result (told (end_at name.now (view value.now))) }
+    ensures { Gives result (or_body (end_at name.now (view value.now))) }
 {
     let Some(end) = value.get(name) else {
         return Ok(None);
@@ -212,7 +213,7 @@ pub(crate) fn end_in(value: &Value, name: &str) -> Result<Option<Moment>, BodyEr
 }
 
 pub(crate) fn tenure_of(role: Role, until: Option<Moment>) -> Result<Tenure, BodyError>
-    ensures { Gives result (told (tenure_of role until)) }
+    ensures { Gives result (or_body (tenure_of role until)) }
 {
     match Tenure::new(role, until) {
         Some(tenure) => Ok(tenure),

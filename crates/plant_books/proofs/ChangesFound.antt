@@ -20,9 +20,9 @@ use Rattle.plant_types.specs.Names.{Name}
 use Rattle.std.specs.BTreeSet.{BTreeSet, UpdatesBy, contains}
 use Rattle.plant_model.specs.declared.rows.ChangeEntry.{ChangeEntry}
 use Rattle.plant_types.proofs.Orders.{same_numbers}
-use Rattle.plant_types.proofs.TableLaws.{tied as tied_to}
+use Rattle.plant_types.proofs.KeyedRowLaws.{tied as tied_to}
 use Rattle.plant_types.specs.Options.{when}
-use Rattle.plant_types.specs.Tables.{IsInOrder, row_at}
+use Rattle.plant_types.specs.KeyedRows.{IsInOrder, row_at}
 
 abbrev ties : ℕ → ℕ → Bool
 ties m n = eq_by_cmp nat_cmp m n

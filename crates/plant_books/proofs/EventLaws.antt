@@ -4,7 +4,7 @@ use Rattle.std.proofs.lemmas.List.Sums.{fold-append}
 use Rattle.std.specs.Ordering.{nat_cmp}
 use Rattle.std.specs.Prelude.{◌++◌, ◌||◌}
 use Rattle.plant_import.specs.Numbers.{event_number, with_events}
-use Rattle.plant_types.specs.Tables.{put_row}
+use Rattle.plant_types.specs.KeyedRows.{put_row}
 use Rattle.plant_alarm.specs.declared.event.Event.{Event}
 use Rattle.plant_books.specs.Asking.{has_events, looks_at_events}
 use Rattle.plant_books.specs.Changing.{is_event_put, puts_event}
@@ -15,8 +15,8 @@ use Rattle.plant_model.specs.RowFacts.{change_found, holds_by}
 use Rattle.plant_model.specs.declared.call.Call.{Call}
 use Rattle.plant_model.specs.declared.call.Request.{Request}
 use Rattle.plant_model.specs.declared.call.Request.TheVariants.{Floods, Import}
-use Rattle.plant_model.specs.declared.rows.Change.{Change}
-use Rattle.plant_model.specs.declared.rows.Change.TheVariants.{Put, Remove}
+use Rattle.plant_model.specs.declared.rows.RowEdit.{RowEdit}
+use Rattle.plant_model.specs.declared.rows.RowEdit.TheVariants.{Put, Remove}
 use Rattle.plant_model.specs.declared.rows.ChangeEntry.{ChangeEntry}
 use Rattle.plant_model.specs.declared.rows.ChangeTopic.{ChangeTopic}
 use Rattle.plant_model.specs.declared.rows.ChangeTopic.TheVariants.{Limit as LimitTopic, Matrix as MatrixTopic, Record as RecordTopic}
@@ -109,7 +109,7 @@ strangers_part_without c rows none =
 
 -- ---- changes that put no event
 
-put_no_event : (c : Change) (rows : UnitRows) → is_event_put c ≡ false → changed c (without_events rows) ≡ without_events (changed c rows)
+put_no_event : (c : RowEdit) (rows : UnitRows) → is_event_put c ≡ false → changed c (without_events rows) ≡ without_events (changed c rows)
 put_no_event (Put (UnitPut r)) rows none = refl
 put_no_event (Put (GrantPut r)) rows none = refl
 put_no_event (Put (AlarmPut r)) rows none = refl
@@ -122,7 +122,7 @@ put_no_event (Put (ChangePut r)) rows none = refl
 put_no_event (Remove (GrantKey p r)) rows none = refl
 put_no_event (Remove (ShelfKey a)) rows none = refl
 
-pub changed_without : (cs : List Change) (rows : UnitRows) → puts_event cs ≡ false → changed_by cs (without_events rows) ≡ without_events (changed_by cs rows)
+pub changed_without : (cs : List RowEdit) (rows : UnitRows) → puts_event cs ≡ false → changed_by cs (without_events rows) ≡ without_events (changed_by cs rows)
 changed_without [] rows none = refl
 changed_without (c ∷ cs) rows none =
     elim (is_event_put c) as (λ b. is_event_put c ≡ b → (b || puts_event cs) ≡ false → changed_by (c ∷ cs) (without_events rows) ≡ without_events (changed_by (c ∷ cs) rows)) [

@@ -10,7 +10,7 @@ use Rattle.std.specs.Prelude.{T, insert, map, ◌≤◌}
 use Rattle.std.specs.declared.cmp.Ordering.{Ordering}
 use Rattle.std.specs.declared.cmp.Ordering.TheVariants.{Equal, Greater, Less}
 use Rattle.plant_books.proofs.RowsFound.{first, less, lesser, second}
-use Rattle.plant_types.specs.Tables.{IsInOrder, put_row}
+use Rattle.plant_types.specs.KeyedRows.{IsInOrder, put_row}
 
 module _ {X : Type 0} (o : X → X → Ordering) where
   abbrev put_in : X → List X → List X

@@ -9,7 +9,7 @@ use Rattle.std.specs.Prelude.{Err, IfSome, Ok, OnOk, Option, Result, filter_map,
 use Rattle.std.specs.declared.cmp.Ordering.TheVariants.{Equal, Greater, Less}
 use Rattle.plant_books.specs.declared.opened.OpenedUnit.{OpenedUnit}
 use Rattle.plant_model.specs.declared.call.Call.{Call}
-use Rattle.plant_model.specs.declared.rows.Change.{Change}
+use Rattle.plant_model.specs.declared.rows.RowEdit.{RowEdit}
 use Rattle.plant_model.specs.declared.rows.UnitRows.{UnitRows}
 use Rattle.plant_types.specs.declared.fault.Fault.{Fault}
 use Rattle.plant_books.specs.Contents.{Content, after_changes, no_units, part_in, rows_in, with_rows}
@@ -22,7 +22,7 @@ use Rattle.plant_model.specs.RowChanges.{changed_by, no_rows}
 use Rattle.plant_model.specs.Worlds.{unit_named}
 use Rattle.plant_types.proofs.Orders.{name_total, same_names}
 use Rattle.plant_types.specs.Names.{Name, name_cmp}
-use Rattle.plant_types.specs.Tables.{put_row, row_at}
+use Rattle.plant_types.specs.KeyedRows.{put_row, row_at}
 
 abbrev entry : OpenedUnit → Name × UnitRows
 entry o = (o.unit, o.rows)
@@ -137,7 +137,7 @@ part_listed admin u v opened m c h is named =
     let same : v ≡ u = cc in
     ap (option_map (part_of c)) (rows_listed admin v opened m h) ∙ ap (part_in m c) same
 
-pub made_listed : (r : Result (Unit {0}) Fault) (admin u : Name) (opened left : List OpenedUnit) (m : Content) (cs : List Change) → IsListed admin opened m → OnOk r (left ≡ put_row unit_cmp (λ o. o) record { unit = u; rows = changed_by cs (unwrap_or (rows_at opened u) no_rows) } opened) → OnOk r (IsListed admin left (after_changes m u cs))
+pub made_listed : (r : Result (Unit {0}) Fault) (admin u : Name) (opened left : List OpenedUnit) (m : Content) (cs : List RowEdit) → IsListed admin opened m → OnOk r (left ≡ put_row unit_cmp (λ o. o) record { unit = u; rows = changed_by cs (unwrap_or (rows_at opened u) no_rows) } opened) → OnOk r (IsListed admin left (after_changes m u cs))
 made_listed (Ok x) admin u opened left m cs h is =
     let there = ap (λ o. changed_by cs (unwrap_or o no_rows)) (rows_listed admin u opened m h) in
     subst (λ os. IsListed admin os (after_changes m u cs)) (sym is)

@@ -15,17 +15,17 @@ use Rattle.plant_books.specs.Order.{AreInOrder}
 use Rattle.plant_books.specs.declared.opened.OpenedUnit.{OpenedUnit}
 use Rattle.plant_model.specs.RowChanges.{changed, changed_by, no_rows, put, removed}
 use Rattle.plant_model.specs.RowFacts.{alarm_tag, change_number, event_number, record_tag, shelf_tag}
-use Rattle.plant_model.specs.declared.rows.Change.{Change}
-use Rattle.plant_model.specs.declared.rows.Change.TheVariants.{Put, Remove}
+use Rattle.plant_model.specs.declared.rows.RowEdit.{RowEdit}
+use Rattle.plant_model.specs.declared.rows.RowEdit.TheVariants.{Put, Remove}
 use Rattle.plant_model.specs.declared.rows.Key.{Key}
 use Rattle.plant_model.specs.declared.rows.Key.TheVariants.{Grant as GrantKey, Shelf as ShelfKey}
 use Rattle.plant_model.specs.declared.rows.Row.{Row}
 use Rattle.plant_model.specs.declared.rows.Row.TheVariants.{Alarm as AlarmPut, Band as BandPut, Cell as CellPut, Change as ChangePut, Event as EventPut, Grant as GrantPut, Record as RecordPut, Shelf as ShelfPut, Unit as UnitPut}
 use Rattle.plant_model.specs.declared.rows.UnitRows.{UnitRows}
 use Rattle.plant_types.proofs.Orders.{name_total, same_names}
-use Rattle.plant_types.proofs.TableLaws.{IsInOrder-put_row, IsInOrder-remove_row}
+use Rattle.plant_types.proofs.KeyedRowLaws.{IsInOrder-put_row, IsInOrder-remove_row}
 use Rattle.plant_types.specs.Names.{Name, name_cmp, same_name}
-use Rattle.plant_types.specs.Tables.{IsInOrder, put_row, row_at}
+use Rattle.plant_types.specs.KeyedRows.{IsInOrder, put_row, row_at}
 
 -- ---- rows whose neighbours rise
 
@@ -105,11 +105,11 @@ removed_in_order : (k : Key) (rows : UnitRows) → AreInOrder rows → AreInOrde
 removed_in_order (GrantKey p r) rows h = record { alarms = h.alarms; shelves = h.shelves; events = h.events; records = h.records; changes = h.changes }
 removed_in_order (ShelfKey a) rows h = record { alarms = h.alarms; shelves = IsInOrder-remove_row name_cmp shelf_tag name_total same_names a rows.shelves h.shelves; events = h.events; records = h.records; changes = h.changes }
 
-pub one_in_order : (c : Change) (rows : UnitRows) → AreInOrder rows → AreInOrder (changed c rows)
+pub one_in_order : (c : RowEdit) (rows : UnitRows) → AreInOrder rows → AreInOrder (changed c rows)
 one_in_order (Put r) rows h = put_in_order r rows h
 one_in_order (Remove k) rows h = removed_in_order k rows h
 
-pub changed_in_order : (cs : List Change) (rows : UnitRows) → AreInOrder rows → AreInOrder (changed_by cs rows)
+pub changed_in_order : (cs : List RowEdit) (rows : UnitRows) → AreInOrder rows → AreInOrder (changed_by cs rows)
 changed_in_order [] rows h = h
 changed_in_order (c ∷ cs) rows h = changed_in_order cs (changed c rows) (one_in_order c rows h)
 

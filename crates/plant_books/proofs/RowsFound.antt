@@ -9,10 +9,10 @@ use Rattle.std.specs.Prelude.{Bool, IfSome, List, None, Option, Some, T, [], con
 use Rattle.std.specs.declared.cmp.Ordering.{Ordering}
 use Rattle.std.specs.declared.cmp.Ordering.TheVariants.{Equal, Greater, Less}
 use Rattle.plant_types.proofs.Orders.{name_total, same_names}
-use Rattle.plant_types.proofs.TableLaws.{tied}
+use Rattle.plant_types.proofs.KeyedRowLaws.{tied}
 use Rattle.plant_types.specs.Names.{Name, name_cmp, same_name}
 use Rattle.plant_types.specs.Options.{when}
-use Rattle.plant_types.specs.Tables.{IsInOrder, remove_row, row_at}
+use Rattle.plant_types.specs.KeyedRows.{IsInOrder, remove_row, row_at}
 
 pub first : (a b : Bool) → T (a && b) → T a
 first true b p = tt

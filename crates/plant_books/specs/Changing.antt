@@ -3,8 +3,8 @@ use Rattle.std.specs.List.{list_any}
 use Rattle.std.specs.Prelude.{Bool, List, false, true}
 use Rattle.plant_books.specs.declared.changes.Changing.{Changing}
 use Rattle.plant_import.specs.Numbers.{with_events}
-use Rattle.plant_model.specs.declared.rows.Change.{Change}
-use Rattle.plant_model.specs.declared.rows.Change.TheVariants.{Put}
+use Rattle.plant_model.specs.declared.rows.RowEdit.{RowEdit}
+use Rattle.plant_model.specs.declared.rows.RowEdit.TheVariants.{Put}
 use Rattle.plant_model.specs.declared.rows.Row.TheVariants.{Event as EventPut}
 use Rattle.plant_model.specs.declared.rows.UnitRows.{UnitRows}
 
@@ -13,9 +13,9 @@ abbrev pub whole : Changing → UnitRows
 whole c = record c.rows { events = with_events c.rows.events c.fresh }
 
 -- some change puts an event
-abbrev pub is_event_put : Change → Bool
+abbrev pub is_event_put : RowEdit → Bool
 is_event_put (Put (EventPut e)) = true
 is_event_put _ = false
 
-abbrev pub puts_event : List Change → Bool
+abbrev pub puts_event : List RowEdit → Bool
 puts_event cs = list_any is_event_put cs

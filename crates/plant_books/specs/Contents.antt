@@ -7,7 +7,7 @@ use Rattle.plant_books.specs.declared.books.MineShelf.{MineShelf}
 use Rattle.plant_books.specs.declared.books.MineUnit.{MineUnit}
 use Rattle.plant_model.specs.declared.call.Call.{Call}
 use Rattle.plant_model.specs.declared.rows.AlarmRow.{AlarmRow}
-use Rattle.plant_model.specs.declared.rows.Change.{Change}
+use Rattle.plant_model.specs.declared.rows.RowEdit.{RowEdit}
 use Rattle.plant_model.specs.declared.rows.GrantRow.{GrantRow}
 use Rattle.plant_model.specs.declared.rows.ShelfRow.{ShelfRow}
 use Rattle.plant_model.specs.declared.rows.UnitPart.{UnitPart}
@@ -19,7 +19,7 @@ use Rattle.plant_model.specs.RowChanges.{changed_by, no_rows, puts_unit}
 use Rattle.plant_model.specs.RowFacts.{alarm_tag, unit_read}
 use Rattle.plant_types.specs.Names.{Name, name_cmp, same_name}
 use Rattle.plant_types.specs.Options.{when}
-use Rattle.plant_types.specs.Tables.{row_at}
+use Rattle.plant_types.specs.KeyedRows.{row_at}
 
 pub record Content : Type 0 where
   pub admin : Name
@@ -49,11 +49,11 @@ abbrev pub events_in : Content → Name → List Event
 events_in m u = (rows_in m u).events
 
 -- the content after changes of one unit's rows
-abbrev pub after_changes : Content → Name → List Change → Content
+abbrev pub after_changes : Content → Name → List RowEdit → Content
 after_changes m u cs = with_rows m u (changed_by cs (rows_in m u))
 
 -- the unit is there, or the changes put its row
-abbrev pub IsKnownTo : Content → Name → List Change → Type 0
+abbrev pub IsKnownTo : Content → Name → List RowEdit → Type 0
 IsKnownTo m u cs = (contains_key m.units u ≡ true) ⊎ (puts_unit cs ≡ true)
 
 -- a grant of the person whose end is not yet there

@@ -8,7 +8,7 @@ use Rattle.plant_books.specs.Contents.{Content}
 use Rattle.plant_books.specs.Order.{AreInOrder}
 use Rattle.plant_model.specs.declared.rows.UnitRows.{UnitRows}
 use Rattle.plant_types.specs.Names.{Name, name_cmp}
-use Rattle.plant_types.specs.Tables.{row_at}
+use Rattle.plant_types.specs.KeyedRows.{row_at}
 
 -- units by their codes
 abbrev pub unit_cmp : OpenedUnit → OpenedUnit → Ordering

@@ -3,7 +3,7 @@ use Rattle.std.specs.Ordering.{nat_cmp}
 use Rattle.plant_model.specs.RowFacts.{alarm_tag, change_number, event_number, record_tag, shelf_tag}
 use Rattle.plant_model.specs.declared.rows.UnitRows.{UnitRows}
 use Rattle.plant_types.specs.Names.{name_cmp}
-use Rattle.plant_types.specs.Tables.{IsInOrder}
+use Rattle.plant_types.specs.KeyedRows.{IsInOrder}
 
 -- alarms, shelves and records rise by their tags, events and changes by their numbers
 pub record AreInOrder (rows : UnitRows) : Type 0 where

@@ -14,7 +14,7 @@ use plant_alarm::Event;
 use plant_import::FileRead;
 use plant_model::{CallKind, ChangeEntry, ChangeTopic, Request, UnitRow};
 use plant_ration::ChangeKind;
-use plant_types::{Table, Tag};
+use plant_types::{List, Tag};
 
 /// What a call looks at, beside the unit's own row and the caller's grants.
 #[derive(Clone, Copy)]
@@ -92,7 +92,7 @@ pub fn looks_at_events(request: &Request) -> bool
 }
 
 /// Whether a unit that keeps this many shelves is crowded: its quota may be used up.
-pub fn is_crowded(units: &Table<UnitRow>, shelves: u64) -> bool
+pub fn is_crowded(units: &List<UnitRow>, shelves: u64) -> bool
     ensures { (rows : UnitRows) → rows.units ≡ units.now → length rows.shelves ≡ shelves → is_crowded_in rows ≡ result }
 {
     match units.as_slice().first() {

@@ -6,14 +6,14 @@ ghost use Rattle.plant_books.specs.Contents.{Content, IsKnownTo, after_changes, 
 ghost use Rattle.plant_books.specs.Counting.{Counts};
 
 use plant_alarm::Event;
-use plant_model::{Call, Change, ShelfRow, UnitPart, UnitRows};
-use plant_types::{Fault, Moment, Person, Role, Table, UnitCode};
+use plant_model::{Call, RowEdit, ShelfRow, UnitPart, UnitRows};
+use plant_types::{Fault, List, Moment, Person, Role, UnitCode};
 
 /// A unit in which a person holds roles, with its last moment.
 #[derive(Drop)]
 pub struct MineUnit {
     pub unit: UnitCode,
-    pub roles: Table<Role>,
+    pub roles: List<Role>,
     pub last: Moment,
 }
 
@@ -28,79 +28,79 @@ pub struct MineShelf {
 /// Where the rows of all units are kept. A fault leaves them as they were.
 pub trait Books {
     /// The books hold this content, under what the keeper knows of its premise.
-    ghost holds: { Self → Content → Type 0 };
+    ghost represents: { Self → Content → Type 0 };
 
     /// The keeper's premise as a call ends. It held before each earlier call too.
-    ghost can_tell: { Self → Type 0 };
+    ghost is_honest: { Self → Type 0 };
 
     /// How many answers were `Store`.
     ghost stores: { Self → ℕ };
 
     /// The administrator's name.
     fn administrator(&self) -> &Person
-        ensures { (m : Content) → holds self.now m → result.now ≡ m.admin };
+        ensures { (m : Content) → represents self.now m → result.now ≡ m.admin };
 
     /// Whether the unit was opened.
     fn taken(&mut self, unit: &UnitCode) -> Result<bool, Fault>
-        ensures found { (m : Content) → holds self.old m → can_tell self.new → IfOk result (λ taken. taken ≡ fin.contains_key m.units unit.now) }
-        ensures same { (m : Content) → holds self.old m → holds self.new m }
-        ensures told { can_tell self.new → can_tell self.old }
+        ensures found { (m : Content) → represents self.old m → is_honest self.new → IfOk result (λ taken. taken ≡ fin.contains_key m.units unit.now) }
+        ensures same { (m : Content) → represents self.old m → represents self.new m }
+        ensures honest { is_honest self.new → is_honest self.old }
         ensures count { Counts (stores self.old) (stores self.new) result };
 
     /// All rows of the unit, none where it was never opened.
     fn rows(&mut self, unit: &UnitCode) -> Result<Option<UnitRows>, Fault>
-        ensures found { (m : Content) → holds self.old m → can_tell self.new → IfOk result (λ rows. rows ≡ fin.get m.units unit.now) }
-        ensures same { (m : Content) → holds self.old m → holds self.new m }
-        ensures told { can_tell self.new → can_tell self.old }
+        ensures found { (m : Content) → represents self.old m → is_honest self.new → IfOk result (λ rows. rows ≡ fin.get m.units unit.now) }
+        ensures same { (m : Content) → represents self.old m → represents self.new m }
+        ensures honest { is_honest self.new → is_honest self.old }
         ensures count { Counts (stores self.old) (stores self.new) result };
 
     /// All rows of the unit but its events, none where it was never opened.
     fn rows_but_events(&mut self, unit: &UnitCode) -> Result<Option<UnitRows>, Fault>
-        ensures found { (m : Content) → holds self.old m → can_tell self.new → IfOk result (λ rows. rows ≡ rows_but_events m unit.now) }
-        ensures same { (m : Content) → holds self.old m → holds self.new m }
-        ensures told { can_tell self.new → can_tell self.old }
+        ensures found { (m : Content) → represents self.old m → is_honest self.new → IfOk result (λ rows. rows ≡ rows_but_events m unit.now) }
+        ensures same { (m : Content) → represents self.old m → represents self.new m }
+        ensures honest { is_honest self.new → is_honest self.old }
         ensures count { Counts (stores self.old) (stores self.new) result };
 
     /// All events of the unit, none where it was never opened.
-    fn events(&mut self, unit: &UnitCode) -> Result<Table<Event>, Fault>
-        ensures found { (m : Content) → holds self.old m → can_tell self.new → IfOk result (λ events. events ≡ events_in m unit.now) }
-        ensures same { (m : Content) → holds self.old m → holds self.new m }
-        ensures told { can_tell self.new → can_tell self.old }
+    fn events(&mut self, unit: &UnitCode) -> Result<List<Event>, Fault>
+        ensures found { (m : Content) → represents self.old m → is_honest self.new → IfOk result (λ events. events ≡ events_in m unit.now) }
+        ensures same { (m : Content) → represents self.old m → represents self.new m }
+        ensures honest { is_honest self.new → is_honest self.old }
         ensures count { Counts (stores self.old) (stores self.new) result };
 
     /// The rows of the unit that the call looks at, none where the unit was never opened or the call names none.
     fn part(&mut self, call: &Call) -> Result<Option<UnitPart>, Fault>
-        ensures found { (m : Content) → holds self.old m → can_tell self.new → (u : Name) → unit_named call.now.request ≡ Some u → IfOk result (λ part. part ≡ part_in m call.now u) }
-        ensures same { (m : Content) → holds self.old m → holds self.new m }
-        ensures told { can_tell self.new → can_tell self.old }
+        ensures found { (m : Content) → represents self.old m → is_honest self.new → (u : Name) → unit_named call.now.request ≡ Some u → IfOk result (λ part. part ≡ part_in m call.now u) }
+        ensures same { (m : Content) → represents self.old m → represents self.new m }
+        ensures honest { is_honest self.new → is_honest self.old }
         ensures count { Counts (stores self.old) (stores self.new) result };
 
     /// The codes of the units in which the person holds a role at the moment, rising, each once.
-    fn held(&mut self, person: &Person, now: Moment) -> Result<Table<UnitCode>, Fault>
-        ensures found { (m : Content) → holds self.old m → can_tell self.new → IfOk result (λ codes. codes ≡ codes_held m now person.now) }
-        ensures same { (m : Content) → holds self.old m → holds self.new m }
-        ensures told { can_tell self.new → can_tell self.old }
+    fn held(&mut self, person: &Person, now: Moment) -> Result<List<UnitCode>, Fault>
+        ensures found { (m : Content) → represents self.old m → is_honest self.new → IfOk result (λ codes. codes ≡ codes_held m now person.now) }
+        ensures same { (m : Content) → represents self.old m → represents self.new m }
+        ensures honest { is_honest self.new → is_honest self.old }
         ensures count { Counts (stores self.old) (stores self.new) result };
 
     /// The units in which the person holds a role at the moment, rising, each once with its roles by number.
-    fn mine_units(&mut self, person: &Person, now: Moment) -> Result<Table<MineUnit>, Fault>
-        ensures found { (m : Content) → holds self.old m → can_tell self.new → IfOk result (λ units. units ≡ mine_units m now person.now) }
-        ensures same { (m : Content) → holds self.old m → holds self.new m }
-        ensures told { can_tell self.new → can_tell self.old }
+    fn mine_units(&mut self, person: &Person, now: Moment) -> Result<List<MineUnit>, Fault>
+        ensures found { (m : Content) → represents self.old m → is_honest self.new → IfOk result (λ units. units ≡ mine_units m now person.now) }
+        ensures same { (m : Content) → represents self.old m → represents self.new m }
+        ensures honest { is_honest self.new → is_honest self.old }
         ensures count { Counts (stores self.old) (stores self.new) result };
 
     /// Every shelf of the units in which the person holds a role at the moment, by unit and tag, each once. Shelves whose
     /// time has passed are among them.
-    fn mine_shelves(&mut self, person: &Person, now: Moment) -> Result<Table<MineShelf>, Fault>
-        ensures found { (m : Content) → holds self.old m → can_tell self.new → IfOk result (λ shelves. shelves ≡ mine_shelves m now person.now) }
-        ensures same { (m : Content) → holds self.old m → holds self.new m }
-        ensures told { can_tell self.new → can_tell self.old }
+    fn mine_shelves(&mut self, person: &Person, now: Moment) -> Result<List<MineShelf>, Fault>
+        ensures found { (m : Content) → represents self.old m → is_honest self.new → IfOk result (λ shelves. shelves ≡ mine_shelves m now person.now) }
+        ensures same { (m : Content) → represents self.old m → represents self.new m }
+        ensures honest { is_honest self.new → is_honest self.old }
         ensures count { Counts (stores self.old) (stores self.new) result };
 
     /// Makes the changes to this unit's rows in their order: all of them, or none.
-    fn apply(&mut self, unit: &UnitCode, changes: &Table<Change>) -> Result<(), Fault>
-        ensures made { (m : Content) → holds self.old m → IsKnownTo m unit.now changes.now → OnOk result (holds self.new (after_changes m unit.now changes.now)) }
-        ensures unchanged { (m : Content) → holds self.old m → OnErr result (holds self.new m) }
-        ensures told { can_tell self.new → can_tell self.old }
+    fn apply(&mut self, unit: &UnitCode, changes: &List<RowEdit>) -> Result<(), Fault>
+        ensures made { (m : Content) → represents self.old m → IsKnownTo m unit.now changes.now → OnOk result (represents self.new (after_changes m unit.now changes.now)) }
+        ensures unchanged { (m : Content) → represents self.old m → OnErr result (represents self.new m) }
+        ensures honest { is_honest self.new → is_honest self.old }
         ensures count { Counts (stores self.old) (stores self.new) result };
 }

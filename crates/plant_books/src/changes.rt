@@ -6,7 +6,7 @@ ghost use Rattle.std.specs.Ordering.{nat_cmp};
 ghost use Rattle.plant_books.specs.Changing.{puts_event, whole};
 ghost use Rattle.plant_types.specs.Names.{name_cmp};
 ghost use Rattle.plant_types.specs.Roles.{pair_cmp};
-ghost use Rattle.plant_types.specs.Tables.{IsInOrder, remove_row};
+ghost use Rattle.plant_types.specs.KeyedRows.{IsInOrder, remove_row};
 ghost use Rattle.plant_types.specs.declared.fault.Fault.TheVariants.{Memory};
 
 use crate::found::remove;
@@ -14,23 +14,23 @@ use crate::keyed::{put, put_sorted};
 use crate::rows::compare_pair;
 use plant_alarm::Event;
 use plant_import::put_events;
-use plant_model::{Change, GrantRow, Key, Row, ShelfRow, UnitRow, UnitRows};
-use plant_types::{Duplicate, Fault, Person, Role, Table, Tag};
+use plant_model::{GrantRow, Key, Row, RowEdit, ShelfRow, UnitRow, UnitRows};
+use plant_types::{Duplicate, Fault, List, Person, Role, Tag};
 use std::alloc::Global;
 
 /// A unit's rows while they change. Events that are put wait beside the others, to be merged into them at the end.
 #[derive(Drop)]
 pub struct Changing {
     pub rows: UnitRows,
-    pub fresh: Table<Event>,
+    pub fresh: List<Event>,
 }
 
 /// The table of the one row.
-fn one_row(alloc: Global, row: UnitRow) -> Result<Table<UnitRow>, Fault>
+fn one_row(alloc: Global, row: UnitRow) -> Result<List<UnitRow>, Fault>
     ensures value { IfOk result (λ rows. rows ≡ row ∷ []) }
     ensures memory { IfErr result (λ e. e ≡ Memory) }
 {
-    let mut rows = Table::new(alloc);
+    let mut rows = List::new(alloc);
     rows.push(row)?;
     Ok(rows)
 }
@@ -60,16 +60,16 @@ fn put_row(alloc: Global, changing: &mut Changing, row: Row) -> Result<(), Fault
 }
 
 /// The grants without that of a pair.
-fn without_grant(grants: Table<GrantRow>, person: &Person, role: Role) -> Table<GrantRow>
+fn without_grant(grants: List<GrantRow>, person: &Person, role: Role) -> List<GrantRow>
     ensures { result ≡ remove_row pair_cmp pair_of (person.now, role) grants }
 {
     let mut rows = grants.into_vec();
     rows.retain(|grant| compare_pair(person, role, grant).is_ne());
-    Table::from_vec(rows)
+    List::from_vec(rows)
 }
 
 /// The shelves, which stand in the order of their tags, without that of a tag.
-fn without_shelf(mut shelves: Table<ShelfRow>, tag: &Tag) -> Table<ShelfRow>
+fn without_shelf(mut shelves: List<ShelfRow>, tag: &Tag) -> List<ShelfRow>
     ensures { IsInOrder name_cmp shelf_tag shelves → result ≡ remove_row name_cmp shelf_tag tag.now shelves }
 {
     remove(&mut shelves, tag);
@@ -94,17 +94,17 @@ fn without(rows: UnitRows, key: &Key) -> UnitRows
 }
 
 /// The rows after one change.
-fn after_change(alloc: Global, mut changing: Changing, change: &Change) -> Result<Changing, Fault>
+fn after_change(alloc: Global, mut changing: Changing, change: &RowEdit) -> Result<Changing, Fault>
     ensures value { AreInOrder (whole changing) → IfOk result (λ after. whole after ≡ changed change.now (whole changing)) }
     ensures events { IfOk result (λ after. after.rows.events ≡ changing.rows.events) }
     ensures memory { IfErr result (λ e. e ≡ Memory) }
 {
     match change {
-        Change::Put(row) => {
+        RowEdit::Put(row) => {
             put_row(alloc, &mut changing, row.duplicate(alloc)?)?;
             Ok(changing)
         }
-        Change::Remove(key) => Ok(Changing {
+        RowEdit::Remove(key) => Ok(Changing {
             rows: without(changing.rows, key),
             fresh: changing.fresh,
         }),
@@ -122,25 +122,25 @@ fn settled(alloc: Global, changing: Changing) -> Result<UnitRows, Fault>
 }
 
 /// Whether some change puts an event.
-pub fn puts_event(changes: &Table<Change>) -> bool
+pub fn puts_event(changes: &List<RowEdit>) -> bool
     ensures { result ≡ puts_event changes.now }
 {
     let mut changes = changes.as_slice().iter();
-    changes.any(|change| matches!(change, Change::Put(Row::Event(_))))
+    changes.any(|change| matches!(change, RowEdit::Put(Row::Event(_))))
 }
 
 /// The rows, which stand in the order of their keys, after the changes, in their order.
 pub fn after_changes(
     alloc: Global,
     rows: UnitRows,
-    changes: &Table<Change>,
+    changes: &List<RowEdit>,
 ) -> Result<UnitRows, Fault>
     ensures value { AreInOrder rows → IfOk result (λ after. after ≡ changed_by changes.now rows) }
     ensures memory { IfErr result (λ e. e ≡ Memory) }
 {
     let mut after = Changing {
         rows,
-        fresh: Table::new(alloc),
+        fresh: List::new(alloc),
     };
     for change in changes.as_slice() {
         after = after_change(alloc, after, change)?;

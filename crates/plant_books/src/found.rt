@@ -8,12 +8,12 @@ ghost use Rattle.std.specs.Ordering.{is_lt, nat_cmp};
 ghost use Rattle.plant_books.specs.Asking.{is_wanted};
 ghost use Rattle.plant_model.specs.RowFacts.{alarm_tag, change_number, record_tag, shelf_tag};
 ghost use Rattle.plant_types.specs.Names.{Name, name_cmp};
-ghost use Rattle.plant_types.specs.Tables.{IsInOrder, remove_row, row_at};
+ghost use Rattle.plant_types.specs.KeyedRows.{IsInOrder, remove_row, row_at};
 ghost use Rattle.plant_types.specs.declared.fault.Fault.TheVariants.{Memory};
 
 use crate::asking::Wanted;
 use plant_model::{AlarmRow, ChangeEntry, RecordEntry, ShelfRow};
-use plant_types::{Duplicate, Fault, Table, Tag};
+use plant_types::{Duplicate, Fault, List, Tag};
 use std::alloc::Global;
 use std::collections::BTreeSet;
 
@@ -68,7 +68,7 @@ pub fn row_of<'a, T: Tagged>(rows: &'a [T], tag: &Tag) -> Option<&'a T>
 }
 
 /// Takes the row of the tag out, if there is one.
-pub fn remove<T: Tagged>(rows: &mut Table<T>, tag: &Tag)
+pub fn remove<T: Tagged>(rows: &mut List<T>, tag: &Tag)
     ensures { IsInOrder name_cmp T.key rows.old → rows.new ≡ remove_row name_cmp T.key tag.now rows.old }
 {
     let place = place_of(rows.as_slice(), tag);
@@ -80,11 +80,11 @@ pub fn remove<T: Tagged>(rows: &mut Table<T>, tag: &Tag)
 }
 
 /// A table of a copy of the row, if there is one.
-fn one_copy<T: Tagged + Duplicate>(alloc: Global, row: Option<&T>) -> Result<Table<T>, Fault>
+fn one_copy<T: Tagged + Duplicate>(alloc: Global, row: Option<&T>) -> Result<List<T>, Fault>
     ensures value { IfOk result (λ rows. rows ≡ option_to_list (option_copied row.entry)) }
     ensures memory { IfErr result (λ e. e ≡ Memory) }
 {
-    let mut rows = Table::new(alloc);
+    let mut rows = List::new(alloc);
     if let Some(row) = row {
         rows.push(row.duplicate(alloc)?)?;
     }
@@ -94,14 +94,14 @@ fn one_copy<T: Tagged + Duplicate>(alloc: Global, row: Option<&T>) -> Result<Tab
 /// Copies of the rows of the tags that are wanted.
 pub fn rows_wanted<T: Tagged + Duplicate>(
     alloc: Global,
-    rows: &Table<T>,
+    rows: &List<T>,
     wanted: &Wanted<'_>,
-) -> Result<Table<T>, Fault>
+) -> Result<List<T>, Fault>
     ensures value { IsInOrder name_cmp T.key rows.now → IfOk result (λ found. found ≡ filter (λ r. is_wanted wanted.now (T.key r)) rows.now) }
     ensures memory { IfErr result (λ e. e ≡ Memory) }
 {
     match wanted {
-        Wanted::Nothing => Ok(Table::new(alloc)),
+        Wanted::Nothing => Ok(List::new(alloc)),
         Wanted::One(tag) => one_copy(alloc, row_of(rows.as_slice(), tag)),
         Wanted::Every => rows.duplicate(alloc),
     }
@@ -130,11 +130,11 @@ pub fn changes_of(
     alloc: Global,
     changes: &[ChangeEntry],
     numbers: &BTreeSet<u32>,
-) -> Result<Table<ChangeEntry>, Fault>
+) -> Result<List<ChangeEntry>, Fault>
     ensures value { IsInOrder nat_cmp change_number changes.now → IfOk result (λ found. found ≡ filter (λ c. contains nat_cmp numbers.now c.number) changes.now) }
     ensures memory { IfErr result (λ e. e ≡ Memory) }
 {
-    let mut found = Table::new(alloc);
+    let mut found = List::new(alloc);
     for number in numbers {
         if let Some(change) = change_at(changes, *number) {
             found.push(change.duplicate(alloc)?)?;

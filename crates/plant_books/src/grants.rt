@@ -4,11 +4,11 @@ ghost use Rattle.plant_books.specs.Contents.{is_held_in, roles_in};
 ghost use Rattle.plant_model.specs.Grants as grants;
 ghost use Rattle.plant_model.specs.RowFacts.{held_by, holds_by, pair_of};
 ghost use Rattle.plant_types.specs.Roles.{pair_cmp, same_pair};
-ghost use Rattle.plant_types.specs.Tables.{row_at};
+ghost use Rattle.plant_types.specs.KeyedRows.{row_at};
 ghost use Rattle.plant_types.specs.declared.fault.Fault.TheVariants.{Memory};
 
 use plant_model::{GrantRow, UnitRows};
-use plant_types::{Fault, Moment, Person, Role, Table};
+use plant_types::{Fault, List, Moment, Person, Role};
 use std::alloc::Global;
 
 /// Whether the moment lies before the end. Without an end it does.
@@ -85,11 +85,11 @@ pub fn roles_held(
     rows: &UnitRows,
     person: &Person,
     now: Moment,
-) -> Result<Table<Role>, Fault>
+) -> Result<List<Role>, Fault>
     ensures value { IfOk result (λ roles. roles ≡ roles_in now person.now rows.now) }
     ensures memory { IfErr result (λ e. e ≡ Memory) }
 {
-    let mut roles = Table::new(alloc);
+    let mut roles = List::new(alloc);
     for grant in rows.grants.as_slice() {
         if is_of_holder(grant, person, now) {
             roles.push(grant.role_no)?;

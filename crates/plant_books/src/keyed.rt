@@ -1,9 +1,9 @@
 ghost use Rattle.std.specs.Cmp.{IsTotalOrder};
 ghost use Rattle.std.specs.Prelude.{◌≡◌, IfErr, MatchResult, OnErr, OnOk, insert, slice_set};
-ghost use Rattle.plant_types.specs.Tables.{IsInOrder, put_row};
+ghost use Rattle.plant_types.specs.KeyedRows.{IsInOrder, put_row};
 ghost use Rattle.plant_types.specs.declared.fault.Fault.TheVariants.{Memory};
 
-use plant_types::{Fault, Table};
+use plant_types::{Fault, List};
 use std::cmp::Ordering;
 
 /// A row with a key.
@@ -35,7 +35,7 @@ fn place_of<T: Keyed>(rows: &[T], row: &T) -> Result<usize, usize>
 
 /// Puts a row in the place of the row of its key, or where it belongs in the order of keys.
 /// If memory runs out, the rows are unchanged.
-pub fn put<T: Keyed>(rows: &mut Table<T>, row: T) -> Result<(), Fault>
+pub fn put<T: Keyed>(rows: &mut List<T>, row: T) -> Result<(), Fault>
     ensures ok { OnOk result (rows.new ≡ put_row T.order (λ r. r) row rows.old) }
     ensures err { OnErr result (rows.new ≡ rows.old) }
     ensures memory { IfErr result (λ e. e ≡ Memory) }
@@ -64,7 +64,7 @@ fn sorted_place<T: Keyed>(rows: &[T], row: &T) -> Result<usize, usize>
 }
 
 /// Puts a row among rows that stand in the order of their keys, as `put` does, but finds its place by halving.
-pub fn put_sorted<T: Keyed>(rows: &mut Table<T>, row: T) -> Result<(), Fault>
+pub fn put_sorted<T: Keyed>(rows: &mut List<T>, row: T) -> Result<(), Fault>
     ensures ok { IsTotalOrder T.order → IsInOrder T.order (λ r. r) rows.old → OnOk result (rows.new ≡ put_row T.order (λ r. r) row rows.old) }
     ensures err { OnErr result (rows.new ≡ rows.old) }
     ensures memory { IfErr result (λ e. e ≡ Memory) }

@@ -9,7 +9,7 @@ ghost use Rattle.plant_model.specs.RowChanges.{changed_by, no_rows};
 ghost use Rattle.plant_model.specs.RowFacts.{alarm_tag, unit_read};
 ghost use Rattle.plant_types.specs.Options.{when};
 ghost use Rattle.plant_types.specs.Names.{name_cmp};
-ghost use Rattle.plant_types.specs.Tables.{IsInOrder, put_row, row_at};
+ghost use Rattle.plant_types.specs.KeyedRows.{IsInOrder, put_row, row_at};
 ghost use Rattle.plant_types.specs.declared.fault.Fault.TheVariants.{Memory};
 
 use crate::books::{MineShelf, MineUnit};
@@ -19,8 +19,8 @@ use crate::grants::{holds_role, roles_held};
 use crate::keyed::{Keyed, put};
 use crate::parts::{part_of, rows_but_events};
 use plant_alarm::Event;
-use plant_model::{AlarmRow, Call, Change, UnitPart, UnitRows};
-use plant_types::{Duplicate, Fault, Moment, Person, Table, Tag, UnitCode};
+use plant_model::{AlarmRow, Call, RowEdit, UnitPart, UnitRows};
+use plant_types::{Duplicate, Fault, List, Moment, Person, Tag, UnitCode};
 use std::alloc::Global;
 use std::cmp::Ordering;
 
@@ -42,7 +42,7 @@ impl Keyed for OpenedUnit {
 }
 
 /// The rows of a unit, if it was opened.
-pub fn rows_of<'a>(units: &'a Table<OpenedUnit>, unit: &UnitCode) -> Option<&'a UnitRows>
+pub fn rows_of<'a>(units: &'a List<OpenedUnit>, unit: &UnitCode) -> Option<&'a UnitRows>
     ensures { option_map (λ rows. rows.now) result ≡ rows_at units.now unit.now }
 {
     units
@@ -53,7 +53,7 @@ pub fn rows_of<'a>(units: &'a Table<OpenedUnit>, unit: &UnitCode) -> Option<&'a 
 }
 
 /// Whether the unit was opened.
-pub fn is_opened(units: &Table<OpenedUnit>, unit: &UnitCode) -> bool
+pub fn is_opened(units: &List<OpenedUnit>, unit: &UnitCode) -> bool
     ensures { result ≡ is_some (rows_at units.now unit.now) }
 {
     rows_of(units, unit).is_some()
@@ -62,7 +62,7 @@ pub fn is_opened(units: &Table<OpenedUnit>, unit: &UnitCode) -> bool
 /// A copy of the rows of a unit, if it was opened.
 pub fn copy_of(
     alloc: Global,
-    units: &Table<OpenedUnit>,
+    units: &List<OpenedUnit>,
     unit: &UnitCode,
 ) -> Result<Option<UnitRows>, Fault>
     ensures value { IfOk result (λ rows. rows ≡ rows_at units.now unit.now) }
@@ -77,7 +77,7 @@ pub fn copy_of(
 /// A copy of the rows of a unit but its events, if it was opened.
 pub fn copy_but_events(
     alloc: Global,
-    units: &Table<OpenedUnit>,
+    units: &List<OpenedUnit>,
     unit: &UnitCode,
 ) -> Result<Option<UnitRows>, Fault>
     ensures value { IfOk result (λ rows. rows ≡ option_map without_events (rows_at units.now unit.now)) }
@@ -92,14 +92,14 @@ pub fn copy_but_events(
 /// A copy of the events of a unit, none where it was never opened.
 pub fn events_of(
     alloc: Global,
-    units: &Table<OpenedUnit>,
+    units: &List<OpenedUnit>,
     unit: &UnitCode,
-) -> Result<Table<Event>, Fault>
+) -> Result<List<Event>, Fault>
     ensures value { IfOk result (λ events. events ≡ (unwrap_or (rows_at units.now unit.now) no_rows).events) }
     ensures memory { IfErr result (λ e. e ≡ Memory) }
 {
     match rows_of(units, unit) {
-        None => Ok(Table::new(alloc)),
+        None => Ok(List::new(alloc)),
         Some(rows) => rows.events.duplicate(alloc),
     }
 }
@@ -107,7 +107,7 @@ pub fn events_of(
 /// The part of a unit's rows that the call looks at, if the unit was opened.
 pub fn part_at(
     alloc: Global,
-    units: &Table<OpenedUnit>,
+    units: &List<OpenedUnit>,
     unit: &UnitCode,
     call: &Call,
 ) -> Result<Option<UnitPart>, Fault>
@@ -133,14 +133,14 @@ fn last_moment(rows: &UnitRows) -> Moment
 /// The codes of the units in which the person holds a role at the moment.
 pub fn codes_held(
     alloc: Global,
-    units: &Table<OpenedUnit>,
+    units: &List<OpenedUnit>,
     person: &Person,
     now: Moment,
-) -> Result<Table<UnitCode>, Fault>
+) -> Result<List<UnitCode>, Fault>
     ensures value { IfOk result (λ codes. codes ≡ filter_map (λ o. when (is_held_in now person.now (Some o.rows)) o.unit) units.now) }
     ensures memory { IfErr result (λ e. e ≡ Memory) }
 {
-    let mut codes = Table::new(alloc);
+    let mut codes = List::new(alloc);
     for opened in units.as_slice() {
         if holds_role(&opened.rows, person, now) {
             codes.push(opened.unit.duplicate(alloc)?)?;
@@ -152,14 +152,14 @@ pub fn codes_held(
 /// The units in which the person holds a role at the moment, with the roles.
 pub fn units_held(
     alloc: Global,
-    units: &Table<OpenedUnit>,
+    units: &List<OpenedUnit>,
     person: &Person,
     now: Moment,
-) -> Result<Table<MineUnit>, Fault>
+) -> Result<List<MineUnit>, Fault>
     ensures value { IfOk result (λ mine. mine ≡ filter_map (λ o. mine_unit now person.now o.unit (Some o.rows)) units.now) }
     ensures memory { IfErr result (λ e. e ≡ Memory) }
 {
-    let mut mine = Table::new(alloc);
+    let mut mine = List::new(alloc);
     for opened in units.as_slice() {
         if holds_role(&opened.rows, person, now) {
             mine.push(MineUnit {
@@ -202,7 +202,7 @@ fn return_of(alarms: &[AlarmRow], tag: &Tag) -> Option<Moment>
 /// Puts the shelves of a unit at the end.
 pub fn push_shelves(
     alloc: Global,
-    mine: &mut Table<MineShelf>,
+    mine: &mut List<MineShelf>,
     unit: &UnitCode,
     rows: &UnitRows,
 ) -> Result<(), Fault>
@@ -223,14 +223,14 @@ pub fn push_shelves(
 /// The shelves of the units in which the person holds a role at the moment.
 pub fn shelves_held(
     alloc: Global,
-    units: &Table<OpenedUnit>,
+    units: &List<OpenedUnit>,
     person: &Person,
     now: Moment,
-) -> Result<Table<MineShelf>, Fault>
+) -> Result<List<MineShelf>, Fault>
     ensures value { AllByRecursion (λ o. AreInOrder o.rows) units.now → IfOk result (λ mine. mine ≡ flat_map (λ o. shelves_mine now person.now o.unit (Some o.rows)) units.now) }
     ensures memory { IfErr result (λ e. e ≡ Memory) }
 {
-    let mut mine = Table::new(alloc);
+    let mut mine = List::new(alloc);
     for opened in units.as_slice() {
         if holds_role(&opened.rows, person, now) {
             push_shelves(alloc, &mut mine, &opened.unit, &opened.rows)?;
@@ -243,9 +243,9 @@ pub fn shelves_held(
 /// opened. If memory runs out, nothing changes.
 pub fn change_unit(
     alloc: Global,
-    units: &mut Table<OpenedUnit>,
+    units: &mut List<OpenedUnit>,
     unit: &UnitCode,
-    changes: &Table<Change>,
+    changes: &List<RowEdit>,
 ) -> Result<(), Fault>
     ensures made { AllByRecursion (λ o. AreInOrder o.rows) units.old → OnOk result (units.new ≡ put_row unit_cmp (λ o. o) (record {
       unit = unit.now;

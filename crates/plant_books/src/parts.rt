@@ -6,7 +6,7 @@ ghost use Rattle.plant_model.specs.Parts.{counted_for, is_crowded as is_crowded_
 ghost use Rattle.plant_model.specs.RowChanges.{no_rows};
 ghost use Rattle.plant_model.specs.declared.rows.UnitRows.{UnitRows as TheRows};
 ghost use Rattle.plant_model.specs.RowFacts.{change_found, change_number, event_number, last_number as last_number_of, pair_of, unit_read};
-ghost use Rattle.plant_types.specs.Tables.{IsInOrder};
+ghost use Rattle.plant_types.specs.KeyedRows.{IsInOrder};
 ghost use Rattle.std.specs.Ordering.{nat_cmp};
 ghost use Rattle.plant_types.specs.Names.{same_name};
 ghost use Rattle.plant_types.specs.declared.fault.Fault.TheVariants.{Memory};
@@ -24,7 +24,7 @@ use plant_model::{
     BandRow, Call, CellRow, ChangeEntry, Counted, GrantRow, RecordEntry, Request, UnitPart,
     UnitRow, UnitRows,
 };
-use plant_types::{Duplicate, Fault, Person, Table, duplicated};
+use plant_types::{Duplicate, Fault, List, Person, duplicated};
 use std::alloc::Global;
 use std::collections::BTreeSet;
 
@@ -38,7 +38,7 @@ pub fn rows_but_events(alloc: Global, rows: &UnitRows) -> Result<UnitRows, Fault
         grants: rows.grants.duplicate(alloc)?,
         alarms: rows.alarms.duplicate(alloc)?,
         shelves: rows.shelves.duplicate(alloc)?,
-        events: Table::new(alloc),
+        events: List::new(alloc),
         bands: rows.bands.duplicate(alloc)?,
         cells: rows.cells.duplicate(alloc)?,
         records: rows.records.duplicate(alloc)?,
@@ -52,12 +52,12 @@ fn grants_asked(
     rows: &UnitRows,
     person: &Person,
     scope: Scope<'_>,
-) -> Result<Table<GrantRow>, Fault>
+) -> Result<List<GrantRow>, Fault>
     ensures value { IfOk result (λ asked. asked ≡ filter (λ g. same_name person.now g.person || (selection_by rows.now scope.entry).pair (pair_of g)) rows.now.grants) }
     ensures memory { IfErr result (λ e. e ≡ Memory) }
 {
     let all = wants_all_grants(scope);
-    let mut asked = Table::new(alloc);
+    let mut asked = List::new(alloc);
     for grant in rows.grants.as_slice() {
         if *person == grant.person || all {
             asked.push(grant.duplicate(alloc)?)?;
@@ -69,14 +69,14 @@ fn grants_asked(
 /// The events that are wanted, of all in rising number.
 pub fn events_asked(
     alloc: Global,
-    events: &Table<Event>,
+    events: &List<Event>,
     wanted: WantedEvents<'_>,
-) -> Result<Table<Event>, Fault>
+) -> Result<List<Event>, Fault>
     ensures value { IsInOrder nat_cmp event_number events.now → IfOk result (λ asked. asked ≡ events_wanted wanted.entry events.now) }
     ensures memory { IfErr result (λ e. e ≡ Memory) }
 {
     match wanted {
-        WantedEvents::Nothing => Ok(Table::new(alloc)),
+        WantedEvents::Nothing => Ok(List::new(alloc)),
         WantedEvents::Beside(rows) => duplicated(alloc, needed(alloc, events.as_slice(), rows)?),
         WantedEvents::Every => events.duplicate(alloc),
     }
@@ -108,11 +108,11 @@ fn wants_some_matrix(scope: Scope<'_>) -> bool
 }
 
 /// The limits of the matrices that the scope takes in.
-fn bands_asked(alloc: Global, rows: &UnitRows, scope: Scope<'_>) -> Result<Table<BandRow>, Fault>
+fn bands_asked(alloc: Global, rows: &UnitRows, scope: Scope<'_>) -> Result<List<BandRow>, Fault>
     ensures value { IfOk result (λ asked. asked ≡ filter (λ r. (selection_by rows.now scope.entry).matrix r.matrix_no) rows.now.bands) }
     ensures memory { IfErr result (λ e. e ≡ Memory) }
 {
-    let mut asked = Table::new(alloc);
+    let mut asked = List::new(alloc);
     if !wants_some_matrix(scope) {
         return Ok(asked);
     }
@@ -125,11 +125,11 @@ fn bands_asked(alloc: Global, rows: &UnitRows, scope: Scope<'_>) -> Result<Table
 }
 
 /// The cells of the matrices that the scope takes in.
-fn cells_asked(alloc: Global, rows: &UnitRows, scope: Scope<'_>) -> Result<Table<CellRow>, Fault>
+fn cells_asked(alloc: Global, rows: &UnitRows, scope: Scope<'_>) -> Result<List<CellRow>, Fault>
     ensures value { IfOk result (λ asked. asked ≡ filter (λ r. (selection_by rows.now scope.entry).matrix r.matrix_no) rows.now.cells) }
     ensures memory { IfErr result (λ e. e ≡ Memory) }
 {
-    let mut asked = Table::new(alloc);
+    let mut asked = List::new(alloc);
     if !wants_some_matrix(scope) {
         return Ok(asked);
     }
@@ -184,7 +184,7 @@ fn changes_asked(
     alloc: Global,
     rows: &UnitRows,
     scope: Scope<'_>,
-) -> Result<Table<ChangeEntry>, Fault>
+) -> Result<List<ChangeEntry>, Fault>
     ensures value { IsInOrder nat_cmp change_number rows.now.changes → IfOk result (λ asked. asked ≡ filter (λ r. (selection_by rows.now scope.entry).change r.number) rows.now.changes) }
     ensures memory { IfErr result (λ e. e ≡ Memory) }
 {
@@ -279,13 +279,13 @@ fn part_of_holder(alloc: Global, rows: &UnitRows, call: &Call) -> Result<UnitPar
 /// The caller's grants.
 fn own_grants(
     alloc: Global,
-    grants: &Table<GrantRow>,
+    grants: &List<GrantRow>,
     person: &Person,
-) -> Result<Table<GrantRow>, Fault>
+) -> Result<List<GrantRow>, Fault>
     ensures value { IfOk result (λ own. own ≡ filter (λ g. same_name person.now g.person) grants.now) }
     ensures memory { IfErr result (λ e. e ≡ Memory) }
 {
-    let mut own = Table::new(alloc);
+    let mut own = List::new(alloc);
     for grant in grants.as_slice() {
         if *person == grant.person {
             own.push(grant.duplicate(alloc)?)?;
@@ -295,7 +295,7 @@ fn own_grants(
 }
 
 /// A part of the unit's own row and the caller's grants, and of nothing else.
-pub fn part_of_grants(alloc: Global, units: Table<UnitRow>, grants: Table<GrantRow>) -> UnitPart
+pub fn part_of_grants(alloc: Global, units: List<UnitRow>, grants: List<GrantRow>) -> UnitPart
     ensures rows { result.rows ≡ record no_rows { units = units; grants = grants } }
     ensures count { result.count ≡ 0 }
 {
@@ -303,13 +303,13 @@ pub fn part_of_grants(alloc: Global, units: Table<UnitRow>, grants: Table<GrantR
         rows: UnitRows {
             units,
             grants,
-            alarms: Table::new(alloc),
-            shelves: Table::new(alloc),
-            events: Table::new(alloc),
-            bands: Table::new(alloc),
-            cells: Table::new(alloc),
-            records: Table::new(alloc),
-            changes: Table::new(alloc),
+            alarms: List::new(alloc),
+            shelves: List::new(alloc),
+            events: List::new(alloc),
+            bands: List::new(alloc),
+            cells: List::new(alloc),
+            records: List::new(alloc),
+            changes: List::new(alloc),
         },
         count: 0,
     }

@@ -8,36 +8,36 @@ use crate::opened::{
     shelves_held, units_held,
 };
 use plant_alarm::Event;
-use plant_model::{Call, Change, UnitPart, UnitRows};
-use plant_types::{Fault, Moment, Person, Table, UnitCode};
+use plant_model::{Call, RowEdit, UnitPart, UnitRows};
+use plant_types::{Fault, List, Moment, Person, UnitCode};
 use std::alloc::Global;
 
 /// A keeper of books in lists, in the order of the units' codes.
 #[derive(Drop)]
 pub struct Plain {
     administrator: Person,
-    units: Table<OpenedUnit>,
+    units: List<OpenedUnit>,
     alloc: Global,
 }
 
 impl Plain {
     /// Books with no unit. It takes no memory.
     pub fn new(alloc: Global, administrator: Person) -> Plain
-        ensures holds { ⟦<Plain as Books>⟧.holds result (no_units administrator) }
+        ensures represents { ⟦<Plain as Books>⟧.represents result (no_units administrator) }
         ensures stores { ⟦<Plain as Books>⟧.stores result ≡ 0 }
     {
         Plain {
             administrator,
-            units: Table::new(alloc),
+            units: List::new(alloc),
             alloc,
         }
     }
 }
 
 impl Books for Plain {
-    ghost holds = { λ t m. IsListed t.administrator t.units m };
+    ghost represents = { λ t m. IsListed t.administrator t.units m };
 
-    ghost can_tell = { λ _. ⊤ };
+    ghost is_honest = { λ _. ⊤ };
 
     ghost stores = { λ _. 0 };
 
@@ -57,7 +57,7 @@ impl Books for Plain {
         copy_but_events(self.alloc, &self.units, unit)
     }
 
-    fn events(&mut self, unit: &UnitCode) -> Result<Table<Event>, Fault> {
+    fn events(&mut self, unit: &UnitCode) -> Result<List<Event>, Fault> {
         events_of(self.alloc, &self.units, unit)
     }
 
@@ -68,19 +68,19 @@ impl Books for Plain {
         part_at(self.alloc, &self.units, unit, call)
     }
 
-    fn held(&mut self, person: &Person, now: Moment) -> Result<Table<UnitCode>, Fault> {
+    fn held(&mut self, person: &Person, now: Moment) -> Result<List<UnitCode>, Fault> {
         codes_held(self.alloc, &self.units, person, now)
     }
 
-    fn mine_units(&mut self, person: &Person, now: Moment) -> Result<Table<MineUnit>, Fault> {
+    fn mine_units(&mut self, person: &Person, now: Moment) -> Result<List<MineUnit>, Fault> {
         units_held(self.alloc, &self.units, person, now)
     }
 
-    fn mine_shelves(&mut self, person: &Person, now: Moment) -> Result<Table<MineShelf>, Fault> {
+    fn mine_shelves(&mut self, person: &Person, now: Moment) -> Result<List<MineShelf>, Fault> {
         shelves_held(self.alloc, &self.units, person, now)
     }
 
-    fn apply(&mut self, unit: &UnitCode, changes: &Table<Change>) -> Result<(), Fault> {
+    fn apply(&mut self, unit: &UnitCode, changes: &List<RowEdit>) -> Result<(), Fault> {
         change_unit(self.alloc, &mut self.units, unit, changes)
     }
 }

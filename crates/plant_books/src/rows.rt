@@ -6,7 +6,7 @@ ghost use Rattle.plant_model.specs.RowFacts.{alarm_tag, band_key, cell_key, chan
 ghost use Rattle.plant_books.specs.Order.{AreInOrder};
 ghost use Rattle.plant_types.specs.Names.{name_cmp};
 ghost use Rattle.plant_types.specs.Roles.{pair_cmp};
-ghost use Rattle.plant_types.specs.Tables.{IsInOrder};
+ghost use Rattle.plant_types.specs.KeyedRows.{IsInOrder};
 
 use crate::keyed::Keyed;
 use plant_alarm::Event;

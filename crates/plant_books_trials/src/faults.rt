@@ -2,8 +2,8 @@
 
 use crate::fixtures::{code, later, opening, plain, rationale};
 use plant_books::{Books, Plain};
-use plant_model::{AlarmRow, Change, ChangeEntry, GrantRow, RecordEntry, ShelfRow, UnitRows};
-use plant_types::{Fault, Table, UnitCode};
+use plant_model::{AlarmRow, ChangeEntry, GrantRow, RecordEntry, RowEdit, ShelfRow, UnitRows};
+use plant_types::{Fault, List, UnitCode};
 use std::alloc::Global;
 use std::process::Abort;
 
@@ -42,7 +42,7 @@ impl Same for ChangeEntry {
     }
 }
 
-fn are_same<T: Same>(some: &Table<T>, other: &Table<T>) -> bool {
+fn are_same<T: Same>(some: &List<T>, other: &List<T>) -> bool {
     if some.len() != other.len() {
         return false;
     }
@@ -87,7 +87,7 @@ fn apply_through_faults(
     rt: &(impl Abort + Eprint),
     books: &mut Plain,
     unit: &UnitCode,
-    changes: &Table<Change>,
+    changes: &List<RowEdit>,
 ) -> Result<(), Fault> {
     let before = books.rows(unit)?;
     if books.apply(unit, changes).is_err() {

@@ -4,11 +4,11 @@
 use plant_alarm::AlarmState;
 use plant_books::{Books, Plain};
 use plant_model::{
-    AlarmRow, BandRow, CellRow, Change, ChangeEntry, ChangeTopic, GrantRow, Key, RecordEntry, Row,
+    AlarmRow, BandRow, CellRow, ChangeEntry, ChangeTopic, GrantRow, Key, RecordEntry, Row, RowEdit,
     ShelfRow, UnitRow, UnitRows,
 };
 use plant_ration::{Cell, ChangeState};
-use plant_types::{Fault, Moment, Person, Quota, Role, Seconds, Table, Tag, UnitCode, Words};
+use plant_types::{Fault, List, Moment, Person, Quota, Role, Seconds, Tag, UnitCode, Words};
 use std::alloc::Global;
 use std::process::Abort;
 
@@ -103,14 +103,14 @@ fn shelf(rt: &impl Abort, alloc: Global, name: &[u8]) -> Result<Row, Fault> {
     Ok(timed(rt, tag, ann, words(rt, alloc, b"pump test")?))
 }
 
-fn push(changes: &mut Table<Change>, row: Row) -> Result<(), Fault> {
-    changes.push(Change::Put(row))
+fn push(changes: &mut List<RowEdit>, row: Row) -> Result<(), Fault> {
+    changes.push(RowEdit::Put(row))
 }
 
 fn push_alarm(
     rt: &impl Abort,
     alloc: Global,
-    changes: &mut Table<Change>,
+    changes: &mut List<RowEdit>,
     name: &[u8],
     max: u64,
 ) -> Result<(), Fault> {
@@ -120,7 +120,7 @@ fn push_alarm(
 pub(crate) fn push_grant(
     rt: &impl Abort,
     alloc: Global,
-    changes: &mut Table<Change>,
+    changes: &mut List<RowEdit>,
     name: &[u8],
     role: Role,
     end: Option<u64>,
@@ -130,13 +130,13 @@ pub(crate) fn push_grant(
 
 pub(crate) fn push_own(
     rt: &impl Abort,
-    changes: &mut Table<Change>,
+    changes: &mut List<RowEdit>,
     last: u64,
 ) -> Result<(), Fault> {
     push(changes, own_row(rt, last, 20))
 }
 
-fn push_band(changes: &mut Table<Change>, matrix_no: u32, limit_s: u64) -> Result<(), Fault> {
+fn push_band(changes: &mut List<RowEdit>, matrix_no: u32, limit_s: u64) -> Result<(), Fault> {
     let band_no = 1;
     push(
         changes,
@@ -151,7 +151,7 @@ fn push_band(changes: &mut Table<Change>, matrix_no: u32, limit_s: u64) -> Resul
 /// Severities and bands with their cells.
 const CELLS: [(u8, u8, Cell); 3] = [(1, 1, Cell::P3), (2, 2, Cell::P2), (1, 2, Cell::P4)];
 
-fn push_cells(changes: &mut Table<Change>) -> Result<(), Fault> {
+fn push_cells(changes: &mut List<RowEdit>) -> Result<(), Fault> {
     for (severity, band_no, cell_no) in CELLS.iter() {
         let row = CellRow {
             matrix_no: 0,
@@ -164,7 +164,7 @@ fn push_cells(changes: &mut Table<Change>) -> Result<(), Fault> {
     Ok(())
 }
 
-fn push_opening(rt: &impl Abort, alloc: Global, changes: &mut Table<Change>) -> Result<(), Fault> {
+fn push_opening(rt: &impl Abort, alloc: Global, changes: &mut List<RowEdit>) -> Result<(), Fault> {
     push_own(rt, changes, 100)?;
     push_grant(rt, alloc, changes, b"ste", Role::Steward, None)?;
     push_grant(rt, alloc, changes, b"ann", Role::Operator, Some(500))?;
@@ -175,30 +175,30 @@ fn push_opening(rt: &impl Abort, alloc: Global, changes: &mut Table<Change>) -> 
 }
 
 /// The rows of an opening: grants to `ste` and, until 500, to `ann`, two alarms, a band and cells.
-pub(crate) fn opening(rt: &impl Abort, alloc: Global) -> Result<Table<Change>, Fault> {
-    let mut changes = Table::new(alloc);
+pub(crate) fn opening(rt: &impl Abort, alloc: Global) -> Result<List<RowEdit>, Fault> {
+    let mut changes = List::new(alloc);
     push_opening(rt, alloc, &mut changes)?;
     Ok(changes)
 }
 
-fn push_later(rt: &impl Abort, alloc: Global, changes: &mut Table<Change>) -> Result<(), Fault> {
+fn push_later(rt: &impl Abort, alloc: Global, changes: &mut List<RowEdit>) -> Result<(), Fault> {
     push(changes, shelf(rt, alloc, b"PT-101")?)?;
     push(changes, shelf(rt, alloc, b"LT-2")?)?;
     push_alarm(rt, alloc, changes, b"LT-2", 60)?;
     let ann = person(rt, alloc, b"ann")?;
-    changes.push(Change::Remove(Key::Grant(ann, Role::Operator)))
+    changes.push(RowEdit::Remove(Key::Grant(ann, Role::Operator)))
 }
 
 /// A shelf of LT-2 and one of PT-101, a new limit of LT-2, and no grant to `ann`.
-pub(crate) fn later(rt: &impl Abort, alloc: Global) -> Result<Table<Change>, Fault> {
-    let mut changes = Table::new(alloc);
+pub(crate) fn later(rt: &impl Abort, alloc: Global) -> Result<List<RowEdit>, Fault> {
+    let mut changes = List::new(alloc);
     push_later(rt, alloc, &mut changes)?;
     Ok(changes)
 }
 
 /// A quota of two shelves.
-pub(crate) fn small_quota(rt: &impl Abort, alloc: Global) -> Result<Table<Change>, Fault> {
-    let mut changes = Table::new(alloc);
+pub(crate) fn small_quota(rt: &impl Abort, alloc: Global) -> Result<List<RowEdit>, Fault> {
+    let mut changes = List::new(alloc);
     push(&mut changes, own_row(rt, 150, 2))?;
     Ok(changes)
 }
@@ -231,7 +231,7 @@ const TOPICS: [(u32, ChangeTopic); 4] = [
     (1, ChangeTopic::Record),
 ];
 
-fn push_entries(rt: &impl Abort, alloc: Global, changes: &mut Table<Change>) -> Result<(), Fault> {
+fn push_entries(rt: &impl Abort, alloc: Global, changes: &mut List<RowEdit>) -> Result<(), Fault> {
     for (number, topic) in TOPICS.iter() {
         let ann = person(rt, alloc, b"ann")?;
         push(changes, entry(rt, ann, *number, *topic))?;
@@ -243,7 +243,7 @@ fn push_entries(rt: &impl Abort, alloc: Global, changes: &mut Table<Change>) -> 
 fn push_record(
     rt: &impl Abort,
     alloc: Global,
-    changes: &mut Table<Change>,
+    changes: &mut List<RowEdit>,
     name: &[u8],
     change_no: u32,
 ) -> Result<(), Fault> {
@@ -259,7 +259,7 @@ fn push_record(
 fn push_rationale(
     rt: &impl Abort,
     alloc: Global,
-    changes: &mut Table<Change>,
+    changes: &mut List<RowEdit>,
 ) -> Result<(), Fault> {
     push_entries(rt, alloc, changes)?;
     push_record(rt, alloc, changes, b"PT-101", 4)?;
@@ -268,8 +268,8 @@ fn push_rationale(
 }
 
 /// Changes 1 to 4 (3 is of the matrix with a limit), and records from 1 and 4.
-pub(crate) fn rationale(rt: &impl Abort, alloc: Global) -> Result<Table<Change>, Fault> {
-    let mut changes = Table::new(alloc);
+pub(crate) fn rationale(rt: &impl Abort, alloc: Global) -> Result<List<RowEdit>, Fault> {
+    let mut changes = List::new(alloc);
     push_rationale(rt, alloc, &mut changes)?;
     Ok(changes)
 }
@@ -284,7 +284,7 @@ pub(crate) fn put(
     alloc: Global,
     books: &mut Plain,
     unit: &[u8],
-    changes: &Table<Change>,
+    changes: &List<RowEdit>,
 ) {
     let unit = code(rt, alloc, unit).expect(rt, "memory");
     books.apply(&unit, changes).expect(rt, "memory");

@@ -5,9 +5,9 @@ use crate::fixtures::{
     tag,
 };
 use plant_books::{Books, MineUnit, Plain};
-use plant_model::{AlarmRow, CellRow, Change, ChangeEntry, Key, RecordEntry};
+use plant_model::{AlarmRow, CellRow, ChangeEntry, Key, RecordEntry, RowEdit};
 use plant_ration::Cell;
-use plant_types::{Duplicate, Fault, Role, Table, UnitCode};
+use plant_types::{Duplicate, Fault, List, Role, UnitCode};
 use std::alloc::Global;
 use std::process::Abort;
 
@@ -96,14 +96,14 @@ fn changes_the_rows_of_one_unit(rt: HostRuntime) {
 }
 
 /// The shelf of LT-2 goes.
-fn removal(rt: &impl Abort, alloc: Global) -> Result<Table<Change>, Fault> {
+fn removal(rt: &impl Abort, alloc: Global) -> Result<List<RowEdit>, Fault> {
     let key = Key::Shelf(tag(rt, alloc, b"LT-2")?);
-    let mut changes = Table::new(alloc);
-    changes.push(Change::Remove(key))?;
+    let mut changes = List::new(alloc);
+    changes.push(RowEdit::Remove(key))?;
     Ok(changes)
 }
 
-fn copy(rt: &impl Abort, alloc: Global, changes: &Table<Change>) -> Table<Change> {
+fn copy(rt: &impl Abort, alloc: Global, changes: &List<RowEdit>) -> List<RowEdit> {
     changes.duplicate(alloc).expect(rt, "memory")
 }
 
@@ -120,7 +120,7 @@ fn removes_a_shelf(rt: HostRuntime) {
 }
 
 /// The units in which `ann` holds a role.
-fn held_by_ann(rt: &impl Abort, alloc: Global, now: u64) -> Table<UnitCode> {
+fn held_by_ann(rt: &impl Abort, alloc: Global, now: u64) -> List<UnitCode> {
     let mut books = opened(rt, alloc);
     let ann = person(rt, alloc, b"ann").expect(rt, "memory");
     books.held(&ann, at(rt, now)).expect(rt, "memory")
@@ -137,15 +137,15 @@ fn tells_in_which_units_a_person_holds_a_role(rt: HostRuntime) {
 }
 
 /// A later moment of the unit, and a grant to `ste` until 500.
-fn viewing(rt: &impl Abort, alloc: Global) -> Result<Table<Change>, Fault> {
-    let mut changes = Table::new(alloc);
+fn viewing(rt: &impl Abort, alloc: Global) -> Result<List<RowEdit>, Fault> {
+    let mut changes = List::new(alloc);
     push_own(rt, &mut changes, 150)?;
     push_grant(rt, alloc, &mut changes, b"ste", Role::Viewer, Some(500))?;
     Ok(changes)
 }
 
 /// The units of `ste`, who has a second role in U2.
-fn units_of_ste(rt: &impl Abort, alloc: Global) -> Table<MineUnit> {
+fn units_of_ste(rt: &impl Abort, alloc: Global) -> List<MineUnit> {
     let mut books = opened(rt, alloc);
     let viewing = viewing(rt, alloc).expect(rt, "memory");
     put(rt, alloc, &mut books, b"U2", &viewing);

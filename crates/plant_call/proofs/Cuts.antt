@@ -1,11 +1,12 @@
 -- What the front shows doesn't change when more bytes come, unless it waits.
+use Rattle.plant_types.specs.Limits.{max_head}
 use Rattle.std.proofs.Common.{◌≡◌, ◌≢◌, ◌⊎◌, ℕ, zero, suc, ◌+◌, ◌<◌, ◌≤◌, List, [], ◌∷◌, ◌++◌, length, take, drop, Result, Ok, Err, Bool, true, false, cond, refl, sym, ap, subst, ◌∙◌, inl, inr, arith, append_assoc, append-nil, length-append, length-drop, ltb}
 use Rattle.std.proofs.lemmas.List.{take-append-le, drop-append-le, length-take}
 use Rattle.std.proofs.lemmas.Bool.{ltb-false, le-ltb}
 use Rattle.httparse.specs.Grammar.{RequestHead, print_request, ReadsRequest, NeverHasRequest, HasNoRequest, MayBecomeRequest, EndsInTarget}
 use Rattle.httparse.proofs.GrammarLemmas.{ReadsRequest-append, request_unique}
 use Rattle.plant_head.proofs.Room.{head_length}
-use Rattle.plant_head.specs.Head.{head_limit, front, BeginsWith, IsHopeless, IsUnfinished}
+use Rattle.plant_head.specs.Head.{front, BeginsWith, IsHopeless, IsUnfinished}
 use Rattle.plant_call.specs.Front.{Item, Front, waits, whole, broken, with_length, of_head, IsFront, Parses}
 use Rattle.plant_call.specs.declared.causes.Cause.{Cause}
 use Rattle.plant_call.specs.declared.causes.Cause.TheVariants.{HeadTooLong}
@@ -17,10 +18,10 @@ take_front (suc n) [] ys = (take (suc n) ys, refl)
 take_front (suc n) (x ∷ xs) ys = let r = take_front n xs ys in (r.0, ap (λ (t : List ℕ). x ∷ t) r.1)
 
 pub front-append : (bytes more : List ℕ) → (m : List ℕ) × (front (bytes ++ more) ≡ front bytes ++ m)
-front-append bytes more = take_front head_limit bytes more
+front-append bytes more = take_front max_head bytes more
 
-pub front_full : (bytes more : List ℕ) → head_limit ≤ length bytes → front (bytes ++ more) ≡ front bytes
-front_full bytes more long = take-append-le head_limit bytes more long
+pub front_full : (bytes more : List ℕ) → max_head ≤ length bytes → front (bytes ++ more) ≡ front bytes
+front_full bytes more long = take-append-le max_head bytes more long
 
 pub begins-append : (bytes more : List ℕ) (head : RequestHead) → BeginsWith bytes head → BeginsWith (bytes ++ more) head
 begins-append bytes more head (rest, reads) =
@@ -33,7 +34,7 @@ hopeless-append bytes more never =
     subst (λ (x : List ℕ). NeverHasRequest x) (sym m.1)
     (λ later. subst (λ (x : List ℕ). HasNoRequest x) (sym (append_assoc (front bytes) m.0 later)) (never (m.0 ++ later)))
 
-pub unfinished_full : (bytes more : List ℕ) → head_limit ≤ length bytes → IsUnfinished bytes → IsUnfinished (bytes ++ more)
+pub unfinished_full : (bytes more : List ℕ) → max_head ≤ length bytes → IsUnfinished bytes → IsUnfinished (bytes ++ more)
 unfinished_full bytes more long open_still =
     let e = sym (front_full bytes more long) in
     record {
@@ -45,7 +46,7 @@ unfinished_full bytes more long open_still =
 pub head_fits : (bytes : List ℕ) (head : RequestHead) → BeginsWith bytes head → length (print_request head) ≤ length bytes
 head_fits bytes head (rest, reads) =
     let a = ap length reads.1 in
-    omega (arith, length-append (print_request head) rest, length-take head_limit bytes)
+    omega (arith, length-append (print_request head) rest, length-take max_head bytes)
 
 -- no continuation is a head, and the parser may not have seen it: the target is still being read
 pub target_open : (bytes : List ℕ) → IsHopeless bytes → MayBecomeRequest (front bytes) → EndsInTarget (front bytes)
@@ -79,14 +80,14 @@ module _ (body_length : RequestHead → Result ℕ Cause) (item_of : RequestHead
       let stays = of_head-append head (drop n bytes) more (λ w. ready (is ∙ w)) in
       inl (head, begins-append bytes more head begins, is ∙ sym stays ∙ ap (of_head body_length item_of head) (sym e))
   front-stays bytes more f ready (inr (inl (never, is))) = inr (inl (hopeless-append bytes more never, is))
-  front-stays bytes more f ready (inr (inr (open_still, is))) = go (ltb (length bytes) head_limit) refl
+  front-stays bytes more f ready (inr (inr (open_still, is))) = go (ltb (length bytes) max_head) refl
     where
-      go : (b : Bool) → ltb (length bytes) head_limit ≡ b → IsFront body_length item_of (bytes ++ more) f
+      go : (b : Bool) → ltb (length bytes) max_head ≡ b → IsFront body_length item_of (bytes ++ more) f
       go true e = absurd (ready (is ∙ rw e refl))
       go false e =
-          let long : head_limit ≤ length bytes = ltb-false (length bytes) head_limit e in
-          let longer : head_limit ≤ length (bytes ++ more) = omega (arith, length-append bytes more) in
-          inr (inr (unfinished_full bytes more long open_still, is ∙ rw (e, le-ltb (length (bytes ++ more)) head_limit longer) refl))
+          let long : max_head ≤ length bytes = ltb-false (length bytes) max_head e in
+          let longer : max_head ≤ length (bytes ++ more) = omega (arith, length-append bytes more) in
+          inr (inr (unfinished_full bytes more long open_still, is ∙ rw (e, le-ltb (length (bytes ++ more)) max_head longer) refl))
 
   whole_length : (r : Result ℕ Cause) (head : RequestHead) (after : List ℕ) (x : Item) (n : ℕ) → whole x n ≡ with_length body_length item_of r head after
       → n ≤ length (print_request head) + length after
@@ -110,7 +111,7 @@ module _ (body_length : RequestHead → Result ℕ Cause) (item_of : RequestHead
       let b = head_fits bytes head begins in
       omega (arith, length-drop (length (print_request head)) bytes)
   whole_fits bytes x n (inr (inl (never, is))) = cc
-  whole_fits bytes x n (inr (inr (open_still, is))) = go (ltb (length bytes) head_limit) is
+  whole_fits bytes x n (inr (inr (open_still, is))) = go (ltb (length bytes) max_head) is
     where
       go : (b : Bool) → whole x n ≡ cond b waits (broken HeadTooLong) → n ≤ length bytes
       go true e = cc
@@ -168,7 +169,7 @@ module _ (body_length : RequestHead → Result ℕ Cause) (item_of : RequestHead
       let b = head_length head begins.1.0 in
       omega arith
   whole_positive bytes x n (inr (inl (never, is))) = cc
-  whole_positive bytes x n (inr (inr (open_still, is))) = go (ltb (length bytes) head_limit) is
+  whole_positive bytes x n (inr (inr (open_still, is))) = go (ltb (length bytes) max_head) is
     where
       go : (b : Bool) → whole x n ≡ cond b waits (broken HeadTooLong) → 0 < n
       go true e = cc

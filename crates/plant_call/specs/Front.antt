@@ -1,7 +1,8 @@
 -- What stands at the front of a stream of requests: a definition over the bytes alone.
+use Rattle.plant_types.specs.Limits.{max_head}
 use Rattle.std.specs.Prelude.{◌≡◌, ◌⊎◌, ℕ, ◌+◌, List, [], ◌∷◌, length, take, drop, Result, Ok, Err, nat_lt, if◌then◌else◌}
 use Rattle.httparse.specs.Grammar.{RequestHead, EndsInTarget, print_request}
-use Rattle.plant_head.specs.Head.{head_limit, front, BeginsWith, IsHopeless, IsUnfinished}
+use Rattle.plant_head.specs.Head.{front, BeginsWith, IsHopeless, IsUnfinished}
 use Rattle.plant_head.specs.Fields.{fields_of}
 use Rattle.plant_model.specs.declared.call.Call.{Call}
 use Rattle.plant_call.specs.Lengths.{body_length_in}
@@ -35,7 +36,7 @@ module _ (body_length : RequestHead → Result ℕ Cause) (item_of : RequestHead
   IsFront bytes front =
       ((head : RequestHead) × BeginsWith bytes head × (front ≡ of_head head (drop (length (print_request head)) bytes)))
       ⊎ ((IsHopeless bytes × (front ≡ broken HeadSyntax))
-      ⊎ (IsUnfinished bytes × (front ≡ (if nat_lt (length bytes) head_limit then waits else broken HeadTooLong))))
+      ⊎ (IsUnfinished bytes × (front ≡ (if nat_lt (length bytes) max_head then waits else broken HeadTooLong))))
 
   -- the items that are taken from the front one after another, and what is left
   abbrev pub Parses : List ℕ → List Item → List ℕ → Type 0

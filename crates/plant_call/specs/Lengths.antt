@@ -1,4 +1,5 @@
 -- How long the body is, by the fields.
+use Rattle.plant_types.specs.Limits.{max_body}
 use Rattle.std.specs.Prelude.{ℕ, List, [], ◌∷◌, length, codes, Result, Ok, Err, Bool, ◌&&◌, nat_lt, if◌then◌else◌, not}
 use Rattle.std.specs.List.{list_all}
 use Rattle.std.specs.Char.{is_ascii_digit}
@@ -8,16 +9,13 @@ use Rattle.plant_call.specs.Causes.{◌>>=◌}
 use Rattle.plant_call.specs.declared.causes.Cause.{Cause}
 use Rattle.plant_call.specs.declared.causes.Cause.TheVariants.{LengthWrong, BodyTooLong, Chunked}
 
-abbrev pub body_limit : ℕ
-body_limit = 1048576
-
 abbrev pub is_numeral : List ℕ → Bool
 is_numeral text = nat_lt 0 (length text) && list_all is_ascii_digit text
 
 abbrev pub length_in : List ℕ → Result ℕ Cause
 length_in text =
     if not (is_numeral text) then Err LengthWrong
-    else (if nat_lt body_limit (digits_value 10 text) then Err BodyTooLong else Ok (digits_value 10 text))
+    else (if nat_lt max_body (digits_value 10 text) then Err BodyTooLong else Ok (digits_value 10 text))
 
 -- no field says 0
 abbrev pub length_said : List (List ℕ) → Result ℕ Cause

@@ -11,6 +11,7 @@ use httparse::spans::{HeaderSpan, RequestSpans};
 use plant_head::{FieldRoom, Heading, front_of, read_head};
 use plant_model::Call;
 use plant_route::Routes;
+use plant_types::limits::MAX_HEAD;
 use std::alloc::Global;
 
 /// What stands at the front of a buffer.
@@ -46,7 +47,7 @@ fn look_at(
     after: &[u8],
 ) -> Look
     requires within { IsRequestWithin front.now headers.now spans }
-    requires short { length front.now ≤ 16384 }
+    requires short { length front.now ≤ MAX_HEAD }
     ensures shows { (head : RequestHead) → IsRequestAt front.now headers.now spans head → Shows result.cut (answer_to head after.now) }
     ensures wants { (head : RequestHead) → IsRequestAt front.now headers.now spans head → 0 < result.wanted → IsLengthOf head result.wanted }
 {

@@ -8,8 +8,7 @@ ghost use Rattle.plant_call.specs.Lengths.{is_numeral, length_in, body_length_in
 use crate::causes::Cause;
 use httparse::spans::HeaderSpan;
 use plant_head::{Lookup, field};
-
-pub(crate) const BODY_LIMIT: usize = 1048576;
+use plant_types::limits::MAX_BODY;
 
 fn has_digits(text: &[u8]) -> bool
     ensures { result ≡ list_all is_ascii_digit text.now }
@@ -27,11 +26,11 @@ pub(crate) fn is_numeral(text: &[u8]) -> bool
 /// The number, or one more than the limit where it is above that.
 pub(crate) fn capped_value(text: &[u8]) -> usize
     requires { IsTrue (list_all is_ascii_digit text.now) }
-    ensures { result ≡ min (digits_value 10 text.now) (BODY_LIMIT + 1) }
+    ensures { result ≡ min (digits_value 10 text.now) (MAX_BODY + 1) }
 {
     let mut value = 0;
     for b in text {
-        value = (value * 10 + (*b - b'0') as usize).min(BODY_LIMIT + 1);
+        value = (value * 10 + (*b - b'0') as usize).min(MAX_BODY + 1);
     }
     value
 }
@@ -43,7 +42,7 @@ fn length_in(text: &[u8]) -> Result<usize, Cause>
         return Err(Cause::LengthWrong);
     }
     let value = capped_value(text);
-    if value > BODY_LIMIT {
+    if value > MAX_BODY {
         Err(Cause::BodyTooLong)
     } else {
         Ok(value)
@@ -54,7 +53,7 @@ fn length_in(text: &[u8]) -> Result<usize, Cause>
 pub(crate) fn body_length(front: &[u8], headers: &[HeaderSpan]) -> Result<usize, Cause>
     requires { All (IsHeaderWithin (length front.now)) headers.now }
     ensures value { result ≡ body_length_in (map (header_bytes front.now) headers.now) }
-    ensures bound { IfOk result (λ n. n ≤ BODY_LIMIT) }
+    ensures bound { IfOk result (λ n. n ≤ MAX_BODY) }
 {
     let said = match field(front, headers, b"content-length") {
         Lookup::Missing => 0,

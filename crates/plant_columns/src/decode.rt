@@ -14,7 +14,7 @@ use plant_model::{
     AlarmRow, BandRow, CellRow, ChangeEntry, ChangeTopic, GrantRow, RecordEntry, ShelfRow, UnitRow,
 };
 use plant_ration::{Cell, ChangeState};
-use plant_types::{Alphabet, Moment, Quota, Role, Seconds, Table, Text};
+use plant_types::{Alphabet, List, Moment, Quota, Role, Seconds, Text};
 use sqlite::types::{Type, ValueRef};
 use sqlite::{Error, ErrorCode, Row};
 use std::alloc::Global;
@@ -421,10 +421,10 @@ impl Shown for ChangeEntry {
 }
 
 /// All rows that a query showed.
-pub fn read_all<T: Shown>(alloc: Global, rows: &[Row]) -> Result<Table<T>, Error>
+pub fn read_all<T: Shown>(alloc: Global, rows: &[Row]) -> Result<List<T>, Error>
     ensures { IfOk result (λ t. map (columns T.width) rows.now ≡ map T.cells t) }
 {
-    let mut table = Table::new(alloc);
+    let mut table = List::new(alloc);
     for row in rows {
         let read = T::from_row(alloc, row)?;
         if table.push(read).is_err() {

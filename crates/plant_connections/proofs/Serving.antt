@@ -63,5 +63,5 @@ pub ran_more : (held mid left : Content → Type 0) (tells_first tells : Type 0)
     → (calls : List Call) × (answers : List Answer) × Ran held tells_first mid before between calls answers
     → (calls : List Call) × (answers : List Answer) × Ran mid tells left between after calls answers
     → (calls : List Call) × (answers : List Answer) × Ran held tells left before after calls answers
-ran_more held mid left tells_first tells before between after told (cs, xs, first) (ds, ys, second) =
-    (cs ++ ds, xs ++ ys, (ran_joins held mid left tells_first tells before between after told).join cs ds xs ys first second)
+ran_more held mid left tells_first tells before between after honest (cs, xs, first) (ds, ys, second) =
+    (cs ++ ds, xs ++ ys, (ran_joins held mid left tells_first tells before between after honest).join cs ds xs ys first second)

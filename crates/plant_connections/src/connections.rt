@@ -42,8 +42,8 @@ fn serve_next<L: Listener, B: Books>(
     listener: &mut L,
     office: &mut Office<B>,
 ) -> Result<End, Failed>
-    ensures does { IfOk result (IsConnection (Ran (B.holds office.old.books) (B.can_tell office.new.books) (B.holds office.new.books) (B.stores office.old.books) (B.stores office.new.books))) }
-    ensures told { OnOk result (B.can_tell office.new.books → B.can_tell office.old.books) }
+    ensures does { IfOk result (IsConnection (Ran (B.represents office.old.books) (B.is_honest office.new.books) (B.represents office.new.books) (B.stores office.old.books) (B.stores office.new.books))) }
+    ensures honest { OnOk result (B.is_honest office.new.books → B.is_honest office.old.books) }
     ensures counted { OnOk result (L.accepted listener.new ≡ L.accepted listener.old + 1) }
     ensures ok { OnOk result (L.failures listener.new ≡ L.failures listener.old) }
     ensures unmade { OnErr result (office.new ≡ office.old) }
@@ -85,12 +85,12 @@ pub fn serve_connections<L: Listener, B: Books, W: Write>(
     office: &mut Office<B>,
     log: &mut W,
 ) -> Result<(), Failed>
-    ensures served { (ends : List End) × GoesThrough B.holds B.can_tell B.stores office.old.books ends office.new.books
+    ensures served { (ends : List End) × GoesThrough B.represents B.is_honest B.stores office.old.books ends office.new.books
         × Tells (W.contents log.old) ends (W.contents log.new)
         × (L.accepted listener.new ≡ L.accepted listener.old + length ends)
         × StopsAfter n (L.failures listener.old) (L.failures listener.new) (length ends) result }
-    ensures ran { (calls : List Call) × (answers : List Answer) × Ran (B.holds office.old.books) (B.can_tell office.new.books) (B.holds office.new.books) (B.stores office.old.books) (B.stores office.new.books) calls answers }
-    ensures told { B.can_tell office.new.books → B.can_tell office.old.books }
+    ensures ran { (calls : List Call) × (answers : List Answer) × Ran (B.represents office.old.books) (B.is_honest office.new.books) (B.represents office.new.books) (B.stores office.old.books) (B.stores office.new.books) calls answers }
+    ensures honest { B.is_honest office.new.books → B.is_honest office.old.books }
 {
     'connections: for count in 0..n {
         let end = serve_next(alloc, listener, office)?;

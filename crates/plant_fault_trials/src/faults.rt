@@ -3,13 +3,14 @@
 
 use plant_books::Plain;
 use plant_examples::{BASE, Exchanges, IMPORTED_TWICE, RECORDED, REVIEWED, STAFFED, THREE_ROWS};
-use plant_mirror::{Mirror, ROWS_AT_HAND};
+use plant_mirror::Mirror;
 use plant_model::{Answer, Call};
 use plant_office::{Books, Office};
 use plant_store::Tables;
 use plant_trials::{
     Calls, alike, all_alike, calls_of, hold_alike, lists, mirrored, run_all, served, tables,
 };
+use plant_types::limits::MAX_ROWS_AT_HAND;
 use plant_types::{Fault, UnitCode};
 use sqlite::MemStore;
 use std::process::Abort;
@@ -220,7 +221,7 @@ fn imports(rt: &(impl Abort + AllocGlobal)) -> Exchanges {
 
 /// These books with rows at hand.
 fn at_hand<B: Books + Drop>(rt: &(impl Abort + AllocGlobal), below: B) -> Mirror<B> {
-    mirrored(rt.alloc(), below, ROWS_AT_HAND).expect(rt, "books with rows at hand")
+    mirrored(rt.alloc(), below, MAX_ROWS_AT_HAND).expect(rt, "books with rows at hand")
 }
 
 /// Tables that had no call yet.

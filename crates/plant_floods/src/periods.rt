@@ -9,7 +9,7 @@ ghost use Rattle.plant_floods.specs.Activations.{AreActive, activations_of_all, 
 ghost use Rattle.plant_floods.specs.Activations as activations;
 
 use plant_alarm::{Event, EventKind};
-use plant_types::{Fault, Moment, Table, Tag};
+use plant_types::{Fault, List, Moment, Tag};
 use std::alloc::Global;
 use std::collections::BTreeSet;
 
@@ -38,12 +38,12 @@ fn is_activation(alloc: Global, active: &mut BTreeSet<Tag>, event: &Event) -> Re
 }
 
 /// The moments of the activations of all alarms. The events stand in rising number.
-pub fn activations(alloc: Global, events: &[Event]) -> Result<Table<Moment>, Fault>
+pub fn activations(alloc: Global, events: &[Event]) -> Result<List<Moment>, Fault>
     ensures value { IfOk result (λ moments. moments ≡ map (λ e. e.moment) (activations_of_all events.now)) }
     ensures err { IfErr result (λ e. e ≡ Memory) }
 {
     let mut active = BTreeSet::new(alloc);
-    let mut moments = Table::new(alloc);
+    let mut moments = List::new(alloc);
     for event in events {
         if is_activation(alloc, &mut active, event)? {
             moments.push(event.moment)?;

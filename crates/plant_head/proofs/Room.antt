@@ -1,4 +1,5 @@
 -- A head of so many bytes has no more fields than the room: a field takes three bytes at least.
+use Rattle.plant_types.specs.Limits.{max_head}
 use Rattle.std.proofs.Common.{ℕ, ◌+◌, ◌*◌, ◌<◌, ◌≤◌, List, [], ◌∷◌, length, ap, arith, length-append}
 use Rattle.std.specs.List.{flat_map, AllByRecursion}
 use Rattle.std.proofs.lemmas.List.Elements.{recursion_from_All}
@@ -36,4 +37,4 @@ never_exceeds room bytes enough (begin, rest, is, h, reads, over) =
     let a = head_length h reads.0 in
     let b = ap length is in
     let c = ap length reads.1 in
-    omega (arith, length-append {A = ℕ}, length-take 16384 bytes)
+    omega (arith, length-append {A = ℕ}, length-take max_head bytes)

@@ -1,5 +1,6 @@
 -- What stands at the front of a stream of requests, as far as the head goes: a definition over the bytes
 -- alone. `ReadsRequest` is httparse's grammar of a head.
+use Rattle.plant_types.specs.Limits.{max_head}
 use Rattle.std.specs.Prelude.{ℕ, ◌<◌, ◌≤◌, List, length, take}
 use Rattle.httparse.specs.declared.spans.HeaderSpan.{HeaderSpan}
 use Rattle.httparse.specs.Grammar.{RequestHead, ReadsRequest, HasNoRequest, NeverHasRequest, MayBecomeRequest}
@@ -7,13 +8,9 @@ use Rattle.httparse.specs.Spans.{IsRequestAt, IsRequestWithin}
 use Rattle.plant_head.specs.declared.heading.Heading.{Heading}
 use Rattle.plant_head.specs.declared.heading.Heading.TheVariants.{Waiting, Malformed, TooLong, Whole}
 
--- only so many bytes are ever taken as a head
-abbrev pub head_limit : ℕ
-head_limit = 16384
-
 -- the bytes that may hold the head
 abbrev pub front : List ℕ → List ℕ
-front bytes = take head_limit bytes
+front bytes = take max_head bytes
 
 -- the bytes begin with this head
 abbrev pub BeginsWith : List ℕ → RequestHead → Type 0
@@ -30,8 +27,8 @@ pub record IsUnfinished (bytes : List ℕ) : Type 0 where
 
 -- what `read_head` answers
 abbrev pub IsHeading : List ℕ → List HeaderSpan → Heading → Type 0
-IsHeading bytes headers Waiting = IsUnfinished bytes × (length bytes < head_limit)
-IsHeading bytes headers TooLong = IsUnfinished bytes × (head_limit ≤ length bytes)
+IsHeading bytes headers Waiting = IsUnfinished bytes × (length bytes < max_head)
+IsHeading bytes headers TooLong = IsUnfinished bytes × (max_head ≤ length bytes)
 IsHeading bytes headers Malformed = IsHopeless bytes
 IsHeading bytes headers (Whole spans) =
     ((head : RequestHead) × IsRequestAt (front bytes) headers spans head)

@@ -6,12 +6,10 @@ ghost use Rattle.plant_head.specs.Head.{front, IsHeading};
 use httparse::Status;
 use httparse::spans::{EMPTY_HEADER_SPAN, HeaderSpan, RequestSpans, parse_request};
 use plant_types::Fault;
+use plant_types::limits::MAX_HEAD;
 use std::alloc::Global;
 
-/// Only so many bytes are ever taken as a head.
-pub const HEAD_LIMIT: usize = 16384;
-
-/// More fields than `HEAD_LIMIT` bytes can hold, since a field takes three bytes at least.
+/// More fields than `MAX_HEAD` bytes can hold, since a field takes three bytes at least.
 const FIELD_ROOM: usize = 5461;
 
 /// Room for the fields of any head, made once and used for one head after another.
@@ -48,13 +46,13 @@ pub enum Heading {
 /// The bytes that may hold the head.
 pub fn front_of(bytes: &[u8]) -> &[u8]
     ensures value { result.now ≡ front bytes.now }
-    ensures short { length result.now ≤ HEAD_LIMIT }
+    ensures short { length result.now ≤ MAX_HEAD }
     ensures within { length result.now ≤ length bytes.now }
 {
-    if bytes.len() < HEAD_LIMIT {
+    if bytes.len() < MAX_HEAD {
         bytes
     } else {
-        &bytes[..HEAD_LIMIT]
+        &bytes[..MAX_HEAD]
     }
 }
 
@@ -65,7 +63,7 @@ pub fn read_head(bytes: &[u8], room: &mut FieldRoom) -> Heading
     match parse_request(front_of(bytes), room.spans.as_mut_slice()) {
         Ok(Status::Complete(spans)) => Heading::Whole(spans),
         Ok(Status::Partial) => {
-            if bytes.len() < HEAD_LIMIT {
+            if bytes.len() < MAX_HEAD {
                 Heading::Waiting
             } else {
                 Heading::TooLong

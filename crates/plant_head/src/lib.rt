@@ -5,4 +5,4 @@ mod fields;
 mod heading;
 
 pub use fields::{Lookup, field};
-pub use heading::{FieldRoom, HEAD_LIMIT, Heading, front_of, read_head};
+pub use heading::{FieldRoom, Heading, front_of, read_head};

@@ -2,11 +2,11 @@
 
 use plant_alarm::AlarmState;
 use plant_examples::{BASE, Exchanges, add_answer, add_request, numbered};
-use plant_model::{AlarmRow, Change, ChangeEntry, ChangeTopic, GrantRow, Row};
+use plant_model::{AlarmRow, ChangeEntry, ChangeTopic, GrantRow, Row, RowEdit};
 use plant_office::Books;
 use plant_ration::ChangeState;
 use plant_trials::{after, lists, replays_on, tables, text};
-use plant_types::{Moment, Person, Role, Seconds, Table, Tag, UnitCode};
+use plant_types::{List, Moment, Person, Role, Seconds, Tag, UnitCode};
 use plant_wire::End;
 use std::process::Abort;
 
@@ -78,13 +78,13 @@ fn proposal(rt: &(impl Abort + AllocGlobal), number: u32) -> Row {
     })
 }
 
-fn push(rt: &impl Abort, changes: &mut Table<Change>, row: Row) {
-    changes.push(Change::Put(row)).expect(rt, "memory");
+fn push(rt: &impl Abort, changes: &mut List<RowEdit>, row: Row) {
+    changes.push(RowEdit::Put(row)).expect(rt, "memory");
 }
 
 /// The rows that the base office has not: 494 pairs, 1,998 alarms and 20,000 changes.
-fn more_rows(rt: &(impl Abort + AllocGlobal)) -> Table<Change> {
-    let mut changes = Table::new(rt.alloc());
+fn more_rows(rt: &(impl Abort + AllocGlobal)) -> List<RowEdit> {
+    let mut changes = List::new(rt.alloc());
     for number in 6..500usize {
         push(rt, &mut changes, grant(rt, number));
     }
@@ -98,7 +98,7 @@ fn more_rows(rt: &(impl Abort + AllocGlobal)) -> Table<Change> {
 }
 
 /// Makes these changes in the unit U1.
-fn put(rt: &(impl Abort + AllocGlobal), books: &mut impl Books, changes: &Table<Change>) {
+fn put(rt: &(impl Abort + AllocGlobal), books: &mut impl Books, changes: &List<RowEdit>) {
     let unit = UnitCode::read(rt.alloc(), b"U1")
         .expect(rt, "memory")
         .expect(rt, "a unit");

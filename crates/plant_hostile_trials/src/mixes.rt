@@ -3,10 +3,10 @@
 
 use crate::full::{TEN_THOUSAND, after_one};
 use plant_examples::{BASE, Exchanges, add_request};
-use plant_mirror::ROWS_AT_HAND;
 use plant_office::Books;
 use plant_trials::{after, mirrored, replays_on, tables, text};
 use plant_types::Moment;
+use plant_types::limits::MAX_ROWS_AT_HAND;
 use plant_wire::End;
 use std::process::Abort;
 use std::time::{Clock, Duration, Instant};
@@ -126,7 +126,7 @@ fn lists_floods(
     first: &str,
 ) {
     let books = filled(rt, tables(rt.alloc()).expect(rt, "tables"), mix);
-    let books = mirrored(rt.alloc(), books, ROWS_AT_HAND).expect(rt, "memory");
+    let books = mirrored(rt.alloc(), books, MAX_ROWS_AT_HAND).expect(rt, "memory");
     let (answers, first_taken, books) = floods(rt, books);
     let (again, next_taken, _) = floods(rt, books);
     let (_, list) = text(&answers).split_once("\r\n\r\n").expect(rt, "a body");

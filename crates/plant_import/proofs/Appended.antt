@@ -10,7 +10,7 @@ use Rattle.plant_import.proofs.Counted.{order_puts, put_twice}
 use Rattle.plant_import.proofs.Placed.{AllAbove, AllBelow, EachBehind, Rises, puts_after, rises_of}
 use Rattle.plant_import.specs.Needed.{is_before_all}
 use Rattle.plant_import.specs.Numbers.{event_number, with_events}
-use Rattle.plant_types.specs.Tables.{IsInOrder}
+use Rattle.plant_types.specs.KeyedRows.{IsInOrder}
 
 both_true : (a b : Bool) → (a && b) ≡ true → (a ≡ true) × (b ≡ true)
 both_true true b e = (refl, e)

@@ -18,7 +18,7 @@ use Rattle.plant_import.proofs.Risings.{Before, Each, Rising, each_weaker, is_ri
 use Rattle.plant_import.specs.Merging.{IsRising, out_of_order}
 use Rattle.plant_import.specs.Numbers.{event_number, has_number}
 use Rattle.plant_import.specs.Standing.{below, from}
-use Rattle.plant_types.specs.Tables.{put_row}
+use Rattle.plant_types.specs.KeyedRows.{put_row}
 
 abbrev pub numbered : List Event → List (ℕ × Event)
 numbered es = map (λ e. (e.seq, e)) es

@@ -22,10 +22,10 @@ use Rattle.plant_import.proofs.Placed.{AllAbove, Rises, above_it, other_above, p
 use Rattle.std.proofs.Common.{inl, inr, ◌⊎◌}
 use Rattle.std.proofs.lemmas.Bool.{cases_lt}
 use Rattle.plant_types.proofs.Orders.{same_numbers}
-use Rattle.plant_types.proofs.TableLaws.{IsInOrder-put_row, IsInOrder-remove_row, row_at-put_row, row_at-remove_row, same_rows, tied}
+use Rattle.plant_types.proofs.KeyedRowLaws.{IsInOrder-put_row, IsInOrder-remove_row, row_at-put_row, row_at-remove_row, same_rows, tied}
 use Rattle.plant_types.specs.Names.{Name, same_name}
 use Rattle.plant_types.specs.Options.{or_else, when}
-use Rattle.plant_types.specs.Tables.{IsInOrder, in_order, put_row, remove_row, row_at}
+use Rattle.plant_types.specs.KeyedRows.{IsInOrder, in_order, put_row, remove_row, row_at}
 
 abbrev ties : ℕ → ℕ → Bool
 ties m n = eq_by_cmp nat_cmp m n

@@ -14,9 +14,9 @@ use Rattle.plant_import.specs.Needed.{has_late, is_late, is_overtaken}
 use Rattle.plant_import.specs.Numbers.{event_number, has_number, with_events}
 use Rattle.plant_import.specs.Reading.{bad}
 use Rattle.plant_types.proofs.Orders.{same_names, same_numbers}
-use Rattle.plant_types.proofs.TableLaws.{IsInOrder-put_row, tied}
+use Rattle.plant_types.proofs.KeyedRowLaws.{IsInOrder-put_row, tied}
 use Rattle.plant_types.specs.Names.{Name, name_cmp, same_name}
-use Rattle.plant_types.specs.Tables.{IsInOrder, put_row}
+use Rattle.plant_types.specs.KeyedRows.{IsInOrder, put_row}
 use Rattle.std.specs.Cmp.{nat_cmp_total}
 use Rattle.std.specs.FinMap.Entries.{by_order}
 use Rattle.std.specs.declared.cmp.Ordering.TheVariants.{Equal, Greater, Less}

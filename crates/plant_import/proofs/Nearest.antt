@@ -9,7 +9,7 @@ use Rattle.std.proofs.lemmas.List.Folds.{list_any-append}
 use Rattle.std.proofs.Math.Seq.{take-append_seam, drop-append_seam}
 use Rattle.plant_types.specs.Names.{name_cmp}
 use Rattle.plant_types.proofs.Orders.{same_names}
-use Rattle.plant_types.proofs.TableLaws.{tied}
+use Rattle.plant_types.proofs.KeyedRowLaws.{tied}
 use Rattle.plant_alarm.specs.declared.event.Event.{Event}
 use Rattle.plant_alarm.specs.declared.event.EventKind.{EventKind}
 use Rattle.plant_alarm.specs.declared.event.EventKind.TheVariants.{Act, Rtn, Ack, Reset, Sup, Unsup}

@@ -17,7 +17,7 @@ use Rattle.plant_import.specs.declared.bad_file.BadFile.{BadFile}
 use Rattle.plant_import.specs.declared.merging.Merged.{Merged}
 use Rattle.plant_types.specs.Names.{Name, same_name}
 use Rattle.plant_types.specs.Options.{or_else}
-use Rattle.plant_types.specs.Tables.{IsInOrder, in_order}
+use Rattle.plant_types.specs.KeyedRows.{IsInOrder, in_order}
 use Rattle.std.specs.Ordering.{nat_cmp}
 use Rattle.std.specs.Prelude.{Ok, Result, Some, unwrap_or}
 use Rattle.std.specs.BTreeMap.{BTreeMap, IsEmpty, Updates, get, is_at}

@@ -10,7 +10,7 @@ use Rattle.std.specs.declared.cmp.Ordering.TheVariants.{Equal, Greater, Less}
 use Rattle.std.specs.List.Sorted.{IsNonDecreasingBy, IsPartitionPoint, IsPartitionedBy}
 use Rattle.std.proofs.lemmas.List.Sorted.{IsPartitionedBy-ltb}
 use Rattle.std.proofs.lemmas.List.{drop_more}
-use Rattle.plant_types.specs.Tables.{IsInOrder, put_row}
+use Rattle.plant_types.specs.KeyedRows.{IsInOrder, put_row}
 
 both : (a b : Bool) → T a → T b → T (a && b)
 both true b p q = q

@@ -10,7 +10,7 @@ use Rattle.plant_alarm.specs.declared.event.Event.{Event}
 use Rattle.plant_import.specs.Merging.{IsRising}
 use Rattle.plant_import.specs.Numbers.{event_number}
 use Rattle.plant_import.proofs.Placed.{AllAbove, Rises, in_order_of}
-use Rattle.plant_types.specs.Tables.{IsInOrder}
+use Rattle.plant_types.specs.KeyedRows.{IsInOrder}
 use Rattle.std.specs.Ordering.{nat_cmp}
 
 -- P holds of each

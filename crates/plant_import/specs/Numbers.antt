@@ -1,6 +1,6 @@
 -- Events by their numbers.
 use Rattle.plant_alarm.specs.declared.event.Event.{Event}
-use Rattle.plant_types.specs.Tables.{in_order, put_row}
+use Rattle.plant_types.specs.KeyedRows.{in_order, put_row}
 use Rattle.std.specs.BTreeMap.{BTreeMap}
 use Rattle.std.specs.List.{list_any}
 use Rattle.std.specs.Ordering.{eq_by_cmp, nat_cmp}

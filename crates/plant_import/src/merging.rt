@@ -2,7 +2,7 @@ ghost use Rattle.std.specs.Prelude.{◌≡◌, ◌+◌, ◌++◌, ◌∷◌, [],
 ghost use Rattle.std.specs.Ordering.{nat_cmp};
 ghost use Rattle.plant_alarm.specs.declared.event.Event.{Event as TheEvent};
 ghost use Rattle.plant_types.specs.Names.{Name};
-ghost use Rattle.plant_types.specs.Tables.{put_row};
+ghost use Rattle.plant_types.specs.KeyedRows.{put_row};
 ghost use Rattle.plant_types.specs.declared.fault.Fault.TheVariants.{Memory};
 ghost use Rattle.plant_import.specs.Merging as merging;
 ghost use Rattle.plant_import.specs.Merging.{IsRising};
@@ -14,7 +14,7 @@ use crate::numbers::put;
 use crate::standing::{Standing, nearest_among, nearest_by_number, stands};
 use crate::{BadFile, Cause};
 use plant_alarm::{Event, Number};
-use plant_types::{Fault, Moment, Table, Tag};
+use plant_types::{Fault, List, Moment, Tag};
 use std::alloc::Global;
 use std::collections::{BTreeMap, BTreeSet};
 
@@ -22,7 +22,7 @@ use std::collections::{BTreeMap, BTreeSet};
 #[derive(Drop)]
 pub struct Merged {
     /// The rows that are not kept yet, each once, in the file's order.
-    pub fresh: Table<Event>,
+    pub fresh: List<Event>,
     /// How many rows are kept already, or stand on an earlier line too.
     pub repeated: u64,
 }
@@ -42,7 +42,7 @@ pub fn merge(
     ensures err { IfErr result (λ e. e ≡ Memory) }
 {
     let known = known_tags(alloc, tags)?;
-    let mut fresh = Table::new(alloc);
+    let mut fresh = List::new(alloc);
     let mut rising = BTreeMap::new(alloc);
     let mut repeated = 0;
     for (i, event) in file.iter().enumerate() {
@@ -79,7 +79,7 @@ fn known_tags(alloc: Global, tags: &[Tag]) -> Result<BTreeSet<Tag>, Fault>
 /// Adds a new row to those in the file's order and to those by their numbers.
 fn add(
     alloc: Global,
-    fresh: &mut Table<Event>,
+    fresh: &mut List<Event>,
     rising: &mut BTreeMap<Number, Event>,
     event: &Event,
 ) -> Result<(), Fault>

@@ -4,7 +4,7 @@ ghost use Rattle.std.specs.Prelude.{◌≡◌, ◌≤◌, IfErr, IfOk, List, fil
 ghost use Rattle.plant_alarm.specs.declared.event.Event.{Event as TheEvent};
 ghost use Rattle.plant_types.specs.declared.fault.Fault.TheVariants.{Memory};
 ghost use Rattle.std.specs.Ordering.{nat_cmp};
-ghost use Rattle.plant_types.specs.Tables.{IsInOrder};
+ghost use Rattle.plant_types.specs.KeyedRows.{IsInOrder};
 ghost use Rattle.plant_import.specs.Numbers.{event_number};
 ghost use Rattle.plant_import.specs.Needed as needs;
 ghost use Rattle.plant_import.specs.Reached.{AreReached};

@@ -4,7 +4,7 @@ ghost use Rattle.std.specs.Prelude.{◌≡◌, ◌++◌, [], IfErr, IfOk, List, 
 ghost use Rattle.std.specs.List.{list_all, list_any};
 ghost use Rattle.std.specs.Ordering.{nat_cmp};
 ghost use Rattle.plant_alarm.specs.declared.event.Event.{Event as TheEvent};
-ghost use Rattle.plant_types.specs.Tables.{IsInOrder, put_row};
+ghost use Rattle.plant_types.specs.KeyedRows.{IsInOrder, put_row};
 ghost use Rattle.plant_types.specs.declared.fault.Fault.TheVariants.{Memory};
 ghost use Rattle.plant_import.specs.Merging.{IsRising};
 ghost use Rattle.plant_import.specs.Needed.{is_before_all};
@@ -13,7 +13,7 @@ ghost use Rattle.plant_import.specs.Numbers.{AreByNumber, event_number, new_numb
 
 use crate::standing::place_of;
 use plant_alarm::{Event, Number};
-use plant_types::{Fault, Table};
+use plant_types::{Fault, List};
 use std::alloc::Global;
 use std::collections::{BTreeMap, BTreeSet};
 
@@ -71,11 +71,11 @@ fn by_number(alloc: Global, events: &[Event]) -> Result<BTreeMap<Number, Event>,
 }
 
 /// The events in rising number. Of two with the same number the last counts.
-fn in_rising_number(alloc: Global, events: &[Event]) -> Result<Table<Event>, Fault>
+fn in_rising_number(alloc: Global, events: &[Event]) -> Result<List<Event>, Fault>
     ensures value { IfOk result (λ rising. rising ≡ with_events [] events.now) }
     ensures err { IfErr result (λ e. e ≡ Memory) }
 {
-    let mut rising = Table::new(alloc);
+    let mut rising = List::new(alloc);
     for event in by_number(alloc, events)?.into_values() {
         rising.push(event)?;
     }
@@ -83,7 +83,7 @@ fn in_rising_number(alloc: Global, events: &[Event]) -> Result<Table<Event>, Fau
 }
 
 /// Adds copies of the events.
-fn push_all(alloc: Global, all: &mut Table<Event>, events: &[Event]) -> Result<(), Fault>
+fn push_all(alloc: Global, all: &mut List<Event>, events: &[Event]) -> Result<(), Fault>
     ensures value { OnOk result (all.new ≡ all.old ++ events.now) }
     ensures err { IfErr result (λ e. e ≡ Memory) }
 {
@@ -105,11 +105,11 @@ fn without_first(events: &[Event], number: Number) -> &[Event]
 }
 
 /// Two lists of events in rising number as one. Of two with the same number that of the second counts.
-fn joined(alloc: Global, kept: &[Event], more: &[Event]) -> Result<Table<Event>, Fault>
+fn joined(alloc: Global, kept: &[Event], more: &[Event]) -> Result<List<Event>, Fault>
     ensures value { IsInOrder nat_cmp event_number kept.now → IsInOrder nat_cmp event_number more.now → IfOk result (λ all. all ≡ with_events kept.now more.now) }
     ensures err { IfErr result (λ e. e ≡ Memory) }
 {
-    let mut all = Table::new(alloc);
+    let mut all = List::new(alloc);
     let mut rest = kept;
     for event in more {
         let (below, above) = rest.split_at(place_of(rest, event.seq));
@@ -122,7 +122,7 @@ fn joined(alloc: Global, kept: &[Event], more: &[Event]) -> Result<Table<Event>,
 }
 
 /// The kept events and more of them, in any order, in rising number. The kept events are in rising number.
-pub fn events_after(alloc: Global, kept: &[Event], more: &[Event]) -> Result<Table<Event>, Fault>
+pub fn events_after(alloc: Global, kept: &[Event], more: &[Event]) -> Result<List<Event>, Fault>
     ensures value { IsRising kept.now → IfOk result (λ all. all ≡ with_events kept.now more.now) }
     ensures err { IfErr result (λ e. e ≡ Memory) }
 {
@@ -145,7 +145,7 @@ fn come_after(events: &[Event], others: &[Event]) -> bool
 
 /// Puts events, in any order, among the kept ones, which are in rising number. Its time is that of the new events where they come after
 /// all others, else that of going over the kept events once.
-pub fn put_events(alloc: Global, kept: &mut Table<Event>, more: &[Event]) -> Result<(), Fault>
+pub fn put_events(alloc: Global, kept: &mut List<Event>, more: &[Event]) -> Result<(), Fault>
     ensures value { IsInOrder nat_cmp event_number kept.old → OnOk result (kept.new ≡ with_events kept.old more.now) }
     ensures err { IfErr result (λ e. e ≡ Memory) }
 {

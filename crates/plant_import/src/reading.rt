@@ -12,11 +12,11 @@ use crate::records::{field, next_record, reader_of};
 use crate::{BadFile, Cause};
 use csv::{ByteRecord, Reader};
 use plant_alarm::Event;
-use plant_types::{Fault, Moment, Table, Tag};
+use plant_types::{Fault, List, Moment, Tag};
 use std::alloc::Global;
 
 /// The rows of a file, or its first fault.
-pub type FileRead = Result<Table<Event>, BadFile>;
+pub type FileRead = Result<List<Event>, BadFile>;
 
 /// The events of a file, or its first faulty line with the first cause of that line.
 ///
@@ -56,7 +56,7 @@ fn read_rows(alloc: Global, mut reader: Reader<&[u8]>) -> Result<FileRead, Fault
     ensures value { IfOk result (λ read. (text : List ℕ) → (header : List (List ℕ)) → HasRead reader.entry text (header ∷ []) → AreRowsRead text header read) }
     ensures err { IfErr result (λ e. e ≡ Memory) }
 {
-    let mut events = Table::new(alloc);
+    let mut events = List::new(alloc);
     let mut row = ByteRecord::new(alloc);
     let mut place = 1;
     while next_record(&mut reader, &mut row)? {

@@ -4,7 +4,7 @@ ghost use Rattle.std.specs.List.{list_any};
 ghost use Rattle.std.specs.List.Sorted.{IsPartitionPoint};
 ghost use Rattle.std.specs.Ordering.{nat_cmp};
 ghost use Rattle.plant_alarm.specs.declared.event.Event.{Event as TheEvent};
-ghost use Rattle.plant_types.specs.Tables.{IsInOrder};
+ghost use Rattle.plant_types.specs.KeyedRows.{IsInOrder};
 ghost use Rattle.plant_import.specs.Merging.{IsRising, same_event};
 ghost use Rattle.plant_import.specs.Numbers.{AreByNumber, event_number};
 ghost use Rattle.plant_import.specs.Standing as standing;

@@ -3,11 +3,11 @@
 ghost use Rattle.std.specs.Prelude.{◌≡◌, false};
 
 use plant_examples::{BASE, Exchanges, LOOKED_AT, SHELVED};
-use plant_mirror::ROWS_AT_HAND;
 use plant_office::Books;
 use plant_reopen::reopen;
 use plant_store::Tables;
 use plant_trials::{after, mirrored, root};
+use plant_types::limits::MAX_ROWS_AT_HAND;
 use sqlite::{Connection, FileStore, Files, Options};
 use sqlite_disk::{Disk, Memory};
 use std::process::Abort;
@@ -46,7 +46,7 @@ fn after_all_at_hand<B: Books + Drop>(
     texts: &[&str],
     title: &str,
 ) -> B {
-    let books = mirrored(rt.alloc(), below, ROWS_AT_HAND).expect(rt, "books with rows at hand");
+    let books = mirrored(rt.alloc(), below, MAX_ROWS_AT_HAND).expect(rt, "books with rows at hand");
     after_all(rt, books, texts, title).into_books()
 }
 

@@ -3,12 +3,12 @@
 ghost use Rattle.std.specs.Prelude.{◌≡◌, ◌+◌, ◌&&◌, not};
 
 use plant_examples::{BASE, BEGIN, Exchanges, LOOKED_AT, Mark, SHELVED, between};
-use plant_mirror::ROWS_AT_HAND;
 use plant_model::{Answer, Call};
 use plant_office::{Books, Office};
 use plant_store::Tables;
 use plant_trials::{Calls, bytes_of, calls_of, mirrored, root, served, text};
 use plant_types::Fault;
+use plant_types::limits::MAX_ROWS_AT_HAND;
 use sqlite::{Connection, FileStore, Files, Options};
 use sqlite_disk::{Disk, Memory, Tally};
 use std::io;
@@ -172,7 +172,7 @@ fn answered_at_hand<B: Books + Drop>(
     wanted: &Exchanges,
     calls: &[Call],
 ) -> usize {
-    let books = mirrored(rt.alloc(), below, ROWS_AT_HAND).expect(rt, "books with rows at hand");
+    let books = mirrored(rt.alloc(), below, MAX_ROWS_AT_HAND).expect(rt, "books with rows at hand");
     let mut office = Office::new(rt.alloc(), books);
     let count = answered(rt, &mut office, wanted, calls);
     drop(office.into_books());

@@ -5,7 +5,7 @@ use plant_alarm::{
     AlarmState, EventKind, Number, Shelf, ShelfRefused, ShelfState, Summary, one_shot, shelf_at,
     timed, unshelve,
 };
-use plant_types::{Moment, Seconds, Table};
+use plant_types::{List, Moment, Seconds};
 use std::alloc::Global;
 use std::process::Abort;
 

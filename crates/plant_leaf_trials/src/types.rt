@@ -2,7 +2,7 @@
 
 use crate::fixtures::{moment, tag};
 use plant_types::{
-    Alphabet, Fault, Moment, PersonBytes, Quota, Role, Seconds, Table, TagBytes, Tenure, Text,
+    Alphabet, Fault, List, Moment, PersonBytes, Quota, Role, Seconds, TagBytes, Tenure, Text,
     UnitCodeBytes, WordsBytes,
 };
 use std::alloc::Global;
@@ -95,8 +95,8 @@ fn reads_and_copies_other_texts(rt: HostRuntime) {
 }
 
 /// 10, 21, 30 and 40, put in out of order.
-fn filled(alloc: Global) -> Result<Table<u64>, Fault> {
-    let mut table = Table::new(alloc);
+fn filled(alloc: Global) -> Result<List<u64>, Fault> {
+    let mut table = List::new(alloc);
     table.push(20)?;
     table.push(30)?;
     table.insert_at(0, 10)?;
@@ -107,14 +107,14 @@ fn filled(alloc: Global) -> Result<Table<u64>, Fault> {
 
 #[test]
 fn keeps_tables(rt: HostRuntime) {
-    assert!(rt; Table::<u64>::new(rt.alloc()).is_empty());
+    assert!(rt; List::<u64>::new(rt.alloc()).is_empty());
     let mut table = filled(rt.alloc()).expect(&rt, "memory");
     assert!(rt; table.as_slice() == [10, 21, 30, 40].as_slice());
     assert!(rt; table.remove_at(2) == Some(30));
     assert!(rt; table.remove_at(3).is_none());
     assert!(rt; table.len() == 3);
     let rows = table.into_vec();
-    assert!(rt; Table::from_vec(rows).as_slice() == [10, 21, 40].as_slice());
+    assert!(rt; List::from_vec(rows).as_slice() == [10, 21, 40].as_slice());
 }
 
 const ROLES: [(Role, u8); 6] = [

@@ -22,7 +22,7 @@ use Rattle.plant_model.specs.Parts.{part_of}
 use Rattle.plant_model.specs.RowChanges.{changed_by, no_rows}
 use Rattle.plant_model.specs.RowFacts.{holds_by}
 use Rattle.plant_model.specs.declared.call.Call.{Call}
-use Rattle.plant_model.specs.declared.rows.Change.{Change}
+use Rattle.plant_model.specs.declared.rows.RowEdit.{RowEdit}
 use Rattle.plant_model.specs.declared.rows.UnitRows.{UnitRows}
 use Rattle.plant_types.proofs.Orders.{name_total}
 use Rattle.plant_types.specs.Names.{Name, same_name}
@@ -173,9 +173,9 @@ events_again : (b : Bool) (rows : UnitRows) → record (seen b rows) { events = 
 events_again true rows = refl
 events_again false rows = refl
 
-pub with_events : (b : Bool) (o : Option UnitRows) (rows : UnitRows) → option_map (seen b) o ≡ Some rows → o ≡ Some (record rows { events = (unwrap_or o no_rows).events })
-with_events b None rows e = absurd (cc e)
-with_events b (Some r) rows e =
+pub seen_with_events : (b : Bool) (o : Option UnitRows) (rows : UnitRows) → option_map (seen b) o ≡ Some rows → o ≡ Some (record rows { events = (unwrap_or o no_rows).events })
+seen_with_events b None rows e = absurd (cc e)
+seen_with_events b (Some r) rows e =
     let same : seen b r ≡ rows = cc e in
     ap (λ x. Some x) (sym (events_again b r)) ∙ ap (λ (x : UnitRows). Some (record x { events = r.events })) same
 
@@ -203,13 +203,13 @@ strangers_part_seen c false kept rows e none = ap (part_of c) (sym e) ∙ strang
 
 -- ---- what changes of a unit leave of the others, and what they make of the unit
 
-pub others_stay : (m : Content) (u : Name) (cs : List Change) (v : Name) → same_name u v ≡ false → get (after_changes m u cs).units v ≡ get m.units v
+pub others_stay : (m : Content) (u : Name) (cs : List RowEdit) (v : Name) → same_name u v ≡ false → get (after_changes m u cs).units v ≡ get m.units v
 others_stay m u cs v e = get-insert name_total m.units u (changed_by cs (rows_in m u)) v ∙ ap (λ b. cond b (Some (changed_by cs (rows_in m u))) (get m.units v)) ((eq_by_cmp_equiv name_total).symm v u ∙ e)
 
-pub unit_after : (m : Content) (u : Name) (cs : List Change) → get (after_changes m u cs).units u ≡ Some (changed_by cs (rows_in m u))
+pub unit_after : (m : Content) (u : Name) (cs : List RowEdit) → get (after_changes m u cs).units u ≡ Some (changed_by cs (rows_in m u))
 unit_after m u cs = get-insert name_total m.units u (changed_by cs (rows_in m u)) u ∙ ap (λ b. cond b (Some (changed_by cs (rows_in m u))) (get m.units u)) ((eq_by_cmp_equiv name_total).refl u)
 
-seen_changed : (b : Bool) (cs : List Change) (rows : UnitRows) → (not b && puts_event cs) ≡ false → seen b (changed_by cs rows) ≡ changed_by cs (seen b rows)
+seen_changed : (b : Bool) (cs : List RowEdit) (rows : UnitRows) → (not b && puts_event cs) ≡ false → seen b (changed_by cs rows) ≡ changed_by cs (seen b rows)
 seen_changed true cs rows none = refl
 seen_changed false cs rows none = sym (changed_without cs rows none)
 
@@ -218,7 +218,7 @@ seen_rows b None rows e = absurd (cc e)
 seen_rows b (Some r) rows e = cc e
 
 -- a copy after changes is one of the unit after them
-pub changed_there : (m : Content) (u : Name) (cs : List Change) (copy after : AtHand) → IsCopy (get m.units) (u, copy) → after.has_events ≡ copy.has_events → after.rows ≡ changed_by cs copy.rows → (not copy.has_events && puts_event cs) ≡ false → IsCopy (get (after_changes m u cs).units) (u, after)
+pub changed_there : (m : Content) (u : Name) (cs : List RowEdit) (copy after : AtHand) → IsCopy (get m.units) (u, copy) → after.has_events ≡ copy.has_events → after.rows ≡ changed_by cs copy.rows → (not copy.has_events && puts_event cs) ≡ false → IsCopy (get (after_changes m u cs).units) (u, after)
 changed_there m u cs copy after h flag is none =
     let b = copy.has_events in
     let there = ap (option_map (seen b)) (unit_after m u cs) in
@@ -237,14 +237,14 @@ none_left (u ∷ us) zero h = absurd (omega (arith, h))
 none_left (u ∷ us) (suc i) h = none_left us i (omega (arith, h))
 
 pub all_told : (f : Name → List MineShelf) (mine all : List MineShelf) (us : List Name) (i : ℕ) → length us ≤ i → mine ++ flat_map f (drop i us) ≡ all → mine ≡ all
-all_told f mine all us i h told = sym (append-nil mine) ∙ ap (λ xs. mine ++ flat_map f xs) (sym (none_left us i h)) ∙ told
+all_told f mine all us i h honest = sym (append-nil mine) ∙ ap (λ xs. mine ++ flat_map f xs) (sym (none_left us i h)) ∙ honest
 
 pub more_told : (f : Name → List MineShelf) (mine more all : List MineShelf) (us : List Name) (i : ℕ) (u : Name) → drop i us ≡ u ∷ drop (i + 1) us → f u ≡ more → mine ++ flat_map f (drop i us) ≡ all → (mine ++ more) ++ flat_map f (drop (i + 1) us) ≡ all
-more_told f mine more all us i u e is told =
+more_told f mine more all us i u e is honest =
     append_assoc mine more (flat_map f (drop (i + 1) us))
     ∙ ap (λ xs. mine ++ (xs ++ flat_map f (drop (i + 1) us))) (sym is)
     ∙ ap (λ xs. mine ++ flat_map f xs) (sym e)
-    ∙ told
+    ∙ honest
 
 -- those of the units that are held are those that the person may see
 pub held_shelves : (there : There) (t : ℕ) (p : Name) (us : List Name) → flat_map (λ u. shelves_there u (there u)) (filter_map (λ u. when (is_held_in t p (there u)) u) us) ≡ flat_map (λ u. shelves_mine t p u (there u)) us

@@ -41,9 +41,9 @@ AreCopies there [] = Unit {0}
 AreCopies there (copy ∷ copies) = IsCopy there copy × AreCopies there copies
 
 -- the books below hold the content, and under what their keeper knows of its premise the copies are true of it
-pub record IsMirrored (below : Content → Type 0) (can_tell : Type 0) (copies : List Copy) (m : Content) : Type 0 where
+pub record IsMirrored (below : Content → Type 0) (is_honest : Type 0) (copies : List Copy) (m : Content) : Type 0 where
   pub held : below m
-  pub copied : can_tell → AreCopies (get m.units) copies
+  pub copied : is_honest → AreCopies (get m.units) copies
 
 -- the shelves of a unit, each with the moment at which its alarm last returned to normal
 abbrev pub shelves_there : Name → Option UnitRows → List MineShelf

@@ -9,8 +9,8 @@ ghost use Rattle.plant_model.specs.declared.rows.UnitRows.{UnitRows as TheRows};
 ghost use Rattle.plant_types.specs.Names.{Name};
 
 use plant_books::{after_changes, holds_some_by, looks_at_events, puts_event};
-use plant_model::{Call, Change, UnitRows};
-use plant_types::Table;
+use plant_model::{Call, RowEdit, UnitRows};
+use plant_types::List;
 use std::alloc::Global;
 
 /// A unit's rows at hand: all of them, or all but its events.
@@ -51,7 +51,7 @@ impl AtHand {
     }
 
     /// Whether an event is put among events that are not at hand.
-    fn misses(&self, changes: &Table<Change>) -> bool
+    fn misses(&self, changes: &List<RowEdit>) -> bool
         ensures { result ≡ (not self.now.has_events && puts_event changes.now) }
     {
         !self.has_events && puts_event(changes)
@@ -59,7 +59,7 @@ impl AtHand {
 
     /// What is at hand after the changes. It is nothing where an event is put among events that are not at hand, or where
     /// memory is wanted.
-    pub fn after(self, alloc: Global, changes: &Table<Change>) -> Option<AtHand>
+    pub fn after(self, alloc: Global, changes: &List<RowEdit>) -> Option<AtHand>
         ensures { (m : Content) (u : Name) → IsCopy (fin.get m.units) (u, self) → IfSome result (λ after. IsCopy (fin.get (content_after m u changes.now).units) (u, after)) }
     {
         if self.misses(changes) {

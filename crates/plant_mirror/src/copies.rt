@@ -9,11 +9,8 @@ use crate::at_hand::AtHand;
 use lru::LruCache;
 use plant_books::{MineShelf, push_shelves};
 use plant_model::UnitRows;
-use plant_types::{Fault, Table, UnitCode};
+use plant_types::{Fault, List, UnitCode};
 use std::alloc::Global;
-
-/// How many rows the program keeps at hand at most, those of all units together.
-pub const ROWS_AT_HAND: u128 = 2_000_000;
 
 /// Copies of the rows of some units, never of more rows than the limit.
 #[derive(Drop)]
@@ -67,11 +64,11 @@ impl Copies {
         &self,
         alloc: Global,
         units: &[UnitCode],
-    ) -> Result<Option<Table<MineShelf>>, Fault>
+    ) -> Result<Option<List<MineShelf>>, Fault>
         ensures found { (there : There) → AreCopies there self.now.units.entries → IfOk result (λ found. IfSome found (λ mine. mine ≡ flat_map (λ u. copies.shelves_there u (there u)) units.now)) }
         ensures memory { IfErr result (λ e. e ≡ Memory) }
     {
-        let mut mine = Table::new(alloc);
+        let mut mine = List::new(alloc);
         for unit in units {
             let Some(copy) = self.copy_of(unit) else {
                 return Ok(None);

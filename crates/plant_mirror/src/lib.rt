@@ -6,5 +6,5 @@ mod copies;
 mod mirror;
 
 pub use at_hand::AtHand;
-pub use copies::{Copies, ROWS_AT_HAND};
+pub use copies::Copies;
 pub use mirror::Mirror;

@@ -13,8 +13,8 @@ use plant_alarm::Event;
 use plant_books::{
     Books, MineShelf, MineUnit, are_in_order, looks_at_events, part_of, rows_but_events,
 };
-use plant_model::{Call, Change, UnitPart, UnitRows};
-use plant_types::{Duplicate, Fault, Moment, Person, Table, UnitCode};
+use plant_model::{Call, RowEdit, UnitPart, UnitRows};
+use plant_types::{Duplicate, Fault, List, Moment, Person, UnitCode};
 use std::alloc::Global;
 
 /// A keeper over another, with the rows of the units that were last used at hand. The events of a unit are brought to hand at
@@ -37,7 +37,7 @@ impl<B: Books> Mirror<B> {
     /// The keeper over these books, with no rows at hand yet. It takes no memory.
     pub fn new(alloc: Global, copies: Copies, books: B) -> Mirror<B>
         requires { copies.units.entries ≡ [] }
-        ensures holds { (m : Content) → B.holds books m → ⟦<Mirror<B> as Books>⟧.holds result m }
+        ensures represents { (m : Content) → B.represents books m → ⟦<Mirror<B> as Books>⟧.represents result m }
         ensures stores { ⟦<Mirror<B> as Books>⟧.stores result ≡ B.stores books }
     {
         Mirror {
@@ -49,7 +49,7 @@ impl<B: Books> Mirror<B> {
 
     /// The books that lie below, as they were left.
     pub fn into_books(self) -> B
-        ensures holds { (m : Content) → ⟦<Mirror<B> as Books>⟧.holds self m → B.holds result m }
+        ensures represents { (m : Content) → ⟦<Mirror<B> as Books>⟧.represents self m → B.represents result m }
         ensures stores { B.stores result ≡ ⟦<Mirror<B> as Books>⟧.stores self }
     {
         let Mirror {
@@ -62,7 +62,7 @@ impl<B: Books> Mirror<B> {
 
     /// Keeps what is at hand of the unit's rows, if they stand in the order of their keys and there is memory.
     fn keep(&mut self, unit: &UnitCode, copy: AtHand)
-        ensures kept { (m : Content) → IsMirrored (B.holds self.old.books) (B.can_tell self.old.books) self.old.copies.units.entries m → (B.can_tell self.old.books → option_map (seen copy.has_events) (fin.get m.units unit.now) ≡ Some copy.rows) → IsMirrored (B.holds self.new.books) (B.can_tell self.new.books) self.new.copies.units.entries m }
+        ensures kept { (m : Content) → IsMirrored (B.represents self.old.books) (B.is_honest self.old.books) self.old.copies.units.entries m → (B.is_honest self.old.books → option_map (seen copy.has_events) (fin.get m.units unit.now) ≡ Some copy.rows) → IsMirrored (B.represents self.new.books) (B.is_honest self.new.books) self.new.copies.units.entries m }
         ensures below { self.new.books ≡ self.old.books }
     {
         if !are_in_order(&copy.rows) {
@@ -75,7 +75,7 @@ impl<B: Books> Mirror<B> {
 
     /// The unit's rows below, with the events or without.
     fn rows_below(&mut self, unit: &UnitCode, has_events: bool) -> Result<Option<UnitRows>, Fault>
-        ensures found { (m : Content) → B.holds self.old.books m → B.can_tell self.new.books → IfOk result (λ rows. rows ≡ option_map (seen has_events) (fin.get m.units unit.now)) }
+        ensures found { (m : Content) → B.represents self.old.books m → B.is_honest self.new.books → IfOk result (λ rows. rows ≡ option_map (seen has_events) (fin.get m.units unit.now)) }
         ensures leaves { Leaves B.Books result self.old self.new }
     {
         if has_events {
@@ -118,7 +118,7 @@ impl<B: Books> Mirror<B> {
 
     /// Whether the caller holds a role in the unit.
     fn is_held(&mut self, unit: &UnitCode, call: &Call) -> Result<bool, Fault>
-        ensures found { (m : Content) → B.holds self.old.books m → B.can_tell self.new.books → IfOk result (λ held. held ≡ list_any (same_name unit.now) (codes_held m call.now.moment call.now.person)) }
+        ensures found { (m : Content) → B.represents self.old.books m → B.is_honest self.new.books → IfOk result (λ held. held ≡ list_any (same_name unit.now) (codes_held m call.now.moment call.now.person)) }
         ensures leaves { Leaves B.Books result self.old self.new }
     {
         let units = self.books.held(&call.person, call.moment)?;
@@ -149,7 +149,7 @@ impl<B: Books> Mirror<B> {
 
     /// The part of a call on this unit: from what is at hand, if that serves the call.
     fn part_of(&mut self, unit: &UnitCode, call: &Call) -> Result<Option<UnitPart>, Fault>
-        ensures found { (m : Content) → IsMirrored (B.holds self.old.books) (B.can_tell self.old.books) self.old.copies.units.entries m → B.can_tell self.new.books → unit_named call.now.request ≡ Some unit.now → IfOk result (λ part. part ≡ part_in m call.now unit.now) }
+        ensures found { (m : Content) → IsMirrored (B.represents self.old.books) (B.is_honest self.old.books) self.old.copies.units.entries m → B.is_honest self.new.books → unit_named call.now.request ≡ Some unit.now → IfOk result (λ part. part ≡ part_in m call.now unit.now) }
         ensures leaves { Leaves B.Books result self.old self.new }
     {
         match self.copies.copy_of(unit) {
@@ -160,9 +160,9 @@ impl<B: Books> Mirror<B> {
 }
 
 impl<B: Books> Books for Mirror<B> {
-    ghost holds = { λ t m. IsMirrored (B.holds t.books) (B.can_tell t.books) t.copies.units.entries m };
+    ghost represents = { λ t m. IsMirrored (B.represents t.books) (B.is_honest t.books) t.copies.units.entries m };
 
-    ghost can_tell = { λ t. B.can_tell t.books };
+    ghost is_honest = { λ t. B.is_honest t.books };
 
     ghost stores = { λ t. B.stores t.books };
 
@@ -191,7 +191,7 @@ impl<B: Books> Books for Mirror<B> {
         }
     }
 
-    fn events(&mut self, unit: &UnitCode) -> Result<Table<Event>, Fault> {
+    fn events(&mut self, unit: &UnitCode) -> Result<List<Event>, Fault> {
         match self.copies.all_rows_of(unit) {
             Some(rows) => rows.events.duplicate(self.alloc),
             None => self.books.events(unit),
@@ -207,15 +207,15 @@ impl<B: Books> Books for Mirror<B> {
         self.part_of(unit, call)
     }
 
-    fn held(&mut self, person: &Person, now: Moment) -> Result<Table<UnitCode>, Fault> {
+    fn held(&mut self, person: &Person, now: Moment) -> Result<List<UnitCode>, Fault> {
         self.books.held(person, now)
     }
 
-    fn mine_units(&mut self, person: &Person, now: Moment) -> Result<Table<MineUnit>, Fault> {
+    fn mine_units(&mut self, person: &Person, now: Moment) -> Result<List<MineUnit>, Fault> {
         self.books.mine_units(person, now)
     }
 
-    fn mine_shelves(&mut self, person: &Person, now: Moment) -> Result<Table<MineShelf>, Fault> {
+    fn mine_shelves(&mut self, person: &Person, now: Moment) -> Result<List<MineShelf>, Fault> {
         let units = self.books.held(person, now)?;
         if let Some(shelves) = self.copies.shelves_of(self.alloc, units.as_slice())? {
             return Ok(shelves);
@@ -223,7 +223,7 @@ impl<B: Books> Books for Mirror<B> {
         self.books.mine_shelves(person, now)
     }
 
-    fn apply(&mut self, unit: &UnitCode, changes: &Table<Change>) -> Result<(), Fault> {
+    fn apply(&mut self, unit: &UnitCode, changes: &List<RowEdit>) -> Result<(), Fault> {
         if let Err(fault) = self.books.apply(unit, changes) {
             // Books that have shut are to be asked, and to say so.
             self.copies.clear();

@@ -37,11 +37,12 @@ use Rattle.plant_model.specs.declared.reply.Refused.TheVariants.{MomentBehind, N
 use Rattle.plant_model.specs.declared.reply.Reply.{Reply}
 use Rattle.plant_model.specs.declared.rows.UnitRows.{UnitRows}
 use Rattle.plant_types.proofs.Orders.{number_total, same_numbers}
-use Rattle.plant_types.proofs.TableLaws.{same_rows}
+use Rattle.plant_types.proofs.KeyedRowLaws.{same_rows}
+use Rattle.plant_types.specs.Limits.{max_events}
 use Rattle.plant_types.specs.Names.{Name, name_cmp, same_name}
 use Rattle.plant_types.specs.Options.{or_else}
 use Rattle.plant_types.specs.Roles.{Pair}
-use Rattle.plant_types.specs.Tables.{IsInOrder, in_order}
+use Rattle.plant_types.specs.KeyedRows.{IsInOrder, in_order}
 use Rattle.plant_types.specs.declared.role.Role.TheVariants.{Approver, Engineer, Maintainer, Operator, Steward, Viewer}
 use Rattle.std.proofs.Common.{ap, append-nil, append_assoc, arith, length-append, refl, subst, sym, true, ◌++◌, ◌+◌, ◌∙◌, ◌≡◌, ◌≤◌}
 use Rattle.std.proofs.lemmas.Bool.Decides.{nat_tests}
@@ -123,7 +124,7 @@ module _ (h : List Call) (u : Name) (all : List Event) (fit : is_fit all ≡ tru
 
   module _ (g : List Call) (reached : IsReached g) (p : Name) (t : ℕ) (v : Name) (rows : List Event)
       (operator : held h t (p, Operator) ≡ true) (known : list_all (λ e. is_some (latching h e.tag)) rows ≡ true) (not_ahead : list_all (λ e. nat_le e.moment t) all ≡ true)
-      (behind : last_moment g ≤ t) (within : Within rows all) (room : length (events g) + length (fresh (events g) rows) ≤ 100000) where
+      (behind : last_moment g ≤ t) (within : Within rows all) (room : length (events g) + length (fresh (events g) rows) ≤ max_events) where
     abbrev next_one : Call
     next_one = record { person = p; moment = t; request = Import v (Ok rows) }
 
@@ -133,10 +134,10 @@ module _ (h : List Call) (u : Name) (all : List Event) (fit : is_fit all ≡ tru
     answered : verdict g next_one ≡ Ok (import_reply (events g) rows)
     answered =
         let role : held g t (p, Operator) ≡ true = reached.held_still t (p, Operator) ∙ operator in
-        no_refusal (not (holds_some (facts g) t p)) (not (held g t (p, Operator))) (nat_lt t (last_moment g)) (nat_lt 100000 (length (events g) + length (new_numbers (events g) rows)))
+        no_refusal (not (holds_some (facts g) t p)) (not (held g t (p, Operator))) (nat_lt t (last_moment g)) (nat_lt max_events (length (events g) + length (new_numbers (events g) rows)))
         NotGranted (RoleLacking Operator) (MomentBehind (last_moment g)) (UnitFull TooManyEvents) (first_fault (tags_of (facts g)) t 2 (events g) rows) (import_reply (events g) rows)
         (turned_off (holds_some (facts g) t p) (some_role g t p role)) (turned_off (held g t (p, Operator)) role) (at_least (last_moment g) t behind)
-        (ap (λ n. nat_lt 100000 (length (events g) + n)) (sym (fresh_count (tags_of (facts g)) t 2 (events g) rows clean)) ∙ at_least (length (events g) + length (fresh (events g) rows)) 100000 room) clean
+        (ap (λ n. nat_lt max_events (length (events g) + n)) (sym (fresh_count (tags_of (facts g)) t 2 (events g) rows clean)) ∙ at_least (length (events g) + length (fresh (events g) rows)) max_events room) clean
 
     accepted : changes_history (verdict g next_one) next_one ≡ true
     accepted = ap (λ s. changes_history s next_one) answered
@@ -182,7 +183,7 @@ module _ (h : List Call) (u : Name) (all : List Event) (fit : is_fit all ≡ tru
   asking c q = record { person = c.person; moment = c.moment; request = q }
 
   abbrev GoOn : List Call → Type 0
-  GoOn calls = (g : List Call) → IsReached g → (t : ℕ) → last_moment g ≤ t → AreImportsInto h u all t calls → Within (rows_imported calls) all → length (events g) + length (fresh (events g) (rows_imported calls)) ≤ 100000 → Goes g calls
+  GoOn calls = (g : List Call) → IsReached g → (t : ℕ) → last_moment g ≤ t → AreImportsInto h u all t calls → Within (rows_imported calls) all → length (events g) + length (fresh (events g) (rows_imported calls)) ≤ max_events → Goes g calls
 
   goes_one : (calls : List Call) → GoOn calls → (c : Call) (q : Request) → GoOn (asking c q ∷ calls)
   goes_one calls on c (Import v (Ok rows)) g reached t behind imports within room =
@@ -193,7 +194,7 @@ module _ (h : List Call) (u : Name) (all : List Event) (fit : is_fit all ≡ tru
       let split : length (fresh (events g) (rows ++ rest)) ≡ length (fresh (events g) rows) + length (fresh (events g ++ rows) rest) =
       ap (λ l. length l) (passing-append is_new (events g) rows rest) ∙ length-append (fresh (events g) rows) (fresh (events g ++ rows) rest) in
       let le : last_moment g ≤ c.moment = omega (arith, behind, not_before) in
-      let here : length (events g) + length (fresh (events g) rows) ≤ 100000 = omega (arith, room, split) in
+      let here : length (events g) + length (fresh (events g) rows) ≤ max_events = omega (arith, room, split) in
       let same = same_after g reached c.person c.moment v rows one.operator one.known one.not_ahead le own here in
       let alike : length (fresh (events (asking c (Import v (Ok rows)) ∷ g)) rest) ≡ length (fresh (events g ++ rows) rest) = ap (λ l. length l) (fresh_alike (events (asking c (Import v (Ok rows)) ∷ g)) (events g ++ rows) rest same) in
       let counted = counted_one g reached c.person c.moment v rows one.operator one.known one.not_ahead le own here in

@@ -1,8 +1,8 @@
 -- The changes that a call makes turn the rows of the history into those of the history with the call.
-use Rattle.plant_types.proofs.TableLaws.{IsInOrder-rows, Tells, row_at-rows, same_rows}
+use Rattle.plant_types.proofs.KeyedRowLaws.{IsInOrder-rows, Tells, row_at-rows, same_rows}
 use Rattle.plant_model.proofs.Base.{x}
 use Rattle.plant_model.specs.Changes.{limit_revision}
-use Rattle.plant_types.specs.Tables.{in_order, put_row}
+use Rattle.plant_types.specs.KeyedRows.{in_order, put_row}
 use Rattle.std.proofs.Common.{sym}
 use Rattle.std.specs.FinMap.Entries.{by_order}
 use Rattle.std.specs.declared.cmp.Ordering.TheVariants.{Greater, Less}
@@ -26,13 +26,13 @@ use Rattle.plant_model.specs.declared.call.Request.TheVariants.{Grant, OneShotSh
 use Rattle.plant_model.specs.declared.rows.AlarmRow.{AlarmRow}
 use Rattle.plant_model.specs.declared.rows.BandRow.{BandRow}
 use Rattle.plant_model.specs.declared.rows.CellRow.{CellRow}
-use Rattle.plant_model.specs.declared.rows.Change.TheVariants.{Put}
+use Rattle.plant_model.specs.declared.rows.RowEdit.TheVariants.{Put}
 use Rattle.plant_model.specs.declared.rows.Row.TheVariants.{Alarm as AlarmPut, Grant as GrantPut, Shelf as ShelfPut, Unit as UnitPut}
 use Rattle.plant_model.specs.declared.rows.ShelfRow.{ShelfRow}
 use Rattle.plant_model.specs.declared.rows.UnitRows.{UnitRows}
 use Rattle.plant_ration.specs.Grid.{Grid}
 use Rattle.plant_types.proofs.Orders.{same_names, same_pairs}
-use Rattle.plant_types.proofs.TableLaws.{put-rows, remove-rows, tied}
+use Rattle.plant_types.proofs.KeyedRowLaws.{put-rows, remove-rows, tied}
 use Rattle.plant_types.specs.Names.{Name, name_cmp, same_name}
 use Rattle.plant_types.specs.Options.{or_else, when}
 use Rattle.plant_types.specs.Roles.{Pair, same_pair}

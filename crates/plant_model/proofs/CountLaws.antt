@@ -24,6 +24,7 @@ use Rattle.plant_model.specs.declared.reply.Refused.TheVariants.{MomentBehind, N
 use Rattle.plant_model.specs.declared.reply.Reply.{Reply}
 use Rattle.plant_model.specs.declared.reply.Reply.TheVariants.{Done, Number}
 use Rattle.plant_ration.specs.declared.change.ChangeState.TheVariants.{Approved, Rejected, Withdrawn}
+use Rattle.plant_types.specs.Limits.{max_changes}
 use Rattle.plant_types.specs.Names.{Name, same_name}
 use Rattle.plant_types.specs.Options.{or_else, when}
 use Rattle.plant_types.specs.declared.role.Role.{Role}
@@ -202,20 +203,20 @@ room_for false false true full x y z v rest r e = cc
 room_for false false false true x y z v rest r e = cc
 room_for false false false false x y z v rest r e = refl
 
-few_step : (h : List Call) (p : Name) (t : ℕ) (q : Request) → changes_history (verdict h (record { person = p; moment = t; request = q })) (record { person = p; moment = t; request = q }) ≡ true → proposals h ≤ 20000 → proposals (record { person = p; moment = t; request = q } ∷ h) ≤ 20000
+few_step : (h : List Call) (p : Name) (t : ℕ) (q : Request) → changes_history (verdict h (record { person = p; moment = t; request = q })) (record { person = p; moment = t; request = q }) ≡ true → proposals h ≤ max_changes → proposals (record { person = p; moment = t; request = q } ∷ h) ≤ max_changes
 few_step h p t (Propose u x) accepted le =
-    let free = room_for (not (holds_some (facts h) t p)) (not (held h t (p, Engineer))) (nat_lt t (last_moment h)) (nat_le 20000 (proposals h)) NotGranted (RoleLacking Engineer) (MomentBehind (last_moment h)) (UnitFull TooManyChanges) (kind_unknown (facts h) x.kind ++ kind_refusals (facts h) x.base x.kind) (Number (proposals h + 1)) (both_true (is_ok (verdict h (record { person = p; moment = t; request = Propose u x }))) true accepted).0 in
+    let free = room_for (not (holds_some (facts h) t p)) (not (held h t (p, Engineer))) (nat_lt t (last_moment h)) (nat_le max_changes (proposals h)) NotGranted (RoleLacking Engineer) (MomentBehind (last_moment h)) (UnitFull TooManyChanges) (kind_unknown (facts h) x.kind ++ kind_refusals (facts h) x.base x.kind) (Number (proposals h + 1)) (both_true (is_ok (verdict h (record { person = p; moment = t; request = Propose u x }))) true accepted).0 in
     below (proposals h) free
   where
-    below : (n : ℕ) → nat_le 20000 n ≡ false → n + 1 ≤ 20000
+    below : (n : ℕ) → nat_le max_changes n ≡ false → n + 1 ≤ max_changes
     below n e = grind (arith, nat_tests)
 few_step h p t _ accepted le = le
 
-opening_few : (p : Name) (t : ℕ) (q : Request) → is_opening q ≡ true → proposals (record { person = p; moment = t; request = q } ∷ []) ≤ 20000
+opening_few : (p : Name) (t : ℕ) (q : Request) → is_opening q ≡ true → proposals (record { person = p; moment = t; request = q } ∷ []) ≤ max_changes
 opening_few p t (OpenUnit u s m k) e = omega arith
 opening_few p t _ e = cc
 
-pub few_proposals : (h : List Call) → IsLegal h → proposals h ≤ 20000
+pub few_proposals : (h : List Call) → IsLegal h → proposals h ≤ max_changes
 few_proposals [] legal = absurd legal
 few_proposals (c ∷ []) legal = opening_few c.person c.moment c.request legal.0
 few_proposals (c ∷ b ∷ h) legal = few_step (b ∷ h) c.person c.moment c.request (both_true (not (is_opening c.request)) _ legal.0).1 (few_proposals (b ∷ h) legal.2)
@@ -230,7 +231,7 @@ filter-shorter test (k ∷ ks) =
     let rest = filter-shorter test ks in
     elim (test k) as (λ b. length (cond b (k ∷ filter test ks) (filter test ks)) ≤ suc (length ks)) [ true ↦ omega (arith, rest) | false ↦ omega (arith, rest) ]
 
-few_approvals : (h : List Call) → IsLegal h → approvals h ≤ 20000
+few_approvals : (h : List Call) → IsLegal h → approvals h ≤ max_changes
 few_approvals h legal =
     let decided = approvals_decided h legal in
     let some = filter-shorter (decided_in h) (numbers h) in
@@ -270,11 +271,11 @@ limit_approval a c before e = by c.request e where
   by _ e = cc
 
 -- so each revision is at most 20,000
-pub few_matrices : (h : List Call) → IsLegal h → matrix_revision h ≤ 20000
+pub few_matrices : (h : List Call) → IsLegal h → matrix_revision h ≤ max_changes
 few_matrices h legal = let some = fewer (λ c before. approved_matrix before c.request) matrix_approval h in let few = few_approvals h legal in omega (arith, some, few)
 
-pub few_records : (h : List Call) → IsLegal h → (a : Name) → record_revision h a ≤ 20000
+pub few_records : (h : List Call) → IsLegal h → (a : Name) → record_revision h a ≤ max_changes
 few_records h legal a = let some = fewer (λ c before. approved_sheet a before c.request) (sheet_approval a) h in let few = few_approvals h legal in omega (arith, some, few)
 
-pub few_limits : (h : List Call) → IsLegal h → (a : Name) → limit_revision h a ≤ 20000
+pub few_limits : (h : List Call) → IsLegal h → (a : Name) → limit_revision h a ≤ max_changes
 few_limits h legal a = let some = fewer (λ c before. approved_limit a before c.request) (limit_approval a) h in let few = few_approvals h legal in omega (arith, some, few)

@@ -2,7 +2,7 @@
 use Rattle.plant_import.proofs.Placed.{there}
 use Rattle.plant_model.proofs.ChangeLaws.{rows-same, with_request}
 use Rattle.plant_types.proofs.Orders.{same_names, same_numbers}
-use Rattle.plant_types.proofs.TableLaws.{put-rows, tied}
+use Rattle.plant_types.proofs.KeyedRowLaws.{put-rows, tied}
 use Rattle.plant_model.proofs.Base.{base, x}
 use Rattle.plant_model.proofs.ChangeLaws.{Turns, put_row-map, said_anew}
 use Rattle.plant_model.proofs.HistoryLaws.{alarm_of, alarms_told, change_with, changes_told, numbers_of_changes, record_with, records_told, tag_of_record, tags_of_alarms, tags_of_records}
@@ -26,7 +26,7 @@ use Rattle.plant_model.specs.declared.reply.RecordRow.{RecordRow}
 use Rattle.plant_model.specs.declared.rows.AlarmRow.{AlarmRow}
 use Rattle.plant_model.specs.declared.rows.BandRow.{BandRow}
 use Rattle.plant_model.specs.declared.rows.CellRow.{CellRow}
-use Rattle.plant_model.specs.declared.rows.Change.TheVariants.{Put}
+use Rattle.plant_model.specs.declared.rows.RowEdit.TheVariants.{Put}
 use Rattle.plant_model.specs.declared.rows.Row.TheVariants.{Alarm as AlarmPut, Change as ChangePut, Unit as UnitPut}
 use Rattle.plant_model.specs.declared.rows.UnitRow.{UnitRow}
 use Rattle.plant_model.specs.declared.rows.UnitRows.{UnitRows}
@@ -39,7 +39,7 @@ use Rattle.plant_ration.specs.declared.change.ChangeState.TheVariants.{Approved,
 use Rattle.plant_ration.specs.declared.change.Sheet.{Sheet}
 use Rattle.plant_types.specs.Names.{Name, name_cmp, same_name}
 use Rattle.plant_types.specs.Options.{or_else, when}
-use Rattle.plant_types.specs.Tables.{put_row}
+use Rattle.plant_types.specs.KeyedRows.{put_row}
 use Rattle.std.proofs.Common.{ap, cond, refl, sym, ◌∙◌}
 use Rattle.std.specs.Option.{option_to_list}
 use Rattle.std.specs.Ordering.{nat_cmp}

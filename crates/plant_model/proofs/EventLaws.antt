@@ -35,10 +35,11 @@ use Rattle.plant_model.specs.declared.reply.Refused.TheVariants.{MomentBehind, N
 use Rattle.plant_model.specs.declared.reply.Reply.{Reply}
 use Rattle.plant_model.specs.declared.rows.AlarmRow.{AlarmRow}
 use Rattle.plant_types.proofs.Orders.{same_names}
-use Rattle.plant_types.proofs.TableLaws.{IsInOrder-rows, row_at-rows, tied}
+use Rattle.plant_types.proofs.KeyedRowLaws.{IsInOrder-rows, row_at-rows, tied}
+use Rattle.plant_types.specs.Limits.{max_events}
 use Rattle.plant_types.specs.Names.{Name, name_cmp, same_name}
 use Rattle.plant_types.specs.Options.{or_else}
-use Rattle.plant_types.specs.Tables.{IsInOrder, in_order, row_at}
+use Rattle.plant_types.specs.KeyedRows.{IsInOrder, in_order, row_at}
 use Rattle.plant_types.specs.declared.role.Role.TheVariants.{Operator}
 use Rattle.std.proofs.Common.{ap, cond, refl, subst, sym, true, ◌++◌, ◌+◌, ◌∙◌, ◌≡◌}
 use Rattle.std.proofs.lemmas.List.Folds.{list_any-append}
@@ -49,7 +50,7 @@ use Rattle.std.specs.Prelude.{Bool, Err, List, None, Ok, Option, Result, Some, [
 -- what the acceptance of an import says of its file
 abbrev FileAccepted : List Call → ℕ → Result (List Event) BadFile → Type 0
 FileAccepted h t (Err fault) = ⊥
-FileAccepted h t (Ok rows) = (nat_lt 100000 (length (events h) + length (new_numbers (events h) rows)) ≡ false) × (first_fault (tags_of (facts h)) t 2 (events h) rows ≡ None)
+FileAccepted h t (Ok rows) = (nat_lt max_events (length (events h) + length (new_numbers (events h) rows)) ≡ false) × (first_fault (tags_of (facts h)) t 2 (events h) rows ≡ None)
 
 taken_apart : (full : Bool) (x : Refused) (fault : Option BadFile) (r : Reply) → is_ok (refused_or (first_refusal ((full, x) ∷ fault_entries fault)) r) ≡ true → (full ≡ false) × (fault ≡ None)
 taken_apart true x fault r e = cc
@@ -64,7 +65,7 @@ after_three false false false x y z own r e = e
 
 file_accepted : (h : List Call) (t : ℕ) (file : Result (List Event) BadFile) (r : Reply) → is_ok (refused_or (first_refusal (file_refusals (facts h) t file)) r) ≡ true → FileAccepted h t file
 file_accepted h t (Err fault) r e = cc
-file_accepted h t (Ok rows) r e = taken_apart (nat_lt 100000 (length (events h) + length (new_numbers (events h) rows))) (UnitFull TooManyEvents) (first_fault (tags_of (facts h)) t 2 (events h) rows) r e
+file_accepted h t (Ok rows) r e = taken_apart (nat_lt max_events (length (events h) + length (new_numbers (events h) rows))) (UnitFull TooManyEvents) (first_fault (tags_of (facts h)) t 2 (events h) rows) r e
 
 pub import_accepted : (h : List Call) (p : Name) (t : ℕ) (u : Name) (file : Result (List Event) BadFile) → changes_history (verdict h (record { person = p; moment = t; request = Import u file })) (record { person = p; moment = t; request = Import u file }) ≡ true → FileAccepted h t file
 import_accepted h p t u file accepted =

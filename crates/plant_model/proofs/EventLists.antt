@@ -14,7 +14,7 @@ use Rattle.plant_import.specs.Numbers.{has_number}
 use Rattle.plant_model.specs.RowFacts.{event_number}
 use Rattle.plant_types.specs.Names.{Name, same_name}
 use Rattle.plant_types.specs.Options.{or_else, when}
-use Rattle.plant_types.specs.Tables.{IsInOrder}
+use Rattle.plant_types.specs.KeyedRows.{IsInOrder}
 use Rattle.std.proofs.Common.{Equal, Greater, Less, T, ap, arith, cond, refl, subst, sym, true, ◌++◌, ◌+◌, ◌<◌, ◌∙◌, ◌≡◌}
 use Rattle.std.proofs.lemmas.Bool.{eq-eqb, ltb-false}
 use Rattle.std.proofs.lemmas.List.Folds.{list_any-append}

@@ -18,7 +18,7 @@ use Rattle.plant_ration.specs.declared.change.ChangeKind.TheVariants.{Limit, Mat
 use Rattle.plant_ration.specs.declared.change.Sheet.{Sheet}
 use Rattle.plant_types.specs.Names.{same_name}
 use Rattle.plant_types.specs.Options.{or_else, when}
-use Rattle.plant_types.specs.Tables.{in_order}
+use Rattle.plant_types.specs.KeyedRows.{in_order}
 use Rattle.std.proofs.Common.{sym}
 use Rattle.std.specs.List.{cons_option}
 use Rattle.std.specs.Ordering.{eq_by_cmp, nat_cmp}
@@ -38,10 +38,10 @@ use Rattle.plant_model.specs.RowFacts.{alarm_tag, pair_of, shelf_tag}
 use Rattle.plant_model.specs.Rows.{alarm_row, alarm_rows, grant_as, grant_row, grant_rows, rows_of, shelf_rows}
 use Rattle.plant_model.specs.Shelves.{shelf}
 use Rattle.plant_types.proofs.Orders.{number_total, same_numbers}
-use Rattle.plant_types.proofs.TableLaws.{row_at-rows, tied}
+use Rattle.plant_types.proofs.KeyedRowLaws.{row_at-rows, tied}
 use Rattle.plant_types.specs.Names.{Name, name_cmp}
 use Rattle.plant_types.specs.Roles.{Pair, pair_cmp, same_pair}
-use Rattle.plant_types.specs.Tables.{row_at}
+use Rattle.plant_types.specs.KeyedRows.{row_at}
 
 abbrev mapped : {A B : Type 0} → (A → B) → List A → List B
 mapped f xs = map f xs

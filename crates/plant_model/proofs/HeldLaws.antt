@@ -17,11 +17,11 @@ use Rattle.plant_model.specs.Grants.{held, holds_any, is_before, roles_held}
 use Rattle.plant_model.specs.RowFacts.{pair_of}
 use Rattle.plant_model.specs.Rows.{grant_row, grant_rows}
 use Rattle.plant_types.proofs.Orders.{same_names, same_roles}
-use Rattle.plant_types.proofs.TableLaws.{IsInOrder-rows, IsInOrder-told, row_at-told, same_rows}
+use Rattle.plant_types.proofs.KeyedRowLaws.{IsInOrder-rows, IsInOrder-told, row_at-told, same_rows}
 use Rattle.plant_types.specs.Names.{Name, name_cmp, same_name}
 use Rattle.plant_types.specs.Options.{when}
 use Rattle.plant_types.specs.Roles.{Pair, all_roles, pair_cmp, role_no}
-use Rattle.plant_types.specs.Tables.{IsInOrder, row_at}
+use Rattle.plant_types.specs.KeyedRows.{IsInOrder, row_at}
 
 abbrev pub role_cmp : Role → Role → Ordering
 role_cmp r s = nat_cmp (role_no r) (role_no s)

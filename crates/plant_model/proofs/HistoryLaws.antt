@@ -27,7 +27,7 @@ use Rattle.plant_model.specs.declared.call.Request.TheVariants.{Grant, OneShotSh
 use Rattle.plant_model.specs.declared.rows.AlarmRow.{AlarmRow}
 use Rattle.plant_model.specs.declared.rows.ShelfRow.{ShelfRow}
 use Rattle.plant_types.proofs.Orders.{name_total, number_total, pair_total, same_names, same_numbers, same_pairs}
-use Rattle.plant_types.proofs.TableLaws.{Tells, tied}
+use Rattle.plant_types.proofs.KeyedRowLaws.{Tells, tied}
 use Rattle.plant_types.specs.Names.{Name, name_cmp, same_name}
 use Rattle.plant_types.specs.Options.{or_else, when}
 use Rattle.plant_types.specs.Roles.{Pair, pair_cmp}

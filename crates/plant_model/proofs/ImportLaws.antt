@@ -28,10 +28,10 @@ use Rattle.plant_model.specs.declared.call.Request.TheVariants.{Import}
 use Rattle.plant_model.specs.declared.rows.AlarmRow.{AlarmRow}
 use Rattle.plant_model.specs.declared.rows.UnitRows.{UnitRows}
 use Rattle.plant_types.proofs.Orders.{number_total, same_numbers}
-use Rattle.plant_types.proofs.TableLaws.{IsInOrder-rows, Tells, row_at-rows, same_rows}
+use Rattle.plant_types.proofs.KeyedRowLaws.{IsInOrder-rows, Tells, row_at-rows, same_rows}
 use Rattle.plant_types.specs.Names.{Name, name_cmp, same_name}
 use Rattle.plant_types.specs.Options.{or_else, when}
-use Rattle.plant_types.specs.Tables.{in_order}
+use Rattle.plant_types.specs.KeyedRows.{in_order}
 use Rattle.std.proofs.Common.{ap, cond, inl, inr, refl, subst, sym, true, ◌∙◌, ◌≡◌}
 use Rattle.std.specs.List.{cons_option, find, list_any}
 use Rattle.std.specs.Ordering.{nat_cmp}

@@ -28,9 +28,9 @@ use Rattle.plant_model.specs.RowFacts.{band_key, cell_key}
 use Rattle.plant_model.specs.Rows.{band_row, cell_row}
 use Rattle.plant_ration.specs.Grid.{Grid}
 use Rattle.plant_types.proofs.Orders.{then_Equal}
-use Rattle.plant_types.proofs.TableLaws.{Tells, settled, tied}
+use Rattle.plant_types.proofs.KeyedRowLaws.{Tells, settled, tied}
 use Rattle.plant_types.specs.Options.{or_else, when}
-use Rattle.plant_types.specs.Tables.{row_at}
+use Rattle.plant_types.specs.KeyedRows.{row_at}
 
 abbrev pub band_key_of : ℕ → ℕ → BandKey
 band_key_of n b = (n, b)

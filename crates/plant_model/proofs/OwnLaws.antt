@@ -10,7 +10,7 @@ use Rattle.plant_model.specs.Verdicts.{changes_history, is_opening, verdict}
 use Rattle.plant_model.specs.Worlds.{World, answer_at, by_admin, history, next_at, opening, unit_answer, unit_named, with_call}
 use Rattle.plant_model.specs.declared.call.Call.{Call}
 use Rattle.plant_types.proofs.Orders.{name_total, same_names}
-use Rattle.plant_types.proofs.TableLaws.{tied}
+use Rattle.plant_types.proofs.KeyedRowLaws.{tied}
 use Rattle.plant_types.specs.Names.{Name, name_cmp, same_name}
 
 follow : (admin u : Name) (h : List Call) (c : Call) → IsHistoryOf admin u h → IsEntryOf u c → not (is_opening c.request) ≡ true → IsHistoryOf admin u (c ∷ h)

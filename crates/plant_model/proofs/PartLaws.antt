@@ -24,8 +24,8 @@ use Rattle.plant_model.specs.declared.reply.RecordRow.{RecordRow}
 use Rattle.plant_model.specs.declared.reply.Refused.TheVariants.{AlarmTaken, AlarmUnknown, AlreadyOutOfService, ConditionAlreadyShelved, ConditionNotShelved, MomentBehind, NotGranted, NotOutOfService, NotProposed, RecordUnknown, RoleLacking, SamePerson, ShelfQuota, ShelvingTimeOutOfRange, UnitFull}
 use Rattle.plant_model.specs.declared.reply.Reply.TheVariants.{Floods as FloodsOf}
 use Rattle.plant_model.specs.declared.rows.AlarmRow.{AlarmRow}
-use Rattle.plant_model.specs.declared.rows.Change.{Change}
-use Rattle.plant_model.specs.declared.rows.Change.TheVariants.{Put}
+use Rattle.plant_model.specs.declared.rows.RowEdit.{RowEdit}
+use Rattle.plant_model.specs.declared.rows.RowEdit.TheVariants.{Put}
 use Rattle.plant_model.specs.declared.rows.ChangeEntry.{ChangeEntry}
 use Rattle.plant_model.specs.declared.rows.ChangeTopic.{ChangeTopic}
 use Rattle.plant_model.specs.declared.rows.ChangeTopic.TheVariants.{Limit as LimitTopic, Matrix as MatrixTopic, Record as RecordTopic}
@@ -43,10 +43,11 @@ use Rattle.plant_ration.specs.declared.change.ChangeState.TheVariants.{Approved}
 use Rattle.plant_ration.specs.declared.change.Proposal.{Proposal}
 use Rattle.plant_ration.specs.declared.change.Sheet.{Sheet}
 use Rattle.plant_types.proofs.Orders.{then_Equal}
-use Rattle.plant_types.proofs.TableLaws.{tied}
+use Rattle.plant_types.proofs.KeyedRowLaws.{tied}
+use Rattle.plant_types.specs.Limits.{max_alarms}
 use Rattle.plant_types.specs.Names.{Name, name_cmp, same_name}
 use Rattle.plant_types.specs.Roles.{pair_cmp, role_no}
-use Rattle.plant_types.specs.Tables.{row_at}
+use Rattle.plant_types.specs.KeyedRows.{row_at}
 use Rattle.plant_types.specs.declared.role.Role.{Role}
 use Rattle.plant_types.specs.declared.role.Role.TheVariants.{Approver, Engineer, Maintainer, Operator, Steward, Viewer}
 use Rattle.std.proofs.Common.{ap, arith, refl, sym, ◌∙◌, ◌≤◌}
@@ -277,7 +278,7 @@ module _ (rows : UnitRows) (p : Name) (t : ℕ) where
   approved_there n None e = numbered_there n ∙ ap (option_map (change_read rows)) e
   approved_there n (Some c) e = change_there (approved n c.tag c.kind_no) n (or_later _ _ (itself_number n)) (or_later _ _ (itself_number n)) ∙ ap (option_map (change_read rows)) e
 
-  abbrev row_after : Option ChangeRow → Change
+  abbrev row_after : Option ChangeRow → RowEdit
   row_after c = Put (UnitPut (approved_row t (unit_read rows) c))
 
   approval_refused : (n : ℕ) (o : Option ChangeEntry) → change_found rows n ≡ o → of_change ((chosen (of_approved rows n o)).change n) (refusals_by (chosen (of_approved rows n o))) ≡ of_change (option_map (change_read rows) o) (refusals_by (facts_of rows))
@@ -308,7 +309,7 @@ module _ (rows : UnitRows) (p : Name) (t : ℕ) where
   own_same (OpenUnit u s m k) = refl
   own_same (Grant u q r) = ap (λ gs. own_refusals (with_grants gs) p t (Grant u q r)) (all_grants p rows.grants)
   own_same (Withdraw u q r) = ap (λ gs. own_refusals (with_grants gs) p t (Withdraw u q r)) (all_grants p rows.grants)
-  own_same (Register u a l max) = ap (λ o. (nat_le 2000 (length rows.alarms), UnitFull TooManyAlarms) ∷ (is_some o, AlarmTaken) ∷ []) (alarm_there a)
+  own_same (Register u a l max) = ap (λ o. (nat_le max_alarms (length rows.alarms), UnitFull TooManyAlarms) ∷ (is_some o, AlarmTaken) ∷ []) (alarm_there a)
   own_same (Import u file) = ap (λ alarms. own_refusals (with_alarms alarms) p t (Import u file)) (filter-true rows.alarms)
   own_same (Floods u begin until) = refl
   own_same (TimedShelve u a d w) = λ i.
@@ -366,7 +367,7 @@ module _ (rows : UnitRows) (p : Name) (t : ℕ) where
   holder_verdict q = λ i.
       refused_or (first_refusal ((not (own_roles q i), NotGranted) ∷ (own_lack q (role_needed q) i ++ (nat_lt t (unit_read rows).last_s, MomentBehind (unit_read rows).last_s) ∷ own_same q i))) (reply_same q i)
 
-  abbrev alarm_changed : (AlarmRow → AlarmRow) → Option AlarmRow → List Change
+  abbrev alarm_changed : (AlarmRow → AlarmRow) → Option AlarmRow → List RowEdit
   alarm_changed g o = Put (UnitPut (record (unit_read rows) { last_s = t })) ∷ map (λ r. Put (AlarmPut (g r))) (option_to_list o)
 
   -- and so are the changes

@@ -27,7 +27,8 @@ use Rattle.plant_model.specs.declared.rows.AlarmRow.{AlarmRow}
 use Rattle.plant_ration.specs.declared.change.ChangeKind.{ChangeKind}
 use Rattle.plant_ration.specs.declared.change.ChangeKind.TheVariants.{Limit, Matrix, Rationale}
 use Rattle.plant_types.proofs.Orders.{same_names}
-use Rattle.plant_types.proofs.TableLaws.{tied}
+use Rattle.plant_types.proofs.KeyedRowLaws.{tied}
+use Rattle.plant_types.specs.Limits.{max_changes}
 use Rattle.plant_types.specs.Names.{Name, same_name}
 use Rattle.plant_types.specs.Options.{or_else, when}
 use Rattle.plant_types.specs.declared.role.Role.{Role}
@@ -127,7 +128,7 @@ latched_of h a = is_some-map (alarm_of h a) (latching h a)
 proposed_there : (h : List Call) (p : Name) (t : ℕ) (u b : Name) (max base : ℕ) → changes_history (verdict h (record { person = p; moment = t; request = Propose u (record { kind = Limit b max; base = base }) })) (record { person = p; moment = t; request = Propose u (record { kind = Limit b max; base = base }) }) ≡ true → is_some (latching h b) ≡ true
 proposed_there h p t u b max base accepted =
     sym (latched_of h b)
-    ∙ there_of_kind (not (holds_some (facts h) t p)) (not (held h t (p, Engineer))) (nat_lt t (last_moment h)) (nat_le 20000 (proposals h)) NotGranted (RoleLacking Engineer) (MomentBehind (last_moment h)) (UnitFull TooManyChanges) (alarm_row h b) (base_changed base (limit_revision_of (facts h) b) ∷ []) (Number (proposals h + 1))
+    ∙ there_of_kind (not (holds_some (facts h) t p)) (not (held h t (p, Engineer))) (nat_lt t (last_moment h)) (nat_le max_changes (proposals h)) NotGranted (RoleLacking Engineer) (MomentBehind (last_moment h)) (UnitFull TooManyChanges) (alarm_row h b) (base_changed base (limit_revision_of (facts h) b) ∷ []) (Number (proposals h + 1))
     (both_true (is_ok (verdict h (record { person = p; moment = t; request = Propose u (record { kind = Limit b max; base = base }) }))) true accepted).0
 
 opening_drafts : (n : ℕ) (p : Name) (t : ℕ) (q : Request) → is_opening q ≡ true → said_of_draft n p t [] q ≡ None

@@ -11,14 +11,14 @@ use Rattle.plant_model.specs.RowFacts.{alarm_tag, band_key, cell_key, event_numb
 use Rattle.plant_model.specs.declared.rows.AlarmRow.{AlarmRow}
 use Rattle.plant_model.specs.declared.rows.BandRow.{BandRow}
 use Rattle.plant_model.specs.declared.rows.CellRow.{CellRow}
-use Rattle.plant_model.specs.declared.rows.Change.{Change}
-use Rattle.plant_model.specs.declared.rows.Change.TheVariants.{Put}
+use Rattle.plant_model.specs.declared.rows.RowEdit.{RowEdit}
+use Rattle.plant_model.specs.declared.rows.RowEdit.TheVariants.{Put}
 use Rattle.plant_model.specs.declared.rows.Row.TheVariants.{Alarm as AlarmPut, Band as BandPut, Cell as CellPut, Event as EventPut}
 use Rattle.plant_model.specs.declared.rows.UnitRows.{UnitRows}
-use Rattle.plant_types.proofs.TableLaws.{IsInOrder-put_row, IsInOrder-rows, Tells, row_at-in_order, row_at-put_row, row_at-rows, same_rows, settled, tied}
+use Rattle.plant_types.proofs.KeyedRowLaws.{IsInOrder-put_row, IsInOrder-rows, Tells, row_at-in_order, row_at-put_row, row_at-rows, same_rows, settled, tied}
 use Rattle.plant_types.specs.Names.{name_cmp}
 use Rattle.plant_types.specs.Options.{or_else, when}
-use Rattle.plant_types.specs.Tables.{IsInOrder, in_order, put_row, row_at}
+use Rattle.plant_types.specs.KeyedRows.{IsInOrder, in_order, put_row, row_at}
 use Rattle.std.proofs.Common.{ap, refl, sym, ◌∙◌}
 use Rattle.std.specs.Cmp.{IsTotalOrder}
 use Rattle.std.specs.List.{cons_option}
@@ -87,7 +87,7 @@ module _ {K X : Type 0} {R : K → K → Ordering} {key : X → K} where
       (λ q. row_at-puts R key t.order t.same q rs _ ∙ ap (or_else (said R key rs q)) (row_at-rows old ks t q) ∙ sym (is q) ∙ sym (row_at-rows new ks' u q))
 
 -- lists of puts on one table
-pub put_bands : (rs : List BandRow) (rest : List Change) (rows : UnitRows) → changed_by (map (λ r. Put (BandPut r)) rs ++ rest) rows ≡ changed_by rest (record rows { bands = puts band_cmp band_key rs rows.bands })
+pub put_bands : (rs : List BandRow) (rest : List RowEdit) (rows : UnitRows) → changed_by (map (λ r. Put (BandPut r)) rs ++ rest) rows ≡ changed_by rest (record rows { bands = puts band_cmp band_key rs rows.bands })
 put_bands [] rest rows = refl
 put_bands (r ∷ rs) rest rows = put_bands rs rest (put (BandPut r) rows)
 
@@ -95,7 +95,7 @@ pub put_cells : (rs : List CellRow) (rows : UnitRows) → changed_by (map (λ r.
 put_cells [] rows = refl
 put_cells (r ∷ rs) rows = put_cells rs (put (CellPut r) rows)
 
-pub put_events : (es : List Event) (rest : List Change) (rows : UnitRows) → changed_by (map (λ e. Put (EventPut e)) es ++ rest) rows ≡ changed_by rest (record rows { events = puts nat_cmp event_number es rows.events })
+pub put_events : (es : List Event) (rest : List RowEdit) (rows : UnitRows) → changed_by (map (λ e. Put (EventPut e)) es ++ rest) rows ≡ changed_by rest (record rows { events = puts nat_cmp event_number es rows.events })
 put_events [] rest rows = refl
 put_events (e ∷ es) rest rows = put_events es rest (put (EventPut e) rows)
 

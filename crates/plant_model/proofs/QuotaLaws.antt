@@ -33,10 +33,11 @@ use Rattle.plant_model.specs.declared.rows.AlarmRow.{AlarmRow}
 use Rattle.plant_model.specs.declared.rows.ShelfRow.{ShelfRow}
 use Rattle.plant_model.specs.declared.rows.UnitRows.{UnitRows}
 use Rattle.plant_types.proofs.Orders.{name_total, same_names}
-use Rattle.plant_types.proofs.TableLaws.{IsInOrder-rows, row_at-rows, tied}
+use Rattle.plant_types.proofs.KeyedRowLaws.{IsInOrder-rows, row_at-rows, tied}
+use Rattle.plant_types.specs.Limits.{max_alarms}
 use Rattle.plant_types.specs.Names.{Name, name_cmp, same_name}
 use Rattle.plant_types.specs.Options.{or_else, when}
-use Rattle.plant_types.specs.Tables.{IsInOrder, in_order, put_row, row_at}
+use Rattle.plant_types.specs.KeyedRows.{IsInOrder, in_order, put_row, row_at}
 use Rattle.plant_types.specs.declared.role.Role.TheVariants.{Engineer, Operator}
 use Rattle.std.proofs.Common.{ap, arith, refl, subst, sym, ◌++◌, ◌∙◌}
 use Rattle.std.proofs.lemmas.Bool.Decides.{nat_tests}
@@ -68,13 +69,13 @@ length-put r (e ∷ es) =
     let rest = length-put r es in
     elim (name_cmp r.tag e.tag) as (λ o. length (by_order o (r ∷ e ∷ es) (r ∷ es) (e ∷ put_row name_cmp alarm_tag r es)) ≤ length (e ∷ es) + 1) [ Less ↦ omega arith | Equal ↦ omega arith | Greater ↦ omega (arith, rest) ]
 
-few_before : (h : List Call) (p : Name) (t : ℕ) (u a : Name) (l : Bool) (max : ℕ) → may_follow h (record { person = p; moment = t; request = Register u a l max }) ≡ true → length (alarm_rows h) < 2000
+few_before : (h : List Call) (p : Name) (t : ℕ) (u a : Name) (l : Bool) (max : ℕ) → may_follow h (record { person = p; moment = t; request = Register u a l max }) ≡ true → length (alarm_rows h) < max_alarms
 few_before h p t u a l max may =
     let c : Call = record { person = p; moment = t; request = Register u a l max } in
     let accepted = (both_true (is_ok (verdict h c)) true (both_true true _ may).1).0 in
-    let room : nat_le 2000 (length (alarm_rows h)) ≡ false = passed (not (holds_some (facts h) t p)) (not (held h t (p, Engineer))) (nat_lt t (last_moment h)) _ NotGranted (RoleLacking Engineer) (MomentBehind (last_moment h)) (UnitFull TooManyAlarms) ((is_some (alarm_row h a), AlarmTaken) ∷ []) Done accepted in
+    let room : nat_le max_alarms (length (alarm_rows h)) ≡ false = passed (not (holds_some (facts h) t p)) (not (held h t (p, Engineer))) (nat_lt t (last_moment h)) _ NotGranted (RoleLacking Engineer) (MomentBehind (last_moment h)) (UnitFull TooManyAlarms) ((is_some (alarm_row h a), AlarmTaken) ∷ []) Done accepted in
     lt_of (length (alarm_rows h)) room where
-      lt_of : (n : ℕ) → nat_le 2000 n ≡ false → n < 2000
+      lt_of : (n : ℕ) → nat_le max_alarms n ≡ false → n < max_alarms
       lt_of n e = grind (arith, nat_tests)
 
 -- as many rows are told where the same keys have one
@@ -94,24 +95,24 @@ as_many_alarms h c unsaid unnamed =
     length-told (alarm_row h) (alarm_row (c ∷ h)) (λ a. latched_of h a ∙ ap (λ o. is_some (or_else o (latching h a))) (sym (unsaid a)) ∙ sym (latched_of (c ∷ h) a)) (in_order name_cmp (tags_of_alarms h))
     ∙ ap (λ tags. length (filter_map (alarm_row (c ∷ h)) (in_order name_cmp (tags ++ tags_of_alarms h)))) (sym unnamed)
 
-more_alarms : (h : List Call) → IsLegal h → (p : Name) (t : ℕ) (q : Request) → may_follow h (record { person = p; moment = t; request = q }) ≡ true → length (alarm_rows h) ≤ 2000 → length (alarm_rows (record { person = p; moment = t; request = q } ∷ h)) ≤ 2000
+more_alarms : (h : List Call) → IsLegal h → (p : Name) (t : ℕ) (q : Request) → may_follow h (record { person = p; moment = t; request = q }) ≡ true → length (alarm_rows h) ≤ max_alarms → length (alarm_rows (record { person = p; moment = t; request = q } ∷ h)) ≤ max_alarms
 more_alarms h legal p t (Register u a l max) may le =
     let c : Call = record { person = p; moment = t; request = Register u a l max } in
     let put : put_row name_cmp alarm_tag (alarm_as a max 0 [] None l) (alarm_rows h) ≡ alarm_rows (c ∷ h) = ap (λ (rows : UnitRows). rows.alarms) (register_turns h p t u a l max (unspoken h legal a (registered_anew h p t u a l max (both_true true _ may).1))) in
     let few = few_before h p t u a l max may in
     let long = length-put (alarm_as a max 0 [] None l) (alarm_rows h) in
-    subst (λ rows. length rows ≤ 2000) put (omega (arith, few, long))
-more_alarms h legal p t (RemoveFromService u a w) may le = subst (λ n. n ≤ 2000) (as_many_alarms h (record { person = p; moment = t; request = RemoveFromService u a w }) (λ b. refl) refl) le
-more_alarms h legal p t (PlaceInService u a) may le = subst (λ n. n ≤ 2000) (as_many_alarms h (record { person = p; moment = t; request = PlaceInService u a }) (λ b. refl) refl) le
-more_alarms h legal p t (Import u file) may le = subst (λ n. n ≤ 2000) (as_many_alarms h (record { person = p; moment = t; request = Import u file }) (λ b. refl) refl) le
-more_alarms h legal p t (Approve u n) may le = subst (λ n. n ≤ 2000) (as_many_alarms h (record { person = p; moment = t; request = Approve u n }) (λ b. refl) refl) le
+    subst (λ rows. length rows ≤ max_alarms) put (omega (arith, few, long))
+more_alarms h legal p t (RemoveFromService u a w) may le = subst (λ n. n ≤ max_alarms) (as_many_alarms h (record { person = p; moment = t; request = RemoveFromService u a w }) (λ b. refl) refl) le
+more_alarms h legal p t (PlaceInService u a) may le = subst (λ n. n ≤ max_alarms) (as_many_alarms h (record { person = p; moment = t; request = PlaceInService u a }) (λ b. refl) refl) le
+more_alarms h legal p t (Import u file) may le = subst (λ n. n ≤ max_alarms) (as_many_alarms h (record { person = p; moment = t; request = Import u file }) (λ b. refl) refl) le
+more_alarms h legal p t (Approve u n) may le = subst (λ n. n ≤ max_alarms) (as_many_alarms h (record { person = p; moment = t; request = Approve u n }) (λ b. refl) refl) le
 more_alarms h legal p t _ may le = le
 
-no_alarms : (p : Name) (t : ℕ) (q : Request) → is_opening q ≡ true → length (alarm_rows (record { person = p; moment = t; request = q } ∷ [])) ≤ 2000
+no_alarms : (p : Name) (t : ℕ) (q : Request) → is_opening q ≡ true → length (alarm_rows (record { person = p; moment = t; request = q } ∷ [])) ≤ max_alarms
 no_alarms p t (OpenUnit u s m n) e = omega arith
 no_alarms p t _ e = cc
 
-pub few_alarms : (h : List Call) → IsLegal h → length (alarm_rows h) ≤ 2000
+pub few_alarms : (h : List Call) → IsLegal h → length (alarm_rows h) ≤ max_alarms
 few_alarms [] legal = absurd legal
 few_alarms (c ∷ []) legal = no_alarms c.person c.moment c.request legal.0
 few_alarms (c ∷ d ∷ before) legal = more_alarms (d ∷ before) legal.2 c.person c.moment c.request legal.0 (few_alarms (d ∷ before) legal.2)

@@ -15,10 +15,10 @@ use Rattle.plant_model.specs.declared.call.Request.{Request}
 use Rattle.plant_model.specs.declared.call.Request.TheVariants.{Approve, OpenUnit, Propose}
 use Rattle.plant_ration.specs.declared.change.ChangeKind.{ChangeKind}
 use Rattle.plant_ration.specs.declared.change.ChangeKind.TheVariants.{Limit, Matrix, Rationale}
-use Rattle.plant_types.proofs.TableLaws.{put-rows}
+use Rattle.plant_types.proofs.KeyedRowLaws.{put-rows}
 use Rattle.plant_types.specs.Names.{Name}
 use Rattle.plant_types.specs.Options.{or_else, when}
-use Rattle.plant_types.specs.Tables.{put_row}
+use Rattle.plant_types.specs.KeyedRows.{put_row}
 use Rattle.std.specs.FinMap.Entries.{by_order}
 use Rattle.std.specs.Prelude.{is_some, max, not, ◌-◌}
 use Rattle.plant_import.proofs.Placed.{there}
@@ -38,8 +38,8 @@ use Rattle.plant_model.specs.declared.rows.CellRow.{CellRow}
 use Rattle.plant_ration.specs.Grid.{Grid}
 use Rattle.plant_ration.specs.Matrix.{is_matrix}
 use Rattle.plant_ration.specs.declared.cell.Cell.{Cell}
-use Rattle.plant_types.proofs.TableLaws.{IsInOrder-rows, IsInOrder-told, Tells, row_at-rows, row_at-told, same_rows, settled, tied}
-use Rattle.plant_types.specs.Tables.{IsInOrder, in_order, row_at}
+use Rattle.plant_types.proofs.KeyedRowLaws.{IsInOrder-rows, IsInOrder-told, Tells, row_at-rows, row_at-told, same_rows, settled, tied}
+use Rattle.plant_types.specs.KeyedRows.{IsInOrder, in_order, row_at}
 use Rattle.std.proofs.Common.{eqb→eq, T, ap, append_assoc, arith, cond, inl, inr, length-append, refl, subst, sym, ◌∙◌, ◌⊎◌}
 use Rattle.std.proofs.lemmas.Bool.Decides.{nat_tests}
 use Rattle.std.specs.Cmp.{IsTotalOrder, nat_cmp_is}

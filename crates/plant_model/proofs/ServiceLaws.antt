@@ -19,7 +19,8 @@ use Rattle.plant_model.specs.declared.reply.Reply.{Reply}
 use Rattle.plant_model.specs.declared.reply.Reply.TheVariants.{Done}
 use Rattle.plant_model.specs.declared.rows.AlarmRow.{AlarmRow}
 use Rattle.plant_types.proofs.Orders.{same_names}
-use Rattle.plant_types.proofs.TableLaws.{tied}
+use Rattle.plant_types.proofs.KeyedRowLaws.{tied}
+use Rattle.plant_types.specs.Limits.{max_alarms}
 use Rattle.plant_types.specs.Names.{Name, same_name}
 use Rattle.plant_types.specs.Options.{or_else, when}
 use Rattle.plant_types.specs.declared.role.Role.TheVariants.{Engineer, Maintainer}
@@ -102,5 +103,5 @@ none_of (Some x) e = cc
 -- so it is registered anew
 pub registered_anew : (h : List Call) (p : Name) (t : ℕ) (u a : Name) (l : Bool) (max : ℕ) → changes_history (verdict h (record { person = p; moment = t; request = Register u a l max })) (record { person = p; moment = t; request = Register u a l max }) ≡ true → latching h a ≡ None
 registered_anew h p t u a l max accepted =
-    let fresh = fresh_alarm (not (holds_some (facts h) t p)) (not (held h t (p, Engineer))) (nat_lt t (last_moment h)) (nat_le 2000 (length (alarm_rows h))) NotGranted (RoleLacking Engineer) (MomentBehind (last_moment h)) (UnitFull TooManyAlarms) (alarm_row h a) Done (both_true (is_ok (verdict h (record { person = p; moment = t; request = Register u a l max }))) true accepted).0 in
+    let fresh = fresh_alarm (not (holds_some (facts h) t p)) (not (held h t (p, Engineer))) (nat_lt t (last_moment h)) (nat_le max_alarms (length (alarm_rows h))) NotGranted (RoleLacking Engineer) (MomentBehind (last_moment h)) (UnitFull TooManyAlarms) (alarm_row h a) Done (both_true (is_ok (verdict h (record { person = p; moment = t; request = Register u a l max }))) true accepted).0 in
     none_of (latching h a) (sym (is_some-map (alarm_of h a) (latching h a)) ∙ fresh)

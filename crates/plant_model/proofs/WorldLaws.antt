@@ -13,7 +13,7 @@ use Rattle.plant_model.specs.declared.call.Request.TheVariants.{OpenUnit, Grant,
 use Rattle.plant_model.specs.declared.reply.Reply.{Reply}
 use Rattle.plant_model.specs.declared.reply.Refused.{Refused}
 use Rattle.plant_model.specs.declared.reply.Refused.TheVariants.{NotGranted}
-use Rattle.plant_types.specs.Tables.{row_at, IsInOrder}
+use Rattle.plant_types.specs.KeyedRows.{row_at, IsInOrder}
 use Rattle.plant_types.specs.Names.{Name, name_cmp, same_name}
 use Rattle.plant_types.specs.Options.{when, or_else}
 use Rattle.plant_types.specs.Roles.{Pair, same_pair, all_roles}
@@ -25,7 +25,7 @@ use Rattle.plant_model.specs.Verdicts.{verdict, refused_or, changes_history, is_
 use Rattle.plant_model.specs.Worlds.{World, history, unit_named, unit_seen, units_held, opening, unit_answer, by_admin, is_taken, answer_at, answer, answer_of_units, with_call, next_at, next}
 use Rattle.plant_model.specs.Views.{codes_seen, view, grants_to}
 use Rattle.plant_model.specs.Laws.{UnseenCallsChangeNothing, CodesAreTheAdministrators, EqualViewsEqualAnswers, CallsToSeenUnits}
-use Rattle.plant_types.proofs.TableLaws.{tied, row_at-told, IsInOrder-told, same_rows}
+use Rattle.plant_types.proofs.KeyedRowLaws.{tied, row_at-told, IsInOrder-told, same_rows}
 use Rattle.plant_types.proofs.Orders.{name_total, same_names, then_Equal}
 
 -- Keys of a map

@@ -10,8 +10,9 @@ use Rattle.plant_model.specs.declared.call.Call.{Call}
 use Rattle.plant_model.specs.declared.call.Request.{Request}
 use Rattle.plant_model.specs.declared.call.Request.TheVariants.{Import}
 use Rattle.plant_model.specs.declared.reply.FloodLine.{FloodLine}
+use Rattle.plant_types.specs.Limits.{max_flood_seconds}
 use Rattle.plant_types.specs.Names.{Name}
-use Rattle.plant_types.specs.Tables.{in_order}
+use Rattle.plant_types.specs.KeyedRows.{in_order}
 use Rattle.std.specs.List.{find}
 use Rattle.std.specs.Ordering.{nat_cmp}
 use Rattle.std.specs.Prelude.{Bool, Err, List, Ok, Option, Result, [], filter_map, map, nat_le, nat_lt, ℕ, ◌%◌, ◌&&◌, ◌*◌, ◌+◌, ◌-◌, ◌==◌}
@@ -38,7 +39,7 @@ events_of h a = of_alarm a (events h)
 
 -- a range of whole periods of ten minutes, from 1 to 1,008 of them: a week
 abbrev pub is_aligned : ℕ → ℕ → Bool
-is_aligned begin until = (begin % 600 == 0) && (until % 600 == 0) && nat_lt begin until && nat_le (until - begin) 604800
+is_aligned begin until = (begin % 600 == 0) && (until % 600 == 0) && nat_lt begin until && nat_le (until - begin) max_flood_seconds
 
 -- the floods (ISA-18.2, IEC 62682) of a range
 abbrev pub flood_line : ℕ → Run → FloodLine

@@ -17,6 +17,7 @@ use Rattle.plant_model.specs.declared.call.Request.{Request}
 use Rattle.plant_model.specs.declared.call.Request.TheVariants.{Import}
 use Rattle.plant_model.specs.declared.rows.UnitRow.{UnitRow}
 use Rattle.plant_model.specs.declared.rows.UnitRows.{UnitRows}
+use Rattle.plant_types.specs.Limits.{max_events}
 use Rattle.plant_types.specs.Names.{Name}
 use Rattle.plant_types.specs.declared.role.Role.TheVariants.{Operator}
 use Rattle.std.specs.List.{flat_map, list_all}
@@ -85,5 +86,5 @@ ImportsAgree =
     → AreImportsInto h u (events h ++ rows_imported xs) (last_moment h) ys
     → SameMembers (rows_imported xs) (rows_imported ys)
     → is_fit (events h ++ rows_imported xs) ≡ true
-    → length (events h) + length (fresh (events h) (rows_imported xs)) ≤ 100000
+    → length (events h) + length (fresh (events h) (rows_imported xs)) ≤ max_events
     → AreAlike h xs ys

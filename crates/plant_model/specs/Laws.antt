@@ -1,4 +1,5 @@
 -- Isolation, over the definitions alone.
+use Rattle.plant_types.specs.Limits.{max_quota}
 use Rattle.std.specs.FinMap.{keys}
 use Rattle.std.specs.List.{list_all}
 use Rattle.std.specs.Prelude.{Bool, List, Some, false, is_none, is_some, true, ℕ, ◌<◌, ◌≡◌}
@@ -72,7 +73,7 @@ WithoutEndsStandingIsHolding =
 -- in a legal history fewer than 2,000 other alarms are shelved, whatever the moment: a quota of 2,000 refuses nothing
 abbrev pub QuotaOf2000RefusesNothing : Type 0
 QuotaOf2000RefusesNothing =
-    (h : List Call) → IsLegal h → (a : Name) (t : ℕ) → is_some (alarm_row h a) ≡ true → others_shelved (facts h) a t < 2000
+    (h : List Call) → IsLegal h → (a : Name) (t : ℕ) → is_some (alarm_row h a) ≡ true → others_shelved (facts h) a t < max_quota
 
 -- in a legal history the shelf that a verdict sees, by the alarm's last return, is what all its events leave of it: a one-shot
 -- shelf holds until some return after its start

@@ -1,4 +1,5 @@
 -- Whose a history is: its unit's, opened by the administrator, with values of their sets.
+use Rattle.plant_types.specs.Limits.{max_quota}
 use Rattle.std.specs.Prelude.{Bool, List, Some, [], is_none, nat_le, not, true, ◌&&◌, ◌∷◌, ◌||◌, ◌≡◌}
 use Rattle.std.specs.FinMap.{get}
 use Rattle.plant_ration.specs.Matrix.{is_matrix}
@@ -14,7 +15,7 @@ use Rattle.plant_types.specs.declared.role.Role.TheVariants.{Steward}
 
 -- the values of an opening are of their sets, and a steward's grant has no end
 abbrev pub has_values : Request → Bool
-has_values (OpenUnit u s m q) = is_text in_unit_code 8 u && is_text in_person 32 s && is_matrix m.limits m.cells && nat_le 1 q && nat_le q 2000
+has_values (OpenUnit u s m q) = is_text in_unit_code 8 u && is_text in_person 32 s && is_matrix m.limits m.cells && nat_le 1 q && nat_le q max_quota
 has_values (Grant u p t) = is_text in_person 32 p && (not (same_role t.0 Steward) || is_none t.1)
 has_values _ = true
 

@@ -13,6 +13,7 @@ use Rattle.plant_ration.specs.declared.change.ChangeKind.{ChangeKind}
 use Rattle.plant_ration.specs.declared.change.ChangeKind.TheVariants.{Limit, Matrix, Rationale}
 use Rattle.plant_ration.specs.declared.change.ChangeState.{ChangeState}
 use Rattle.plant_ration.specs.declared.change.ChangeState.TheVariants.{Proposed}
+use Rattle.plant_types.specs.Limits.{max_alarms, max_changes, max_events, max_grants}
 use Rattle.plant_types.specs.Names.{same_name}
 use Rattle.plant_types.specs.declared.role.Role.TheVariants.{Approver}
 use Rattle.std.specs.Prelude.{false, max}
@@ -56,7 +57,7 @@ fault_entries (Some fault) = (true, FileRefused fault) ∷ []
 
 abbrev pub file_refusals : Facts → ℕ → Result (List Event) BadFile → List (Bool × Refused)
 file_refusals f t (Err fault) = (true, FileRefused fault) ∷ []
-file_refusals f t (Ok rows) = (nat_lt 100000 (length f.events + length (new_numbers f.events rows)), UnitFull TooManyEvents) ∷ fault_entries (first_fault (tags_of f) t 2 f.events rows)
+file_refusals f t (Ok rows) = (nat_lt max_events (length f.events + length (new_numbers f.events rows)), UnitFull TooManyEvents) ∷ fault_entries (first_fault (tags_of f) t 2 f.events rows)
 
 -- a change of an alarm's record or limit: whether the alarm is there
 abbrev pub kind_unknown : Facts → ChangeKind → List (Bool × Refused)
@@ -92,16 +93,16 @@ of_change (Some c) refusals = (not (is_open c.state), NotProposed c.state) ∷ r
 
 -- the refusals of a request of this person at this moment
 abbrev pub own_refusals : Facts → Name → ℕ → Request → List (Bool × Refused)
-own_refusals f p t (Grant u q r) = (nat_le 500 f.pairs, UnitFull TooManyGrants) ∷ (f.held t (q, r.0), AlreadyHeld) ∷ (not (is_before t r.1), EndNotAhead) ∷ []
+own_refusals f p t (Grant u q r) = (nat_le max_grants f.pairs, UnitFull TooManyGrants) ∷ (f.held t (q, r.0), AlreadyHeld) ∷ (not (is_before t r.1), EndNotAhead) ∷ []
 own_refusals f p t (Withdraw u q r) = (not (f.stands (q, r)), NotHeld) ∷ (same_role r Steward && nat_le f.stewards 1, LastSteward) ∷ []
-own_refusals f p t (Register u a l m) = (nat_le 2000 f.alarm_count, UnitFull TooManyAlarms) ∷ (is_some (f.alarm a), AlarmTaken) ∷ []
+own_refusals f p t (Register u a l m) = (nat_le max_alarms f.alarm_count, UnitFull TooManyAlarms) ∷ (is_some (f.alarm a), AlarmTaken) ∷ []
 own_refusals f p t (Import u file) = file_refusals f t file
 own_refusals f p t (TimedShelve u a d w) = unknown f a ∷ (nat_lt (limit_of f a) d, ShelvingTimeOutOfRange (limit_of f a)) ∷ (is_timed (shelf_now f a t), ConditionAlreadyShelved) ∷ over_quota f a t ∷ []
 own_refusals f p t (OneShotShelve u a w) = unknown f a ∷ (is_one_shot (shelf_now f a t), ConditionAlreadyShelved) ∷ over_quota f a t ∷ []
 own_refusals f p t (Unshelve u a) = unknown f a ∷ (is_unshelved (shelf_now f a t), ConditionNotShelved) ∷ []
 own_refusals f p t (RemoveFromService u a w) = unknown f a ∷ (is_out f a, AlreadyOutOfService) ∷ []
 own_refusals f p t (PlaceInService u a) = unknown f a ∷ (not (is_out f a), NotOutOfService) ∷ []
-own_refusals f p t (Propose u x) = (nat_le 20000 f.change_count, UnitFull TooManyChanges) ∷ kind_unknown f x.kind ++ kind_refusals f x.base x.kind
+own_refusals f p t (Propose u x) = (nat_le max_changes f.change_count, UnitFull TooManyChanges) ∷ kind_unknown f x.kind ++ kind_refusals f x.base x.kind
 own_refusals f p t (WithdrawChange u n) = of_change (f.change n) (λ c. (not (same_name p c.proposer), NotProposer) ∷ [])
 own_refusals f p t (Approve u n) = of_change (f.change n) (λ c. (same_name p c.proposer, SamePerson) ∷ kind_refusals f c.base c.kind)
 own_refusals f p t (Reject u n) = of_change (f.change n) (λ c. (same_name p c.proposer, SamePerson) ∷ [])

@@ -26,8 +26,8 @@ use Rattle.plant_model.specs.Shelves.{shelf_row_as}
 use Rattle.plant_model.specs.declared.call.Call.{Call}
 use Rattle.plant_model.specs.declared.call.Request.{Request}
 use Rattle.plant_model.specs.declared.rows.AlarmRow.{AlarmRow}
-use Rattle.plant_model.specs.declared.rows.Change.{Change}
-use Rattle.plant_model.specs.declared.rows.Change.TheVariants.{Put, Remove}
+use Rattle.plant_model.specs.declared.rows.RowEdit.{RowEdit}
+use Rattle.plant_model.specs.declared.rows.RowEdit.TheVariants.{Put, Remove}
 use Rattle.plant_model.specs.declared.rows.Key.{Key}
 use Rattle.plant_model.specs.declared.rows.Key.TheVariants.{Grant as GrantKey, Shelf as ShelfKey}
 use Rattle.plant_model.specs.declared.rows.Row.{Row}
@@ -37,7 +37,7 @@ use Rattle.plant_model.specs.declared.rows.UnitRows.{UnitRows}
 use Rattle.plant_ration.specs.Grid.{Grid}
 use Rattle.plant_types.specs.Names.{Name, name_cmp, same_name}
 use Rattle.plant_types.specs.Roles.{pair_cmp}
-use Rattle.plant_types.specs.Tables.{put_row, remove_row}
+use Rattle.plant_types.specs.KeyedRows.{put_row, remove_row}
 use Rattle.plant_types.specs.declared.role.Role.TheVariants.{Steward}
 use Rattle.std.specs.List.{list_any}
 use Rattle.std.specs.Option.{option_to_list}
@@ -60,12 +60,12 @@ removed (GrantKey p r) rows = record rows { grants = remove_row pair_cmp pair_of
 removed (ShelfKey a) rows = record rows { shelves = remove_row name_cmp shelf_tag a rows.shelves }
 
 -- the rows after one change
-abbrev pub changed : Change → UnitRows → UnitRows
+abbrev pub changed : RowEdit → UnitRows → UnitRows
 changed (Put r) rows = put r rows
 changed (Remove k) rows = removed k rows
 
 -- the rows after changes, in their order
-abbrev pub changed_by : List Change → UnitRows → UnitRows
+abbrev pub changed_by : List RowEdit → UnitRows → UnitRows
 changed_by [] rows = rows
 changed_by (c ∷ cs) rows = changed_by cs (changed c rows)
 
@@ -74,29 +74,29 @@ abbrev pub no_rows : UnitRows
 no_rows = record { units = []; grants = []; alarms = []; shelves = []; events = []; bands = []; cells = []; records = []; changes = [] }
 
 -- some change puts the unit's own row
-abbrev pub is_unit_put : Change → Bool
+abbrev pub is_unit_put : RowEdit → Bool
 is_unit_put (Put (UnitPut r)) = true
 is_unit_put _ = false
 
-abbrev pub puts_unit : List Change → Bool
+abbrev pub puts_unit : List RowEdit → Bool
 puts_unit cs = list_any is_unit_put cs
 
 -- the rows of a matrix
-abbrev pub bands_of : ℕ → Grid → List Change
+abbrev pub bands_of : ℕ → Grid → List RowEdit
 bands_of n m = map (λ r. Put (BandPut r)) (filter_map (λ k. band_at k m) (band_places n m))
 
-abbrev pub cells_of : ℕ → Grid → List Change
+abbrev pub cells_of : ℕ → Grid → List RowEdit
 cells_of n m = map (λ r. Put (CellPut r)) (filter_map (λ k. cell_of k m) (cell_places n m))
 
-abbrev pub matrix_changes : ℕ → Grid → List Change
+abbrev pub matrix_changes : ℕ → Grid → List RowEdit
 matrix_changes n m = bands_of n m ++ cells_of n m
 
-abbrev pub kind_changes : ℕ → ChangeKind → List Change
+abbrev pub kind_changes : ℕ → ChangeKind → List RowEdit
 kind_changes n (Matrix m) = matrix_changes n m
 kind_changes n _ = []
 
 -- the alarm's row, changed
-abbrev pub with_alarm : Facts → Name → (AlarmRow → AlarmRow) → List Change
+abbrev pub with_alarm : Facts → Name → (AlarmRow → AlarmRow) → List RowEdit
 with_alarm f a row = map (λ r. Put (AlarmPut (row r))) (option_to_list (f.alarm a))
 
 -- an alarm that is out of service from a moment on, by a person and for a reason; one that is in service
@@ -117,10 +117,10 @@ is_touched kept rows r = list_any (λ e. same_name r.tag e.tag) (fresh kept rows
 abbrev pub with_state : List Event → AlarmRow → AlarmRow
 with_state es r = record r { state_no = state_of r.latching es; suppressed = is_suppressed es; active_s = active_since es; return_s = last_return es }
 
-abbrev pub state_put : List Event → AlarmRow → Change
+abbrev pub state_put : List Event → AlarmRow → RowEdit
 state_put es r = Put (AlarmPut (with_state (of_alarm r.tag es) r))
 
-abbrev pub import_changes : Facts → List Event → List Change
+abbrev pub import_changes : Facts → List Event → List RowEdit
 import_changes f rows =
     map (λ e. Put (EventPut e)) (fresh f.events rows)
     ++ map (state_put (all_events f.events rows)) (filter (is_touched f.events rows) f.alarms)
@@ -129,27 +129,27 @@ import_changes f rows =
 abbrev pub decided_as : ChangeState → Name → ℕ → ChangeRow → ChangeRow
 decided_as state p t c = record c { state = state; decider = Some p; decided = Some t }
 
-abbrev pub decision_change : ChangeState → Name → ℕ → ChangeRow → Change
+abbrev pub decision_change : ChangeState → Name → ℕ → ChangeRow → RowEdit
 decision_change state p t c = Put (ChangePut (change_entry (decided_as state p t c)))
 
 -- what an approved change brings into force; a matrix gives all records their priorities anew
 abbrev pub rerated : Grid → RecordRow → RecordEntry
 rerated m r = record { tag = r.tag; change_no = r.change; rev = r.revision; cell_no = priority_by m r.severity r.response }
 
-abbrev pub in_force : Facts → ℕ → ChangeKind → List Change
+abbrev pub in_force : Facts → ℕ → ChangeKind → List RowEdit
 in_force f n (Rationale a s) = Put (RecordPut (record { tag = a; change_no = n; rev = f.revision a + 1; cell_no = priority_by f.matrix s.severity s.response })) ∷ []
 in_force f n (Matrix m) = map (λ r. Put (RecordPut (rerated m r))) f.rationales
 in_force f n (Limit a max) = with_alarm f a (λ r. record r { max_s = max; max_rev = r.max_rev + 1 })
 
-abbrev pub approval_changes : Facts → Name → ℕ → ChangeRow → List Change
+abbrev pub approval_changes : Facts → Name → ℕ → ChangeRow → List RowEdit
 approval_changes f p t c = decision_change Approved p t c ∷ in_force f c.number c.kind
 
-abbrev pub for_change : Option ChangeRow → (ChangeRow → List Change) → List Change
+abbrev pub for_change : Option ChangeRow → (ChangeRow → List RowEdit) → List RowEdit
 for_change None changes = []
 for_change (Some c) changes = changes c
 
 -- the changes that an accepted call makes beside that of the unit's row
-abbrev pub own_changes : Facts → Name → ℕ → Request → List Change
+abbrev pub own_changes : Facts → Name → ℕ → Request → List RowEdit
 own_changes f p t (OpenUnit u s m q) = Put (GrantPut (grant_as (s, Steward) None)) ∷ matrix_changes 0 m
 own_changes f p t (Grant u q r) = Put (GrantPut (grant_as (q, r.0) r.1)) ∷ []
 own_changes f p t (Withdraw u q r) = Remove (GrantKey q r) ∷ []
@@ -188,5 +188,5 @@ unit_after f t (OpenUnit u s m q) = record { last_s = t; matrix_no = 0; matrix_r
 unit_after f t (Approve u n) = approved_row t f.unit (f.change n)
 unit_after f t _ = record f.unit { last_s = t }
 
-abbrev pub changes_for : Facts → Call → List Change
+abbrev pub changes_for : Facts → Call → List RowEdit
 changes_for f c = Put (UnitPut (unit_after f c.moment c.request)) ∷ own_changes f c.person c.moment c.request

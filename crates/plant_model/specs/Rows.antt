@@ -33,7 +33,7 @@ use Rattle.plant_model.specs.declared.rows.UnitRow.{UnitRow}
 use Rattle.plant_model.specs.declared.rows.UnitRows.{UnitRows}
 use Rattle.plant_types.specs.Names.{Name, name_cmp}
 use Rattle.plant_types.specs.Roles.{Pair, pair_cmp}
-use Rattle.plant_types.specs.Tables.{in_order}
+use Rattle.plant_types.specs.KeyedRows.{in_order}
 use Rattle.plant_types.specs.declared.role.Role.TheVariants.{Steward}
 use Rattle.std.specs.Prelude.{Bool, List, Option, [], filter_map, max, option_and_then, option_map, unwrap_or, ℕ, ◌∷◌}
 

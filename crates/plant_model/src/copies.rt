@@ -2,10 +2,10 @@ ghost use Rattle.std.specs.Prelude.{◌≡◌};
 ghost use Rattle.plant_model.specs.RowChanges.{no_rows};
 
 use crate::{
-    AlarmRow, BandRow, CellRow, Change, ChangeEntry, GrantRow, Key, RecordEntry, Row, ShelfRow,
+    AlarmRow, BandRow, CellRow, ChangeEntry, GrantRow, Key, RecordEntry, Row, RowEdit, ShelfRow,
     UnitRow, UnitRows,
 };
-use plant_types::{Duplicate, Fault, Table};
+use plant_types::{Duplicate, Fault, List};
 use std::alloc::Global;
 
 impl UnitRows {
@@ -14,15 +14,15 @@ impl UnitRows {
         ensures { result ≡ no_rows }
     {
         UnitRows {
-            units: Table::new(alloc),
-            grants: Table::new(alloc),
-            alarms: Table::new(alloc),
-            shelves: Table::new(alloc),
-            events: Table::new(alloc),
-            bands: Table::new(alloc),
-            cells: Table::new(alloc),
-            records: Table::new(alloc),
-            changes: Table::new(alloc),
+            units: List::new(alloc),
+            grants: List::new(alloc),
+            alarms: List::new(alloc),
+            shelves: List::new(alloc),
+            events: List::new(alloc),
+            bands: List::new(alloc),
+            cells: List::new(alloc),
+            records: List::new(alloc),
+            changes: List::new(alloc),
         }
     }
 }
@@ -160,11 +160,11 @@ impl Duplicate for Key {
     }
 }
 
-impl Duplicate for Change {
-    fn duplicate(&self, alloc: Global) -> Result<Change, Fault> {
+impl Duplicate for RowEdit {
+    fn duplicate(&self, alloc: Global) -> Result<RowEdit, Fault> {
         Ok(match self {
-            Change::Put(row) => Change::Put(row.duplicate(alloc)?),
-            Change::Remove(key) => Change::Remove(key.duplicate(alloc)?),
+            RowEdit::Put(row) => RowEdit::Put(row.duplicate(alloc)?),
+            RowEdit::Remove(key) => RowEdit::Remove(key.duplicate(alloc)?),
         })
     }
 }

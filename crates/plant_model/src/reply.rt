@@ -1,7 +1,7 @@
 use plant_alarm::{AlarmState, ShelfState};
 use plant_import::BadFile;
 use plant_ration::{Cell, ChangeKind, ChangeState};
-use plant_types::{Fault, Moment, Person, Quota, Role, Seconds, Table, Tag, UnitCode, Words};
+use plant_types::{Fault, List, Moment, Person, Quota, Role, Seconds, Tag, UnitCode, Words};
 
 /// What a unit has no room for.
 #[derive(Clone, Copy, Debug, PartialEq, Eq)]
@@ -161,7 +161,7 @@ pub struct ChangeRow {
 #[derive(Drop)]
 pub struct UnitLine {
     pub unit: UnitCode,
-    pub roles: Table<Role>,
+    pub roles: List<Role>,
 }
 
 /// The answer to an accepted call.
@@ -178,32 +178,32 @@ pub enum Reply {
     Status(StatusRow),
     RecordOf(RecordRow),
     ChangeOf(ChangeRow),
-    Units(Table<UnitLine>),
+    Units(List<UnitLine>),
     Shelves {
         unit: UnitCode,
         at: Moment,
-        lines: Table<ShelfLine>,
+        lines: List<ShelfLine>,
     },
     Standing {
         unit: UnitCode,
         at: Moment,
-        lines: Table<StandingLine>,
+        lines: List<StandingLine>,
     },
     Alarms {
         unit: UnitCode,
         at: Moment,
-        lines: Table<AlarmLine>,
+        lines: List<AlarmLine>,
     },
     Floods {
         unit: UnitCode,
         begin: Moment,
         until: Moment,
-        lines: Table<FloodLine>,
+        lines: List<FloodLine>,
     },
     Mine {
         person: Person,
         at: Moment,
-        lines: Table<MineLine>,
+        lines: List<MineLine>,
     },
 }
 

@@ -1,7 +1,7 @@
 use crate::{Refused, Reply};
 use plant_alarm::{AlarmState, Event};
 use plant_ration::{Cell, ChangeState};
-use plant_types::{Moment, Person, Quota, Role, Seconds, Table, Tag, Words};
+use plant_types::{List, Moment, Person, Quota, Role, Seconds, Tag, Words};
 
 /// The unit's own row: its last moment, the number and the revision of the matrix in force, and its quota of shelves.
 #[derive(Clone, Copy, Debug, PartialEq, Eq)]
@@ -105,15 +105,15 @@ pub struct ChangeEntry {
 /// The rows of one unit, each table in the order of its keys.
 #[derive(Drop)]
 pub struct UnitRows {
-    pub units: Table<UnitRow>,
-    pub grants: Table<GrantRow>,
-    pub alarms: Table<AlarmRow>,
-    pub shelves: Table<ShelfRow>,
-    pub events: Table<Event>,
-    pub bands: Table<BandRow>,
-    pub cells: Table<CellRow>,
-    pub records: Table<RecordEntry>,
-    pub changes: Table<ChangeEntry>,
+    pub units: List<UnitRow>,
+    pub grants: List<GrantRow>,
+    pub alarms: List<AlarmRow>,
+    pub shelves: List<ShelfRow>,
+    pub events: List<Event>,
+    pub bands: List<BandRow>,
+    pub cells: List<CellRow>,
+    pub records: List<RecordEntry>,
+    pub changes: List<ChangeEntry>,
 }
 
 /// The rows that one call looks at, and the number of the unit's alarms or of its changes where the call needs it.
@@ -146,7 +146,7 @@ pub enum Key {
 
 /// A row that is put in the place of the row of its key, or the key of a row that goes.
 #[derive(Drop)]
-pub enum Change {
+pub enum RowEdit {
     Put(Row),
     Remove(Key),
 }
@@ -155,5 +155,5 @@ pub enum Change {
 #[derive(Drop)]
 pub enum Verdict {
     Refused(Refused),
-    Accepted(Reply, Table<Change>),
+    Accepted(Reply, List<RowEdit>),
 }

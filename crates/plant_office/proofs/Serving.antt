@@ -20,7 +20,7 @@ use Rattle.plant_model.specs.declared.reply.Reply.TheVariants.{Mine, Units}
 use Rattle.plant_model.specs.declared.reply.Reply.{Reply}
 use Rattle.plant_model.specs.declared.reply.UnitLine.{UnitLine}
 use Rattle.plant_model.specs.declared.rows.AlarmRow.{AlarmRow}
-use Rattle.plant_model.specs.declared.rows.Change.{Change}
+use Rattle.plant_model.specs.declared.rows.RowEdit.{RowEdit}
 use Rattle.plant_model.specs.declared.rows.UnitPart.{UnitPart}
 use Rattle.plant_model.specs.declared.rows.UnitRows.{UnitRows}
 use Rattle.plant_model.specs.declared.rows.Verdict.TheVariants.{Accepted as IsAccepted, Refused as IsRefused}
@@ -129,12 +129,12 @@ refused_call b w c u r h named plain v =
     let is : answer_at w c (Some u) ≡ Err r = not_opening_answer w c u plain ∙ sym v.answer in
     served b w c u (Err r) named is (kept b w c u (Err r) h is refl)
 
-pub read_call : (b : Content) (w : World) (c : Call) (u : Name) (reply : Reply) (cs : List Change) → Holds b w → unit_named c.request ≡ Some u → is_opening c.request ≡ false → is_read c.request ≡ true → IsVerdictOn (history w u) c (IsAccepted reply cs) → IsAnswered w c (Ok reply) (λ m. m ≡ b)
+pub read_call : (b : Content) (w : World) (c : Call) (u : Name) (reply : Reply) (cs : List RowEdit) → Holds b w → unit_named c.request ≡ Some u → is_opening c.request ≡ false → is_read c.request ≡ true → IsVerdictOn (history w u) c (IsAccepted reply cs) → IsAnswered w c (Ok reply) (λ m. m ≡ b)
 read_call b w c u reply cs h named plain read v =
     let is : answer_at w c (Some u) ≡ Ok reply = not_opening_answer w c u plain ∙ sym v.answer in
     served b w c u (Ok reply) named is (kept b w c u (Ok reply) h is (ap not read))
 
-pub changing_call : (b : Content) (w : World) (c : Call) (u : Name) (reply : Reply) (cs : List Change) → Holds b w → unit_named c.request ≡ Some u → is_opening c.request ≡ false → is_read c.request ≡ false → IsVerdictOn (history w u) c (IsAccepted reply cs) → IsAnswered w c (Ok reply) (λ m. m ≡ after_changes b u cs)
+pub changing_call : (b : Content) (w : World) (c : Call) (u : Name) (reply : Reply) (cs : List RowEdit) → Holds b w → unit_named c.request ≡ Some u → is_opening c.request ≡ false → is_read c.request ≡ false → IsVerdictOn (history w u) c (IsAccepted reply cs) → IsAnswered w c (Ok reply) (λ m. m ≡ after_changes b u cs)
 changing_call b w c u reply cs h named plain read v =
     let is : answer_at w c (Some u) ≡ Ok reply = not_opening_answer w c u plain ∙ sym v.answer in
     let changing : changes_history (Ok reply) c ≡ true = ap not read in
@@ -165,7 +165,7 @@ pub opening_changes : (q : Request) → is_opening q ≡ true → is_read q ≡ 
 opening_changes (OpenUnit u s m q) e = refl
 opening_changes _ e = cc
 
-pub accepted_opening : (b : Content) (w : World) (c : Call) (u : Name) (reply : Reply) (cs : List Change) → Holds b w → unit_named c.request ≡ Some u → is_opening c.request ≡ true → IsOpening (by_admin w c) (is_taken w u) c (IsAccepted reply cs) → IsAnswered w c (Ok reply) (λ m. m ≡ after_changes b u cs)
+pub accepted_opening : (b : Content) (w : World) (c : Call) (u : Name) (reply : Reply) (cs : List RowEdit) → Holds b w → unit_named c.request ≡ Some u → is_opening c.request ≡ true → IsOpening (by_admin w c) (is_taken w u) c (IsAccepted reply cs) → IsAnswered w c (Ok reply) (λ m. m ≡ after_changes b u cs)
 accepted_opening b w c u reply cs h named opens v =
     let is : answer_at w c (Some u) ≡ Ok reply = opening_answer w c u opens ∙ sym v.answer in
     let changing : changes_history (Ok reply) c ≡ true = ap not (opening_changes c.request opens) in
@@ -215,10 +215,10 @@ pub leaves : (w : World) (c : Call) (a : Said) (b : Content) (left : Content →
 leaves w c a b left legal matrix s h = record { answered = s.answered; after = s.after; left_it = subst left (sym s.left_it) h; holds = s.holds; legal = next_legal w c legal matrix }
 
 -- the changes of an accepted call put the unit's own row
-pub known_call : (b : Content) (w : World) (c : Call) (u : Name) (reply : Reply) (cs : List Change) → is_read c.request ≡ false → IsVerdictOn (history w u) c (IsAccepted reply cs) → IsKnownTo b u cs
+pub known_call : (b : Content) (w : World) (c : Call) (u : Name) (reply : Reply) (cs : List RowEdit) → is_read c.request ≡ false → IsVerdictOn (history w u) c (IsAccepted reply cs) → IsKnownTo b u cs
 known_call b w c u reply cs read v = inr (v.puts (ap (λ x. changes_history x c) (sym v.answer) ∙ ap not read))
 
-pub known_opening : (b : Content) (w : World) (c : Call) (u : Name) (reply : Reply) (cs : List Change) → IsOpening (by_admin w c) (is_taken w u) c (IsAccepted reply cs) → IsKnownTo b u cs
+pub known_opening : (b : Content) (w : World) (c : Call) (u : Name) (reply : Reply) (cs : List RowEdit) → IsOpening (by_admin w c) (is_taken w u) c (IsAccepted reply cs) → IsKnownTo b u cs
 known_opening b w c u reply cs v = inr (v.puts (ap is_ok (sym v.answer)))
 
 -- The units of a person
@@ -291,9 +291,9 @@ behind_units b w c units last h named is e lt =
 pub told_units : (b : Content) (w : World) (c : Call) (units : List MineUnit) (last : ℕ) (lines : List UnitLine) → Holds b w → c.request ≡ MyUnits → units ≡ mine_units b c.moment c.person → last ≡ fold max c.moment (map (λ (u : MineUnit). u.last) units) → lines ≡ map line_of_mine units → last ≤ c.moment → IsAnswered w c (Ok (Units lines)) (λ m. m ≡ b)
 told_units b w c units last lines h asked is e l le =
     let us = units_held w c.moment c.person in
-    let told = is ∙ mine_told b w c.moment c.person h in
-    let same : lines ≡ unit_lines c.moment c.person us = l ∙ ap (map line_of_mine) told ∙ map-mapped line_of_mine (mine_of c.moment c.person) us in
-    answered_of_units b w c _ h (ap unit_named asked) (units_told us c last (Units lines) (last_told c.moment c.person us units last told e) (ap (λ x. Units x) same ∙ ap (reply_of_units us c) (sym asked)) le)
+    let honest = is ∙ mine_told b w c.moment c.person h in
+    let same : lines ≡ unit_lines c.moment c.person us = l ∙ ap (map line_of_mine) honest ∙ map-mapped line_of_mine (mine_of c.moment c.person) us in
+    answered_of_units b w c _ h (ap unit_named asked) (units_told us c last (Units lines) (last_told c.moment c.person us units last honest e) (ap (λ x. Units x) same ∙ ap (reply_of_units us c) (sym asked)) le)
 
 -- The shelves of a person
 returned_in : (h : List Call) (a : Name) → last_return (alarm_rows h) a ≡ returned (facts h) a
@@ -348,19 +348,19 @@ told_shelves b w c units last shelves lines person h asked is e found l le copie
     answered_of_units b w c _ h (ap unit_named asked) (units_told us c last (Mine person c.moment lines) (last_told c.moment c.person us units last (is ∙ mine_told b w c.moment c.person h) e) ((λ i. Mine (copied i) c.moment (same i)) ∙ ap (reply_of_units us c) (sym asked)) le)
 
 -- a call whose answer leaves the books as they were
-pub serves_same : {B : Type 0} {books : Ghosts B} {c : Call} {a : Said} {before after : B} → ((m : Content) → books.holds before m → (w : World) → IsLegalWorld w → Holds m w → books.can_tell after → IsServed w c a (books.holds after)) → (books.can_tell after → books.can_tell before) → ((m : Content) → books.holds before m → books.holds after m) → books.stores after ≡ books.stores before → Serves books c (Ok a) before after
-serves_same served told same count = record { served = served; told = told; unchanged = λ m k _. same m k; fault = λ _ _. tt; count = count }
+pub serves_same : {B : Type 0} {books : Ghosts B} {c : Call} {a : Said} {before after : B} → ((m : Content) → books.represents before m → (w : World) → IsLegalWorld w → Holds m w → books.is_honest after → IsServed w c a (books.represents after)) → (books.is_honest after → books.is_honest before) → ((m : Content) → books.represents before m → books.represents after m) → books.stores after ≡ books.stores before → Serves books c (Ok a) before after
+serves_same served honest same count = record { served = served; honest = honest; unchanged = λ m k _. same m k; fault = λ _ _. tt; count = count }
 
 -- a call whose reply changed the books
-pub serves_changing : {B : Type 0} {books : Ghosts B} {c : Call} {reply : Reply} {before after : B} → ((m : Content) → books.holds before m → (w : World) → IsLegalWorld w → Holds m w → books.can_tell after → IsServed w c (Ok reply) (books.holds after)) → (books.can_tell after → books.can_tell before) → is_read c.request ≡ false → books.stores after ≡ books.stores before → Serves books c (Ok (Ok reply)) before after
-serves_changing {B} {books} {c} {reply} {before} {after} served told changes count =
-    record { served = served; told = told; unchanged = λ m _ still. changing_reply reply c (books.holds after m) changes still; fault = λ _ _. tt; count = count }
+pub serves_changing : {B : Type 0} {books : Ghosts B} {c : Call} {reply : Reply} {before after : B} → ((m : Content) → books.represents before m → (w : World) → IsLegalWorld w → Holds m w → books.is_honest after → IsServed w c (Ok reply) (books.represents after)) → (books.is_honest after → books.is_honest before) → is_read c.request ≡ false → books.stores after ≡ books.stores before → Serves books c (Ok (Ok reply)) before after
+serves_changing {B} {books} {c} {reply} {before} {after} served honest changes count =
+    record { served = served; honest = honest; unchanged = λ m _ still. changing_reply reply c (books.represents after m) changes still; fault = λ _ _. tt; count = count }
 
 -- a call that a fault ended, after a read that left the count as it was
-pub serves_fault : {B : Type 0} {books : Ghosts B} {c : Call} {before after : B} {n : ℕ} (said : Result Said Fault) (e : Fault) → IsErrAnd said (λ f. f ≡ e) → (books.can_tell after → books.can_tell before) → ((m : Content) → books.holds before m → books.holds after m) → n ≡ books.stores before → CountsFault n (books.stores after) e → Serves books c said before after
-serves_fault (Ok a) e is told same read count = absurd is
-serves_fault {B} {books} {c} {before} {after} {n} (Err f) e is told same read count =
-    record { served = λ _ _ _ _ _ _. tt; told = told; unchanged = λ _ _. tt; fault = same; count = subst (λ k. CountsFault k (books.stores after) f) read (subst (CountsFault n (books.stores after)) (sym is) count) }
+pub serves_fault : {B : Type 0} {books : Ghosts B} {c : Call} {before after : B} {n : ℕ} (said : Result Said Fault) (e : Fault) → IsErrAnd said (λ f. f ≡ e) → (books.is_honest after → books.is_honest before) → ((m : Content) → books.represents before m → books.represents after m) → n ≡ books.stores before → CountsFault n (books.stores after) e → Serves books c said before after
+serves_fault (Ok a) e is honest same read count = absurd is
+serves_fault {B} {books} {c} {before} {after} {n} (Err f) e is honest same read count =
+    record { served = λ _ _ _ _ _ _. tt; honest = honest; unchanged = λ _ _. tt; fault = same; count = subst (λ k. CountsFault k (books.stores after) f) read (subst (CountsFault n (books.stores after)) (sym is) count) }
 
 -- what a call said, as an answer
 pub said_if : (r : Result Said Fault) (P : Said → Type 0) → IfOk r P → IfSaid (answer_as r) P

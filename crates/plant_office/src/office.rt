@@ -16,7 +16,7 @@ ghost use Rattle.plant_office.specs.Lines.{line_of_mine, line_of_shelf};
 use plant_books::{Books, MineShelf, MineUnit};
 use plant_model::{Answer, Call, MineLine, Refused, Reply, Request, UnitLine, Verdict};
 use plant_ration::ChangeKind;
-use plant_types::{Fault, Moment, Table, UnitCode};
+use plant_types::{Fault, List, Moment, UnitCode};
 use plant_unit::{is_read, judge, judge_open, shelf_line};
 use std::alloc::Global;
 
@@ -64,11 +64,11 @@ impl<B: Books> Office<B> {
         books
     }
 
-    fn lines(&self, units: Table<MineUnit>) -> Result<Table<UnitLine>, Fault>
+    fn lines(&self, units: List<MineUnit>) -> Result<List<UnitLine>, Fault>
         ensures value { IfOk result (λ lines. lines ≡ map line_of_mine units) }
         ensures err { IfErr result (λ e. e ≡ Memory) }
     {
-        let mut lines = Table::new(self.alloc);
+        let mut lines = List::new(self.alloc);
         for mine in units.into_vec() {
             let MineUnit {
                 unit,
@@ -174,13 +174,13 @@ impl<B: Books> Office<B> {
     /// that the caller held before or holds after are those of that office. A fault leaves the books as they were, and
     /// so do a refusal and a reply to a call that only asks, whatever the books hold.
     pub fn serve(&mut self, call: &Call) -> Answer
-        ensures served { (m : Content) → B.holds self.old.books m → (w : World) → IsLegalWorld w → Holds m w → B.can_tell self.new.books → IfSaid result (λ a. IsServed w call.now a (B.holds self.new.books)) }
-        ensures isolated { (m : Content) → B.holds self.old.books m → (w v : World) → IsLegalWorld w → Holds m w → w.admin ≡ v.admin
-            → view call.now.moment call.now.person w ≡ view call.now.moment call.now.person v → B.can_tell self.new.books
-            → IfSaid result (λ a. IsIsolated v call.now a (B.holds self.new.books)) }
-        ensures told { B.can_tell self.new.books → B.can_tell self.old.books }
-        ensures unchanged { (m : Content) → B.holds self.old.books m → IfSaid result (λ a. changes_history a call.now ≡ false → B.holds self.new.books m) }
-        ensures fault { (m : Content) → B.holds self.old.books m → OnFault result (B.holds self.new.books m) }
+        ensures served { (m : Content) → B.represents self.old.books m → (w : World) → IsLegalWorld w → Holds m w → B.is_honest self.new.books → IfSaid result (λ a. IsServed w call.now a (B.represents self.new.books)) }
+        ensures isolated { (m : Content) → B.represents self.old.books m → (w v : World) → IsLegalWorld w → Holds m w → w.admin ≡ v.admin
+            → view call.now.moment call.now.person w ≡ view call.now.moment call.now.person v → B.is_honest self.new.books
+            → IfSaid result (λ a. IsIsolated v call.now a (B.represents self.new.books)) }
+        ensures honest { B.is_honest self.new.books → B.is_honest self.old.books }
+        ensures unchanged { (m : Content) → B.represents self.old.books m → IfSaid result (λ a. changes_history a call.now ≡ false → B.represents self.new.books m) }
+        ensures fault { (m : Content) → B.represents self.old.books m → OnFault result (B.represents self.new.books m) }
         ensures count { CountsAnswer (B.stores self.old.books) (B.stores self.new.books) result }
     {
         answer_of(self.serve_call(call))
@@ -189,8 +189,8 @@ impl<B: Books> Office<B> {
     /// Answers the calls in their order, each as `serve` does. Room for all answers is made first: a fault of its own
     /// is Memory, and then no call was made.
     pub fn run(&mut self, calls: &[Call]) -> Result<Vec<Answer>, Fault>
-        ensures ran { (m : Content) → B.holds self.old.books m → (w : World) → IsLegalWorld w → Holds m w → B.can_tell self.new.books → IfOk result (λ answers. IsRun w calls.now answers.items (B.holds self.new.books)) }
-        ensures told { B.can_tell self.new.books → B.can_tell self.old.books }
+        ensures ran { (m : Content) → B.represents self.old.books m → (w : World) → IsLegalWorld w → Holds m w → B.is_honest self.new.books → IfOk result (λ answers. IsRun w calls.now answers.items (B.represents self.new.books)) }
+        ensures honest { B.is_honest self.new.books → B.is_honest self.old.books }
         ensures count { B.stores self.old.books + length calls.now < 2 ^ 64 → IfOk result (λ answers. B.stores self.new.books ≡ B.stores self.old.books + stores_in answers.items) }
         ensures fault { OnErr result (self.new ≡ self.old) }
         ensures memory { IfErr result (λ e. e ≡ Memory) }
@@ -252,11 +252,11 @@ fn mine_line(alloc: Global, mine: &MineShelf, now: Moment) -> Result<Option<Mine
 }
 
 /// The lines of the shelves that hold at the moment.
-fn shelf_lines(alloc: Global, shelves: &[MineShelf], now: Moment) -> Result<Table<MineLine>, Fault>
+fn shelf_lines(alloc: Global, shelves: &[MineShelf], now: Moment) -> Result<List<MineLine>, Fault>
     ensures value { IfOk result (λ lines. lines ≡ filter_map (line_of_shelf now) shelves.now) }
     ensures err { IfErr result (λ e. e ≡ Memory) }
 {
-    let mut lines = Table::new(alloc);
+    let mut lines = List::new(alloc);
     for mine in shelves {
         if let Some(line) = mine_line(alloc, mine, now)? {
             lines.push(line)?;

@@ -1,6 +1,7 @@
 //! Heads, and their fields.
 
-use plant_head::{FieldRoom, HEAD_LIMIT, Heading, Lookup, field, front_of, read_head};
+use plant_head::{FieldRoom, Heading, Lookup, field, front_of, read_head};
+use plant_types::limits::MAX_HEAD;
 use std::alloc::Global;
 use std::process::Abort;
 
@@ -35,12 +36,7 @@ fn tells_other_fronts_apart(rt: HostRuntime) {
     assert!(rt; matches!(heading(&rt, alloc, b""), Heading::Waiting));
     assert!(rt; matches!(heading(&rt, alloc, b"GET /un"), Heading::Waiting));
     assert!(rt; matches!(heading(&rt, alloc, b"GET\x00"), Heading::Malformed));
-    let long = [b'a'; HEAD_LIMIT];
-    assert!(rt;
-        matches!(
-            heading(&rt, alloc, &long[..HEAD_LIMIT - 1]),
-            Heading::Waiting
-        )
-    );
+    let long = [b'a'; MAX_HEAD];
+    assert!(rt; matches!(heading(&rt, alloc, &long[..MAX_HEAD - 1]), Heading::Waiting));
     assert!(rt; matches!(heading(&rt, alloc, &long), Heading::TooLong));
 }

@@ -7,11 +7,11 @@ use Rattle.sqlite_wal.specs.Recovery.{Image}
 use Rattle.plant_books.specs.Contents.{Content}
 use Rattle.plant_server.specs.Files.{HoldBooks, HoldDatabase}
 use Rattle.plant_store.proofs.Databases.{same_database}
-use Rattle.plant_store.specs.Changes.{CanTell}
+use Rattle.plant_store.specs.Changes.{IsHonest}
 use Rattle.plant_store.specs.Keeping.{HaveRows, Keeps}
 
 module _ (files : Image) (s : State) (opened : HasCleanDisk s → Opens s × IsLive s) (found : HasCleanDisk s → FindsIn files s) where
-  pub same_now : CanTell s → (db : Database) → HoldDatabase files db → s.now ≡ db
+  pub same_now : IsHonest s → (db : Database) → HoldDatabase files db → s.now ≡ db
   same_now tells db held =
       let it = opened tells.0 in
       same_database db s.now held.listed (it.1 tells.1).0

@@ -9,7 +9,7 @@ use Rattle.sqlite_wal.specs.Recovery.{Image}
 use Rattle.plant_books.specs.Contents.{Content}
 use Rattle.plant_store.specs.Keeping.{HaveRows}
 use Rattle.plant_store.specs.declared.tables.StoreFault.{StoreFault}
-use Rattle.plant_store.specs.declared.tables.StoreFault.TheVariants as told
+use Rattle.plant_store.specs.declared.tables.StoreFault.TheVariants as store_fault
 use Rattle.plant_types.specs.declared.fault.Fault.TheVariants.{Memory, Store}
 
 -- the files hold this database
@@ -25,6 +25,6 @@ pub record HoldBooks (files : Image) (m : Content) : Type 0 where
 
 -- a file that is not a database is not this store; every other error is a fault, of memory or of the store
 abbrev pub fault_of : Error → StoreFault
-fault_of (SqliteFailure NotADatabase) = told.NotThisStore
-fault_of (SqliteFailure OutOfMemory) = told.Fault Memory
-fault_of _ = told.Fault Store
+fault_of (SqliteFailure NotADatabase) = store_fault.NotThisStore
+fault_of (SqliteFailure OutOfMemory) = store_fault.Fault Memory
+fault_of _ = store_fault.Fault Store

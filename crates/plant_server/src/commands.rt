@@ -9,10 +9,11 @@ use crate::migrations::migrate_file;
 use crate::sockets::Port;
 use plant_connections::{end_name, say, serve_connections};
 use plant_line::{Line, LineError, Service, Task, line_of};
-use plant_mirror::{Copies, Mirror, ROWS_AT_HAND};
+use plant_mirror::{Copies, Mirror};
 use plant_office::{Books, Office};
 use plant_store::{StoreFault, Tables};
 use plant_types::Person;
+use plant_types::limits::MAX_ROWS_AT_HAND;
 use plant_wire::{End, Failed, FromRead, Inlet, Outlet, ToWrite, session};
 use sqlite::{Alter, Unknown};
 use std::alloc::Global;
@@ -77,9 +78,9 @@ fn serve_streams<B: Books, I: Inlet, O: Outlet, E: Write>(
     errors: &mut E,
 ) -> u8
     ensures does { IsStreamed (I.remaining inlet.old) (I.remaining inlet.new) (O.written outlet.old) (O.written outlet.new)
-        (Ran (B.holds office.old.books) (B.can_tell office.new.books) (B.holds office.new.books) (B.stores office.old.books) (B.stores office.new.books)) result }
+        (Ran (B.represents office.old.books) (B.is_honest office.new.books) (B.represents office.new.books) (B.stores office.old.books) (B.stores office.new.books)) result }
     ensures streamed { IsStreamed (I.remaining inlet.old) (I.remaining inlet.new) (O.written outlet.old) (O.written outlet.new) Whatever result }
-    ensures told { B.can_tell office.new.books → B.can_tell office.old.books }
+    ensures honest { B.is_honest office.new.books → B.is_honest office.old.books }
 {
     let end = session(alloc, inlet, outlet, office);
     ended(errors, end)
@@ -151,7 +152,7 @@ fn serve_books<S: Alter + Drop, I: Inlet, O: Outlet + Write, E: Write>(
     ensures { IsServed service (I.remaining inlet.old) (I.remaining inlet.new) (O.written outlet.old) (O.written outlet.new) result.0 }
 {
     let alloc = rt.alloc();
-    match Copies::new(alloc, ROWS_AT_HAND) {
+    match Copies::new(alloc, MAX_ROWS_AT_HAND) {
         Ok(copies) => {
             let mut office = Office::new(alloc, Mirror::new(alloc, copies, books));
             let status = serve_office(rt, &mut office, service, inlet, outlet, errors);

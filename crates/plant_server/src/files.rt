@@ -12,7 +12,7 @@ ghost use Rattle.sqlite_wal.specs.Files.{image_at};
 ghost use Rattle.plant_books.specs.Contents.{Content};
 ghost use Rattle.plant_server.specs.Files as files;
 ghost use Rattle.plant_server.specs.Files.{HoldBooks, HoldDatabase};
-ghost use Rattle.plant_store.specs.Changes.{CanTell};
+ghost use Rattle.plant_store.specs.Changes.{IsHonest};
 ghost use Rattle.plant_store.specs.Keeping.{Keeps};
 ghost use Rattle.plant_store.specs.Opening.{IsThisOffice};
 
@@ -66,7 +66,7 @@ fn open_file<S: Start>(
     ensures own { IfOk result (λ books. (books.0.1 ≡ admin) × (books.1 ≡ 0)) }
     ensures kept { (m : Content) → HoldBooks (image_at S.Start) m → IfOk result (λ books. Keeps (file_state books.0.0) m) }
     ensures office { (db : Database) → HoldDatabase (image_at S.Start) db
-        → IfOk result (λ books. CanTell (file_state books.0.0) → IsThisOffice admin db) }
+        → IfOk result (λ books. IsHonest (file_state books.0.0) → IsThisOffice admin db) }
 {
     let conn = connect(rt, path, start)?;
     match Tables::open(rt.alloc(), conn, admin) {
@@ -163,7 +163,7 @@ pub fn in_file<S: Start>(
     ensures own { IfOk result (λ books. (books.0.1 ≡ admin) × (books.1 ≡ 0)) }
     ensures kept { (m : Content) → HoldBooks (image_at S.Start) m → IfOk result (λ books. Keeps (file_state books.0.0) m) }
     ensures office { (db : Database) → HoldDatabase (image_at S.Start) db
-        → IfOk result (λ books. CanTell (file_state books.0.0) → IsThisOffice admin db) }
+        → IfOk result (λ books. IsHonest (file_state books.0.0) → IsThisOffice admin db) }
 {
     if !is_there(rt, path)? {
         let founder = admin.copy(rt.alloc()).map_err(|_| MEMORY)?;

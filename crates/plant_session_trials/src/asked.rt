@@ -5,10 +5,10 @@ ghost use Rattle.std.specs.Prelude.{◌≡◌};
 use plant_alarm::Event;
 use plant_books::{Books, MineShelf, MineUnit, Plain};
 use plant_examples::{BASE, Exchanges, LOOKED_AT, SHELVED};
-use plant_mirror::ROWS_AT_HAND;
-use plant_model::{Call, Change, UnitPart, UnitRows};
+use plant_model::{Call, RowEdit, UnitPart, UnitRows};
 use plant_trials::{after, lists, mirrored};
-use plant_types::{Fault, Moment, Person, Table, UnitCode};
+use plant_types::limits::MAX_ROWS_AT_HAND;
+use plant_types::{Fault, List, Moment, Person, UnitCode};
 use std::process::Abort;
 
 /// A viewer's requests of each kind that reads of a unit, but for its shelves and its floods, and two of a stranger.
@@ -108,9 +108,9 @@ impl<B: Books> Counting<B> {
 }
 
 impl<B: Books> Books for Counting<B> {
-    ghost holds = { λ t m. B.holds t.books m };
+    ghost represents = { λ t m. B.represents t.books m };
 
-    ghost can_tell = { λ t. B.can_tell t.books };
+    ghost is_honest = { λ t. B.is_honest t.books };
 
     ghost stores = { λ t. B.stores t.books };
 
@@ -134,7 +134,7 @@ impl<B: Books> Books for Counting<B> {
         self.books.rows_but_events(unit)
     }
 
-    fn events(&mut self, unit: &UnitCode) -> Result<Table<Event>, Fault> {
+    fn events(&mut self, unit: &UnitCode) -> Result<List<Event>, Fault> {
         self.count_asked();
         self.count_events();
         self.books.events(unit)
@@ -145,20 +145,20 @@ impl<B: Books> Books for Counting<B> {
         self.books.part(call)
     }
 
-    fn held(&mut self, person: &Person, now: Moment) -> Result<Table<UnitCode>, Fault> {
+    fn held(&mut self, person: &Person, now: Moment) -> Result<List<UnitCode>, Fault> {
         self.books.held(person, now)
     }
 
-    fn mine_units(&mut self, person: &Person, now: Moment) -> Result<Table<MineUnit>, Fault> {
+    fn mine_units(&mut self, person: &Person, now: Moment) -> Result<List<MineUnit>, Fault> {
         self.books.mine_units(person, now)
     }
 
-    fn mine_shelves(&mut self, person: &Person, now: Moment) -> Result<Table<MineShelf>, Fault> {
+    fn mine_shelves(&mut self, person: &Person, now: Moment) -> Result<List<MineShelf>, Fault> {
         self.count_asked();
         self.books.mine_shelves(person, now)
     }
 
-    fn apply(&mut self, unit: &UnitCode, changes: &Table<Change>) -> Result<(), Fault> {
+    fn apply(&mut self, unit: &UnitCode, changes: &List<RowEdit>) -> Result<(), Fault> {
         self.count_change();
         self.books.apply(unit, changes)
     }
@@ -183,7 +183,7 @@ fn asked<B: Books + Drop>(
     texts: &[&str],
 ) -> Counting<B> {
     let wanted = Exchanges::of(rt.alloc(), texts).expect(rt, "exchanges");
-    let books = mirrored(rt.alloc(), below, ROWS_AT_HAND).expect(rt, "books with rows at hand");
+    let books = mirrored(rt.alloc(), below, MAX_ROWS_AT_HAND).expect(rt, "books with rows at hand");
     let (requests, answers) = (wanted.requests.as_bytes(), wanted.answers.as_bytes());
     let books = after(rt.alloc(), books, requests, answers).expect(rt, "answers");
     books.into_books()

@@ -6,15 +6,15 @@ use Rattle.std.specs.FinMap.{FinMap, get, insert, contains_key, get-empty, get-i
 use Rattle.std.specs.Cmp.Lexicographic.{nat_list_cmp_total}
 use Rattle.sqlite.specs.State.{State}
 use Rattle.plant_books.specs.Contents.{Content, IsKnownTo, after_changes, no_units, rows_in}
-use Rattle.plant_model.specs.declared.rows.Change.{Change}
-use Rattle.plant_model.specs.declared.rows.Change.TheVariants.{Put, Remove}
+use Rattle.plant_model.specs.declared.rows.RowEdit.{RowEdit}
+use Rattle.plant_model.specs.declared.rows.RowEdit.TheVariants.{Put, Remove}
 use Rattle.plant_model.specs.declared.rows.Key.TheVariants.{Grant as GrantKey, Shelf as ShelfKey}
 use Rattle.plant_model.specs.declared.rows.Row.TheVariants.{Alarm as AlarmPut, Band as BandPut, Cell as CellPut, Change as ChangePut, Event as EventPut, Grant as GrantPut, Record as RecordPut, Shelf as ShelfPut, Unit as UnitPut}
 use Rattle.plant_model.specs.declared.rows.UnitRows.{UnitRows}
 use Rattle.plant_model.specs.RowChanges.{changed, changed_by, no_rows, puts_unit}
 use Rattle.plant_types.specs.Names.{Name, name_cmp, same_name}
 use Rattle.plant_types.proofs.Orders.{same_names}
-use Rattle.plant_types.proofs.TableLaws.{tied}
+use Rattle.plant_types.proofs.KeyedRowLaws.{tied}
 use Rattle.plant_store.specs.Changes.{Applies, IsOfficeOf}
 use Rattle.plant_store.specs.Keeping.{KeepsIn, has_any}
 use Rattle.plant_store.specs.Making.{AreNew}
@@ -26,7 +26,7 @@ pub same_codes : (a b : Name) → same_name a b ≡ true → a ≡ b
 same_codes a b h = same_names a b (tied _ _ h refl)
 
 -- a unit that has its row keeps it, and one whose row is put has it
-still_there : (cs : List Change) (rows : UnitRows) → has_any rows.units ≡ true → has_any (changed_by cs rows).units ≡ true
+still_there : (cs : List RowEdit) (rows : UnitRows) → has_any rows.units ≡ true → has_any (changed_by cs rows).units ≡ true
 still_there [] rows h = h
 still_there (Put (UnitPut r) ∷ cs) rows h = still_there cs (changed (Put (UnitPut r)) rows) refl
 still_there (Put (GrantPut r) ∷ cs) rows h = still_there cs (changed (Put (GrantPut r)) rows) h
@@ -40,7 +40,7 @@ still_there (Put (ChangePut r) ∷ cs) rows h = still_there cs (changed (Put (Ch
 still_there (Remove (GrantKey p r) ∷ cs) rows h = still_there cs (changed (Remove (GrantKey p r)) rows) h
 still_there (Remove (ShelfKey a) ∷ cs) rows h = still_there cs (changed (Remove (ShelfKey a)) rows) h
 
-comes_there : (cs : List Change) (rows : UnitRows) → puts_unit cs ≡ true → has_any (changed_by cs rows).units ≡ true
+comes_there : (cs : List RowEdit) (rows : UnitRows) → puts_unit cs ≡ true → has_any (changed_by cs rows).units ≡ true
 comes_there [] rows h = absurd (true≢false (sym h))
 comes_there (Put (UnitPut r) ∷ cs) rows h = still_there cs (changed (Put (UnitPut r)) rows) refl
 comes_there (Put (GrantPut r) ∷ cs) rows h = comes_there cs (changed (Put (GrantPut r)) rows) h
@@ -55,7 +55,7 @@ comes_there (Remove (GrantKey p r) ∷ cs) rows h = comes_there cs (changed (Rem
 comes_there (Remove (ShelfKey a) ∷ cs) rows h = comes_there cs (changed (Remove (ShelfKey a)) rows) h
 
 -- the content after changes is what is kept after them
-pub keeps_after : (old new : State) (m : Content) (u : Name) (cs : List Change) → KeepsIn old m → IsKnownTo m u cs → Applies u cs old.now new.now → KeepsIn new (after_changes m u cs)
+pub keeps_after : (old new : State) (m : Content) (u : Name) (cs : List RowEdit) → KeepsIn old m → IsKnownTo m u cs → Applies u cs old.now new.now → KeepsIn new (after_changes m u cs)
 keeps_after old new m u cs k known it = record {
   books = it.books;
   office = it.office ∙ k.office;

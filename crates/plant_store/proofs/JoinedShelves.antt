@@ -248,8 +248,8 @@ module _ (s : State) (m : Content) (k : KeepsIn s m) where
         go true e more = rw (meet, e) (ap (λ l. out r g ∷ l) more)
         go false e more = rw (meet, e) more
 
-    abbrev told : Row → GrantRow → Row
-    told r g = column r 1 ∷ column r 2 ∷ column r 3 ∷ column r 4 ∷ column r 5 ∷ column r 6 ∷ column r 7 ∷ open_number g.end_s ∷ []
+    abbrev joined_row : Row → GrantRow → Row
+    joined_row r g = column r 1 ∷ column r 2 ∷ column r 3 ∷ column r 4 ∷ column r 5 ∷ column r 6 ∷ column r 7 ∷ open_number g.end_s ∷ []
 
     shelf_shown : (r : Row) → IsRowIn shelf_shape r → map (out r) (filter (is_own r) (sort_by (by_columns grant_key) (s.now.trees 3))) ≡ map shelf_line_cells (lines_beside m p (seen_shelf r))
     shelf_shown r wf =
@@ -257,8 +257,8 @@ module _ (s : State) (m : Content) (k : KeepsIn s m) where
         let each = (k.books.tidy GrantKept).each in
         let own = filter (λ (g : GrantRow). same_name p g.person) (rows_in m q).grants in
         ap (map (out r)) (sym (sort-filter (by_columns grant_key) (by_columns_total grant_key) (is_own r) (s.now.trees 3)))
-        ∙ shown_kept grant_shape (good GrantKept) (out r) (told r) (λ id v x. refl) (is_own r) (s.now.trees 3) each
-        ∙ ap (map (told r)) (some_kept grant_shape (good GrantKept) (is_named p) (λ (g : GrantRow). same_name p g.person) (λ id v x. named_same x.person p) q (s.now.trees 3) each
+        ∙ shown_kept grant_shape (good GrantKept) (out r) (joined_row r) (λ id v x. refl) (is_own r) (s.now.trees 3) each
+        ∙ ap (map (joined_row r)) (some_kept grant_shape (good GrantKept) (is_named p) (λ (g : GrantRow). same_name p g.person) (λ id v x. named_same x.person p) q (s.now.trees 3) each
         ∙ ap (filter (λ (g : GrantRow). same_name p g.person)) (k.seen q GrantKept))
         ∙ ap (λ (x : Row). map (λ (g : GrantRow). (let cells : Row = column x 1 ∷ column x 2 ∷ column x 3 ∷ column x 4 ∷ column x 5 ∷ column x 6 ∷ column x 7 ∷ open_number g.end_s ∷ [] in cells)) own) wf
         ∙ sym (map-map shelf_line_cells (line_with (seen_shelf r)) own)

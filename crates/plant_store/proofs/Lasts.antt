@@ -102,9 +102,9 @@ listed f None = refl
 listed f (Some x) = refl
 
 -- what is shown of the last is told of the last
-last_shown : {X Y Z : Type 0} (show : X → Z) (told : Y → Z) (rows : List X) (ys : List Y) → map show rows ≡ map told ys → map show (option_to_list (slice_get (reverse rows) 0)) ≡ map told (option_to_list (slice_get (reverse ys) 0))
-last_shown show told rows ys same =
-    listed show _ ∙ ap option_to_list (sym (first_of_map show (reverse rows)) ∙ ap (λ l. slice_get l 0) (sym (reverse_map show rows) ∙ ap reverse same ∙ reverse_map told ys) ∙ first_of_map told (reverse ys)) ∙ sym (listed told _)
+last_shown : {X Y Z : Type 0} (show : X → Z) (drawn : Y → Z) (rows : List X) (ys : List Y) → map show rows ≡ map drawn ys → map show (option_to_list (slice_get (reverse rows) 0)) ≡ map drawn (option_to_list (slice_get (reverse ys) 0))
+last_shown show drawn rows ys same =
+    listed show _ ∙ ap option_to_list (sym (first_of_map show (reverse rows)) ∙ ap (λ l. slice_get l 0) (sym (reverse_map show rows) ∙ ap reverse same ∙ reverse_map drawn ys) ∙ first_of_map drawn (reverse ys)) ∙ sym (listed drawn _)
 
 -- the first of a list the other way round is its last
 first_of_two : {X : Type 0} (xs : List X) (y x : X) → slice_get ((xs ++ y ∷ []) ++ x ∷ []) 0 ≡ slice_get (xs ++ y ∷ []) 0
@@ -129,13 +129,13 @@ find_last_change : (u : Name) (old new : State) → AreBooks old.now → (rows :
 find_last_change u old new books rows h =
     let got = reads_as last_change_text (Text u ∷ []) old new books_schema books.same_schema _ last_change_is.0 last_change_plain last_change_is.1 rows h in
     let key : List ℕ = 1 ∷ 2 ∷ [] in
-    let told = λ (c : ChangeEntry). (let cells : Row = number c.number ∷ [] in cells) in
+    let drawn = λ (c : ChangeEntry). (let cells : Row = number c.number ∷ [] in cells) in
     let show = λ (r : Row). (shows 17 by_unit (col 1 2 ∷ []) falling_2 (Text u ∷ []) r).1 in
     let passing = filter_same (passes 17 by_unit (col 1 2 ∷ []) falling_2 (Text u ∷ [])) (is_of u) (λ r. one_test (column r 1) u) (old.now.trees 17) in
     one_falling 17 by_unit (col 1 2 ∷ []) falling_2 key (Text u ∷ []) refl old.now.trees rows (books.tidy ChangeKept).apart (got.answer Null)
     ∙ ap (λ l. map show (option_to_list (slice_get (reverse (sort_by (by_columns key) l)) 0))) passing
-    ∙ last_shown show told (kept (by_columns key) (is_of u) (old.now.trees 17)) (rows_seen u old.now.trees ChangeKept) (shown_kept change_shape (good ChangeKept) show told (λ id v x. refl) (is_of u) (old.now.trees 17) (books.tidy ChangeKept).each)
-    ∙ ap (λ o. map told (option_to_list o)) (last_turned (rows_seen u old.now.trees ChangeKept))
+    ∙ last_shown show drawn (kept (by_columns key) (is_of u) (old.now.trees 17)) (rows_seen u old.now.trees ChangeKept) (shown_kept change_shape (good ChangeKept) show drawn (λ id v x. refl) (is_of u) (old.now.trees 17) (books.tidy ChangeKept).each)
+    ∙ ap (λ o. map drawn (option_to_list o)) (last_turned (rows_seen u old.now.trees ChangeKept))
 
 -- ---- the number, from the row that came
 

@@ -22,9 +22,9 @@ use Rattle.plant_model.specs.Grants.{is_before}
 use Rattle.plant_model.specs.RowChanges.{no_rows}
 use Rattle.plant_types.specs.Names.{Name, name_cmp, same_name}
 use Rattle.plant_types.specs.Options.{when}
-use Rattle.plant_types.specs.Tables.{IsInOrder, row_at}
+use Rattle.plant_types.specs.KeyedRows.{IsInOrder, row_at}
 use Rattle.plant_types.proofs.Orders.{name_total, same_names}
-use Rattle.plant_types.proofs.TableLaws.{IsInOrder-told, row_at-told, same_rows}
+use Rattle.plant_types.proofs.KeyedRowLaws.{IsInOrder-honest, row_at-honest, same_rows}
 use Rattle.plant_tables.specs.Kept.{by_columns, is_of}
 use Rattle.plant_tables.specs.Shape.{IsRowIn}
 use Rattle.plant_tables.proofs.Keys.{by_columns_total}
@@ -89,11 +89,11 @@ module _ (s : State) (m : Content) (k : KeepsIn s m) (t : ℕ) (p : Name) where
       go (Some rows) h = inner rows (is_held_in t p (Some rows)) h
 
   units_rise : IsInOrder name_cmp (λ (u : MineUnit). u.unit) (mine_units m t p)
-  units_rise = IsInOrder-told name_cmp (λ (u : MineUnit). u.unit) name_total same_names (λ q. mine_unit t p q (get m.units q)) has_code (keys m.units) (keys_rise m.units)
+  units_rise = IsInOrder-honest name_cmp (λ (u : MineUnit). u.unit) name_total same_names (λ q. mine_unit t p q (get m.units q)) has_code (keys m.units) (keys_rise m.units)
 
   found_unit : (q : Name) → row_at name_cmp (λ (u : MineUnit). u.unit) q (mine_units m t p) ≡ mine_unit t p q (get m.units q)
   found_unit q =
-      row_at-told name_cmp (λ (u : MineUnit). u.unit) name_total same_names (λ q. mine_unit t p q (get m.units q)) has_code q (keys m.units)
+      row_at-honest name_cmp (λ (u : MineUnit). u.unit) name_total same_names (λ q. mine_unit t p q (get m.units q)) has_code q (keys m.units)
       ∙ ap (λ b. cond b (mine_unit t p q (get m.units q)) None) (key_found m.units q)
       ∙ go (get m.units q)
     where

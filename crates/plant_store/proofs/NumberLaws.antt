@@ -23,8 +23,8 @@ use Rattle.plant_model.specs.declared.rows.CellRow.{CellRow}
 use Rattle.plant_model.specs.declared.rows.RecordEntry.{RecordEntry}
 use Rattle.plant_tables.proofs.Shapes.{rises}
 use Rattle.plant_types.specs.Names.{Name}
-use Rattle.plant_types.specs.Tables.{IsInOrder}
-use Rattle.plant_types.proofs.TableLaws.{IsInOrder-put_row, tied}
+use Rattle.plant_types.specs.KeyedRows.{IsInOrder}
+use Rattle.plant_types.proofs.KeyedRowLaws.{IsInOrder-put_row, tied}
 use Rattle.plant_store.specs.Numbers.{AreNumbers, is_among, with_number}
 use Rattle.plant_store.proofs.Queries.{passing_none}
 

@@ -1,4 +1,5 @@
 -- Histories of schema 1 are histories of today: a quota of 2,000 refuses nothing, and without ends what stands is held.
+use Rattle.plant_types.specs.Limits.{max_grants, max_quota}
 use Rattle.std.proofs.Common.{◌≡◌, Bool, true, false, List, [], ◌∷◌, ◌++◌, Option, None, Some, refl, sym, ap, ap₂, ◌∙◌, subst, true≢false, not, arith, ◌<◌, ℕ, nat_cmp, Ordering, Less, Equal, Greater, is_eq}
 use Rattle.std.specs.Cmp.{ranks}
 use Rattle.std.specs.List.{list_all, list_any}
@@ -99,8 +100,8 @@ equal_by m n h = go (nat_cmp m n) (ranks m n) h
     go Equal r e = r
     go Greater r e = absurd (true≢false (sym e))
 
-opened_with : (q : Request) → is_opening q ≡ true → is_of_old q ≡ true → said_of_quota q ≡ Some 2000
-opened_with (OpenUnit u s m n) o e = ap Some (equal_by n 2000 e)
+opened_with : (q : Request) → is_opening q ≡ true → is_of_old q ≡ true → said_of_quota q ≡ Some max_quota
+opened_with (OpenUnit u s m n) o e = ap Some (equal_by n max_quota e)
 opened_with _ o e = cc
 
 says_nothing : (q : Request) → (not (is_opening q)) ≡ true → said_of_quota q ≡ None
@@ -111,12 +112,12 @@ first_of : (a b : Bool) → (a && b) ≡ true → a ≡ true
 first_of true b h = refl
 first_of false b h = h
 
-quota_said : (h : List Call) → WasLegal h → latest (λ (c : Call) before. said_of_quota c.request) h ≡ Some 2000
+quota_said : (h : List Call) → WasLegal h → latest (λ (c : Call) before. said_of_quota c.request) h ≡ Some max_quota
 quota_said [] was = absurd was
 quota_said (c ∷ []) was = rw (opened_with c.request was.0 was.2) refl
 quota_said (c ∷ d ∷ before) was = rw (says_nothing c.request (first_of _ _ was.0)) (quota_said (d ∷ before) was.3)
 
-quota_is : (h : List Call) → WasLegal h → quota h ≡ 2000
+quota_is : (h : List Call) → WasLegal h → quota h ≡ max_quota
 quota_is h was = rw (quota_said h was) refl
 
 -- ---- one call
@@ -125,7 +126,7 @@ some_of : {A : Type 0} (o : Option A) → is_none o ≡ false → is_some o ≡ 
 some_of None e = cc
 some_of (Some x) e = refl
 
-not_full : (n q : ℕ) → q ≡ 2000 → n < 2000 → nat_le q n ≡ false
+not_full : (n q : ℕ) → q ≡ max_quota → n < max_quota → nat_le q n ≡ false
 not_full n q e lt = grind (arith, nat_tests)
 
 module _ (h : List Call) (was : WasLegal h) (legal : IsLegal h) where
@@ -148,7 +149,7 @@ module _ (h : List Call) (was : WasLegal h) (legal : IsLegal h) where
   same_lack t p (Some r) = rw (alike t (p, r)) refl
 
   same_own : (p : Name) (t : ℕ) (q : Request) → is_of_old q ≡ true → first_refusal (own_refusals (facts h) p t q) ≡ first_refusal (old_own_refusals (facts h) p t q)
-  same_own p t (Grant u q (r, None)) e = rw (alike t (q, r)) (ended (nat_le 500 (facts h).pairs) (stands h (q, r)) _ _ EndNotAhead)
+  same_own p t (Grant u q (r, None)) e = rw (alike t (q, r)) (ended (nat_le max_grants (facts h).pairs) (stands h (q, r)) _ _ EndNotAhead)
   same_own p t (Grant u q (r, Some end)) e = absurd (true≢false (sym e))
   same_own p t (TimedShelve u a d w) e = last_of_four (is_none (alarm_row h a)) (nat_lt (limit_of (facts h) a) d) (is_timed (shelf_now (facts h) a t)) _ AlarmUnknown _ _ (ShelfQuota (quota h)) (no_quota a t)
   same_own p t (OneShotShelve u a w) e = last_of_three (is_none (alarm_row h a)) (is_one_shot (shelf_now (facts h) a t)) _ AlarmUnknown _ (ShelfQuota (quota h)) (no_quota a t)

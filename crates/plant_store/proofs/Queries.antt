@@ -160,7 +160,7 @@ passing_none (x ∷ xs) = passing_none xs
 
 -- rows that were shown are read back, whatever they show
 pub told_by : {X : Type 0} (cells : X → Row) (back : Row → X) → ((x : X) → back (cells x) ≡ x) → (n : ℕ) → ((x : X) → columns n (cells x) ≡ cells x) → (rows : List Row) (xs read : List X) → rows ≡ map cells xs → map (columns n) rows ≡ map cells read → read ≡ xs
-told_by {X} cells back is n whole rows xs read shown told = sym (backs read) ∙ ap (map back) (sym told ∙ ap (map (columns n)) shown ∙ wholes xs) ∙ backs xs
+told_by {X} cells back is n whole rows xs read shown honest = sym (backs read) ∙ ap (map back) (sym honest ∙ ap (map (columns n)) shown ∙ wholes xs) ∙ backs xs
   where
     backs : (xs : List X) → map back (map cells xs) ≡ xs
     backs [] = refl

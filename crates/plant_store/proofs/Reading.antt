@@ -38,8 +38,8 @@ columns_all s n whole [] = refl
 columns_all s n whole (x ∷ xs) = ap₂ ◌∷◌ (whole x) (columns_all s n whole xs)
 
 told_back : {X K : Type 0} (s : Shape X K) → IsShape s → (n : ℕ) → ((x : X) → columns n (s.cells x) ≡ s.cells x) → (rows : List Row) (xs read : List X) → rows ≡ map s.cells xs → map (columns n) rows ≡ map s.cells read → read ≡ xs
-told_back s is n whole rows xs read shown told =
-    sym (read_back s is read) ∙ ap (map (λ r. s.read (Null ∷ Text [] ∷ r))) (sym told ∙ ap (map (columns n)) shown ∙ columns_all s n whole xs) ∙ read_back s is xs
+told_back s is n whole rows xs read shown shows =
+    sym (read_back s is read) ∙ ap (map (λ r. s.read (Null ∷ Text [] ∷ r))) (sym shows ∙ ap (map (columns n)) shown ∙ columns_all s n whole xs) ∙ read_back s is xs
 
 -- ---- what the statement of a text shows
 
@@ -76,7 +76,7 @@ module _ (X K : Kept → Type 0) (s : (i : Kept) → Shape (X i) (K i)) (good : 
   reads_all i width whole text project order names is plain u ordered same shown = record {
     plain = plain;
     unlisted = is.1;
-    decoded = λ db are lines h read told. told_back (s i) (good i) width whole lines (seen X K s u db.trees i) read (answered i text by_unit project order names is.0 (Text u ∷ []) ordered (is_of u) same shown db are lines h) told;
+    decoded = λ db are lines h read shows. told_back (s i) (good i) width whole lines (seen X K s u db.trees i) read (answered i text by_unit project order names is.0 (Text u ∷ []) ordered (is_of u) same shown db are lines h) shows;
   }
 
   pub reads_some : (i : Kept) (width : ℕ) → ((x : X i) → columns width ((s i).cells x) ≡ (s i).cells x) → (text : List ℕ) (project : List Term) (order : List (Term × Key)) (names : List (List ℕ))
@@ -89,7 +89,7 @@ module _ (X K : Kept → Type 0) (s : (i : Kept) → Shape (X i) (K i)) (good : 
   reads_some i width whole text project order names is plain u value ordered second same shown test tested = record {
     plain = plain;
     unlisted = is.1;
-    decoded = λ db are lines h read told. told_back (s i) (good i) width whole lines (filter test (seen X K s u db.trees i)) read
+    decoded = λ db are lines h read shows. told_back (s i) (good i) width whole lines (filter test (seen X K s u db.trees i)) read
         (answered i text by_two project order names is.0 (Text u ∷ value ∷ []) ordered (λ r. is_of u r && second r) same shown db are lines h
-        ∙ ap (map (s i).cells) (some_kept (s i) (good i) second test tested u (db.trees (s i).tree) (are.tidy i).each)) told;
+        ∙ ap (map (s i).cells) (some_kept (s i) (good i) second test tested u (db.trees (s i).tree) (are.tidy i).each)) shows;
   }

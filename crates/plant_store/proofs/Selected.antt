@@ -21,7 +21,7 @@ use Rattle.plant_model.specs.Histories.{same_number}
 use Rattle.plant_model.specs.Parts.{Selection, counted_for, part_of, part_of_holder, part_of_stranger, rows_selected, selected}
 use Rattle.plant_model.specs.RowChanges.{no_rows}
 use Rattle.plant_model.specs.RowFacts.{change_found, change_number, event_number, holds_by, pair_of}
-use Rattle.plant_types.specs.Tables.{IsInOrder, row_at}
+use Rattle.plant_types.specs.KeyedRows.{IsInOrder, row_at}
 use Rattle.std.specs.Ordering.{nat_cmp}
 use Rattle.plant_types.specs.Names.{Name, same_name}
 use Rattle.plant_types.specs.Roles.{Pair}
@@ -57,11 +57,11 @@ records_are s (One tag) h rows = sym (filter_same (λ (r : RecordEntry). s.ratio
 records_are s Every h rows = sym (filter_same (λ (r : RecordEntry). s.rationale r.tag) (λ r. true) (λ r. h r.tag) rows ∙ passing_all rows)
 
 -- what a request takes in of the events that were read for it
-events_are : (rows : UnitRows) (q : Request) (told : Bool) → told ≡ looks_at_events q → (seen : List Event) → (selected rows q).events (events_with told seen) ≡ (selected rows q).events seen
+events_are : (rows : UnitRows) (q : Request) (looks : Bool) → looks ≡ looks_at_events q → (seen : List Event) → (selected rows q).events (events_with looks seen) ≡ (selected rows q).events seen
 events_are rows q true is seen = refl
 events_are rows q false is seen = none_asked rows q [] (sym is) ∙ sym (none_asked rows q seen (sym is))
 
-pub read_in_order : (told : Bool) (seen : List Event) → IsInOrder nat_cmp event_number seen → IsInOrder nat_cmp event_number (events_with told seen)
+pub read_in_order : (looks : Bool) (seen : List Event) → IsInOrder nat_cmp event_number seen → IsInOrder nat_cmp event_number (events_with looks seen)
 read_in_order true seen h = h
 read_in_order false seen h = tt
 
@@ -100,14 +100,14 @@ module _ (s : State) (m : Content) (u : Name) (k : KeepsIn s m) where
       → (all : Bool) → ((p : Pair) → chosen.pair p ≡ all) → (grants : List GrantRow) → grants ≡ filter (λ g. same_name c.person g.person || all) (rows_seen u s.now.trees GrantKept)
       → (tags : Wanted) → ((a : Name) → chosen.alarm a ≡ is_wanted tags a) → (alarms : List AlarmRow) → alarms ≡ alarms_with tags (rows_seen u s.now.trees AlarmKept)
       → (shelved : Wanted) → ((a : Name) → chosen.shelf a ≡ is_wanted shelved a) → (shelves : List ShelfRow) → shelves ≡ shelves_with shelved (rows_seen u s.now.trees ShelfKept)
-      → (told : Bool) → told ≡ looks_at_events c.request → (all_events : List Event) → all_events ≡ events_with told (rows_seen u s.now.trees EventKept) → (events : List Event) → events ≡ chosen.events all_events
+      → (looks : Bool) → looks ≡ looks_at_events c.request → (all_events : List Event) → all_events ≡ events_with looks (rows_seen u s.now.trees EventKept) → (events : List Event) → events ≡ chosen.events all_events
       → (records : List RecordEntry) → records ≡ filter (λ r. chosen.rationale r.tag) (rows_in m u).records
       → (bands : List BandRow) → bands ≡ filter (λ r. chosen.matrix r.matrix_no) (rows_seen u s.now.trees BandKept)
       → (cells : List CellRow) → cells ≡ filter (λ r. chosen.matrix r.matrix_no) (rows_seen u s.now.trees CellKept)
       → (changes : List ChangeEntry) → changes ≡ filter (λ r. chosen.change r.number) (rows_seen u s.now.trees ChangeKept)
       → (count : ℕ) → ((rows : UnitRows) → rows.alarms ≡ rows_seen u s.now.trees AlarmKept → rows.changes ≡ rows_seen u s.now.trees ChangeKept → (looks_at_events c.request ≡ true → rows.events ≡ all_events) → count ≡ counted_for rows c.request)
       → ◌≡◌ {A = UnitPart} (record { rows = record { units = units; grants = grants; alarms = alarms; shelves = shelves; events = events; bands = bands; cells = cells; records = records; changes = changes }; count = count }) (part_of_holder c (rows_in m u))
-  part_found c chosen is units us all ha grants gs tags ts alarms as_ shelved hs shelves ss told he all_events ae events es records rs bands bs cells ls changes cs count ns =
+  part_found c chosen is units us all ha grants gs tags ts alarms as_ shelved hs shelves ss looks he all_events ae events es records rs bands bs cells ls changes cs count ns =
       let rows = rows_in m u in
       let whole : ◌≡◌ {A = UnitPart} (record { rows = record { units = units; grants = grants; alarms = alarms; shelves = shelves; events = events; bands = bands; cells = cells; records = records; changes = changes }; count = count }) (record { rows = rows_selected c.person chosen rows; count = counted_for rows c.request }) = λ i. record {
         rows = record {
@@ -115,7 +115,7 @@ module _ (s : State) (m : Content) (u : Name) (k : KeepsIn s m) where
           grants = (gs ∙ seen_grants c chosen all ha) i;
           alarms = (as_ ∙ alarms_are chosen tags ts _ ∙ ap (filter (λ r. chosen.alarm r.tag)) (k.seen u AlarmKept)) i;
           shelves = (ss ∙ shelves_are chosen shelved hs _ ∙ ap (filter (λ r. chosen.shelf r.tag)) (k.seen u ShelfKept)) i;
-          events = (es ∙ ap chosen.events ae ∙ ap (λ (x : Selection). x.events (events_with told (rows_seen u s.now.trees EventKept))) is ∙ events_are rows c.request told he _ ∙ sym (ap (λ (x : Selection). x.events (rows_seen u s.now.trees EventKept)) is) ∙ ap chosen.events (k.seen u EventKept)) i;
+          events = (es ∙ ap chosen.events ae ∙ ap (λ (x : Selection). x.events (events_with looks (rows_seen u s.now.trees EventKept))) is ∙ events_are rows c.request looks he _ ∙ sym (ap (λ (x : Selection). x.events (rows_seen u s.now.trees EventKept)) is) ∙ ap chosen.events (k.seen u EventKept)) i;
           bands = (bs ∙ ap (filter (λ r. chosen.matrix r.matrix_no)) (k.seen u BandKept)) i;
           cells = (ls ∙ ap (filter (λ r. chosen.matrix r.matrix_no)) (k.seen u CellKept)) i;
           records = rs i;

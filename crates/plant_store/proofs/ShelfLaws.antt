@@ -22,7 +22,7 @@ use Rattle.plant_store.specs.declared.shelves.ShelfLine.{ShelfLine}
 use Rattle.plant_store.specs.declared.shelves.UnitShelf.{UnitShelf}
 use Rattle.plant_store.proofs.LineLaws.{itself}
 use Rattle.plant_types.specs.Names.{Name, name_cmp, same_name}
-use Rattle.plant_types.specs.Tables.{row_at}
+use Rattle.plant_types.specs.KeyedRows.{row_at}
 
 -- ---- one line more
 

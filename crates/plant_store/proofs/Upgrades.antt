@@ -24,8 +24,8 @@ use Rattle.plant_columns.specs.Tables.Kept.{AlarmKept, BandKept, CellKept, Chang
 use Rattle.plant_model.specs.declared.rows.AlarmRow.{AlarmRow}
 use Rattle.plant_model.specs.declared.rows.BandRow.{BandRow}
 use Rattle.plant_model.specs.declared.rows.CellRow.{CellRow}
-use Rattle.plant_model.specs.declared.rows.Change.{Change}
-use Rattle.plant_model.specs.declared.rows.Change.TheVariants.{Put}
+use Rattle.plant_model.specs.declared.rows.RowEdit.{RowEdit}
+use Rattle.plant_model.specs.declared.rows.RowEdit.TheVariants.{Put}
 use Rattle.plant_model.specs.declared.rows.ChangeEntry.{ChangeEntry}
 use Rattle.plant_model.specs.declared.rows.GrantRow.{GrantRow}
 use Rattle.plant_model.specs.declared.rows.RecordEntry.{RecordEntry}
@@ -56,7 +56,7 @@ use Rattle.plant_tables.proofs.Shapes.{named, rises}
 use Rattle.plant_types.proofs.Orders.{name_total, pair_total}
 use Rattle.plant_types.specs.Names.{Name, name_cmp, same_name}
 use Rattle.plant_types.specs.Roles.{pair_cmp}
-use Rattle.plant_types.specs.Tables.{IsInOrder, put_row}
+use Rattle.plant_types.specs.KeyedRows.{IsInOrder, put_row}
 
 -- ---- rows that rise, put one after another
 
@@ -165,7 +165,7 @@ pub record AreRising (rows : UnitRows) : Type 0 where
   pub records : Rise name_cmp record_tag rows.records
   pub changes : Rise nat_cmp change_number rows.changes
 
-then : (xs ys : List Change) (a b c : UnitRows) → changed_by xs a ≡ b → changed_by ys b ≡ c → changed_by (xs ++ ys) a ≡ c
+then : (xs ys : List RowEdit) (a b c : UnitRows) → changed_by xs a ≡ b → changed_by ys b ≡ c → changed_by (xs ++ ys) a ≡ c
 then xs ys a b c p q = changed_by-append xs ys a ∙ ap (changed_by ys) p ∙ q
 
 pub all_put : (rows : UnitRows) → AreRising rows → changed_by (puts_all rows all_kinds) no_rows ≡ rows

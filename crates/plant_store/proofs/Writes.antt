@@ -14,8 +14,8 @@ use Rattle.plant_alarm.specs.declared.event.Event.{Event}
 use Rattle.plant_model.specs.declared.rows.AlarmRow.{AlarmRow}
 use Rattle.plant_model.specs.declared.rows.BandRow.{BandRow}
 use Rattle.plant_model.specs.declared.rows.CellRow.{CellRow}
-use Rattle.plant_model.specs.declared.rows.Change.{Change}
-use Rattle.plant_model.specs.declared.rows.Change.TheVariants.{Put, Remove}
+use Rattle.plant_model.specs.declared.rows.RowEdit.{RowEdit}
+use Rattle.plant_model.specs.declared.rows.RowEdit.TheVariants.{Put, Remove}
 use Rattle.plant_model.specs.declared.rows.ChangeEntry.{ChangeEntry}
 use Rattle.plant_model.specs.declared.rows.GrantRow.{GrantRow}
 use Rattle.plant_model.specs.declared.rows.RecordEntry.{RecordEntry}
@@ -27,7 +27,7 @@ use Rattle.plant_model.specs.declared.rows.UnitRows.{UnitRows}
 use Rattle.plant_model.specs.RowChanges.{changed_by}
 use Rattle.plant_types.specs.declared.role.Role.{Role}
 use Rattle.plant_types.specs.Names.{Name}
-use Rattle.plant_types.specs.Tables.{IsInOrder, put_row}
+use Rattle.plant_types.specs.KeyedRows.{IsInOrder, put_row}
 use Rattle.plant_tables.specs.Shape.{rows_in, row_in, table_in}
 use Rattle.plant_tables.proofs.Changes.{HasNoReferences}
 use Rattle.plant_tables.proofs.Family.{Edits, kept_at, put_edits, remove_edits, same_table}
@@ -57,7 +57,7 @@ office_apart EventKept e = omega arith
 office_apart RecordKept e = omega arith
 office_apart ChangeKept e = omega arith
 
-pub edits_apply : (i : Kept) (u : Name) (change : List (RowOf i) → List (RowOf i)) (cs : List Change) (old new : Database) → Edits RowOf KeyOf shape books_schema i u change old new
+pub edits_apply : (i : Kept) (u : Name) (change : List (RowOf i) → List (RowOf i)) (cs : List RowEdit) (old new : Database) → Edits RowOf KeyOf shape books_schema i u change old new
     → ((rows : UnitRows) → AreSeen u old rows → rows_at i (changed_by cs rows) ≡ change (rows_at i rows)) → ((rows : UnitRows) (j : Kept) → j ≢ i → rows_at j (changed_by cs rows) ≡ rows_at j rows)
     → Applies u cs old new
 edits_apply i u change cs old new it here elsewhere = record {
@@ -283,14 +283,14 @@ remove_shelf_applies u a old new books count h =
 
 -- ---- several changes
 
-pub changed_by-append : (xs ys : List Change) (rows : UnitRows) → changed_by (xs ++ ys) rows ≡ changed_by ys (changed_by xs rows)
+pub changed_by-append : (xs ys : List RowEdit) (rows : UnitRows) → changed_by (xs ++ ys) rows ≡ changed_by ys (changed_by xs rows)
 changed_by-append [] ys rows = refl
 changed_by-append (x ∷ xs) ys rows = changed_by-append xs ys (changed_by (x ∷ []) rows)
 
 pub applies_none : (u : Name) (db : Database) → AreBooks db → Applies u [] db db
 applies_none u db books = record { books = books; mine = λ rows seen. seen; others = λ other apart i. refl; office = refl }
 
-pub applies_then : (u : Name) (xs ys : List Change) (a b c : Database) → Applies u xs a b → Applies u ys b c → Applies u (xs ++ ys) a c
+pub applies_then : (u : Name) (xs ys : List RowEdit) (a b c : Database) → Applies u xs a b → Applies u ys b c → Applies u (xs ++ ys) a c
 applies_then u xs ys a b c p q = record {
   books = q.books;
   mine = λ rows seen. subst (AreSeen u c) (sym (changed_by-append xs ys rows)) (q.mine (changed_by xs rows) (p.mine rows seen));

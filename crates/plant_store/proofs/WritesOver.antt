@@ -17,8 +17,8 @@ use Rattle.sqlite_value.specs.Keys.{first_key, plain}
 use Rattle.sqlite_value.specs.Order.{Row, value_cmp}
 use Rattle.sqlite_value.proofs.OrderLemmas.{value_cmp-Text}
 use Rattle.plant_model.specs.declared.rows.AlarmRow.{AlarmRow}
-use Rattle.plant_model.specs.declared.rows.Change.{Change}
-use Rattle.plant_model.specs.declared.rows.Change.TheVariants.{Put}
+use Rattle.plant_model.specs.declared.rows.RowEdit.{RowEdit}
+use Rattle.plant_model.specs.declared.rows.RowEdit.TheVariants.{Put}
 use Rattle.plant_model.specs.declared.rows.ChangeEntry.{ChangeEntry}
 use Rattle.plant_model.specs.declared.rows.GrantRow.{GrantRow}
 use Rattle.plant_model.specs.declared.rows.RecordEntry.{RecordEntry}
@@ -28,7 +28,7 @@ use Rattle.plant_model.specs.declared.rows.ShelfRow.{ShelfRow}
 use Rattle.plant_model.specs.declared.rows.UnitRow.{UnitRow}
 use Rattle.plant_types.specs.Names.{Name}
 use Rattle.plant_types.specs.Roles.{role_no}
-use Rattle.plant_types.specs.Tables.{put_row}
+use Rattle.plant_types.specs.KeyedRows.{put_row}
 use Rattle.plant_tables.specs.Kept.{by_columns, plain_query}
 use Rattle.plant_tables.specs.Shape.{row_in}
 use Rattle.sqlite.specs.Effect.{Database}
@@ -96,11 +96,11 @@ puts_over i as_row text tests terms is plain_text edited same shown u x old new 
 is_zero : (n : ℕ) → nat_eq n 0 ≡ true → n ≡ 0
 is_zero n e = grind (arith, nat_tests)
 
-pub one_put : (u : Name) (change : Change) (old new : Database) (count : ℕ) → nat_eq count 0 ≡ false → Applies u (changes_written count change) old new → Applies u (change ∷ []) old new
+pub one_put : (u : Name) (change : RowEdit) (old new : Database) (count : ℕ) → nat_eq count 0 ≡ false → Applies u (changes_written count change) old new → Applies u (change ∷ []) old new
 one_put u change old new zero some it = absurd (true≢false some)
 one_put u change old new (suc n) some it = it
 
-pub none_put : (u : Name) (change : Change) (old new : Database) (count : ℕ) → nat_eq count 0 ≡ true → Applies u (changes_written count change) old new → Applies u [] old new
+pub none_put : (u : Name) (change : RowEdit) (old new : Database) (count : ℕ) → nat_eq count 0 ≡ true → Applies u (changes_written count change) old new → Applies u [] old new
 none_put u change old new count none it = subst (λ (n : ℕ). Applies u (changes_written n change) old new) (is_zero count none) it
 
 -- ---- a unit's own row

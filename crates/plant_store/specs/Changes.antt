@@ -2,22 +2,22 @@
 use Rattle.sqlite.specs.Effect.{Database}
 use Rattle.sqlite.specs.State.{HasCleanDisk, State}
 use Rattle.std.specs.Prelude.{IsTrue, List, [], ◌∷◌, ◌≡◌, ◌≢◌}
-use Rattle.plant_model.specs.declared.rows.Change.{Change}
+use Rattle.plant_model.specs.declared.rows.RowEdit.{RowEdit}
 use Rattle.plant_model.specs.declared.rows.UnitRows.{UnitRows}
 use Rattle.plant_model.specs.RowChanges.{changed_by}
 use Rattle.plant_columns.specs.Tables.{AreBooks, AreSeen, Kept, office_row, rows_seen}
 use Rattle.plant_types.specs.Names.{Name}
 
 -- the unit's rows are changed, in the order of the list, and nothing else is
-pub record Applies (unit : Name) (changes : List Change) (old new : Database) : Type 0 where
+pub record Applies (unit : Name) (changes : List RowEdit) (old new : Database) : Type 0 where
   pub books : AreBooks new
   pub mine : (rows : UnitRows) → AreSeen unit old rows → AreSeen unit new (changed_by changes rows)
   pub others : (other : Name) → other ≢ unit → (i : Kept) → rows_seen other new.trees i ≡ rows_seen other old.trees i
   pub office : new.trees 0 ≡ old.trees 0
 
 -- the disk has returned what was written, and no failure has shut the database
-abbrev pub CanTell : State → Type 0
-CanTell s = HasCleanDisk s × IsTrue s.is_open
+abbrev pub IsHonest : State → Type 0
+IsHonest s = HasCleanDisk s × IsTrue s.is_open
 
 -- the office's table has this person's row alone
 abbrev pub IsOfficeOf : Name → Database → Type 0

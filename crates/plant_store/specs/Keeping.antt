@@ -4,7 +4,7 @@ use Rattle.sqlite.specs.State.{State}
 use Rattle.std.specs.FinMap.{contains_key}
 use Rattle.std.specs.Prelude.{Bool, List, [], false, true, ◌∷◌, ◌≡◌}
 use Rattle.plant_books.specs.Contents.{Content, rows_in}
-use Rattle.plant_store.specs.Changes.{CanTell, IsOfficeOf}
+use Rattle.plant_store.specs.Changes.{IsHonest, IsOfficeOf}
 use Rattle.plant_columns.specs.Tables.{AreBooks, AreSeen}
 use Rattle.plant_types.specs.Names.{Name}
 
@@ -24,4 +24,4 @@ abbrev pub KeepsIn : State → Content → Type 0
 KeepsIn s m = HaveRows m s.now
 
 abbrev pub Keeps : State → Content → Type 0
-Keeps s m = CanTell s → KeepsIn s m
+Keeps s m = IsHonest s → KeepsIn s m

@@ -3,7 +3,7 @@ use Rattle.std.specs.List.{list_any}
 use Rattle.std.specs.Ordering.{nat_cmp}
 use Rattle.std.specs.Prelude.{Bool, List, ◌≡◌, ℕ}
 use Rattle.plant_model.specs.Histories.{same_number}
-use Rattle.plant_types.specs.Tables.{IsInOrder, put_row}
+use Rattle.plant_types.specs.KeyedRows.{IsInOrder, put_row}
 
 abbrev pub is_among : List ℕ → ℕ → Bool
 is_among numbers k = list_any (λ n. same_number n k) numbers

@@ -13,7 +13,7 @@ use Rattle.plant_model.specs.declared.reply.Full.TheVariants.{Grants as TooManyG
 use Rattle.plant_model.specs.declared.reply.Refused.{Refused}
 use Rattle.plant_model.specs.declared.reply.Refused.TheVariants.{AlreadyHeld, ConditionAlreadyShelved, MomentBehind, NotGranted, RoleLacking, ShelvingTimeOutOfRange, UnitFull}
 use Rattle.plant_model.specs.declared.reply.Reply.{Reply}
-use Rattle.plant_store.specs.Upgrading.{greatest_quota}
+use Rattle.plant_types.specs.Limits.{max_grants, max_quota}
 use Rattle.plant_types.specs.Names.{Name}
 use Rattle.plant_types.specs.Roles.{all_roles}
 use Rattle.plant_types.specs.declared.role.Role.{Role}
@@ -22,7 +22,7 @@ use Rattle.std.specs.Prelude.{Bool, IsTrue, List, None, Option, Result, Some, []
 
 -- the refusals of a request; shelving is not refused for a quota, nor a grant for its end
 abbrev pub old_own_refusals : Facts → Name → ℕ → Request → List (Bool × Refused)
-old_own_refusals f p t (Grant u q r) = (nat_le 500 f.pairs, UnitFull TooManyGrants) ∷ (f.stands (q, r.0), AlreadyHeld) ∷ []
+old_own_refusals f p t (Grant u q r) = (nat_le max_grants f.pairs, UnitFull TooManyGrants) ∷ (f.stands (q, r.0), AlreadyHeld) ∷ []
 old_own_refusals f p t (TimedShelve u a d w) = unknown f a ∷ (nat_lt (limit_of f a) d, ShelvingTimeOutOfRange (limit_of f a)) ∷ (is_timed (shelf_now f a t), ConditionAlreadyShelved) ∷ []
 old_own_refusals f p t (OneShotShelve u a w) = unknown f a ∷ (is_one_shot (shelf_now f a t), ConditionAlreadyShelved) ∷ []
 old_own_refusals f p t q = own_refusals f p t q
@@ -42,7 +42,7 @@ old_verdict h c = refused_or (first_refusal (old_refusals (facts h) c)) (reply (
 
 -- a request of schema 1 as the request of today that it stands for: an opening gives the greatest quota, a grant has no end
 abbrev pub is_of_old : Request → Bool
-is_of_old (OpenUnit u s m q) = same_number q greatest_quota
+is_of_old (OpenUnit u s m q) = same_number q max_quota
 is_of_old (Grant u p t) = is_none t.1
 is_of_old _ = true
 

@@ -3,13 +3,13 @@ use Rattle.sqlite.specs.Effect.{Database}
 use Rattle.sqlite.specs.State.{State}
 use Rattle.std.specs.Prelude.{◌≡◌}
 use Rattle.plant_columns.specs.Tables.{AreBooks}
-use Rattle.plant_store.specs.Changes.{CanTell}
+use Rattle.plant_store.specs.Changes.{IsHonest}
 use Rattle.plant_store.specs.OldTables.{AreOldBooks}
 
 -- reading changes nothing: the tables are the same, and if the disk is honest and the store open now, they were before
 pub record OnlyReadsIn (AreIts : Database → Type 0) (before after : State) : Type 0 where
-  pub same : CanTell after → AreIts before.now → after.now ≡ before.now
-  pub told : CanTell after → CanTell before
+  pub same : IsHonest after → AreIts before.now → after.now ≡ before.now
+  pub honest : IsHonest after → IsHonest before
 
 -- over the tables of the books, and over those of schema 1
 abbrev pub OnlyReads : State → State → Type 0

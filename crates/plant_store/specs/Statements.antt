@@ -8,7 +8,7 @@ use Rattle.sqlite_value.specs.Order.{Row as Line}
 use Rattle.std.specs.Prelude.{List, [], false, map, suc, zero, ℕ, ◌∷◌, ◌≡◌}
 use Rattle.plant_columns.specs.Shown.{columns}
 use Rattle.plant_columns.specs.Tables.{AreBooks, books_schema}
-use Rattle.plant_model.specs.declared.rows.Change.{Change}
+use Rattle.plant_model.specs.declared.rows.RowEdit.{RowEdit}
 use Rattle.plant_store.specs.OldTables.{AreOldBooks, old_books_schema}
 
 -- the text of a query under this schema, whose answers in its databases are decoded to these rows
@@ -25,6 +25,6 @@ abbrev pub ReadsOld : {X : Type 0} → ℕ → (X → Line) → (Trees → List 
 ReadsOld width cells rows params text = ReadsIn old_books_schema AreOldBooks width cells rows params text
 
 -- the changes made by a statement that wrote so many rows: none, or this one
-abbrev pub changes_written : ℕ → Change → List Change
+abbrev pub changes_written : ℕ → RowEdit → List RowEdit
 changes_written zero change = []
 changes_written (suc n) change = change ∷ []

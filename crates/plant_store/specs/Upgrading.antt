@@ -1,4 +1,5 @@
 -- A plant's rows taken over from schema 1: each unit may shelve as many alarms as a unit can have, no grant ends, and all else stays.
+use Rattle.plant_types.specs.Limits.{max_quota}
 use Rattle.sqlite.specs.Effect.{Database}
 use Rattle.sqlite.specs.Tree.{Trees}
 use Rattle.sqlite_value.specs.Order.{bytes, column}
@@ -8,8 +9,8 @@ use Rattle.std.specs.Prelude.{Bool, List, None, [], false, map, true, ℕ, ◌�
 use Rattle.plant_books.specs.Contents.{Content, rows_in}
 use Rattle.plant_columns.specs.Tables.{AreBooks, AreSeen}
 use Rattle.plant_columns.specs.Tables.Kept.{AlarmKept, BandKept, CellKept, ChangeKept, EventKept, GrantKept, RecordKept, ShelfKept, UnitKept}
-use Rattle.plant_model.specs.declared.rows.Change.{Change}
-use Rattle.plant_model.specs.declared.rows.Change.TheVariants.{Put}
+use Rattle.plant_model.specs.declared.rows.RowEdit.{RowEdit}
+use Rattle.plant_model.specs.declared.rows.RowEdit.TheVariants.{Put}
 use Rattle.plant_model.specs.declared.rows.GrantRow.{GrantRow}
 use Rattle.plant_model.specs.declared.rows.Row.TheVariants.{Alarm as AlarmPut, Band as BandPut, Cell as CellPut, Change as ChangePut, Event as EventPut, Grant as GrantPut, Record as RecordPut, Shelf as ShelfPut, Unit as UnitPut}
 use Rattle.plant_model.specs.declared.rows.UnitRow.{UnitRow}
@@ -24,12 +25,8 @@ use Rattle.plant_store.specs.OldTables.{AreOldBooks, old_office_row, old_rows}
 use Rattle.plant_tables.specs.Kept.{by_columns, kept}
 use Rattle.plant_types.specs.Names.{Name, same_name}
 
--- the greatest quota: a unit has no more alarms than this
-abbrev pub greatest_quota : ℕ
-greatest_quota = 2000
-
 abbrev pub upgraded_unit : OldUnitRow → UnitRow
-upgraded_unit r = record { last_s = r.last_s; matrix_no = r.matrix_no; matrix_rev = r.matrix_rev; quota = greatest_quota }
+upgraded_unit r = record { last_s = r.last_s; matrix_no = r.matrix_no; matrix_rev = r.matrix_rev; quota = max_quota }
 
 abbrev pub upgraded_grant : OldGrantRow → GrantRow
 upgraded_grant g = record { person = g.person; role_no = g.role_no; end_s = None }
@@ -60,7 +57,7 @@ abbrev pub old_codes : Trees → List Name
 old_codes trees = map (λ r. bytes (column r 1)) (kept (by_columns (1 ∷ [])) (λ r. true) (trees 1))
 
 -- the puts of the rows of one table, and of several
-abbrev pub puts_of : UnitRows → TableKind → List Change
+abbrev pub puts_of : UnitRows → TableKind → List RowEdit
 puts_of rows Units = map (λ r. Put (UnitPut r)) rows.units
 puts_of rows Grants = map (λ r. Put (GrantPut r)) rows.grants
 puts_of rows Alarms = map (λ r. Put (AlarmPut r)) rows.alarms
@@ -74,7 +71,7 @@ puts_of rows Changes = map (λ r. Put (ChangePut r)) rows.changes
 abbrev pub all_kinds : List TableKind
 all_kinds = Units ∷ Grants ∷ Alarms ∷ Shelves ∷ Events ∷ Bands ∷ Cells ∷ Records ∷ Changes ∷ []
 
-abbrev pub puts_all : UnitRows → List TableKind → List Change
+abbrev pub puts_all : UnitRows → List TableKind → List RowEdit
 puts_all rows kinds = flat_map (puts_of rows) kinds
 
 abbrev pub is_among : List Name → Name → Bool

@@ -3,7 +3,7 @@
 ghost use Rattle.std.specs.Prelude.{◌≡◌, false, IsTrue, OnOk, OnErr};
 ghost use Rattle.sqlite.specs.Held.{state};
 ghost use Rattle.sqlite.specs.State.{HasCleanDisk};
-ghost use Rattle.plant_store.specs.Changes.{CanTell};
+ghost use Rattle.plant_store.specs.Changes.{IsHonest};
 ghost use Rattle.plant_store.specs.Making.{AreEmpty, AreNew};
 ghost use Rattle.plant_columns.specs.Tables.{no_schema, grants_schema, shelves_schema, events_schema, changes_schema, books_schema};
 ghost use Rattle.plant_store.specs.StaysInside.{StaysInside};
@@ -142,9 +142,9 @@ pub fn make_tables<S: Alter>(tx: &mut Transaction<'_, S>, admin: &Person) -> Res
 pub fn make_all<S: Alter>(conn: &mut Connection<S>, admin: &Person) -> Result<(), Error>
     requires { conn.old.in_transaction ≡ false }
     ensures mode { conn.new.in_transaction ≡ false }
-    ensures made { CanTell (state S.Store conn.new) → (state S.Store conn.old).now.schema ≡ no_schema → OnOk result (AreNew admin.now (state S.Store conn.new).now) }
-    ensures unchanged { CanTell (state S.Store conn.new) → OnErr result ((state S.Store conn.new).now ≡ (state S.Store conn.old).now) }
-    ensures told { CanTell (state S.Store conn.new) → CanTell (state S.Store conn.old) }
+    ensures made { IsHonest (state S.Store conn.new) → (state S.Store conn.old).now.schema ≡ no_schema → OnOk result (AreNew admin.now (state S.Store conn.new).now) }
+    ensures unchanged { IsHonest (state S.Store conn.new) → OnErr result ((state S.Store conn.new).now ≡ (state S.Store conn.old).now) }
+    ensures honest { IsHonest (state S.Store conn.new) → IsHonest (state S.Store conn.old) }
 {
     let _settled = conn.is_autocommit();
     let mut tx = conn.transaction();

@@ -5,9 +5,9 @@ ghost use Rattle.sqlite.specs.Held.{state};
 ghost use Rattle.sqlite.specs.State.{HasCleanDisk};
 ghost use Rattle.plant_books.specs.Contents.{Content};
 ghost use Rattle.plant_columns.specs.Tables.{AreBooks, no_schema};
-ghost use Rattle.plant_model.specs.declared.rows.Change.TheVariants.{Put};
+ghost use Rattle.plant_model.specs.declared.rows.RowEdit.TheVariants.{Put};
 ghost use Rattle.plant_types.specs.declared.fault.Fault.TheVariants.{Store};
-ghost use Rattle.plant_store.specs.Changes.{Applies, CanTell};
+ghost use Rattle.plant_store.specs.Changes.{Applies, IsHonest};
 ghost use Rattle.plant_store.specs.OnlyReads.{OnlyReadsOld};
 ghost use Rattle.plant_store.specs.Keeping.{HaveRows, Keeps};
 ghost use Rattle.plant_store.specs.OldTables.{AreOldBooks, old_schema_no};
@@ -79,7 +79,7 @@ fn take_rows<T: OldRow, O: Alter, N: Alter>(
     ensures mode { from.new.in_transaction ≡ false }
     ensures reads { OnlyReadsOld (state O.Store from.old) (state O.Store from.new) }
     ensures same_reference { tx.new.conn.ghost_name ≡ tx.old.conn.ghost_name }
-    ensures made { CanTell (state O.Store from.new) → AreOldBooks (state O.Store from.old).now → HasCleanDisk (state N.Store tx.new.conn.now) → IsTrue tx.old.conn.now.in_transaction → AreBooks (state N.Store tx.old.conn.now).now
+    ensures made { IsHonest (state O.Store from.new) → AreOldBooks (state O.Store from.old).now → HasCleanDisk (state N.Store tx.new.conn.now) → IsTrue tx.old.conn.now.in_transaction → AreBooks (state N.Store tx.old.conn.now).now
         → OnOk result (Applies unit.now (map (λ r. Put (T.becomes r)) (T.had unit.now (state O.Store from.old).now.trees)) (state N.Store tx.old.conn.now).now (state N.Store tx.new.conn.now).now) }
     ensures stays { StaysInside result (state N.Store tx.old.conn.now) (state N.Store tx.new.conn.now) }
 {
@@ -99,7 +99,7 @@ fn take_table<O: Alter, N: Alter>(
     ensures mode { from.new.in_transaction ≡ false }
     ensures reads { OnlyReadsOld (state O.Store from.old) (state O.Store from.new) }
     ensures same_reference { tx.new.conn.ghost_name ≡ tx.old.conn.ghost_name }
-    ensures made { CanTell (state O.Store from.new) → AreOldBooks (state O.Store from.old).now → HasCleanDisk (state N.Store tx.new.conn.now) → IsTrue tx.old.conn.now.in_transaction → AreBooks (state N.Store tx.old.conn.now).now
+    ensures made { IsHonest (state O.Store from.new) → AreOldBooks (state O.Store from.old).now → HasCleanDisk (state N.Store tx.new.conn.now) → IsTrue tx.old.conn.now.in_transaction → AreBooks (state N.Store tx.old.conn.now).now
         → OnOk result (Applies unit.now (puts_of (upgraded_rows unit.now (state O.Store from.old).now.trees) kind.now) (state N.Store tx.old.conn.now).now (state N.Store tx.new.conn.now).now) }
     ensures stays { StaysInside result (state N.Store tx.old.conn.now) (state N.Store tx.new.conn.now) }
 {
@@ -128,7 +128,7 @@ fn take_tables<O: Alter, N: Alter>(
     ensures mode { from.new.in_transaction ≡ false }
     ensures reads { OnlyReadsOld (state O.Store from.old) (state O.Store from.new) }
     ensures same_reference { tx.new.conn.ghost_name ≡ tx.old.conn.ghost_name }
-    ensures made { CanTell (state O.Store from.new) → AreOldBooks (state O.Store from.old).now → HasCleanDisk (state N.Store tx.new.conn.now) → IsTrue tx.old.conn.now.in_transaction → AreBooks (state N.Store tx.old.conn.now).now
+    ensures made { IsHonest (state O.Store from.new) → AreOldBooks (state O.Store from.old).now → HasCleanDisk (state N.Store tx.new.conn.now) → IsTrue tx.old.conn.now.in_transaction → AreBooks (state N.Store tx.old.conn.now).now
         → OnOk result (Applies unit.now (puts_all (upgraded_rows unit.now (state O.Store from.old).now.trees) kinds.now) (state N.Store tx.old.conn.now).now (state N.Store tx.new.conn.now).now) }
     ensures stays { StaysInside result (state N.Store tx.old.conn.now) (state N.Store tx.new.conn.now) }
 {
@@ -149,7 +149,7 @@ fn take_unit<O: Alter, N: Alter>(
     ensures mode { from.new.in_transaction ≡ false }
     ensures reads { OnlyReadsOld (state O.Store from.old) (state O.Store from.new) }
     ensures same_reference { tx.new.conn.ghost_name ≡ tx.old.conn.ghost_name }
-    ensures made { CanTell (state O.Store from.new) → AreOldBooks (state O.Store from.old).now → HasCleanDisk (state N.Store tx.new.conn.now) → IsTrue tx.old.conn.now.in_transaction → AreBooks (state N.Store tx.old.conn.now).now
+    ensures made { IsHonest (state O.Store from.new) → AreOldBooks (state O.Store from.old).now → HasCleanDisk (state N.Store tx.new.conn.now) → IsTrue tx.old.conn.now.in_transaction → AreBooks (state N.Store tx.old.conn.now).now
         → OnOk result (Applies unit.now (puts_all (upgraded_rows unit.now (state O.Store from.old).now.trees) all_kinds) (state N.Store tx.old.conn.now).now (state N.Store tx.new.conn.now).now) }
     ensures stays { StaysInside result (state N.Store tx.old.conn.now) (state N.Store tx.new.conn.now) }
 {
@@ -183,7 +183,7 @@ fn take_units<O: Alter, N: Alter>(
     ensures mode { from.new.in_transaction ≡ false }
     ensures reads { OnlyReadsOld (state O.Store from.old) (state O.Store from.new) }
     ensures same_reference { tx.new.conn.ghost_name ≡ tx.old.conn.ghost_name }
-    ensures made { CanTell (state O.Store from.new) → AreOldBooks (state O.Store from.old).now → map (λ l. l.unit) lines.now ≡ old_codes (state O.Store from.old).now.trees → HasCleanDisk (state N.Store tx.new.conn.now) → IsTrue tx.old.conn.now.in_transaction → AreTakenOver [] (state O.Store from.old).now.trees (state N.Store tx.old.conn.now).now
+    ensures made { IsHonest (state O.Store from.new) → AreOldBooks (state O.Store from.old).now → map (λ l. l.unit) lines.now ≡ old_codes (state O.Store from.old).now.trees → HasCleanDisk (state N.Store tx.new.conn.now) → IsTrue tx.old.conn.now.in_transaction → AreTakenOver [] (state O.Store from.old).now.trees (state N.Store tx.old.conn.now).now
         → OnOk result (AreTakenOver (old_codes (state O.Store from.old).now.trees) (state O.Store from.old).now.trees (state N.Store tx.new.conn.now).now × ((state N.Store tx.new.conn.now).now.trees 0 ≡ (state N.Store tx.old.conn.now).now.trees 0)) }
     ensures stays { StaysInside result (state N.Store tx.old.conn.now) (state N.Store tx.new.conn.now) }
 {
@@ -204,7 +204,7 @@ fn fill<O: Alter, N: Alter>(
     ensures mode { from.new.in_transaction ≡ false }
     ensures reads { OnlyReadsOld (state O.Store from.old) (state O.Store from.new) }
     ensures same_reference { tx.new.conn.ghost_name ≡ tx.old.conn.ghost_name }
-    ensures made { CanTell (state O.Store from.new) → HasCleanDisk (state N.Store tx.new.conn.now) → IsTrue tx.old.conn.now.in_transaction → (state N.Store tx.old.conn.now).now.schema ≡ no_schema → (m : Content) → m.admin ≡ admin.now → HaveOldRows m (state O.Store from.old).now
+    ensures made { IsHonest (state O.Store from.new) → HasCleanDisk (state N.Store tx.new.conn.now) → IsTrue tx.old.conn.now.in_transaction → (state N.Store tx.old.conn.now).now.schema ≡ no_schema → (m : Content) → m.admin ≡ admin.now → HaveOldRows m (state O.Store from.old).now
         → OnOk result (HaveRows m (state N.Store tx.new.conn.now).now) }
     ensures stays { StaysInside result (state N.Store tx.old.conn.now) (state N.Store tx.new.conn.now) }
 {
@@ -225,9 +225,9 @@ fn take_over<O: Alter, N: Alter>(
     ensures mode { from.new.in_transaction ≡ false }
     ensures reads { OnlyReadsOld (state O.Store from.old) (state O.Store from.new) }
     ensures outside { into.new.in_transaction ≡ false }
-    ensures taken { CanTell (state O.Store from.new) → CanTell (state N.Store into.new) → (state N.Store into.old).now.schema ≡ no_schema → (m : Content) → m.admin ≡ admin.now → HaveOldRows m (state O.Store from.old).now
+    ensures taken { IsHonest (state O.Store from.new) → IsHonest (state N.Store into.new) → (state N.Store into.old).now.schema ≡ no_schema → (m : Content) → m.admin ≡ admin.now → HaveOldRows m (state O.Store from.old).now
         → OnOk result (HaveRows m (state N.Store into.new).now) }
-    ensures unchanged { CanTell (state N.Store into.new) → OnErr result ((state N.Store into.new).now ≡ (state N.Store into.old).now) }
+    ensures unchanged { IsHonest (state N.Store into.new) → OnErr result ((state N.Store into.new).now ≡ (state N.Store into.old).now) }
 {
     let _settled = into.is_autocommit();
     let mut tx = into.transaction();
@@ -248,10 +248,10 @@ fn take_into_blank<O: Alter, N: Alter>(
     ensures mode { from.new.in_transaction ≡ false }
     ensures reads { OnlyReadsOld (state O.Store from.old) (state O.Store from.new) }
     ensures outside { into.new.in_transaction ≡ false }
-    ensures taken { CanTell (state O.Store from.new) → (m : Content) → m.admin ≡ admin.now → HaveOldRows m (state O.Store from.old).now → OnOk result (Keeps (state N.Store into.new) m) }
+    ensures taken { IsHonest (state O.Store from.new) → (m : Content) → m.admin ≡ admin.now → HaveOldRows m (state O.Store from.old).now → OnOk result (Keeps (state N.Store into.new) m) }
     ensures blank { OnOk result ((state N.Store into.old).now.schema ≡ no_schema) }
     ensures full { (state N.Store into.old).now.schema ≢ no_schema → result ≡ Err Store }
-    ensures unchanged { CanTell (state N.Store into.new) → OnErr result ((state N.Store into.new).now ≡ (state N.Store into.old).now) }
+    ensures unchanged { IsHonest (state N.Store into.new) → OnErr result ((state N.Store into.new).now ≡ (state N.Store into.old).now) }
 {
     if !is_blank(into.schema()) {
         return Err(Fault::Store);
@@ -276,16 +276,16 @@ pub fn migrate<O: Alter, N: Alter>(
 ) -> Result<(Connection<O>, Tables<N>), MigrateRefused<O, N>>
     requires reading { old.in_transaction ≡ false }
     requires writing { new.in_transaction ≡ false }
-    ensures taken { (m : Content) → m.admin ≡ admin → IfOk result (λ r. CanTell (state O.Store r.0) → HaveOldRows m (state O.Store old).now → Keeps (state N.Store r.1.0.0) m) }
+    ensures taken { (m : Content) → m.admin ≡ admin → IfOk result (λ r. IsHonest (state O.Store r.0) → HaveOldRows m (state O.Store old).now → Keeps (state N.Store r.1.0.0) m) }
     ensures fresh { IfOk result (λ r. (r.1.0.1 ≡ admin) × ((r.1.1 ≡ 0) × (r.0.in_transaction ≡ false))) }
-    ensures office { IfOk result (λ r. CanTell (state O.Store r.0) → IsOffice old_schema_no admin (state O.Store old).now) }
+    ensures office { IfOk result (λ r. IsHonest (state O.Store r.0) → IsOffice old_schema_no admin (state O.Store old).now) }
     ensures blank { IfOk result (λ r. (state N.Store new).now.schema ≡ no_schema) }
-    ensures other { IfErr result (λ e. e.fault ≡ StoreFault.NotThisStore → CanTell (state O.Store e.old) → ¬ IsOffice old_schema_no admin (state O.Store old).now) }
+    ensures other { IfErr result (λ e. e.fault ≡ StoreFault.NotThisStore → IsHonest (state O.Store e.old) → ¬ IsOffice old_schema_no admin (state O.Store old).now) }
     ensures missing { has_office (state O.Store old).now.schema ≡ false → IsErrAnd result (λ e. e.fault ≡ StoreFault.NotThisStore) }
-    ensures own { IsOffice old_schema_no admin (state O.Store old).now → IfErr result (λ e. CanTell (state O.Store e.old) → e.fault ≢ StoreFault.NotThisStore) }
-    ensures read { AreOldBooks (state O.Store old).now → IfOk result (λ r. CanTell (state O.Store r.0) → (state O.Store r.0).now ≡ (state O.Store old).now) }
-    ensures unread { AreOldBooks (state O.Store old).now → IfErr result (λ e. CanTell (state O.Store e.old) → (state O.Store e.old).now ≡ (state O.Store old).now) }
-    ensures unchanged { IfErr result (λ e. CanTell (state N.Store e.new) → (state N.Store e.new).now ≡ (state N.Store new).now) }
+    ensures own { IsOffice old_schema_no admin (state O.Store old).now → IfErr result (λ e. IsHonest (state O.Store e.old) → e.fault ≢ StoreFault.NotThisStore) }
+    ensures read { AreOldBooks (state O.Store old).now → IfOk result (λ r. IsHonest (state O.Store r.0) → (state O.Store r.0).now ≡ (state O.Store old).now) }
+    ensures unread { AreOldBooks (state O.Store old).now → IfErr result (λ e. IsHonest (state O.Store e.old) → (state O.Store e.old).now ≡ (state O.Store old).now) }
+    ensures unchanged { IfErr result (λ e. IsHonest (state N.Store e.new) → (state N.Store e.new).now ≡ (state N.Store new).now) }
     ensures back { IfErr result (λ e. (e.admin ≡ admin) × ((e.old.in_transaction ≡ false) × (e.new.in_transaction ≡ false))) }
 {
     let fault = match is_office_of(&mut old, OLD_SCHEMA, &admin) {

@@ -8,7 +8,7 @@ ghost use Rattle.plant_books.specs.Contents.{Content};
 ghost use Rattle.plant_model.specs.Grants.{is_before};
 ghost use Rattle.plant_types.specs.Names.{same_name};
 ghost use Rattle.plant_store.specs.declared.mine.Line.{Line as LineRow};
-ghost use Rattle.plant_store.specs.Changes.{CanTell};
+ghost use Rattle.plant_store.specs.Changes.{IsHonest};
 ghost use Rattle.plant_store.specs.OnlyReads.{OnlyReads};
 ghost use Rattle.plant_store.specs.Keeping.{KeepsIn};
 ghost use Rattle.plant_store.specs.Mine.{line_cells, lines_of, runs_after, runs_of, standing_lines, started};
@@ -17,7 +17,7 @@ use crate::read::ask;
 use plant_books::MineUnit;
 use plant_columns::decode::{Shown, moment, open_moment, read_all, role, text};
 use plant_columns::encode::single;
-use plant_types::{Moment, Person, Role, Table, UnitCode};
+use plant_types::{List, Moment, Person, Role, UnitCode};
 use sqlite::{Alter, Connection, Error, ErrorCode, Row};
 use std::alloc::Global;
 
@@ -56,16 +56,16 @@ pub fn is_before_end(now: Moment, end_s: Option<Moment>) -> bool
 }
 
 /// A list of one role.
-fn one_role(alloc: Global, role_no: Role) -> Result<Table<Role>, Error>
+fn one_role(alloc: Global, role_no: Role) -> Result<List<Role>, Error>
     ensures { IfOk result (λ roles. roles ≡ role_no ∷ []) }
 {
-    let mut roles = Table::new(alloc);
+    let mut roles = List::new(alloc);
     push(&mut roles, role_no)?;
     Ok(roles)
 }
 
 /// Puts a value at the end.
-pub fn push<T: Drop>(table: &mut Table<T>, row: T) -> Result<(), Error>
+pub fn push<T: Drop>(table: &mut List<T>, row: T) -> Result<(), Error>
     ensures { OnOk result (table.new ≡ table.old ++ row ∷ []) }
 {
     match table.push(row) {
@@ -92,7 +92,7 @@ fn start(alloc: Global, line: &Line) -> Result<MineUnit, Error>
 #[tactic(auto, using(crate::proofs::LineLaws::joins_run))]
 fn join(
     alloc: Global,
-    units: &mut Table<MineUnit>,
+    units: &mut List<MineUnit>,
     current: Option<MineUnit>,
     line: &Line,
 ) -> Result<MineUnit, Error>
@@ -111,10 +111,10 @@ fn join(
 }
 
 /// The lines unit by unit, without those of grants that have ended.
-fn group(alloc: Global, lines: &[Line], now: Moment) -> Result<Table<MineUnit>, Error>
+fn group(alloc: Global, lines: &[Line], now: Moment) -> Result<List<MineUnit>, Error>
     ensures { IfOk result (λ units. units ≡ runs_of (standing_lines now lines.now)) }
 {
-    let mut units = Table::new(alloc);
+    let mut units = List::new(alloc);
     let mut current: Option<MineUnit> = None;
     for line in lines {
         if is_before_end(now, line.end_s) {
@@ -132,10 +132,10 @@ fn lines<S: Alter>(
     alloc: Global,
     conn: &mut Connection<S>,
     person: &Person,
-) -> Result<Table<Line>, Error>
+) -> Result<List<Line>, Error>
     requires { conn.old.in_transaction ≡ false }
     ensures mode { conn.new.in_transaction ≡ false }
-    ensures found { CanTell (state S.Store conn.new) → (m : Content) → KeepsIn (state S.Store conn.old) m → IfOk result (λ lines. lines ≡ lines_of person.now (state S.Store conn.old).now.trees) }
+    ensures found { IsHonest (state S.Store conn.new) → (m : Content) → KeepsIn (state S.Store conn.old) m → IfOk result (λ lines. lines ≡ lines_of person.now (state S.Store conn.old).now.trees) }
     ensures reads { OnlyReads (state S.Store conn.old) (state S.Store conn.new) }
 {
     let rows = ask(
@@ -152,10 +152,10 @@ pub fn mine_units<S: Alter>(
     conn: &mut Connection<S>,
     person: &Person,
     now: Moment,
-) -> Result<Table<MineUnit>, Error>
+) -> Result<List<MineUnit>, Error>
     requires { conn.old.in_transaction ≡ false }
     ensures mode { conn.new.in_transaction ≡ false }
-    ensures found { CanTell (state S.Store conn.new) → (m : Content) → KeepsIn (state S.Store conn.old) m → IfOk result (λ units. units ≡ contents.mine_units m now person.now) }
+    ensures found { IsHonest (state S.Store conn.new) → (m : Content) → KeepsIn (state S.Store conn.old) m → IfOk result (λ units. units ≡ contents.mine_units m now person.now) }
     ensures reads { OnlyReads (state S.Store conn.old) (state S.Store conn.new) }
 {
     let lines = lines(alloc, conn, person)?;
@@ -163,10 +163,10 @@ pub fn mine_units<S: Alter>(
 }
 
 /// The codes of the units.
-fn codes(alloc: Global, units: &[MineUnit]) -> Result<Table<UnitCode>, Error>
+fn codes(alloc: Global, units: &[MineUnit]) -> Result<List<UnitCode>, Error>
     ensures { IfOk result (λ codes. codes ≡ map (λ u. u.unit) units.now) }
 {
-    let mut codes = Table::new(alloc);
+    let mut codes = List::new(alloc);
     for mine in units {
         let Ok(code) = mine.unit.copy(alloc) else {
             return Err(Error::SqliteFailure(ErrorCode::OutOfMemory));
@@ -182,10 +182,10 @@ pub fn held<S: Alter>(
     conn: &mut Connection<S>,
     person: &Person,
     now: Moment,
-) -> Result<Table<UnitCode>, Error>
+) -> Result<List<UnitCode>, Error>
     requires { conn.old.in_transaction ≡ false }
     ensures mode { conn.new.in_transaction ≡ false }
-    ensures found { CanTell (state S.Store conn.new) → (m : Content) → KeepsIn (state S.Store conn.old) m → IfOk result (λ codes. codes ≡ contents.codes_held m now person.now) }
+    ensures found { IsHonest (state S.Store conn.new) → (m : Content) → KeepsIn (state S.Store conn.old) m → IfOk result (λ codes. codes ≡ contents.codes_held m now person.now) }
     ensures reads { OnlyReads (state S.Store conn.old) (state S.Store conn.new) }
 {
     let units = mine_units(alloc, conn, person, now)?;

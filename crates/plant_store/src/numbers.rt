@@ -8,7 +8,7 @@ ghost use Rattle.plant_columns.specs.Tables.{AreBooks, rows_seen};
 ghost use Rattle.plant_columns.specs.Tables.Kept.{BandKept, CellKept, ChangeKept};
 ghost use Rattle.plant_model.specs.Histories.{same_number};
 ghost use Rattle.plant_model.specs.declared.rows.UnitRows.{UnitRows as Rows};
-ghost use Rattle.plant_store.specs.Changes.{CanTell};
+ghost use Rattle.plant_store.specs.Changes.{IsHonest};
 ghost use Rattle.plant_store.specs.OnlyReads.{OnlyReads};
 ghost use Rattle.plant_store.specs.Mine.{own_row};
 ghost use Rattle.plant_store.specs.Numbers.{AreNumbers, with_number};
@@ -17,7 +17,7 @@ use crate::read::rows_of_number;
 use crate::stored::Numbered;
 use plant_books::{Scope, wanted_change, wants_matrix, wants_sources};
 use plant_model::{BandRow, CellRow, ChangeEntry, RecordEntry, UnitRow};
-use plant_types::{Table, UnitCode};
+use plant_types::{List, UnitCode};
 use sqlite::{Alter, Connection, Error, ErrorCode};
 use std::alloc::Global;
 use std::cmp::Ordering;
@@ -37,7 +37,7 @@ fn place_of(numbers: &[u32], number: u32) -> Option<usize>
 }
 
 /// Puts a number where it belongs, once.
-fn put(numbers: &mut Table<u32>, number: u32) -> Result<(), Error>
+fn put(numbers: &mut List<u32>, number: u32) -> Result<(), Error>
     ensures { OnOk result ((p : ℕ → Bool) → AreNumbers numbers.old p → AreNumbers numbers.new (λ k. p k || same_number number k)) }
 {
     let Some(place) = place_of(numbers.as_slice(), number) else {
@@ -50,7 +50,7 @@ fn put(numbers: &mut Table<u32>, number: u32) -> Result<(), Error>
 }
 
 /// Puts a number where it belongs, where there is one.
-fn put_some(numbers: &mut Table<u32>, number: Option<u32>) -> Result<(), Error>
+fn put_some(numbers: &mut List<u32>, number: Option<u32>) -> Result<(), Error>
     ensures { OnOk result ((p : ℕ → Bool) → AreNumbers numbers.old p → AreNumbers numbers.new (λ k. p k || is_number number k)) }
 {
     match number {
@@ -70,10 +70,10 @@ fn matrix_in_force(units: &[UnitRow]) -> u32
 }
 
 /// The numbers of the matrices that the scope takes in.
-fn matrix_numbers(alloc: Global, units: &[UnitRow], scope: Scope<'_>) -> Result<Table<u32>, Error>
+fn matrix_numbers(alloc: Global, units: &[UnitRow], scope: Scope<'_>) -> Result<List<u32>, Error>
     ensures { (rows : Rows) → rows.units ≡ units.now → IfOk result (λ numbers. AreNumbers numbers (selection_by rows scope.entry).matrix) }
 {
-    let mut numbers = Table::new(alloc);
+    let mut numbers = List::new(alloc);
     if wants_matrix(scope) {
         put(&mut numbers, matrix_in_force(units))?;
     }
@@ -82,7 +82,7 @@ fn matrix_numbers(alloc: Global, units: &[UnitRow], scope: Scope<'_>) -> Result<
 }
 
 /// Puts the numbers of the changes that the records came from.
-fn put_sources(numbers: &mut Table<u32>, records: &[RecordEntry]) -> Result<(), Error>
+fn put_sources(numbers: &mut List<u32>, records: &[RecordEntry]) -> Result<(), Error>
     ensures { OnOk result ((p : ℕ → Bool) → AreNumbers numbers.old p → AreNumbers numbers.new (λ k. p k || list_any (λ r. same_number k r.change_no) records.now)) }
 {
     for record in records {
@@ -96,10 +96,10 @@ fn change_numbers(
     alloc: Global,
     records: &[RecordEntry],
     scope: Scope<'_>,
-) -> Result<Table<u32>, Error>
+) -> Result<List<u32>, Error>
     ensures { (rows : Rows) → records.now ≡ filter (λ r. (selection_by rows scope.entry).rationale r.tag) rows.records → IfOk result (λ numbers. AreNumbers numbers (selection_by rows scope.entry).change) }
 {
-    let mut numbers = Table::new(alloc);
+    let mut numbers = List::new(alloc);
     if wants_sources(scope) {
         put_sources(&mut numbers, records)?;
     }
@@ -108,7 +108,7 @@ fn change_numbers(
 }
 
 /// Puts rows behind others.
-fn append<T: Drop>(rows: &mut Vec<T>, more: Table<T>) -> Result<(), Error>
+fn append<T: Drop>(rows: &mut Vec<T>, more: List<T>) -> Result<(), Error>
     ensures { OnOk result (rows.new.items ≡ rows.old.items ++ more) }
 {
     let mut more = more.into_vec();
@@ -124,10 +124,10 @@ fn rows_numbered<T: Numbered, S: Alter>(
     conn: &mut Connection<S>,
     unit: &UnitCode,
     numbers: &[u32],
-) -> Result<Table<T>, Error>
+) -> Result<List<T>, Error>
     requires { conn.old.in_transaction ≡ false }
     ensures mode { conn.new.in_transaction ≡ false }
-    ensures rows { CanTell (state S.Store conn.new) → AreBooks (state S.Store conn.old).now → IfOk result (λ rows. rows ≡ flat_map (λ n. filter (λ r. same_number n (T.number r)) (T.seen unit.now (state S.Store conn.old).now.trees)) numbers.now) }
+    ensures rows { IsHonest (state S.Store conn.new) → AreBooks (state S.Store conn.old).now → IfOk result (λ rows. rows ≡ flat_map (λ n. filter (λ r. same_number n (T.number r)) (T.seen unit.now (state S.Store conn.old).now.trees)) numbers.now) }
     ensures reads { OnlyReads (state S.Store conn.old) (state S.Store conn.new) }
 {
     let mut rows = Vec::new(alloc);
@@ -135,7 +135,7 @@ fn rows_numbered<T: Numbered, S: Alter>(
         let read = rows_of_number(alloc, conn, unit, *number)?;
         append(&mut rows, read)?;
     }
-    Ok(Table::from_vec(rows))
+    Ok(List::from_vec(rows))
 }
 
 /// The limits of the unit's matrices that the scope takes in.
@@ -143,12 +143,12 @@ pub fn some_bands<S: Alter>(
     alloc: Global,
     conn: &mut Connection<S>,
     unit: &UnitCode,
-    units: &Table<UnitRow>,
+    units: &List<UnitRow>,
     scope: Scope<'_>,
-) -> Result<Table<BandRow>, Error>
+) -> Result<List<BandRow>, Error>
     requires { conn.old.in_transaction ≡ false }
     ensures mode { conn.new.in_transaction ≡ false }
-    ensures rows { CanTell (state S.Store conn.new) → AreBooks (state S.Store conn.old).now → (rows : Rows) → rows.units ≡ units.now → IfOk result (λ bands. bands ≡ filter (λ r. (selection_by rows scope.entry).matrix r.matrix_no) (rows_seen unit.now (state S.Store conn.old).now.trees BandKept)) }
+    ensures rows { IsHonest (state S.Store conn.new) → AreBooks (state S.Store conn.old).now → (rows : Rows) → rows.units ≡ units.now → IfOk result (λ bands. bands ≡ filter (λ r. (selection_by rows scope.entry).matrix r.matrix_no) (rows_seen unit.now (state S.Store conn.old).now.trees BandKept)) }
     ensures reads { OnlyReads (state S.Store conn.old) (state S.Store conn.new) }
 {
     let numbers = matrix_numbers(alloc, units.as_slice(), scope)?;
@@ -160,12 +160,12 @@ pub fn some_cells<S: Alter>(
     alloc: Global,
     conn: &mut Connection<S>,
     unit: &UnitCode,
-    units: &Table<UnitRow>,
+    units: &List<UnitRow>,
     scope: Scope<'_>,
-) -> Result<Table<CellRow>, Error>
+) -> Result<List<CellRow>, Error>
     requires { conn.old.in_transaction ≡ false }
     ensures mode { conn.new.in_transaction ≡ false }
-    ensures rows { CanTell (state S.Store conn.new) → AreBooks (state S.Store conn.old).now → (rows : Rows) → rows.units ≡ units.now → IfOk result (λ cells. cells ≡ filter (λ r. (selection_by rows scope.entry).matrix r.matrix_no) (rows_seen unit.now (state S.Store conn.old).now.trees CellKept)) }
+    ensures rows { IsHonest (state S.Store conn.new) → AreBooks (state S.Store conn.old).now → (rows : Rows) → rows.units ≡ units.now → IfOk result (λ cells. cells ≡ filter (λ r. (selection_by rows scope.entry).matrix r.matrix_no) (rows_seen unit.now (state S.Store conn.old).now.trees CellKept)) }
     ensures reads { OnlyReads (state S.Store conn.old) (state S.Store conn.new) }
 {
     let numbers = matrix_numbers(alloc, units.as_slice(), scope)?;
@@ -177,12 +177,12 @@ pub fn some_changes<S: Alter>(
     alloc: Global,
     conn: &mut Connection<S>,
     unit: &UnitCode,
-    records: &Table<RecordEntry>,
+    records: &List<RecordEntry>,
     scope: Scope<'_>,
-) -> Result<Table<ChangeEntry>, Error>
+) -> Result<List<ChangeEntry>, Error>
     requires { conn.old.in_transaction ≡ false }
     ensures mode { conn.new.in_transaction ≡ false }
-    ensures rows { CanTell (state S.Store conn.new) → AreBooks (state S.Store conn.old).now → (rows : Rows) → records.now ≡ filter (λ r. (selection_by rows scope.entry).rationale r.tag) rows.records → IfOk result (λ changes. changes ≡ filter (λ r. (selection_by rows scope.entry).change r.number) (rows_seen unit.now (state S.Store conn.old).now.trees ChangeKept)) }
+    ensures rows { IsHonest (state S.Store conn.new) → AreBooks (state S.Store conn.old).now → (rows : Rows) → records.now ≡ filter (λ r. (selection_by rows scope.entry).rationale r.tag) rows.records → IfOk result (λ changes. changes ≡ filter (λ r. (selection_by rows scope.entry).change r.number) (rows_seen unit.now (state S.Store conn.old).now.trees ChangeKept)) }
     ensures reads { OnlyReads (state S.Store conn.old) (state S.Store conn.new) }
 {
     let numbers = change_numbers(alloc, records.as_slice(), scope)?;

@@ -7,7 +7,7 @@ ghost use Rattle.sqlite.specs.Tree.{Trees};
 ghost use Rattle.sqlite_value.specs.declared.value.Value.TheVariants.{Text as TextValue};
 ghost use Rattle.plant_columns.specs.Tables.{AreBooks};
 ghost use Rattle.plant_columns.specs.Tables.Kept.{AlarmKept, BandKept, CellKept, ChangeKept, EventKept, GrantKept, RecordKept, ShelfKept, UnitKept};
-ghost use Rattle.plant_model.specs.declared.rows.Change.TheVariants.{Put};
+ghost use Rattle.plant_model.specs.declared.rows.RowEdit.TheVariants.{Put};
 ghost use Rattle.plant_model.specs.declared.rows.Row.{Row as AnyRow};
 ghost use Rattle.plant_model.specs.declared.rows.Row.TheVariants.{Grant as GrantPut, Unit as UnitPut};
 ghost use Rattle.plant_store.specs.Changes.{Applies};
@@ -27,12 +27,10 @@ use plant_columns::encode::single;
 use plant_model::{
     AlarmRow, BandRow, CellRow, ChangeEntry, GrantRow, RecordEntry, ShelfRow, UnitRow,
 };
-use plant_types::{Moment, Person, Quota, Role, Table, UnitCode};
+use plant_types::limits::MAX_QUOTA;
+use plant_types::{List, Moment, Person, Quota, Role, UnitCode};
 use sqlite::{Alter, Connection, Error, ErrorCode, Row, Transaction};
 use std::alloc::Global;
-
-/// The greatest quota: a unit has no more alarms than this.
-const GREATEST_QUOTA: u64 = 2000;
 
 /// A unit's own row: there was no quota.
 #[derive(Drop)]
@@ -148,7 +146,7 @@ impl OldRow for OldUnitRow {
             last_s: self.last_s,
             matrix_no: self.matrix_no,
             matrix_rev: self.matrix_rev,
-            quota: Quota::new(GREATEST_QUOTA).unwrap(),
+            quota: Quota::new(MAX_QUOTA).unwrap(),
         };
         put(tx, unit, &row)
     }
@@ -260,7 +258,7 @@ impl Unchanged for ChangeEntry {
 pub fn old_codes_of<S: Alter>(
     alloc: Global,
     conn: &mut Connection<S>,
-) -> Result<Table<CodeLine>, Error>
+) -> Result<List<CodeLine>, Error>
     requires { conn.old.in_transaction ≡ false }
     ensures mode { conn.new.in_transaction ≡ false }
     ensures rows { HasCleanDisk (state S.Store conn.new) → AreOldBooks (state S.Store conn.old).now → IfOk result (λ lines. map (λ l. l.unit) lines ≡ old_codes (state S.Store conn.old).now.trees) }
@@ -274,7 +272,7 @@ pub fn old_rows_of<T: OldRow, S: Alter>(
     alloc: Global,
     conn: &mut Connection<S>,
     unit: &UnitCode,
-) -> Result<Table<T>, Error>
+) -> Result<List<T>, Error>
     requires { conn.old.in_transaction ≡ false }
     ensures mode { conn.new.in_transaction ≡ false }
     ensures rows { HasCleanDisk (state S.Store conn.new) → AreOldBooks (state S.Store conn.old).now → IfOk result (λ rows. rows ≡ T.had unit.now (state S.Store conn.old).now.trees) }

@@ -4,7 +4,7 @@ ghost use Rattle.std.specs.Prelude.{◌≡◌, ◌↔◌, [], ◌∷◌, false, 
 ghost use Rattle.sqlite.specs.Held.{state};
 ghost use Rattle.sqlite_value.specs.Order.{column};
 ghost use Rattle.sqlite_value.specs.declared.value.Value.TheVariants.{Text as TextValue};
-ghost use Rattle.plant_store.specs.Changes.{CanTell};
+ghost use Rattle.plant_store.specs.Changes.{IsHonest};
 ghost use Rattle.plant_store.specs.OnlyReads.{OnlyReads, OnlyReadsOld};
 ghost use Rattle.plant_columns.specs.Codes as codings;
 ghost use Rattle.plant_store.specs.Opening as opening;
@@ -85,7 +85,7 @@ fn has_its_row<S: Alter>(
 ) -> Result<bool, Error>
     requires { conn.old.in_transaction ≡ false }
     ensures mode { conn.new.in_transaction ≡ false }
-    ensures row { CanTell (state S.Store conn.new) → opening.has_office (state S.Store conn.old).now.schema ≡ true → IfOk result (λ is. IsTrue is ↔ IsOffice schema admin.now (state S.Store conn.old).now) }
+    ensures row { IsHonest (state S.Store conn.new) → opening.has_office (state S.Store conn.old).now.schema ≡ true → IfOk result (λ is. IsTrue is ↔ IsOffice schema admin.now (state S.Store conn.old).now) }
     ensures reads { OnlyReads (state S.Store conn.old) (state S.Store conn.new) }
     ensures reads_old { OnlyReadsOld (state S.Store conn.old) (state S.Store conn.new) }
 {
@@ -101,7 +101,7 @@ pub fn is_office_of<S: Alter>(
 ) -> Result<bool, Error>
     requires { conn.old.in_transaction ≡ false }
     ensures mode { conn.new.in_transaction ≡ false }
-    ensures row { CanTell (state S.Store conn.new) → IfOk result (λ is. IsTrue is ↔ IsOffice schema admin.now (state S.Store conn.old).now) }
+    ensures row { IsHonest (state S.Store conn.new) → IfOk result (λ is. IsTrue is ↔ IsOffice schema admin.now (state S.Store conn.old).now) }
     ensures missing { opening.has_office (state S.Store conn.old).now.schema ≡ false → result ≡ Ok false }
     ensures reads { OnlyReads (state S.Store conn.old) (state S.Store conn.new) }
     ensures reads_old { OnlyReadsOld (state S.Store conn.old) (state S.Store conn.new) }

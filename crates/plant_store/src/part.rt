@@ -11,13 +11,13 @@ ghost use Rattle.plant_types.specs.Names.{Name};
 ghost use Rattle.plant_books.specs.Asking.{is_shelving as is_shelving_by, looks_at_events as looks_at_events_by, number_approved as number_approved_by, selection_by};
 ghost use Rattle.plant_model.specs.Histories.{same_number};
 ghost use Rattle.plant_books.specs.Contents.{Content, part_in, rows_in};
-ghost use Rattle.plant_store.specs.Changes.{CanTell};
+ghost use Rattle.plant_store.specs.Changes.{IsHonest};
 ghost use Rattle.plant_store.specs.OnlyReads.{OnlyReads};
 ghost use Rattle.plant_store.specs.Keeping.{KeepsIn};
 ghost use Rattle.plant_columns.specs.Tables.{AreBooks, rows_seen};
 ghost use Rattle.plant_columns.specs.Tables.Kept.{UnitKept, GrantKept, AlarmKept, ShelfKept, EventKept, RecordKept, ChangeKept};
 ghost use Rattle.plant_model.specs.RowFacts.{event_number};
-ghost use Rattle.plant_types.specs.Tables.{IsInOrder};
+ghost use Rattle.plant_types.specs.KeyedRows.{IsInOrder};
 ghost use Rattle.std.specs.Ordering.{nat_cmp};
 ghost use Rattle.plant_store.specs.Wanted.{alarms_with, events_with, records_with, shelves_with};
 
@@ -37,7 +37,7 @@ use plant_model::{
     AlarmRow, Call, ChangeEntry, Counted, GrantRow, RecordEntry, Request, ShelfRow, UnitPart,
     UnitRow, UnitRows,
 };
-use plant_types::{Table, UnitCode};
+use plant_types::{List, UnitCode};
 use sqlite::{Alter, Connection, Error, ErrorCode};
 use std::alloc::Global;
 
@@ -46,9 +46,9 @@ pub fn some_grants<S: Alter>(
     alloc: Global,
     conn: &mut Connection<S>,
     unit: &UnitCode,
-    own: Table<GrantRow>,
+    own: List<GrantRow>,
     all: bool,
-) -> Result<Table<GrantRow>, Error>
+) -> Result<List<GrantRow>, Error>
     requires { conn.old.in_transaction ≡ false }
     ensures mode { conn.new.in_transaction ≡ false }
     ensures rows { HasCleanDisk (state S.Store conn.new) → AreBooks (state S.Store conn.old).now → IfOk result (λ rows. (p : Name) → own ≡ filter (λ g. same_name p g.person) (rows_seen unit.now (state S.Store conn.old).now.trees GrantKept)
@@ -68,14 +68,14 @@ pub fn some_alarms<S: Alter>(
     conn: &mut Connection<S>,
     unit: &UnitCode,
     wanted: Wanted<'_>,
-) -> Result<Table<AlarmRow>, Error>
+) -> Result<List<AlarmRow>, Error>
     requires { conn.old.in_transaction ≡ false }
     ensures mode { conn.new.in_transaction ≡ false }
     ensures rows { HasCleanDisk (state S.Store conn.new) → AreBooks (state S.Store conn.old).now → IfOk result (λ rows. rows ≡ alarms_with wanted.entry (rows_seen unit.now (state S.Store conn.old).now.trees AlarmKept)) }
     ensures reads { OnlyReads (state S.Store conn.old) (state S.Store conn.new) }
 {
     match wanted {
-        Wanted::Nothing => Ok(Table::new(alloc)),
+        Wanted::Nothing => Ok(List::new(alloc)),
         Wanted::One(tag) => row_of_tag::<AlarmRow, S>(alloc, conn, unit, tag),
         Wanted::Every => all_rows(alloc, conn, unit),
     }
@@ -87,14 +87,14 @@ pub fn some_shelves<S: Alter>(
     conn: &mut Connection<S>,
     unit: &UnitCode,
     wanted: Wanted<'_>,
-) -> Result<Table<ShelfRow>, Error>
+) -> Result<List<ShelfRow>, Error>
     requires { conn.old.in_transaction ≡ false }
     ensures mode { conn.new.in_transaction ≡ false }
     ensures rows { HasCleanDisk (state S.Store conn.new) → AreBooks (state S.Store conn.old).now → IfOk result (λ rows. rows ≡ shelves_with wanted.entry (rows_seen unit.now (state S.Store conn.old).now.trees ShelfKept)) }
     ensures reads { OnlyReads (state S.Store conn.old) (state S.Store conn.new) }
 {
     match wanted {
-        Wanted::Nothing => Ok(Table::new(alloc)),
+        Wanted::Nothing => Ok(List::new(alloc)),
         Wanted::One(tag) => row_of_tag::<ShelfRow, S>(alloc, conn, unit, tag),
         Wanted::Every => all_rows(alloc, conn, unit),
     }
@@ -106,14 +106,14 @@ pub fn some_records<S: Alter>(
     conn: &mut Connection<S>,
     unit: &UnitCode,
     wanted: Wanted<'_>,
-) -> Result<Table<RecordEntry>, Error>
+) -> Result<List<RecordEntry>, Error>
     requires { conn.old.in_transaction ≡ false }
     ensures mode { conn.new.in_transaction ≡ false }
     ensures rows { HasCleanDisk (state S.Store conn.new) → AreBooks (state S.Store conn.old).now → IfOk result (λ rows. rows ≡ records_with wanted.entry (rows_seen unit.now (state S.Store conn.old).now.trees RecordKept)) }
     ensures reads { OnlyReads (state S.Store conn.old) (state S.Store conn.new) }
 {
     match wanted {
-        Wanted::Nothing => Ok(Table::new(alloc)),
+        Wanted::Nothing => Ok(List::new(alloc)),
         Wanted::One(tag) => row_of_tag::<RecordEntry, S>(alloc, conn, unit, tag),
         Wanted::Every => all_rows(alloc, conn, unit),
     }
@@ -125,7 +125,7 @@ pub fn some_events<S: Alter>(
     conn: &mut Connection<S>,
     unit: &UnitCode,
     wanted: bool,
-) -> Result<Table<Event>, Error>
+) -> Result<List<Event>, Error>
     requires { conn.old.in_transaction ≡ false }
     ensures mode { conn.new.in_transaction ≡ false }
     ensures rows { HasCleanDisk (state S.Store conn.new) → AreBooks (state S.Store conn.old).now → IfOk result (λ rows. rows ≡ events_with wanted (rows_seen unit.now (state S.Store conn.old).now.trees EventKept)) }
@@ -134,12 +134,12 @@ pub fn some_events<S: Alter>(
     if wanted {
         all_rows(alloc, conn, unit)
     } else {
-        Ok(Table::new(alloc))
+        Ok(List::new(alloc))
     }
 }
 
 /// Of the unit's events, which stand in rising number, those that the scope takes in. All of them are not copied.
-fn events_for(alloc: Global, events: Table<Event>, scope: Scope<'_>) -> Result<Table<Event>, Error>
+fn events_for(alloc: Global, events: List<Event>, scope: Scope<'_>) -> Result<List<Event>, Error>
     ensures { IsInOrder nat_cmp event_number events → IfOk result (λ asked. (rows : Rows) → asked ≡ (selection_by rows scope.entry).events events) }
 {
     let wanted = wanted_events(scope);
@@ -158,7 +158,7 @@ fn count_for<S: Alter>(
     conn: &mut Connection<S>,
     unit: &UnitCode,
     request: &Request,
-    events: &Table<Event>,
+    events: &List<Event>,
 ) -> Result<u64, Error>
     requires { conn.old.in_transaction ≡ false }
     ensures mode { conn.new.in_transaction ≡ false }
@@ -177,7 +177,7 @@ fn count_for<S: Alter>(
 fn crowded_for<S: Alter>(
     conn: &mut Connection<S>,
     unit: &UnitCode,
-    units: &Table<UnitRow>,
+    units: &List<UnitRow>,
     request: &Request,
 ) -> Result<bool, Error>
     requires { conn.old.in_transaction ≡ false }
@@ -198,7 +198,7 @@ fn approved_for<S: Alter>(
     conn: &mut Connection<S>,
     unit: &UnitCode,
     request: &Request,
-) -> Result<Table<ChangeEntry>, Error>
+) -> Result<List<ChangeEntry>, Error>
     requires { conn.old.in_transaction ≡ false }
     ensures mode { conn.new.in_transaction ≡ false }
     ensures rows { HasCleanDisk (state S.Store conn.new) → AreBooks (state S.Store conn.old).now → IfOk result (λ rows. (n : ℕ) → number_approved_by request.now ≡ Some n → rows ≡ filter (λ r. same_number n r.number) (rows_seen unit.now (state S.Store conn.old).now.trees ChangeKept)) }
@@ -206,7 +206,7 @@ fn approved_for<S: Alter>(
 {
     match number_approved(request) {
         Some(number) => rows_of_number(alloc, conn, unit, number),
-        None => Ok(Table::new(alloc)),
+        None => Ok(List::new(alloc)),
     }
 }
 
@@ -216,12 +216,12 @@ fn holders_part<S: Alter>(
     conn: &mut Connection<S>,
     unit: &UnitCode,
     call: &Call,
-    units: Table<UnitRow>,
-    own: Table<GrantRow>,
+    units: List<UnitRow>,
+    own: List<GrantRow>,
 ) -> Result<UnitPart, Error>
     requires { conn.old.in_transaction ≡ false }
     ensures mode { conn.new.in_transaction ≡ false }
-    ensures found { CanTell (state S.Store conn.new) → (m : Content) → KeepsIn (state S.Store conn.old) m
+    ensures found { IsHonest (state S.Store conn.new) → (m : Content) → KeepsIn (state S.Store conn.old) m
         → units ≡ rows_seen unit.now (state S.Store conn.old).now.trees UnitKept → own ≡ filter (λ g. same_name call.now.person g.person) (rows_seen unit.now (state S.Store conn.old).now.trees GrantKept)
         → IfOk result (λ part. part ≡ part_of_holder call.now (rows_in m unit.now)) }
     ensures reads { OnlyReads (state S.Store conn.old) (state S.Store conn.new) }
@@ -236,8 +236,8 @@ fn holders_part<S: Alter>(
     let alarms = some_alarms(alloc, conn, unit, tags)?;
     let shelved = wanted_shelves(scope);
     let shelves = some_shelves(alloc, conn, unit, shelved)?;
-    let told = looks_at_events(request);
-    let all_events = some_events(alloc, conn, unit, told)?;
+    let looks = looks_at_events(request);
+    let all_events = some_events(alloc, conn, unit, looks)?;
     let recorded = wanted_records(scope);
     let records = some_records(alloc, conn, unit, recorded)?;
     let bands = some_bands(alloc, conn, unit, &units, scope)?;
@@ -271,7 +271,7 @@ fn unit_part<S: Alter>(
 ) -> Result<Option<UnitPart>, Error>
     requires { conn.old.in_transaction ≡ false }
     ensures mode { conn.new.in_transaction ≡ false }
-    ensures found { CanTell (state S.Store conn.new) → (m : Content) → KeepsIn (state S.Store conn.old) m → IfOk result (λ part. part ≡ part_in m call.now unit.now) }
+    ensures found { IsHonest (state S.Store conn.new) → (m : Content) → KeepsIn (state S.Store conn.old) m → IfOk result (λ part. part ≡ part_in m call.now unit.now) }
     ensures reads { OnlyReads (state S.Store conn.old) (state S.Store conn.new) }
 {
     let units = all_rows(alloc, conn, unit)?;
@@ -294,7 +294,7 @@ pub fn part_of<S: Alter>(
 ) -> Result<Option<UnitPart>, Error>
     requires { conn.old.in_transaction ≡ false }
     ensures mode { conn.new.in_transaction ≡ false }
-    ensures found { CanTell (state S.Store conn.new) → (m : Content) → KeepsIn (state S.Store conn.old) m → (u : Name) → unit_named call.now.request ≡ Some u → IfOk result (λ part. part ≡ part_in m call.now u) }
+    ensures found { IsHonest (state S.Store conn.new) → (m : Content) → KeepsIn (state S.Store conn.old) m → (u : Name) → unit_named call.now.request ≡ Some u → IfOk result (λ part. part ≡ part_in m call.now u) }
     ensures reads { OnlyReads (state S.Store conn.old) (state S.Store conn.new) }
 {
     match call.request.unit() {

@@ -11,7 +11,7 @@ ghost use Rattle.sqlite_value.specs.Order.{Row as Line};
 ghost use Rattle.plant_model.specs.Histories.{same_number};
 ghost use Rattle.plant_model.specs.RowFacts.{last_number};
 ghost use Rattle.plant_types.specs.Names.{same_name};
-ghost use Rattle.plant_store.specs.Changes.{CanTell};
+ghost use Rattle.plant_store.specs.Changes.{IsHonest};
 ghost use Rattle.plant_store.specs.OnlyReads.{OnlyReads};
 ghost use Rattle.plant_columns.specs.Shown.{columns};
 ghost use Rattle.plant_columns.specs.Tables.{AreBooks, rows_seen};
@@ -21,7 +21,7 @@ use crate::stored::{Numbered, Stored, Tagged};
 use plant_columns::decode::{Shown, read_all, wide};
 use plant_columns::encode::{numbered, pair, single};
 use plant_model::GrantRow;
-use plant_types::{Person, Table, Tag, UnitCode};
+use plant_types::{List, Person, Tag, UnitCode};
 use sqlite::types::ValueRef;
 use sqlite::{Alter, Connection, Error, Row};
 use std::alloc::Global;
@@ -35,8 +35,8 @@ pub fn ask<S: Alter>(
     requires { conn.old.in_transaction ≡ false }
     ensures mode { conn.new.in_transaction ≡ false }
     ensures rows { HasCleanDisk (state S.Store conn.new) → IfOk result (λ rows. IsShown sql.now (bound cells.now) (state S.Store conn.old) (state S.Store conn.new) rows.items) }
-    ensures same { CanTell (state S.Store conn.new) → (schema : Schema) → (state S.Store conn.old).now.schema ≡ schema → IsPlain (understood schema sql.now) → (state S.Store conn.new).now ≡ (state S.Store conn.old).now }
-    ensures told { CanTell (state S.Store conn.new) → CanTell (state S.Store conn.old) }
+    ensures same { IsHonest (state S.Store conn.new) → (schema : Schema) → (state S.Store conn.old).now.schema ≡ schema → IsPlain (understood schema sql.now) → (state S.Store conn.new).now ≡ (state S.Store conn.old).now }
+    ensures honest { IsHonest (state S.Store conn.new) → IsHonest (state S.Store conn.old) }
 {
     let _settled = conn.is_autocommit();
     conn.query_all(sql, cells)
@@ -48,12 +48,12 @@ pub fn read_rows<T: Shown, S: Alter>(
     conn: &mut Connection<S>,
     sql: &str,
     cells: &[ValueRef<'_>],
-) -> Result<Table<T>, Error>
+) -> Result<List<T>, Error>
     requires { conn.old.in_transaction ≡ false }
     ensures mode { conn.new.in_transaction ≡ false }
     ensures rows { HasCleanDisk (state S.Store conn.new) → IfOk result (λ rows. (lines : List Line) × (IsShown sql.now (bound cells.now) (state S.Store conn.old) (state S.Store conn.new) lines × (map (columns T.width) lines ≡ map T.cells rows))) }
-    ensures same { CanTell (state S.Store conn.new) → (schema : Schema) → (state S.Store conn.old).now.schema ≡ schema → IsPlain (understood schema sql.now) → (state S.Store conn.new).now ≡ (state S.Store conn.old).now }
-    ensures told { CanTell (state S.Store conn.new) → CanTell (state S.Store conn.old) }
+    ensures same { IsHonest (state S.Store conn.new) → (schema : Schema) → (state S.Store conn.old).now.schema ≡ schema → IsPlain (understood schema sql.now) → (state S.Store conn.new).now ≡ (state S.Store conn.old).now }
+    ensures honest { IsHonest (state S.Store conn.new) → IsHonest (state S.Store conn.old) }
 {
     let rows = ask(conn, sql, cells)?;
     read_all(alloc, rows.as_slice())
@@ -64,7 +64,7 @@ pub fn all_rows<T: Stored, S: Alter>(
     alloc: Global,
     conn: &mut Connection<S>,
     unit: &UnitCode,
-) -> Result<Table<T>, Error>
+) -> Result<List<T>, Error>
     requires { conn.old.in_transaction ≡ false }
     ensures mode { conn.new.in_transaction ≡ false }
     ensures rows { HasCleanDisk (state S.Store conn.new) → AreBooks (state S.Store conn.old).now → IfOk result (λ rows. rows ≡ T.seen unit.now (state S.Store conn.old).now.trees) }
@@ -79,7 +79,7 @@ pub fn row_of_tag<T: Tagged, S: Alter>(
     conn: &mut Connection<S>,
     unit: &UnitCode,
     tag: &Tag,
-) -> Result<Table<T>, Error>
+) -> Result<List<T>, Error>
     requires { conn.old.in_transaction ≡ false }
     ensures mode { conn.new.in_transaction ≡ false }
     ensures rows { HasCleanDisk (state S.Store conn.new) → AreBooks (state S.Store conn.old).now → IfOk result (λ rows. rows ≡ filter (λ r. same_name tag.now (T.tag r)) (T.seen unit.now (state S.Store conn.old).now.trees)) }
@@ -94,7 +94,7 @@ pub fn rows_of_number<T: Numbered, S: Alter>(
     conn: &mut Connection<S>,
     unit: &UnitCode,
     number: u32,
-) -> Result<Table<T>, Error>
+) -> Result<List<T>, Error>
     requires { conn.old.in_transaction ≡ false }
     ensures mode { conn.new.in_transaction ≡ false }
     ensures rows { HasCleanDisk (state S.Store conn.new) → AreBooks (state S.Store conn.old).now → IfOk result (λ rows. rows ≡ filter (λ r. same_number number (T.number r)) (T.seen unit.now (state S.Store conn.old).now.trees)) }
@@ -109,7 +109,7 @@ pub fn own_grants<S: Alter>(
     conn: &mut Connection<S>,
     unit: &UnitCode,
     person: &Person,
-) -> Result<Table<GrantRow>, Error>
+) -> Result<List<GrantRow>, Error>
     requires { conn.old.in_transaction ≡ false }
     ensures mode { conn.new.in_transaction ≡ false }
     ensures rows { HasCleanDisk (state S.Store conn.new) → AreBooks (state S.Store conn.old).now → IfOk result (λ rows. rows ≡ filter (λ g. same_name person.now g.person) (rows_seen unit.now (state S.Store conn.old).now.trees GrantKept)) }

@@ -4,7 +4,7 @@ ghost use Rattle.std.specs.Prelude.{◌≡◌, ◌∷◌, ◌++◌, false, map, 
 ghost use Rattle.sqlite.specs.Held.{state};
 ghost use Rattle.plant_books.specs.Contents as contents;
 ghost use Rattle.plant_books.specs.Contents.{Content};
-ghost use Rattle.plant_store.specs.Changes.{CanTell};
+ghost use Rattle.plant_store.specs.Changes.{IsHonest};
 ghost use Rattle.plant_store.specs.OnlyReads.{OnlyReads};
 ghost use Rattle.plant_store.specs.Keeping.{KeepsIn};
 ghost use Rattle.plant_store.specs.Shelves.{is_again, last_of, merged_after, shelf_line_cells, shelf_lines, shelf_of, standing_shelf_lines, with_return};
@@ -16,7 +16,7 @@ use plant_books::{MineShelf, last_return};
 use plant_columns::decode::{Shown, flag, moment, open_moment, read_all, text, wide};
 use plant_columns::encode::single;
 use plant_model::ShelfRow;
-use plant_types::{Duplicate, Moment, Person, Table, UnitCode};
+use plant_types::{Duplicate, List, Moment, Person, UnitCode};
 use sqlite::{Alter, Connection, Error, ErrorCode, Row};
 use std::alloc::Global;
 
@@ -78,7 +78,7 @@ fn is_last(listed: &[UnitShelf], line: &ShelfLine) -> bool
 
 /// Lists the shelf of the line, once.
 #[tactic(auto, using(crate::proofs::ShelfLaws::lists_one, crate::proofs::ShelfLaws::lists_none))]
-fn list(alloc: Global, listed: &mut Table<UnitShelf>, line: &ShelfLine) -> Result<(), Error>
+fn list(alloc: Global, listed: &mut List<UnitShelf>, line: &ShelfLine) -> Result<(), Error>
     ensures { OnOk result ((rest : List LineRow) → listed.new ++ merged_after (last_of listed.new) rest ≡ listed.old ++ merged_after (last_of listed.old) (line.now ∷ rest)) }
 {
     if is_last(listed.as_slice(), line) {
@@ -92,10 +92,10 @@ fn list(alloc: Global, listed: &mut Table<UnitShelf>, line: &ShelfLine) -> Resul
 }
 
 /// The shelves of the lines, each once, without those of grants that have ended.
-fn merge(alloc: Global, lines: &[ShelfLine], now: Moment) -> Result<Table<UnitShelf>, Error>
+fn merge(alloc: Global, lines: &[ShelfLine], now: Moment) -> Result<List<UnitShelf>, Error>
     ensures { IfOk result (λ listed. listed ≡ merged_after None (standing_shelf_lines now lines.now)) }
 {
-    let mut listed = Table::new(alloc);
+    let mut listed = List::new(alloc);
     for line in lines {
         if is_before_end(now, line.end_s) {
             list(alloc, &mut listed, line)?;
@@ -109,10 +109,10 @@ fn lines<S: Alter>(
     alloc: Global,
     conn: &mut Connection<S>,
     person: &Person,
-) -> Result<Table<ShelfLine>, Error>
+) -> Result<List<ShelfLine>, Error>
     requires { conn.old.in_transaction ≡ false }
     ensures mode { conn.new.in_transaction ≡ false }
-    ensures found { CanTell (state S.Store conn.new) → (m : Content) → KeepsIn (state S.Store conn.old) m → IfOk result (λ lines. lines ≡ shelf_lines m person.now) }
+    ensures found { IsHonest (state S.Store conn.new) → (m : Content) → KeepsIn (state S.Store conn.old) m → IfOk result (λ lines. lines ≡ shelf_lines m person.now) }
     ensures reads { OnlyReads (state S.Store conn.old) (state S.Store conn.new) }
 {
     let rows = ask(
@@ -131,7 +131,7 @@ fn returned<S: Alter>(
 ) -> Result<MineShelf, Error>
     requires { conn.old.in_transaction ≡ false }
     ensures mode { conn.new.in_transaction ≡ false }
-    ensures found { CanTell (state S.Store conn.new) → (m : Content) → KeepsIn (state S.Store conn.old) m → IfOk result (λ mine. mine ≡ with_return m listed.now) }
+    ensures found { IsHonest (state S.Store conn.new) → (m : Content) → KeepsIn (state S.Store conn.old) m → IfOk result (λ mine. mine ≡ with_return m listed.now) }
     ensures reads { OnlyReads (state S.Store conn.old) (state S.Store conn.new) }
 {
     let alarms = row_of_tag(alloc, conn, &listed.unit, &listed.shelf.tag)?;
@@ -147,13 +147,13 @@ fn all_returned<S: Alter>(
     alloc: Global,
     conn: &mut Connection<S>,
     shelves: &[UnitShelf],
-) -> Result<Table<MineShelf>, Error>
+) -> Result<List<MineShelf>, Error>
     requires { conn.old.in_transaction ≡ false }
     ensures mode { conn.new.in_transaction ≡ false }
-    ensures found { CanTell (state S.Store conn.new) → (m : Content) → KeepsIn (state S.Store conn.old) m → IfOk result (λ mine. mine ≡ map (with_return m) shelves.now) }
+    ensures found { IsHonest (state S.Store conn.new) → (m : Content) → KeepsIn (state S.Store conn.old) m → IfOk result (λ mine. mine ≡ map (with_return m) shelves.now) }
     ensures reads { OnlyReads (state S.Store conn.old) (state S.Store conn.new) }
 {
-    let mut mine = Table::new(alloc);
+    let mut mine = List::new(alloc);
     for shelf in shelves {
         let returned = returned(alloc, conn, shelf)?;
         push(&mut mine, returned)?;
@@ -167,10 +167,10 @@ pub fn mine_shelves<S: Alter>(
     conn: &mut Connection<S>,
     person: &Person,
     now: Moment,
-) -> Result<Table<MineShelf>, Error>
+) -> Result<List<MineShelf>, Error>
     requires { conn.old.in_transaction ≡ false }
     ensures mode { conn.new.in_transaction ≡ false }
-    ensures found { CanTell (state S.Store conn.new) → (m : Content) → KeepsIn (state S.Store conn.old) m → IfOk result (λ mine. mine ≡ contents.mine_shelves m now person.now) }
+    ensures found { IsHonest (state S.Store conn.new) → (m : Content) → KeepsIn (state S.Store conn.old) m → IfOk result (λ mine. mine ≡ contents.mine_shelves m now person.now) }
     ensures reads { OnlyReads (state S.Store conn.old) (state S.Store conn.new) }
 {
     let lines = lines(alloc, conn, person)?;

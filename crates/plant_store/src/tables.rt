@@ -4,7 +4,7 @@ ghost use Rattle.std.specs.Prelude.{◌≡◌, ◌≢◌, ◌↔◌, ℕ, [], fa
 ghost use Rattle.sqlite.specs.Held.{state};
 ghost use Rattle.plant_books.specs.Contents.{Content, no_units};
 ghost use Rattle.plant_books.specs.Counting.{CountsFault};
-ghost use Rattle.plant_store.specs.Changes.{CanTell};
+ghost use Rattle.plant_store.specs.Changes.{IsHonest};
 ghost use Rattle.plant_store.specs.Counting.{Names};
 ghost use Rattle.plant_store.specs.Keeping.{Keeps};
 ghost use Rattle.plant_store.specs.Opening.{IsThisOffice, has_office};
@@ -16,8 +16,8 @@ use crate::opening::is_office_of;
 use crate::{mine, part, shelves, unit, write};
 use plant_alarm::Event;
 use plant_books::{Books, MineShelf, MineUnit};
-use plant_model::{Call, Change, UnitPart, UnitRows};
-use plant_types::{Fault, Moment, Person, Table, UnitCode};
+use plant_model::{Call, RowEdit, UnitPart, UnitRows};
+use plant_types::{Fault, List, Moment, Person, UnitCode};
 use sqlite::{Alter, Connection, Error as SqlError, ErrorCode};
 use sqlite_schema::schema::Schema;
 use std::alloc::Global;
@@ -110,7 +110,7 @@ impl<S: Alter> Tables<S> {
         ensures blank { IfOk result (λ t. (state S.Store conn).now.schema ≡ no_schema) }
         ensures refused { (state S.Store conn).now.schema ≢ no_schema → IfErr result (λ e. e.fault ≡ StoreFault.Fault Store) }
         ensures fault { IfErr result (λ e. e.fault ≢ StoreFault.NotThisStore) }
-        ensures unchanged { IfErr result (λ e. CanTell (state S.Store e.conn) → (state S.Store e.conn).now ≡ (state S.Store conn).now) }
+        ensures unchanged { IfErr result (λ e. IsHonest (state S.Store e.conn) → (state S.Store e.conn).now ≡ (state S.Store conn).now) }
         ensures back { IfErr result (λ e. (e.admin ≡ admin) × (e.conn.in_transaction ≡ false)) }
     {
         if !is_blank(conn.schema()) {
@@ -145,11 +145,11 @@ impl<S: Alter> Tables<S> {
         requires { conn.in_transaction ≡ false }
         ensures kept { (m : Content) → Keeps (state S.Store conn) m → IfOk result (λ t. Keeps (state S.Store t.0.0) m) }
         ensures fresh { IfOk result (λ t. (t.0.1 ≡ admin) × (t.1 ≡ 0)) }
-        ensures told { IfOk result (λ t. CanTell (state S.Store t.0.0) → CanTell (state S.Store conn)) }
-        ensures office { IfOk result (λ t. CanTell (state S.Store t.0.0) → IsThisOffice admin (state S.Store conn).now) }
-        ensures other { IfErr result (λ e. e.fault ≡ StoreFault.NotThisStore → CanTell (state S.Store e.conn) → ¬ IsThisOffice admin (state S.Store conn).now) }
+        ensures honest { IfOk result (λ t. IsHonest (state S.Store t.0.0) → IsHonest (state S.Store conn)) }
+        ensures office { IfOk result (λ t. IsHonest (state S.Store t.0.0) → IsThisOffice admin (state S.Store conn).now) }
+        ensures other { IfErr result (λ e. e.fault ≡ StoreFault.NotThisStore → IsHonest (state S.Store e.conn) → ¬ IsThisOffice admin (state S.Store conn).now) }
         ensures missing { has_office (state S.Store conn).now.schema ≡ false → IsErrAnd result (λ e. e.fault ≡ StoreFault.NotThisStore) }
-        ensures own { (m : Content) → Keeps (state S.Store conn) m → m.admin ≡ admin → IfErr result (λ e. CanTell (state S.Store e.conn) → e.fault ≢ StoreFault.NotThisStore) }
+        ensures own { (m : Content) → Keeps (state S.Store conn) m → m.admin ≡ admin → IfErr result (λ e. IsHonest (state S.Store e.conn) → e.fault ≢ StoreFault.NotThisStore) }
         ensures left { (m : Content) → Keeps (state S.Store conn) m → IfErr result (λ e. Keeps (state S.Store e.conn) m) }
         ensures back { IfErr result (λ e. (e.admin ≡ admin) × (e.conn.in_transaction ≡ false)) }
     {
@@ -214,9 +214,9 @@ impl<S: Alter> Tables<S> {
 }
 
 impl<S: Alter> Books for Tables<S> {
-    ghost can_tell = { λ t. CanTell (state S.Store t.0.0) };
+    ghost is_honest = { λ t. IsHonest (state S.Store t.0.0) };
 
-    ghost holds = { λ t m. (t.0.1 ≡ m.admin) × Keeps (state S.Store t.0.0) m };
+    ghost represents = { λ t m. (t.0.1 ≡ m.admin) × Keeps (state S.Store t.0.0) m };
 
     ghost stores = { λ t. t.1 };
 
@@ -257,7 +257,7 @@ impl<S: Alter> Books for Tables<S> {
         }
     }
 
-    fn events(&mut self, unit: &UnitCode) -> Result<Table<Event>, Fault> {
+    fn events(&mut self, unit: &UnitCode) -> Result<List<Event>, Fault> {
         match unit::events(self.alloc, &mut self.conn, unit) {
             Ok(found) => Ok(found),
             Err(error) => {
@@ -279,7 +279,7 @@ impl<S: Alter> Books for Tables<S> {
         }
     }
 
-    fn held(&mut self, person: &Person, now: Moment) -> Result<Table<UnitCode>, Fault> {
+    fn held(&mut self, person: &Person, now: Moment) -> Result<List<UnitCode>, Fault> {
         match mine::held(self.alloc, &mut self.conn, person, now) {
             Ok(found) => Ok(found),
             Err(error) => {
@@ -290,7 +290,7 @@ impl<S: Alter> Books for Tables<S> {
         }
     }
 
-    fn mine_units(&mut self, person: &Person, now: Moment) -> Result<Table<MineUnit>, Fault> {
+    fn mine_units(&mut self, person: &Person, now: Moment) -> Result<List<MineUnit>, Fault> {
         match mine::mine_units(self.alloc, &mut self.conn, person, now) {
             Ok(found) => Ok(found),
             Err(error) => {
@@ -301,7 +301,7 @@ impl<S: Alter> Books for Tables<S> {
         }
     }
 
-    fn mine_shelves(&mut self, person: &Person, now: Moment) -> Result<Table<MineShelf>, Fault> {
+    fn mine_shelves(&mut self, person: &Person, now: Moment) -> Result<List<MineShelf>, Fault> {
         match shelves::mine_shelves(self.alloc, &mut self.conn, person, now) {
             Ok(found) => Ok(found),
             Err(error) => {
@@ -312,7 +312,7 @@ impl<S: Alter> Books for Tables<S> {
         }
     }
 
-    fn apply(&mut self, unit: &UnitCode, changes: &Table<Change>) -> Result<(), Fault> {
+    fn apply(&mut self, unit: &UnitCode, changes: &List<RowEdit>) -> Result<(), Fault> {
         match write::apply(&mut self.conn, unit, changes.as_slice()) {
             Ok(()) => Ok(()),
             Err(error) => {

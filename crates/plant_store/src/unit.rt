@@ -5,19 +5,19 @@ ghost use Rattle.std.specs.Prelude.{◌≡◌, ℕ, false, IfOk};
 ghost use Rattle.sqlite.specs.Held.{state};
 ghost use Rattle.plant_books.specs.Contents as contents;
 ghost use Rattle.plant_books.specs.Contents.{Content, events_in};
-ghost use Rattle.plant_store.specs.Changes.{CanTell};
+ghost use Rattle.plant_store.specs.Changes.{IsHonest};
 ghost use Rattle.plant_store.specs.OnlyReads.{OnlyReads};
 ghost use Rattle.plant_store.specs.Keeping.{KeepsIn, has_any};
 
 use crate::read::all_rows;
 use plant_alarm::Event;
 use plant_model::{UnitRow, UnitRows};
-use plant_types::{Table, UnitCode};
+use plant_types::{List, UnitCode};
 use sqlite::{Alter, Connection, Error};
 use std::alloc::Global;
 
 /// Whether there is a row: a unit was opened where it has a row of its own.
-pub fn has_row(units: &Table<UnitRow>) -> bool
+pub fn has_row(units: &List<UnitRow>) -> bool
     ensures { result ≡ has_any units.now }
 {
     !units.as_slice().is_empty()
@@ -31,7 +31,7 @@ pub fn taken<S: Alter>(
 ) -> Result<bool, Error>
     requires { conn.old.in_transaction ≡ false }
     ensures mode { conn.new.in_transaction ≡ false }
-    ensures found { CanTell (state S.Store conn.new) → (m : Content) → KeepsIn (state S.Store conn.old) m → IfOk result (λ taken. taken ≡ contains_key m.units unit.now) }
+    ensures found { IsHonest (state S.Store conn.new) → (m : Content) → KeepsIn (state S.Store conn.old) m → IfOk result (λ taken. taken ≡ contains_key m.units unit.now) }
     ensures reads { OnlyReads (state S.Store conn.old) (state S.Store conn.new) }
 {
     let units = all_rows(alloc, conn, unit)?;
@@ -46,7 +46,7 @@ pub fn rows_but_events<S: Alter>(
 ) -> Result<Option<UnitRows>, Error>
     requires { conn.old.in_transaction ≡ false }
     ensures mode { conn.new.in_transaction ≡ false }
-    ensures found { CanTell (state S.Store conn.new) → (m : Content) → KeepsIn (state S.Store conn.old) m → IfOk result (λ rows. rows ≡ contents.rows_but_events m unit.now) }
+    ensures found { IsHonest (state S.Store conn.new) → (m : Content) → KeepsIn (state S.Store conn.old) m → IfOk result (λ rows. rows ≡ contents.rows_but_events m unit.now) }
     ensures reads { OnlyReads (state S.Store conn.old) (state S.Store conn.new) }
 {
     let units = all_rows(alloc, conn, unit)?;
@@ -65,7 +65,7 @@ pub fn rows_but_events<S: Alter>(
         grants,
         alarms,
         shelves,
-        events: Table::new(alloc),
+        events: List::new(alloc),
         bands,
         cells,
         records,
@@ -78,10 +78,10 @@ pub fn events<S: Alter>(
     alloc: Global,
     conn: &mut Connection<S>,
     unit: &UnitCode,
-) -> Result<Table<Event>, Error>
+) -> Result<List<Event>, Error>
     requires { conn.old.in_transaction ≡ false }
     ensures mode { conn.new.in_transaction ≡ false }
-    ensures found { CanTell (state S.Store conn.new) → (m : Content) → KeepsIn (state S.Store conn.old) m → IfOk result (λ events. events ≡ events_in m unit.now) }
+    ensures found { IsHonest (state S.Store conn.new) → (m : Content) → KeepsIn (state S.Store conn.old) m → IfOk result (λ events. events ≡ events_in m unit.now) }
     ensures reads { OnlyReads (state S.Store conn.old) (state S.Store conn.new) }
 {
     all_rows(alloc, conn, unit)
@@ -95,7 +95,7 @@ pub fn rows_of<S: Alter>(
 ) -> Result<Option<UnitRows>, Error>
     requires { conn.old.in_transaction ≡ false }
     ensures mode { conn.new.in_transaction ≡ false }
-    ensures found { CanTell (state S.Store conn.new) → (m : Content) → KeepsIn (state S.Store conn.old) m → IfOk result (λ rows. rows ≡ get m.units unit.now) }
+    ensures found { IsHonest (state S.Store conn.new) → (m : Content) → KeepsIn (state S.Store conn.old) m → IfOk result (λ rows. rows ≡ get m.units unit.now) }
     ensures reads { OnlyReads (state S.Store conn.old) (state S.Store conn.new) }
 {
     match rows_but_events(alloc, conn, unit)? {

@@ -4,15 +4,15 @@ ghost use Rattle.std.specs.Prelude.{◌≡◌, ℕ, [], ◌∷◌, false, IfOk, 
 ghost use Rattle.sqlite.specs.Held.{state};
 ghost use Rattle.sqlite.specs.State.{Executes, HasCleanDisk, KeepsCommit, Survives};
 ghost use Rattle.sqlite.specs.Values.{bound};
-ghost use Rattle.plant_model.specs.declared.rows.Change.TheVariants.{Put, Remove};
+ghost use Rattle.plant_model.specs.declared.rows.RowEdit.TheVariants.{Put, Remove};
 ghost use Rattle.plant_model.specs.declared.rows.Key.TheVariants.{Grant as GrantKey, Shelf as ShelfKey};
-ghost use Rattle.plant_store.specs.Changes.{Applies, CanTell};
+ghost use Rattle.plant_store.specs.Changes.{Applies, IsHonest};
 ghost use Rattle.plant_columns.specs.Tables.{AreBooks};
 ghost use Rattle.plant_store.specs.StaysInside.{StaysInside};
 
 use crate::stored::Stored;
 use plant_columns::encode::{grant_key, pair};
-use plant_model::{Change, Key, Row};
+use plant_model::{Key, Row, RowEdit};
 use plant_types::{Person, Role, Tag, UnitCode};
 use sqlite::types::ValueRef;
 use sqlite::{Alter, Connection, Error, Transaction};
@@ -142,7 +142,7 @@ fn remove_row<S: Alter>(
 fn change_one<S: Alter>(
     tx: &mut Transaction<'_, S>,
     unit: &UnitCode,
-    change: &Change,
+    change: &RowEdit,
 ) -> Result<(), Error>
     ensures same_reference { tx.new.conn.ghost_name ≡ tx.old.conn.ghost_name }
     ensures made { HasCleanDisk (state S.Store tx.new.conn.now) → IsTrue tx.old.conn.now.in_transaction → AreBooks (state S.Store tx.old.conn.now).now
@@ -150,8 +150,8 @@ fn change_one<S: Alter>(
     ensures stays { StaysInside result (state S.Store tx.old.conn.now) (state S.Store tx.new.conn.now) }
 {
     match change {
-        Change::Put(row) => put_row(tx, unit, row),
-        Change::Remove(key) => remove_row(tx, unit, key),
+        RowEdit::Put(row) => put_row(tx, unit, row),
+        RowEdit::Remove(key) => remove_row(tx, unit, key),
     }
 }
 
@@ -159,7 +159,7 @@ fn change_one<S: Alter>(
 fn change_all<S: Alter>(
     tx: &mut Transaction<'_, S>,
     unit: &UnitCode,
-    changes: &[Change],
+    changes: &[RowEdit],
 ) -> Result<(), Error>
     requires { IsTrue tx.old.conn.now.in_transaction }
     ensures same_reference { tx.new.conn.ghost_name ≡ tx.old.conn.ghost_name }
@@ -179,14 +179,14 @@ fn change_all<S: Alter>(
 pub fn apply<S: Alter>(
     conn: &mut Connection<S>,
     unit: &UnitCode,
-    changes: &[Change],
+    changes: &[RowEdit],
 ) -> Result<(), Error>
     requires { conn.old.in_transaction ≡ false }
     ensures mode { conn.new.in_transaction ≡ false }
-    ensures made { CanTell (state S.Store conn.new) → AreBooks (state S.Store conn.old).now
+    ensures made { IsHonest (state S.Store conn.new) → AreBooks (state S.Store conn.old).now
         → OnOk result (Applies unit.now changes.now (state S.Store conn.old).now (state S.Store conn.new).now) }
-    ensures unchanged { CanTell (state S.Store conn.new) → OnErr result ((state S.Store conn.new).now ≡ (state S.Store conn.old).now) }
-    ensures told { CanTell (state S.Store conn.new) → CanTell (state S.Store conn.old) }
+    ensures unchanged { IsHonest (state S.Store conn.new) → OnErr result ((state S.Store conn.new).now ≡ (state S.Store conn.old).now) }
+    ensures honest { IsHonest (state S.Store conn.new) → IsHonest (state S.Store conn.old) }
 {
     let _settled = conn.is_autocommit();
     let mut tx = conn.transaction();

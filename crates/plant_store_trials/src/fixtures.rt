@@ -5,12 +5,12 @@ ghost use Rattle.std.specs.Prelude.{◌≡◌, false};
 use plant_alarm::{AlarmState, Event, EventKind, Number};
 use plant_books::Books;
 use plant_model::{
-    AlarmRow, BandRow, Call, CellRow, Change, ChangeEntry, ChangeTopic, GrantRow, RecordEntry,
-    Request, Row, ShelfRow, UnitRow, UnitRows,
+    AlarmRow, BandRow, Call, CellRow, ChangeEntry, ChangeTopic, GrantRow, RecordEntry, Request,
+    Row, RowEdit, ShelfRow, UnitRow, UnitRows,
 };
 use plant_ration::{Cell, ChangeState};
 use plant_store::Tables;
-use plant_types::{Moment, Person, Quota, Role, Seconds, Table, Tag, UnitCode, Words};
+use plant_types::{List, Moment, Person, Quota, Role, Seconds, Tag, UnitCode, Words};
 use sqlite::{Connection, MemStore};
 use std::alloc::Global;
 use std::process::Abort;
@@ -74,12 +74,12 @@ fn new_books(rt: &impl Abort, alloc: Global) -> Tables<MemStore> {
     books.ok().expect(rt, "books")
 }
 
-fn push(rt: &impl Abort, list: &mut Table<Change>, row: Row) {
-    list.push(Change::Put(row)).expect(rt, "memory");
+fn push(rt: &impl Abort, list: &mut List<RowEdit>, row: Row) {
+    list.push(RowEdit::Put(row)).expect(rt, "memory");
 }
 
 /// The unit's own row with this last moment.
-pub(crate) fn push_own(rt: &impl Abort, list: &mut Table<Change>, last: u64) {
+pub(crate) fn push_own(rt: &impl Abort, list: &mut List<RowEdit>, last: u64) {
     let row = UnitRow {
         last_s: at(rt, last),
         matrix_no: 0,
@@ -92,7 +92,7 @@ pub(crate) fn push_own(rt: &impl Abort, list: &mut Table<Change>, last: u64) {
 pub(crate) fn push_grant(
     rt: &impl Abort,
     alloc: Global,
-    list: &mut Table<Change>,
+    list: &mut List<RowEdit>,
     name: &[u8],
     role_no: Role,
     end_s: Option<Moment>,
@@ -105,7 +105,7 @@ pub(crate) fn push_grant(
     push(rt, list, Row::Grant(row));
 }
 
-fn push_alarm(rt: &impl Abort, alloc: Global, list: &mut Table<Change>, name: &[u8]) {
+fn push_alarm(rt: &impl Abort, alloc: Global, list: &mut List<RowEdit>, name: &[u8]) {
     let row = AlarmRow {
         tag: tag(rt, alloc, name),
         latching: true,
@@ -122,7 +122,7 @@ fn push_alarm(rt: &impl Abort, alloc: Global, list: &mut Table<Change>, name: &[
     push(rt, list, Row::Alarm(row));
 }
 
-pub(crate) fn push_shelf(rt: &impl Abort, alloc: Global, list: &mut Table<Change>, name: &[u8]) {
+pub(crate) fn push_shelf(rt: &impl Abort, alloc: Global, list: &mut List<RowEdit>, name: &[u8]) {
     let row = ShelfRow {
         tag: tag(rt, alloc, name),
         one_shot: true,
@@ -153,7 +153,7 @@ pub(crate) fn event(
 fn push_record(
     rt: &impl Abort,
     alloc: Global,
-    list: &mut Table<Change>,
+    list: &mut List<RowEdit>,
     name: &[u8],
     change_no: u32,
 ) {
@@ -232,7 +232,7 @@ fn limited(rt: &impl Abort, alloc: Global, number: u32, name: &[u8]) -> ChangeEn
 /// The limit of the first band of a matrix.
 pub(crate) fn push_band(
     rt: &impl Abort,
-    list: &mut Table<Change>,
+    list: &mut List<RowEdit>,
     matrix_no: u32,
     band_no: u8,
     limit_s: u64,
@@ -248,7 +248,7 @@ pub(crate) fn push_band(
 /// Matrices and bands with their cells.
 const CELLS: [(u32, u8, Cell); 3] = [(0, 2, Cell::P4), (0, 1, Cell::N), (2, 2, Cell::P1)];
 
-fn push_cells(rt: &impl Abort, list: &mut Table<Change>) {
+fn push_cells(rt: &impl Abort, list: &mut List<RowEdit>) {
     for (matrix_no, band_no, cell_no) in CELLS.iter() {
         let row = CellRow {
             matrix_no: *matrix_no,
@@ -260,20 +260,20 @@ fn push_cells(rt: &impl Abort, list: &mut Table<Change>) {
     }
 }
 
-fn push_events(rt: &impl Abort, alloc: Global, list: &mut Table<Change>) {
+fn push_events(rt: &impl Abort, alloc: Global, list: &mut List<RowEdit>) {
     let returned = event(rt, alloc, 12, 50, b"PT-101", EventKind::Rtn);
     push(rt, list, Row::Event(returned));
     let raised = event(rt, alloc, 7, 40, b"LT-2", EventKind::Act);
     push(rt, list, Row::Event(raised));
 }
 
-fn push_grants(rt: &impl Abort, alloc: Global, list: &mut Table<Change>) {
+fn push_grants(rt: &impl Abort, alloc: Global, list: &mut List<RowEdit>) {
     push_grant(rt, alloc, list, b"ste", Role::Steward, None);
     push_grant(rt, alloc, list, b"ann", Role::Operator, Some(at(rt, 100)));
     push_grant(rt, alloc, list, b"ann", Role::Viewer, None);
 }
 
-fn push_changes(rt: &impl Abort, alloc: Global, list: &mut Table<Change>) {
+fn push_changes(rt: &impl Abort, alloc: Global, list: &mut List<RowEdit>) {
     push(rt, list, Row::Change(limited(rt, alloc, 4, b"PT-101")));
     push(rt, list, Row::Change(rationalised(rt, alloc, 3, b"PT-101")));
     push(rt, list, Row::Change(proposed(rt, alloc, 2)));
@@ -281,8 +281,8 @@ fn push_changes(rt: &impl Abort, alloc: Global, list: &mut Table<Change>) {
 }
 
 /// The rows of a unit, in each table some.
-pub(crate) fn changes(rt: &impl Abort, alloc: Global) -> Table<Change> {
-    let mut list = Table::new(alloc);
+pub(crate) fn changes(rt: &impl Abort, alloc: Global) -> List<RowEdit> {
+    let mut list = List::new(alloc);
     push_own(rt, &mut list, 80);
     push_grants(rt, alloc, &mut list);
     push_alarm(rt, alloc, &mut list, b"PT-101");
@@ -319,7 +319,7 @@ pub(crate) fn put<B: Books>(
     alloc: Global,
     books: &mut B,
     code: &[u8],
-    changes: &Table<Change>,
+    changes: &List<RowEdit>,
 ) {
     let unit = unit(rt, alloc, code);
     books.apply(&unit, changes).expect(rt, "changes");

@@ -6,9 +6,9 @@ use crate::fixtures::{
 };
 use plant_alarm::{Event, EventKind};
 use plant_books::{Books, MineShelf, MineUnit};
-use plant_model::{Change, UnitRows};
+use plant_model::{RowEdit, UnitRows};
 use plant_store::Tables;
-use plant_types::{Fault, Moment, Role, Table, UnitCode};
+use plant_types::{Fault, List, Moment, Role, UnitCode};
 use sqlite::MemStore;
 use std::alloc::Global;
 use std::process::Abort;
@@ -50,14 +50,14 @@ fn opened_twice(rt: &impl Abort, alloc: Global) -> Tables<MemStore> {
 }
 
 /// The units in which `ann` holds a role.
-fn held(rt: &impl Abort, alloc: Global, books: &mut Tables<MemStore>, now: u64) -> Table<UnitCode> {
+fn held(rt: &impl Abort, alloc: Global, books: &mut Tables<MemStore>, now: u64) -> List<UnitCode> {
     books
         .held(&person(rt, alloc, b"ann"), at(rt, now))
         .expect(rt, "units")
 }
 
 /// The units of `ann`.
-fn mine(rt: &impl Abort, alloc: Global, books: &mut Tables<MemStore>, now: u64) -> Table<MineUnit> {
+fn mine(rt: &impl Abort, alloc: Global, books: &mut Tables<MemStore>, now: u64) -> List<MineUnit> {
     books
         .mine_units(&person(rt, alloc, b"ann"), at(rt, now))
         .expect(rt, "units")
@@ -77,8 +77,8 @@ fn finds_what_a_person_holds(rt: HostRuntime) {
 }
 
 /// A unit with one shelf, and a grant to ann until this end.
-fn shelved_unit(rt: &impl Abort, alloc: Global, end_s: Option<Moment>) -> Table<Change> {
-    let mut list = Table::new(alloc);
+fn shelved_unit(rt: &impl Abort, alloc: Global, end_s: Option<Moment>) -> List<RowEdit> {
+    let mut list = List::new(alloc);
     push_own(rt, &mut list, 80);
     push_grant(rt, alloc, &mut list, b"ann", Role::Operator, end_s);
     push_shelf(rt, alloc, &mut list, b"PT-101");
@@ -86,8 +86,8 @@ fn shelved_unit(rt: &impl Abort, alloc: Global, end_s: Option<Moment>) -> Table<
 }
 
 /// A second shelf.
-fn second_shelf(rt: &impl Abort, alloc: Global) -> Table<Change> {
-    let mut list = Table::new(alloc);
+fn second_shelf(rt: &impl Abort, alloc: Global) -> List<RowEdit> {
+    let mut list = List::new(alloc);
     push_shelf(rt, alloc, &mut list, b"LT-2");
     list
 }
@@ -114,7 +114,7 @@ fn shelves_of(
     alloc: Global,
     books: &mut Tables<MemStore>,
     name: &[u8],
-) -> Table<MineShelf> {
+) -> List<MineShelf> {
     books
         .mine_shelves(&person(rt, alloc, name), at(rt, 95))
         .expect(rt, "shelves")
@@ -157,8 +157,8 @@ fn lists_the_shelves_of_a_persons_units_once(rt: HostRuntime) {
 }
 
 /// A later moment, and a limit that no column can hold.
-fn too_wide(rt: &impl Abort, alloc: Global) -> Table<Change> {
-    let mut list = Table::new(alloc);
+fn too_wide(rt: &impl Abort, alloc: Global) -> List<RowEdit> {
+    let mut list = List::new(alloc);
     push_own(rt, &mut list, 95);
     push_band(rt, &mut list, 0, 2, u64::MAX);
     list

@@ -4,7 +4,7 @@ use crate::fixtures::{call, counts, opened, push_shelf, put, tag, unit, words};
 use plant_books::Books;
 use plant_model::{BandRow, ChangeEntry, ChangeTopic, Request, UnitPart};
 use plant_store::Tables;
-use plant_types::{Seconds, Table};
+use plant_types::{List, Seconds};
 use sqlite::MemStore;
 use std::alloc::Global;
 use std::process::Abort;
@@ -45,7 +45,7 @@ fn gives_a_shelving_its_own_shelf_or_all(rt: HostRuntime) {
     let own = shelving_part(&rt, alloc, &mut books);
     assert!(rt; counts(&own.rows) == [1, 2, 1, 0, 0, 0, 0, 0, 0]);
     drop(own);
-    let mut list = Table::new(alloc);
+    let mut list = List::new(alloc);
     push_shelf(&rt, alloc, &mut list, b"LT-2");
     put(&rt, alloc, &mut books, b"U1", &list);
     let all = shelving_part(&rt, alloc, &mut books);

@@ -8,7 +8,7 @@ use Rattle.sqlite.specs.Table.{Table}
 use Rattle.sqlite.specs.Tree.{Trees}
 use Rattle.sqlite_rules.specs.Lists.{Has}
 use Rattle.sqlite_rules.proofs.ListLemmas.{all_has}
-use Rattle.plant_types.specs.Tables.{put_row, remove_row}
+use Rattle.plant_types.specs.KeyedRows.{put_row, remove_row}
 use Rattle.plant_tables.specs.Shape.{Shape, table_in, IsRowIn, rows_in, seen, AreTables}
 use Rattle.plant_tables.specs.Tidy.{IsTidy}
 use Rattle.plant_tables.proofs.Changes.{KeepsOthers}

@@ -22,7 +22,7 @@ use Rattle.sqlite_value.specs.declared.value.Value.{Value}
 use Rattle.sqlite_value.specs.declared.value.Value.TheVariants.{Null, Int, Text}
 use Rattle.sqlite_value.specs.Keys.{plain}
 use Rattle.sqlite_value.specs.Order.{Row, column, bytes}
-use Rattle.plant_types.specs.Tables.{put_row, remove_row, IsInOrder}
+use Rattle.plant_types.specs.KeyedRows.{put_row, remove_row, IsInOrder}
 use Rattle.plant_tables.specs.Kept.{taken_out, by_columns, plain_query, kept, is_of}
 use Rattle.plant_tables.specs.Shape.{Shape, table_in, row_in, IsRowIn, rows_in, rows_passing}
 use Rattle.plant_tables.specs.Tidy.{AreRows, AreApart, IsTidy}

@@ -13,7 +13,7 @@ use Rattle.std.specs.Cmp.{IsTotalOrder}
 use Rattle.sqlite_value.specs.Order.{bytes}
 use Rattle.sqlite_trees.specs.Tree.{IsAscending}
 use Rattle.std.proofs.Common.{Less, T}
-use Rattle.plant_types.specs.Tables.{put_row, remove_row, IsInOrder}
+use Rattle.plant_types.specs.KeyedRows.{put_row, remove_row, IsInOrder}
 use Rattle.plant_tables.proofs.Bridge.{put_is, IsInOrder-rising}
 use Rattle.plant_tables.proofs.Joins.{strict-sort}
 use Rattle.plant_tables.specs.Tidy.{AreRows, IsTidy}

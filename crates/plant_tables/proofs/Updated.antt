@@ -39,7 +39,7 @@ use Rattle.sqlite_trees.specs.View.{is_int}
 use Rattle.sqlite_value.specs.declared.value.Value.{Value}
 use Rattle.sqlite_value.specs.declared.value.Value.TheVariants.{Null}
 use Rattle.sqlite_value.specs.Order.{bytes, column, value_cmp}
-use Rattle.plant_types.specs.Tables as model
+use Rattle.plant_types.specs.KeyedRows as model
 use Rattle.plant_tables.specs.Kept.{taken_out, by_columns, is_of, kept, plain_query}
 use Rattle.plant_tables.specs.Shape.{Shape, table_in, row_in, IsRowIn, rows_in}
 use Rattle.plant_tables.specs.Tidy.{AreRows, AreApart, IsTidy}

@@ -7,7 +7,7 @@ use plant_model::{
     AlarmRow, BandRow, CellRow, ChangeEntry, GrantRow, RecordEntry, ShelfRow, UnitRow, UnitRows,
 };
 use plant_office::Books;
-use plant_types::{Fault, Table, UnitCode};
+use plant_types::{Fault, List, UnitCode};
 use std::alloc::Global;
 
 /// A row that can be compared with another.
@@ -150,7 +150,7 @@ impl Same for ChangeEntry {
     }
 }
 
-fn are_same<T: Same>(ours: &Table<T>, theirs: &Table<T>) -> bool {
+fn are_same<T: Same>(ours: &List<T>, theirs: &List<T>) -> bool {
     let (ours, theirs) = (ours.as_slice(), theirs.as_slice());
     if ours.len() != theirs.len() {
         return false;

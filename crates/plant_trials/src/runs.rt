@@ -3,9 +3,9 @@
 use crate::keepers::{check_keepers, check_rows};
 use crate::sessions::{check_answers, check_session, lists, mirrored, tables};
 use plant_examples::{BEGIN, Exchanges, Failure, between};
-use plant_mirror::ROWS_AT_HAND;
 use plant_model::{Answer, Call};
 use plant_office::{Books, Office};
+use plant_types::limits::MAX_ROWS_AT_HAND;
 use plant_wire::{Cut, next_call, render};
 use std::alloc::Global;
 
@@ -157,7 +157,7 @@ const FEW_ROWS: u128 = 12;
 
 /// With rows at hand, many or few, a keeper answers as expected and holds what it holds without them.
 fn check_mirrors(alloc: Global, wanted: &Exchanges) -> Result<(), Failure> {
-    for limit in [ROWS_AT_HAND, FEW_ROWS] {
+    for limit in [MAX_ROWS_AT_HAND, FEW_ROWS] {
         let ours = mirrored(alloc, lists(alloc)?, limit)?;
         check_keepers(alloc, ours, lists(alloc)?, wanted)?;
         let ours = mirrored(alloc, tables(alloc)?, limit)?;

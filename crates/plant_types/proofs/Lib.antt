@@ -1,4 +1,4 @@
-pub mod TableLaws
+pub mod KeyedRowLaws
 pub mod Orders
 pub mod DateTests
 pub mod Days

@@ -1,10 +1,11 @@
 pub mod Names
-pub mod Tables
+pub mod KeyedRows
 pub mod Options
 pub mod Roles
 pub mod Text
 pub mod Moment
 pub mod Spelling
+pub mod Limits
 pub mod Numbers
 pub mod Tenure
 pub mod Hashing

@@ -1,7 +1,7 @@
 ghost use Rattle.std.specs.Prelude.{◌≡◌, IfOk, IfErr};
 ghost use Rattle.plant_types.specs.declared.fault.Fault.TheVariants.{Memory};
 
-use crate::{Alphabet, Fault, Table, Text};
+use crate::{Alphabet, Fault, List, Text};
 use std::alloc::Global;
 
 /// Values that can be made a second time.
@@ -27,14 +27,14 @@ impl<T: Duplicate> Duplicate for Option<T> {
     }
 }
 
-impl<T: Duplicate> Duplicate for Table<T> {
-    fn duplicate(&self, alloc: Global) -> Result<Table<T>, Fault> {
+impl<T: Duplicate> Duplicate for List<T> {
+    fn duplicate(&self, alloc: Global) -> Result<List<T>, Fault> {
         duplicated(alloc, self.as_slice())
     }
 }
 
 /// The list of the same values again.
-pub fn duplicated<T: Duplicate>(alloc: Global, rows: &[T]) -> Result<Table<T>, Fault>
+pub fn duplicated<T: Duplicate>(alloc: Global, rows: &[T]) -> Result<List<T>, Fault>
     ensures value { IfOk result (λ t. t ≡ rows.now) }
     ensures err { IfErr result (λ e. e ≡ Memory) }
 {
@@ -42,5 +42,5 @@ pub fn duplicated<T: Duplicate>(alloc: Global, rows: &[T]) -> Result<Table<T>, F
     for row in rows {
         copies.push(row.duplicate(alloc)?)?;
     }
-    Ok(Table::from_vec(copies))
+    Ok(List::from_vec(copies))
 }

@@ -4,18 +4,19 @@
 mod civil;
 mod duplicate;
 mod fault;
+pub mod limits;
+mod list;
 mod moment;
 mod numbers;
 mod role;
-mod table;
 mod text;
 
 pub use duplicate::{Duplicate, duplicated};
 pub use fault::Fault;
+pub use list::List;
 pub use moment::Moment;
 pub use numbers::{Quota, Seconds};
 pub use role::{Role, Tenure};
-pub use table::Table;
 pub use text::{
     Alphabet, Person, PersonBytes, Tag, TagBytes, Text, UnitCode, UnitCodeBytes, Words, WordsBytes,
 };

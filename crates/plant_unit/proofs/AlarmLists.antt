@@ -16,9 +16,9 @@ use Rattle.plant_model.specs.RowChanges.{with_state}
 use Rattle.plant_model.specs.RowFacts.{alarm_tag}
 use Rattle.plant_model.specs.declared.rows.AlarmRow.{AlarmRow}
 use Rattle.plant_types.proofs.Orders.{name_total, same_names}
-use Rattle.plant_types.proofs.TableLaws.{tied}
+use Rattle.plant_types.proofs.KeyedRowLaws.{tied}
 use Rattle.plant_types.specs.Names.{Name, name_cmp, same_name}
-use Rattle.plant_types.specs.Tables.{IsInOrder}
+use Rattle.plant_types.specs.KeyedRows.{IsInOrder}
 use Rattle.plant_books.proofs.RowsFound.{After as TagsAfter, Ordered as TagsOrdered, Parts as TagsParts, after_more, greater, later, lesser, ordered, turned, back}
 use Rattle.plant_unit.specs.Summaries.{summaries, summary_of, with_summary}
 
@@ -89,9 +89,9 @@ summary_at es (x ∷ rows) zero r is = ap (λ (o : Option AlarmRow). option_map 
 summary_at es (x ∷ rows) (suc p) r is = summary_at es rows p r is
 
 -- the row with the summary of its events
-pub told : (es : List Event) (r : AlarmRow) → with_summary r (summary_of es r) ≡ with_state (of_alarm r.tag es) r
+pub summary_state : (es : List Event) (r : AlarmRow) → with_summary r (summary_of es r) ≡ with_state (of_alarm r.tag es) r
 unfolding summary
-told es r = refl
+summary_state es r = refl
 
 -- the loops over alarms
 pub summarized : (es : List Event) (alarms : List AlarmRow) (told_so : List Summary) (i : ℕ) (r d : AlarmRow) (s e : Summary) → told_so ≡ summaries alarms es → i < length alarms → r ≡ get_or alarms i d → s ≡ get_or told_so i e → s ≡ summary_of es r

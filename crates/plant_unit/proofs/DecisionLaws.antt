@@ -15,8 +15,8 @@ use Rattle.plant_model.specs.declared.reply.Refused.TheVariants.{SamePerson}
 use Rattle.plant_model.specs.declared.reply.Refused.{Refused}
 use Rattle.plant_model.specs.declared.reply.Reply.TheVariants.{Done}
 use Rattle.plant_model.specs.declared.reply.Reply.{Reply}
-use Rattle.plant_model.specs.declared.rows.Change.TheVariants.{Put}
-use Rattle.plant_model.specs.declared.rows.Change.{Change}
+use Rattle.plant_model.specs.declared.rows.RowEdit.TheVariants.{Put}
+use Rattle.plant_model.specs.declared.rows.RowEdit.{RowEdit}
 use Rattle.plant_model.specs.declared.rows.ChangeEntry.{ChangeEntry}
 use Rattle.plant_model.specs.declared.rows.Row.TheVariants.{Change as ChangePut, Unit as UnitPut}
 use Rattle.plant_model.specs.declared.rows.UnitPart.{UnitPart}
@@ -26,7 +26,7 @@ use Rattle.plant_ration.specs.declared.change.ChangeState.TheVariants.{Approved}
 use Rattle.plant_ration.specs.declared.change.ChangeState.{ChangeState}
 use Rattle.plant_types.specs.Names.{Name, same_name}
 use Rattle.plant_types.specs.Options.{when}
-use Rattle.plant_types.specs.Tables.{row_at}
+use Rattle.plant_types.specs.KeyedRows.{row_at}
 use Rattle.plant_unit.proofs.ProposalLaws.{not_rejected}
 use Rattle.plant_unit.specs.Additions.{AreKept}
 use Rattle.plant_unit.specs.Readings.{change_whole, has_kind}
@@ -49,11 +49,11 @@ pub whole_read : {part : UnitPart} (n : ℕ) (e : ChangeEntry) (c : ChangeRow) �
 whole_read {part} n e c kept found is = when_true (has_kind part.rows e e.kind_no) c (change_read part.rows e) (kept.changes_whole n e (sym found)) is
 
 -- a decision on a change that is there
-pub refused_change : (o : Option ChangeRow) (c : ChangeRow) → Some c ≡ o → (k : ChangeRow → List (Bool × Refused)) (made : ChangeRow → List Change) (x : Refused) → Some x ≡ first_refusal (of_change (Some c) k)
+pub refused_change : (o : Option ChangeRow) (c : ChangeRow) → Some c ≡ o → (k : ChangeRow → List (Bool × Refused)) (made : ChangeRow → List RowEdit) (x : Refused) → Some x ≡ first_refusal (of_change (Some c) k)
     → Err x ≡ decided_or (first_refusal (of_change o k)) (for_change o made)
 refused_change o c there k made x is = ap (λ r. decided_or r (made c)) is ∙ (λ i. decided_or (first_refusal (of_change (there i) k)) (for_change (there i) made))
 
-pub decided_change : (o : Option ChangeRow) (c : ChangeRow) (e : ChangeEntry) → Some c ≡ o → change_entry c ≡ e → (k : ChangeRow → List (Bool × Refused)) (s : ChangeState) (p : Name) (t : ℕ) (put : Change) → put ≡ Put (ChangePut (decided_row s p t e))
+pub decided_change : (o : Option ChangeRow) (c : ChangeRow) (e : ChangeEntry) → Some c ≡ o → change_entry c ≡ e → (k : ChangeRow → List (Bool × Refused)) (s : ChangeState) (p : Name) (t : ℕ) (put : RowEdit) → put ≡ Put (ChangePut (decided_row s p t e))
     → None ≡ first_refusal (of_change (Some c) k) → Ok (put ∷ []) ≡ decided_or (first_refusal (of_change o k)) (for_change o (λ x. decision_change s p t x ∷ []))
 decided_change o c e there kept k s p t put is none =
     (λ i. Ok (is i ∷ [])) ∙ (λ i. Ok (Put (ChangePut (decided_row s p t (sym kept i))) ∷ [])) ∙ ap (λ r. decided_or r (decision_change s p t c ∷ [])) none
@@ -63,7 +63,7 @@ pub refused_there : (o : Option ChangeRow) (c : ChangeRow) → Some c ≡ o → 
 refused_there o c there p x is = is ∙ ap (λ z. first_refusal (of_change z (λ y. (same_name p y.proposer, SamePerson) ∷ []))) there
 
 -- an approval
-same_if : (b : Bool) (cs : List Change) → (if b then cs else []) ≡ (if b && true then cs else [])
+same_if : (b : Bool) (cs : List RowEdit) → (if b then cs else []) ≡ (if b && true then cs else [])
 same_if true cs = refl
 same_if false cs = refl
 
@@ -74,7 +74,7 @@ module _ (f : Facts) (p : Name) (t : ℕ) (u : Name) (n : ℕ) (c : ChangeRow) (
   abbrev answer : Result Reply Refused
   answer = own_answer f p t (Approve u n)
 
-  abbrev begin : ChangeEntry → List Change
+  abbrev begin : ChangeEntry → List RowEdit
   begin row = Put (UnitPut (kind_row t f.unit c.number c.kind)) ∷ Put (ChangePut (decided_row Approved p t row)) ∷ in_force f c.number c.kind
 
   made : begin e ≡ changes_for f call

@@ -1,4 +1,5 @@
 -- The events that a legal history keeps are at most 100,000.
+use Rattle.plant_types.specs.Limits.{max_events}
 use Rattle.std.proofs.Common.{arith, inl, inr, ◌⊎◌, refl, subst, sym}
 use Rattle.std.proofs.lemmas.Bool.{ltb-false}
 use Rattle.std.specs.FinMap.Entries.{by_order}
@@ -24,7 +25,7 @@ use Rattle.plant_model.specs.declared.call.Request.TheVariants.{Import, OpenUnit
 use Rattle.plant_model.specs.declared.call.Request.{Request}
 use Rattle.plant_types.specs.Names.{Name}
 use Rattle.plant_types.specs.Options.{or_else}
-use Rattle.plant_types.specs.Tables.{in_order, put_row}
+use Rattle.plant_types.specs.KeyedRows.{in_order, put_row}
 use Rattle.std.specs.List.{find}
 
 one_more : (e : Event) (es : List Event) → length (put_row nat_cmp event_number e es) ≤ length es + 1
@@ -45,40 +46,40 @@ length_with es (e ∷ more) =
     omega (arith, rest, here)
 
 few_import : (h : List Call) (p : Name) (t : ℕ) (u : Name) (file : Result (List Event) BadFile) → IsLegal h
-    → changes_history (verdict h (record { person = p; moment = t; request = Import u file })) (record { person = p; moment = t; request = Import u file }) ≡ true → length (events (record { person = p; moment = t; request = Import u file } ∷ h)) ≤ 100000
+    → changes_history (verdict h (record { person = p; moment = t; request = Import u file })) (record { person = p; moment = t; request = Import u file }) ≡ true → length (events (record { person = p; moment = t; request = Import u file } ∷ h)) ≤ max_events
 few_import h p t u (Err fault) legal accepted = absurd (import_accepted h p t u (Err fault) accepted)
 few_import h p t u (Ok rows) legal accepted =
     let file = import_accepted h p t u (Ok rows) accepted in
-    let room = ltb-false 100000 (length (events h) + length (new_numbers (events h) rows)) file.0 in
+    let room = ltb-false max_events (length (events h) + length (new_numbers (events h) rows)) file.0 in
     let count = fresh_count (tags_of (facts h)) t 2 (events h) rows file.1 in
     let put = events_put h p t u rows (legal_kept h legal) file.1 in
     let long = length_with (events h) (fresh (events h) rows) in
-    subst (λ (es : List Event). length es ≤ 100000) put (omega (arith, room, count, long))
+    subst (λ (es : List Event). length es ≤ max_events) put (omega (arith, room, count, long))
 
-few_other : (h : List Call) (p : Name) (t : ℕ) (q : Request) → imported q ≡ [] → length (events h) ≤ 100000 → length (events (record { person = p; moment = t; request = q } ∷ h)) ≤ 100000
+few_other : (h : List Call) (p : Name) (t : ℕ) (q : Request) → imported q ≡ [] → length (events h) ≤ max_events → length (events (record { person = p; moment = t; request = q } ∷ h)) ≤ max_events
 few_other h p t q none few =
-    subst (λ (rows : List Event). length (filter_map (λ n. or_else (find (has_number n) rows) (event_numbered h n)) (in_order nat_cmp (numbers_of rows ++ numbers_of_events h))) ≤ 100000) (sym none) few
+    subst (λ (rows : List Event). length (filter_map (λ n. or_else (find (has_number n) rows) (event_numbered h n)) (in_order nat_cmp (numbers_of rows ++ numbers_of_events h))) ≤ max_events) (sym none) few
 
 -- a request that brings no event, or an import
 brings : (q : Request) → (imported q ≡ []) ⊎ ((u : Name) × (file : Result (List Event) BadFile) × (q ≡ Import u file))
 brings (Import u file) = inr (u, file, refl)
 brings _ = inl refl
 
-few_next : (h : List Call) (p : Name) (t : ℕ) (q : Request) → IsLegal h → changes_history (verdict h (record { person = p; moment = t; request = q })) (record { person = p; moment = t; request = q }) ≡ true → length (events h) ≤ 100000 → length (events (record { person = p; moment = t; request = q } ∷ h)) ≤ 100000
+few_next : (h : List Call) (p : Name) (t : ℕ) (q : Request) → IsLegal h → changes_history (verdict h (record { person = p; moment = t; request = q })) (record { person = p; moment = t; request = q }) ≡ true → length (events h) ≤ max_events → length (events (record { person = p; moment = t; request = q } ∷ h)) ≤ max_events
 few_next h p t q legal accepted few =
     elim (brings q) [
       | inl none ↦ few_other h p t q none few
       | inr import ↦
-          subst (λ (x : Request). changes_history (verdict h (record { person = p; moment = t; request = x })) (record { person = p; moment = t; request = x }) ≡ true → length (events (record { person = p; moment = t; request = x } ∷ h)) ≤ 100000) (sym import.2) (few_import h p t import.0 import.1 legal) accepted
+          subst (λ (x : Request). changes_history (verdict h (record { person = p; moment = t; request = x })) (record { person = p; moment = t; request = x }) ≡ true → length (events (record { person = p; moment = t; request = x } ∷ h)) ≤ max_events) (sym import.2) (few_import h p t import.0 import.1 legal) accepted
     ]
 
-few_first : (c : Call) → is_opening c.request ≡ true → length (events (c ∷ [])) ≤ 100000
+few_first : (c : Call) → is_opening c.request ≡ true → length (events (c ∷ [])) ≤ max_events
 few_first c opens = by c.request opens where
-  by : (q : Request) → is_opening q ≡ true → length (events (record { person = c.person; moment = c.moment; request = q } ∷ [])) ≤ 100000
+  by : (q : Request) → is_opening q ≡ true → length (events (record { person = c.person; moment = c.moment; request = q } ∷ [])) ≤ max_events
   by (OpenUnit u s m k) opens = omega arith
   by _ opens = cc
 
-pub few_events : (h : List Call) → IsLegal h → length (events h) ≤ 100000
+pub few_events : (h : List Call) → IsLegal h → length (events h) ≤ max_events
 few_events [] legal = absurd legal
 few_events (c ∷ []) legal = few_first c legal.0
 few_events (c ∷ b ∷ h) legal = few_next (b ∷ h) c.person c.moment c.request legal.2 (both_true (not (is_opening c.request)) _ legal.0).1 (few_events (b ∷ h) legal.2)

@@ -1,4 +1,5 @@
 -- The judgement of an import.
+use Rattle.plant_types.specs.Limits.{max_events}
 use Rattle.std.proofs.Common.{ap, append_assoc, arith, refl, subst, sym, ◌∙◌}
 use Rattle.std.proofs.lemmas.Bool.{ltb-false}
 use Rattle.std.specs.Prelude.{Bool, Err, IfOk, List, None, Ok, Option, Result, Some, [], false, filter, if◌then◌else◌, length, map, nat_lt, not, true, ℕ, ◌++◌, ◌+◌, ◌∷◌, ◌≡◌, ◌≤◌}
@@ -23,8 +24,8 @@ use Rattle.plant_model.specs.declared.reply.Refused.TheVariants.{BadFile as File
 use Rattle.plant_model.specs.declared.reply.Refused.{Refused}
 use Rattle.plant_model.specs.declared.reply.Reply.TheVariants.{Imported}
 use Rattle.plant_model.specs.declared.reply.Reply.{Reply}
-use Rattle.plant_model.specs.declared.rows.Change.TheVariants.{Put}
-use Rattle.plant_model.specs.declared.rows.Change.{Change}
+use Rattle.plant_model.specs.declared.rows.RowEdit.TheVariants.{Put}
+use Rattle.plant_model.specs.declared.rows.RowEdit.{RowEdit}
 use Rattle.plant_model.specs.declared.rows.Row.TheVariants.{Event as EventPut, Unit as UnitPut}
 use Rattle.plant_unit.specs.Summaries.{is_named}
 use Rattle.plant_model.specs.declared.rows.Verdict.TheVariants.{Accepted as IsAccepted, Refused as IsRefused}
@@ -70,7 +71,7 @@ if_not : {A : Type 0} (b : Bool) (x y : A) → (if not b then x else y) ≡ (if 
 if_not true x y = refl
 if_not false x y = refl
 
-pub own_accepted : (f : Facts) (c : Call) (r : Reply) (cs : List Change) → first_refusal (own_refusals f c.person c.moment c.request) ≡ None → r ≡ reply f c.moment c.request → cs ≡ (if is_read c.request then [] else changes_for f c) → IsJudgedOwn f c (IsAccepted r cs)
+pub own_accepted : (f : Facts) (c : Call) (r : Reply) (cs : List RowEdit) → first_refusal (own_refusals f c.person c.moment c.request) ≡ None → r ≡ reply f c.moment c.request → cs ≡ (if is_read c.request then [] else changes_for f c) → IsJudgedOwn f c (IsAccepted r cs)
 own_accepted f c r cs none er ec =
     record {
       answer = ap Ok er ∙ sym (ap (λ o. refused_or o (reply f c.moment c.request)) none);
@@ -82,10 +83,10 @@ abbrev refused_by : Result Merged BadFile → Result Merged Refused
 refused_by (Ok m) = Ok m
 refused_by (Err fault) = Err (FileRefused fault)
 
-pub full_added : (f : Facts) (t : ℕ) (rows : List Event) → nat_lt 100000 (length f.events + length (new_numbers f.events rows)) ≡ true → addition f t rows ≡ Err (UnitFull TooManyEvents)
+pub full_added : (f : Facts) (t : ℕ) (rows : List Event) → nat_lt max_events (length f.events + length (new_numbers f.events rows)) ≡ true → addition f t rows ≡ Err (UnitFull TooManyEvents)
 full_added f t rows full = ap (λ b. addition_or (first_refusal ((b, UnitFull TooManyEvents) ∷ fault_entries (first_fault (tags_of f) t 2 f.events rows))) (rows_added f.events rows)) full
 
-pub merge_added : (f : Facts) (t : ℕ) (rows : List Event) (m : Result Merged BadFile) → nat_lt 100000 (length f.events + length (new_numbers f.events rows)) ≡ false → m ≡ merge f.events rows (tags_of f) t → refused_by m ≡ addition f t rows
+pub merge_added : (f : Facts) (t : ℕ) (rows : List Event) (m : Result Merged BadFile) → nat_lt max_events (length f.events + length (new_numbers f.events rows)) ≡ false → m ≡ merge f.events rows (tags_of f) t → refused_by m ≡ addition f t rows
 unfolding merge
 merge_added f t rows m room is =
     ap refused_by is ∙ by (first_fault (tags_of f) t 2 f.events rows)
@@ -98,15 +99,15 @@ merge_added f t rows m room is =
 -- a file that adds rows has no fault, and there is room for its numbers
 record Adds (f : Facts) (t : ℕ) (rows : List Event) (m : Merged) : Type 0 where
   pub none : first_refusal (file_refusals f t (Ok rows)) ≡ None
-  pub few : length (fresh f.events rows) ≤ 100000
+  pub few : length (fresh f.events rows) ≤ max_events
   pub is : m ≡ rows_added f.events rows
 
-adds_by : (f : Facts) (t : ℕ) (rows : List Event) (m : Merged) (full : Bool) (fault : Option BadFile) → nat_lt 100000 (length f.events + length (new_numbers f.events rows)) ≡ full → first_fault (tags_of f) t 2 f.events rows ≡ fault
+adds_by : (f : Facts) (t : ℕ) (rows : List Event) (m : Merged) (full : Bool) (fault : Option BadFile) → nat_lt max_events (length f.events + length (new_numbers f.events rows)) ≡ full → first_fault (tags_of f) t 2 f.events rows ≡ fault
     → addition_or (first_refusal ((full, UnitFull TooManyEvents) ∷ fault_entries fault)) (rows_added f.events rows) ≡ Ok m → Adds f t rows m
 adds_by f t rows m true fault ef eo e = cc
 adds_by f t rows m false (Some fault) ef eo e = cc
 adds_by f t rows m false None ef eo e =
-    let room = ltb-false 100000 (length f.events + length (new_numbers f.events rows)) ef in
+    let room = ltb-false max_events (length f.events + length (new_numbers f.events rows)) ef in
     let count = fresh_count (tags_of f) t 2 f.events rows eo in
     record {
       none = (λ i. first_refusal ((ef i, UnitFull TooManyEvents) ∷ fault_entries (eo i)));
@@ -137,7 +138,7 @@ import_refused f c u rows r e is = own_refused f c r (ap (λ q. first_refusal (o
 pub import_fresh : (f : Facts) (t : ℕ) (rows : List Event) (m : Merged) → Ok m ≡ addition f t rows → m.fresh ≡ fresh f.events rows
 import_fresh f t rows m is = ap (λ (x : Merged). x.fresh) ((adds f t rows m (sym is)).is)
 
-pub import_judged : (f : Facts) (c : Call) (u : Name) (rows : List Event) (m : Merged) (r : Reply) (cs : List Change) → c.request ≡ Import u (Ok rows) → Ok m ≡ addition f c.moment rows
+pub import_judged : (f : Facts) (c : Call) (u : Name) (rows : List Event) (m : Merged) (r : Reply) (cs : List RowEdit) → c.request ≡ Import u (Ok rows) → Ok m ≡ addition f c.moment rows
     → (length m.fresh ≤ 4294967295 → r ≡ Imported (length m.fresh) m.repeated) → cs ≡ Put (UnitPut (unit_after f c.moment (Import u (Ok rows)))) ∷ import_changes f rows → IsJudgedOwn f c (IsAccepted r cs)
 import_judged f c u rows m r cs e is er ec =
     let so = adds f c.moment rows m (sym is) in
@@ -159,25 +160,25 @@ import_added f t rows m rises is =
       fresh_are = import_fresh f t rows m is;
       tags = tags_of f;
       now = t;
-      no_fault = none_fault (nat_lt 100000 (length f.events + length (new_numbers f.events rows))) (UnitFull TooManyEvents) (first_fault (tags_of f) t 2 f.events rows) ((adds f t rows m (sym is)).none);
+      no_fault = none_fault (nat_lt max_events (length f.events + length (new_numbers f.events rows))) (UnitFull TooManyEvents) (first_fault (tags_of f) t 2 f.events rows) ((adds f t rows m (sym is)).none);
     }
 
 -- what the code finds of a file beside the events that it needs
-pub counted_at : (f : Facts) (rows kept : List Event) (k n : ℕ) (b : Bool) → IsRising f.events → kept ≡ needed f.events rows → k ≡ length f.events → (IsRising kept → n ≡ length (new_numbers kept rows)) → b ≡ nat_lt 100000 (k + n) → b ≡ nat_lt 100000 (length f.events + length (new_numbers f.events rows))
+pub counted_at : (f : Facts) (rows kept : List Event) (k n : ℕ) (b : Bool) → IsRising f.events → kept ≡ needed f.events rows → k ≡ length f.events → (IsRising kept → n ≡ length (new_numbers kept rows)) → b ≡ nat_lt max_events (k + n) → b ≡ nat_lt max_events (length f.events + length (new_numbers f.events rows))
 counted_at f rows kept k n b rises ek el en eb =
     let rising : IsRising kept = subst (λ (l : List Event). IsRising l) (sym ek) (needed_rises f.events rows rises) in
     let count : n ≡ length (new_numbers f.events rows) = en rising ∙ ap (λ l. length (new_numbers l rows)) ek ∙ ap length (needed_numbers f.events rows rises) in
-    eb ∙ (λ i. nat_lt 100000 (el i + count i))
+    eb ∙ (λ i. nat_lt max_events (el i + count i))
 
 pub merged_at : (f : Facts) (t : ℕ) (rows kept : List Event) (tags : List Name) (k n : ℕ) (b : Bool) (m x : Result Merged BadFile) → IsRising f.events → kept ≡ needed f.events rows → k ≡ length f.events → (IsRising kept → n ≡ length (new_numbers kept rows))
-    → b ≡ nat_lt 100000 (k + n) → b ≡ false → tags ≡ tags_of f → (IsRising kept → m ≡ merge kept rows tags t) → m ≡ x → refused_by x ≡ addition f t rows
+    → b ≡ nat_lt max_events (k + n) → b ≡ false → tags ≡ tags_of f → (IsRising kept → m ≡ merge kept rows tags t) → m ≡ x → refused_by x ≡ addition f t rows
 merged_at f t rows kept tags k n b m x rises ek el en eb room et em ex =
     let rising : IsRising kept = subst (λ (l : List Event). IsRising l) (sym ek) (needed_rises f.events rows rises) in
-    let free : nat_lt 100000 (length f.events + length (new_numbers f.events rows)) ≡ false = sym (counted_at f rows kept k n b rises ek el en eb) ∙ room in
+    let free : nat_lt max_events (length f.events + length (new_numbers f.events rows)) ≡ false = sym (counted_at f rows kept k n b rises ek el en eb) ∙ room in
     merge_added f t rows x free (sym ex ∙ em rising ∙ (λ i. merge (ek i) rows (et i) t) ∙ needed_merge f.events rows (tags_of f) t rises)
 
 -- the changes that the code makes for the alarms are those of the definition
-pub put_all : (f : Facts) (rows added : List Event) (row : Change) (cs events : List Change) → AreAdded f.events rows added → events ≡ row ∷ map (λ e. Put (EventPut e)) added → cs ≡ events ++ map (state_put (with_events f.events added)) (filter (is_named added) f.alarms) → cs ≡ row ∷ import_changes f rows
+pub put_all : (f : Facts) (rows added : List Event) (row : RowEdit) (cs events : List RowEdit) → AreAdded f.events rows added → events ≡ row ∷ map (λ e. Put (EventPut e)) added → cs ≡ events ++ map (state_put (with_events f.events added)) (filter (is_named added) f.alarms) → cs ≡ row ∷ import_changes f rows
 put_all f rows added row cs events new ee ec =
     ec ∙ ap (λ l. l ++ map (state_put (with_events f.events added)) (filter (is_named added) f.alarms)) ee
     ∙ (λ i. row ∷ (map (λ e. Put (EventPut e)) (new.fresh_are i) ++ map (state_put (with_events f.events (new.fresh_are i))) (filter (is_named (new.fresh_are i)) f.alarms)))

@@ -7,7 +7,7 @@ use Rattle.plant_model.specs.declared.call.Request.TheVariants.{Floods, Import, 
 use Rattle.plant_model.specs.declared.call.Request.{Request}
 use Rattle.plant_model.specs.declared.reply.Refused.TheVariants.{NotGranted}
 use Rattle.plant_model.specs.declared.reply.Reply.TheVariants.{Done}
-use Rattle.plant_model.specs.declared.rows.Change.{Change}
+use Rattle.plant_model.specs.declared.rows.RowEdit.{RowEdit}
 use Rattle.plant_model.specs.declared.rows.UnitPart.{UnitPart}
 use Rattle.plant_model.specs.declared.rows.Verdict.TheVariants.{Accepted as IsAccepted, Refused as IsRefused}
 use Rattle.plant_model.specs.declared.rows.Verdict.{Verdict}
@@ -42,7 +42,7 @@ puts_if : (h : List Call) (c : Call) (b : Bool) → b ≡ true → puts_unit (if
 puts_if h c true e = refl
 puts_if h c false e = cc
 
-none_if : (cs : List Change) (b : Bool) → b ≡ false → (if b then cs else []) ≡ []
+none_if : (cs : List RowEdit) (b : Bool) → b ≡ false → (if b then cs else []) ≡ []
 none_if cs true e = cc
 none_if cs false e = refl
 
@@ -154,7 +154,7 @@ opened_rows c e = by_request c.person c.moment c.request e where
   by_request p t (OpenUnit u s m k) e = opening_turns p t u s m k
   by_request p t _ e = cc
 
-pub opened_verdict : (admin taken : Bool) (c : Call) (cs : List Change) → admin ≡ true → taken ≡ false → is_opening c.request ≡ true → cs ≡ changes_for (facts []) c → IsOpening admin taken c (IsAccepted Done cs)
+pub opened_verdict : (admin taken : Bool) (c : Call) (cs : List RowEdit) → admin ≡ true → taken ≡ false → is_opening c.request ≡ true → cs ≡ changes_for (facts []) c → IsOpening admin taken c (IsAccepted Done cs)
 opened_verdict true false c cs a t e is = record { answer = refl; changes = λ _. ap (λ cs. changed_by cs no_rows) is ∙ opened_rows c e; none = λ no. absurd (let x : true ≡ false = no in cc); puts = λ _. ap puts_unit is }
 opened_verdict true true c cs a t e is = cc
 opened_verdict false taken c cs a t e is = cc

@@ -5,6 +5,7 @@ use Rattle.plant_model.proofs.FactLaws.{alarm_in, change_entry_in, not_true, rev
 use Rattle.plant_model.proofs.HistoryLaws.{alarm_of, alarms_told, change_with, changes_told, number_of_change, numbers_of_changes, record_with, records_told, shelves_told, tag_of_record, tags_of_alarms, tags_of_records, tags_of_shelves}
 use Rattle.plant_model.proofs.PartLaws.{matrix_there, own_holds}
 use Rattle.plant_alarm.specs.States.{summary}
+use Rattle.plant_types.specs.Limits.{max_changes, max_events}
 use Rattle.plant_unit.specs.Summaries.{summary_in, summary_of}
 use Rattle.plant_model.proofs.PartLists.{or_later, or_true}
 use Rattle.plant_model.proofs.QuotaLaws.{few_alarms}
@@ -36,10 +37,10 @@ use Rattle.plant_ration.specs.declared.change.ChangeKind.{ChangeKind}
 use Rattle.plant_ration.specs.declared.change.ChangeKind.TheVariants.{Limit, Matrix, Rationale}
 use Rattle.plant_ration.specs.declared.change.Sheet.{Sheet}
 use Rattle.plant_types.proofs.Orders.{name_total, number_total, same_names, same_numbers}
-use Rattle.plant_types.proofs.TableLaws.{IsInOrder-rows}
+use Rattle.plant_types.proofs.KeyedRowLaws.{IsInOrder-rows}
 use Rattle.plant_types.specs.Names.{Name, name_cmp, same_name}
 use Rattle.plant_model.specs.Shelves.{shelf}
-use Rattle.plant_types.specs.Tables.{IsInOrder, in_order, row_at}
+use Rattle.plant_types.specs.KeyedRows.{IsInOrder, in_order, row_at}
 use Rattle.std.specs.FinMap.Entries.{below_all}
 use Rattle.plant_unit.proofs.EventBounds.{few_events}
 use Rattle.plant_unit.specs.Additions.{AreEventsFor, AreKept}
@@ -81,23 +82,23 @@ few_of_approved : (rows : UnitRows) (n : ℕ) (o : Option ChangeEntry) (es : Lis
 few_of_approved rows n None es = (no_event_rises, omega arith)
 few_of_approved rows n (Some c) es = few_of_topic rows c.tag c.kind_no es
 
-few_of : (rows : UnitRows) (s : Scope) (es : List Event) → IsRising es → length es ≤ 100000 → AreFew ((selection rows s).events es)
+few_of : (rows : UnitRows) (s : Scope) (es : List Event) → IsRising es → length es ≤ max_events → AreFew ((selection rows s).events es)
 few_of rows (File file) es h few = (needed_rises es file h, (let le = needed_few es file h in omega (arith, few, le)))
 few_of rows AllEvents es h few = (h, omega (arith, few))
 few_of rows (Approval n) es h few = few_of_approved rows n (change_found rows n) es
 few_of rows _ es h few = (no_event_rises, omega arith)
 
-events_left : (rows : UnitRows) (q : Request) (es : List Event) → IsRising es → length es ≤ 100000 → IsRising ((selected rows q).events es) × (length ((selected rows q).events es) ≤ 4294967295)
+events_left : (rows : UnitRows) (q : Request) (es : List Event) → IsRising es → length es ≤ max_events → IsRising ((selected rows q).events es) × (length ((selected rows q).events es) ≤ 4294967295)
 events_left rows q es h few = few_of rows (scope_of q) es h few
 
 or_either : (a b : Bool) → (a || b) ≡ true → (a ≡ true) ⊎ (b ≡ true)
 or_either true b e = inl refl
 or_either false b e = inr e
 
-fits_most : (n : ℕ) → n ≤ 100000 → n < 4294967295
+fits_most : (n : ℕ) → n ≤ max_events → n < 4294967295
 fits_most n few = omega (arith, few)
 
-fits : (n : ℕ) → n ≤ 20000 → n < 4294967295
+fits : (n : ℕ) → n ≤ max_changes → n < 4294967295
 fits n few = omega (arith, few)
 
 -- the records of a history stand in the order of their tags
@@ -276,27 +277,27 @@ module _ (h : List Call) (legal : IsLegal h) (p : Name) (t : ℕ) (q : Request) 
   records_among (a ∷ tags) = record_whole a (sheet h a) refl (filter_map (record_of h) tags) (records_among tags)
 
   -- there is a next number of each kind
-  counted : counted_for (rows_of h) q ≤ 100000
+  counted : counted_for (rows_of h) q ≤ max_events
   counted = by q where
-    by : (q : Request) → counted_for (rows_of h) q ≤ 100000
+    by : (q : Request) → counted_for (rows_of h) q ≤ max_events
     by (Register u a l m) = let few = few_alarms h legal in omega (arith, few)
     by (Import u file) = few_events h legal
-    by (Propose u x) = let few = subst (λ n. n ≤ 20000) (sym (change_count h)) (few_proposals h legal) in omega (arith, few)
+    by (Propose u x) = let few = subst (λ n. n ≤ max_changes) (sym (change_count h)) (few_proposals h legal) in omega (arith, few)
     by _ = omega arith
 
-  revision_left : (a : Name) → unwrap_or (option_map (λ (r : RecordEntry). r.rev) (record_found part a)) 0 ≤ 20000
-  revision_left a = subst (λ o. unwrap_or (option_map (λ (r : RecordEntry). r.rev) o) 0 ≤ 20000) (sym (row_at-left name_cmp record_tag name_total same_names s.rationale a (record_rows h))) (by (s.rationale a)) where
-    by : (b : Bool) → unwrap_or (option_map (λ (r : RecordEntry). r.rev) (cond b (record_found (rows_of h) a) None)) 0 ≤ 20000
-    by true = subst (λ n. n ≤ 20000) (sym (revision_in h a)) (few_records h legal a)
+  revision_left : (a : Name) → unwrap_or (option_map (λ (r : RecordEntry). r.rev) (record_found part a)) 0 ≤ max_changes
+  revision_left a = subst (λ o. unwrap_or (option_map (λ (r : RecordEntry). r.rev) o) 0 ≤ max_changes) (sym (row_at-left name_cmp record_tag name_total same_names s.rationale a (record_rows h))) (by (s.rationale a)) where
+    by : (b : Bool) → unwrap_or (option_map (λ (r : RecordEntry). r.rev) (cond b (record_found (rows_of h) a) None)) 0 ≤ max_changes
+    by true = subst (λ n. n ≤ max_changes) (sym (revision_in h a)) (few_records h legal a)
     by false = omega arith
 
-  limit_left : (a : Name) → unwrap_or (option_map (λ (r : AlarmRow). r.max_rev) (row_at name_cmp alarm_tag a part.alarms)) 0 ≤ 20000
-  limit_left a = subst (λ o. unwrap_or (option_map (λ (r : AlarmRow). r.max_rev) o) 0 ≤ 20000) (sym (row_at-left name_cmp alarm_tag name_total same_names s.alarm a (alarm_rows h) ∙ ap (λ o. cond (s.alarm a) o None) (alarm_in h a))) (by (s.alarm a)) where
-    of_alarm_row : (o : Option Bool) → unwrap_or (option_map (λ (r : AlarmRow). r.max_rev) (option_map (alarm_of h a) o)) 0 ≤ 20000
+  limit_left : (a : Name) → unwrap_or (option_map (λ (r : AlarmRow). r.max_rev) (row_at name_cmp alarm_tag a part.alarms)) 0 ≤ max_changes
+  limit_left a = subst (λ o. unwrap_or (option_map (λ (r : AlarmRow). r.max_rev) o) 0 ≤ max_changes) (sym (row_at-left name_cmp alarm_tag name_total same_names s.alarm a (alarm_rows h) ∙ ap (λ o. cond (s.alarm a) o None) (alarm_in h a))) (by (s.alarm a)) where
+    of_alarm_row : (o : Option Bool) → unwrap_or (option_map (λ (r : AlarmRow). r.max_rev) (option_map (alarm_of h a) o)) 0 ≤ max_changes
     of_alarm_row None = omega arith
     of_alarm_row (Some l) = few_limits h legal a
 
-    by : (b : Bool) → unwrap_or (option_map (λ (r : AlarmRow). r.max_rev) (cond b (alarm_row h a) None)) 0 ≤ 20000
+    by : (b : Bool) → unwrap_or (option_map (λ (r : AlarmRow). r.max_rev) (cond b (alarm_row h a) None)) 0 ≤ max_changes
     by true = of_alarm_row (latching h a)
     by false = omega arith
 

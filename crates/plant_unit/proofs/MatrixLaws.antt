@@ -5,8 +5,8 @@ use Rattle.std.proofs.lemmas.List.Elements.{filter_map-append}
 use Rattle.std.specs.List.{enumerate_from, list_all, range_with_len}
 use Rattle.std.specs.Prelude.{Bool, Err, List, Ok, OnOk, Result, Some, T, [], false, filter_map, flat_map, length, map, nat_le, not, option_and_then, option_map, suc, true, zero, ℕ, ◌&&◌, ◌++◌, ◌+◌, ◌<◌, ◌==◌, ◌∷◌, ◌≡◌, ◌≤◌}
 use Rattle.plant_model.proofs.ReadLaws.{filter_map-map, listed, place-after}
-use Rattle.plant_model.specs.declared.rows.Change.{Change}
-use Rattle.plant_model.specs.declared.rows.Change.TheVariants.{Put}
+use Rattle.plant_model.specs.declared.rows.RowEdit.{RowEdit}
+use Rattle.plant_model.specs.declared.rows.RowEdit.TheVariants.{Put}
 use Rattle.plant_model.specs.declared.rows.Row.TheVariants.{Band as BandPut, Cell as CellPut}
 use Rattle.plant_ration.specs.declared.cell.Cell.{Cell}
 use Rattle.plant_model.specs.Matrices.{at_place, band_at, cell_of, cells_of_row}
@@ -68,10 +68,10 @@ short_rows items limits rows e k d lt =
 pub matrix_listed : (n : ℕ) (m : Grid) → matrix_changes n m ≡ map (λ r. Put (BandPut r)) (map (band_row_of n) (enumerate_from 1 m.limits)) ++ map (λ r. Put (CellPut r)) (flat_map (row_of_cells n) (enumerate_from 1 m.cells))
 matrix_listed n m = λ i. bands_listed n m i ++ cells_listed n m i
 
-pub matrix_pushed : {A E : Type 0} (r : Result A E) (first mid last : List Change) (n : ℕ) (m : Grid) (limits : List ℕ) (cells : List (List Cell)) → mid ≡ first ++ map (λ r. Put (BandPut r)) (map (band_row_of n) (enumerate_from 1 limits)) → limits ≡ m.limits → cells ≡ m.cells → OnOk r (last ≡ mid ++ map (λ r. Put (CellPut r)) (flat_map (row_of_cells n) (enumerate_from 1 cells))) → OnOk r (last ≡ first ++ matrix_changes n m)
+pub matrix_pushed : {A E : Type 0} (r : Result A E) (first mid last : List RowEdit) (n : ℕ) (m : Grid) (limits : List ℕ) (cells : List (List Cell)) → mid ≡ first ++ map (λ r. Put (BandPut r)) (map (band_row_of n) (enumerate_from 1 limits)) → limits ≡ m.limits → cells ≡ m.cells → OnOk r (last ≡ mid ++ map (λ r. Put (CellPut r)) (flat_map (row_of_cells n) (enumerate_from 1 cells))) → OnOk r (last ≡ first ++ matrix_changes n m)
 matrix_pushed (Ok x) first mid last n m limits cells bands l c done =
-    let firsts : List Change = map (λ r. Put (BandPut r)) (map (band_row_of n) (enumerate_from 1 limits)) in
-    let lasts : List Change = map (λ r. Put (CellPut r)) (flat_map (row_of_cells n) (enumerate_from 1 cells)) in
+    let firsts : List RowEdit = map (λ r. Put (BandPut r)) (map (band_row_of n) (enumerate_from 1 limits)) in
+    let lasts : List RowEdit = map (λ r. Put (CellPut r)) (flat_map (row_of_cells n) (enumerate_from 1 cells)) in
     done ∙ ap (λ ys. ys ++ lasts) bands ∙ append_assoc first firsts lasts
     ∙ (λ i. first ++ (map (λ r. Put (BandPut r)) (map (band_row_of n) (enumerate_from 1 (l i))) ++ map (λ r. Put (CellPut r)) (flat_map (row_of_cells n) (enumerate_from 1 (c i)))))
     ∙ ap (λ ys. first ++ ys) (sym (matrix_listed n m))

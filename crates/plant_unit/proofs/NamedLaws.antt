@@ -17,7 +17,7 @@ use Rattle.plant_import.proofs.NeededLaws.{needed_late, needed_rises}
 use Rattle.plant_import.proofs.Risings.{in_number_order}
 use Rattle.plant_import.specs.Needed.{from_last_before, has_late, needed}
 use Rattle.plant_import.specs.Numbers.{event_number, with_events}
-use Rattle.plant_types.specs.Tables.{IsInOrder}
+use Rattle.plant_types.specs.KeyedRows.{IsInOrder}
 use Rattle.std.specs.Ordering.{nat_cmp}
 use Rattle.plant_model.specs.declared.rows.AlarmRow.{AlarmRow}
 use Rattle.plant_types.specs.Names.{Name, name_cmp, same_name}

@@ -11,8 +11,8 @@ use Rattle.plant_model.specs.declared.call.Request.{Request}
 use Rattle.plant_model.specs.declared.reply.Refused.{Refused}
 use Rattle.plant_model.specs.declared.reply.Reply.{Reply}
 use Rattle.plant_model.specs.declared.reply.Reply.TheVariants.{Done}
-use Rattle.plant_model.specs.declared.rows.Change.{Change}
-use Rattle.plant_model.specs.declared.rows.Change.TheVariants.{Put}
+use Rattle.plant_model.specs.declared.rows.RowEdit.{RowEdit}
+use Rattle.plant_model.specs.declared.rows.RowEdit.TheVariants.{Put}
 use Rattle.plant_model.specs.declared.rows.Row.TheVariants.{Unit as UnitPut}
 use Rattle.plant_model.specs.declared.rows.UnitRow.{UnitRow}
 use Rattle.plant_model.specs.declared.rows.Verdict.{Verdict}
@@ -33,13 +33,13 @@ refused_own f c x is = record {
 }
 
 -- accepted, with its changes
-pub made_own : (f : Facts) (c : Call) (said : Reply) (cs : List Change) → own f c ≡ None → said ≡ says f c → is_read c.request ≡ false → cs ≡ changes_for f c → IsJudgedOwn f c (IsAccepted said cs)
+pub made_own : (f : Facts) (c : Call) (said : Reply) (cs : List RowEdit) → own f c ≡ None → said ≡ says f c → is_read c.request ≡ false → cs ≡ changes_for f c → IsJudgedOwn f c (IsAccepted said cs)
 made_own f c said cs none is changing made = record {
   answer = ap (λ (r : Reply). Ok r) is ∙ sym (ap (λ o. refused_or o (says f c)) none);
   changes = made ∙ sym (ap (λ o. if changes_history (refused_or o (says f c)) c then changes_for f c else []) none ∙ ap (λ b. if not b then changes_for f c else []) changing);
 }
 
-nothing : (b : Bool) (cs : List Change) → (if b && false then cs else []) ≡ []
+nothing : (b : Bool) (cs : List RowEdit) → (if b && false then cs else []) ≡ []
 nothing true cs = refl
 nothing false cs = refl
 
@@ -54,9 +54,9 @@ read_own f c a reads is = by a is where
   by (Ok r) is = record { answer = is; changes = none }
 
 -- a change that was decided is made beside that of the unit's row
-pub done_own : (f : Facts) (c : Call) (d : Result Change Refused) → says f c ≡ Done → is_read c.request ≡ false → unit_after f c.moment c.request ≡ record f.unit { last_s = c.moment } → one_change d ≡ decision f c.person c.moment c.request → IsJudgedOwn f c (done_as (record f.unit { last_s = c.moment }) d)
+pub done_own : (f : Facts) (c : Call) (d : Result RowEdit Refused) → says f c ≡ Done → is_read c.request ≡ false → unit_after f c.moment c.request ≡ record f.unit { last_s = c.moment } → one_change d ≡ decision f c.person c.moment c.request → IsJudgedOwn f c (done_as (record f.unit { last_s = c.moment }) d)
 done_own f c d is changing row made = by d (own f c) refl made where
-  by : (d : Result Change Refused) (o : Option Refused) → own f c ≡ o → one_change d ≡ decided_or o (own_changes f c.person c.moment c.request) → IsJudgedOwn f c (done_as (record f.unit { last_s = c.moment }) d)
+  by : (d : Result RowEdit Refused) (o : Option Refused) → own f c ≡ o → one_change d ≡ decided_or o (own_changes f c.person c.moment c.request) → IsJudgedOwn f c (done_as (record f.unit { last_s = c.moment }) d)
   by (Err x) None e same = cc
   by (Err x) (Some y) e same = let it : y ≡ x = cc in refused_own f c x (e ∙ ap (λ (z : Refused). Some z) it)
   by (Ok change) None e same =
@@ -65,7 +65,7 @@ done_own f c d is changing row made = by d (own f c) refl made where
   by (Ok change) (Some y) e same = cc
 
 pub done_for : {E : Type 0} (f : Facts) (c : Call) (r : Request) → c.request ≡ r → reply f c.moment r ≡ Done → is_read r ≡ false → unit_after f c.moment r ≡ record f.unit { last_s = c.moment } → (unit : UnitRow) → f.unit ≡ unit
-    → (decided : Result (Result Change Refused) E) (result : Result Verdict E) → IfOk decided (λ d. one_change d ≡ decision f c.person c.moment r) → IfOk result (λ v. IsOkAnd decided (λ d. v ≡ done_as (record unit { last_s = c.moment }) d))
+    → (decided : Result (Result RowEdit Refused) E) (result : Result Verdict E) → IfOk decided (λ d. one_change d ≡ decision f c.person c.moment r) → IfOk result (λ v. IsOkAnd decided (λ d. v ≡ done_as (record unit { last_s = c.moment }) d))
     → IfOk result (IsJudgedOwn f c)
 done_for f c r is says changing row unit its decided (Err e) made v = tt
 done_for f c r is says changing row unit its (Err e) (Ok x) made v = absurd v
@@ -84,7 +84,7 @@ read_for f c r is reads (Ok a) (Ok x) said v =
 pub refused_for : (f : Facts) (c : Call) (r : Request) → c.request ≡ r → (x : Refused) → Some x ≡ first_refusal (own_refusals f c.person c.moment r) → IsJudgedOwn f c (IsRefused x)
 refused_for f c r is x refused = refused_own f c x (ap (λ q. first_refusal (own_refusals f c.person c.moment q)) is ∙ sym refused)
 
-pub made_for : (f : Facts) (c : Call) (r : Request) → c.request ≡ r → (said : Reply) (cs : List Change) → None ≡ first_refusal (own_refusals f c.person c.moment r) → said ≡ reply f c.moment r → is_read r ≡ false
+pub made_for : (f : Facts) (c : Call) (r : Request) → c.request ≡ r → (said : Reply) (cs : List RowEdit) → None ≡ first_refusal (own_refusals f c.person c.moment r) → said ≡ reply f c.moment r → is_read r ≡ false
     → cs ≡ Put (UnitPut (unit_after f c.moment r)) ∷ own_changes f c.person c.moment r → IsJudgedOwn f c (IsAccepted said cs)
 made_for f c r is said cs none says changing made =
     made_own f c said cs (ap (λ q. first_refusal (own_refusals f c.person c.moment q)) is ∙ sym none) (says ∙ ap (λ q. reply f c.moment q) (sym is)) (ap (λ q. is_read q) is ∙ changing)

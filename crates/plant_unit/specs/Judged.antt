@@ -7,8 +7,8 @@ use Rattle.plant_model.specs.declared.call.Request.TheVariants.{Import}
 use Rattle.plant_model.specs.declared.reply.Refused.{Refused}
 use Rattle.plant_model.specs.declared.reply.Reply.{Reply}
 use Rattle.plant_model.specs.declared.reply.Reply.TheVariants.{Done}
-use Rattle.plant_model.specs.declared.rows.Change.{Change}
-use Rattle.plant_model.specs.declared.rows.Change.TheVariants.{Put}
+use Rattle.plant_model.specs.declared.rows.RowEdit.{RowEdit}
+use Rattle.plant_model.specs.declared.rows.RowEdit.TheVariants.{Put}
 use Rattle.plant_model.specs.declared.reply.ChangeRow.{ChangeRow}
 use Rattle.plant_model.specs.declared.rows.ChangeEntry.{ChangeEntry}
 use Rattle.plant_model.specs.declared.rows.Row.TheVariants.{Change as ChangePut, Unit as UnitPut}
@@ -46,11 +46,11 @@ decided_or (Some refused) decided = Err refused
 
 -- what is decided about a request of one who may make it: its first refusal, else the changes that it makes beside that of the
 -- unit's row
-abbrev pub decision : Facts → Name → ℕ → Request → Result (List Change) Refused
+abbrev pub decision : Facts → Name → ℕ → Request → Result (List RowEdit) Refused
 decision f p t r = decided_or (first_refusal (own_refusals f p t r)) (own_changes f p t r)
 
 -- the same where it makes one change
-abbrev pub one_change : Result Change Refused → Result (List Change) Refused
+abbrev pub one_change : Result RowEdit Refused → Result (List RowEdit) Refused
 one_change (Err refused) = Err refused
 one_change (Ok change) = Ok (change ∷ [])
 
@@ -70,7 +70,7 @@ abbrev pub record_decision : Facts → ℕ → Name → Sheet → Result Cell Re
 record_decision f base a s = decided_or (first_refusal (kind_refusals f base (Rationale a s))) (priority_by f.matrix s.severity s.response)
 
 -- a verdict that makes the change of a decision and that of the unit's row, and one that only answers
-abbrev pub done_as : UnitRow → Result Change Refused → Verdict
+abbrev pub done_as : UnitRow → Result RowEdit Refused → Verdict
 done_as row (Err refused) = IsRefused refused
 done_as row (Ok change) = IsAccepted Done (Put (UnitPut row) ∷ change ∷ [])
 
@@ -82,7 +82,7 @@ abbrev pub answer_in : Verdict → Result Reply Refused
 answer_in (IsRefused r) = Err r
 answer_in (IsAccepted reply changes) = Ok reply
 
-abbrev pub changes_in : Verdict → List Change
+abbrev pub changes_in : Verdict → List RowEdit
 changes_in (IsRefused r) = []
 changes_in (IsAccepted reply changes) = changes
 

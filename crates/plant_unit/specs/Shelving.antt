@@ -7,8 +7,8 @@ use Rattle.plant_alarm.specs.declared.shelf.ShelfRefused.TheVariants.{ConditionA
 use Rattle.plant_model.specs.Shelves.{shelf_row_as}
 use Rattle.plant_model.specs.declared.reply.Refused.{Refused}
 use Rattle.plant_model.specs.declared.reply.Refused.TheVariants.{ConditionAlreadyShelved as IsShelved, ConditionNotShelved as IsUnshelved, ShelvingTimeOutOfRange as IsOutOfRange}
-use Rattle.plant_model.specs.declared.rows.Change.{Change}
-use Rattle.plant_model.specs.declared.rows.Change.TheVariants.{Put, Remove}
+use Rattle.plant_model.specs.declared.rows.RowEdit.{RowEdit}
+use Rattle.plant_model.specs.declared.rows.RowEdit.TheVariants.{Put, Remove}
 use Rattle.plant_model.specs.declared.rows.Key.TheVariants.{Shelf as ShelfKey}
 use Rattle.plant_model.specs.declared.rows.Row.TheVariants.{Shelf as ShelfPut}
 use Rattle.plant_types.specs.Names.{Name}
@@ -19,7 +19,7 @@ refusal_of ConditionAlreadyShelved = IsShelved
 refusal_of ConditionNotShelved = IsUnshelved
 
 -- the row of an alarm's shelf is put, with the person and the words; no shelf has no row
-abbrev pub shelf_change : Name → Name → Name → Shelf → Change
+abbrev pub shelf_change : Name → Name → Name → Shelf → RowEdit
 shelf_change a p words Clear = Remove (ShelfKey a)
 shelf_change a p words (Timed start until) = Put (ShelfPut (shelf_row_as false start until p words a))
 shelf_change a p words (OneShot start until) = Put (ShelfPut (shelf_row_as true start until p words a))

@@ -4,7 +4,7 @@ ghost use Rattle.std.specs.Prelude.{◌≡◌, ◌++◌, ◌∷◌, [], IfErr, I
 ghost use Rattle.std.specs.List.Sorted.{IsPartitionPoint};
 ghost use Rattle.std.specs.Ordering.{is_lt};
 ghost use Rattle.plant_types.specs.Names.{name_cmp};
-ghost use Rattle.plant_types.specs.Tables.{IsInOrder};
+ghost use Rattle.plant_types.specs.KeyedRows.{IsInOrder};
 ghost use Rattle.plant_types.specs.declared.fault.Fault.TheVariants.{Memory};
 ghost use Rattle.plant_alarm.specs.States.{summary};
 ghost use Rattle.plant_alarm.specs.declared.event.Event.{Event as TheEvent};
@@ -12,7 +12,7 @@ ghost use Rattle.plant_import.specs.Merging.{IsRising};
 ghost use Rattle.plant_import.specs.Numbers.{with_events};
 ghost use Rattle.plant_model.specs.RowChanges.{state_put};
 ghost use Rattle.plant_model.specs.RowFacts.{alarm_tag};
-ghost use Rattle.plant_unit.specs.Summaries as told;
+ghost use Rattle.plant_unit.specs.Summaries as states;
 ghost use Rattle.plant_unit.specs.Summaries.{AreNamed, AreTold, is_named, summary_of};
 ghost use Rattle.plant_unit.specs.Additions.{AreAdded};
 ghost use Rattle.plant_import.specs.Needed.{needed};
@@ -20,13 +20,13 @@ ghost use Rattle.plant_import.specs.Needed.{needed};
 use plant_alarm::{Event, Summary};
 use plant_books::place_of;
 use plant_import::{events_after, has_late};
-use plant_model::{AlarmRow, Change, Row};
-use plant_types::{Duplicate, Fault, Table, Tag};
+use plant_model::{AlarmRow, Row, RowEdit};
+use plant_types::{Duplicate, Fault, List, Tag};
 use std::alloc::Global;
 use std::collections::BTreeSet;
 
 /// Brings the summary at a place forward by one more event of its alarm.
-fn add_at(summaries: &mut Table<Summary>, place: usize, event: &Event, latching: bool)
+fn add_at(summaries: &mut List<Summary>, place: usize, event: &Event, latching: bool)
     ensures length { length summaries.new ≡ length summaries.old }
     ensures value { (es : List TheEvent) → slice_get summaries.old place ≡ Some (summary latching es) → summaries.new ≡ slice_set summaries.old place (summary latching (es ++ event.now ∷ [])) }
 {
@@ -38,9 +38,9 @@ fn add_at(summaries: &mut Table<Summary>, place: usize, event: &Event, latching:
 }
 
 /// Brings the summaries of alarms, which stand in the order of their tags, forward by one more event.
-fn add_event(summaries: &mut Table<Summary>, alarms: &[AlarmRow], event: &Event)
+fn add_event(summaries: &mut List<Summary>, alarms: &[AlarmRow], event: &Event)
     ensures length { length summaries.new ≡ length summaries.old }
-    ensures value { IsInOrder name_cmp alarm_tag alarms.now → (es : List TheEvent) → summaries.old ≡ told.summaries alarms.now es → summaries.new ≡ told.summaries alarms.now (es ++ event.now ∷ []) }
+    ensures value { IsInOrder name_cmp alarm_tag alarms.now → (es : List TheEvent) → summaries.old ≡ states.summaries alarms.now es → summaries.new ≡ states.summaries alarms.now (es ++ event.now ∷ []) }
 {
     let place = place_of(alarms, &event.tag);
     if let Some(alarm) = alarms.get(place) {
@@ -51,11 +51,11 @@ fn add_event(summaries: &mut Table<Summary>, alarms: &[AlarmRow], event: &Event)
 }
 
 /// The summaries of alarms without events.
-fn no_summaries(alloc: Global, alarms: &[AlarmRow]) -> Result<Table<Summary>, Fault>
-    ensures value { IfOk result (λ s. s ≡ told.summaries alarms.now []) }
+fn no_summaries(alloc: Global, alarms: &[AlarmRow]) -> Result<List<Summary>, Fault>
+    ensures value { IfOk result (λ s. s ≡ states.summaries alarms.now []) }
     ensures err { IfErr result (λ e. e ≡ Memory) }
 {
-    let mut summaries = Table::new(alloc);
+    let mut summaries = List::new(alloc);
     for alarm in alarms {
         summaries.push(Summary::of(&[], alarm.latching))?;
     }
@@ -63,11 +63,11 @@ fn no_summaries(alloc: Global, alarms: &[AlarmRow]) -> Result<Table<Summary>, Fa
 }
 
 /// The summaries that the rows of alarms have in their columns.
-fn summaries_in(alloc: Global, alarms: &[AlarmRow]) -> Result<Table<Summary>, Fault>
-    ensures value { IfOk result (λ s. s ≡ map told.summary_in alarms.now) }
+fn summaries_in(alloc: Global, alarms: &[AlarmRow]) -> Result<List<Summary>, Fault>
+    ensures value { IfOk result (λ s. s ≡ map states.summary_in alarms.now) }
     ensures err { IfErr result (λ e. e ≡ Memory) }
 {
-    let mut summaries = Table::new(alloc);
+    let mut summaries = List::new(alloc);
     for alarm in alarms {
         summaries.push(Summary {
             state: alarm.state_no,
@@ -80,9 +80,9 @@ fn summaries_in(alloc: Global, alarms: &[AlarmRow]) -> Result<Table<Summary>, Fa
 }
 
 /// Brings the summaries of alarms, which stand in the order of their tags, forward by more events.
-fn add_events(summaries: &mut Table<Summary>, alarms: &[AlarmRow], events: &[Event])
+fn add_events(summaries: &mut List<Summary>, alarms: &[AlarmRow], events: &[Event])
     ensures length { length summaries.new ≡ length summaries.old }
-    ensures value { IsInOrder name_cmp alarm_tag alarms.now → (es : List TheEvent) → summaries.old ≡ told.summaries alarms.now es → summaries.new ≡ told.summaries alarms.now (es ++ events.now) }
+    ensures value { IsInOrder name_cmp alarm_tag alarms.now → (es : List TheEvent) → summaries.old ≡ states.summaries alarms.now es → summaries.new ≡ states.summaries alarms.now (es ++ events.now) }
 {
     for event in events {
         add_event(summaries, alarms, event);
@@ -95,9 +95,9 @@ fn told_anew(
     alarms: &[AlarmRow],
     kept: &[Event],
     fresh: &[Event],
-) -> Result<Table<Summary>, Fault>
+) -> Result<List<Summary>, Fault>
     ensures length { IfOk result (λ s. length s ≡ length alarms.now) }
-    ensures value { IsRising kept.now → IsInOrder name_cmp alarm_tag alarms.now → IfOk result (λ s. s ≡ told.summaries alarms.now (with_events kept.now fresh.now)) }
+    ensures value { IsRising kept.now → IsInOrder name_cmp alarm_tag alarms.now → IfOk result (λ s. s ≡ states.summaries alarms.now (with_events kept.now fresh.now)) }
     ensures err { IfErr result (λ e. e ≡ Memory) }
 {
     let mut summaries = no_summaries(alloc, alarms)?;
@@ -110,9 +110,9 @@ fn told_anew(
 }
 
 /// The summaries in the rows of alarms, brought forward by new events that come after all others of their alarms.
-fn told_on(alloc: Global, alarms: &[AlarmRow], fresh: &[Event]) -> Result<Table<Summary>, Fault>
+fn told_on(alloc: Global, alarms: &[AlarmRow], fresh: &[Event]) -> Result<List<Summary>, Fault>
     ensures length { IfOk result (λ s. length s ≡ length alarms.now) }
-    ensures value { IsInOrder name_cmp alarm_tag alarms.now → (es : List TheEvent) → AreTold alarms.now es → IfOk result (λ s. s ≡ told.summaries alarms.now (es ++ with_events [] fresh.now)) }
+    ensures value { IsInOrder name_cmp alarm_tag alarms.now → (es : List TheEvent) → AreTold alarms.now es → IfOk result (λ s. s ≡ states.summaries alarms.now (es ++ with_events [] fresh.now)) }
     ensures err { IfErr result (λ e. e ≡ Memory) }
 {
     let mut summaries = summaries_in(alloc, alarms)?;
@@ -126,7 +126,7 @@ fn told_on(alloc: Global, alarms: &[AlarmRow], fresh: &[Event]) -> Result<Table<
 
 /// The alarm's row with its state told anew.
 fn with_summary(alloc: Global, alarm: &AlarmRow, summary: &Summary) -> Result<AlarmRow, Fault>
-    ensures value { IfOk result (λ row. row ≡ told.with_summary alarm.now summary.now) }
+    ensures value { IfOk result (λ row. row ≡ states.with_summary alarm.now summary.now) }
     ensures err { IfErr result (λ e. e ≡ Memory) }
 {
     let mut row = alarm.duplicate(alloc)?;
@@ -155,26 +155,26 @@ fn alarm_change(
     named: &BTreeSet<Tag>,
     alarm: &AlarmRow,
     summary: &Summary,
-) -> Result<Option<Change>, Fault>
+) -> Result<Option<RowEdit>, Fault>
     ensures value { (es fresh : List TheEvent) → AreNamed named.now fresh → summary.now ≡ summary_of es alarm.now → IfOk result (λ change. option_to_list change ≡ (if is_named fresh alarm.now then state_put es alarm.now ∷ [] else [])) }
     ensures err { IfErr result (λ e. e ≡ Memory) }
 {
     if !named.contains(&alarm.tag) {
         return Ok(None);
     }
-    Ok(Some(Change::Put(Row::Alarm(with_summary(alloc, alarm, summary)?))))
+    Ok(Some(RowEdit::Put(Row::Alarm(with_summary(alloc, alarm, summary)?))))
 }
 
 /// Adds the changes of the alarms that are named.
 fn push_named(
     alloc: Global,
-    changes: &mut Table<Change>,
+    changes: &mut List<RowEdit>,
     alarms: &[AlarmRow],
     summaries: &[Summary],
     named: &BTreeSet<Tag>,
 ) -> Result<(), Fault>
     requires { length summaries.now ≡ length alarms.now }
-    ensures value { (es fresh : List TheEvent) → AreNamed named.now fresh → summaries.now ≡ told.summaries alarms.now es → OnOk result (changes.new ≡ changes.old ++ map (state_put es) (filter (is_named fresh) alarms.now)) }
+    ensures value { (es fresh : List TheEvent) → AreNamed named.now fresh → summaries.now ≡ states.summaries alarms.now es → OnOk result (changes.new ≡ changes.old ++ map (state_put es) (filter (is_named fresh) alarms.now)) }
     ensures err { IfErr result (λ e. e ≡ Memory) }
 {
     for (i, alarm) in alarms.iter().enumerate() {
@@ -192,9 +192,9 @@ fn summaries_after(
     kept: &[Event],
     rows: &[Event],
     fresh: &[Event],
-) -> Result<Table<Summary>, Fault>
+) -> Result<List<Summary>, Fault>
     ensures length { IfOk result (λ s. length s ≡ length alarms.now) }
-    ensures value { IsInOrder name_cmp alarm_tag alarms.now → (es : List TheEvent) → kept.now ≡ needed es rows.now → AreAdded es rows.now fresh.now → AreTold alarms.now es → IfOk result (λ s. s ≡ told.summaries alarms.now (with_events es fresh.now)) }
+    ensures value { IsInOrder name_cmp alarm_tag alarms.now → (es : List TheEvent) → kept.now ≡ needed es rows.now → AreAdded es rows.now fresh.now → AreTold alarms.now es → IfOk result (λ s. s ≡ states.summaries alarms.now (with_events es fresh.now)) }
     ensures err { IfErr result (λ e. e ≡ Memory) }
 {
     if has_late(alloc, kept, rows)? {
@@ -207,7 +207,7 @@ fn summaries_after(
 /// Adds the changes of the alarms that a file's new rows name. `kept` are the events that the file needs.
 pub fn push_alarms(
     alloc: Global,
-    changes: &mut Table<Change>,
+    changes: &mut List<RowEdit>,
     alarms: &[AlarmRow],
     kept: &[Event],
     rows: &[Event],

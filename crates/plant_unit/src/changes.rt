@@ -7,8 +7,8 @@ ghost use Rattle.plant_model.specs.RowChanges.{changes_for};
 ghost use Rattle.plant_model.specs.Verdicts.{is_opening, is_read};
 
 use crate::matrices::push_matrix;
-use plant_model::{Call, Change, Effect, GrantRow, Request, Row, UnitRow};
-use plant_types::{Fault, Role, Table};
+use plant_model::{Call, Effect, GrantRow, Request, Row, RowEdit, UnitRow};
+use plant_types::{Fault, List, Role};
 use std::alloc::Global;
 
 /// Whether the request only asks.
@@ -19,12 +19,12 @@ pub fn is_read(request: &Request) -> bool
 }
 
 /// The changes of an opening.
-pub fn opening_changes(alloc: Global, call: &Call) -> Result<Table<Change>, Fault>
+pub fn opening_changes(alloc: Global, call: &Call) -> Result<List<RowEdit>, Fault>
     requires { is_opening call.now.request ≡ true }
     ensures value { IfOk result (λ cs. cs ≡ changes_for (facts []) call.now) }
     ensures err { IfErr result (λ e. e ≡ Memory) }
 {
-    let mut changes = Table::new(alloc);
+    let mut changes = List::new(alloc);
     if let Request::OpenUnit {
         steward,
         matrix,
@@ -32,13 +32,13 @@ pub fn opening_changes(alloc: Global, call: &Call) -> Result<Table<Change>, Faul
         ..
     } = &call.request
     {
-        changes.push(Change::Put(Row::Unit(UnitRow {
+        changes.push(RowEdit::Put(Row::Unit(UnitRow {
             last_s: call.moment,
             matrix_no: 0,
             matrix_rev: 0,
             quota: *quota,
         })))?;
-        changes.push(Change::Put(Row::Grant(GrantRow {
+        changes.push(RowEdit::Put(Row::Grant(GrantRow {
             person: steward.copy(alloc)?,
             role_no: Role::Steward,
             end_s: None,

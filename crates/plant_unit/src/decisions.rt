@@ -12,7 +12,7 @@ ghost use Rattle.plant_model.specs.RowFacts.{facts_in, record_read, unit_read};
 ghost use Rattle.plant_model.specs.Rows as rows;
 ghost use Rattle.plant_model.specs.Rows.{change_entry};
 ghost use Rattle.plant_model.specs.declared.call.Request.TheVariants.{Approve, Propose, Reject, WithdrawChange};
-ghost use Rattle.plant_model.specs.declared.rows.Change.TheVariants.{Put};
+ghost use Rattle.plant_model.specs.declared.rows.RowEdit.TheVariants.{Put};
 ghost use Rattle.plant_model.specs.declared.rows.Row.TheVariants.{Change as ChangePut, Record as RecordPut};
 ghost use Rattle.plant_unit.specs.Additions.{AreKept};
 ghost use Rattle.plant_unit.specs.Judged.{IsApproved, IsJudgedOwn, decided_row, decision, one_change};
@@ -27,11 +27,11 @@ use crate::reading::{change_from, entry_of, source_of};
 use crate::verdicts::moved;
 use plant_books::alarm_of;
 use plant_model::{
-    AlarmRow, Call, Change, ChangeEntry, ChangeRow, ChangeTopic, RecordEntry, Refused, Reply, Row,
+    AlarmRow, Call, ChangeEntry, ChangeRow, ChangeTopic, RecordEntry, Refused, Reply, Row, RowEdit,
     UnitPart, UnitRow, Verdict,
 };
 use plant_ration::{Cell, ChangeKind, ChangeState, Matrix, Proposal, Sheet};
-use plant_types::{Duplicate, Fault, Moment, Seconds, Table, Tag};
+use plant_types::{Duplicate, Fault, List, Moment, Seconds, Tag};
 use std::alloc::Global;
 
 fn topic(kind: &ChangeKind) -> ChangeTopic
@@ -105,7 +105,7 @@ fn next_number(part: &UnitPart) -> u32
 /// Adds the changes of a proposal: its row, and those of its matrix where it is of one.
 fn push_proposal(
     alloc: Global,
-    changes: &mut Table<Change>,
+    changes: &mut List<RowEdit>,
     part: &UnitPart,
     call: &Call,
     proposal: &Proposal,
@@ -124,7 +124,7 @@ fn push_proposal(
         decider: None,
         decided: None,
     };
-    changes.push(Change::Put(Row::Change(entry_from(alloc, &change)?)))?;
+    changes.push(RowEdit::Put(Row::Change(entry_from(alloc, &change)?)))?;
     match &proposal.kind {
         ChangeKind::Matrix(matrix) => push_matrix(changes, number, matrix),
         _ => Ok(()),
@@ -137,7 +137,7 @@ fn decided(
     entry: &ChangeEntry,
     state: ChangeState,
     call: &Call,
-) -> Result<Change, Fault>
+) -> Result<RowEdit, Fault>
     ensures value { IfOk result (λ put. put ≡ Put (ChangePut (decided_row state call.now.person call.now.moment entry.now))) }
     ensures err { IfErr result (λ e. e ≡ Memory) }
 {
@@ -145,7 +145,7 @@ fn decided(
     row.state_no = state;
     row.decider = Some(call.person.copy(alloc)?);
     row.decided_s = Some(call.moment);
-    Ok(Change::Put(Row::Change(row)))
+    Ok(RowEdit::Put(Row::Change(row)))
 }
 
 /// Takes a change back.
@@ -154,7 +154,7 @@ pub fn withdraw_change(
     part: &UnitPart,
     call: &Call,
     number: u32,
-) -> Result<Result<Change, Refused>, Fault>
+) -> Result<Result<RowEdit, Refused>, Fault>
     ensures value { AreKept part.now → (u : Name) → IfOk result (λ d. one_change d ≡ decision (facts_in part.now) call.now.person call.now.moment (WithdrawChange u number)) }
     ensures err { IfErr result (λ e. e ≡ Memory) }
 {
@@ -173,7 +173,7 @@ pub fn reject(
     part: &UnitPart,
     call: &Call,
     number: u32,
-) -> Result<Result<Change, Refused>, Fault>
+) -> Result<Result<RowEdit, Refused>, Fault>
     ensures value { AreKept part.now → (u : Name) → IfOk result (λ d. one_change d ≡ decision (facts_in part.now) call.now.person call.now.moment (Reject u number)) }
     ensures err { IfErr result (λ e. e ≡ Memory) }
 {
@@ -197,7 +197,7 @@ fn rated(matrix: &Matrix, severity: u8, response: Seconds) -> Cell
 /// its sheet.
 fn push_record(
     alloc: Global,
-    changes: &mut Table<Change>,
+    changes: &mut List<RowEdit>,
     unit: &UnitRow,
     part: &UnitPart,
     change: &ChangeRow,
@@ -216,7 +216,7 @@ fn push_record(
         Err(refused) => return Ok(Some(refused)),
         Ok(cell) => cell,
     };
-    changes.push(Change::Put(Row::Record(RecordEntry {
+    changes.push(RowEdit::Put(Row::Record(RecordEntry {
         tag: tag.copy(alloc)?,
         change_no: change.number,
         rev: change.base.saturating_add(1),
@@ -252,7 +252,7 @@ fn rerated(
 /// Adds the changes of all records, with their priorities by a matrix that comes into force.
 fn push_rerated(
     alloc: Global,
-    changes: &mut Table<Change>,
+    changes: &mut List<RowEdit>,
     part: &UnitPart,
     matrix: &Matrix,
 ) -> Result<(), Fault>
@@ -262,7 +262,7 @@ fn push_rerated(
     for row in part.rows.records.as_slice() {
         let found = rerated(alloc, part, matrix, row)?;
         if let Some(entry) = found {
-            changes.push(Change::Put(Row::Record(entry)))?;
+            changes.push(RowEdit::Put(Row::Record(entry)))?;
         }
     }
     Ok(())
@@ -272,7 +272,7 @@ fn push_rerated(
 /// gives the first refusal of its base and its rows.
 fn push_matrix_in_force(
     alloc: Global,
-    changes: &mut Table<Change>,
+    changes: &mut List<RowEdit>,
     unit: &UnitRow,
     part: &UnitPart,
     change: &ChangeRow,
@@ -307,7 +307,7 @@ fn limited(alloc: Global, alarm: &AlarmRow, max: Seconds) -> Result<AlarmRow, Fa
 /// Adds the change of an alarm whose limit comes into force, or gives the refusal of its base.
 fn push_limit(
     alloc: Global,
-    changes: &mut Table<Change>,
+    changes: &mut List<RowEdit>,
     part: &UnitPart,
     change: &ChangeRow,
     tag: &Tag,
@@ -325,7 +325,7 @@ fn push_limit(
         return Ok(Some(refused));
     }
     if let Some(alarm) = alarm {
-        changes.push(Change::Put(Row::Alarm(limited(alloc, alarm, max)?)))?;
+        changes.push(RowEdit::Put(Row::Alarm(limited(alloc, alarm, max)?)))?;
     }
     Ok(None)
 }
@@ -334,7 +334,7 @@ fn push_limit(
 /// base and its content.
 fn push_in_force(
     alloc: Global,
-    changes: &mut Table<Change>,
+    changes: &mut List<RowEdit>,
     unit: &UnitRow,
     part: &UnitPart,
     change: &ChangeRow,
@@ -389,8 +389,8 @@ fn bring_into_force(
     ensures value { AreKept part.now → IfOk result (IsApproved (facts_in part.now) call.now.person call.now.moment change.now entry.now) }
     ensures err { IfErr result (λ e. e ≡ Memory) }
 {
-    let mut changes = Table::new(alloc);
-    changes.push(Change::Put(Row::Unit(approved_row(unit, call.moment, change))))?;
+    let mut changes = List::new(alloc);
+    changes.push(RowEdit::Put(Row::Unit(approved_row(unit, call.moment, change))))?;
     changes.push(decided(alloc, entry, ChangeState::Approved, call)?)?;
     match push_in_force(alloc, &mut changes, unit, part, change)? {
         Some(refused) => Ok(Verdict::Refused(refused)),

@@ -3,7 +3,7 @@
 ghost use Rattle.std.specs.Prelude.{◌≡◌, ℕ, Some, ◌&&◌, not, count_by, option_copied, option_map, option_and_then, unwrap_or, false};
 ghost use Rattle.std.specs.List.{list_any};
 ghost use Rattle.plant_types.specs.Names.{name_cmp, same_name};
-ghost use Rattle.plant_types.specs.Tables.{row_at};
+ghost use Rattle.plant_types.specs.KeyedRows.{row_at};
 ghost use Rattle.plant_types.specs.Roles.{same_pair};
 ghost use Rattle.plant_alarm.specs.Shelves.{is_unshelved, shelf_state};
 ghost use Rattle.plant_model.specs.Shelves as shelves;

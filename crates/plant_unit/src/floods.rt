@@ -3,20 +3,21 @@
 ghost use Rattle.std.specs.Prelude.{◌≡◌, ◌≤◌, ◌+◌, ◌*◌, All, IfErr, IfOk, IsTrue, length, map, ℕ};
 ghost use Rattle.plant_types.specs.Moment.{is_moment};
 ghost use Rattle.plant_types.specs.declared.fault.Fault.TheVariants.{Memory};
-ghost use Rattle.plant_model.specs.Events as told;
+ghost use Rattle.plant_model.specs.Events as flood;
 
 use plant_alarm::Event;
 use plant_floods::{Run, floods, period_counts};
 use plant_model::FloodLine;
-use plant_types::{Fault, Moment, Table};
+use plant_types::limits::MAX_FLOOD_SECONDS;
+use plant_types::{Fault, List, Moment};
 use std::alloc::Global;
 
 /// Whether a range is of whole periods of ten minutes, from 1 to 1,008 of them: a week.
 pub fn is_aligned(begin: Moment, until: Moment) -> bool
-    ensures { result ≡ told.is_aligned begin until }
+    ensures { result ≡ flood.is_aligned begin until }
 {
     let (start, end) = (begin.seconds(), until.seconds());
-    start % 600 == 0 && end % 600 == 0 && start < end && end - start <= 604_800
+    start % 600 == 0 && end % 600 == 0 && start < end && end - start <= MAX_FLOOD_SECONDS
 }
 
 /// The moment so many periods of ten minutes later; the same moment where there is none.
@@ -28,7 +29,7 @@ fn later(begin: Moment, periods: usize) -> Moment
 }
 
 fn flood_line(begin: Moment, run: &Run) -> FloodLine
-    ensures { IsTrue (is_moment (begin + 600 * run.now.first)) → IsTrue (is_moment (begin + 600 * run.now.last + 600)) → result ≡ told.flood_line begin run.now }
+    ensures { IsTrue (is_moment (begin + 600 * run.now.first)) → IsTrue (is_moment (begin + 600 * run.now.last + 600)) → result ≡ flood.flood_line begin run.now }
 {
     FloodLine {
         start: later(begin, run.first),
@@ -39,11 +40,11 @@ fn flood_line(begin: Moment, run: &Run) -> FloodLine
 }
 
 /// The lines of runs, of which each ends before a moment.
-fn lines_of(alloc: Global, begin: Moment, runs: &[Run]) -> Result<Table<FloodLine>, Fault>
-    ensures value { (until : ℕ) → IsTrue (is_moment until) → All (λ r. (r.first ≤ r.last) × (begin + 600 * r.last + 600 ≤ until)) runs.now → IfOk result (λ lines. lines ≡ map (told.flood_line begin) runs.now) }
+fn lines_of(alloc: Global, begin: Moment, runs: &[Run]) -> Result<List<FloodLine>, Fault>
+    ensures value { (until : ℕ) → IsTrue (is_moment until) → All (λ r. (r.first ≤ r.last) × (begin + 600 * r.last + 600 ≤ until)) runs.now → IfOk result (λ lines. lines ≡ map (flood.flood_line begin) runs.now) }
     ensures err { IfErr result (λ e. e ≡ Memory) }
 {
-    let mut lines = Table::new(alloc);
+    let mut lines = List::new(alloc);
     for run in runs {
         lines.push(flood_line(begin, run))?;
     }
@@ -56,8 +57,8 @@ pub fn flood_lines(
     events: &[Event],
     begin: Moment,
     until: Moment,
-) -> Result<Table<FloodLine>, Fault>
-    ensures value { length events.now ≤ 4294967295 → IfOk result (λ lines. lines ≡ told.flood_lines events.now begin until) }
+) -> Result<List<FloodLine>, Fault>
+    ensures value { length events.now ≤ 4294967295 → IfOk result (λ lines. lines ≡ flood.flood_lines events.now begin until) }
     ensures err { IfErr result (λ e. e ≡ Memory) }
 {
     let counts = period_counts(alloc, events, begin, until)?;

@@ -9,7 +9,8 @@ ghost use Rattle.plant_unit.specs.Judged.{decision, one_change};
 
 use crate::facts::{is_held, stands, stewards};
 use plant_books::is_before;
-use plant_model::{Change, Full, GrantRow, Key, Refused, Row, UnitPart};
+use plant_model::{Full, GrantRow, Key, Refused, Row, RowEdit, UnitPart};
+use plant_types::limits::MAX_GRANTS;
 use plant_types::{Fault, Moment, Person, Role, Tenure};
 use std::alloc::Global;
 
@@ -20,11 +21,11 @@ pub fn grant(
     now: Moment,
     person: &Person,
     tenure: Tenure,
-) -> Result<Result<Change, Refused>, Fault>
+) -> Result<Result<RowEdit, Refused>, Fault>
     ensures value { (p u : Name) → IfOk result (λ d. one_change d ≡ decision (facts_in part.now) p now (Grant u person.now tenure)) }
     ensures err { IfErr result (λ e. e ≡ Memory) }
 {
-    if part.rows.grants.as_slice().len() >= 500 {
+    if part.rows.grants.as_slice().len() >= MAX_GRANTS {
         return Ok(Err(Refused::UnitFull(Full::Grants)));
     }
     if is_held(part, person, tenure.role(), now) {
@@ -33,7 +34,7 @@ pub fn grant(
     if !is_before(now, tenure.until()) {
         return Ok(Err(Refused::EndNotAhead));
     }
-    Ok(Ok(Change::Put(Row::Grant(GrantRow {
+    Ok(Ok(RowEdit::Put(Row::Grant(GrantRow {
         person: person.copy(alloc)?,
         role_no: tenure.role(),
         end_s: tenure.until(),
@@ -46,7 +47,7 @@ pub fn withdraw(
     part: &UnitPart,
     person: &Person,
     role: Role,
-) -> Result<Result<Change, Refused>, Fault>
+) -> Result<Result<RowEdit, Refused>, Fault>
     ensures value { (t : ℕ) (p u : Name) → IfOk result (λ d. one_change d ≡ decision (facts_in part.now) p t (Withdraw u person.now role)) }
     ensures err { IfErr result (λ e. e ≡ Memory) }
 {
@@ -57,5 +58,5 @@ pub fn withdraw(
     if role.is(Role::Steward) && stewards(grants) <= 1 {
         return Ok(Err(Refused::LastSteward));
     }
-    Ok(Ok(Change::Remove(Key::Grant(person.copy(alloc)?, role))))
+    Ok(Ok(RowEdit::Remove(Key::Grant(person.copy(alloc)?, role))))
 }

@@ -9,25 +9,26 @@ ghost use Rattle.plant_model.specs.RowChanges.{unit_after};
 ghost use Rattle.plant_model.specs.RowFacts.{alarm_tag, facts_among, unit_read};
 ghost use Rattle.plant_model.specs.declared.call.Request.TheVariants.{Import};
 ghost use Rattle.plant_model.specs.declared.reply.Reply.TheVariants.{Imported};
-ghost use Rattle.plant_model.specs.declared.rows.Change.TheVariants.{Put};
+ghost use Rattle.plant_model.specs.declared.rows.RowEdit.TheVariants.{Put};
 ghost use Rattle.plant_model.specs.declared.rows.Row.TheVariants.{Event as EventPut, Unit as UnitPut};
 ghost use Rattle.plant_types.specs.Names.{name_cmp};
-ghost use Rattle.plant_types.specs.Tables.{IsInOrder};
+ghost use Rattle.plant_types.specs.KeyedRows.{IsInOrder};
 ghost use Rattle.plant_unit.specs.Additions.{AreAdded, AreEventsFor, AreEventsOf, AreKept, addition};
 ghost use Rattle.plant_unit.specs.Judged.{IsJudgedOwn};
 
 use crate::alarms::push_alarms;
 use plant_alarm::Event;
 use plant_import::{FileRead, Merged, count_new, merge};
-use plant_model::{AlarmRow, Call, Change, Full, Refused, Reply, Row, UnitPart, UnitRow, Verdict};
-use plant_types::{Fault, Moment, Table, Tag};
+use plant_model::{AlarmRow, Call, Full, Refused, Reply, Row, RowEdit, UnitPart, UnitRow, Verdict};
+use plant_types::limits::MAX_EVENTS;
+use plant_types::{Fault, List, Moment, Tag};
 use std::alloc::Global;
 
-fn tags_of(alloc: Global, alarms: &[AlarmRow]) -> Result<Table<Tag>, Fault>
+fn tags_of(alloc: Global, alarms: &[AlarmRow]) -> Result<List<Tag>, Fault>
     ensures value { IfOk result (λ tags. tags ≡ map alarm_tag alarms.now) }
     ensures err { IfErr result (λ e. e ≡ Memory) }
 {
-    let mut tags = Table::new(alloc);
+    let mut tags = List::new(alloc);
     for alarm in alarms {
         tags.push(alarm.tag.copy(alloc)?)?;
     }
@@ -36,9 +37,9 @@ fn tags_of(alloc: Global, alarms: &[AlarmRow]) -> Result<Table<Tag>, Fault>
 
 /// Whether so many events are too many for a unit.
 fn is_full(kept: u64, new: usize) -> bool
-    ensures { result ≡ nat_lt 100000 (kept + new) }
+    ensures { result ≡ nat_lt MAX_EVENTS (kept + new) }
 {
-    kept > 100_000 || new as u64 > 100_000 - kept
+    kept > MAX_EVENTS || new as u64 > MAX_EVENTS - kept
 }
 
 /// The new rows of a file and the number of its repeated ones. Refused, in this order: a file whose new numbers are too
@@ -73,12 +74,12 @@ fn imported(merged: &Merged) -> Reply
     }
 }
 
-fn push_events(alloc: Global, changes: &mut Table<Change>, events: &[Event]) -> Result<(), Fault>
+fn push_events(alloc: Global, changes: &mut List<RowEdit>, events: &[Event]) -> Result<(), Fault>
     ensures value { OnOk result (changes.new ≡ changes.old ++ map (λ e. Put (EventPut e)) events.now) }
     ensures err { IfErr result (λ e. e ≡ Memory) }
 {
     for event in events {
-        changes.push(Change::Put(Row::Event(event.copy(alloc)?)))?;
+        changes.push(RowEdit::Put(Row::Event(event.copy(alloc)?)))?;
     }
     Ok(())
 }
@@ -91,15 +92,15 @@ fn import_changes(
     now: Moment,
     rows: &[Event],
     added: &[Event],
-) -> Result<Table<Change>, Fault>
+) -> Result<List<RowEdit>, Fault>
     requires { unit_read part.now.rows ≡ unit.now }
     ensures value { IsInOrder name_cmp alarm_tag part.now.rows.alarms → (u : Name) (es : List TheEvent) → AreEventsOf part.now rows.now es → AreAdded es rows.now added.now → IfOk result (λ cs. cs ≡ Put (UnitPut (unit_after (facts_among part.now es) now (Import u (Ok rows.now)))) ∷ changes.import_changes (facts_among part.now es) rows.now) }
     ensures err { IfErr result (λ e. e ≡ Memory) }
 {
-    let mut changes = Table::new(alloc);
+    let mut changes = List::new(alloc);
     let mut row = *unit;
     row.last_s = now;
-    changes.push(Change::Put(Row::Unit(row)))?;
+    changes.push(RowEdit::Put(Row::Unit(row)))?;
     push_events(alloc, &mut changes, added)?;
     let kept = part.rows.events.as_slice();
     let alarms = part.rows.alarms.as_slice();

@@ -22,9 +22,9 @@ pub use changes::is_read;
 pub use judgement::{judge, judge_open};
 pub use plant_books::{Books, MineShelf, MineUnit};
 pub use plant_model::{
-    AlarmLine, AlarmRow, Answer, BandRow, Call, CellRow, Change, ChangeEntry, ChangeRow,
-    ChangeTopic, FloodLine, Full, GrantRow, Key, MineLine, RecordEntry, RecordRow, Refused, Reply,
-    Request, Row, ShelfLine, ShelfRow, StandingLine, StatusRow, UnitLine, UnitPart, UnitRow,
-    UnitRows, Verdict, laws,
+    AlarmLine, AlarmRow, Answer, BandRow, Call, CellRow, ChangeEntry, ChangeRow, ChangeTopic,
+    FloodLine, Full, GrantRow, Key, MineLine, RecordEntry, RecordRow, Refused, Reply, Request, Row,
+    RowEdit, ShelfLine, ShelfRow, StandingLine, StatusRow, UnitLine, UnitPart, UnitRow, UnitRows,
+    Verdict, laws,
 };
 pub use replies::shelf_line;

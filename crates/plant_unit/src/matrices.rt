@@ -6,14 +6,14 @@ ghost use Rattle.plant_types.specs.declared.fault.Fault.TheVariants.{Memory};
 ghost use Rattle.plant_model.specs.Histories.{same_number};
 ghost use Rattle.plant_model.specs.RowChanges.{matrix_changes};
 ghost use Rattle.plant_model.specs.RowFacts.{cells_at, has_cells};
-ghost use Rattle.plant_model.specs.declared.rows.Change.TheVariants.{Put};
+ghost use Rattle.plant_model.specs.declared.rows.RowEdit.TheVariants.{Put};
 ghost use Rattle.plant_model.specs.declared.rows.Row.TheVariants.{Band as BandPut, Cell as CellPut};
 ghost use Rattle.plant_unit.specs.MatrixRows.{band_row_of, row_of_cells};
 ghost use Rattle.plant_unit.specs.Readings.{matrix_found};
 
-use plant_model::{BandRow, CellRow, Change, Row, UnitRows};
+use plant_model::{BandRow, CellRow, Row, RowEdit, UnitRows};
 use plant_ration::{Cell, Matrix};
-use plant_types::{Fault, Table};
+use plant_types::{Fault, List};
 use std::alloc::Global;
 
 /// The limits of the matrix of a number.
@@ -69,13 +69,13 @@ pub fn matrix_of(alloc: Global, rows: &UnitRows, number: u32) -> Result<Option<M
     Ok(Matrix::new(alloc, &limits, &cells)?.ok())
 }
 
-fn push_bands(changes: &mut Table<Change>, number: u32, limits: &[u64]) -> Result<(), Fault>
+fn push_bands(changes: &mut List<RowEdit>, number: u32, limits: &[u64]) -> Result<(), Fault>
     requires { length limits.now ≤ 4 }
     ensures value { OnOk result (changes.new ≡ changes.old ++ map (λ r. Put (BandPut r)) (map (band_row_of number) (enumerate_from 1 limits.now))) }
     ensures err { IfErr result (λ e. e ≡ Memory) }
 {
     for (i, limit) in limits.iter().enumerate() {
-        changes.push(Change::Put(Row::Band(BandRow {
+        changes.push(RowEdit::Put(Row::Band(BandRow {
             matrix_no: number,
             band_no: i as u8 + 1,
             limit_s: *limit,
@@ -85,7 +85,7 @@ fn push_bands(changes: &mut Table<Change>, number: u32, limits: &[u64]) -> Resul
 }
 
 fn push_row(
-    changes: &mut Table<Change>,
+    changes: &mut List<RowEdit>,
     number: u32,
     severity: u8,
     row: &[Cell],
@@ -95,7 +95,7 @@ fn push_row(
     ensures err { IfErr result (λ e. e ≡ Memory) }
 {
     for (i, cell) in row.iter().enumerate() {
-        changes.push(Change::Put(Row::Cell(CellRow {
+        changes.push(RowEdit::Put(Row::Cell(CellRow {
             matrix_no: number,
             severity,
             band_no: i as u8 + 1,
@@ -105,7 +105,7 @@ fn push_row(
     Ok(())
 }
 
-fn push_cells(changes: &mut Table<Change>, number: u32, cells: &[Vec<Cell>]) -> Result<(), Fault>
+fn push_cells(changes: &mut List<RowEdit>, number: u32, cells: &[Vec<Cell>]) -> Result<(), Fault>
     requires rows { length cells.now ≤ 5 }
     requires wide { All (λ row. length row.items ≤ 5) cells.now }
     ensures value { OnOk result (changes.new ≡ changes.old ++ map (λ r. Put (CellPut r)) (flat_map (row_of_cells number) (enumerate_from 1 (map (λ row. row.items) cells.now)))) }
@@ -118,7 +118,7 @@ fn push_cells(changes: &mut Table<Change>, number: u32, cells: &[Vec<Cell>]) -> 
 }
 
 /// Adds the changes that put the rows of a matrix.
-pub fn push_matrix(changes: &mut Table<Change>, number: u32, matrix: &Matrix) -> Result<(), Fault>
+pub fn push_matrix(changes: &mut List<RowEdit>, number: u32, matrix: &Matrix) -> Result<(), Fault>
     ensures value { OnOk result (changes.new ≡ changes.old ++ matrix_changes number matrix.now) }
     ensures err { IfErr result (λ e. e ≡ Memory) }
 {

@@ -21,6 +21,7 @@ use crate::reading::{revision_of, source_of};
 use plant_books::alarm_of;
 use plant_model::{AlarmRow, ChangeEntry, Full, RecordEntry, Refused, UnitPart, UnitRow};
 use plant_ration::{Cell, ChangeKind, ChangeState, Matrix, Proposal, Sheet};
+use plant_types::limits::MAX_CHANGES;
 use plant_types::{Fault, Person, Seconds, Tag};
 use std::alloc::Global;
 
@@ -184,7 +185,7 @@ pub fn proposal_refusal(
     ensures value { AreKept part.now → (t : ℕ) (p u : Name) → IfOk result (λ r. r ≡ first_refusal (own_refusals (facts_in part.now) p t (Propose u proposal.now))) }
     ensures err { IfErr result (λ e. e ≡ Memory) }
 {
-    if part.count >= 20_000 {
+    if part.count >= MAX_CHANGES {
         return Ok(Some(Refused::UnitFull(Full::Changes)));
     }
     if let Some(refused) = unknown_refusal(part, &proposal.kind) {

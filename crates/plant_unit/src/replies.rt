@@ -21,7 +21,7 @@ use plant_books::{alarm_of, row_of};
 use plant_model::{
     AlarmLine, AlarmRow, Refused, Reply, ShelfLine, ShelfRow, StandingLine, StatusRow, UnitPart,
 };
-use plant_types::{Fault, Moment, Table, Tag, UnitCode};
+use plant_types::{Fault, List, Moment, Tag, UnitCode};
 use std::alloc::Global;
 
 /// The status of an alarm.
@@ -99,12 +99,12 @@ fn line(
     shelf_line(alloc, row, returned_at(part, &row.tag), now)
 }
 
-fn lines(alloc: Global, part: &UnitPart, now: Moment) -> Result<Table<ShelfLine>, Fault>
+fn lines(alloc: Global, part: &UnitPart, now: Moment) -> Result<List<ShelfLine>, Fault>
     ensures value { AreKept part.now → IfOk result (λ lines. lines ≡ shelf_lines (facts_in part.now) now) }
     ensures err { IfErr result (λ e. e ≡ Memory) }
 {
     let shelves = part.rows.shelves.as_slice();
-    let mut lines = Table::new(alloc);
+    let mut lines = List::new(alloc);
     for row in shelves {
         if let Some(found) = line(alloc, part, row, now)? {
             lines.push(found)?;
@@ -182,24 +182,24 @@ fn standing_line(
     }))
 }
 
-fn alarm_lines(alloc: Global, part: &UnitPart, now: Moment) -> Result<Table<AlarmLine>, Fault>
+fn alarm_lines(alloc: Global, part: &UnitPart, now: Moment) -> Result<List<AlarmLine>, Fault>
     ensures value { AreKept part.now → IfOk result (λ lines. lines ≡ replies.alarm_lines (facts_in part.now) now) }
     ensures err { IfErr result (λ e. e ≡ Memory) }
 {
     let alarms = part.rows.alarms.as_slice();
-    let mut lines = Table::new(alloc);
+    let mut lines = List::new(alloc);
     for alarm in alarms {
         lines.push(alarm_line(alloc, part, alarm, now)?)?;
     }
     Ok(lines)
 }
 
-fn standing_lines(alloc: Global, part: &UnitPart, now: Moment) -> Result<Table<StandingLine>, Fault>
+fn standing_lines(alloc: Global, part: &UnitPart, now: Moment) -> Result<List<StandingLine>, Fault>
     ensures value { AreKept part.now → IfOk result (λ lines. lines ≡ replies.standing_lines (facts_in part.now) now) }
     ensures err { IfErr result (λ e. e ≡ Memory) }
 {
     let alarms = part.rows.alarms.as_slice();
-    let mut lines = Table::new(alloc);
+    let mut lines = List::new(alloc);
     for alarm in alarms {
         if let Some(found) = standing_line(alloc, part, alarm, now)? {
             lines.push(found)?;

@@ -11,7 +11,8 @@ ghost use Rattle.plant_unit.specs.Judged.{decision, one_change};
 
 use plant_alarm::AlarmState;
 use plant_books::alarm_of;
-use plant_model::{AlarmRow, Call, Change, Full, Refused, Row, UnitPart};
+use plant_model::{AlarmRow, Call, Full, Refused, Row, RowEdit, UnitPart};
+use plant_types::limits::MAX_ALARMS;
 use plant_types::{Duplicate, Fault, Seconds, Tag, Words};
 use std::alloc::Global;
 
@@ -65,18 +66,18 @@ pub fn register(
     tag: &Tag,
     latching: bool,
     max: Seconds,
-) -> Result<Result<Change, Refused>, Fault>
+) -> Result<Result<RowEdit, Refused>, Fault>
     ensures value { (t : ℕ) (p u : Name) → IfOk result (λ d. one_change d ≡ decision (facts_in part.now) p t (Register u tag.now latching max)) }
     ensures err { IfErr result (λ e. e ≡ Memory) }
 {
-    if part.count >= 2000 {
+    if part.count >= MAX_ALARMS {
         return Ok(Err(Refused::UnitFull(Full::Alarms)));
     }
     if alarm_of(part.rows.alarms.as_slice(), tag).is_some() {
         return Ok(Err(Refused::AlarmTaken));
     }
     let alarm = new_alarm(alloc, tag, latching, max)?;
-    Ok(Ok(Change::Put(Row::Alarm(alarm))))
+    Ok(Ok(RowEdit::Put(Row::Alarm(alarm))))
 }
 
 /// Takes an alarm out of service.
@@ -86,7 +87,7 @@ pub fn remove_from_service(
     call: &Call,
     tag: &Tag,
     words: &Words,
-) -> Result<Result<Change, Refused>, Fault>
+) -> Result<Result<RowEdit, Refused>, Fault>
     ensures value { (u : Name) → IfOk result (λ d. one_change d ≡ decision (facts_in part.now) call.now.person call.now.moment (RemoveFromService u tag.now words.now)) }
     ensures err { IfErr result (λ e. e ≡ Memory) }
 {
@@ -97,7 +98,7 @@ pub fn remove_from_service(
         return Ok(Err(Refused::AlreadyOutOfService));
     }
     let row = removed(alloc, alarm, call, words)?;
-    Ok(Ok(Change::Put(Row::Alarm(row))))
+    Ok(Ok(RowEdit::Put(Row::Alarm(row))))
 }
 
 /// Places an alarm in service again.
@@ -105,7 +106,7 @@ pub fn place_in_service(
     alloc: Global,
     part: &UnitPart,
     tag: &Tag,
-) -> Result<Result<Change, Refused>, Fault>
+) -> Result<Result<RowEdit, Refused>, Fault>
     ensures value { (t : ℕ) (p u : Name) → IfOk result (λ d. one_change d ≡ decision (facts_in part.now) p t (PlaceInService u tag.now)) }
     ensures err { IfErr result (λ e. e ≡ Memory) }
 {
@@ -116,5 +117,5 @@ pub fn place_in_service(
         return Ok(Err(Refused::NotOutOfService));
     }
     let row = placed(alloc, alarm)?;
-    Ok(Ok(Change::Put(Row::Alarm(row))))
+    Ok(Ok(RowEdit::Put(Row::Alarm(row))))
 }

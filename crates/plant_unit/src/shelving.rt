@@ -12,7 +12,7 @@ ghost use Rattle.plant_unit.specs.Shelving as shelving;
 use crate::facts::{others_shelved, shelf_left, shelf_of};
 use plant_alarm::{Shelf, ShelfRefused, one_shot, timed, unshelve};
 use plant_books::alarm_of;
-use plant_model::{Call, Change, Key, Refused, Row, ShelfRow, UnitPart, UnitRow};
+use plant_model::{Call, Key, Refused, Row, RowEdit, ShelfRow, UnitPart, UnitRow};
 use plant_types::{Fault, Moment, Person, Seconds, Tag, Words};
 use std::alloc::Global;
 
@@ -33,17 +33,17 @@ fn shelf_change(
     person: &Person,
     words: &Words,
     shelf: Shelf,
-) -> Result<Change, Fault>
+) -> Result<RowEdit, Fault>
     ensures value { IfOk result (λ change. change ≡ shelving.shelf_change tag.now person.now words.now shelf) }
     ensures err { IfErr result (λ e. e ≡ Memory) }
 {
     let tag = tag.copy(alloc)?;
     let (one_shot, start_s, until_s) = match shelf {
-        Shelf::Clear => return Ok(Change::Remove(Key::Shelf(tag))),
+        Shelf::Clear => return Ok(RowEdit::Remove(Key::Shelf(tag))),
         Shelf::Timed { start, until } => (false, start, until),
         Shelf::OneShot { start, until } => (true, start, until),
     };
-    Ok(Change::Put(Row::Shelf(ShelfRow {
+    Ok(RowEdit::Put(Row::Shelf(ShelfRow {
         tag,
         one_shot,
         start_s,
@@ -62,7 +62,7 @@ fn shelve(
     tag: &Tag,
     words: &Words,
     shelf: Shelf,
-) -> Result<Result<Change, Refused>, Fault>
+) -> Result<Result<RowEdit, Refused>, Fault>
     requires { unit_read part.now.rows ≡ unit.now }
     ensures value { IfOk result (λ d. one_change d ≡ decided_or (first_refusal (over_quota (facts_in part.now) tag.now call.now.moment ∷ [])) (shelving.shelf_change tag.now call.now.person words.now shelf ∷ [])) }
     ensures err { IfErr result (λ e. e ≡ Memory) }
@@ -82,7 +82,7 @@ pub fn shelve_for(
     tag: &Tag,
     seconds: Seconds,
     words: &Words,
-) -> Result<Result<Change, Refused>, Fault>
+) -> Result<Result<RowEdit, Refused>, Fault>
     requires { unit_read part.now.rows ≡ unit.now }
     ensures value { (u : Name) → IfOk result (λ d. one_change d ≡ decision (facts_in part.now) call.now.person call.now.moment (TimedShelve u tag.now seconds words.now)) }
     ensures err { IfErr result (λ e. e ≡ Memory) }
@@ -105,7 +105,7 @@ pub fn shelve_once(
     call: &Call,
     tag: &Tag,
     words: &Words,
-) -> Result<Result<Change, Refused>, Fault>
+) -> Result<Result<RowEdit, Refused>, Fault>
     requires { unit_read part.now.rows ≡ unit.now }
     ensures value { (u : Name) → IfOk result (λ d. one_change d ≡ decision (facts_in part.now) call.now.person call.now.moment (OneShotShelve u tag.now words.now)) }
     ensures err { IfErr result (λ e. e ≡ Memory) }
@@ -126,7 +126,7 @@ pub fn end_shelf(
     part: &UnitPart,
     now: Moment,
     tag: &Tag,
-) -> Result<Result<Change, Refused>, Fault>
+) -> Result<Result<RowEdit, Refused>, Fault>
     ensures value { (p u : Name) → IfOk result (λ d. one_change d ≡ decision (facts_in part.now) p now (Unshelve u tag.now)) }
     ensures err { IfErr result (λ e. e ≡ Memory) }
 {
@@ -136,6 +136,6 @@ pub fn end_shelf(
     let left = shelf_left(shelf_of(part.rows.shelves.as_slice(), tag));
     match unshelve(&left, alarm.return_s, now) {
         Err(refused) => Ok(Err(refusal_of(refused))),
-        Ok(_) => Ok(Ok(Change::Remove(Key::Shelf(tag.copy(alloc)?)))),
+        Ok(_) => Ok(Ok(RowEdit::Remove(Key::Shelf(tag.copy(alloc)?)))),
     }
 }

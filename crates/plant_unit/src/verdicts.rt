@@ -2,21 +2,21 @@
 
 ghost use Rattle.std.specs.Prelude.{◌≡◌, ◌∷◌, [], IfErr, IfOk, IsOkAnd};
 ghost use Rattle.plant_types.specs.declared.fault.Fault.TheVariants.{Memory};
-ghost use Rattle.plant_model.specs.declared.rows.Change.TheVariants.{Put};
+ghost use Rattle.plant_model.specs.declared.rows.RowEdit.TheVariants.{Put};
 ghost use Rattle.plant_model.specs.declared.rows.Row.TheVariants.{Unit as UnitPut};
 ghost use Rattle.plant_unit.specs.Judged.{answered_as, done_as};
 
-use plant_model::{Change, Refused, Reply, Row, UnitRow, Verdict};
-use plant_types::{Fault, Moment, Table};
+use plant_model::{Refused, Reply, Row, RowEdit, UnitRow, Verdict};
+use plant_types::{Fault, List, Moment};
 use std::alloc::Global;
 
 /// The change of the unit's own row: its last moment.
-pub fn moved(alloc: Global, unit: &UnitRow, now: Moment) -> Result<Table<Change>, Fault>
+pub fn moved(alloc: Global, unit: &UnitRow, now: Moment) -> Result<List<RowEdit>, Fault>
     ensures value { IfOk result (λ cs. cs ≡ Put (UnitPut (record unit.now { last_s = now })) ∷ []) }
     ensures err { IfErr result (λ e. e ≡ Memory) }
 {
-    let mut changes = Table::new(alloc);
-    changes.push(Change::Put(Row::Unit(UnitRow {
+    let mut changes = List::new(alloc);
+    changes.push(RowEdit::Put(Row::Unit(UnitRow {
         last_s: now,
         ..*unit
     })))?;
@@ -28,7 +28,7 @@ pub fn done(
     alloc: Global,
     unit: &UnitRow,
     now: Moment,
-    decided: Result<Result<Change, Refused>, Fault>,
+    decided: Result<Result<RowEdit, Refused>, Fault>,
 ) -> Result<Verdict, Fault>
     ensures value { IfOk result (λ v. IsOkAnd decided (λ d. v ≡ done_as (record unit.now { last_s = now }) d)) }
     ensures err { IfErr decided (λ e. e ≡ Memory) → IfErr result (λ e. e ≡ Memory) }
@@ -53,6 +53,6 @@ pub fn answered(
 {
     match answer? {
         Err(refused) => Ok(Verdict::Refused(refused)),
-        Ok(reply) => Ok(Verdict::Accepted(reply, Table::new(alloc))),
+        Ok(reply) => Ok(Verdict::Accepted(reply, List::new(alloc))),
     }
 }

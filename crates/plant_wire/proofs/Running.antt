@@ -95,10 +95,10 @@ pub record Joins (first second both : List Call → List Answer → Type 0) : Ty
 
 pub ran_joins : (held mid left : Content → Type 0) (tells_first tells : Type 0) (before between after : ℕ) → (tells → tells_first)
     → Joins (Ran held tells_first mid before between) (Ran mid tells left between after) (Ran held tells left before after)
-ran_joins held mid left tells_first tells before between after told = record {
+ran_joins held mid left tells_first tells before between after honest = record {
   join = λ cs ds xs bs first second. record {
     run = λ m h w legal holds t.
-        let a = first.run m h w legal holds (told t) in
+        let a = first.run m h w legal holds (honest t) in
         run-append w cs ds xs bs mid left a (second.run a.after a.left_it (world_after w cs xs) a.legal a.holds t);
     counted = counted_both before between after xs bs first.counted second.counted;
   };

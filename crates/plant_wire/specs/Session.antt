@@ -1,13 +1,13 @@
 -- What a session did, by how it ended. r is what the reader had left before and r' after, where that is known, and o
 -- and o' what the writer holds; `ended` says whether the input's end was seen; f and f' count failed reads, g and g'
 -- failed writes, k and k' reads.
+use Rattle.plant_types.specs.Limits.{max_reads}
 use Rattle.std.specs.Prelude.{◌≡◌, ◌⊎◌, ◌<◌, ◌≤◌, ◌+◌, ℕ, List, [], ◌++◌, length, Bool, IsTrue, Option}
 use Rattle.std.specs.Io.KnownBytes.{Consumes, IsAtEnd}
 use Rattle.plant_model.specs.declared.call.Call.{Call}
 use Rattle.plant_model.specs.declared.reply.Answer.{Answer}
 use Rattle.plant_call.specs.Front.{waits, StandsAtFront}
 use Rattle.plant_wire.specs.Step.{Serves, ServesBroken, ServesPart}
-use Rattle.plant_wire.specs.Limits.{most_reads}
 use Rattle.plant_wire.specs.Marks.{IsFaultless}
 use Rattle.plant_wire.specs.declared.reads.End.{End}
 use Rattle.plant_wire.specs.declared.reads.End.TheVariants.{Closed, BrokenInput, ReadFailed, WriteFailed, Fault}
@@ -53,10 +53,10 @@ IsSession r r' ended o o' ran end = (bytes : List ℕ) × Consumes r r' bytes ×
 abbrev pub StopsAs : ℕ → ℕ → ℕ → ℕ → ℕ → ℕ → End → Type 0
 StopsAs f f' k k' g g' Closed = (f' ≡ f) × (g' ≡ g)
 StopsAs f f' k k' g g' BrokenInput = (f' ≡ f) × (g' ≡ g)
-StopsAs f f' k k' g g' ReadFailed = ((f' ≡ 1) ⊎ ((f' ≡ f) × (k' ≡ k + most_reads))) × (g' ≡ g)
+StopsAs f f' k k' g g' ReadFailed = ((f' ≡ 1) ⊎ ((f' ≡ f) × (k' ≡ k + max_reads))) × (g' ≡ g)
 StopsAs f f' k k' g g' WriteFailed = (f' ≡ f) × (g' ≡ 1)
 StopsAs f f' k k' g g' Fault = (f' ≡ f) × (g' ≡ g)
 
 -- how many reads were made, whatever the end
 abbrev pub IsFewReads : ℕ → ℕ → Type 0
-IsFewReads k k' = (k ≤ k') × (k' ≤ k + most_reads)
+IsFewReads k k' = (k ≤ k') × (k' ≤ k + max_reads)

@@ -9,6 +9,7 @@ use crate::streams::{Inlet, Outlet};
 use plant_head::FieldRoom;
 use plant_office::{Books, Office};
 use plant_route::Routes;
+use plant_types::limits::MAX_READS;
 use std::alloc::{AllocError, Global};
 
 /// How a session ended.
@@ -34,9 +35,6 @@ pub(crate) enum Read {
     Failed,
     Fault,
 }
-
-/// A session makes so many reads at most.
-const MAX_READS: u32 = 1_000_000;
 
 /// Each is offered room for so many bytes.
 const CHUNK: usize = 65536;
@@ -86,8 +84,8 @@ fn run_reads<I: Inlet, O: Outlet, B: Books>(
 ) -> End
     requires { least_room ≤ length chunk.old }
     ensures does { IsSession (I.remaining inlet.old) (I.remaining inlet.new) (I.ended inlet.new) (O.written outlet.old) (O.written outlet.new)
-        (Ran (B.holds office.old.books) (B.can_tell office.new.books) (B.holds office.new.books) (B.stores office.old.books) (B.stores office.new.books)) result }
-    ensures told { B.can_tell office.new.books → B.can_tell office.old.books }
+        (Ran (B.represents office.old.books) (B.is_honest office.new.books) (B.represents office.new.books) (B.stores office.old.books) (B.stores office.new.books)) result }
+    ensures honest { B.is_honest office.new.books → B.is_honest office.old.books }
     ensures stops { StopsAs (I.failures inlet.old) (I.failures inlet.new) (I.reads inlet.old) (I.reads inlet.new) (O.failures outlet.old) (O.failures outlet.new) result }
     ensures counted { IsFewReads (I.reads inlet.old) (I.reads inlet.new) }
 {
@@ -131,8 +129,8 @@ pub fn session<I: Inlet, O: Outlet, B: Books>(
     office: &mut Office<B>,
 ) -> End
     ensures does { IsSession (I.remaining inlet.old) (I.remaining inlet.new) (I.ended inlet.new) (O.written outlet.old) (O.written outlet.new)
-        (Ran (B.holds office.old.books) (B.can_tell office.new.books) (B.holds office.new.books) (B.stores office.old.books) (B.stores office.new.books)) result }
-    ensures told { B.can_tell office.new.books → B.can_tell office.old.books }
+        (Ran (B.represents office.old.books) (B.is_honest office.new.books) (B.represents office.new.books) (B.stores office.old.books) (B.stores office.new.books)) result }
+    ensures honest { B.is_honest office.new.books → B.is_honest office.old.books }
     ensures stops { StopsAs (I.failures inlet.old) (I.failures inlet.new) (I.reads inlet.old) (I.reads inlet.new) (O.failures outlet.old) (O.failures outlet.new) result }
     ensures counted { IsFewReads (I.reads inlet.old) (I.reads inlet.new) }
 {

@@ -86,8 +86,8 @@ fn answer_call<O: Outlet, B: Books>(
     office: &mut Office<B>,
     call: &Call,
 ) -> Result<(), Stop>
-    ensures does { IsAnswer (O.written outlet.old) (O.written outlet.new) (Ran (B.holds office.old.books) (B.can_tell office.new.books) (B.holds office.new.books) (B.stores office.old.books) (B.stores office.new.books)) call.now result }
-    ensures told { B.can_tell office.new.books → B.can_tell office.old.books }
+    ensures does { IsAnswer (O.written outlet.old) (O.written outlet.new) (Ran (B.represents office.old.books) (B.is_honest office.new.books) (B.represents office.new.books) (B.stores office.old.books) (B.stores office.new.books)) call.now result }
+    ensures honest { B.is_honest office.new.books → B.is_honest office.old.books }
     ensures stalls { Stalls (O.failures outlet.old) (O.failures outlet.new) result }
 {
     let answer = office.serve(call);
@@ -105,8 +105,8 @@ fn answer_next<O: Outlet, B: Books>(
     outlet: &mut O,
     office: &mut Office<B>,
 ) -> Result<Step, Stop>
-    ensures does { IsStep bytes.now (O.written outlet.old) (O.written outlet.new) (Ran (B.holds office.old.books) (B.can_tell office.new.books) (B.holds office.new.books) (B.stores office.old.books) (B.stores office.new.books)) result }
-    ensures told { B.can_tell office.new.books → B.can_tell office.old.books }
+    ensures does { IsStep bytes.now (O.written outlet.old) (O.written outlet.new) (Ran (B.represents office.old.books) (B.is_honest office.new.books) (B.represents office.new.books) (B.stores office.old.books) (B.stores office.new.books)) result }
+    ensures honest { B.is_honest office.new.books → B.is_honest office.old.books }
     ensures stalls { Stalls (O.failures outlet.old) (O.failures outlet.new) result }
 {
     let Look { cut, wanted } = look_with(alloc, routes, room, bytes);
@@ -140,8 +140,8 @@ pub(crate) fn answer_all<O: Outlet, B: Books>(
     office: &mut Office<B>,
 ) -> Result<Rest, Stop>
     requires { WaitsBelow bytes.now wanted }
-    ensures does { IsRest bytes.now (O.written outlet.old) (O.written outlet.new) (Ran (B.holds office.old.books) (B.can_tell office.new.books) (B.holds office.new.books) (B.stores office.old.books) (B.stores office.new.books)) result }
-    ensures told { B.can_tell office.new.books → B.can_tell office.old.books }
+    ensures does { IsRest bytes.now (O.written outlet.old) (O.written outlet.new) (Ran (B.represents office.old.books) (B.is_honest office.new.books) (B.represents office.new.books) (B.stores office.old.books) (B.stores office.new.books)) result }
+    ensures honest { B.is_honest office.new.books → B.is_honest office.old.books }
     ensures stalls { Stalls (O.failures outlet.old) (O.failures outlet.new) result }
 {
     if bytes.len() < wanted {

@@ -3,7 +3,7 @@ use Rattle.std.proofs.lemmas.List.{map_push}
 use Rattle.serde_json.specs.View.{view}
 use Rattle.serde_json.specs.declared.value.Value.{Value}
 use Rattle.plant_ration.specs.declared.cell.Cell.{Cell}
-use Rattle.plant_body.specs.Members.{told, Fails}
+use Rattle.plant_body.specs.Members.{or_body, Fails}
 use Rattle.plant_body.specs.Lists.{row_of}
 use Rattle.plant_body.proofs.Items.{read_none, read_one, read_all, told_some, fails_with}
 use Rattle.plant_body.proofs.lists.all_rows.Goals as goal
@@ -23,4 +23,4 @@ returns c = rw (read_all row_of c.args.items.now c.loop-item.item-index _ c.loop
 pub returns-in-Err : goal.returns-in-Err
 returns-in-Err c =
     fails_with row_of c.args.items.now c.loop-item.item-index c.item-item.result _ c.in-Err.e c.loop-item.invariant c.loop-item-test.true
-    (subst (λ (v : Value). Fails c.in-Err.e (told (row_of (view v)))) c.item-item.is c.in-Err.ensures)
+    (subst (λ (v : Value). Fails c.in-Err.e (or_body (row_of (view v)))) c.item-item.is c.in-Err.ensures)

@@ -6,7 +6,7 @@ use Rattle.plant_books.proofs.PassingLaws.{none_passes, passing_as, passing_ever
 use Rattle.plant_books.proofs.RowsFound.{ordered}
 use Rattle.plant_books.specs.Asking.{is_wanted}
 use Rattle.plant_types.specs.Names.{name_cmp}
-use Rattle.plant_types.specs.Tables.{row_at}
+use Rattle.plant_types.specs.KeyedRows.{row_at}
 use Rattle.plant_books.proofs.found.rows_wanted.Goals as goal
 
 pub returns-in-Nothing-clause-value : goal.returns-in-Nothing-clause-value

@@ -5,7 +5,7 @@ use Rattle.std.proofs.lemmas.List.Sorted.{IsPartitionPoint-from_clause}
 use Rattle.std.specs.Option.{is_some}
 use Rattle.std.specs.Ordering.{is_eq, is_lt}
 use Rattle.plant_books.proofs.KeyedLaws.{Parts, comes_after, other_after, put_before, put_behind, put_over, sorted_parted}
-use Rattle.plant_types.proofs.TableLaws.{tied}
+use Rattle.plant_types.proofs.KeyedRowLaws.{tied}
 use Rattle.plant_books.proofs.keyed.sorted_place.Goals as goal
 
 pub returns-in-Some : goal.returns-in-Some

@@ -1,6 +1,7 @@
+use Rattle.plant_types.specs.Limits.{max_body}
 use Rattle.std.proofs.Common.{◌≡◌, ◌+◌, take, min}
 use Rattle.std.specs.Str.Parse.{digits_value}
 use Rattle.plant_call.proofs.lengths.capped_value.Given as goal
 
 abbrev pub invariant-loop-b : goal.invariant-loop-b
-invariant-loop-b l = l.value ≡ min (digits_value 10 (take l.b-index l.text)) (1048576 + 1)
+invariant-loop-b l = l.value ≡ min (digits_value 10 (take l.b-index l.text)) (max_body + 1)

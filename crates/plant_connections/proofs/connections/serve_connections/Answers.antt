@@ -7,8 +7,8 @@ use Rattle.plant_connections.proofs.connections.serve_connections.Goals as goal
 pub connections-init : goal.connections-init
 connections-init g c = record {
   served = ([], refl, ([], refl, Appends-none (g.W.Write.contents c.args.log.now)), omega arith, refl);
-  ran = ([], [], ran_none (g.B.Books.holds c.args.office.now.books) (g.B.Books.can_tell c.args.office.now.books) (g.B.Books.stores c.args.office.now.books));
-  told = λ t. t;
+  ran = ([], [], ran_none (g.B.Books.represents c.args.office.now.books) (g.B.Books.is_honest c.args.office.now.books) (g.B.Books.stores c.args.office.now.books));
+  honest = λ t. t;
   failed = refl;
 }
 
@@ -19,15 +19,15 @@ connections-preserved g c =
     record {
       served = (
         end ∷ served.0,
-        (c.connections.office.books, served.1, c.in_ok-end.ensures.told, c.in_ok-end.ensures.does),
+        (c.connections.office.books, served.1, c.in_ok-end.ensures.honest, c.in_ok-end.ensures.does),
         tells_more (g.W.Write.contents c.args.log.now) (g.W.Write.contents c.connections.log) (g.W.Write.contents c.say_end.new.log)
             served.0 c.connections.count served.4 end served.2 c.say_end.ensures,
         omega (arith, c.in_ok-end.ensures.counted, served.3),
         omega (arith, served.4),
       );
-      ran = ran_more (g.B.Books.holds c.args.office.now.books) (g.B.Books.holds c.connections.office.books) (g.B.Books.holds c.serve_next.new.office.books)
-          (g.B.Books.can_tell c.connections.office.books) (g.B.Books.can_tell c.serve_next.new.office.books) (g.B.Books.stores c.args.office.now.books) (g.B.Books.stores c.connections.office.books) (g.B.Books.stores c.serve_next.new.office.books) c.in_ok-end.ensures.told
+      ran = ran_more (g.B.Books.represents c.args.office.now.books) (g.B.Books.represents c.connections.office.books) (g.B.Books.represents c.serve_next.new.office.books)
+          (g.B.Books.is_honest c.connections.office.books) (g.B.Books.is_honest c.serve_next.new.office.books) (g.B.Books.stores c.args.office.now.books) (g.B.Books.stores c.connections.office.books) (g.B.Books.stores c.serve_next.new.office.books) c.in_ok-end.ensures.honest
           c.connections.invariant.ran (made end c.in_ok-end.ensures.does);
-      told = λ t. c.connections.invariant.told (c.in_ok-end.ensures.told t);
+      honest = λ t. c.connections.invariant.honest (c.in_ok-end.ensures.honest t);
       failed = c.in_ok-end.ensures.ok ∙ c.connections.invariant.failed;
     }

@@ -8,10 +8,10 @@ use Rattle.plant_connections.proofs.connections.serve_connections.Given as goal
 
 abbrev pub invariant-connections : goal.invariant-connections
 invariant-connections g l = record {
-  served : (ends : List End) × GoesThrough g.B.Books.holds g.B.Books.can_tell g.B.Books.stores l.fn.office.books ends l.office.books
+  served : (ends : List End) × GoesThrough g.B.Books.represents g.B.Books.is_honest g.B.Books.stores l.fn.office.books ends l.office.books
       × Tells (g.W.Write.contents l.fn.log) ends (g.W.Write.contents l.log)
       × (g.L.Listener.accepted l.listener ≡ g.L.Listener.accepted l.fn.listener + length ends) × (length ends ≡ l.count);
-  ran : (calls : List Call) × (answers : List Answer) × Ran (g.B.Books.holds l.fn.office.books) (g.B.Books.can_tell l.office.books) (g.B.Books.holds l.office.books) (g.B.Books.stores l.fn.office.books) (g.B.Books.stores l.office.books) calls answers;
-  told : g.B.Books.can_tell l.office.books → g.B.Books.can_tell l.fn.office.books;
+  ran : (calls : List Call) × (answers : List Answer) × Ran (g.B.Books.represents l.fn.office.books) (g.B.Books.is_honest l.office.books) (g.B.Books.represents l.office.books) (g.B.Books.stores l.fn.office.books) (g.B.Books.stores l.office.books) calls answers;
+  honest : g.B.Books.is_honest l.office.books → g.B.Books.is_honest l.fn.office.books;
   failed : g.L.Listener.failures l.listener ≡ g.L.Listener.failures l.fn.listener;
 }

@@ -6,5 +6,5 @@ pub returns-clause-does : goal.returns-clause-does
 returns-clause-does g c =
     connects (g.L.Requests.Inlet.remaining c.in_ok-requests.requests) (g.L.Requests.Inlet.remaining c.session.new.inlet)
     (g.L.Requests.Inlet.ended c.session.new.inlet) (g.L.Answers.Outlet.written c.in_ok-requests.answers) (g.L.Answers.Outlet.written c.session.new.outlet)
-    (Ran (g.B.Books.holds c.args.office.now.books) (g.B.Books.can_tell c.session.new.office.books) (g.B.Books.holds c.session.new.office.books) (g.B.Books.stores c.args.office.now.books) (g.B.Books.stores c.session.new.office.books))
+    (Ran (g.B.Books.represents c.args.office.now.books) (g.B.Books.is_honest c.session.new.office.books) (g.B.Books.represents c.session.new.office.books) (g.B.Books.stores c.args.office.now.books) (g.B.Books.stores c.session.new.office.books))
     c.session.result c.session.ensures.does

@@ -4,13 +4,13 @@ use Rattle.httparse.specs.Grammar.{HasNoRequest, MayBecomeRequest, NeverHasReque
 use Rattle.plant_head.proofs.Room.{never_exceeds}
 use Rattle.plant_head.proofs.heading.read_head.Goals as goal
 
-pub returns-else-bytes-lt-HEAD_LIMIT : goal.returns-else-bytes-lt-HEAD_LIMIT
-returns-else-bytes-lt-HEAD_LIMIT c = (
+pub returns-else-bytes-lt-MAX_HEAD : goal.returns-else-bytes-lt-MAX_HEAD
+returns-else-bytes-lt-MAX_HEAD c = (
   record {
     none = subst (λ (x : List ℕ). HasNoRequest x) c.front_of.ensures.value (rw c.in-Ok-Partial.field-0-is at c.in-Ok-Partial.ensures.partial);
     unfinished = subst (λ (x : List ℕ). MayBecomeRequest x) c.front_of.ensures.value (rw c.in-Ok-Partial.field-0-is at c.in-Ok-Partial.ensures.unfinished);
   },
-  c.if-bytes-lt-HEAD_LIMIT.false,
+  c.if-bytes-lt-MAX_HEAD.false,
 )
 
 pub returns-in-Err : goal.returns-in-Err

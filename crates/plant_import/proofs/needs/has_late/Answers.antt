@@ -1,7 +1,7 @@
 use Rattle.std.proofs.Common.{List, ap, arith, subst, sym, ◌∙◌, ◌≡◌}
 use Rattle.plant_alarm.specs.declared.event.Event.{Event}
 use Rattle.plant_import.specs.Numbers.{event_number}
-use Rattle.plant_types.specs.Tables.{IsInOrder}
+use Rattle.plant_types.specs.KeyedRows.{IsInOrder}
 use Rattle.std.specs.Ordering.{nat_cmp}
 use Rattle.plant_import.specs.Needed as needs
 use Rattle.plant_import.proofs.NeededLaws.{near_late, near_ordered, no_late_row, none_late_more, one_late}

@@ -13,5 +13,5 @@ returns-in-Ok-clause-kept g c m held =
 pub returns-in-Ok-clause-office : goal.returns-in-Ok-clause-office
 returns-in-Ok-clause-office g c db held tells =
     subst (λ (d : Database). IsThisOffice c.args.admin d)
-    (same_now (image_at g.S.Start) (file_state c.in_ok-conn.conn) c.in_ok-conn.ensures.opened c.in_ok-conn.ensures.found (c.in-Ok.ensures.told tells) db held)
+    (same_now (image_at g.S.Start) (file_state c.in_ok-conn.conn) c.in_ok-conn.ensures.opened c.in_ok-conn.ensures.found (c.in-Ok.ensures.honest tells) db held)
     (c.in-Ok.ensures.office tells)

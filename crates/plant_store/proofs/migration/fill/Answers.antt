@@ -11,12 +11,12 @@ use Rattle.plant_types.specs.Names.{Name}
 use Rattle.plant_store.proofs.migration.fill.Goals as goal
 
 pub returns-clause-made : goal.returns-clause-made
-returns-clause-made g c told clean started blank m is had =
+returns-clause-made g c honest clean started blank m is had =
     let before = (state g.O.Store c.args.from.now).now in
     let between = (state g.O.Store c.old_codes_of.new.conn).now in
     let made = state g.N.Store c.make_tables.new.tx.conn.now in
     let new = (state g.N.Store c.take_units.new.tx.conn.now).now in
-    let known = c.take_units.ensures.reads.told told in
+    let known = c.take_units.ensures.reads.honest honest in
     let same : between ≡ before = c.old_codes_of.ensures.reads.same known had.books in
     let clean_made : HasCleanDisk made = omega (arith, c.take_units.ensures.stays.survives.clean) in
     let empty = c.in_ok-make_tables.ensures.made clean_made started blank in
@@ -26,4 +26,4 @@ returns-clause-made g c told clean started blank m is had =
     (λ it.
     let taken = subst (λ (d : Database). AreTakenOver (old_codes d.trees) d.trees new) same it.0 in
     all_taken m before new had taken (it.1 ∙ empty.office ∙ ap (λ (a : Name). office_row a ∷ []) (sym is)))
-    (c.take_units.ensures.made told (subst AreOldBooks (sym same) had.books) lines clean inside (none_taken c.args.admin.now between.trees made.now empty))
+    (c.take_units.ensures.made honest (subst AreOldBooks (sym same) had.books) lines clean inside (none_taken c.args.admin.now between.trees made.now empty))

@@ -2,8 +2,8 @@ use Rattle.std.proofs.Common.{◌≡◌, sym, subst, arith, rules, take, List, O
 use Rattle.std.proofs.lemmas.List.{take_all}
 use Rattle.sqlite.specs.State.{HasCleanDisk}
 use Rattle.sqlite.specs.Held.{state}
-use Rattle.plant_model.specs.declared.rows.Change.{Change}
-use Rattle.plant_model.specs.declared.rows.Change.TheVariants.{Put}
+use Rattle.plant_model.specs.declared.rows.RowEdit.{RowEdit}
+use Rattle.plant_model.specs.declared.rows.RowEdit.TheVariants.{Put}
 use Rattle.plant_store.specs.Changes.{Applies}
 use Rattle.plant_store.proofs.StepsInside.{stays_then}
 use Rattle.plant_store.proofs.Upgrades.{mapped_more}
@@ -24,7 +24,7 @@ loop-row-preserved g c =
           let xs = c.args.rows.now in
           let at = c.loop-row.row-index in
           let more = mapped_more (λ r. Put (g.T.OldRow.becomes r)) xs at c.row-item.result (omega arith) c.row-item.is in
-          subst (λ (l : List Change). Applies c.args.unit.now l old.now now.now) (sym more) (applies_then c.args.unit.now _ _ old.now mid.now now.now so_far one);
+          subst (λ (l : List RowEdit). Applies c.args.unit.now l old.now now.now) (sym more) (applies_then c.args.unit.now _ _ old.now mid.now now.now so_far one);
       stays = stays_then {W = Unit {0}} {result = Ok tt} c.loop-row.invariant.stays c.in_ok-put.ensures.stays;
     }
 

@@ -4,7 +4,7 @@ use Rattle.std.specs.List.{flat_map}
 use Rattle.sqlite.specs.Effect.{Database}
 use Rattle.sqlite.specs.State.{HasCleanDisk}
 use Rattle.sqlite.specs.Held.{state}
-use Rattle.plant_model.specs.declared.rows.Change.{Change}
+use Rattle.plant_model.specs.declared.rows.RowEdit.{RowEdit}
 use Rattle.plant_store.specs.declared.migration.TableKind.{TableKind}
 use Rattle.plant_store.specs.declared.migration.TableKind.TheVariants.{Units}
 use Rattle.plant_store.specs.Changes.{Applies}
@@ -29,11 +29,11 @@ loop-kind-preserved g c =
       mode = c.take_table.ensures.mode;
       reads = reads_then c.loop-kind.invariant.reads c.take_table.ensures.reads;
       same_reference = search rules;
-      made = λ told old_books clean started books.
-          let before = c.take_table.ensures.reads.told told in
+      made = λ honest old_books clean started books.
+          let before = c.take_table.ensures.reads.honest honest in
           let is = c.loop-kind.invariant.reads.same before old_books in
           let so_far = c.loop-kind.invariant.made before old_books (early clean) started books in
-          let one = c.in_ok-take_table.ensures.made told (subst AreOldBooks (sym is) old_books) clean (c.loop-kind.invariant.stays.inside (early clean) started) so_far.books in
+          let one = c.in_ok-take_table.ensures.made honest (subst AreOldBooks (sym is) old_books) clean (c.loop-kind.invariant.stays.inside (early clean) started) so_far.books in
           let u = c.args.unit.now in
           let xs : List TableKind = c.args.kinds.now in
           let at = c.loop-kind.kind-index in
@@ -41,6 +41,6 @@ loop-kind-preserved g c =
           let rows = upgraded_rows u had.now.trees in
           let here = subst (λ (d : Database). Applies u (puts_of (upgraded_rows u d.trees) kind) mid.now now.now) is one in
           let more : puts_all rows (take (at + 1) xs) ≡ puts_all rows (take at xs) ++ puts_of rows kind = ap (flat_map (puts_of rows)) (take_more xs at Units (omega arith)) ∙ joined (puts_of rows) (take at xs) kind in
-          subst (λ (l : List Change). Applies u l old.now now.now) (sym more) (applies_then u (puts_all rows (take at xs)) (puts_of rows kind) old.now mid.now now.now so_far here);
+          subst (λ (l : List RowEdit). Applies u l old.now now.now) (sym more) (applies_then u (puts_all rows (take at xs)) (puts_of rows kind) old.now mid.now now.now so_far here);
       stays = stays_then {W = Unit {0}} {result = Ok tt} c.loop-kind.invariant.stays c.in_ok-take_table.ensures.stays;
     }

@@ -2,7 +2,7 @@ use Rattle.std.proofs.Common.{◌≡◌, false, take, IsTrue, Ok}
 use Rattle.sqlite.specs.State.{HasCleanDisk}
 use Rattle.sqlite.specs.Held.{state}
 use Rattle.plant_columns.specs.Tables.{AreBooks}
-use Rattle.plant_store.specs.Changes.{Applies, CanTell}
+use Rattle.plant_store.specs.Changes.{Applies, IsHonest}
 use Rattle.plant_store.specs.OldTables.{AreOldBooks}
 use Rattle.plant_store.specs.OnlyReads.{OnlyReadsOld}
 use Rattle.plant_store.specs.Upgrading.{puts_all, upgraded_rows}
@@ -20,6 +20,6 @@ invariant-loop-kind g l =
       mode : l.from.in_transaction ≡ false;
       reads : OnlyReadsOld had has;
       same_reference : l.tx.conn.ghost_name ≡ l.fn.tx.conn.ghost_name;
-      made : CanTell has → AreOldBooks had.now → HasCleanDisk now → IsTrue l.fn.tx.conn.now.in_transaction → AreBooks old.now → Applies l.unit (puts_all (upgraded_rows l.unit had.now.trees) (take l.kind-index l.kinds)) old.now now.now;
+      made : IsHonest has → AreOldBooks had.now → HasCleanDisk now → IsTrue l.fn.tx.conn.now.in_transaction → AreBooks old.now → Applies l.unit (puts_all (upgraded_rows l.unit had.now.trees) (take l.kind-index l.kinds)) old.now now.now;
       stays : StaysInside {V = Unit {0}} (Ok tt) old now;
     }

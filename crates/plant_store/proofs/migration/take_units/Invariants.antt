@@ -1,7 +1,7 @@
 use Rattle.std.proofs.Common.{◌≡◌, [], false, take, IsTrue, Ok}
 use Rattle.sqlite.specs.State.{HasCleanDisk}
 use Rattle.sqlite.specs.Held.{state}
-use Rattle.plant_store.specs.Changes.{CanTell}
+use Rattle.plant_store.specs.Changes.{IsHonest}
 use Rattle.plant_store.specs.OldTables.{AreOldBooks}
 use Rattle.plant_store.specs.OnlyReads.{OnlyReadsOld}
 use Rattle.plant_store.specs.Upgrading.{AreTakenOver, old_codes}
@@ -20,7 +20,7 @@ invariant-loop-line g l =
       mode : l.from.in_transaction ≡ false;
       reads : OnlyReadsOld had has;
       same_reference : l.tx.conn.ghost_name ≡ l.fn.tx.conn.ghost_name;
-      made : CanTell has → AreOldBooks had.now → units_of l.lines ≡ old_codes had.now.trees → HasCleanDisk now → IsTrue l.fn.tx.conn.now.in_transaction → AreTakenOver [] had.now.trees old.now
+      made : IsHonest has → AreOldBooks had.now → units_of l.lines ≡ old_codes had.now.trees → HasCleanDisk now → IsTrue l.fn.tx.conn.now.in_transaction → AreTakenOver [] had.now.trees old.now
           → AreTakenOver (units_of (take l.line-index l.lines)) had.now.trees now.now × (now.now.trees 0 ≡ old.now.trees 0);
       stays : StaysInside {V = Unit {0}} (Ok tt) old now;
     }

@@ -5,5 +5,5 @@ use Rattle.plant_store.proofs.Queries.{if_ok}
 use Rattle.plant_store.proofs.mine.held.Goals as goal
 
 pub returns-clause-found : goal.returns-clause-found
-returns-clause-found g c told m k =
-    if_ok c.codes.result (λ codes h. h ∙ ap (map (λ (u : MineUnit). u.unit)) (c.as_slice.ensures ∙ c.in_ok-units.ensures.found told m k) ∙ codes_of_mine m c.args.now c.args.person.now) c.codes.ensures
+returns-clause-found g c honest m k =
+    if_ok c.codes.result (λ codes h. h ∙ ap (map (λ (u : MineUnit). u.unit)) (c.as_slice.ensures ∙ c.in_ok-units.ensures.found honest m k) ∙ codes_of_mine m c.args.now c.args.person.now) c.codes.ensures

@@ -9,8 +9,8 @@ use Rattle.plant_store.proofs.Queries.{if_ok}
 use Rattle.plant_store.proofs.numbers.some_cells.Goals as goal
 
 pub returns-clause-rows : goal.returns-clause-rows
-returns-clause-rows g c told books rows same =
+returns-clause-rows g c honest books rows same =
     let u = c.args.unit.now in
     let db = (state g.S.Store c.args.conn.now).now in
     let are = c.in_ok-numbers.ensures rows (same ∙ sym c.as_slice.ensures) in
-    if_ok c.rows_numbered.result (λ found h. h ∙ in_turn (λ (r : CellRow). r.matrix_no) (selection_by rows c.args.scope).matrix c.in_ok-numbers.numbers are (rows_seen u db.trees CellKept) (cells_climb u db books)) (rw c.as_slice-2.ensures at (c.rows_numbered.ensures.rows told books))
+    if_ok c.rows_numbered.result (λ found h. h ∙ in_turn (λ (r : CellRow). r.matrix_no) (selection_by rows c.args.scope).matrix c.in_ok-numbers.numbers are (rows_seen u db.trees CellKept) (cells_climb u db books)) (rw c.as_slice-2.ensures at (c.rows_numbered.ensures.rows honest books))

@@ -11,8 +11,8 @@ use Rattle.plant_types.specs.Names.{Name}
 use Rattle.plant_store.proofs.ReadsOnly.{reads_plain_old}
 use Rattle.plant_store.proofs.old_rows.old_codes_of.Goals as goal
 
-told : (rows : List Row) (cs : List Name) (lines : List CodeLine) → rows ≡ map (λ c. Text c ∷ []) cs → map (columns 1) rows ≡ map (λ (l : CodeLine). Text l.unit ∷ []) lines → map (λ (l : CodeLine). l.unit) lines ≡ cs
-told rows cs lines shown said = sym (back lines) ∙ ap (map first) (sym said ∙ ap (map (columns 1)) shown) ∙ again cs
+codes_back : (rows : List Row) (cs : List Name) (lines : List CodeLine) → rows ≡ map (λ c. Text c ∷ []) cs → map (columns 1) rows ≡ map (λ (l : CodeLine). Text l.unit ∷ []) lines → map (λ (l : CodeLine). l.unit) lines ≡ cs
+codes_back rows cs lines shown said = sym (back lines) ∙ ap (map first) (sym said ∙ ap (map (columns 1)) shown) ∙ again cs
   where
     first : Row → Name
     first r = bytes (column r 0)
@@ -29,7 +29,7 @@ pub returns-clause-rows : goal.returns-clause-rows
 returns-clause-rows g c clean books =
     let old = state g.S.Store c.args.conn.now in
     let new = state g.S.Store c.read_rows.new.conn in
-    if_ok c.read_rows.result (λ lines it. told it.0 _ lines (find_old_codes old new books it.0 it.1.0) it.1.1) (c.read_rows.ensures.rows clean)
+    if_ok c.read_rows.result (λ lines it. codes_back it.0 _ lines (find_old_codes old new books it.0 it.1.0) it.1.1) (c.read_rows.ensures.rows clean)
 
 pub returns-clause-reads : goal.returns-clause-reads
-returns-clause-reads g c = reads_plain_old _ old_codes_plain c.read_rows.ensures.same c.read_rows.ensures.told
+returns-clause-reads g c = reads_plain_old _ old_codes_plain c.read_rows.ensures.same c.read_rows.ensures.codes_back

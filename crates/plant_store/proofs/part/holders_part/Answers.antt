@@ -20,12 +20,12 @@ use Rattle.plant_columns.proofs.ShapeLaws.{good}
 use Rattle.plant_columns.specs.Tables.{event_shape}
 use Rattle.plant_tables.proofs.Shapes.{rises}
 use Rattle.plant_model.specs.RowFacts.{event_number}
-use Rattle.plant_types.specs.Tables.{IsInOrder}
+use Rattle.plant_types.specs.KeyedRows.{IsInOrder}
 use Rattle.std.specs.Ordering.{nat_cmp}
 use Rattle.plant_store.proofs.part.holders_part.Goals as goal
 
 pub returns-clause-found : goal.returns-clause-found
-returns-clause-found g c told m k units own =
+returns-clause-found g c honest m k units own =
     let u = c.args.unit.now in
     let call = c.args.call.now in
     let old = state g.S.Store c.args.conn.now in
@@ -39,16 +39,16 @@ returns-clause-found g c told m k units own =
     let s8 = state g.S.Store c.some_bands.new.conn in
     let s9 = state g.S.Store c.some_cells.new.conn in
     let s10 = state g.S.Store c.some_changes.new.conn in
-    let t10 = c.count_for.ensures.reads.told told in
-    let t9 = c.some_changes.ensures.reads.told t10 in
-    let t8 = c.some_cells.ensures.reads.told t9 in
-    let t7 = c.some_bands.ensures.reads.told t8 in
-    let t6 = c.some_records.ensures.reads.told t7 in
-    let t5 = c.some_events.ensures.reads.told t6 in
-    let t4 = c.some_shelves.ensures.reads.told t5 in
-    let t3 = c.some_alarms.ensures.reads.told t4 in
-    let t2 = c.some_grants.ensures.reads.told t3 in
-    let t1 = c.approved_for.ensures.reads.told t2 in
+    let t10 = c.count_for.ensures.reads.honest honest in
+    let t9 = c.some_changes.ensures.reads.honest t10 in
+    let t8 = c.some_cells.ensures.reads.honest t9 in
+    let t7 = c.some_bands.ensures.reads.honest t8 in
+    let t6 = c.some_records.ensures.reads.honest t7 in
+    let t5 = c.some_events.ensures.reads.honest t6 in
+    let t4 = c.some_shelves.ensures.reads.honest t5 in
+    let t3 = c.some_alarms.ensures.reads.honest t4 in
+    let t2 = c.some_grants.ensures.reads.honest t3 in
+    let t1 = c.approved_for.ensures.reads.honest t2 in
     let e1 : s1.now ≡ old.now = c.crowded_for.ensures.reads.same t1 k.books in
     let b1 : AreBooks s1.now = subst AreBooks (sym e1) k.books in
     let e2 : s2.now ≡ old.now = c.approved_for.ensures.reads.same t2 b1 ∙ e1 in
@@ -79,8 +79,8 @@ returns-clause-found g c told m k units own =
     let records : c.in_ok-records.records ≡ filter (λ (r : RecordEntry). chosen.rationale r.tag) all.records =
     records_asked old m u k chosen c.wanted_records-recorded.result (c.wanted_records-recorded.ensures all) c.in_ok-records.records
     (c.in_ok-records.ensures.rows t7.0 b6 ∙ ap (λ (d : Database). records_with c.wanted_records-recorded.result (rows_seen u d.trees RecordKept)) e6) in
-    let all_read : c.in_ok-all_events.all_events ≡ events_with c.looks_at_events-told.result (rows_seen u old.now.trees EventKept) = c.in_ok-all_events.ensures.rows t6.0 b5 ∙ ap (λ (d : Database). events_with c.looks_at_events-told.result (rows_seen u d.trees EventKept)) e5 in
-    let in_order : IsInOrder nat_cmp event_number c.in_ok-all_events.all_events = subst (IsInOrder nat_cmp event_number) (sym all_read) (read_in_order c.looks_at_events-told.result (rows_seen u old.now.trees EventKept) (rises event_shape (good EventKept) u (old.now.trees 13) (k.books.tidy EventKept))) in
+    let all_read : c.in_ok-all_events.all_events ≡ events_with c.looks_at_events-looks.result (rows_seen u old.now.trees EventKept) = c.in_ok-all_events.ensures.rows t6.0 b5 ∙ ap (λ (d : Database). events_with c.looks_at_events-looks.result (rows_seen u d.trees EventKept)) e5 in
+    let in_order : IsInOrder nat_cmp event_number c.in_ok-all_events.all_events = subst (IsInOrder nat_cmp event_number) (sym all_read) (read_in_order c.looks_at_events-looks.result (rows_seen u old.now.trees EventKept) (rises event_shape (good EventKept) u (old.now.trees 13) (k.books.tidy EventKept))) in
     part_found old m u k call chosen is c.args.units units
     c.wants_all_grants-all.result (c.wants_all_grants-all.ensures all)
     c.in_ok-grants.grants (c.in_ok-grants.ensures.rows t3.0 b2 call.person (own ∙ ap (λ (d : Database). filter (λ (g : GrantRow). same_name call.person g.person) (rows_seen u d.trees GrantKept)) (sym e2)) ∙ ap (λ (d : Database). filter (λ (g : GrantRow). same_name call.person g.person || c.wants_all_grants-all.result) (rows_seen u d.trees GrantKept)) e2)
@@ -88,11 +88,11 @@ returns-clause-found g c told m k units own =
     c.in_ok-alarms.alarms (c.in_ok-alarms.ensures.rows t4.0 b3 ∙ ap (λ (d : Database). alarms_with c.wanted_alarms-tags.result (rows_seen u d.trees AlarmKept)) e3)
     c.wanted_shelves-shelved.result (c.wanted_shelves-shelved.ensures all)
     c.in_ok-shelves.shelves (c.in_ok-shelves.ensures.rows t5.0 b4 ∙ ap (λ (d : Database). shelves_with c.wanted_shelves-shelved.result (rows_seen u d.trees ShelfKept)) e4)
-    c.looks_at_events-told.result c.looks_at_events-told.ensures
+    c.looks_at_events-looks.result c.looks_at_events-looks.ensures
     c.in_ok-all_events.all_events all_read
     c.in_ok-events.events (c.in_ok-events.ensures in_order all)
     c.in_ok-records.records records
     c.in_ok-bands.bands (c.in_ok-bands.ensures.rows t8 b7 all (sym (units ∙ k.seen u UnitKept)) ∙ ap (λ (d : Database). filter (λ (r : BandRow). chosen.matrix r.matrix_no) (rows_seen u d.trees BandKept)) e7)
     c.in_ok-cells.cells (c.in_ok-cells.ensures.rows t9 b8 all (sym (units ∙ k.seen u UnitKept)) ∙ ap (λ (d : Database). filter (λ (r : CellRow). chosen.matrix r.matrix_no) (rows_seen u d.trees CellKept)) e8)
     c.in_ok-changes.changes (c.in_ok-changes.ensures.rows t10 b9 all records ∙ ap (λ (d : Database). filter (λ (r : ChangeEntry). chosen.change r.number) (rows_seen u d.trees ChangeKept)) e9)
-    c.in_ok-count.count (λ rows h n es. c.in_ok-count.ensures.rows told.0 b10 rows (h ∙ ap (λ (d : Database). rows_seen u d.trees AlarmKept) (sym e10)) (n ∙ ap (λ (d : Database). rows_seen u d.trees ChangeKept) (sym e10)) es)
+    c.in_ok-count.count (λ rows h n es. c.in_ok-count.ensures.rows honest.0 b10 rows (h ∙ ap (λ (d : Database). rows_seen u d.trees AlarmKept) (sym e10)) (n ∙ ap (λ (d : Database). rows_seen u d.trees ChangeKept) (sym e10)) es)

@@ -12,33 +12,33 @@ use Rattle.plant_store.proofs.Selected.{holder_found, no_part, stranger_found}
 use Rattle.plant_store.proofs.part.unit_part.Goals as goal
 
 pub returns-then-not-has_row-clause-found : goal.returns-then-not-has_row-clause-found
-returns-then-not-has_row-clause-found g c told m k =
-    no_part (state g.S.Store c.args.conn.now) m c.args.unit.now k c.args.call.now c.in_ok-units.units (c.in_ok-units.ensures.rows told.0 k.books) (search rules)
+returns-then-not-has_row-clause-found g c honest m k =
+    no_part (state g.S.Store c.args.conn.now) m c.args.unit.now k c.args.call.now c.in_ok-units.units (c.in_ok-units.ensures.rows honest.0 k.books) (search rules)
 
 pub returns-then-not-holds_some_by-clause-found : goal.returns-then-not-holds_some_by-clause-found
-returns-then-not-holds_some_by-clause-found g c told m k =
+returns-then-not-holds_some_by-clause-found g c honest m k =
     let u = c.args.unit.now in
     let call = c.args.call.now in
     let old = state g.S.Store c.args.conn.now in
     let s1 = state g.S.Store c.all_rows.new.conn in
-    let t1 = c.own_grants.ensures.reads.told told in
+    let t1 = c.own_grants.ensures.reads.honest honest in
     let e1 : s1.now ≡ old.now = c.all_rows.ensures.reads.same t1 k.books in
     let b1 : AreBooks s1.now = subst AreBooks (sym e1) k.books in
     let any : has_any c.in_ok-units.units ≡ true = search rules in
     let none : holds_by c.in_ok-own.own call.moment call.person ≡ false = search rules in
     stranger_found old m u k call c.in_ok-units.units (c.in_ok-units.ensures.rows t1.0 k.books) any
-    c.in_ok-own.own (c.in_ok-own.ensures.rows told.0 b1 ∙ ap (λ (d : Database). filter (λ (g : GrantRow). same_name call.person g.person) (rows_seen u d.trees GrantKept)) e1) none
+    c.in_ok-own.own (c.in_ok-own.ensures.rows honest.0 b1 ∙ ap (λ (d : Database). filter (λ (g : GrantRow). same_name call.person g.person) (rows_seen u d.trees GrantKept)) e1) none
     c.part_of_grants.result c.part_of_grants.ensures.rows c.part_of_grants.ensures.count
 
 pub returns-clause-found : goal.returns-clause-found
-returns-clause-found g c told m k =
+returns-clause-found g c honest m k =
     let u = c.args.unit.now in
     let call = c.args.call.now in
     let old = state g.S.Store c.args.conn.now in
     let s1 = state g.S.Store c.all_rows.new.conn in
     let s2 = state g.S.Store c.own_grants.new.conn in
-    let t2 = c.holders_part.ensures.reads.told told in
-    let t1 = c.own_grants.ensures.reads.told t2 in
+    let t2 = c.holders_part.ensures.reads.honest honest in
+    let t1 = c.own_grants.ensures.reads.honest t2 in
     let e1 : s1.now ≡ old.now = c.all_rows.ensures.reads.same t1 k.books in
     let b1 : AreBooks s1.now = subst AreBooks (sym e1) k.books in
     let e2 : s2.now ≡ old.now = c.own_grants.ensures.reads.same t2 b1 ∙ e1 in
@@ -46,7 +46,7 @@ returns-clause-found g c told m k =
     let some : holds_by c.in_ok-own.own call.moment call.person ≡ true = search rules in
     let units = c.in_ok-units.ensures.rows t1.0 k.books in
     let own = c.in_ok-own.ensures.rows t2.0 b1 ∙ ap (λ (d : Database). filter (λ (g : GrantRow). same_name call.person g.person) (rows_seen u d.trees GrantKept)) e1 in
-    let part = c.in_ok-part.ensures.found told m (keeps_same old s2 m k e2)
+    let part = c.in_ok-part.ensures.found honest m (keeps_same old s2 m k e2)
     (units ∙ ap (λ (d : Database). rows_seen u d.trees UnitKept) (sym e2))
     (own ∙ ap (λ (d : Database). filter (λ (g : GrantRow). same_name call.person g.person) (rows_seen u d.trees GrantKept)) (sym e2)) in
     holder_found old m u k call c.in_ok-units.units units any c.in_ok-own.own own some c.in_ok-part.part part

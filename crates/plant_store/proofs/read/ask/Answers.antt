@@ -17,16 +17,16 @@ either_way sql params old new (Ok rows) schema is plain ok err = asked sql param
 either_way sql params old new (Err e) schema is plain ok err = asked sql params old new schema is plain (λ (v : Vec Row Global). v.items) (Err e) err
 
 pub returns-clause-same : goal.returns-clause-same
-returns-clause-same g c told schema is plain =
+returns-clause-same g c honest schema is plain =
     let old = state g.S.Store c.args.conn.now in
     let new = state g.S.Store c.query_all.new.self in
     let quiet : IsTrue c.is_autocommit-settled.result = search rules in
-    same_now old new (c.is_autocommit-settled.ensures.settled quiet) told.1
-    (either_way c.args.sql.now (bound c.args.cells.now) old new c.query_all.result schema is plain (c.query_all.ensures.ok told.0) (c.query_all.ensures.err told.0))
+    same_now old new (c.is_autocommit-settled.ensures.settled quiet) honest.1
+    (either_way c.args.sql.now (bound c.args.cells.now) old new c.query_all.result schema is plain (c.query_all.ensures.ok honest.0) (c.query_all.ensures.err honest.0))
 
-pub returns-clause-told : goal.returns-clause-told
-returns-clause-told g c told =
+pub returns-clause-honest : goal.returns-clause-honest
+returns-clause-honest g c honest =
     let old = state g.S.Store c.args.conn.now in
     let new = state g.S.Store c.query_all.new.self in
     let early : HasCleanDisk old = omega (arith, c.query_all.ensures.survives.clean) in
-    (early, was_open c.args.sql.now _ old new (λ (v : Vec Row Global). v.items) c.query_all.result told.1 (c.query_all.ensures.ok told.0) (c.query_all.ensures.err told.0))
+    (early, was_open c.args.sql.now _ old new (λ (v : Vec Row Global). v.items) c.query_all.result honest.1 (c.query_all.ensures.ok honest.0) (c.query_all.ensures.err honest.0))

@@ -11,7 +11,7 @@ returns-clause-rows g c clean books =
     ap length (c.as_slice.ensures.value ∙ shown) ∙ length_mapped _ _
 
 pub returns-clause-reads : goal.returns-clause-reads
-returns-clause-reads g c = reads_plain _ shelf_tags_plain c.ask.ensures.same c.ask.ensures.told
+returns-clause-reads g c = reads_plain _ shelf_tags_plain c.ask.ensures.same c.ask.ensures.honest
 
 pub returns-in_err-tags-clause-reads : goal.returns-in_err-tags-clause-reads
-returns-in_err-tags-clause-reads g c = reads_plain _ shelf_tags_plain c.ask.ensures.same c.ask.ensures.told
+returns-in_err-tags-clause-reads g c = reads_plain _ shelf_tags_plain c.ask.ensures.same c.ask.ensures.honest

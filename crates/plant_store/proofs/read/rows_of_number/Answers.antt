@@ -11,4 +11,4 @@ returns-clause-rows g c clean books =
     if_ok c.read_rows.result (λ read it. shown_decoded (c.select_of_number.ensures c.args.unit.now c.args.number) old new books.same_schema books it.0 (rw c.numbered.ensures at it.1.0) read it.1.1) (c.read_rows.ensures.rows clean)
 
 pub returns-clause-reads : goal.returns-clause-reads
-returns-clause-reads g c = reads_plain _ (c.select_of_number.ensures c.args.unit.now c.args.number).plain c.read_rows.ensures.same c.read_rows.ensures.told
+returns-clause-reads g c = reads_plain _ (c.select_of_number.ensures c.args.unit.now c.args.number).plain c.read_rows.ensures.same c.read_rows.ensures.honest

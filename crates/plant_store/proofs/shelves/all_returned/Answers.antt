@@ -13,14 +13,14 @@ loop-shelf-preserved g c =
     let mid = state g.S.Store c.loop-shelf.conn in
     record {
       mode = c.returned.ensures.mode;
-      found = λ told m k.
-          let before = c.returned.ensures.reads.told told in
+      found = λ honest m k.
+          let before = c.returned.ensures.reads.honest honest in
           let k2 = keeps_same old mid m k (c.loop-shelf.invariant.reads.same before k.books) in
           let s = c.shelf-item.result in
           let xs = c.args.shelves.now in
           let at = c.loop-shelf.shelf-index in
           let more : take (at + 1) xs ≡ take at xs ++ s ∷ [] = take_more xs at s (omega arith) ∙ ap (λ (y : UnitShelf). take at xs ++ y ∷ []) (sym c.shelf-item.is) in
-          c.in_ok-push.ensures ∙ ap (λ y. c.loop-shelf.mine ++ y ∷ []) (c.in_ok-returned.ensures.found told m k2)
+          c.in_ok-push.ensures ∙ ap (λ y. c.loop-shelf.mine ++ y ∷ []) (c.in_ok-returned.ensures.found honest m k2)
           ∙ returned_more m xs at s more c.loop-shelf.mine (c.loop-shelf.invariant.found before m k);
       reads = reads_then c.loop-shelf.invariant.reads c.returned.ensures.reads;
     }

@@ -25,11 +25,11 @@ all_seen u db rows a b c d e f h i j RecordKept = sym i
 all_seen u db rows a b c d e f h i j ChangeKept = sym j
 
 pub returns-then-not-has_row-clause-found : goal.returns-then-not-has_row-clause-found
-returns-then-not-has_row-clause-found g c told m k =
-    ap (option_map without_events) (none_found (state g.S.Store c.args.conn.now) m c.args.unit.now k c.in_ok-units.units (c.in_ok-units.ensures.rows told.0 k.books) (search rules))
+returns-then-not-has_row-clause-found g c honest m k =
+    ap (option_map without_events) (none_found (state g.S.Store c.args.conn.now) m c.args.unit.now k c.in_ok-units.units (c.in_ok-units.ensures.rows honest.0 k.books) (search rules))
 
 pub returns-clause-found : goal.returns-clause-found
-returns-clause-found g c told m k =
+returns-clause-found g c honest m k =
     let u = c.args.unit.now in
     let old = state g.S.Store c.args.conn.now in
     let s1 = state g.S.Store c.all_rows.new.conn in
@@ -39,13 +39,13 @@ returns-clause-found g c told m k =
     let s5 = state g.S.Store c.all_rows-5.new.conn in
     let s6 = state g.S.Store c.all_rows-6.new.conn in
     let s7 = state g.S.Store c.all_rows-7.new.conn in
-    let t7 = c.all_rows-8.ensures.reads.told told in
-    let t6 = c.all_rows-7.ensures.reads.told t7 in
-    let t5 = c.all_rows-6.ensures.reads.told t6 in
-    let t4 = c.all_rows-5.ensures.reads.told t5 in
-    let t3 = c.all_rows-4.ensures.reads.told t4 in
-    let t2 = c.all_rows-3.ensures.reads.told t3 in
-    let t1 = c.all_rows-2.ensures.reads.told t2 in
+    let t7 = c.all_rows-8.ensures.reads.honest honest in
+    let t6 = c.all_rows-7.ensures.reads.honest t7 in
+    let t5 = c.all_rows-6.ensures.reads.honest t6 in
+    let t4 = c.all_rows-5.ensures.reads.honest t5 in
+    let t3 = c.all_rows-4.ensures.reads.honest t4 in
+    let t2 = c.all_rows-3.ensures.reads.honest t3 in
+    let t1 = c.all_rows-2.ensures.reads.honest t2 in
     let e1 : s1.now ≡ old.now = c.all_rows.ensures.reads.same t1 k.books in
     let b1 : AreBooks s1.now = subst AreBooks (sym e1) k.books in
     let e2 : s2.now ≡ old.now = c.all_rows-2.ensures.reads.same t2 b1 ∙ e1 in
@@ -71,6 +71,6 @@ returns-clause-found g c told m k =
     (c.in_ok-cells.ensures.rows t6.0 b5 ∙ ap (λ (d : Database). rows_seen u d.trees CellKept) e5)
     refl
     (c.in_ok-records.ensures.rows t7.0 b6 ∙ ap (λ (d : Database). rows_seen u d.trees RecordKept) e6)
-    (c.in_ok-changes.ensures.rows told.0 b7 ∙ ap (λ (d : Database). rows_seen u d.trees ChangeKept) e7))
+    (c.in_ok-changes.ensures.rows honest.0 b7 ∙ ap (λ (d : Database). rows_seen u d.trees ChangeKept) e7))
     (search rules) in
     ap (λ es. Some (record rows { events = es })) c.new.ensures ∙ ap (option_map without_events) whole

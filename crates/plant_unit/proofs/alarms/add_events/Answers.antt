@@ -1,10 +1,10 @@
 use Rattle.std.proofs.Common.{arith, ap, append-nil, length, sym, take, ◌++◌, ◌∙◌, rules}
 use Rattle.plant_unit.proofs.NamedLaws.{added_on}
-use Rattle.plant_unit.specs.Summaries as told
+use Rattle.plant_unit.specs.Summaries as states
 use Rattle.plant_unit.proofs.alarms.add_events.Goals as goal
 
 pub loop-event-init : goal.loop-event-init
-loop-event-init c = record { long = search rules; so = λ order es is. is ∙ ap (told.summaries c.args.alarms.now) (sym (append-nil es)) }
+loop-event-init c = record { long = search rules; so = λ order es is. is ∙ ap (states.summaries c.args.alarms.now) (sym (append-nil es)) }
 
 pub loop-event-preserved : goal.loop-event-preserved
 loop-event-preserved c =

@@ -2,8 +2,8 @@ use Rattle.std.proofs.Common.{take, ◌++◌, ◌≡◌}
 use Rattle.std.specs.Prelude.{List, filter, map}
 use Rattle.plant_alarm.specs.declared.event.Event.{Event}
 use Rattle.plant_model.specs.RowChanges.{state_put}
-use Rattle.plant_unit.specs.Summaries as told
+use Rattle.plant_unit.specs.Summaries as states
 use Rattle.plant_unit.proofs.alarms.push_named.Given as goal
 
 abbrev pub invariant-loop-i : goal.invariant-loop-i
-invariant-loop-i l = (es fresh : List Event) → told.AreNamed l.named fresh → l.summaries ≡ told.summaries l.alarms es → l.changes ≡ l.initial.changes ++ map (state_put es) (filter (told.is_named fresh) (take l.i l.alarms))
+invariant-loop-i l = (es fresh : List Event) → states.AreNamed l.named fresh → l.summaries ≡ states.summaries l.alarms es → l.changes ≡ l.initial.changes ++ map (state_put es) (filter (states.is_named fresh) (take l.i l.alarms))

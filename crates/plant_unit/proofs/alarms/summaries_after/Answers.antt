@@ -3,7 +3,7 @@ use Rattle.plant_alarm.specs.declared.event.Event.{Event}
 use Rattle.plant_import.specs.Merging.{IsRising}
 use Rattle.plant_import.specs.Numbers.{with_events}
 use Rattle.plant_unit.proofs.NamedLaws.{go_on, late_all, needed_ordered, none_late}
-use Rattle.plant_unit.specs.Summaries as told
+use Rattle.plant_unit.specs.Summaries as states
 use Rattle.plant_unit.proofs.alarms.summaries_after.Goals as goal
 
 pub returns-then-branch-clause-value : goal.returns-then-branch-clause-value
@@ -11,7 +11,7 @@ returns-then-branch-clause-value c order es is added so =
     let late = c.in_ok-has_late.ensures.value (needed_ordered c.args.kept.now es c.args.rows.now c.args.fresh.now is added) in
     let all : c.args.kept.now ≡ es = late_all c.args.kept.now es c.args.rows.now c.args.fresh.now c.in_ok-has_late.field-0 is added late c.if-branch.true in
     let rising : IsRising c.args.kept.now = subst (λ (l : List Event). IsRising l) (sym all) added.rise in
-    subst (λ (l : List Event). IfOk c.told_anew.result (λ s. s ≡ told.summaries c.args.alarms.now (with_events l c.args.fresh.now))) all (c.told_anew.ensures.value rising order)
+    subst (λ (l : List Event). IfOk c.told_anew.result (λ s. s ≡ states.summaries c.args.alarms.now (with_events l c.args.fresh.now))) all (c.told_anew.ensures.value rising order)
 
 pub returns-else-branch-clause-value : goal.returns-else-branch-clause-value
 returns-else-branch-clause-value c order es is added so =

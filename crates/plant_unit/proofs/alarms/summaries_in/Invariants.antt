@@ -1,7 +1,7 @@
 use Rattle.std.proofs.Common.{take, ◌≡◌}
 use Rattle.std.specs.Prelude.{map}
-use Rattle.plant_unit.specs.Summaries as told
+use Rattle.plant_unit.specs.Summaries as states
 use Rattle.plant_unit.proofs.alarms.summaries_in.Given as goal
 
 abbrev pub invariant-loop-alarm : goal.invariant-loop-alarm
-invariant-loop-alarm l = l.summaries ≡ map told.summary_in (take l.alarm-index l.alarms)
+invariant-loop-alarm l = l.summaries ≡ map states.summary_in (take l.alarm-index l.alarms)

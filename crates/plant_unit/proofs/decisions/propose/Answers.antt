@@ -4,8 +4,8 @@ use Rattle.plant_model.specs.RowChanges.{own_changes}
 use Rattle.plant_model.specs.RowFacts.{facts_in}
 use Rattle.plant_model.specs.declared.call.Request.TheVariants.{Propose}
 use Rattle.plant_model.specs.declared.reply.Reply.TheVariants.{Number}
-use Rattle.plant_model.specs.declared.rows.Change.{Change}
-use Rattle.plant_model.specs.declared.rows.Change.TheVariants.{Put}
+use Rattle.plant_model.specs.declared.rows.RowEdit.{RowEdit}
+use Rattle.plant_model.specs.declared.rows.RowEdit.TheVariants.{Put}
 use Rattle.plant_model.specs.declared.rows.Row.TheVariants.{Unit as UnitPut}
 use Rattle.plant_model.specs.declared.rows.UnitRow.{UnitRow}
 use Rattle.plant_unit.proofs.VerdictLaws.{made_for, refused_for}
@@ -24,5 +24,5 @@ returns-clause-value c kept u is =
     let request = Propose u c.args.proposal.now in
     made_for f c.args.call.now request is (Number c.next_number.result) c.push_proposal.new.changes
     (sym c.in_default.is ∙ c.in_ok-refused.ensures.value kept t p u) (ap Number (c.next_number.ensures kept.count_fits)) refl
-    (c.in_ok-push_proposal.ensures.value kept u ∙ ap (λ (l : List Change). l ++ own_changes f p t request) c.in_ok-changes.ensures.value
+    (c.in_ok-push_proposal.ensures.value kept u ∙ ap (λ (l : List RowEdit). l ++ own_changes f p t request) c.in_ok-changes.ensures.value
     ∙ ap (λ (r : UnitRow). Put (UnitPut (record r { last_s = t })) ∷ own_changes f p t request) (sym c.requires))

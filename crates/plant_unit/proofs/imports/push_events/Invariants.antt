@@ -1,6 +1,6 @@
 use Rattle.std.proofs.Common.{take, ◌++◌, ◌≡◌}
 use Rattle.std.specs.Prelude.{map}
-use Rattle.plant_model.specs.declared.rows.Change.TheVariants.{Put}
+use Rattle.plant_model.specs.declared.rows.RowEdit.TheVariants.{Put}
 use Rattle.plant_model.specs.declared.rows.Row.TheVariants.{Event as EventPut}
 use Rattle.plant_unit.proofs.imports.push_events.Given as goal
 

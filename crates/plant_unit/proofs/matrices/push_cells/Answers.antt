@@ -1,4 +1,4 @@
-use Rattle.plant_model.specs.declared.rows.Change.TheVariants.{Put}
+use Rattle.plant_model.specs.declared.rows.RowEdit.TheVariants.{Put}
 use Rattle.plant_model.specs.declared.rows.Row.TheVariants.{Cell as CellPut}
 use Rattle.plant_unit.specs.MatrixRows.{row_of_cells}
 use Rattle.plant_unit.proofs.Loops.{grown, next_cells}

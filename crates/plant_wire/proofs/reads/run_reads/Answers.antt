@@ -10,9 +10,9 @@ pub reads-init : goal.reads-init
 reads-init g c =
     rw c.new-buffer.ensures.items record {
       stands = stands_start (g.I.Inlet.remaining c.args.inlet.now) (g.O.Outlet.written c.args.outlet.now)
-          (Ran (g.B.Books.holds c.args.office.now.books) (g.B.Books.can_tell c.args.office.now.books) (g.B.Books.holds c.args.office.now.books) (g.B.Books.stores c.args.office.now.books) (g.B.Books.stores c.args.office.now.books))
-          (ran_none (g.B.Books.holds c.args.office.now.books) (g.B.Books.can_tell c.args.office.now.books) (g.B.Books.stores c.args.office.now.books));
-      told = λ t. t;
+          (Ran (g.B.Books.represents c.args.office.now.books) (g.B.Books.is_honest c.args.office.now.books) (g.B.Books.represents c.args.office.now.books) (g.B.Books.stores c.args.office.now.books) (g.B.Books.stores c.args.office.now.books))
+          (ran_none (g.B.Books.represents c.args.office.now.books) (g.B.Books.is_honest c.args.office.now.books) (g.B.Books.stores c.args.office.now.books));
+      honest = λ t. t;
       stalls = refl;
       failed = refl;
       count = omega arith;
@@ -32,8 +32,8 @@ returns-in-Failed-clause-does g c = ends_failed c.reads.invariant.stands (g.I.In
 pub returns-in-Failed-clause-stops : goal.returns-in-Failed-clause-stops
 returns-in-Failed-clause-stops g c = (inl c.in-Failed.ensures.2, c.reads.invariant.stalls)
 
-pub returns-in-Failed-clause-told : goal.returns-in-Failed-clause-told
-returns-in-Failed-clause-told g c = c.reads.invariant.told
+pub returns-in-Failed-clause-honest : goal.returns-in-Failed-clause-honest
+returns-in-Failed-clause-honest g c = c.reads.invariant.honest
 
 pub returns-in-Fault-clause-does : goal.returns-in-Fault-clause-does
 returns-in-Fault-clause-does g c = ends_fault c.reads.invariant.stands (g.I.Inlet.remaining c.read_more.new.inlet) c.in-Fault.ensures.0 c.in-Fault.ensures.1
@@ -46,8 +46,8 @@ returns-in-Finished-clause-does g c =
 
 pub returns-in-Err-WriteFailed-clause-does : goal.returns-in-Err-WriteFailed-clause-does
 returns-in-Err-WriteFailed-clause-does g c =
-    let joins = ran_joins (g.B.Books.holds c.args.office.now.books) (g.B.Books.holds c.reads.office.books) (g.B.Books.holds c.answer_all.new.office.books)
-    (g.B.Books.can_tell c.reads.office.books) (g.B.Books.can_tell c.answer_all.new.office.books) (g.B.Books.stores c.args.office.now.books) (g.B.Books.stores c.reads.office.books) (g.B.Books.stores c.answer_all.new.office.books) c.in-Err-WriteFailed.ensures.told in
+    let joins = ran_joins (g.B.Books.represents c.args.office.now.books) (g.B.Books.represents c.reads.office.books) (g.B.Books.represents c.answer_all.new.office.books)
+    (g.B.Books.is_honest c.reads.office.books) (g.B.Books.is_honest c.answer_all.new.office.books) (g.B.Books.stores c.args.office.now.books) (g.B.Books.stores c.reads.office.books) (g.B.Books.stores c.answer_all.new.office.books) c.in-Err-WriteFailed.ensures.honest in
     let h = ends_part c.reads.invariant.stands (g.I.Inlet.remaining c.read_more.new.inlet) c.deref.result.now c.in-More.ensures.0 c.in-More.ensures.1
     (c.deref.ensures.value ∙ c.in-More.ensures.2) joins (g.O.Outlet.written c.answer_all.new.outlet) _ c.in-Err-WriteFailed.ensures.does in
     (h.0, h.1, h.2.0)
@@ -55,38 +55,38 @@ returns-in-Err-WriteFailed-clause-does g c =
 pub returns-in-Err-Fault-clause-does : goal.returns-in-Err-Fault-clause-does
 returns-in-Err-Fault-clause-does g c =
     let h = rw c.in-Err-Fault.field-0-is at c.in-Err-Fault.ensures.does in
-    let joins = ran_joins (g.B.Books.holds c.args.office.now.books) (g.B.Books.holds c.reads.office.books) (g.B.Books.holds c.answer_all.new.office.books)
-    (g.B.Books.can_tell c.reads.office.books) (g.B.Books.can_tell c.answer_all.new.office.books) (g.B.Books.stores c.args.office.now.books) (g.B.Books.stores c.reads.office.books) (g.B.Books.stores c.answer_all.new.office.books) c.in-Err-Fault.ensures.told in
+    let joins = ran_joins (g.B.Books.represents c.args.office.now.books) (g.B.Books.represents c.reads.office.books) (g.B.Books.represents c.answer_all.new.office.books)
+    (g.B.Books.is_honest c.reads.office.books) (g.B.Books.is_honest c.answer_all.new.office.books) (g.B.Books.stores c.args.office.now.books) (g.B.Books.stores c.reads.office.books) (g.B.Books.stores c.answer_all.new.office.books) c.in-Err-Fault.ensures.honest in
     ends_part c.reads.invariant.stands (g.I.Inlet.remaining c.read_more.new.inlet) c.deref.result.now c.in-More.ensures.0 c.in-More.ensures.1
     (c.deref.ensures.value ∙ c.in-More.ensures.2) joins (g.O.Outlet.written c.answer_all.new.outlet) Fault h
 
 pub returns-in-Ok-Broken-clause-does : goal.returns-in-Ok-Broken-clause-does
 returns-in-Ok-Broken-clause-does g c =
     let h = rw c.in-Ok-Broken.field-0-is at c.in-Ok-Broken.ensures.does in
-    let joins = ran_joins (g.B.Books.holds c.args.office.now.books) (g.B.Books.holds c.reads.office.books) (g.B.Books.holds c.answer_all.new.office.books)
-    (g.B.Books.can_tell c.reads.office.books) (g.B.Books.can_tell c.answer_all.new.office.books) (g.B.Books.stores c.args.office.now.books) (g.B.Books.stores c.reads.office.books) (g.B.Books.stores c.answer_all.new.office.books) c.in-Ok-Broken.ensures.told in
+    let joins = ran_joins (g.B.Books.represents c.args.office.now.books) (g.B.Books.represents c.reads.office.books) (g.B.Books.represents c.answer_all.new.office.books)
+    (g.B.Books.is_honest c.reads.office.books) (g.B.Books.is_honest c.answer_all.new.office.books) (g.B.Books.stores c.args.office.now.books) (g.B.Books.stores c.reads.office.books) (g.B.Books.stores c.answer_all.new.office.books) c.in-Ok-Broken.ensures.honest in
     ends_broken c.reads.invariant.stands (g.I.Inlet.remaining c.read_more.new.inlet) c.deref.result.now c.in-More.ensures.0 c.in-More.ensures.1
     (c.deref.ensures.value ∙ c.in-More.ensures.2) joins (g.I.Inlet.ended c.read_more.new.inlet) (g.O.Outlet.written c.answer_all.new.outlet) h
 
 pub returns-in-Err-clause-does : goal.returns-in-Err-clause-does
 returns-in-Err-clause-does g c =
     let h = rw c.in-Ok-Waits.field-0-is at c.in-Ok-Waits.ensures.does in
-    let joins = ran_joins (g.B.Books.holds c.args.office.now.books) (g.B.Books.holds c.reads.office.books) (g.B.Books.holds c.answer_all.new.office.books)
-    (g.B.Books.can_tell c.reads.office.books) (g.B.Books.can_tell c.answer_all.new.office.books) (g.B.Books.stores c.args.office.now.books) (g.B.Books.stores c.reads.office.books) (g.B.Books.stores c.answer_all.new.office.books) c.in-Ok-Waits.ensures.told in
+    let joins = ran_joins (g.B.Books.represents c.args.office.now.books) (g.B.Books.represents c.reads.office.books) (g.B.Books.represents c.answer_all.new.office.books)
+    (g.B.Books.is_honest c.reads.office.books) (g.B.Books.is_honest c.answer_all.new.office.books) (g.B.Books.stores c.args.office.now.books) (g.B.Books.stores c.reads.office.books) (g.B.Books.stores c.answer_all.new.office.books) c.in-Ok-Waits.ensures.honest in
     ends_drop_fault c.reads.invariant.stands (g.I.Inlet.remaining c.read_more.new.inlet) c.deref.result.now c.in-More.ensures.0 c.in-More.ensures.1
     (c.deref.ensures.value ∙ c.in-More.ensures.2) joins (g.O.Outlet.written c.answer_all.new.outlet) _ h.2
 
 pub reads-preserved : goal.reads-preserved
 reads-preserved g c =
     let h = rw c.in-Ok-Waits.field-0-is at c.in-Ok-Waits.ensures.does in
-    let joins = ran_joins (g.B.Books.holds c.args.office.now.books) (g.B.Books.holds c.reads.office.books) (g.B.Books.holds c.answer_all.new.office.books)
-    (g.B.Books.can_tell c.reads.office.books) (g.B.Books.can_tell c.answer_all.new.office.books) (g.B.Books.stores c.args.office.now.books) (g.B.Books.stores c.reads.office.books) (g.B.Books.stores c.answer_all.new.office.books) c.in-Ok-Waits.ensures.told in
+    let joins = ran_joins (g.B.Books.represents c.args.office.now.books) (g.B.Books.represents c.reads.office.books) (g.B.Books.represents c.answer_all.new.office.books)
+    (g.B.Books.is_honest c.reads.office.books) (g.B.Books.is_honest c.answer_all.new.office.books) (g.B.Books.stores c.args.office.now.books) (g.B.Books.stores c.reads.office.books) (g.B.Books.stores c.answer_all.new.office.books) c.in-Ok-Waits.ensures.honest in
     record {
       stands = stands_next c.reads.invariant.stands (g.I.Inlet.remaining c.read_more.new.inlet) c.deref.result.now c.in-More.ensures.0 c.in-More.ensures.1
           (c.deref.ensures.value ∙ c.in-More.ensures.2) joins (g.O.Outlet.written c.answer_all.new.outlet)
           c.in-Ok-Waits.n c.drop_front.new.buffer.items
           (c.in-Ok.ensures ∙ sym (ap (drop c.in-Ok-Waits.n) c.deref.ensures.value)) h.1 h.2;
-      told = λ t. c.reads.invariant.told (c.in-Ok-Waits.ensures.told t);
+      honest = λ t. c.reads.invariant.honest (c.in-Ok-Waits.ensures.honest t);
       stalls = c.in-Ok-Waits.ensures.stalls ∙ c.reads.invariant.stalls;
       failed = c.in-More.ensures.3 ∙ c.reads.invariant.failed;
       count = omega (arith, c.in-More.ensures.4, c.reads.invariant.count);

@@ -7,8 +7,8 @@ use Rattle.plant_wire.proofs.reads.run_reads.Given as goal
 abbrev pub invariant-reads : goal.invariant-reads
 invariant-reads g l = record {
   stands : Stands (g.I.Inlet.remaining l.fn.inlet) (g.I.Inlet.remaining l.inlet) (g.O.Outlet.written l.fn.outlet) (g.O.Outlet.written l.outlet)
-      (Ran (g.B.Books.holds l.fn.office.books) (g.B.Books.can_tell l.office.books) (g.B.Books.holds l.office.books) (g.B.Books.stores l.fn.office.books) (g.B.Books.stores l.office.books)) l.buffer.items;
-  told : g.B.Books.can_tell l.office.books → g.B.Books.can_tell l.fn.office.books;
+      (Ran (g.B.Books.represents l.fn.office.books) (g.B.Books.is_honest l.office.books) (g.B.Books.represents l.office.books) (g.B.Books.stores l.fn.office.books) (g.B.Books.stores l.office.books)) l.buffer.items;
+  honest : g.B.Books.is_honest l.office.books → g.B.Books.is_honest l.fn.office.books;
   stalls : g.O.Outlet.failures l.outlet ≡ g.O.Outlet.failures l.fn.outlet;
   failed : g.I.Inlet.failures l.inlet ≡ g.I.Inlet.failures l.fn.inlet;
   count : g.I.Inlet.reads l.inlet ≡ g.I.Inlet.reads l.fn.inlet + l.count;

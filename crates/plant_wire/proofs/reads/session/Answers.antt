@@ -8,19 +8,19 @@ pub returns-in_default-clause-does : goal.returns-in_default-clause-does
 returns-in_default-clause-does g c = (
   [],
   Consumes-none (g.I.Inlet.remaining c.args.inlet.now),
-  part_none [] (g.O.Outlet.written c.args.outlet.now) (ran_none (g.B.Books.holds c.args.office.now.books) (g.B.Books.can_tell c.args.office.now.books) (g.B.Books.stores c.args.office.now.books)),
+  part_none [] (g.O.Outlet.written c.args.outlet.now) (ran_none (g.B.Books.represents c.args.office.now.books) (g.B.Books.is_honest c.args.office.now.books) (g.B.Books.stores c.args.office.now.books)),
 )
 
 pub returns-in_default-new-clause-does : goal.returns-in_default-new-clause-does
 returns-in_default-new-clause-does g c = (
   [],
   Consumes-none (g.I.Inlet.remaining c.args.inlet.now),
-  part_none [] (g.O.Outlet.written c.args.outlet.now) (ran_none (g.B.Books.holds c.args.office.now.books) (g.B.Books.can_tell c.args.office.now.books) (g.B.Books.stores c.args.office.now.books)),
+  part_none [] (g.O.Outlet.written c.args.outlet.now) (ran_none (g.B.Books.represents c.args.office.now.books) (g.B.Books.is_honest c.args.office.now.books) (g.B.Books.stores c.args.office.now.books)),
 )
 
 pub returns-in_default-vec-clause-does : goal.returns-in_default-vec-clause-does
 returns-in_default-vec-clause-does g c = (
   [],
   Consumes-none (g.I.Inlet.remaining c.args.inlet.now),
-  part_none [] (g.O.Outlet.written c.args.outlet.now) (ran_none (g.B.Books.holds c.args.office.now.books) (g.B.Books.can_tell c.args.office.now.books) (g.B.Books.stores c.args.office.now.books)),
+  part_none [] (g.O.Outlet.written c.args.outlet.now) (ran_none (g.B.Books.represents c.args.office.now.books) (g.B.Books.is_honest c.args.office.now.books) (g.B.Books.stores c.args.office.now.books)),
 )

@@ -7,8 +7,8 @@ abbrev pub invariant-items : goal.invariant-items
 invariant-items g l = record {
   within : l.at ≤ length l.bytes;
   serves : Serves l.bytes (g.O.Outlet.written l.fn.outlet) (g.O.Outlet.written l.outlet)
-      (Ran (g.B.Books.holds l.fn.office.books) (g.B.Books.can_tell l.office.books) (g.B.Books.holds l.office.books) (g.B.Books.stores l.fn.office.books) (g.B.Books.stores l.office.books)) (drop l.at l.bytes);
-  told : g.B.Books.can_tell l.office.books → g.B.Books.can_tell l.fn.office.books;
+      (Ran (g.B.Books.represents l.fn.office.books) (g.B.Books.is_honest l.office.books) (g.B.Books.represents l.office.books) (g.B.Books.stores l.fn.office.books) (g.B.Books.stores l.office.books)) (drop l.at l.bytes);
+  honest : g.B.Books.is_honest l.office.books → g.B.Books.is_honest l.fn.office.books;
   stalls : g.O.Outlet.failures l.outlet ≡ g.O.Outlet.failures l.fn.outlet;
 }
 

@@ -1,6 +1,6 @@
 use Rattle.plant_call.specs.Front.{body_length, item_of}
 use Rattle.plant_call.proofs.Cuts.{whole_fits, whole_positive}
-use Rattle.plant_wire.specs.Marks.{said, told, begun}
+use Rattle.plant_wire.specs.Marks.{said, honest, begun}
 use Rattle.plant_wire.proofs.Running.{ran_none}
 use Rattle.plant_wire.proofs.Serving.{serves_none, serves_one, part_none, part_one, part_broken, broken_now, stops_for}
 use Rattle.plant_wire.proofs.step.answer_next.Goals as goal
@@ -8,34 +8,34 @@ use Rattle.plant_wire.proofs.step.answer_next.Goals as goal
 pub returns-in-More-clause-does : goal.returns-in-More-clause-does
 returns-in-More-clause-does g c = (
   rw c.in-More.is at c.look_with-cut.ensures.cut,
-  serves_none c.args.bytes.now (g.O.Outlet.written c.args.outlet.now) (ran_none (g.B.Books.holds c.args.office.now.books) (g.B.Books.can_tell c.args.office.now.books) (g.B.Books.stores c.args.office.now.books)),
+  serves_none c.args.bytes.now (g.O.Outlet.written c.args.outlet.now) (ran_none (g.B.Books.represents c.args.office.now.books) (g.B.Books.is_honest c.args.office.now.books) (g.B.Books.stores c.args.office.now.books)),
   c.look_with-cut.ensures.wanted,
 )
 
 pub returns-in-Fault-clause-does : goal.returns-in-Fault-clause-does
 returns-in-Fault-clause-does g c =
-    part_none c.args.bytes.now (g.O.Outlet.written c.args.outlet.now) (ran_none (g.B.Books.holds c.args.office.now.books) (g.B.Books.can_tell c.args.office.now.books) (g.B.Books.stores c.args.office.now.books))
+    part_none c.args.bytes.now (g.O.Outlet.written c.args.outlet.now) (ran_none (g.B.Books.represents c.args.office.now.books) (g.B.Books.is_honest c.args.office.now.books) (g.B.Books.stores c.args.office.now.books))
 
 pub returns-in-Ok-clause-does : goal.returns-in-Ok-clause-does
 returns-in-Ok-clause-does g c =
-    broken_now c.args.bytes.now _ _ _ (rw c.in-Broken.is at c.look_with-cut.ensures.cut) c.in-Ok.ensures.does (ran_none (g.B.Books.holds c.args.office.now.books) (g.B.Books.can_tell c.args.office.now.books) (g.B.Books.stores c.args.office.now.books))
+    broken_now c.args.bytes.now _ _ _ (rw c.in-Broken.is at c.look_with-cut.ensures.cut) c.in-Ok.ensures.does (ran_none (g.B.Books.represents c.args.office.now.books) (g.B.Books.is_honest c.args.office.now.books) (g.B.Books.stores c.args.office.now.books))
 
 pub returns-in-Broken-clause-does : goal.returns-in-Broken-clause-does
 returns-in-Broken-clause-does g c =
-    part_broken c.args.bytes.now _ _ _ c.in-Err.ensures.does.0 _ (rw c.in-Broken.is at c.look_with-cut.ensures.cut) c.in-Err.ensures.does.1 (ran_none (g.B.Books.holds c.args.office.now.books) (g.B.Books.can_tell c.args.office.now.books) (g.B.Books.stores c.args.office.now.books))
+    part_broken c.args.bytes.now _ _ _ c.in-Err.ensures.does.0 _ (rw c.in-Broken.is at c.look_with-cut.ensures.cut) c.in-Err.ensures.does.1 (ran_none (g.B.Books.represents c.args.office.now.books) (g.B.Books.is_honest c.args.office.now.books) (g.B.Books.stores c.args.office.now.books))
 
 pub returns-in-Ok-put_cause-clause-does : goal.returns-in-Ok-put_cause-clause-does
 returns-in-Ok-put_cause-clause-does g c = (
   whole_positive body_length item_of c.args.bytes.now _ _ (rw c.in-Malformed.is at c.look_with-cut.ensures.cut),
   whole_fits body_length item_of c.args.bytes.now _ _ (rw c.in-Malformed.is at c.look_with-cut.ensures.cut),
-  serves_one c.args.bytes.now _ _ (told c.in-Malformed.cause) _ (rw c.in-Malformed.is at c.look_with-cut.ensures.cut) c.in-Ok-put_cause.ensures.does
-      (ran_none (g.B.Books.holds c.args.office.now.books) (g.B.Books.can_tell c.args.office.now.books) (g.B.Books.stores c.args.office.now.books)),
+  serves_one c.args.bytes.now _ _ (honest c.in-Malformed.cause) _ (rw c.in-Malformed.is at c.look_with-cut.ensures.cut) c.in-Ok-put_cause.ensures.does
+      (ran_none (g.B.Books.represents c.args.office.now.books) (g.B.Books.is_honest c.args.office.now.books) (g.B.Books.stores c.args.office.now.books)),
 )
 
 pub returns-in-Malformed-clause-does : goal.returns-in-Malformed-clause-does
 returns-in-Malformed-clause-does g c =
-    part_one c.args.bytes.now _ _ (told c.in-Malformed.cause) _ c.in-Err-put_cause.ensures.does.0 _ (rw c.in-Malformed.is at c.look_with-cut.ensures.cut) c.in-Err-put_cause.ensures.does.1
-    (ran_none (g.B.Books.holds c.args.office.now.books) (g.B.Books.can_tell c.args.office.now.books) (g.B.Books.stores c.args.office.now.books)) (stops_for (begun (told c.in-Malformed.cause)) _ tt)
+    part_one c.args.bytes.now _ _ (honest c.in-Malformed.cause) _ c.in-Err-put_cause.ensures.does.0 _ (rw c.in-Malformed.is at c.look_with-cut.ensures.cut) c.in-Err-put_cause.ensures.does.1
+    (ran_none (g.B.Books.represents c.args.office.now.books) (g.B.Books.is_honest c.args.office.now.books) (g.B.Books.stores c.args.office.now.books)) (stops_for (begun (honest c.in-Malformed.cause)) _ tt)
 
 pub returns-in-Ok-answer_call-clause-does : goal.returns-in-Ok-answer_call-clause-does
 returns-in-Ok-answer_call-clause-does g c = (

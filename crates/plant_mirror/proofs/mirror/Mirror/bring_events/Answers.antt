@@ -1,7 +1,7 @@
 use Rattle.std.proofs.Common.{Some, ap, refl, rules, sym, true, ◌∙◌}
 use Rattle.std.specs.FinMap.{get}
 use Rattle.std.specs.Prelude.{option_map}
-use Rattle.plant_mirror.proofs.CopyLaws.{taken_there, with_events}
+use Rattle.plant_mirror.proofs.CopyLaws.{taken_there, seen_with_events}
 use Rattle.plant_mirror.specs.Copies.{seen}
 use Rattle.plant_mirror.proofs.mirror.Mirror.bring_events.Goals as goal
 
@@ -14,13 +14,13 @@ returns-in-Some g c = record {
         c.keep.ensures.kept m
         (record {
           held = c.events.ensures.same m h.held;
-          copied = λ told. c.take.ensures.rest (get m.units) (get m.units) (λ _ _. refl) (h.copied (c.events.ensures.told told));
+          copied = λ honest. c.take.ensures.rest (get m.units) (get m.units) (λ _ _. refl) (h.copied (c.events.ensures.honest honest));
         })
-        (λ told.
-        let copy = taken_there u (get m.units) c.args.self.now.copies.units.entries (c.in-Some.field-0-0, c.in-Some.copy) (h.copied (c.events.ensures.told told)) c.in-Some.ensures.taken in
-        ap (option_map (seen true)) (with_events c.in-Some.copy.has_events (get m.units u) rows copy.1.same)
-        ∙ ap (λ es. Some (record rows { events = es })) (sym (c.in_ok-events.ensures.found m h.held told)));
-    told = search rules;
+        (λ honest.
+        let copy = taken_there u (get m.units) c.args.self.now.copies.units.entries (c.in-Some.field-0-0, c.in-Some.copy) (h.copied (c.events.ensures.honest honest)) c.in-Some.ensures.taken in
+        ap (option_map (seen true)) (seen_with_events c.in-Some.copy.has_events (get m.units u) rows copy.1.same)
+        ∙ ap (λ es. Some (record rows { events = es })) (sym (c.in_ok-events.ensures.found m h.held honest)));
+    honest = search rules;
     count = search rules;
   };
 }
@@ -30,9 +30,9 @@ returns-in_default g c = record {
   leaves = record {
     same = λ m h. record {
       held = c.events.ensures.same m h.held;
-      copied = λ told. c.take.ensures.rest (get m.units) (get m.units) (λ _ _. refl) (h.copied (c.events.ensures.told told));
+      copied = λ honest. c.take.ensures.rest (get m.units) (get m.units) (λ _ _. refl) (h.copied (c.events.ensures.honest honest));
     };
-    told = search rules;
+    honest = search rules;
     count = search rules;
   };
 }

@@ -9,7 +9,7 @@ returns-in-Ok-clause-kept g c = λ m h is.
     let order : c.are_in_order.result ≡ true = search rules in
     record {
       held = h.held;
-      copied = λ told.
-          let copy : IsCopy (get m.units) (c.args.unit.now, c.args.copy) = record { same = is told; ordered = c.are_in_order.ensures order } in
-          c.keep.ensures.kept (get m.units) (subst (λ (v : Name). IsCopy (get m.units) (v, c.args.copy)) (sym c.in-Ok.ensures.value) copy) (h.copied told);
+      copied = λ honest.
+          let copy : IsCopy (get m.units) (c.args.unit.now, c.args.copy) = record { same = is honest; ordered = c.are_in_order.ensures order } in
+          c.keep.ensures.kept (get m.units) (subst (λ (v : Name). IsCopy (get m.units) (v, c.args.copy)) (sym c.in-Ok.ensures.value) copy) (h.copied honest);
     }

@@ -4,10 +4,10 @@ use Rattle.plant_mirror.proofs.CopyLaws.{found_there, part_there}
 use Rattle.plant_mirror.proofs.mirror.Mirror.part_of.Goals as goal
 
 pub returns-in_ok-part_of-in-Some-clause-found : goal.returns-in_ok-part_of-in-Some-clause-found
-returns-in_ok-part_of-in-Some-clause-found g c = λ m h told named.
+returns-in_ok-part_of-in-Some-clause-found g c = λ m h honest named.
     let u = c.args.unit.now in
     let copy = c.in-Some.copy.now in
     let serves : c.serves.result ≡ true = search rules in
-    let it = found_there u (get m.units) c.args.self.now.copies.units.entries copy (h.copied told) (sym c.in-Some.ensures) in
+    let it = found_there u (get m.units) c.args.self.now.copies.units.entries copy (h.copied honest) (sym c.in-Some.ensures) in
     ap (λ x. Some x) (c.in_ok-part_of-in-Some.ensures.value it.ordered)
     ∙ part_there c.args.call.now copy.has_events (get m.units u) copy.rows it.same (c.serves.ensures serves)

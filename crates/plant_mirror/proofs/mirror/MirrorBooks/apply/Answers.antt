@@ -13,8 +13,8 @@ returns-in-Some-after-clause-made g c = λ m h known.
     let after = after_changes m u cs in
     record {
       held = c.in_default.ensures.made m h.held known;
-      copied = λ told.
-          let old = h.copied (c.apply.ensures.told told) in
+      copied = λ honest.
+          let old = h.copied (c.apply.ensures.honest honest) in
           let it = taken_there u (get m.units) c.args.self.now.copies.units.entries (c.in-Some.unit, c.in-Some.copy) old c.in-Some.ensures.taken in
           let rest = c.take.ensures.rest (get m.units) (get after.units) (others_stay m u cs) old in
           let copy = c.in-Some-after.ensures m u it.1 in
@@ -27,7 +27,7 @@ returns-in_default-after-clause-made g c = λ m h known.
     let cs = c.args.changes.now in
     record {
       held = c.in_default.ensures.made m h.held known;
-      copied = λ told. c.take.ensures.rest (get m.units) (get (after_changes m u cs).units) (others_stay m u cs) (h.copied (c.apply.ensures.told told));
+      copied = λ honest. c.take.ensures.rest (get m.units) (get (after_changes m u cs).units) (others_stay m u cs) (h.copied (c.apply.ensures.honest honest));
     }
 
 pub returns-in_default-take-clause-made : goal.returns-in_default-take-clause-made
@@ -36,5 +36,5 @@ returns-in_default-take-clause-made g c = λ m h known.
     let cs = c.args.changes.now in
     record {
       held = c.in_default.ensures.made m h.held known;
-      copied = λ told. c.take.ensures.rest (get m.units) (get (after_changes m u cs).units) (others_stay m u cs) (h.copied (c.apply.ensures.told told));
+      copied = λ honest. c.take.ensures.rest (get m.units) (get (after_changes m u cs).units) (others_stay m u cs) (h.copied (c.apply.ensures.honest honest));
     }

@@ -6,9 +6,9 @@ use Rattle.plant_mirror.specs.Copies.{shelves_there}
 use Rattle.plant_mirror.proofs.mirror.MirrorBooks.mine_shelves.Goals as goal
 
 pub returns-in-Some-clause-found : goal.returns-in-Some-clause-found
-returns-in-Some-clause-found g c = λ m h told.
-    let units = c.in_ok-units.ensures.found m h.held told in
-    let copies = h.copied (c.held.ensures.told told) in
+returns-in-Some-clause-found g c = λ m h honest.
+    let units = c.in_ok-units.ensures.found m h.held honest in
+    let copies = h.copied (c.held.ensures.honest honest) in
     let found = c.in_ok-shelves.ensures.found (get m.units) copies in
     let shelves = subst (λ o. IfSome o (λ mine. mine ≡ flat_map (λ u. shelves_there u (get m.units u)) c.as_slice.result.now)) c.in-Some.is found in
     shelves ∙ ap (flat_map (λ u. shelves_there u (get m.units u))) (c.as_slice.ensures ∙ units) ∙ held_shelves (get m.units) c.args.now c.args.person.now (keys m.units)

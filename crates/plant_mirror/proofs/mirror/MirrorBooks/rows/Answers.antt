@@ -3,5 +3,5 @@ use Rattle.std.specs.FinMap.{get}
 use Rattle.plant_mirror.proofs.mirror.MirrorBooks.rows.Goals as goal
 
 pub returns-in_ok-duplicate-in-Some-clause-found : goal.returns-in_ok-duplicate-in-Some-clause-found
-returns-in_ok-duplicate-in-Some-clause-found g c = λ m h told.
-    ap (λ x. Some x) c.in_ok-duplicate-in-Some.ensures.value ∙ sym (c.in-Some.ensures (get m.units) (h.copied told))
+returns-in_ok-duplicate-in-Some-clause-found g c = λ m h honest.
+    ap (λ x. Some x) c.in_ok-duplicate-in-Some.ensures.value ∙ sym (c.in-Some.ensures (get m.units) (h.copied honest))

@@ -4,8 +4,8 @@ use Rattle.plant_mirror.proofs.CopyLaws.{all_but_events, found_there}
 use Rattle.plant_mirror.proofs.mirror.MirrorBooks.rows_but_events.Goals as goal
 
 pub returns-in_ok-rows_but_events-in-Some-clause-found : goal.returns-in_ok-rows_but_events-in-Some-clause-found
-returns-in_ok-rows_but_events-in-Some-clause-found g c = λ m h told.
+returns-in_ok-rows_but_events-in-Some-clause-found g c = λ m h honest.
     let copy = c.in-Some.copy.now in
     let u = c.args.unit.now in
-    let it = found_there u (get m.units) c.args.self.now.copies.units.entries copy (h.copied told) (sym c.in-Some.ensures) in
+    let it = found_there u (get m.units) c.args.self.now.copies.units.entries copy (h.copied honest) (sym c.in-Some.ensures) in
     ap (λ x. Some x) c.in_ok-rows_but_events-in-Some.ensures.value ∙ all_but_events copy.has_events (get m.units u) copy.rows it.same

@@ -9,20 +9,20 @@ pub returns-then-seconds : goal.returns-then-seconds
 returns-then-seconds g c =
     let call = c.args.call.now in
     record {
-      serves = serves_same (λ m k w legal h told.
-          leaves w call _ m (g.B.Books.holds c.mine_units.new.self) legal c.note_matrix.ensures
-          (behind_units m w call c.in_ok-units.units c.latest-last.result h (ap unit_named c.requires) (c.in_ok-units.ensures.found m k told) (c.latest-last.ensures ∙ ap (λ xs. fold max c.args.call.now.moment (map (λ (u : MineUnit). u.last) xs)) c.as_slice.ensures) (omega (arith, c.seconds.ensures.value, c.seconds-2.ensures.value, c.if-seconds.true)))
+      serves = serves_same (λ m k w legal h honest.
+          leaves w call _ m (g.B.Books.represents c.mine_units.new.self) legal c.note_matrix.ensures
+          (behind_units m w call c.in_ok-units.units c.latest-last.result h (ap unit_named c.requires) (c.in_ok-units.ensures.found m k honest) (c.latest-last.ensures ∙ ap (λ xs. fold max c.args.call.now.moment (map (λ (u : MineUnit). u.last) xs)) c.as_slice.ensures) (omega (arith, c.seconds.ensures.value, c.seconds-2.ensures.value, c.if-seconds.true)))
           (c.mine_units.ensures.same m k))
-          c.mine_units.ensures.told c.mine_units.ensures.same c.in_ok-units.ensures.count;
+          c.mine_units.ensures.honest c.mine_units.ensures.same c.in_ok-units.ensures.count;
     }
 
 pub returns-in_ok-lines : goal.returns-in_ok-lines
 returns-in_ok-lines g c =
     let call = c.args.call.now in
     record {
-      serves = serves_same (λ m k w legal h told.
-          leaves w call _ m (g.B.Books.holds c.mine_units.new.self) legal c.note_matrix.ensures
-          (told_units m w call c.in_ok-units.units c.latest-last.result c.in_ok-lines.field-0 h c.requires (c.in_ok-units.ensures.found m k told) (c.latest-last.ensures ∙ ap (λ xs. fold max c.args.call.now.moment (map (λ (u : MineUnit). u.last) xs)) c.as_slice.ensures) c.in_ok-lines.ensures.value (omega (arith, c.seconds.ensures.value, c.seconds-2.ensures.value, c.if-seconds.false)))
+      serves = serves_same (λ m k w legal h honest.
+          leaves w call _ m (g.B.Books.represents c.mine_units.new.self) legal c.note_matrix.ensures
+          (told_units m w call c.in_ok-units.units c.latest-last.result c.in_ok-lines.field-0 h c.requires (c.in_ok-units.ensures.found m k honest) (c.latest-last.ensures ∙ ap (λ xs. fold max c.args.call.now.moment (map (λ (u : MineUnit). u.last) xs)) c.as_slice.ensures) c.in_ok-lines.ensures.value (omega (arith, c.seconds.ensures.value, c.seconds-2.ensures.value, c.if-seconds.false)))
           (c.mine_units.ensures.same m k))
-          c.mine_units.ensures.told c.mine_units.ensures.same c.in_ok-units.ensures.count;
+          c.mine_units.ensures.honest c.mine_units.ensures.same c.in_ok-units.ensures.count;
     }

@@ -11,8 +11,8 @@ pub loop-call-init : goal.loop-call-init
 loop-call-init g c =
     let none = c.in_ok-answers.ensures.items in
     record {
-      told = λ t. t;
-      ran = λ m k w legal h told. subst (λ (xs : List Answer). IsRun w [] xs (g.B.Books.holds c.args.self.now.books)) (sym none) (run_none w m (g.B.Books.holds c.args.self.now.books) k h legal);
+      honest = λ t. t;
+      ran = λ m k w legal h honest. subst (λ (xs : List Answer). IsRun w [] xs (g.B.Books.represents c.args.self.now.books)) (sym none) (run_none w m (g.B.Books.represents c.args.self.now.books) k h legal);
       long = ap length none;
       room = c.in_ok-answers.ensures.capacity;
       count = λ room. let e : stores_in [] ≡ 0 = refl in let z : g.B.Books.stores c.args.self.now.books ≡ g.B.Books.stores c.args.self.now.books + stores_in [] = omega (arith, e) in z ∙ ap (λ xs. g.B.Books.stores c.args.self.now.books + stores_in xs) (sym none);
@@ -23,17 +23,17 @@ loop-call-preserved g c =
     let calls = c.args.calls.now in
     let i = c.loop-call.call-index in
     let call = c.call-item.result in
-    let holds = g.B.Books.holds in
+    let holds = g.B.Books.represents in
     let said = c.serve-answer.ensures in
     let before = c.loop-call.invariant in
     let more : take (i + 1) calls ≡ take i calls ++ call ∷ [] = take_more calls i call c.loop-call-test.true ∙ ap (λ (x : Call). take i calls ++ x ∷ []) (sym c.call-item.is) in
     record {
-      told = λ t. before.told (said.told t);
-      ran = λ m k w legal h told.
-          subst (λ (xs : List Call). IsRun w xs c.push_answer.new.answers.items (holds c.serve-answer.new.self.books)) (sym more)
-          (subst (λ (xs : List Answer). IsRun w (take i calls ++ call ∷ []) xs (holds c.serve-answer.new.self.books)) (sym c.push_answer.ensures.items)
-          (run_more w (take i calls) c.loop-call.answers.items call c.serve-answer.result (holds c.loop-call.self.books) (holds c.serve-answer.new.self.books)
-          (before.ran m k w legal h (said.told told)) (λ n l v lv hv. said.served n l v lv hv told) (λ n l. said.fault n l)));
+      honest = λ t. before.honest (said.honest t);
+      ran = λ m k w legal h honest.
+          subst (λ (xs : List Call). IsRun w xs c.push_answer.new.answers.items (represents c.serve-answer.new.self.books)) (sym more)
+          (subst (λ (xs : List Answer). IsRun w (take i calls ++ call ∷ []) xs (represents c.serve-answer.new.self.books)) (sym c.push_answer.ensures.items)
+          (run_more w (take i calls) c.loop-call.answers.items call c.serve-answer.result (represents c.loop-call.self.books) (represents c.serve-answer.new.self.books)
+          (before.ran m k w legal h (said.honest honest)) (λ n l v lv hv. said.served n l v lv hv honest) (λ n l. said.fault n l)));
       long = ap length c.push_answer.ensures.items ∙ (let p = length-append c.loop-call.answers.items (c.serve-answer.result ∷ []) in let e : length (c.loop-call.answers.items ++ c.serve-answer.result ∷ []) ≡ i + 1 = omega (arith, p, before.long) in e);
       room = omega (arith, before.room, c.push_answer.ensures.room);
       count = λ room.
@@ -42,7 +42,7 @@ loop-call-preserved g c =
     }
 
 pub returns-clause-ran : goal.returns-clause-ran
-returns-clause-ran g c = λ m k w legal h told.
+returns-clause-ran g c = λ m k w legal h honest.
     let all : length c.args.calls.now ≡ c.loop-call.call-index = omega (arith, c.loop-call-test.false, c.loop-call.auto.call-index-end) in
     let whole : take c.loop-call.call-index c.args.calls.now ≡ c.args.calls.now = ap (λ n. take n c.args.calls.now) (sym all) ∙ take-length c.args.calls.now in
-    subst (λ (xs : List Call). IsRun w xs c.loop-call.answers.items (g.B.Books.holds c.loop-call.self.books)) whole (c.loop-call.invariant.ran m k w legal h told)
+    subst (λ (xs : List Call). IsRun w xs c.loop-call.answers.items (g.B.Books.represents c.loop-call.self.books)) whole (c.loop-call.invariant.ran m k w legal h honest)

@@ -7,21 +7,21 @@ use Rattle.plant_office.proofs.Serving.{counts_if, fault_if, isolated_if, said_i
 use Rattle.plant_office.proofs.office.Office.serve.Goals as goal
 
 pub returns-clause-served : goal.returns-clause-served
-returns-clause-served g c = λ m k w legal h told.
-    subst (λ (a : Answer). IfSaid a (λ x. IsServed w c.args.call.now x (g.B.Books.holds c.serve_call.new.self.books))) (sym c.answer_of.ensures) (said_if c.serve_call.result _ (c.serve_call.ensures.serves.served m k w legal h told))
+returns-clause-served g c = λ m k w legal h honest.
+    subst (λ (a : Answer). IfSaid a (λ x. IsServed w c.args.call.now x (g.B.Books.represents c.serve_call.new.self.books))) (sym c.answer_of.ensures) (said_if c.serve_call.result _ (c.serve_call.ensures.serves.served m k w legal h honest))
 
 pub returns-clause-isolated : goal.returns-clause-isolated
-returns-clause-isolated g c = λ m k w v legal h admin e told.
-    subst (λ (a : Answer). IfSaid a (λ x. IsIsolated v c.args.call.now x (g.B.Books.holds c.serve_call.new.self.books))) (sym c.answer_of.ensures)
-    (isolated_if w v c.args.call.now _ _ (said_if c.serve_call.result _ (c.serve_call.ensures.serves.served m k w legal h told)) admin e)
+returns-clause-isolated g c = λ m k w v legal h admin e honest.
+    subst (λ (a : Answer). IfSaid a (λ x. IsIsolated v c.args.call.now x (g.B.Books.represents c.serve_call.new.self.books))) (sym c.answer_of.ensures)
+    (isolated_if w v c.args.call.now _ _ (said_if c.serve_call.result _ (c.serve_call.ensures.serves.served m k w legal h honest)) admin e)
 
 pub returns-clause-unchanged : goal.returns-clause-unchanged
 returns-clause-unchanged g c = λ m k.
-    subst (λ (a : Answer). IfSaid a (λ x. changes_history x c.args.call.now ≡ false → g.B.Books.holds c.serve_call.new.self.books m)) (sym c.answer_of.ensures) (said_if c.serve_call.result _ (c.serve_call.ensures.serves.unchanged m k))
+    subst (λ (a : Answer). IfSaid a (λ x. changes_history x c.args.call.now ≡ false → g.B.Books.represents c.serve_call.new.self.books m)) (sym c.answer_of.ensures) (said_if c.serve_call.result _ (c.serve_call.ensures.serves.unchanged m k))
 
 pub returns-clause-fault : goal.returns-clause-fault
 returns-clause-fault g c = λ m k.
-    subst (λ (a : Answer). OnFault a (g.B.Books.holds c.serve_call.new.self.books m)) (sym c.answer_of.ensures) (fault_if c.serve_call.result _ (c.serve_call.ensures.serves.fault m k))
+    subst (λ (a : Answer). OnFault a (g.B.Books.represents c.serve_call.new.self.books m)) (sym c.answer_of.ensures) (fault_if c.serve_call.result _ (c.serve_call.ensures.serves.fault m k))
 
 pub returns-clause-count : goal.returns-clause-count
 returns-clause-count g c =

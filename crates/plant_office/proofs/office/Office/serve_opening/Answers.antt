@@ -9,18 +9,18 @@ returns-in-Refused g c =
     let call = c.args.call.now in
     let u = c.args.unit.now in
     record {
-      serves = serves_same (λ m k w legal h told.
+      serves = serves_same (λ m k w legal h honest.
           let mid = c.taken.ensures.same m k in
-          let v = opening_of m w call u _ _ _ h (c.administrator.ensures m mid) (c.in_ok-taken.ensures.found m k told) (subst (IsOpening _ _ _) c.in-Refused.is c.in_ok-refused.ensures.value) in
-          leaves w call _ m (g.B.Books.holds c.taken.new.self) legal c.note_matrix.ensures (refused_opening m w call u c.in-Refused.refused h c.requires.named c.requires.opening v) mid)
-          c.taken.ensures.told c.taken.ensures.same c.in_ok-taken.ensures.count;
+          let v = opening_of m w call u _ _ _ h (c.administrator.ensures m mid) (c.in_ok-taken.ensures.found m k honest) (subst (IsOpening _ _ _) c.in-Refused.is c.in_ok-refused.ensures.value) in
+          leaves w call _ m (g.B.Books.represents c.taken.new.self) legal c.note_matrix.ensures (refused_opening m w call u c.in-Refused.refused h c.requires.named c.requires.opening v) mid)
+          c.taken.ensures.honest c.taken.ensures.same c.in_ok-taken.ensures.count;
     }
 
 pub returns-in_err-apply-in-Accepted : goal.returns-in_err-apply-in-Accepted
 returns-in_err-apply-in-Accepted g c =
     let fault = c.in_err-apply-in-Accepted in
     record {
-      serves = serves_fault _ fault.field-0.0 c.from_residual-in_err-apply-in-Accepted.ensures.1 (λ told. c.taken.ensures.told (c.apply.ensures.told told))
+      serves = serves_fault _ fault.field-0.0 c.from_residual-in_err-apply-in-Accepted.ensures.1 (λ honest. c.taken.ensures.honest (c.apply.ensures.honest honest))
           (λ m k. fault.ensures.unchanged m (c.taken.ensures.same m k)) c.in_ok-taken.ensures.count fault.ensures.count;
     }
 
@@ -29,11 +29,11 @@ returns-in_ok-apply-in-Accepted g c =
     let call = c.args.call.now in
     let u = c.args.unit.now in
     record {
-      serves = serves_changing (λ m k w legal h told.
+      serves = serves_changing (λ m k w legal h honest.
           let mid = c.taken.ensures.same m k in
-          let early = c.apply.ensures.told told in
+          let early = c.apply.ensures.honest honest in
           let v = opening_of m w call u _ _ _ h (c.administrator.ensures m mid) (c.in_ok-taken.ensures.found m k early) (subst (IsOpening _ _ _) c.in-Accepted.is c.in_ok-refused.ensures.value) in
-          leaves w call _ (after_changes m u c.in-Accepted.changes) (g.B.Books.holds c.apply.new.self) legal c.note_matrix.ensures (accepted_opening m w call u c.in-Accepted.reply _ h c.requires.named c.requires.opening v)
+          leaves w call _ (after_changes m u c.in-Accepted.changes) (g.B.Books.represents c.apply.new.self) legal c.note_matrix.ensures (accepted_opening m w call u c.in-Accepted.reply _ h c.requires.named c.requires.opening v)
           (c.in_ok-apply-in-Accepted.ensures.made m mid (known_opening m w call u c.in-Accepted.reply _ v)))
-          (λ told. c.taken.ensures.told (c.apply.ensures.told told)) (opening_changes call.request c.requires.opening) (c.in_ok-apply-in-Accepted.ensures.count ∙ c.in_ok-taken.ensures.count);
+          (λ honest. c.taken.ensures.honest (c.apply.ensures.honest honest)) (opening_changes call.request c.requires.opening) (c.in_ok-apply-in-Accepted.ensures.count ∙ c.in_ok-taken.ensures.count);
     }

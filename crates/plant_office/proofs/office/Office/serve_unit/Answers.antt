@@ -8,11 +8,11 @@ returns-in-Refused g c =
     let call = c.args.call.now in
     let u = c.args.unit.now in
     record {
-      serves = serves_same (λ m k w legal h told.
-          let found = c.in_ok-part.ensures.found m k told u c.requires.named in
+      serves = serves_same (λ m k w legal h honest.
+          let found = c.in_ok-part.ensures.found m k honest u c.requires.named in
           let v = on_history m w call u _ _ _ _ legal h found c.as_ref.ensures.value c.in_ok-refused.ensures.value c.in-Refused.is in
-          leaves w call _ m (g.B.Books.holds c.part.new.self) legal c.note_matrix.ensures (refused_call m w call u c.in-Refused.refused h c.requires.named c.requires.plain v) (c.part.ensures.same m k))
-          c.part.ensures.told c.part.ensures.same c.in_ok-part.ensures.count;
+          leaves w call _ m (g.B.Books.represents c.part.new.self) legal c.note_matrix.ensures (refused_call m w call u c.in-Refused.refused h c.requires.named c.requires.plain v) (c.part.ensures.same m k))
+          c.part.ensures.honest c.part.ensures.same c.in_ok-part.ensures.count;
     }
 
 pub returns-then-is_read : goal.returns-then-is_read
@@ -20,18 +20,18 @@ returns-then-is_read g c =
     let call = c.args.call.now in
     let u = c.args.unit.now in
     record {
-      serves = serves_same (λ m k w legal h told.
-          let found = c.in_ok-part.ensures.found m k told u c.requires.named in
+      serves = serves_same (λ m k w legal h honest.
+          let found = c.in_ok-part.ensures.found m k honest u c.requires.named in
           let v = on_history m w call u _ _ _ _ legal h found c.as_ref.ensures.value c.in_ok-refused.ensures.value c.in-Accepted.is in
-          leaves w call _ m (g.B.Books.holds c.part.new.self) legal c.note_matrix.ensures (read_call m w call u c.in-Accepted.reply _ h c.requires.named c.requires.plain (sym c.if-is_read.ensures) v) (c.part.ensures.same m k))
-          c.part.ensures.told c.part.ensures.same c.in_ok-part.ensures.count;
+          leaves w call _ m (g.B.Books.represents c.part.new.self) legal c.note_matrix.ensures (read_call m w call u c.in-Accepted.reply _ h c.requires.named c.requires.plain (sym c.if-is_read.ensures) v) (c.part.ensures.same m k))
+          c.part.ensures.honest c.part.ensures.same c.in_ok-part.ensures.count;
     }
 
 pub returns-in_err-apply-in-Accepted : goal.returns-in_err-apply-in-Accepted
 returns-in_err-apply-in-Accepted g c =
     let fault = c.in_err-apply-in-Accepted in
     record {
-      serves = serves_fault _ fault.field-0.0 c.from_residual-in_err-apply-in-Accepted.ensures.1 (λ told. c.part.ensures.told (c.apply.ensures.told told))
+      serves = serves_fault _ fault.field-0.0 c.from_residual-in_err-apply-in-Accepted.ensures.1 (λ honest. c.part.ensures.honest (c.apply.ensures.honest honest))
           (λ m k. fault.ensures.unchanged m (c.part.ensures.same m k)) c.in_ok-part.ensures.count fault.ensures.count;
     }
 
@@ -41,11 +41,11 @@ returns g c =
     let u = c.args.unit.now in
     let changes = sym c.if-is_read.ensures in
     record {
-      serves = serves_changing (λ m k w legal h told.
-          let found = c.in_ok-part.ensures.found m k (c.apply.ensures.told told) u c.requires.named in
+      serves = serves_changing (λ m k w legal h honest.
+          let found = c.in_ok-part.ensures.found m k (c.apply.ensures.honest honest) u c.requires.named in
           let v = on_history m w call u _ _ _ _ legal h found c.as_ref.ensures.value c.in_ok-refused.ensures.value c.in-Accepted.is in
           let known = known_call m w call u c.in-Accepted.reply _ changes v in
-          leaves w call _ (after_changes m u c.in-Accepted.changes) (g.B.Books.holds c.apply.new.self) legal c.note_matrix.ensures (changing_call m w call u c.in-Accepted.reply _ h c.requires.named c.requires.plain changes v)
+          leaves w call _ (after_changes m u c.in-Accepted.changes) (g.B.Books.represents c.apply.new.self) legal c.note_matrix.ensures (changing_call m w call u c.in-Accepted.reply _ h c.requires.named c.requires.plain changes v)
           (c.in_ok-apply-in-Accepted.ensures.made m (c.part.ensures.same m k) known))
-          (λ told. c.part.ensures.told (c.apply.ensures.told told)) changes (c.in_ok-apply-in-Accepted.ensures.count ∙ c.in_ok-part.ensures.count);
+          (λ honest. c.part.ensures.honest (c.apply.ensures.honest honest)) changes (c.in_ok-apply-in-Accepted.ensures.count ∙ c.in_ok-part.ensures.count);
     }

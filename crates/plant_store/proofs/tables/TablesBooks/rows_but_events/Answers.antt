@@ -3,7 +3,7 @@ use Rattle.plant_store.proofs.Contents.{keeps_same}
 use Rattle.plant_store.proofs.tables.TablesBooks.rows_but_events.Goals as goal
 
 pub returns-in-Ok-clause-same : goal.returns-in-Ok-clause-same
-returns-in-Ok-clause-same g c = λ m. rw (← c.self.view_is) (λ h. (h.0, λ told. let k = h.1 (c.rows_but_events.ensures.reads.told told) in keeps_same (state g.S.Store c.self.inside.conn) (state g.S.Store c.rows_but_events.new.conn) m k (c.rows_but_events.ensures.reads.same told k.books)))
+returns-in-Ok-clause-same g c = λ m. rw (← c.self.view_is) (λ h. (h.0, λ honest. let k = h.1 (c.rows_but_events.ensures.reads.honest honest) in keeps_same (state g.S.Store c.self.inside.conn) (state g.S.Store c.rows_but_events.new.conn) m k (c.rows_but_events.ensures.reads.same honest k.books)))
 
 pub returns-in-Err-clause-same : goal.returns-in-Err-clause-same
-returns-in-Err-clause-same g c = λ m. rw (← c.self.view_is) (λ h. (h.0, λ told. let k = h.1 (c.rows_but_events.ensures.reads.told told) in keeps_same (state g.S.Store c.self.inside.conn) (state g.S.Store c.rows_but_events.new.conn) m k (c.rows_but_events.ensures.reads.same told k.books)))
+returns-in-Err-clause-same g c = λ m. rw (← c.self.view_is) (λ h. (h.0, λ honest. let k = h.1 (c.rows_but_events.ensures.reads.honest honest) in keeps_same (state g.S.Store c.self.inside.conn) (state g.S.Store c.rows_but_events.new.conn) m k (c.rows_but_events.ensures.reads.same honest k.books)))

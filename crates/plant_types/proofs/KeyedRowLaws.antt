@@ -7,7 +7,7 @@ use Rattle.std.specs.declared.cmp.Ordering.TheVariants.{Less, Equal, Greater}
 use Rattle.std.specs.Ordering.{eq_by_cmp, is_eq, is_lt}
 use Rattle.std.specs.Cmp.{IsTotalOrder, alike_right, eq_by_cmp_equiv}
 use Rattle.std.specs.FinMap.Entries.{by_order, is_sorted, below_all, put, where_key, find as found, is_sorted-put, is_sorted-where_key, find-put, find-where_key, same_entries}
-use Rattle.plant_types.specs.Tables.{row_at, put_row, remove_row, in_order, IsInOrder}
+use Rattle.plant_types.specs.KeyedRows.{row_at, put_row, remove_row, in_order, IsInOrder}
 
 pub tied : (r : Ordering) (b : Bool) → is_eq r ≡ b → b ≡ true → r ≡ Equal
 tied Less b e t = cc

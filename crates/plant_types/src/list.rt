@@ -7,11 +7,11 @@ use std::marker::Model;
 
 /// A list of rows, lines or changes. Contracts see it as the list of its values.
 #[derive(Debug, Drop)]
-pub struct Table<T: Drop> {
+pub struct List<T: Drop> {
     rows: Vec<T>,
 }
 
-impl<T: Drop> Model for Table<T> {
+impl<T: Drop> Model for List<T> {
     ghost use Rattle.std.specs.Prelude.{List};
 
     ghost Value = { List T };
@@ -19,12 +19,12 @@ impl<T: Drop> Model for Table<T> {
     ghost view = { λ t. t.rows.items };
 }
 
-impl<T: Drop> Table<T> {
+impl<T: Drop> List<T> {
     /// The empty list. It takes no memory.
     pub fn new(alloc: Global) -> Self
         ensures { result ≡ [] }
     {
-        Table {
+        List {
             rows: Vec::new(alloc),
         }
     }
@@ -33,7 +33,7 @@ impl<T: Drop> Table<T> {
     pub fn from_vec(rows: Vec<T>) -> Self
         ensures { result ≡ rows.items }
     {
-        Table { rows }
+        List { rows }
     }
 
     /// Its values, as a vector.
