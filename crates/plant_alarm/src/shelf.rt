@@ -47,7 +47,8 @@ pub fn shelf_at(shelf: &Shelf, returned: Option<Moment>, now: Moment) -> ShelfSt
     ensures state { result ≡ shelf_state shelf.now returned now }
 
     // For an alarm's events and their last return it is what those events say.
-    ensures events { (es : List Event) → IsInTime es → returned ≡ last_return es → result ≡ shelf_of shelf.now es now }
+    ensures events { (es : List Event) → IsInTime es → returned ≡ last_return es
+        → result ≡ shelf_of shelf.now es now }
 {
     match *shelf {
         Shelf::Clear => ShelfState::Unshelved,

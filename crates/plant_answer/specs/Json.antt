@@ -1,5 +1,5 @@
 -- JSON as answers have it: compact, members in the byte order of their names.
-use Rattle.std.specs.Prelude.{ℕ, Bool, List, [], ◌∷◌, ◌++◌, Option, Some, None, codes, ◌==◌, ◌||◌, if◌then◌else◌}
+use Rattle.std.specs.Prelude.{ℕ, Bool, List, [], ◌∷◌, ◌++◌, Option, Some, None, codes, map, ◌==◌, ◌||◌, if◌then◌else◌}
 use Rattle.std.specs.List.{flat_map, join_with_byte}
 
 -- a byte of a string: a quote and a backslash have a backslash before them
@@ -12,6 +12,10 @@ quoted text = codes "\"" ++ flat_map escaped text ++ codes "\""
 
 abbrev pub truth : Bool → List ℕ
 truth b = if b then codes "true" else codes "false"
+
+-- what each value is written as, with a comma between each two
+abbrev pub with_commas : {A : Type 0} → (A → List ℕ) → List A → List ℕ
+with_commas write values = join_with_byte 44 (map write values)
 
 -- a list of values, with a comma between each two
 abbrev pub listed : List (List ℕ) → List ℕ

@@ -1,7 +1,8 @@
-ghost use Rattle.std.specs.Prelude.{◌≡◌, ◌++◌, map, IfOk, IfErr, OnOk};
+ghost use Rattle.std.specs.Prelude.{◌≡◌, ◌++◌, map, IfOk, IfErr};
 ghost use Rattle.std.specs.List.{join_with_byte};
+ghost use Rattle.plant_types.specs.Adding.{Adds};
 ghost use Rattle.plant_types.specs.declared.fault.Fault.TheVariants.{Memory};
-ghost use Rattle.plant_answer.specs.Json.{quoted};
+ghost use Rattle.plant_answer.specs.Json.{quoted, with_commas};
 ghost use Rattle.plant_answer.specs.Names as names;
 ghost use Rattle.plant_answer.specs.Bodies as spec;
 ghost use Rattle.plant_answer.specs.Bodies.{unit_object};
@@ -67,7 +68,8 @@ pub fn status_body(alloc: Global, row: &StatusRow) -> Result<Vec<u8>, Fault>
 
 /// Adds the names of the roles, with a comma between each two.
 fn push_roles(out: &mut Vec<u8>, roles: &[Role]) -> Result<(), Fault>
-    ensures value { OnOk result (out.new.items ≡ out.old.items ++ join_with_byte 44 (map (λ r. quoted (names.role_name r)) roles.now)) }
+    ensures value { Adds result out.old.items out.new.items
+        (with_commas (λ r. quoted (names.role_name r)) roles.now) }
     ensures err { IfErr result (λ e. e ≡ Memory) }
 {
     for (i, role) in roles.iter().enumerate() {
@@ -81,7 +83,7 @@ fn push_roles(out: &mut Vec<u8>, roles: &[Role]) -> Result<(), Fault>
 
 #[tactic(auto, unfolding(crate::specs::Bodies::unit_object))]
 fn push_unit(out: &mut Vec<u8>, line: &UnitLine) -> Result<(), Fault>
-    ensures value { OnOk result (out.new.items ≡ out.old.items ++ unit_object line.now) }
+    ensures value { Adds result out.old.items out.new.items (unit_object line.now) }
     ensures err { IfErr result (λ e. e ≡ Memory) }
 {
     out.extend_from_slice(b"{\"roles\":[")?;
@@ -92,7 +94,7 @@ fn push_unit(out: &mut Vec<u8>, line: &UnitLine) -> Result<(), Fault>
 
 /// Adds the units, with a comma between each two.
 fn push_units(out: &mut Vec<u8>, lines: &[UnitLine]) -> Result<(), Fault>
-    ensures value { OnOk result (out.new.items ≡ out.old.items ++ join_with_byte 44 (map unit_object lines.now)) }
+    ensures value { Adds result out.old.items out.new.items (with_commas unit_object lines.now) }
     ensures err { IfErr result (λ e. e ≡ Memory) }
 {
     for (i, line) in lines.iter().enumerate() {

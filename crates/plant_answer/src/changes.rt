@@ -1,8 +1,9 @@
-ghost use Rattle.std.specs.Prelude.{◌≡◌, ◌++◌, codes, map, option_map, decimal, IfOk, IfErr, OnOk};
+ghost use Rattle.std.specs.Prelude.{◌≡◌, ◌++◌, codes, map, option_map, decimal, IfOk, IfErr};
 ghost use Rattle.std.specs.List.{join_with_byte};
+ghost use Rattle.plant_types.specs.Adding.{Adds};
 ghost use Rattle.plant_types.specs.declared.fault.Fault.TheVariants.{Memory};
 ghost use Rattle.plant_report.specs.Moments.{moment_text};
-ghost use Rattle.plant_answer.specs.Json.{quoted, quoted_or_null};
+ghost use Rattle.plant_answer.specs.Json.{quoted, quoted_or_null, with_commas};
 ghost use Rattle.plant_answer.specs.Names as names;
 ghost use Rattle.plant_answer.specs.Changes as spec;
 ghost use Rattle.plant_answer.specs.Changes.{sheet_object, row_list, matrix_object, limit_object, content_object, tag_of};
@@ -39,7 +40,7 @@ pub fn record_body(alloc: Global, row: &RecordRow) -> Result<Vec<u8>, Fault>
 
 #[tactic(auto, unfolding(crate::specs::Changes::sheet_object))]
 fn push_sheet(out: &mut Vec<u8>, sheet: &Sheet) -> Result<(), Fault>
-    ensures value { OnOk result (out.new.items ≡ out.old.items ++ sheet_object sheet.now) }
+    ensures value { Adds result out.old.items out.new.items (sheet_object sheet.now) }
     ensures err { IfErr result (λ e. e ≡ Memory) }
 {
     push_string(out, b"{\"action\":", sheet.action.as_bytes())?;
@@ -52,7 +53,7 @@ fn push_sheet(out: &mut Vec<u8>, sheet: &Sheet) -> Result<(), Fault>
 
 /// Adds the numbers, with a comma between each two.
 fn push_numbers(out: &mut Vec<u8>, numbers: &[u64]) -> Result<(), Fault>
-    ensures value { OnOk result (out.new.items ≡ out.old.items ++ join_with_byte 44 (map decimal numbers.now)) }
+    ensures value { Adds result out.old.items out.new.items (with_commas decimal numbers.now) }
     ensures err { IfErr result (λ e. e ≡ Memory) }
 {
     for (i, number) in numbers.iter().enumerate() {
@@ -66,7 +67,8 @@ fn push_numbers(out: &mut Vec<u8>, numbers: &[u64]) -> Result<(), Fault>
 
 /// Adds the names of the cells, with a comma between each two.
 fn push_cells(out: &mut Vec<u8>, cells: &[Cell]) -> Result<(), Fault>
-    ensures value { OnOk result (out.new.items ≡ out.old.items ++ join_with_byte 44 (map (λ cell. quoted (names.cell_name cell)) cells.now)) }
+    ensures value { Adds result out.old.items out.new.items
+        (with_commas (λ cell. quoted (names.cell_name cell)) cells.now) }
     ensures err { IfErr result (λ e. e ≡ Memory) }
 {
     for (i, cell) in cells.iter().enumerate() {
@@ -79,7 +81,7 @@ fn push_cells(out: &mut Vec<u8>, cells: &[Cell]) -> Result<(), Fault>
 }
 
 fn push_row(out: &mut Vec<u8>, row: &[Cell]) -> Result<(), Fault>
-    ensures value { OnOk result (out.new.items ≡ out.old.items ++ row_list row.now) }
+    ensures value { Adds result out.old.items out.new.items (row_list row.now) }
     ensures err { IfErr result (λ e. e ≡ Memory) }
 {
     out.push(b'[')?;
@@ -89,7 +91,8 @@ fn push_row(out: &mut Vec<u8>, row: &[Cell]) -> Result<(), Fault>
 
 /// Adds the rows, with a comma between each two.
 fn push_rows(out: &mut Vec<u8>, rows: &[Vec<Cell>]) -> Result<(), Fault>
-    ensures value { OnOk result (out.new.items ≡ out.old.items ++ join_with_byte 44 (map row_list (map (λ row. row.items) rows.now))) }
+    ensures value { Adds result out.old.items out.new.items
+        (with_commas row_list (map (λ row. row.items) rows.now)) }
     ensures err { IfErr result (λ e. e ≡ Memory) }
 {
     for (i, row) in rows.iter().enumerate() {
@@ -103,7 +106,7 @@ fn push_rows(out: &mut Vec<u8>, rows: &[Vec<Cell>]) -> Result<(), Fault>
 
 #[tactic(auto, unfolding(crate::specs::Changes::matrix_object))]
 fn push_matrix(out: &mut Vec<u8>, matrix: &Matrix) -> Result<(), Fault>
-    ensures value { OnOk result (out.new.items ≡ out.old.items ++ matrix_object matrix.now) }
+    ensures value { Adds result out.old.items out.new.items (matrix_object matrix.now) }
     ensures err { IfErr result (λ e. e ≡ Memory) }
 {
     out.extend_from_slice(b"{\"bands\":[")?;
@@ -115,7 +118,7 @@ fn push_matrix(out: &mut Vec<u8>, matrix: &Matrix) -> Result<(), Fault>
 
 #[tactic(auto, unfolding(crate::specs::Changes::limit_object))]
 fn push_limit(out: &mut Vec<u8>, max: Seconds) -> Result<(), Fault>
-    ensures value { OnOk result (out.new.items ≡ out.old.items ++ limit_object max) }
+    ensures value { Adds result out.old.items out.new.items (limit_object max) }
     ensures err { IfErr result (λ e. e ≡ Memory) }
 {
     push_number(out, b"{\"max\":", max.get())?;
@@ -124,7 +127,7 @@ fn push_limit(out: &mut Vec<u8>, max: Seconds) -> Result<(), Fault>
 
 /// Adds what is proposed.
 fn push_content(out: &mut Vec<u8>, kind: &ChangeKind) -> Result<(), Fault>
-    ensures value { OnOk result (out.new.items ≡ out.old.items ++ content_object kind.now) }
+    ensures value { Adds result out.old.items out.new.items (content_object kind.now) }
     ensures err { IfErr result (λ e. e ≡ Memory) }
 {
     match kind {
@@ -147,7 +150,8 @@ fn tag_of(kind: &ChangeKind) -> Option<&[u8]>
 
 /// Adds the member `decided`: a moment, or null.
 fn push_decided(out: &mut Vec<u8>, decided: Option<Moment>) -> Result<(), Fault>
-    ensures value { OnOk result (out.new.items ≡ out.old.items ++ codes ",\"decided\":" ++ quoted_or_null (option_map moment_text decided)) }
+    ensures value { Adds result out.old.items out.new.items
+        (codes ",\"decided\":" ++ quoted_or_null (option_map moment_text decided)) }
     ensures err { IfErr result (λ e. e ≡ Memory) }
 {
     match decided {

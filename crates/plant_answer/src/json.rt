@@ -1,5 +1,6 @@
-ghost use Rattle.std.specs.Prelude.{◌≡◌, ◌++◌, IfErr, OnOk, option_map, decimal, ◌==◌, ◌||◌, not};
+ghost use Rattle.std.specs.Prelude.{◌≡◌, ◌++◌, IfErr, option_map, decimal, ◌==◌, ◌||◌, not};
 ghost use Rattle.std.specs.List.{flat_map, list_all};
+ghost use Rattle.plant_types.specs.Adding.{Adds};
 ghost use Rattle.plant_types.specs.declared.fault.Fault.TheVariants.{Memory};
 ghost use Rattle.plant_answer.specs.Json.{escaped, quoted, quoted_or_null, truth};
 
@@ -17,7 +18,7 @@ fn is_escaped(b: u8) -> bool
 }
 
 fn push_escaped(out: &mut Vec<u8>, b: u8) -> Result<(), Fault>
-    ensures value { OnOk result (out.new.items ≡ out.old.items ++ escaped b) }
+    ensures value { Adds result out.old.items out.new.items (escaped b) }
     ensures err { IfErr result (λ e. e ≡ Memory) }
 {
     if is_escaped(b) {
@@ -35,7 +36,7 @@ fn is_plain(text: &[u8]) -> bool
 
 #[tactic(auto, using(crate::proofs::Plain::plain_text))]
 fn push_all_escaped(out: &mut Vec<u8>, text: &[u8]) -> Result<(), Fault>
-    ensures value { OnOk result (out.new.items ≡ out.old.items ++ flat_map escaped text.now) }
+    ensures value { Adds result out.old.items out.new.items (flat_map escaped text.now) }
     ensures err { IfErr result (λ e. e ≡ Memory) }
 {
     if is_plain(text) {
@@ -50,7 +51,7 @@ fn push_all_escaped(out: &mut Vec<u8>, text: &[u8]) -> Result<(), Fault>
 /// Adds a JSON string. Of the text only quotes and backslashes are escaped.
 #[tactic(auto, unfolding(crate::specs::Json::quoted))]
 pub fn push_quoted(out: &mut Vec<u8>, text: &[u8]) -> Result<(), Fault>
-    ensures value { OnOk result (out.new.items ≡ out.old.items ++ quoted text.now) }
+    ensures value { Adds result out.old.items out.new.items (quoted text.now) }
     ensures err { IfErr result (λ e. e ≡ Memory) }
 {
     out.push(b'"')?;
@@ -60,7 +61,7 @@ pub fn push_quoted(out: &mut Vec<u8>, text: &[u8]) -> Result<(), Fault>
 
 /// Adds a number.
 pub(crate) fn push_decimal(out: &mut Vec<u8>, number: u64) -> Result<(), Fault>
-    ensures value { OnOk result (out.new.items ≡ out.old.items ++ decimal number) }
+    ensures value { Adds result out.old.items out.new.items (decimal number) }
     ensures err { IfErr result (λ e. e ≡ Memory) }
 {
     let mut buffer = Buffer::new();
@@ -69,7 +70,7 @@ pub(crate) fn push_decimal(out: &mut Vec<u8>, number: u64) -> Result<(), Fault>
 
 /// Adds a number, after some bytes.
 pub(crate) fn push_number(out: &mut Vec<u8>, before: &[u8], number: u64) -> Result<(), Fault>
-    ensures value { OnOk result (out.new.items ≡ out.old.items ++ before.now ++ decimal number) }
+    ensures value { Adds result out.old.items out.new.items (before.now ++ decimal number) }
     ensures err { IfErr result (λ e. e ≡ Memory) }
 {
     out.extend_from_slice(before)?;
@@ -78,7 +79,7 @@ pub(crate) fn push_number(out: &mut Vec<u8>, before: &[u8], number: u64) -> Resu
 
 /// Adds a string, after some bytes.
 pub(crate) fn push_string(out: &mut Vec<u8>, before: &[u8], text: &[u8]) -> Result<(), Fault>
-    ensures value { OnOk result (out.new.items ≡ out.old.items ++ before.now ++ quoted text.now) }
+    ensures value { Adds result out.old.items out.new.items (before.now ++ quoted text.now) }
     ensures err { IfErr result (λ e. e ≡ Memory) }
 {
     out.extend_from_slice(before)?;
@@ -91,7 +92,8 @@ pub(crate) fn push_string_or_null(
     before: &[u8],
     text: Option<&[u8]>,
 ) -> Result<(), Fault>
-    ensures value { OnOk result (out.new.items ≡ out.old.items ++ before.now ++ quoted_or_null (option_map (λ t. t.now) text.entry)) }
+    ensures value { Adds result out.old.items out.new.items
+        (before.now ++ quoted_or_null (option_map (λ t. t.now) text.entry)) }
     ensures err { IfErr result (λ e. e ≡ Memory) }
 {
     out.extend_from_slice(before)?;
@@ -103,7 +105,7 @@ pub(crate) fn push_string_or_null(
 
 /// Adds true or false, after some bytes.
 pub(crate) fn push_truth(out: &mut Vec<u8>, before: &[u8], holds: bool) -> Result<(), Fault>
-    ensures value { OnOk result (out.new.items ≡ out.old.items ++ before.now ++ truth holds) }
+    ensures value { Adds result out.old.items out.new.items (before.now ++ truth holds) }
     ensures err { IfErr result (λ e. e ≡ Memory) }
 {
     let word: &[u8] = if holds { b"true" } else { b"false" };

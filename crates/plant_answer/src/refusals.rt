@@ -1,4 +1,5 @@
-ghost use Rattle.std.specs.Prelude.{◌≡◌, ◌++◌, Some, IfOk, IfErr, OnOk};
+ghost use Rattle.std.specs.Prelude.{◌≡◌, ◌++◌, Some, IfOk, IfErr};
+ghost use Rattle.plant_types.specs.Adding.{Adds};
 ghost use Rattle.plant_types.specs.declared.fault.Fault.TheVariants.{Memory};
 ghost use Rattle.plant_answer.specs.Names as spec;
 ghost use Rattle.plant_answer.specs.Answers as answers;
@@ -100,7 +101,8 @@ pub fn status_of(refused: &Refused) -> StatusCode
 
 /// Adds the member `value` of a file's fault: its cause and its line.
 fn push_bad_file(out: &mut Vec<u8>, fault: &BadFile) -> Result<(), Fault>
-    ensures value { OnOk result (out.new.items ≡ out.old.items ++ value_member (Some (bad_file_object fault.now))) }
+    ensures value { Adds result out.old.items out.new.items
+        (value_member (Some (bad_file_object fault.now))) }
     ensures err { IfErr result (λ e. e ≡ Memory) }
 {
     push_string(out, b",\"value\":{\"cause\":", file_cause_name(fault.cause))?;
@@ -110,7 +112,8 @@ fn push_bad_file(out: &mut Vec<u8>, fault: &BadFile) -> Result<(), Fault>
 
 /// Adds the member `value`, where the refusal carries a value.
 fn push_value(out: &mut Vec<u8>, refused: &Refused) -> Result<(), Fault>
-    ensures value { OnOk result (out.new.items ≡ out.old.items ++ value_member (refusal_value refused.now)) }
+    ensures value { Adds result out.old.items out.new.items
+        (value_member (refusal_value refused.now)) }
     ensures err { IfErr result (λ e. e ≡ Memory) }
 {
     match refused {

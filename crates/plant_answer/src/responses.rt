@@ -1,5 +1,6 @@
-ghost use Rattle.std.specs.Prelude.{◌≡◌, ◌++◌, IfOk, IfErr, OnOk, codes, unwrap_or};
+ghost use Rattle.std.specs.Prelude.{◌≡◌, ◌++◌, IfOk, IfErr, codes, unwrap_or};
 ghost use Rattle.http.specs.StatusCode.{reason_phrase};
+ghost use Rattle.plant_types.specs.Adding.{Adds};
 ghost use Rattle.plant_types.specs.declared.fault.Fault.TheVariants.{Memory};
 ghost use Rattle.plant_answer.specs.Response as spec;
 ghost use Rattle.plant_answer.specs.Response.{status_line, media_type};
@@ -41,7 +42,7 @@ fn phrase(status: StatusCode) -> &'static str
 
 #[tactic(auto, unfolding(crate::specs::Response::status_line))]
 fn push_status(out: &mut Vec<u8>, status: StatusCode) -> Result<(), Fault>
-    ensures value { OnOk result (out.new.items ≡ out.old.items ++ status_line status) }
+    ensures value { Adds result out.old.items out.new.items (status_line status) }
     ensures err { IfErr result (λ e. e ≡ Memory) }
 {
     let mut buffer = Buffer::new();

@@ -72,7 +72,8 @@ fn row_of(alloc: Global, value: &Value) -> Result<Vec<Cell>, BodyError>
 }
 
 fn all_rows(alloc: Global, items: &[Value]) -> Result<Vec<Vec<Cell>>, BodyError>
-    ensures { GivesBy (λ v. map (λ row. row.items) v.items) result (or_body (all_of row_of (items_view items.now))) }
+    ensures { GivesBy (λ v. map (λ row. row.items) v.items) result
+        (or_body (all_of row_of (items_view items.now))) }
 {
     let mut rows = Vec::new(alloc);
     for item in items {
@@ -96,7 +97,8 @@ pub(crate) fn numbers_in(alloc: Global, value: &Value, name: &str) -> Result<Vec
 
 /// A member that is a list of lists of cells.
 pub(crate) fn rows_in(alloc: Global, value: &Value, name: &str) -> Result<Vec<Vec<Cell>>, BodyError>
-    ensures { GivesBy (λ v. map (λ row. row.items) v.items) result (or_body (rows_at name.now (view value.now))) }
+    ensures { GivesBy (λ v. map (λ row. row.items) v.items) result
+        (or_body (rows_at name.now (view value.now))) }
 {
     match value.get(name).and_then(Value::as_array) {
         Some(items) => all_rows(alloc, items),

@@ -48,8 +48,10 @@ fn look_at(
 ) -> Look
     requires within { IsRequestWithin front.now headers.now spans }
     requires short { length front.now ≤ MAX_HEAD }
-    ensures shows { (head : RequestHead) → IsRequestAt front.now headers.now spans head → Shows result.cut (answer_to head after.now) }
-    ensures wants { (head : RequestHead) → IsRequestAt front.now headers.now spans head → 0 < result.wanted → IsLengthOf head result.wanted }
+    ensures shows { (head : RequestHead) → IsRequestAt front.now headers.now spans head
+        → Shows result.cut (answer_to head after.now) }
+    ensures wants { (head : RequestHead) → IsRequestAt front.now headers.now spans head
+        → 0 < result.wanted → IsLengthOf head result.wanted }
 {
     let fields = &headers[..spans.headers];
     let count = match body_length(front, fields) {
@@ -145,16 +147,18 @@ pub fn next_call(alloc: Global, bytes: &[u8]) -> Cut
 
 /// Two readings of one front are one, save where no continuation is a head and the target is still being read.
 pub fn one_reading()
-    ensures { (bytes : List ℕ) (f g : Front) → StandsAtFront bytes f → StandsAtFront bytes g → (f ≡ g) ⊎ IsOpen bytes }
+    ensures { (bytes : List ℕ) (f g : Front) → StandsAtFront bytes f → StandsAtFront bytes g
+        → (f ≡ g) ⊎ IsOpen bytes }
 {}
 
 /// Two readings of one stream are one, save where such a front stands in it.
 pub fn one_stream()
-    ensures { (bytes : List ℕ) (xs ys : List Item) (r q : List ℕ) → IsStream bytes xs r → IsStream bytes ys q
-        → ((xs ≡ ys) × (r ≡ q)) ⊎ OpensSomewhere bytes }
+    ensures { (bytes : List ℕ) (xs ys : List Item) (r q : List ℕ) → IsStream bytes xs r
+        → IsStream bytes ys q → ((xs ≡ ys) × (r ≡ q)) ⊎ OpensSomewhere bytes }
 {}
 
 /// More bytes don't change what stands at the front, unless it waits for them.
 pub fn cuts_agree()
-    ensures { (bytes more : List ℕ) (f : Front) → f ≢ waits → StandsAtFront bytes f → StandsAtFront (bytes ++ more) f }
+    ensures { (bytes more : List ℕ) (f : Front) → f ≢ waits → StandsAtFront bytes f
+        → StandsAtFront (bytes ++ more) f }
 {}

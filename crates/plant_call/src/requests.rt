@@ -38,7 +38,8 @@ fn of_body<T>(read: Result<T, BodyError>) -> Result<T, CallError>
 
 fn person_in(alloc: Global, front: &[u8], headers: &[HeaderSpan]) -> Result<Person, CallError>
     requires { All (IsHeaderWithin (length front.now)) headers.now }
-    ensures { Gives result (person_said (values_named (codes "x-person") (map (header_bytes front.now) headers.now))) }
+    ensures { Gives result (person_said
+        (values_named (codes "x-person") (map (header_bytes front.now) headers.now))) }
 {
     let Lookup::Once(text) = field(front, headers, b"x-person") else {
         return Err(CallError::Because(Cause::BadPerson));
@@ -51,7 +52,8 @@ fn person_in(alloc: Global, front: &[u8], headers: &[HeaderSpan]) -> Result<Pers
 
 fn moment_in(front: &[u8], headers: &[HeaderSpan]) -> Result<Moment, CallError>
     requires { All (IsHeaderWithin (length front.now)) headers.now }
-    ensures { Gives result (moment_said (values_named (codes "x-moment") (map (header_bytes front.now) headers.now))) }
+    ensures { Gives result (moment_said
+        (values_named (codes "x-moment") (map (header_bytes front.now) headers.now))) }
 {
     let Lookup::Once(text) = field(front, headers, b"x-moment") else {
         return Err(CallError::Because(Cause::BadMoment));
@@ -256,7 +258,8 @@ pub(crate) fn call_in(
     body: &[u8],
 ) -> Result<Call, CallError>
     requires { All (IsHeaderWithin (length front.now)) headers.now }
-    ensures { Gives result (call_in method.now target.now (map (header_bytes front.now) headers.now) body.now) }
+    ensures { Gives result (call_in method.now target.now
+        (map (header_bytes front.now) headers.now) body.now) }
 {
     let kind = route_in(routes, method, target)?;
     let person = person_in(alloc, front, headers)?;

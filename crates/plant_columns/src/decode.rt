@@ -21,7 +21,8 @@ use std::alloc::Global;
 
 fn text_of<C: Alphabet>(alloc: Global, bytes: &[u8], at: usize) -> Result<Text<C>, Error>
     ensures value { IfOk result (λ t. t ≡ bytes.now) }
-    ensures cause { IfErr result (λ e. e ≡ Error.SqliteFailure ErrorCode.OutOfMemory → IsTrue (is_text C.admits C.longest bytes.now)) }
+    ensures cause { IfErr result (λ e. e ≡ Error.SqliteFailure ErrorCode.OutOfMemory
+        → IsTrue (is_text C.admits C.longest bytes.now)) }
 {
     match Text::read(alloc, bytes) {
         Ok(Some(text)) => Ok(text),

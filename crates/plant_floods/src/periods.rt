@@ -16,8 +16,10 @@ use std::collections::BTreeSet;
 /// Whether the event is an activation, where `active` has the tags of the alarms that are active before it; it then has
 /// those that are active after it.
 fn is_activation(alloc: Global, active: &mut BTreeSet<Tag>, event: &Event) -> Result<bool, Fault>
-    ensures value { (before : List TheEvent) → AreActive active.old before → IfOk result (λ b. b ≡ is_activation_of before event.now) }
-    ensures active { (before : List TheEvent) → AreActive active.old before → OnOk result (AreActive active.new (before ++ event.now ∷ [])) }
+    ensures value { (before : List TheEvent) → AreActive active.old before
+        → IfOk result (λ b. b ≡ is_activation_of before event.now) }
+    ensures active { (before : List TheEvent) → AreActive active.old before
+        → OnOk result (AreActive active.new (before ++ event.now ∷ [])) }
     ensures err { IfErr result (λ e. e ≡ Memory) }
 {
     match event.kind {
@@ -39,7 +41,8 @@ fn is_activation(alloc: Global, active: &mut BTreeSet<Tag>, event: &Event) -> Re
 
 /// The moments of the activations of all alarms. The events stand in rising number.
 pub fn activations(alloc: Global, events: &[Event]) -> Result<List<Moment>, Fault>
-    ensures value { IfOk result (λ moments. moments ≡ map (λ e. e.moment) (activations_of_all events.now)) }
+    ensures value { IfOk result (λ moments. moments
+        ≡ map (λ e. e.moment) (activations_of_all events.now)) }
     ensures err { IfErr result (λ e. e ≡ Memory) }
 {
     let mut active = BTreeSet::new(alloc);
@@ -63,8 +66,10 @@ fn period_of(start: u64, moment: Moment) -> Option<u64>
 /// Counts the moment in its period, if that is one of these.
 fn count_in(counts: &mut Vec<u32>, start: u64, moment: Moment)
     ensures len { length counts.new.items ≡ length counts.old.items }
-    ensures counted { (i : ℕ) → i < length counts.old.items → slice_index counts.old.items i < 4294967295
-        → slice_index counts.new.items i ≡ slice_index counts.old.items i + (if is_in_period (start + 600 * i) moment then 1 else 0) }
+    ensures counted { (i : ℕ) → i < length counts.old.items
+        → slice_index counts.old.items i < 4294967295
+        → slice_index counts.new.items i ≡ slice_index counts.old.items i + (if is_in_period
+        (start + 600 * i) moment then 1 else 0) }
 {
     if let Some(period) = period_of(start, moment) {
         if period < counts.len() as u64 {
@@ -80,7 +85,9 @@ fn counts_from(
     start: u64,
     periods: u64,
 ) -> Result<Vec<u32>, Fault>
-    ensures value { length moments.now ≤ 4294967295 → IfOk result (λ counts. counts.items ≡ map (λ i. count_by (λ m. is_in_period (start + 600 * i) m) moments.now) (range_with_len 0 periods)) }
+    ensures value { length moments.now ≤ 4294967295 → IfOk result (λ counts. counts.items
+        ≡ map (λ i. count_by (λ m. is_in_period (start + 600 * i) m) moments.now)
+        (range_with_len 0 periods)) }
     ensures err { IfErr result (λ e. e ≡ Memory) }
 {
     let mut counts = vec![in alloc; 0u32; periods as usize]?;
@@ -98,7 +105,8 @@ pub fn period_counts(
     begin: Moment,
     until: Moment,
 ) -> Result<Vec<u32>, Fault>
-    ensures value { length events.now ≤ 4294967295 → IfOk result (λ counts. counts.items ≡ activations.period_counts events.now begin until) }
+    ensures value { length events.now ≤ 4294967295
+        → IfOk result (λ counts. counts.items ≡ activations.period_counts events.now begin until) }
     ensures err { IfErr result (λ e. e ≡ Memory) }
 {
     let moments = activations(alloc, events)?;

@@ -28,7 +28,8 @@ fn value_of<'b>(buf: &'b [u8], header: &HeaderSpan) -> &'b [u8]
 
 impl<'b> Lookup<'b> {
     fn and(self, value: &'b [u8]) -> Lookup<'b>
-        ensures { (values : List (List ℕ)) → IsLookup values self.entry → IsLookup (values ++ value.entry.now ∷ []) result }
+        ensures { (values : List (List ℕ)) → IsLookup values self.entry
+            → IsLookup (values ++ value.entry.now ∷ []) result }
     {
         match self {
             Lookup::Missing => Lookup::Once(value),

@@ -8,6 +8,7 @@ use Rattle.std.proofs.lemmas.List.Elements.{filter_map-append}
 use Rattle.csv.specs.Reading.{default_config, records, strip_bom}
 use Rattle.std.specs.Str.{is_utf8}
 use Rattle.std.proofs.lemmas.Bool.{lt-ltb, le-ltb, ltb-false, ne_eqb}
+use Rattle.plant_types.specs.Limits.{max_file_rows}
 use Rattle.plant_types.specs.Moment.{moment_of}
 use Rattle.plant_types.specs.Text.{tag_of}
 use Rattle.plant_alarm.specs.declared.event.EventKind.{EventKind}
@@ -62,14 +63,14 @@ pub record IsReadRow (fields : List (List ℕ)) (n m : ℕ) (t : List ℕ) (kind
   pub tag : tag_of (field fields 2) ≡ Some t
   pub event : kind_of (field fields 3) ≡ Some kind
 
-pub too_long : (k : ℕ) (fields : List (List ℕ)) (n m : ℕ) (t : List ℕ) (kind : EventKind) → IsReadRow fields n m t kind → 10000 < k → row_read k fields ≡ Err TooLong
+pub too_long : (k : ℕ) (fields : List (List ℕ)) (n m : ℕ) (t : List ℕ) (kind : EventKind) → IsReadRow fields n m t kind → max_file_rows < k → row_read k fields ≡ Err TooLong
 unfolding row_fault
-too_long k fields n m t kind h long = rw (four_is _ h.row.four, h.row.text, h.number, h.moment, h.tag, h.event, lt-ltb 10000 k long) refl
+too_long k fields n m t kind h long = rw (four_is _ h.row.four, h.row.text, h.number, h.moment, h.tag, h.event, lt-ltb max_file_rows k long) refl
 
-not_long : (k : ℕ) → k ≤ 10000 → nat_lt 10000 k ≡ false
-not_long k h = le-ltb 10000 k h
+not_long : (k : ℕ) → k ≤ max_file_rows → nat_lt max_file_rows k ≡ false
+not_long k h = le-ltb max_file_rows k h
 
-pub is_read : (k : ℕ) (fields : List (List ℕ)) (n m : ℕ) (t : List ℕ) (kind : EventKind) → IsReadRow fields n m t kind → k ≤ 10000 → row_read k fields ≡ Ok (record { seq = n; moment = m; tag = t; kind = kind })
+pub is_read : (k : ℕ) (fields : List (List ℕ)) (n m : ℕ) (t : List ℕ) (kind : EventKind) → IsReadRow fields n m t kind → k ≤ max_file_rows → row_read k fields ≡ Ok (record { seq = n; moment = m; tag = t; kind = kind })
 unfolding row_fault event_in
 is_read k fields n m t kind h short =
     let none : row_fault k fields ≡ None = rw (four_is _ h.row.four, h.row.text, h.number, h.moment, h.tag, h.event, not_long k short) refl in
@@ -158,17 +159,17 @@ last_of ((true, other) ∷ causes) b cause e = cc
 last_of ((false, other) ∷ causes) b cause e = last_of causes b cause e
 
 -- a row that is read is within the limit
-pub in_limit : (k : ℕ) (fields : List (List ℕ)) (event : Event) → row_read k fields ≡ Ok event → k ≤ 10000
+pub in_limit : (k : ℕ) (fields : List (List ℕ)) (event : Event) → row_read k fields ≡ Ok event → k ≤ max_file_rows
 unfolding row_fault
 in_limit k fields event e =
-    ltb-false 10000 k (last_of (
+    ltb-false max_file_rows k (last_of (
     (not (length fields == 4), FieldCount)
     ∷ (not (list_all is_utf8 fields), NotUtf8)
     ∷ (is_none (number_of (field fields 0)), BadNumber)
     ∷ (is_none (moment_of (field fields 1)), BadMoment)
     ∷ (is_none (tag_of (field fields 2)), BadTag)
     ∷ (is_none (kind_of (field fields 3)), BadEvent)
-    ∷ []) (nat_lt 10000 k) TooLong (no_fault (row_fault k fields) fields event e).0)
+    ∷ []) (nat_lt max_file_rows k) TooLong (no_fault (row_fault k fields) fields event e).0)
 
 -- what a file is read as, by its records
 pub file_rows : (bytes : List ℕ) (first : List (List ℕ)) (rest : List (List (List ℕ))) → records default_config (strip_bom bytes) ≡ first ∷ rest → is_header first ≡ true → file_read bytes ≡ rows_read rest

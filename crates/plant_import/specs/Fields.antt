@@ -3,6 +3,7 @@ use Rattle.std.specs.Prelude.{ℕ, Bool, ◌&&◌, not, nat_lt, nat_eq, ◌==◌
 use Rattle.std.specs.List.{list_all}
 use Rattle.std.specs.Cmp.Lexicographic.{pointwise}
 use Rattle.std.specs.Str.{is_utf8}
+use Rattle.plant_types.specs.Limits.{max_file_rows}
 use Rattle.plant_types.specs.Text.{is_digit, is_between, tag_of}
 use Rattle.plant_types.specs.Moment.{decimal_value, moment_of}
 use Rattle.plant_alarm.specs.declared.event.Event.{Event}
@@ -48,7 +49,7 @@ row_fault k fields =
     ∷ (is_none (moment_of (field fields 1)), BadMoment)
     ∷ (is_none (tag_of (field fields 2)), BadTag)
     ∷ (is_none (kind_of (field fields 3)), BadEvent)
-    ∷ (nat_lt 10000 k, TooLong)
+    ∷ (nat_lt max_file_rows k, TooLong)
     ∷ [])
 
 -- the event of a row

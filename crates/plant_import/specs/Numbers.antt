@@ -1,10 +1,10 @@
 -- Events by their numbers.
 use Rattle.plant_alarm.specs.declared.event.Event.{Event}
-use Rattle.plant_types.specs.KeyedRows.{in_order, put_row}
+use Rattle.plant_types.specs.KeyedRows.{IsInOrder, in_order, put_row}
 use Rattle.std.specs.BTreeMap.{BTreeMap}
 use Rattle.std.specs.List.{list_any}
 use Rattle.std.specs.Ordering.{eq_by_cmp, nat_cmp}
-use Rattle.std.specs.Prelude.{Bool, List, filter, fold, map, not, ℕ, ◌≡◌}
+use Rattle.std.specs.Prelude.{Bool, List, drop, false, filter, fold, if◌then◌else◌, map, not, option_map, slice_get, unwrap_or, ℕ, ◌≡◌}
 
 abbrev pub event_number : Event → ℕ
 event_number e = e.seq
@@ -22,6 +22,18 @@ new_numbers kept rows = in_order nat_cmp (numbers_of (filter (λ e. not (list_an
 -- events with more of them, each put where its number belongs
 abbrev pub with_events : List Event → List Event → List Event
 with_events kept more = fold (λ es e. put_row nat_cmp event_number e es) kept more
+
+-- events in the order of their numbers, each number once
+abbrev pub AreNumbered : List Event → Type 0
+AreNumbered es = IsInOrder nat_cmp event_number es
+
+-- the events with this one, in the place of the one with its number if there is one
+abbrev pub with_event : Event → List Event → List Event
+with_event e es = put_row nat_cmp event_number e es
+
+-- the events without the first, if that has the number
+abbrev pub behind_number : ℕ → List Event → List Event
+behind_number n es = if unwrap_or (option_map (has_number n) (slice_get es 0)) false then drop 1 es else es
 
 -- the map has these events, each under its number
 abbrev pub AreByNumber : BTreeMap ℕ Event → List Event → Type 0

@@ -1,12 +1,10 @@
 ghost use Rattle.std.specs.Prelude.{◌≡◌, ◌+◌, ◌++◌, ◌∷◌, [], IfOk, IfErr, List, OnOk, length};
-ghost use Rattle.std.specs.Ordering.{nat_cmp};
 ghost use Rattle.plant_alarm.specs.declared.event.Event.{Event as TheEvent};
 ghost use Rattle.plant_types.specs.Names.{Name};
-ghost use Rattle.plant_types.specs.KeyedRows.{put_row};
 ghost use Rattle.plant_types.specs.declared.fault.Fault.TheVariants.{Memory};
 ghost use Rattle.plant_import.specs.Merging as merging;
 ghost use Rattle.plant_import.specs.Merging.{IsRising};
-ghost use Rattle.plant_import.specs.Numbers.{AreByNumber, event_number};
+ghost use Rattle.plant_import.specs.Numbers.{AreByNumber, with_event};
 ghost use Rattle.plant_import.specs.Standing as standing;
 ghost use Rattle.plant_import.specs.Standing.{AreKnown, IsJudged};
 
@@ -37,8 +35,10 @@ pub fn merge(
     tags: &[Tag],
     now: Moment,
 ) -> Result<Result<Merged, BadFile>, Fault>
-    ensures value { IsRising kept.now → IfOk result (λ merged. merged ≡ merging.merge kept.now file.now tags.now now) }
-    ensures counted { IfOk result (λ merged. IfOk merged (λ m. m.repeated + length m.fresh ≡ length file.now)) }
+    ensures value { IsRising kept.now
+        → IfOk result (λ merged. merged ≡ merging.merge kept.now file.now tags.now now) }
+    ensures counted { IfOk result
+        (λ merged. IfOk merged (λ m. m.repeated + length m.fresh ≡ length file.now)) }
     ensures err { IfErr result (λ e. e ≡ Memory) }
 {
     let known = known_tags(alloc, tags)?;
@@ -84,7 +84,8 @@ fn add(
     event: &Event,
 ) -> Result<(), Fault>
     ensures fresh { OnOk result (fresh.new ≡ fresh.old ++ event.now ∷ []) }
-    ensures rising { (es : List TheEvent) → AreByNumber rising.old es → OnOk result (AreByNumber rising.new (put_row nat_cmp event_number event.now es)) }
+    ensures rising { (es : List TheEvent) → AreByNumber rising.old es
+        → OnOk result (AreByNumber rising.new (with_event event.now es)) }
     ensures err { IfErr result (λ e. e ≡ Memory) }
 {
     fresh.push(event.copy(alloc)?)?;
@@ -100,7 +101,8 @@ fn judged(
     now: Moment,
 ) -> Result<bool, Cause>
     ensures { (tags : List Name) → AreKnown known.now tags → IsRising kept.now
-        → (seen : List TheEvent) → AreByNumber fresh.now seen → IsRising seen → IsJudged tags now kept.now seen event.now result }
+        → (seen : List TheEvent) → AreByNumber fresh.now seen → IsRising seen
+        → IsJudged tags now kept.now seen event.now result }
 {
     if !known.contains(&event.tag) {
         return Err(Cause::TagUnknown);

@@ -3,9 +3,7 @@
 ghost use Rattle.std.specs.Prelude.{◌≡◌, ◌≤◌, IfErr, IfOk, List, filter, length};
 ghost use Rattle.plant_alarm.specs.declared.event.Event.{Event as TheEvent};
 ghost use Rattle.plant_types.specs.declared.fault.Fault.TheVariants.{Memory};
-ghost use Rattle.std.specs.Ordering.{nat_cmp};
-ghost use Rattle.plant_types.specs.KeyedRows.{IsInOrder};
-ghost use Rattle.plant_import.specs.Numbers.{event_number};
+ghost use Rattle.plant_import.specs.Numbers.{AreNumbered};
 ghost use Rattle.plant_import.specs.Needed as needs;
 ghost use Rattle.plant_import.specs.Reached.{AreReached};
 
@@ -24,13 +22,14 @@ fn is_before_all(event: &Event, rows: &[Event]) -> bool
 /// How many of the kept events, which stand in rising number, come before every row.
 fn count_before(kept: &[Event], rows: &[Event]) -> usize
     ensures bound { result ≤ length kept.now }
-    ensures value { IsInOrder nat_cmp event_number kept.now → result ≡ length (filter (needs.is_before_all rows.now) kept.now) }
+    ensures value { AreNumbered kept.now
+        → result ≡ length (filter (needs.is_before_all rows.now) kept.now) }
 {
     kept.partition_point(|event| is_before_all(event, rows))
 }
 
 fn from_last_before<'a>(kept: &'a [Event], rows: &[Event]) -> &'a [Event]
-    ensures { IsInOrder nat_cmp event_number kept.now → result.now ≡ needs.from_last_before kept.now rows.now }
+    ensures { AreNumbered kept.now → result.now ≡ needs.from_last_before kept.now rows.now }
 {
     let (_, near) = kept.split_at(count_before(kept, rows).saturating_sub(1));
     near
@@ -38,7 +37,7 @@ fn from_last_before<'a>(kept: &'a [Event], rows: &[Event]) -> &'a [Event]
 
 /// The last number of each alarm among events in rising number.
 fn last_numbers(alloc: Global, events: &[Event]) -> Result<BTreeMap<Tag, Number>, Fault>
-    ensures value { IsInOrder nat_cmp event_number events.now → IfOk result (λ lasts. AreReached lasts events.now) }
+    ensures value { AreNumbered events.now → IfOk result (λ lasts. AreReached lasts events.now) }
     ensures err { IfErr result (λ e. e ≡ Memory) }
 {
     let mut lasts = BTreeMap::new(alloc);
@@ -50,7 +49,8 @@ fn last_numbers(alloc: Global, events: &[Event]) -> Result<BTreeMap<Tag, Number>
 
 /// Whether an alarm's last number is greater than the row's.
 fn is_overtaken(lasts: &BTreeMap<Tag, Number>, event: &Event) -> bool
-    ensures { (kept : List TheEvent) → AreReached lasts.now kept → result ≡ needs.is_overtaken kept event.now }
+    ensures { (kept : List TheEvent) → AreReached lasts.now kept
+        → result ≡ needs.is_overtaken kept event.now }
 {
     match lasts.get(&event.tag) {
         Some(last) => event.seq < *last,
@@ -60,14 +60,16 @@ fn is_overtaken(lasts: &BTreeMap<Tag, Number>, event: &Event) -> bool
 
 /// Whether the row's number is new among events in rising number, and one of its alarm's events has a greater one.
 fn is_late(lasts: &BTreeMap<Tag, Number>, events: &[Event], row: &Event) -> bool
-    ensures { IsInOrder nat_cmp event_number events.now → AreReached lasts.now events.now → result ≡ needs.is_late events.now row.now }
+    ensures { AreNumbered events.now → AreReached lasts.now events.now
+        → result ≡ needs.is_late events.now row.now }
 {
     is_overtaken(lasts, row) && !has_number(events, row.seq)
 }
 
 /// Whether a row has a new number, and a kept event of its alarm a greater one. The kept events are in rising number.
 pub fn has_late(alloc: Global, kept: &[Event], rows: &[Event]) -> Result<bool, Fault>
-    ensures value { IsInOrder nat_cmp event_number kept.now → IfOk result (λ late. late ≡ needs.has_late kept.now rows.now) }
+    ensures value { AreNumbered kept.now
+        → IfOk result (λ late. late ≡ needs.has_late kept.now rows.now) }
     ensures err { IfErr result (λ e. e ≡ Memory) }
 {
     let near = from_last_before(kept, rows);
@@ -83,7 +85,8 @@ pub fn has_late(alloc: Global, kept: &[Event], rows: &[Event]) -> Result<bool, F
 /// The kept events, in rising number, that a file of these rows is seen beside: all, where a row comes late, else those from the last
 /// before every row on.
 pub fn needed<'a>(alloc: Global, kept: &'a [Event], rows: &[Event]) -> Result<&'a [Event], Fault>
-    ensures value { IsInOrder nat_cmp event_number kept.now → IfOk result (λ some. some.now ≡ needs.needed kept.now rows.now) }
+    ensures value { AreNumbered kept.now
+        → IfOk result (λ some. some.now ≡ needs.needed kept.now rows.now) }
     ensures err { IfErr result (λ e. e ≡ Memory) }
 {
     if has_late(alloc, kept, rows)? {

@@ -1,15 +1,13 @@
 //! Events by their numbers: how many of a file are new, and all events with those of a file.
 
-ghost use Rattle.std.specs.Prelude.{◌≡◌, ◌++◌, [], IfErr, IfOk, List, OnOk, drop, false, if◌then◌else◌, length, option_map, slice_get, unwrap_or};
+ghost use Rattle.std.specs.Prelude.{◌≡◌, ◌++◌, [], IfErr, IfOk, List, OnOk, false, length, option_map, slice_get, unwrap_or};
 ghost use Rattle.std.specs.List.{list_all, list_any};
-ghost use Rattle.std.specs.Ordering.{nat_cmp};
 ghost use Rattle.plant_alarm.specs.declared.event.Event.{Event as TheEvent};
-ghost use Rattle.plant_types.specs.KeyedRows.{IsInOrder, put_row};
 ghost use Rattle.plant_types.specs.declared.fault.Fault.TheVariants.{Memory};
 ghost use Rattle.plant_import.specs.Merging.{IsRising};
 ghost use Rattle.plant_import.specs.Needed.{is_before_all};
 ghost use Rattle.plant_import.specs.Numbers as numbers;
-ghost use Rattle.plant_import.specs.Numbers.{AreByNumber, event_number, new_numbers, with_events};
+ghost use Rattle.plant_import.specs.Numbers.{AreByNumber, new_numbers, with_events, AreNumbered, with_event};
 
 use crate::standing::place_of;
 use plant_alarm::{Event, Number};
@@ -19,7 +17,8 @@ use std::collections::{BTreeMap, BTreeSet};
 
 /// Whether the event at a place, if there is one, has this number.
 fn is_at(events: &[Event], place: usize, number: Number) -> bool
-    ensures { result ≡ unwrap_or (option_map (numbers.has_number number) (slice_get events.now place)) false }
+    ensures { result ≡ unwrap_or
+        (option_map (numbers.has_number number) (slice_get events.now place)) false }
 {
     match events.get(place) {
         Some(event) => event.seq == number,
@@ -29,14 +28,15 @@ fn is_at(events: &[Event], place: usize, number: Number) -> bool
 
 /// Whether one of the events, which stand in rising number, has this number.
 pub fn has_number(events: &[Event], number: Number) -> bool
-    ensures { IsInOrder nat_cmp event_number events.now → result ≡ list_any (numbers.has_number number) events.now }
+    ensures { AreNumbered events.now → result ≡ list_any (numbers.has_number number) events.now }
 {
     is_at(events, place_of(events, number), number)
 }
 
 /// How many numbers the file has that no kept event has, each counted once. The kept events are in rising number.
 pub fn count_new(alloc: Global, kept: &[Event], file: &[Event]) -> Result<usize, Fault>
-    ensures value { IsRising kept.now → IfOk result (λ count. count ≡ length (new_numbers kept.now file.now)) }
+    ensures value { IsRising kept.now
+        → IfOk result (λ count. count ≡ length (new_numbers kept.now file.now)) }
     ensures err { IfErr result (λ e. e ≡ Memory) }
 {
     let mut numbers = BTreeSet::new(alloc);
@@ -51,7 +51,8 @@ pub fn count_new(alloc: Global, kept: &[Event], file: &[Event]) -> Result<usize,
 
 /// Puts an event among others by their numbers, over the one of its number if any.
 pub fn put(events: &mut BTreeMap<Number, Event>, event: Event) -> Result<(), Fault>
-    ensures value { (es : List TheEvent) → AreByNumber events.old es → OnOk result (AreByNumber events.new (put_row nat_cmp event_number event es)) }
+    ensures value { (es : List TheEvent) → AreByNumber events.old es
+        → OnOk result (AreByNumber events.new (with_event event es)) }
     ensures err { IfErr result (λ e. e ≡ Memory) }
 {
     events.insert(event.seq, event)?;
@@ -95,7 +96,7 @@ fn push_all(alloc: Global, all: &mut List<Event>, events: &[Event]) -> Result<()
 
 /// The events without the first, where it has this number.
 fn without_first(events: &[Event], number: Number) -> &[Event]
-    ensures { result.now ≡ (if unwrap_or (option_map (numbers.has_number number) (slice_get events.now 0)) false then drop 1 events.now else events.now) }
+    ensures { result.now ≡ numbers.behind_number number events.now }
 {
     if is_at(events, 0, number) {
         &events[1..]
@@ -106,7 +107,8 @@ fn without_first(events: &[Event], number: Number) -> &[Event]
 
 /// Two lists of events in rising number as one. Of two with the same number that of the second counts.
 fn joined(alloc: Global, kept: &[Event], more: &[Event]) -> Result<List<Event>, Fault>
-    ensures value { IsInOrder nat_cmp event_number kept.now → IsInOrder nat_cmp event_number more.now → IfOk result (λ all. all ≡ with_events kept.now more.now) }
+    ensures value { AreNumbered kept.now → AreNumbered more.now
+        → IfOk result (λ all. all ≡ with_events kept.now more.now) }
     ensures err { IfErr result (λ e. e ≡ Memory) }
 {
     let mut all = List::new(alloc);
@@ -132,7 +134,8 @@ pub fn events_after(alloc: Global, kept: &[Event], more: &[Event]) -> Result<Lis
 
 /// Whether events, in rising number, all come after others, in rising number too.
 fn come_after(events: &[Event], others: &[Event]) -> bool
-    ensures { IsInOrder nat_cmp event_number others.now → IsInOrder nat_cmp event_number events.now → result ≡ list_all (is_before_all events.now) others.now }
+    ensures { AreNumbered others.now → AreNumbered events.now
+        → result ≡ list_all (is_before_all events.now) others.now }
 {
     let Some(last) = others.last() else {
         return true;
@@ -146,7 +149,7 @@ fn come_after(events: &[Event], others: &[Event]) -> bool
 /// Puts events, in any order, among the kept ones, which are in rising number. Its time is that of the new events where they come after
 /// all others, else that of going over the kept events once.
 pub fn put_events(alloc: Global, kept: &mut List<Event>, more: &[Event]) -> Result<(), Fault>
-    ensures value { IsInOrder nat_cmp event_number kept.old → OnOk result (kept.new ≡ with_events kept.old more.now) }
+    ensures value { AreNumbered kept.old → OnOk result (kept.new ≡ with_events kept.old more.now) }
     ensures err { IfErr result (λ e. e ≡ Memory) }
 {
     let rising = in_rising_number(alloc, more)?;

@@ -12,6 +12,7 @@ use crate::records::{field, next_record, reader_of};
 use crate::{BadFile, Cause};
 use csv::{ByteRecord, Reader};
 use plant_alarm::Event;
+use plant_types::limits::MAX_FILE_ROWS;
 use plant_types::{Fault, List, Moment, Tag};
 use std::alloc::Global;
 
@@ -53,7 +54,8 @@ fn is_header(row: &ByteRecord) -> bool
 
 /// The events of the rows below the header, or their first fault. It reads no further than that.
 fn read_rows(alloc: Global, mut reader: Reader<&[u8]>) -> Result<FileRead, Fault>
-    ensures value { IfOk result (λ read. (text : List ℕ) → (header : List (List ℕ)) → HasRead reader.entry text (header ∷ []) → AreRowsRead text header read) }
+    ensures value { IfOk result (λ read. (text : List ℕ) → (header : List (List ℕ))
+        → HasRead reader.entry text (header ∷ []) → AreRowsRead text header read) }
     ensures err { IfErr result (λ e. e ≡ Memory) }
 {
     let mut events = List::new(alloc);
@@ -97,7 +99,7 @@ fn read_row(alloc: Global, place: u64, row: &ByteRecord) -> Result<Result<Event,
     let Some(kind) = kind_of(field(row, 3)) else {
         return Ok(Err(Cause::BadEvent));
     };
-    if place > 10_000 {
+    if place > MAX_FILE_ROWS {
         return Ok(Err(Cause::TooLong));
     }
     Ok(Ok(Event {

@@ -20,7 +20,9 @@ pub fn reader_of(alloc: Global, bytes: &[u8]) -> Reader<&[u8]>
 
 /// Reads the next record, if any.
 pub fn next_record(reader: &mut Reader<&[u8]>, row: &mut ByteRecord) -> Result<bool, Fault>
-    ensures value { IfOk result (λ found. (text : List ℕ) → (rows : List (List (List ℕ))) → HasRead reader.old text rows → ReadsOne reader.new text rows found (fields_of row.new)) }
+    ensures value { IfOk result (λ found. (text : List ℕ) → (rows : List (List (List ℕ)))
+        → HasRead reader.old text rows
+        → ReadsOne reader.new text rows found (fields_of row.new)) }
     ensures err { IfErr result (λ e. e ≡ Memory) }
 {
     let Ok(found) = reader.read_byte_record(row) else {

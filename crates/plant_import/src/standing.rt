@@ -1,12 +1,9 @@
 ghost use Rattle.std.specs.Prelude.{◌≡◌, ◌≤◌, ◌<◌, List, length, nat_lt};
-ghost use Rattle.std.specs.Option.{option_copied};
 ghost use Rattle.std.specs.List.{list_any};
 ghost use Rattle.std.specs.List.Sorted.{IsPartitionPoint};
-ghost use Rattle.std.specs.Ordering.{nat_cmp};
 ghost use Rattle.plant_alarm.specs.declared.event.Event.{Event as TheEvent};
-ghost use Rattle.plant_types.specs.KeyedRows.{IsInOrder};
 ghost use Rattle.plant_import.specs.Merging.{IsRising, same_event};
-ghost use Rattle.plant_import.specs.Numbers.{AreByNumber, event_number};
+ghost use Rattle.plant_import.specs.Numbers.{AreByNumber, AreNumbered};
 ghost use Rattle.plant_import.specs.Standing as standing;
 ghost use Rattle.plant_import.specs.Standing.{AreNearest, IsFirst, IsLast, Stands};
 
@@ -58,7 +55,8 @@ pub fn nearest_by_number<'a>(events: &'a BTreeMap<Number, Event>, seq: Number) -
 }
 
 fn last_below(events: &BTreeMap<Number, Event>, seq: Number) -> Option<&Event>
-    ensures { (es : List TheEvent) → AreByNumber events.now es → IsLast (standing.below seq es) result }
+    ensures { (es : List TheEvent) → AreByNumber events.now es
+        → IsLast (standing.below seq es) result }
 {
     match events.range(..seq).next_back() {
         Some((_, event)) => Some(event),
@@ -67,7 +65,8 @@ fn last_below(events: &BTreeMap<Number, Event>, seq: Number) -> Option<&Event>
 }
 
 fn first_from(events: &BTreeMap<Number, Event>, seq: Number) -> Option<&Event>
-    ensures { (es : List TheEvent) → AreByNumber events.now es → IsFirst (standing.from seq es) result }
+    ensures { (es : List TheEvent) → AreByNumber events.now es
+        → IsFirst (standing.from seq es) result }
 {
     match events.range(seq..).next() {
         Some((_, event)) => Some(event),
@@ -77,7 +76,8 @@ fn first_from(events: &BTreeMap<Number, Event>, seq: Number) -> Option<&Event>
 
 /// How an event stands to events in rising number whose moments don't fall, of which these are the nearest to its number.
 pub fn stands(nearest: Nearest<'_>, event: &Event) -> Standing
-    ensures { (es : List TheEvent) → IsRising es → AreNearest es event.now.seq nearest.entry → Stands es event.now result }
+    ensures { (es : List TheEvent) → IsRising es → AreNearest es event.now.seq nearest.entry
+        → Stands es event.now result }
 {
     if let Some(other) = nearest.from {
         if other.seq == event.seq {
@@ -100,14 +100,16 @@ pub fn stands(nearest: Nearest<'_>, event: &Event) -> Standing
 /// How many of the events, which stand in rising number, have a smaller number.
 pub fn place_of(events: &[Event], seq: Number) -> usize
     ensures bound { result ≤ length events.now }
-    ensures place { IsInOrder nat_cmp event_number events.now → IsPartitionPoint (λ e. e.seq < seq) (λ e. seq ≤ e.seq) events.now result }
+    ensures place { AreNumbered events.now
+        → IsPartitionPoint (λ e. e.seq < seq) (λ e. seq ≤ e.seq) events.now result }
 {
     events.partition_point(|event| event.seq < seq)
 }
 
 /// Whether an event is earlier than the last of others, and so than one of them.
 fn is_before_last(event: &Event, last: Option<&Event>) -> bool
-    ensures { (es : List TheEvent) → IsRising es → IsLast es last.entry → result ≡ list_any (λ e. nat_lt event.now.moment e.moment) es }
+    ensures { (es : List TheEvent) → IsRising es → IsLast es last.entry
+        → result ≡ list_any (λ e. nat_lt event.now.moment e.moment) es }
 {
     match last {
         Some(last) => event.moment < last.moment,
@@ -117,7 +119,8 @@ fn is_before_last(event: &Event, last: Option<&Event>) -> bool
 
 /// Whether an event is later than the first of others, and so than one of them.
 fn is_after_first(event: &Event, first: Option<&Event>) -> bool
-    ensures { (es : List TheEvent) → IsRising es → IsFirst es first.entry → result ≡ list_any (λ e. nat_lt e.moment event.now.moment) es }
+    ensures { (es : List TheEvent) → IsRising es → IsFirst es first.entry
+        → result ≡ list_any (λ e. nat_lt e.moment event.now.moment) es }
 {
     match first {
         Some(first) => first.moment < event.moment,

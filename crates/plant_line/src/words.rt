@@ -77,7 +77,8 @@ pub struct Line {
 fn person_of(alloc: Global, name: &[u8]) -> Result<Person, LineError>
     ensures named { IfOk result (λ person. names.person_of name.now ≡ Some person) }
     ensures outside { names.person_of name.now ≡ None → result ≡ Err LineError.NotAPerson }
-    ensures refused { IfErr result (λ e. e ≡ LineError.NotAPerson → names.person_of name.now ≡ None) }
+    ensures refused { IfErr result (λ e. e ≡ LineError.NotAPerson
+        → names.person_of name.now ≡ None) }
 {
     match Person::read(alloc, name) {
         Ok(Some(person)) => Ok(person),
@@ -240,7 +241,8 @@ fn line_from(
 ) -> Result<Line, LineError>
     ensures admin { IfOk result (λ line. names.person_of name.now ≡ Some line.admin) }
     ensures outside { names.person_of name.now ≡ None → result ≡ Err LineError.NotAPerson }
-    ensures refused { IfErr result (λ e. e ≡ LineError.NotAPerson → names.person_of name.now ≡ None) }
+    ensures refused { IfErr result (λ e. e ≡ LineError.NotAPerson
+        → names.person_of name.now ≡ None) }
 {
     let admin = person_of(alloc, name)?;
     let old = path_of(alloc, old)?;

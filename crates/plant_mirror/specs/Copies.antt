@@ -6,7 +6,7 @@ use Rattle.plant_books.specs.Order.{AreInOrder}
 use Rattle.plant_books.specs.declared.books.MineShelf.{MineShelf}
 use Rattle.plant_mirror.specs.declared.at_hand.AtHand.{AtHand}
 use Rattle.plant_model.specs.declared.rows.UnitRows.{UnitRows}
-use Rattle.plant_types.specs.Names.{Name}
+use Rattle.plant_types.specs.Names.{Name, same_name}
 
 -- the rows of each unit that was opened
 abbrev pub There : Type 0
@@ -39,6 +39,18 @@ pub record IsCopy (there : There) (copy : Copy) : Type 0 where
 abbrev pub AreCopies : There → List Copy → Type 0
 AreCopies there [] = Unit {0}
 AreCopies there (copy ∷ copies) = IsCopy there copy × AreCopies there copies
+
+-- where copies are true of what there is, the later ones are
+abbrev pub StayCopies : List Copy → List Copy → Type 0
+StayCopies before after = (there : There) → AreCopies there before → AreCopies there after
+
+-- and so they are with one more, if that is true of what there is
+abbrev pub StayCopiesWith : Copy → List Copy → List Copy → Type 0
+StayCopiesWith copy before after = (there : There) → IsCopy there copy → AreCopies there before → AreCopies there after
+
+-- what there is differs at most in one unit
+abbrev pub DiffersAt : Name → There → There → Type 0
+DiffersAt unit there after = (u : Name) → same_name unit u ≡ false → after u ≡ there u
 
 -- the books below hold the content, and under what their keeper knows of its premise the copies are true of it
 pub record IsMirrored (below : Content → Type 0) (is_honest : Type 0) (copies : List Copy) (m : Content) : Type 0 where

@@ -1,5 +1,5 @@
 -- What a question leaves of the books, and of the copies beside them.
-use Rattle.std.specs.Prelude.{Result}
+use Rattle.std.specs.Prelude.{IfOk, Result}
 use Rattle.plant_books.specs.Contents.{Content}
 use Rattle.plant_books.specs.Counting.{Counts}
 use Rattle.plant_books.specs.declared.books.Books.{Ghosts}
@@ -13,3 +13,11 @@ pub record Leaves {B A : Type 0} (books : Ghosts B) (said : Result A Fault) (bef
       → IsMirrored (books.represents after.books) (books.is_honest after.books) after.copies.units.entries m
   pub honest : books.is_honest after.books → books.is_honest before.books
   pub count : Counts (books.stores before.books) (books.stores after.books) said
+
+-- the books hold the content, and the copies beside them are true of it
+abbrev pub Mirrors : {B : Type 0} → Ghosts B → Mirror B → Content → Type 0
+Mirrors books m content = IsMirrored (books.represents m.books) (books.is_honest m.books) m.copies.units.entries content
+
+-- what is answered is so of every content that the books held
+abbrev pub AnswersOf : {B A : Type 0} → Ghosts B → Mirror B → Mirror B → Result A Fault → (Content → A → Type 0) → Type 0
+AnswersOf books before after said what = (m : Content) → books.represents before.books m → books.is_honest after.books → IfOk said (what m)

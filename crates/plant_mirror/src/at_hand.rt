@@ -39,7 +39,8 @@ impl AtHand {
 
     /// Whether the call looks at nothing that is missing here. A caller who holds no role looks at no event.
     pub fn serves(&self, call: &Call) -> bool
-        ensures { IsTrue result → (rows : TheRows) → seen self.now.has_events rows ≡ self.now.rows → part_of call.now self.now.rows ≡ part_of call.now rows }
+        ensures { IsTrue result → (rows : TheRows) → seen self.now.has_events rows ≡ self.now.rows
+            → part_of call.now self.now.rows ≡ part_of call.now rows }
     {
         if self.has_events {
             return true;
@@ -60,7 +61,9 @@ impl AtHand {
     /// What is at hand after the changes. It is nothing where an event is put among events that are not at hand, or where
     /// memory is wanted.
     pub fn after(self, alloc: Global, changes: &List<RowEdit>) -> Option<AtHand>
-        ensures { (m : Content) (u : Name) → IsCopy (fin.get m.units) (u, self) → IfSome result (λ after. IsCopy (fin.get (content_after m u changes.now).units) (u, after)) }
+        ensures { (m : Content) (u : Name) → IsCopy (fin.get m.units) (u, self)
+            → IfSome result (λ after.
+            IsCopy (fin.get (content_after m u changes.now).units) (u, after)) }
     {
         if self.misses(changes) {
             return None;

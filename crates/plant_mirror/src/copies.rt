@@ -1,8 +1,8 @@
-ghost use Rattle.std.specs.Map.{lookup, lookup_entry, remove_entry};
-ghost use Rattle.std.specs.Prelude.{◌≡◌, ◌≤◌, ◌+◌, [], false, flat_map, IfErr, IfOk, IfSome, Some, option_copied};
+ghost use Rattle.std.specs.Map.{lookup, lookup_entry};
+ghost use Rattle.std.specs.Prelude.{◌≡◌, ◌≤◌, ◌+◌, [], flat_map, IfErr, IfOk, IfSome, Some, option_copied};
 ghost use Rattle.plant_mirror.specs.Copies as copies;
-ghost use Rattle.plant_mirror.specs.Copies.{AreCopies, IsCopy, There};
-ghost use Rattle.plant_types.specs.Names.{Name, same_name};
+ghost use Rattle.plant_mirror.specs.Copies.{AreCopies, There, DiffersAt, StayCopies, StayCopiesWith};
+ghost use Rattle.plant_types.specs.Names.{same_name};
 ghost use Rattle.plant_types.specs.declared.fault.Fault.TheVariants.{Memory};
 
 use crate::at_hand::AtHand;
@@ -37,7 +37,7 @@ impl Copies {
 
     /// Whether the unit's rows are at hand. The unit is then the one last used.
     pub fn touch(&mut self, unit: &UnitCode) -> bool
-        ensures kept { (there : There) → AreCopies there self.old.units.entries → AreCopies there self.new.units.entries }
+        ensures kept { StayCopies self.old.units.entries self.new.units.entries }
     {
         self.units.promote(unit)
     }
@@ -51,7 +51,8 @@ impl Copies {
 
     /// All rows of the unit, where they are at hand with its events.
     pub fn all_rows_of(&self, unit: &UnitCode) -> Option<&UnitRows>
-        ensures { (there : There) → AreCopies there self.now.units.entries → IfSome result (λ rows. there unit.now ≡ Some rows.now) }
+        ensures { (there : There) → AreCopies there self.now.units.entries
+            → IfSome result (λ rows. there unit.now ≡ Some rows.now) }
     {
         match self.copy_of(unit) {
             Some(copy) if copy.has_events => Some(&copy.rows),
@@ -65,7 +66,9 @@ impl Copies {
         alloc: Global,
         units: &[UnitCode],
     ) -> Result<Option<List<MineShelf>>, Fault>
-        ensures found { (there : There) → AreCopies there self.now.units.entries → IfOk result (λ found. IfSome found (λ mine. mine ≡ flat_map (λ u. copies.shelves_there u (there u)) units.now)) }
+        ensures found { (there : There) → AreCopies there self.now.units.entries
+            → IfOk result (λ found. IfSome found (λ mine. mine
+            ≡ flat_map (λ u. copies.shelves_there u (there u)) units.now)) }
         ensures memory { IfErr result (λ e. e ≡ Memory) }
     {
         let mut mine = List::new(alloc);
@@ -81,7 +84,8 @@ impl Copies {
     /// Takes the unit's rows out, with the code that they were kept under.
     pub fn take(&mut self, unit: &UnitCode) -> Option<(UnitCode, AtHand)>
         ensures taken { result ≡ lookup_entry (same_name unit.now) self.old.units.entries }
-        ensures rest { (there after : There) → ((u : Name) → same_name unit.now u ≡ false → after u ≡ there u) → AreCopies there self.old.units.entries → AreCopies after self.new.units.entries }
+        ensures rest { (there after : There) → DiffersAt unit.now there after
+            → AreCopies there self.old.units.entries → AreCopies after self.new.units.entries }
     {
         let _count = self.units.len();
         let (unit, copy) = self.units.pop_entry(unit)?;
@@ -99,7 +103,7 @@ impl Copies {
 
     /// Lets the unit go that was longest not used.
     fn drop_last(&mut self)
-        ensures kept { (there : There) → AreCopies there self.old.units.entries → AreCopies there self.new.units.entries }
+        ensures kept { StayCopies self.old.units.entries self.new.units.entries }
     {
         if let Some((_, copy)) = self.units.pop_lru() {
             self.rows -= copy.row_count();
@@ -108,7 +112,7 @@ impl Copies {
 
     /// Lets units go, those longest not used first, until there is room for so many rows.
     fn make_room(&mut self, more: u128)
-        ensures kept { (there : There) → AreCopies there self.old.units.entries → AreCopies there self.new.units.entries }
+        ensures kept { StayCopies self.old.units.entries self.new.units.entries }
     {
         for _ in 0..self.units.len() {
             if more <= self.limit - self.rows {
@@ -121,7 +125,7 @@ impl Copies {
     /// Keeps a copy of a unit's rows, in the place of those that were longest not used. Nothing is kept of a unit that has
     /// more rows than may be at hand, nor if memory runs out.
     pub fn keep(&mut self, unit: UnitCode, copy: AtHand)
-        ensures kept { (there : There) → IsCopy there (unit, copy) → AreCopies there self.old.units.entries → AreCopies there self.new.units.entries }
+        ensures kept { StayCopiesWith (unit, copy) self.old.units.entries self.new.units.entries }
     {
         let more = copy.row_count();
         if more > self.limit {
@@ -137,7 +141,7 @@ impl Copies {
     fn put(&mut self, unit: UnitCode, copy: AtHand, more: u128)
         requires room { self.old.rows + more ≤ self.old.limit }
         requires counted { more ≡ copies.row_count copy.rows }
-        ensures kept { (there : There) → IsCopy there (unit, copy) → AreCopies there self.old.units.entries → AreCopies there self.new.units.entries }
+        ensures kept { StayCopiesWith (unit, copy) self.old.units.entries self.new.units.entries }
     {
         match self.units.put(unit, copy) {
             Ok(_) => self.rows += more,

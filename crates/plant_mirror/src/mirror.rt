@@ -3,9 +3,9 @@ ghost use Rattle.std.specs.List.{list_any};
 ghost use Rattle.std.specs.Prelude.{◌≡◌, [], IfOk, Some, option_map};
 ghost use Rattle.plant_books.specs.Contents.{Content, codes_held, part_in};
 ghost use Rattle.plant_mirror.specs.Copies.{IsMirrored, seen};
-ghost use Rattle.plant_mirror.specs.Leaves.{Leaves};
+ghost use Rattle.plant_mirror.specs.Leaves.{Leaves, AnswersOf, Mirrors};
 ghost use Rattle.plant_model.specs.Worlds.{unit_named};
-ghost use Rattle.plant_types.specs.Names.{Name, same_name};
+ghost use Rattle.plant_types.specs.Names.{same_name};
 
 use crate::at_hand::AtHand;
 use crate::copies::Copies;
@@ -37,7 +37,8 @@ impl<B: Books> Mirror<B> {
     /// The keeper over these books, with no rows at hand yet. It takes no memory.
     pub fn new(alloc: Global, copies: Copies, books: B) -> Mirror<B>
         requires { copies.units.entries ≡ [] }
-        ensures represents { (m : Content) → B.represents books m → ⟦<Mirror<B> as Books>⟧.represents result m }
+        ensures represents { (m : Content) → B.represents books m
+            → ⟦<Mirror<B> as Books>⟧.represents result m }
         ensures stores { ⟦<Mirror<B> as Books>⟧.stores result ≡ B.stores books }
     {
         Mirror {
@@ -49,7 +50,8 @@ impl<B: Books> Mirror<B> {
 
     /// The books that lie below, as they were left.
     pub fn into_books(self) -> B
-        ensures represents { (m : Content) → ⟦<Mirror<B> as Books>⟧.represents self m → B.represents result m }
+        ensures represents { (m : Content) → ⟦<Mirror<B> as Books>⟧.represents self m
+            → B.represents result m }
         ensures stores { B.stores result ≡ ⟦<Mirror<B> as Books>⟧.stores self }
     {
         let Mirror {
@@ -62,7 +64,10 @@ impl<B: Books> Mirror<B> {
 
     /// Keeps what is at hand of the unit's rows, if they stand in the order of their keys and there is memory.
     fn keep(&mut self, unit: &UnitCode, copy: AtHand)
-        ensures kept { (m : Content) → IsMirrored (B.represents self.old.books) (B.is_honest self.old.books) self.old.copies.units.entries m → (B.is_honest self.old.books → option_map (seen copy.has_events) (fin.get m.units unit.now) ≡ Some copy.rows) → IsMirrored (B.represents self.new.books) (B.is_honest self.new.books) self.new.copies.units.entries m }
+        ensures kept { (m : Content) → Mirrors B.Books self.old m
+            → (B.is_honest self.old.books
+            → option_map (seen copy.has_events) (fin.get m.units unit.now) ≡ Some copy.rows)
+            → Mirrors B.Books self.new m }
         ensures below { self.new.books ≡ self.old.books }
     {
         if !are_in_order(&copy.rows) {
@@ -75,7 +80,8 @@ impl<B: Books> Mirror<B> {
 
     /// The unit's rows below, with the events or without.
     fn rows_below(&mut self, unit: &UnitCode, has_events: bool) -> Result<Option<UnitRows>, Fault>
-        ensures found { (m : Content) → B.represents self.old.books m → B.is_honest self.new.books → IfOk result (λ rows. rows ≡ option_map (seen has_events) (fin.get m.units unit.now)) }
+        ensures found { AnswersOf B.Books self.old self.new result (λ m rows. rows
+            ≡ option_map (seen has_events) (fin.get m.units unit.now)) }
         ensures leaves { Leaves B.Books result self.old self.new }
     {
         if has_events {
@@ -118,7 +124,8 @@ impl<B: Books> Mirror<B> {
 
     /// Whether the caller holds a role in the unit.
     fn is_held(&mut self, unit: &UnitCode, call: &Call) -> Result<bool, Fault>
-        ensures found { (m : Content) → B.represents self.old.books m → B.is_honest self.new.books → IfOk result (λ held. held ≡ list_any (same_name unit.now) (codes_held m call.now.moment call.now.person)) }
+        ensures found { AnswersOf B.Books self.old self.new result (λ m held. held
+            ≡ list_any (same_name unit.now) (codes_held m call.now.moment call.now.person)) }
         ensures leaves { Leaves B.Books result self.old self.new }
     {
         let units = self.books.held(&call.person, call.moment)?;
@@ -149,7 +156,9 @@ impl<B: Books> Mirror<B> {
 
     /// The part of a call on this unit: from what is at hand, if that serves the call.
     fn part_of(&mut self, unit: &UnitCode, call: &Call) -> Result<Option<UnitPart>, Fault>
-        ensures found { (m : Content) → IsMirrored (B.represents self.old.books) (B.is_honest self.old.books) self.old.copies.units.entries m → B.is_honest self.new.books → unit_named call.now.request ≡ Some unit.now → IfOk result (λ part. part ≡ part_in m call.now unit.now) }
+        ensures found { (m : Content) → Mirrors B.Books self.old m → B.is_honest self.new.books
+            → unit_named call.now.request ≡ Some unit.now
+            → IfOk result (λ part. part ≡ part_in m call.now unit.now) }
         ensures leaves { Leaves B.Books result self.old self.new }
     {
         match self.copies.copy_of(unit) {

@@ -174,13 +174,20 @@ impl<B: Books> Office<B> {
     /// that the caller held before or holds after are those of that office. A fault leaves the books as they were, and
     /// so do a refusal and a reply to a call that only asks, whatever the books hold.
     pub fn serve(&mut self, call: &Call) -> Answer
-        ensures served { (m : Content) → B.represents self.old.books m → (w : World) → IsLegalWorld w → Holds m w → B.is_honest self.new.books → IfSaid result (λ a. IsServed w call.now a (B.represents self.new.books)) }
-        ensures isolated { (m : Content) → B.represents self.old.books m → (w v : World) → IsLegalWorld w → Holds m w → w.admin ≡ v.admin
-            → view call.now.moment call.now.person w ≡ view call.now.moment call.now.person v → B.is_honest self.new.books
+        ensures served { (m : Content) → B.represents self.old.books m → (w : World)
+            → IsLegalWorld w → Holds m w → B.is_honest self.new.books
+            → IfSaid result (λ a. IsServed w call.now a (B.represents self.new.books)) }
+        ensures isolated { (m : Content) → B.represents self.old.books m → (w v : World)
+            → IsLegalWorld w → Holds m w → w.admin ≡ v.admin
+            → view call.now.moment call.now.person w ≡ view call.now.moment call.now.person v
+            → B.is_honest self.new.books
             → IfSaid result (λ a. IsIsolated v call.now a (B.represents self.new.books)) }
         ensures honest { B.is_honest self.new.books → B.is_honest self.old.books }
-        ensures unchanged { (m : Content) → B.represents self.old.books m → IfSaid result (λ a. changes_history a call.now ≡ false → B.represents self.new.books m) }
-        ensures fault { (m : Content) → B.represents self.old.books m → OnFault result (B.represents self.new.books m) }
+        ensures unchanged { (m : Content) → B.represents self.old.books m
+            → IfSaid result (λ a. changes_history a call.now ≡ false
+            → B.represents self.new.books m) }
+        ensures fault { (m : Content) → B.represents self.old.books m
+            → OnFault result (B.represents self.new.books m) }
         ensures count { CountsAnswer (B.stores self.old.books) (B.stores self.new.books) result }
     {
         answer_of(self.serve_call(call))
@@ -189,9 +196,15 @@ impl<B: Books> Office<B> {
     /// Answers the calls in their order, each as `serve` does. Room for all answers is made first: a fault of its own
     /// is Memory, and then no call was made.
     pub fn run(&mut self, calls: &[Call]) -> Result<Vec<Answer>, Fault>
-        ensures ran { (m : Content) → B.represents self.old.books m → (w : World) → IsLegalWorld w → Holds m w → B.is_honest self.new.books → IfOk result (λ answers. IsRun w calls.now answers.items (B.represents self.new.books)) }
+        ensures ran { (m : Content) → B.represents self.old.books m → (w : World)
+            → IsLegalWorld w → Holds m w
+            → B.is_honest self.new.books
+            → IfOk result (λ answers.
+            IsRun w calls.now answers.items (B.represents self.new.books)) }
         ensures honest { B.is_honest self.new.books → B.is_honest self.old.books }
-        ensures count { B.stores self.old.books + length calls.now < 2 ^ 64 → IfOk result (λ answers. B.stores self.new.books ≡ B.stores self.old.books + stores_in answers.items) }
+        ensures count { B.stores self.old.books + length calls.now < 2 ^ 64
+            → IfOk result (λ answers. B.stores self.new.books
+            ≡ B.stores self.old.books + stores_in answers.items) }
         ensures fault { OnErr result (self.new ≡ self.old) }
         ensures memory { IfErr result (λ e. e ≡ Memory) }
     {

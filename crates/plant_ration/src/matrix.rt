@@ -39,11 +39,14 @@ impl Matrix {
         limits: &[u64],
         cells: &[Vec<Cell>],
     ) -> Result<Result<Matrix, MatrixFault>, Fault>
-        ensures value { IfOk result (λ made. made ≡ matrix_of limits.now (map (λ row. row.items) cells.now)) }
+        ensures value { IfOk result (λ made. made
+            ≡ matrix_of limits.now (map (λ row. row.items) cells.now)) }
         ensures err { IfErr result (λ e. e ≡ Memory) }
 
         // A fault is answered without memory.
-        ensures faulty { (fault : MatrixFault) → matrix_of limits.now (map (λ row. row.items) cells.now) ≡ Err fault → result ≡ Ok (Err fault) }
+        ensures faulty { (fault : MatrixFault)
+            → matrix_of limits.now (map (λ row. row.items) cells.now) ≡ Err fault
+            → result ≡ Ok (Err fault) }
     {
         if !shape::has_shape(limits, cells) {
             return Ok(Err(MatrixFault::Shape));

@@ -1,4 +1,5 @@
-ghost use Rattle.std.specs.Prelude.{◌≡◌, ◌++◌, IfOk, IfErr, OnOk};
+ghost use Rattle.std.specs.Prelude.{◌≡◌, ◌++◌, IfOk, IfErr};
+ghost use Rattle.plant_types.specs.Adding.{Adds};
 ghost use Rattle.plant_types.specs.declared.fault.Fault.TheVariants.{Memory};
 ghost use Rattle.plant_report.specs.Columns.{line as line_of};
 ghost use Rattle.plant_report.specs.Texts as texts;
@@ -33,7 +34,8 @@ pub fn standing_text(
 }
 
 fn push_standing(text: &mut Vec<u8>, line: &StandingLine) -> Result<(), Fault>
-    ensures value { OnOk result (text.new.items ≡ text.old.items ++ line_of (standing_columns line.now)) }
+    ensures value { Adds result text.old.items text.new.items
+        (line_of (standing_columns line.now)) }
     ensures err { IfErr result (λ e. e ≡ Memory) }
 {
     push_left(text, 24, line.tag.as_bytes())?;
@@ -66,7 +68,7 @@ pub fn alarm_text(
 }
 
 fn push_alarm(text: &mut Vec<u8>, line: &AlarmLine) -> Result<(), Fault>
-    ensures value { OnOk result (text.new.items ≡ text.old.items ++ line_of (alarm_columns line.now)) }
+    ensures value { Adds result text.old.items text.new.items (line_of (alarm_columns line.now)) }
     ensures err { IfErr result (λ e. e ≡ Memory) }
 {
     let mut buffer = Buffer::new();

@@ -1,4 +1,5 @@
-ghost use Rattle.std.specs.Prelude.{◌≡◌, [], ◌∷◌, ◌++◌, OnOk, IfErr, ◌-◌, ◌≤◌, length, replicate};
+ghost use Rattle.std.specs.Prelude.{◌≡◌, [], ◌∷◌, ◌++◌, IfErr, ◌-◌, ◌≤◌, length, replicate};
+ghost use Rattle.plant_types.specs.Adding.{Adds};
 ghost use Rattle.plant_types.specs.declared.fault.Fault.TheVariants.{Memory};
 ghost use Rattle.plant_report.specs.declared.columns.TheConstants.{WIDEST};
 ghost use Rattle.plant_report.specs.Columns.{left, right, line as line_of};
@@ -15,7 +16,7 @@ const SPACES: [u8; WIDEST] = [b' '; WIDEST];
 
 /// Adds a column and the space after it.
 pub fn push_column(text: &mut Vec<u8>, column: &[u8]) -> Result<(), Fault>
-    ensures value { OnOk result (text.new.items ≡ text.old.items ++ (column.now ++ 32 ∷ [])) }
+    ensures value { Adds result text.old.items text.new.items (column.now ++ 32 ∷ []) }
     ensures err { IfErr result (λ e. e ≡ Memory) }
 {
     text.extend_from_slice(column)?;
@@ -25,7 +26,7 @@ pub fn push_column(text: &mut Vec<u8>, column: &[u8]) -> Result<(), Fault>
 /// Adds a column, filled up with spaces on the right, and the space after it.
 pub fn push_left(text: &mut Vec<u8>, width: usize, column: &[u8]) -> Result<(), Fault>
     requires { width ≤ WIDEST }
-    ensures value { OnOk result (text.new.items ≡ text.old.items ++ (left width column.now ++ 32 ∷ [])) }
+    ensures value { Adds result text.old.items text.new.items (left width column.now ++ 32 ∷ []) }
     ensures err { IfErr result (λ e. e ≡ Memory) }
 {
     text.extend_from_slice(column)?;
@@ -36,7 +37,7 @@ pub fn push_left(text: &mut Vec<u8>, width: usize, column: &[u8]) -> Result<(), 
 /// Adds a column, filled up with spaces on the left, and the space after it.
 pub fn push_right(text: &mut Vec<u8>, width: usize, column: &[u8]) -> Result<(), Fault>
     requires { width ≤ WIDEST }
-    ensures value { OnOk result (text.new.items ≡ text.old.items ++ (right width column.now ++ 32 ∷ [])) }
+    ensures value { Adds result text.old.items text.new.items (right width column.now ++ 32 ∷ []) }
     ensures err { IfErr result (λ e. e ≡ Memory) }
 {
     push_padding(text, width, column)?;
@@ -45,7 +46,7 @@ pub fn push_right(text: &mut Vec<u8>, width: usize, column: &[u8]) -> Result<(),
 
 /// Adds a moment and the space after it.
 pub fn push_moment(text: &mut Vec<u8>, moment: Moment) -> Result<(), Fault>
-    ensures value { OnOk result (text.new.items ≡ text.old.items ++ (moment_text moment ++ 32 ∷ [])) }
+    ensures value { Adds result text.old.items text.new.items (moment_text moment ++ 32 ∷ []) }
     ensures err { IfErr result (λ e. e ≡ Memory) }
 {
     push_column(text, &moments::write(moment))
@@ -53,7 +54,7 @@ pub fn push_moment(text: &mut Vec<u8>, moment: Moment) -> Result<(), Fault>
 
 /// Adds the last column, and ends the line.
 pub fn push_last(text: &mut Vec<u8>, column: &[u8]) -> Result<(), Fault>
-    ensures value { OnOk result (text.new.items ≡ text.old.items ++ line_of (column.now ∷ [])) }
+    ensures value { Adds result text.old.items text.new.items (line_of (column.now ∷ [])) }
     ensures err { IfErr result (λ e. e ≡ Memory) }
 {
     text.extend_from_slice(column)?;
@@ -63,7 +64,8 @@ pub fn push_last(text: &mut Vec<u8>, column: &[u8]) -> Result<(), Fault>
 /// Adds the last column, filled up with spaces on the left, and ends the line.
 pub fn push_last_right(text: &mut Vec<u8>, width: usize, column: &[u8]) -> Result<(), Fault>
     requires { width ≤ WIDEST }
-    ensures value { OnOk result (text.new.items ≡ text.old.items ++ line_of (right width column.now ∷ [])) }
+    ensures value { Adds result text.old.items text.new.items
+        (line_of (right width column.now ∷ [])) }
     ensures err { IfErr result (λ e. e ≡ Memory) }
 {
     push_padding(text, width, column)?;
@@ -73,7 +75,8 @@ pub fn push_last_right(text: &mut Vec<u8>, width: usize, column: &[u8]) -> Resul
 /// Adds the spaces that fill a column up.
 fn push_padding(text: &mut Vec<u8>, width: usize, column: &[u8]) -> Result<(), Fault>
     requires { width ≤ WIDEST }
-    ensures value { OnOk result (text.new.items ≡ text.old.items ++ replicate (width - length column.now) 32) }
+    ensures value { Adds result text.old.items text.new.items
+        (replicate (width - length column.now) 32) }
     ensures err { IfErr result (λ e. e ≡ Memory) }
 {
     push_spaces(text, width.saturating_sub(column.len()))
@@ -81,7 +84,7 @@ fn push_padding(text: &mut Vec<u8>, width: usize, column: &[u8]) -> Result<(), F
 
 fn push_spaces(text: &mut Vec<u8>, count: usize) -> Result<(), Fault>
     requires { count ≤ WIDEST }
-    ensures value { OnOk result (text.new.items ≡ text.old.items ++ replicate count 32) }
+    ensures value { Adds result text.old.items text.new.items (replicate count 32) }
     ensures err { IfErr result (λ e. e ≡ Memory) }
 {
     Ok(text.extend_from_slice(&SPACES[..count])?)

@@ -1,4 +1,5 @@
-ghost use Rattle.std.specs.Prelude.{◌≡◌, ◌++◌, IfOk, IfErr, OnOk};
+ghost use Rattle.std.specs.Prelude.{◌≡◌, ◌++◌, IfOk, IfErr};
+ghost use Rattle.plant_types.specs.Adding.{Adds};
 ghost use Rattle.plant_types.specs.declared.fault.Fault.TheVariants.{Memory};
 ghost use Rattle.plant_report.specs.Columns.{line as line_of};
 ghost use Rattle.plant_report.specs.Texts as texts;
@@ -20,7 +21,8 @@ pub fn flood_text(
     until: Moment,
     lines: &[FloodLine],
 ) -> Result<Vec<u8>, Fault>
-    ensures value { IfOk result (λ text. text.items ≡ texts.flood_text unit.now begin until lines.now) }
+    ensures value { IfOk result (λ text. text.items
+        ≡ texts.flood_text unit.now begin until lines.now) }
     ensures err { IfErr result (λ e. e ≡ Memory) }
 {
     let mut text = Vec::with_capacity(alloc, room_for(lines.len()))?;
@@ -38,7 +40,8 @@ fn push_flood_heading(
     until: Moment,
     count: usize,
 ) -> Result<(), Fault>
-    ensures value { OnOk result (text.new.items ≡ text.old.items ++ flood_heading unit.now begin until count) }
+    ensures value { Adds result text.old.items text.new.items
+        (flood_heading unit.now begin until count) }
     ensures err { IfErr result (λ e. e ≡ Memory) }
 {
     let mut buffer = Buffer::new();
@@ -53,7 +56,7 @@ fn push_flood_heading(
 }
 
 fn push_flood(text: &mut Vec<u8>, line: &FloodLine) -> Result<(), Fault>
-    ensures value { OnOk result (text.new.items ≡ text.old.items ++ line_of (flood_columns line.now)) }
+    ensures value { Adds result text.old.items text.new.items (line_of (flood_columns line.now)) }
     ensures err { IfErr result (λ e. e ≡ Memory) }
 {
     let mut total = Buffer::new();

@@ -1,4 +1,5 @@
-ghost use Rattle.std.specs.Prelude.{◌≡◌, ◌++◌, IfErr, OnOk};
+ghost use Rattle.std.specs.Prelude.{◌≡◌, ◌++◌, IfErr};
+ghost use Rattle.plant_types.specs.Adding.{Adds};
 ghost use Rattle.plant_types.specs.declared.fault.Fault.TheVariants.{Memory};
 ghost use Rattle.plant_report.specs.Texts.{heading};
 
@@ -22,7 +23,8 @@ pub fn push_heading(
     at: Moment,
     count: usize,
 ) -> Result<(), Fault>
-    ensures value { OnOk result (text.new.items ≡ text.old.items ++ heading what.now whose.now at count) }
+    ensures value { Adds result text.old.items text.new.items
+        (heading what.now whose.now at count) }
     ensures err { IfErr result (λ e. e ≡ Memory) }
 {
     let mut buffer = Buffer::new();

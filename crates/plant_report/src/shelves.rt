@@ -1,4 +1,5 @@
-ghost use Rattle.std.specs.Prelude.{◌≡◌, ◌++◌, IfOk, IfErr, OnOk, length, codes};
+ghost use Rattle.std.specs.Prelude.{◌≡◌, ◌++◌, IfOk, IfErr};
+ghost use Rattle.plant_types.specs.Adding.{Adds};
 ghost use Rattle.plant_types.specs.declared.fault.Fault.TheVariants.{Memory};
 ghost use Rattle.plant_report.specs.Columns.{line as line_of};
 ghost use Rattle.plant_report.specs.Texts as texts;
@@ -51,7 +52,7 @@ pub fn mine_text(
 }
 
 fn push_mine(text: &mut Vec<u8>, line: &MineLine) -> Result<(), Fault>
-    ensures value { OnOk result (text.new.items ≡ text.old.items ++ line_of (mine_columns line.now)) }
+    ensures value { Adds result text.old.items text.new.items (line_of (mine_columns line.now)) }
     ensures err { IfErr result (λ e. e ≡ Memory) }
 {
     push_left(text, 8, line.unit.as_bytes())?;
@@ -59,7 +60,7 @@ fn push_mine(text: &mut Vec<u8>, line: &MineLine) -> Result<(), Fault>
 }
 
 fn push_shelf(text: &mut Vec<u8>, line: &ShelfLine) -> Result<(), Fault>
-    ensures value { OnOk result (text.new.items ≡ text.old.items ++ line_of (shelf_columns line.now)) }
+    ensures value { Adds result text.old.items text.new.items (line_of (shelf_columns line.now)) }
     ensures err { IfErr result (λ e. e ≡ Memory) }
 {
     let mut buffer = Buffer::new();

@@ -1,4 +1,5 @@
 pub mod Names
+pub mod Adding
 pub mod KeyedRows
 pub mod Options
 pub mod Roles

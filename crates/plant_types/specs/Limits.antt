@@ -21,6 +21,10 @@ max_changes = 20000
 abbrev pub max_events : ℕ
 max_events = 100000
 
+-- the rows of a file of events
+abbrev pub max_file_rows : ℕ
+max_file_rows = 10000
+
 -- the seconds of a shelving time and of a band's limit: a week
 abbrev pub max_seconds : ℕ
 max_seconds = 604800

@@ -70,7 +70,8 @@ pub fn time_of(hour: u64, minute: u64, second: u64) -> Option<u64>
     requires hour { hour < 1000000 }
     requires minute { minute < 1000000 }
     requires second { second < 1000000 }
-    ensures value { result ≡ number_if (is_time hour minute second) (3600 * hour + 60 * minute + second) }
+    ensures value { result
+        ≡ number_if (is_time hour minute second) (3600 * hour + 60 * minute + second) }
     ensures bound { IfSome result (λ n. n < 86400) }
 {
     if hour < 24 && minute < 60 && second < 60 {

@@ -15,6 +15,9 @@ pub const MAX_CHANGES: u64 = 20_000;
 /// The most events that a unit may have.
 pub const MAX_EVENTS: u64 = 100_000;
 
+/// The most rows that a file of events may have.
+pub const MAX_FILE_ROWS: u64 = 10_000;
+
 /// The longest shelving time, and the longest limit of a band, in seconds: a week.
 pub const MAX_SECONDS: u64 = 604_800;
 

@@ -4,3 +4,4 @@ pub mod Marks
 pub mod Ran
 pub mod Step
 pub mod Session
+pub mod Over

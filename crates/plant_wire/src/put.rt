@@ -17,7 +17,8 @@ pub(crate) fn put_all<O: Outlet>(outlet: &mut O, bytes: &[u8]) -> Result<(), Fai
     ensures ok { OnOk result (Appends (O.written outlet.old) (O.written outlet.new) bytes.now) }
     ensures moved { OnOk result (O.failures outlet.new ≡ O.failures outlet.old) }
     ensures stalled { OnErr result (O.failures outlet.new ≡ 1) }
-    ensures err { OnErr result ((n : ℕ) × Appends (O.written outlet.old) (O.written outlet.new) (first n bytes.now)) }
+    ensures err { OnErr result ((n : ℕ)
+        × Appends (O.written outlet.old) (O.written outlet.new) (first n bytes.now)) }
 {
     let mut at = 0;
     'puts: while at < bytes.len() {

@@ -1,7 +1,7 @@
 ghost use Rattle.std.specs.Prelude.{◌≡◌, ◌≤◌, length, drop, OnOk};
 ghost use Rattle.plant_wire.specs.Limits.{least_room};
-ghost use Rattle.plant_wire.specs.Ran.{Ran};
-ghost use Rattle.plant_wire.specs.Session.{IsFewReads, IsIdle, IsRead, IsSession, StopsAs};
+ghost use Rattle.plant_wire.specs.Session.{IsFewReads, IsIdle};
+ghost use Rattle.plant_wire.specs.Over.{IsSessionOn, RanOn, ReadsOn, StopsOn};
 
 use crate::put::bytes_from;
 use crate::step::{Rest, Stop, answer_all};
@@ -44,8 +44,7 @@ const CHUNK: usize = 65536;
 fn read_more<I: Inlet>(inlet: &mut I, chunk: &mut [u8], buffer: &mut Vec<u8>) -> Read
     requires room { least_room ≤ length chunk.old }
     requires answered { IsIdle buffer.old.items }
-    ensures { IsRead (I.remaining inlet.old) (I.remaining inlet.new) (I.ended inlet.new) (I.failures inlet.old) (I.failures inlet.new)
-        (I.reads inlet.old) (I.reads inlet.new) buffer.old.items buffer.new.items result }
+    ensures { ReadsOn I.Inlet inlet.old inlet.new buffer.old.items buffer.new.items result }
 {
     match inlet.take(chunk) {
         Err(_) => Read::Failed,
@@ -83,10 +82,10 @@ fn run_reads<I: Inlet, O: Outlet, B: Books>(
     office: &mut Office<B>,
 ) -> End
     requires { least_room ≤ length chunk.old }
-    ensures does { IsSession (I.remaining inlet.old) (I.remaining inlet.new) (I.ended inlet.new) (O.written outlet.old) (O.written outlet.new)
-        (Ran (B.represents office.old.books) (B.is_honest office.new.books) (B.represents office.new.books) (B.stores office.old.books) (B.stores office.new.books)) result }
+    ensures does { IsSessionOn I.Inlet O.Outlet inlet.old inlet.new outlet.old outlet.new
+        (RanOn B.Books office.old.books office.new.books) result }
     ensures honest { B.is_honest office.new.books → B.is_honest office.old.books }
-    ensures stops { StopsAs (I.failures inlet.old) (I.failures inlet.new) (I.reads inlet.old) (I.reads inlet.new) (O.failures outlet.old) (O.failures outlet.new) result }
+    ensures stops { StopsOn I.Inlet O.Outlet inlet.old inlet.new outlet.old outlet.new result }
     ensures counted { IsFewReads (I.reads inlet.old) (I.reads inlet.new) }
 {
     let mut buffer = Vec::new(alloc);
@@ -128,10 +127,10 @@ pub fn session<I: Inlet, O: Outlet, B: Books>(
     outlet: &mut O,
     office: &mut Office<B>,
 ) -> End
-    ensures does { IsSession (I.remaining inlet.old) (I.remaining inlet.new) (I.ended inlet.new) (O.written outlet.old) (O.written outlet.new)
-        (Ran (B.represents office.old.books) (B.is_honest office.new.books) (B.represents office.new.books) (B.stores office.old.books) (B.stores office.new.books)) result }
+    ensures does { IsSessionOn I.Inlet O.Outlet inlet.old inlet.new outlet.old outlet.new
+        (RanOn B.Books office.old.books office.new.books) result }
     ensures honest { B.is_honest office.new.books → B.is_honest office.old.books }
-    ensures stops { StopsAs (I.failures inlet.old) (I.failures inlet.new) (I.reads inlet.old) (I.reads inlet.new) (O.failures outlet.old) (O.failures outlet.new) result }
+    ensures stops { StopsOn I.Inlet O.Outlet inlet.old inlet.new outlet.old outlet.new result }
     ensures counted { IsFewReads (I.reads inlet.old) (I.reads inlet.new) }
 {
     let Ok(routes) = Routes::new(alloc) else {

@@ -3,8 +3,8 @@ ghost use Rattle.plant_model.specs.declared.reply.Answer.TheVariants as answers;
 ghost use Rattle.plant_answer.specs.Answers.{text_of};
 ghost use Rattle.plant_call.specs.Cut.{WaitsBelow};
 ghost use Rattle.plant_wire.specs.Causes as spec;
-ghost use Rattle.plant_wire.specs.Ran.{Ran};
 ghost use Rattle.plant_wire.specs.Step.{Stalls, IsPut, IsAnswer, IsStep, IsRest};
+ghost use Rattle.plant_wire.specs.Over.{RanOn};
 
 use crate::causes::cause_text;
 use crate::faults::fault_text;
@@ -54,7 +54,8 @@ fn put_text<O: Outlet>(outlet: &mut O, text: &[u8]) -> Result<(), Stop>
 
 /// The answer to a malformed request takes no memory, so only a failed write can stop it.
 fn put_cause<O: Outlet>(outlet: &mut O, cause: Cause) -> Result<(), Stop>
-    ensures does { IsPut (O.written outlet.old) (O.written outlet.new) (spec.cause_text cause) result }
+    ensures does { IsPut (O.written outlet.old) (O.written outlet.new)
+        (spec.cause_text cause) result }
     ensures stalls { Stalls (O.failures outlet.old) (O.failures outlet.new) result }
     ensures only { IfErr result (λ stop. stop ≡ Stop.WriteFailed) }
 {
@@ -63,7 +64,8 @@ fn put_cause<O: Outlet>(outlet: &mut O, cause: Cause) -> Result<(), Stop>
 
 /// Nor does the answer to a call that got a fault.
 fn put_fault<O: Outlet>(outlet: &mut O, fault: &Fault) -> Result<(), Stop>
-    ensures does { IsPut (O.written outlet.old) (O.written outlet.new) (text_of (answers.Fault fault.now)) result }
+    ensures does { IsPut (O.written outlet.old) (O.written outlet.new)
+        (text_of (answers.Fault fault.now)) result }
     ensures stalls { Stalls (O.failures outlet.old) (O.failures outlet.new) result }
     ensures only { IfErr result (λ stop. stop ≡ Stop.WriteFailed) }
 {
@@ -86,7 +88,8 @@ fn answer_call<O: Outlet, B: Books>(
     office: &mut Office<B>,
     call: &Call,
 ) -> Result<(), Stop>
-    ensures does { IsAnswer (O.written outlet.old) (O.written outlet.new) (Ran (B.represents office.old.books) (B.is_honest office.new.books) (B.represents office.new.books) (B.stores office.old.books) (B.stores office.new.books)) call.now result }
+    ensures does { IsAnswer (O.written outlet.old) (O.written outlet.new)
+        (RanOn B.Books office.old.books office.new.books) call.now result }
     ensures honest { B.is_honest office.new.books → B.is_honest office.old.books }
     ensures stalls { Stalls (O.failures outlet.old) (O.failures outlet.new) result }
 {
@@ -105,7 +108,8 @@ fn answer_next<O: Outlet, B: Books>(
     outlet: &mut O,
     office: &mut Office<B>,
 ) -> Result<Step, Stop>
-    ensures does { IsStep bytes.now (O.written outlet.old) (O.written outlet.new) (Ran (B.represents office.old.books) (B.is_honest office.new.books) (B.represents office.new.books) (B.stores office.old.books) (B.stores office.new.books)) result }
+    ensures does { IsStep bytes.now (O.written outlet.old) (O.written outlet.new)
+        (RanOn B.Books office.old.books office.new.books) result }
     ensures honest { B.is_honest office.new.books → B.is_honest office.old.books }
     ensures stalls { Stalls (O.failures outlet.old) (O.failures outlet.new) result }
 {
@@ -140,7 +144,8 @@ pub(crate) fn answer_all<O: Outlet, B: Books>(
     office: &mut Office<B>,
 ) -> Result<Rest, Stop>
     requires { WaitsBelow bytes.now wanted }
-    ensures does { IsRest bytes.now (O.written outlet.old) (O.written outlet.new) (Ran (B.represents office.old.books) (B.is_honest office.new.books) (B.represents office.new.books) (B.stores office.old.books) (B.stores office.new.books)) result }
+    ensures does { IsRest bytes.now (O.written outlet.old) (O.written outlet.new)
+        (RanOn B.Books office.old.books office.new.books) result }
     ensures honest { B.is_honest office.new.books → B.is_honest office.old.books }
     ensures stalls { Stalls (O.failures outlet.old) (O.failures outlet.new) result }
 {

@@ -22,8 +22,8 @@ pub returns-in_default-kind_of-clause-value : goal.returns-in_default-kind_of-cl
 returns-in_default-kind_of-clause-value c =
     sym (bad_event c.args.place (fields_of c.args.row.now) c.in-Some.seq c.in-Some-read.moment c.in-Some-2.tag (record { four = search rules; text = search rules }) (search rules) (search rules) (search rules) (search rules))
 
-pub returns-then-place-gt10000-clause-value : goal.returns-then-place-gt10000-clause-value
-returns-then-place-gt10000-clause-value c =
+pub returns-then-place-gt-MAX_FILE_ROWS-clause-value : goal.returns-then-place-gt-MAX_FILE_ROWS-clause-value
+returns-then-place-gt-MAX_FILE_ROWS-clause-value c =
     sym (too_long c.args.place (fields_of c.args.row.now) c.in-Some.seq c.in-Some-read.moment c.in-Some-2.tag c.in-Some-kind_of.kind
     (record { row = record { four = search rules; text = search rules }; number = search rules; moment = search rules; tag = search rules; event = search rules }) (omega arith))
 

@@ -1,3 +1,4 @@
+use Rattle.plant_types.specs.Limits.{max_file_rows}
 use Rattle.std.proofs.Common.{◌≡◌, ◌≤◌, ◌∙◌, ◌++◌, ◌∷◌, [], sym, rules, arith, Ok}
 use Rattle.csv.specs.Records.{fields_of}
 use Rattle.plant_import.specs.Reading.{row_read}
@@ -15,7 +16,7 @@ returns-in-Err-clause-value c text header h =
 
 pub loop-row-smaller : goal.loop-row-smaller
 loop-row-smaller c =
-    let short : c.loop-row.place ≤ 10000 = in_limit c.loop-row.place (fields_of c.next_record.new.row) c.in-Ok.event (sym c.in_ok-event.ensures.value ∙ c.in-Ok.is) in
+    let short : c.loop-row.place ≤ max_file_rows = in_limit c.loop-row.place (fields_of c.next_record.new.row) c.in-Ok.event (sym c.in_ok-event.ensures.value ∙ c.in-Ok.is) in
     omega arith
 
 pub loop-row-preserved : goal.loop-row-preserved

@@ -1,0 +1,28 @@
+-- The words of a session, said of a reader, a writer and an office's books before and after.
+use Rattle.plant_books.specs.declared.books.Books as books
+use Rattle.plant_model.specs.declared.call.Call.{Call}
+use Rattle.plant_model.specs.declared.reply.Answer.{Answer}
+use Rattle.plant_wire.specs.Ran.{Ran}
+use Rattle.plant_wire.specs.Session.{IsRead, IsSession, StopsAs}
+use Rattle.plant_wire.specs.declared.reads.End.{End}
+use Rattle.plant_wire.specs.declared.reads.Read.{Read}
+use Rattle.plant_wire.specs.declared.streams.Inlet as inlet
+use Rattle.plant_wire.specs.declared.streams.Outlet as outlet
+use Rattle.std.specs.Prelude.{List, ℕ}
+
+-- the office ran these calls, with these answers, on its books
+abbrev pub RanOn : {B : Type 0} → books.Ghosts B → B → B → List Call → List Answer → Type 0
+RanOn b before after = Ran (b.represents before) (b.is_honest after) (b.represents after) (b.stores before) (b.stores after)
+
+-- one read, and what waits for the next request before and after it
+abbrev pub ReadsOn : {I : Type 0} → inlet.Ghosts I → I → I → List ℕ → List ℕ → Read → Type 0
+ReadsOn i from to before after read =
+    IsRead (i.remaining from) (i.remaining to) (i.ended to) (i.failures from) (i.failures to) (i.reads from) (i.reads to) before after read
+
+-- a session from a reader to a writer
+abbrev pub IsSessionOn : {I O : Type 0} → inlet.Ghosts I → outlet.Ghosts O → I → I → O → O → (List Call → List Answer → Type 0) → End → Type 0
+IsSessionOn i o from to before after ran end = IsSession (i.remaining from) (i.remaining to) (i.ended to) (o.written before) (o.written after) ran end
+
+-- which of its reads and writes failed, by its end
+abbrev pub StopsOn : {I O : Type 0} → inlet.Ghosts I → outlet.Ghosts O → I → I → O → O → End → Type 0
+StopsOn i o from to before after end = StopsAs (i.failures from) (i.failures to) (i.reads from) (i.reads to) (o.failures before) (o.failures after) end
