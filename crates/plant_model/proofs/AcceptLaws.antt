@@ -4,7 +4,7 @@ use Rattle.plant_model.proofs.DecisionLaws.{approve_limit_turns, approve_matrix_
 use Rattle.plant_model.proofs.ProposalLaws.{accepted_change, drafted, limit_there, next_undecided}
 use Rattle.plant_model.specs.Changes.{draft, sheet}
 use Rattle.plant_model.specs.Refusals.{kind_refusals}
-use Rattle.plant_model.specs.declared.call.Request.TheVariants.{Approve, ChangeOf, Propose, RecordOf, Reject, WithdrawChange}
+use Rattle.plant_model.specs.declared.call.Request.TheVariants.{Approve, Propose, Reject, WithdrawChange}
 use Rattle.plant_model.specs.declared.reply.Refused.TheVariants.{NotProposer, SamePerson}
 use Rattle.plant_ration.specs.declared.change.ChangeKind.{ChangeKind}
 use Rattle.plant_ration.specs.declared.change.ChangeKind.TheVariants.{Limit, Matrix, Rationale}
@@ -30,7 +30,7 @@ use Rattle.plant_model.specs.Rows.{alarm_row}
 use Rattle.plant_model.specs.Verdicts.{changes_history, is_opening, verdict}
 use Rattle.plant_model.specs.declared.call.Call.{Call}
 use Rattle.plant_model.specs.declared.call.Request.{Request}
-use Rattle.plant_model.specs.declared.call.Request.TheVariants.{Alarms, Floods, Grant, Import, MyShelves, MyUnits, OneShotShelve, OpenUnit, PlaceInService, Register, RemoveFromService, Shelves, Standing, Status, TimedShelve, Unshelve, Withdraw}
+use Rattle.plant_model.specs.declared.call.Request.TheVariants.{Grant, Import, OneShotShelve, OpenUnit, PlaceInService, Register, RemoveFromService, TimedShelve, Unshelve, Withdraw}
 use Rattle.plant_model.specs.declared.reply.Refused.TheVariants.{AlreadyOutOfService, ConditionAlreadyShelved, MomentBehind, NotGranted, NotOutOfService, RoleLacking}
 use Rattle.plant_model.specs.declared.reply.Reply.TheVariants.{Done}
 use Rattle.plant_types.specs.Names.{Name}
@@ -111,12 +111,4 @@ module _ (h : List Call) (p : Name) (t : ℕ) where
   accepted_turns legal (WithdrawChange u n) plain accepted = withdraw_change_accepted u n accepted
   accepted_turns legal (Approve u n) plain accepted = approve_accepted u n legal accepted
   accepted_turns legal (Reject u n) plain accepted = reject_accepted u n accepted
-  accepted_turns legal (RecordOf u a) plain accepted = absurd (let no : false ≡ true = (both_true (is_ok (verdict h (made_by (RecordOf u a)))) false accepted).1 in cc)
-  accepted_turns legal (ChangeOf u n) plain accepted = absurd (let no : false ≡ true = (both_true (is_ok (verdict h (made_by (ChangeOf u n)))) false accepted).1 in cc)
-  accepted_turns legal (Status u a) plain accepted = absurd (let no : false ≡ true = (both_true (is_ok (verdict h (made_by (Status u a)))) false accepted).1 in cc)
-  accepted_turns legal (Shelves u) plain accepted = absurd (let no : false ≡ true = (both_true (is_ok (verdict h (made_by (Shelves u)))) false accepted).1 in cc)
-  accepted_turns legal (Floods u begin until) plain accepted = absurd (let no : false ≡ true = (both_true (is_ok (verdict h (made_by (Floods u begin until)))) false accepted).1 in cc)
-  accepted_turns legal MyUnits plain accepted = absurd (let no : false ≡ true = (both_true (is_ok (verdict h (made_by MyUnits))) false accepted).1 in cc)
-  accepted_turns legal (Alarms u) plain accepted = absurd (let no : false ≡ true = (both_true (is_ok (verdict h (made_by (Alarms u)))) false accepted).1 in cc)
-  accepted_turns legal (Standing u) plain accepted = absurd (let no : false ≡ true = (both_true (is_ok (verdict h (made_by (Standing u)))) false accepted).1 in cc)
-  accepted_turns legal MyShelves plain accepted = absurd (let no : false ≡ true = (both_true (is_ok (verdict h (made_by MyShelves))) false accepted).1 in cc)
+  accepted_turns legal q plain accepted = absurd (let no : false ≡ true = (both_true (is_ok (verdict h (made_by q))) false accepted).1 in cc)

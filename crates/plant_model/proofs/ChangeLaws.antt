@@ -45,7 +45,7 @@ use Rattle.std.specs.Prelude.{Bool, List, None, Option, Some, [], cond, false, f
 use Rattle.std.specs.declared.cmp.Ordering.{Ordering}
 use Rattle.std.specs.declared.cmp.Ordering.TheVariants.{Equal}
 
--- rows that are made of told ones
+-- rows that are made of other rows
 pub put_row-map : {A X K : Type 0} (R : K → K → Ordering) (key : X → K) (f : A → X) (r : A) (xs : List A) → put_row R key (f r) (map f xs) ≡ map f (put_row R (λ x. key (f x)) r xs)
 put_row-map R key f r [] = refl
 put_row-map R key f r (x ∷ xs) =

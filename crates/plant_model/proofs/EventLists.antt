@@ -101,7 +101,7 @@ module _ (tags : List Name) (now : ℕ) (kept rows : List Event) (fit : is_fit k
       (sym (kept_fresh kept rows y) ∙ list_any-append (same_event y) kept (fresh kept rows) ∙ or_right (member y kept) (member y (fresh kept rows)) new.0)
       (sym (same_number_of n x.seq old.1) ∙ same_number_of n y.seq new.1)
 
--- what is told from numbers
+-- what is made of numbers
 pub member_told : (f : ℕ → Option Event) (ns : List ℕ) (e : Event) → member e (filter_map f ns) ≡ true → (n : ℕ) × (f n ≡ Some e)
 member_told f [] e there = cc
 member_told f (n ∷ ns) e there =
@@ -113,7 +113,7 @@ member_told f (n ∷ ns) e there =
       ] refl here
     ] refl there
 
--- the events of one alarm among those told
+-- the events of one alarm among those of the numbers
 abbrev pub only : Name → Option Event → Option Event
 only a o = option_and_then (λ e. when (same_name a e.tag) e) o
 

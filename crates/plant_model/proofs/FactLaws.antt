@@ -93,7 +93,7 @@ not_true false h = refl
 pub other_number : (m n : ℕ) → m < n → same_number m n ≡ false
 other_number m n less = not_true (same_number m n) (λ e. let is : m ≡ n = same_number_of m n e in omega (arith, less, is))
 
--- Records and changes: rows that are made of told ones
+-- Records and changes: rows that are made of other rows
 pub row_at-map : {A X K : Type 0} (R : K → K → Ordering) (key : X → K) (f : A → X) (k : K) (xs : List A) → row_at R key k (map f xs) ≡ option_map f (row_at R (λ x. key (f x)) k xs)
 row_at-map R key f k [] = refl
 row_at-map R key f k (x ∷ xs) =

@@ -55,7 +55,7 @@ pub any-append-right : {K : Type 0} (p : K → Bool) (xs ys : List K) → list_a
 any-append-right p [] ys e = e
 any-append-right p (x ∷ xs) ys e = elim (p x) as (λ b. (b || list_any p (xs ++ ys)) ≡ true) [ true ↦ refl | false ↦ any-append-right p xs ys e ]
 
--- where an entry says nothing but of keys that it names, what is told by the newest is among the keys that are named
+-- where each entry speaks of keys alone that it names, what the newest says is of keys that are named
 module _ {A X K : Type 0} (R : K → K → Ordering) (says : Call → List Call → Option A) (g : A → Option X) (names : Call → List Call → List K) (k : K) where
   abbrev IsNamed : Call → List Call → A → Type 0
   IsNamed c before x = (g x ≡ None) ⊎ (list_any (eq_by_cmp R k) (names c before) ≡ true)

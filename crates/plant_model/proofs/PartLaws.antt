@@ -17,7 +17,7 @@ use Rattle.plant_model.specs.Shelves.{shelf_left, shelf_row_as}
 use Rattle.plant_model.specs.Verdicts.{refused_or, verdict_of}
 use Rattle.plant_model.specs.declared.call.Call.{Call}
 use Rattle.plant_model.specs.declared.call.Request.{Request}
-use Rattle.plant_model.specs.declared.call.Request.TheVariants.{Alarms, Approve, ChangeOf, Floods, Grant, Import, MyShelves, MyUnits, OneShotShelve, OpenUnit, PlaceInService, Propose, RecordOf, Register, Reject, RemoveFromService, Shelves, Standing, Status, TimedShelve, Unshelve, Withdraw, WithdrawChange}
+use Rattle.plant_model.specs.declared.call.Request.TheVariants.{Alarms, Approve, ChangeOf, Grant, Import, OneShotShelve, PlaceInService, Propose, RecordOf, Register, Reject, RemoveFromService, Shelves, Standing, Status, TimedShelve, Unshelve, Withdraw, WithdrawChange}
 use Rattle.plant_model.specs.declared.reply.ChangeRow.{ChangeRow}
 use Rattle.plant_model.specs.declared.reply.Full.TheVariants.{Alarms as TooManyAlarms}
 use Rattle.plant_model.specs.declared.reply.RecordRow.{RecordRow}
@@ -306,12 +306,10 @@ module _ (rows : UnitRows) (p : Name) (t : ℕ) where
   proposal_same u (Limit a max) base = λ i. own_refusals (with_content (alarm_there a i) (entry_there a i) (content_matrix a i)) p t (Propose u (proposal (Limit a max) base))
 
   own_same : (q : Request) → own_refusals (of_part q) p t q ≡ own_refusals (facts_of rows) p t q
-  own_same (OpenUnit u s m k) = refl
   own_same (Grant u q r) = ap (λ gs. own_refusals (with_grants gs) p t (Grant u q r)) (all_grants p rows.grants)
   own_same (Withdraw u q r) = ap (λ gs. own_refusals (with_grants gs) p t (Withdraw u q r)) (all_grants p rows.grants)
   own_same (Register u a l max) = ap (λ o. (nat_le max_alarms (length rows.alarms), UnitFull TooManyAlarms) ∷ (is_some o, AlarmTaken) ∷ []) (alarm_there a)
   own_same (Import u file) = ap (λ alarms. own_refusals (with_alarms alarms) p t (Import u file)) (filter-true rows.alarms)
-  own_same (Floods u begin until) = refl
   own_same (TimedShelve u a d w) = λ i.
       (is_none (own_alarm (is_crowded rows) a i), AlarmUnknown)
       ∷ (nat_lt (longest (own_alarm (is_crowded rows) a i)) d, ShelvingTimeOutOfRange (longest (own_alarm (is_crowded rows) a i)))
@@ -331,36 +329,16 @@ module _ (rows : UnitRows) (p : Name) (t : ℕ) where
   own_same (Status u a) = ap (λ o. (is_none o, AlarmUnknown) ∷ []) (alarm_there a)
   own_same (RecordOf u a) = λ i. (is_none (alarm_there a i), AlarmUnknown) ∷ (is_none (rationale_there a (selected rows (RecordOf u a)) (λ n e. e) i), RecordUnknown) ∷ []
   own_same (ChangeOf u n) = ap (λ c. own_refusals (with_change c) p t (ChangeOf u n)) (numbered_there n)
-  own_same (Shelves u) = refl
-  own_same (Alarms u) = refl
-  own_same (Standing u) = refl
-  own_same MyUnits = refl
-  own_same MyShelves = refl
+  own_same _ = refl
 
   reply_same : (q : Request) → reply (of_part q) t q ≡ reply (facts_of rows) t q
-  reply_same (OpenUnit u s m k) = refl
-  reply_same (Grant u q r) = refl
-  reply_same (Withdraw u q r) = refl
-  reply_same (Register u a l max) = refl
-  reply_same (Import u file) = refl
-  reply_same (Floods u begin until) = refl
-  reply_same (TimedShelve u a d w) = refl
-  reply_same (OneShotShelve u a w) = refl
-  reply_same (Unshelve u a) = refl
-  reply_same (RemoveFromService u a w) = refl
-  reply_same (PlaceInService u a) = refl
-  reply_same (Propose u x) = refl
-  reply_same (WithdrawChange u n) = refl
-  reply_same (Approve u n) = refl
-  reply_same (Reject u n) = refl
   reply_same (Status u a) = λ i. status_reply (alarm_there a i) (state_now (alarm_there a i) (shelf_there a i))
   reply_same (RecordOf u a) = ap record_reply (rationale_there a (selected rows (RecordOf u a)) (λ n e. e))
   reply_same (ChangeOf u n) = ap change_reply (numbered_there n)
   reply_same (Shelves u) = λ i. reply (with_shelves (filter-true rows.alarms i) (filter-true rows.shelves i)) t (Shelves u)
   reply_same (Alarms u) = λ i. reply (with_records (filter-true rows.alarms i) (filter-true rows.shelves i) (filter-true rows.records i)) t (Alarms u)
   reply_same (Standing u) = λ i. reply (with_records (filter-true rows.alarms i) (filter-true rows.shelves i) (filter-true rows.records i)) t (Standing u)
-  reply_same MyUnits = refl
-  reply_same MyShelves = refl
+  reply_same _ = refl
 
   -- for one who holds a role the verdict from the part is the verdict from all rows
   holder_verdict : (q : Request) → verdict_of (of_part q) (asked q) ≡ verdict_of (facts_of rows) (asked q)
@@ -372,29 +350,14 @@ module _ (rows : UnitRows) (p : Name) (t : ℕ) where
 
   -- and so are the changes
   holder_changes : (q : Request) → changes_for (of_part q) (asked q) ≡ changes_for (facts_of rows) (asked q)
-  holder_changes (OpenUnit u s m k) = refl
-  holder_changes (Grant u q r) = refl
-  holder_changes (Withdraw u q r) = refl
-  holder_changes (Register u a l max) = refl
   holder_changes (Import u file) = ap (λ alarms. changes_for (with_alarms alarms) (asked (Import u file))) (filter-true rows.alarms)
-  holder_changes (Floods u begin until) = refl
-  holder_changes (TimedShelve u a d w) = refl
   holder_changes (OneShotShelve u a w) = ap (λ max. Put (UnitPut (record (unit_read rows) { last_s = t })) ∷ Put (ShelfPut (shelf_row_as true t (t + max) p w a)) ∷ []) (ap longest (own_alarm (is_crowded rows) a))
-  holder_changes (Unshelve u a) = refl
   holder_changes (RemoveFromService u a w) = ap (alarm_changed (taken_out p t w)) (alarm_there a)
   holder_changes (PlaceInService u a) = ap (alarm_changed placed_in) (alarm_there a)
-  holder_changes (Propose u x) = refl
   holder_changes (WithdrawChange u n) = ap (λ c. changes_for (with_change c) (asked (WithdrawChange u n))) (numbered_there n)
   holder_changes (Approve u n) = approval_made n (change_found rows n) refl
   holder_changes (Reject u n) = ap (λ c. changes_for (with_change c) (asked (Reject u n))) (numbered_there n)
-  holder_changes (Status u a) = refl
-  holder_changes (RecordOf u a) = refl
-  holder_changes (ChangeOf u n) = refl
-  holder_changes (Shelves u) = refl
-  holder_changes (Alarms u) = refl
-  holder_changes (Standing u) = refl
-  holder_changes MyUnits = refl
-  holder_changes MyShelves = refl
+  holder_changes _ = refl
 
   -- one who holds no role is refused, whatever else the rows are
   stranger_refused : (f : Facts) (c : Call) → holds_some f c.moment c.person ≡ false → verdict_of f c ≡ Err NotGranted

@@ -55,7 +55,7 @@ module _ {K X : Type 0} (R : K → K → Ordering) (key : X → K) where
     IsInOrder-puts [] rows h = h
     IsInOrder-puts (r ∷ rs) rows h = IsInOrder-puts rs (put_row R key r rows) (IsInOrder-put_row R key o same r rows h)
 
-    -- rows that are told from keys: at each key of these, what is told of it
+    -- rows that are made of keys: at each key of these, what is said of it
     pub said-told : (row : K → Option X) → ((k : K) (r : X) → row k ≡ Some r → key r ≡ k) → (q : K) (ks : List K) → said (filter_map row ks) q ≡ cond (is_some (row_at R (λ k. k) q ks)) (row q) None
     said-told row at_key q [] = refl
     said-told row at_key q (k ∷ ks) =

@@ -78,7 +78,7 @@ few_before h p t u a l max may =
       lt_of : (n : ℕ) → nat_le max_alarms n ≡ false → n < max_alarms
       lt_of n e = grind (arith, nat_tests)
 
--- as many rows are told where the same keys have one
+-- there are as many rows where the same keys have one
 length-cons_option : {X : Type 0} (o p : Option X) (xs ys : List X) → is_some o ≡ is_some p → length xs ≡ length ys → length (cons_option o xs) ≡ length (cons_option p ys)
 length-cons_option None None xs ys e same = same
 length-cons_option None (Some y) xs ys e same = cc

@@ -19,7 +19,7 @@ use Rattle.plant_model.specs.Rows.{alarm_row}
 use Rattle.plant_model.specs.Verdicts.{changes_history, is_opening, refused_or, verdict}
 use Rattle.plant_model.specs.declared.call.Call.{Call}
 use Rattle.plant_model.specs.declared.call.Request.{Request}
-use Rattle.plant_model.specs.declared.call.Request.TheVariants.{Alarms, Approve, ChangeOf, Floods, Grant, Import, MyShelves, MyUnits, OneShotShelve, OpenUnit, PlaceInService, Propose, RecordOf, Register, Reject, RemoveFromService, Shelves, Standing, Status, TimedShelve, Unshelve, Withdraw, WithdrawChange}
+use Rattle.plant_model.specs.declared.call.Request.TheVariants.{Grant, OneShotShelve, OpenUnit, TimedShelve}
 use Rattle.plant_model.specs.declared.reply.Refused.{Refused}
 use Rattle.plant_model.specs.declared.reply.Refused.TheVariants.{AlarmUnknown, EndNotAhead, MomentBehind, NotGranted, ShelfQuota}
 use Rattle.plant_model.proofs.EndLaws.{without_ends}
@@ -59,28 +59,7 @@ ended false false x y z = refl
 
 no_end : (q : Request) → is_of_old q ≡ true → has_no_end q ≡ true
 no_end (Grant u p t) e = e
-no_end (OpenUnit u s m q) e = refl
-no_end (Withdraw u p r) e = refl
-no_end (Register u a l m) e = refl
-no_end (Import u file) e = refl
-no_end (TimedShelve u a d w) e = refl
-no_end (OneShotShelve u a w) e = refl
-no_end (Unshelve u a) e = refl
-no_end (RemoveFromService u a w) e = refl
-no_end (PlaceInService u a) e = refl
-no_end (Propose u x) e = refl
-no_end (WithdrawChange u n) e = refl
-no_end (Approve u n) e = refl
-no_end (Reject u n) e = refl
-no_end (Status u a) e = refl
-no_end (RecordOf u a) e = refl
-no_end (ChangeOf u n) e = refl
-no_end (Shelves u) e = refl
-no_end (Standing u) e = refl
-no_end (Alarms u) e = refl
-no_end (Floods u begin until) e = refl
-no_end MyUnits e = refl
-no_end MyShelves e = refl
+no_end _ e = refl
 
 both : (a b : Bool) → a ≡ true → b ≡ true → (a && b) ≡ true
 both true true h k = refl

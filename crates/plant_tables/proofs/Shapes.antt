@@ -98,7 +98,7 @@ module _ {X K : Type 0} (s : Shape X K) (good : IsShape s) where
       one_answer s.tree tests project order (1 ∷ s.keys) params ordered old.now.trees rows apart it
       ∙ ap (λ l. map (λ r. (shows s.tree tests project order params r).1) (sort_by (by_columns (1 ∷ s.keys)) l)) (filter_same (passes s.tree tests project order params) p same (old.now.trees s.tree))
 
-  -- what is shown of rows is told of what they are read as
+  -- what is shown of rows is what is shown of the values that they are read as
   show_all : {Y : Type 0} (show : Row → Y) (told : X → Y) → ((id : Value) (u : List ℕ) (x : X) → show (row_in s id u x) ≡ told x) → (rows : List Row) → AllByRecursion (IsRowIn s) rows → map show rows ≡ map told (map s.read rows)
   show_all show told same [] all = refl
   show_all show told same (r ∷ rows) all = ap₂ ◌∷◌ (ap show all.0 ∙ same (rowid r) (bytes (column r 1)) (s.read r)) (show_all show told same rows all.1)
