@@ -12,7 +12,7 @@ use Rattle.plant_alarm.specs.declared.summary.AlarmState.TheVariants.{Normal, Un
 use Rattle.plant_alarm.specs.declared.summary.Summary.{Summary}
 use Rattle.plant_alarm.specs.States.{is_act, is_rtn, is_ack, is_reset, is_sup, is_unsup, last_that, is_active, is_unacknowledged, is_latched, is_suppressed, state_named, state_of, is_return, is_activation, returns, activations, last_moment, last_return, active_since, summary}
 use Rattle.plant_alarm.specs.Step.{next, next_at, is_active_state, acknowledged, reset, returned}
-use Rattle.plant_alarm.proofs.Push.{by_last, last_that-push, list_any-push, passing-push, last_moment-push, after_last-yes, after_last-no, after_first-some, after_first-none}
+use Rattle.plant_alarm.proofs.public.Push.{by_last, last_that-push, list_any-push, passing-push, last_moment-push, after_last-yes, after_last-no, after_first-some, after_first-none}
 
 abbrev since_act : List Event → List Event
 since_act es = after_last is_act es

@@ -1,2 +1,2 @@
-pub mod Joined
-pub mod Plain
+mod Joined
+mod Plain

@@ -1,2 +1,2 @@
-pub mod Values
-pub mod Items
+mod Values
+mod Items

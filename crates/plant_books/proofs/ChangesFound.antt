@@ -9,7 +9,7 @@ use Rattle.std.specs.Option.{option_to_list}
 use Rattle.std.specs.Ordering.{eq_by_cmp, is_eq, nat_cmp}
 use Rattle.std.specs.declared.cmp.Ordering.TheVariants.{Equal, Less}
 use Rattle.std.specs.Prelude.{Bool, None, Option, Some, cond, filter, if◌then◌else◌, option_and_then, slice_get, ℕ, ◌<◌, ◌≡◌, ◌≤◌, ◌&&◌, ◌||◌}
-use Rattle.plant_import.proofs.Placed.{AllAbove, AllBelow, Parts, Rises, other, other_above, rises_of}
+use Rattle.plant_import.proofs.public.Placed.{AllAbove, AllBelow, Parts, Rises, other, other_above, rises_of}
 use Rattle.plant_books.specs.Asking.{AreSources, is_number}
 use Rattle.plant_model.specs.Histories.{same_number}
 use Rattle.plant_model.specs.Parts.{is_source}
@@ -19,8 +19,8 @@ use Rattle.plant_model.specs.declared.rows.UnitRows.{UnitRows}
 use Rattle.plant_types.specs.Names.{Name}
 use Rattle.std.specs.BTreeSet.{BTreeSet, UpdatesBy, contains}
 use Rattle.plant_model.specs.declared.rows.ChangeEntry.{ChangeEntry}
-use Rattle.plant_types.proofs.Orders.{same_numbers}
-use Rattle.plant_types.proofs.KeyedRowLaws.{tied as tied_to}
+use Rattle.plant_types.proofs.public.Orders.{same_numbers}
+use Rattle.plant_types.proofs.public.KeyedRowLaws.{tied as tied_to}
 use Rattle.plant_types.specs.Options.{when}
 use Rattle.plant_types.specs.KeyedRows.{IsInOrder, row_at}
 

@@ -1,7 +1,4 @@
-pub mod KeyedLaws
-pub mod ListedLaws
-pub mod PassingLaws
-pub mod RowsFound
-pub mod OrderLaws
-pub mod ChangesFound
-pub mod EventLaws
+pub mod public
+mod ListedLaws
+mod PassingLaws
+mod ChangesFound

@@ -15,12 +15,12 @@ use Rattle.plant_types.specs.declared.fault.Fault.{Fault}
 use Rattle.plant_books.specs.Contents.{Content, after_changes, no_units, part_in, rows_in, with_rows}
 use Rattle.plant_books.specs.Listed.{IsListed, rows_at, unit_cmp}
 use Rattle.plant_books.specs.Order.{AreInOrder}
-use Rattle.plant_books.proofs.OrderLaws.{AllInOrder, changed_in_order, or_none_in_order, put_all_in_order, rows_in_order}
-use Rattle.plant_model.proofs.Base.{lt}
+use Rattle.plant_books.proofs.public.OrderLaws.{AllInOrder, changed_in_order, or_none_in_order, put_all_in_order, rows_in_order}
+use Rattle.plant_model.proofs.public.Base.{lt}
 use Rattle.plant_model.specs.Parts.{part_of}
 use Rattle.plant_model.specs.RowChanges.{changed_by, no_rows}
 use Rattle.plant_model.specs.Worlds.{unit_named}
-use Rattle.plant_types.proofs.Orders.{name_total, same_names}
+use Rattle.plant_types.proofs.public.Orders.{name_total, same_names}
 use Rattle.plant_types.specs.Names.{Name, name_cmp}
 use Rattle.plant_types.specs.KeyedRows.{put_row, row_at}
 

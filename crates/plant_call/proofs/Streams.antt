@@ -3,7 +3,7 @@ use Rattle.std.proofs.Common.{◌≡◌, ◌⊎◌, ℕ, List, [], ◌∷◌, le
 use Rattle.httparse.specs.Grammar.{RequestHead}
 use Rattle.plant_call.specs.Front.{Item, waits, whole, broken, IsFront, Parses, IsOpen, EndsAt}
 use Rattle.plant_call.specs.declared.causes.Cause.{Cause}
-use Rattle.plant_call.proofs.Cuts.{front_unique, whole_fits, whole_positive}
+use Rattle.plant_call.proofs.public.Cuts.{front_unique, whole_fits, whole_positive}
 
 module _ (body_length : RequestHead → Result ℕ Cause) (item_of : RequestHead → List ℕ → Item) where
   -- the front is read in two ways somewhere in the stream

@@ -1,1 +1,1 @@
-pub mod ShapeLaws
+pub mod public

@@ -4,8 +4,8 @@ use Rattle.std.specs.Io.KnownBytes.{Appends}
 use Rattle.plant_model.specs.declared.call.Call.{Call}
 use Rattle.plant_model.specs.declared.reply.Answer.{Answer}
 use Rattle.plant_books.specs.Contents.{Content}
-use Rattle.plant_wire.proofs.Growing.{Appends-append}
-use Rattle.plant_wire.proofs.Running.{ran_joins}
+use Rattle.plant_wire.proofs.public.Growing.{Appends-append}
+use Rattle.plant_wire.proofs.public.Running.{ran_joins}
 use Rattle.plant_wire.specs.Causes.{cause_text}
 use Rattle.plant_wire.specs.Marks.{answers_of, calls_of, last_marks, last_text, out_of}
 use Rattle.plant_wire.specs.Ran.{Ran}

@@ -6,8 +6,8 @@ use Rattle.std.specs.List.{list_all}
 use Rattle.std.specs.Ordering.{nat_cmp}
 use Rattle.std.specs.Prelude.{Bool, None, Option, Some, nat_lt, slice_get, ℕ, ◌&&◌, ◌-◌, ◌<◌, ◌≡◌, ◌≤◌}
 use Rattle.plant_alarm.specs.declared.event.Event.{Event}
-use Rattle.plant_import.proofs.Counted.{order_puts, put_twice}
-use Rattle.plant_import.proofs.Placed.{AllAbove, AllBelow, EachBehind, Rises, puts_after, rises_of}
+use Rattle.plant_import.proofs.public.Counted.{order_puts, put_twice}
+use Rattle.plant_import.proofs.public.Placed.{AllAbove, AllBelow, EachBehind, Rises, puts_after, rises_of}
 use Rattle.plant_import.specs.Needed.{is_before_all}
 use Rattle.plant_import.specs.Numbers.{event_number, with_events}
 use Rattle.plant_types.specs.KeyedRows.{IsInOrder}

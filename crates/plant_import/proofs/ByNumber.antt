@@ -12,9 +12,9 @@ use Rattle.std.specs.Prelude.{Bool, Option, Some, None, false, filter, if◌then
 use Rattle.std.specs.declared.cmp.Ordering.TheVariants.{Equal, Greater, Less}
 use Rattle.std.specs.declared.ops.Bound.TheVariants.{Excluded, Included, Unbounded}
 use Rattle.plant_alarm.specs.declared.event.Event.{Event}
-use Rattle.plant_import.proofs.Counted.{or_parts}
-use Rattle.plant_import.proofs.Nearest.{AreParts, order_above, order_below}
-use Rattle.plant_import.proofs.Risings.{Before, Each, Rising, each_weaker, is_rising, rising_of}
+use Rattle.plant_import.proofs.public.Counted.{or_parts}
+use Rattle.plant_import.proofs.public.Nearest.{AreParts, order_above, order_below}
+use Rattle.plant_import.proofs.public.Risings.{Before, Each, Rising, each_weaker, is_rising, rising_of}
 use Rattle.plant_import.specs.Merging.{IsRising, out_of_order}
 use Rattle.plant_import.specs.Numbers.{event_number, has_number}
 use Rattle.plant_import.specs.Standing.{below, from}

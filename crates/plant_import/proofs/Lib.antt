@@ -1,17 +1,11 @@
-pub mod Digits
-pub mod RecordsReached
-pub mod Places
-pub mod ReadsRecords
-pub mod Rows
-pub mod Merges
-pub mod Known
-pub mod Placed
-pub mod Appended
-pub mod ByNumber
-pub mod Counted
-pub mod Risings
-pub mod Nearest
-pub mod Examples
-pub mod FileLaws
-pub mod NeededLaws
-pub mod LaterLaws
+mod Digits
+mod RecordsReached
+mod Places
+mod ReadsRecords
+mod Rows
+mod Merges
+mod Known
+pub mod public
+mod Appended
+mod ByNumber
+mod Examples

@@ -5,7 +5,7 @@ use Rattle.std.proofs.lemmas.List.{append-nil, take_more, take_all, length-take-
 use Rattle.plant_types.specs.Names.{Name, same_name}
 use Rattle.plant_types.specs.Options.{or_else}
 use Rattle.plant_alarm.specs.declared.event.Event.{Event}
-use Rattle.plant_alarm.proofs.Push.{passing-push}
+use Rattle.plant_alarm.proofs.public.Push.{passing-push}
 use Rattle.plant_import.specs.declared.bad_file.BadFile.{BadFile}
 use Rattle.plant_import.specs.declared.bad_file.Cause.{Cause}
 use Rattle.plant_import.specs.declared.merging.Merged.{Merged}
@@ -13,8 +13,8 @@ use Rattle.plant_import.specs.Reading.{bad}
 use Rattle.std.specs.List.{list_any}
 use Rattle.plant_import.specs.Fields.{first_cause}
 use Rattle.plant_import.proofs.ByNumber.{any_put, put_in, rises_put}
-use Rattle.plant_import.proofs.Counted.{no_clash, no_disorder, or_parts, same_by_number}
-use Rattle.plant_import.proofs.Nearest.{same_any}
+use Rattle.plant_import.proofs.public.Counted.{no_clash, no_disorder, or_parts, same_by_number}
+use Rattle.plant_import.proofs.public.Nearest.{same_any}
 use Rattle.plant_import.specs.Numbers.{has_number}
 use Rattle.std.proofs.lemmas.Bool.{lt-ltb, le-ltb}
 use Rattle.std.proofs.lemmas.List.Folds.{list_any-append}

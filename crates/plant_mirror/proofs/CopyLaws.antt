@@ -8,8 +8,8 @@ use Rattle.std.specs.Option.{option_map_or}
 use Rattle.std.specs.Prelude.{Option, filter_map, is_some, length, option_map, slice_get, unwrap_or, ◌&&◌}
 use Rattle.std.specs.Cmp.{eq_by_cmp_equiv}
 use Rattle.lru.specs.LruCache.{LruCache, last_entry, promoted, put_entries}
-use Rattle.plant_books.proofs.EventLaws.{changed_without, part_without, strangers_part_without}
-use Rattle.plant_books.proofs.OrderLaws.{changed_in_order}
+use Rattle.plant_books.proofs.public.EventLaws.{changed_without, part_without, strangers_part_without}
+use Rattle.plant_books.proofs.public.OrderLaws.{changed_in_order}
 use Rattle.plant_books.specs.Asking.{looks_at_events}
 use Rattle.plant_books.specs.Changing.{puts_event}
 use Rattle.plant_books.specs.Contents.{Content, after_changes, is_held_by, is_held_in, mine_shelf, rows_in, shelves_mine, without_events}
@@ -17,14 +17,14 @@ use Rattle.plant_books.specs.Order.{AreInOrder}
 use Rattle.plant_books.specs.declared.books.MineShelf.{MineShelf}
 use Rattle.plant_mirror.specs.Copies.{AreCopies, Copy, IsCopy, There, row_count, rows_of_all, seen, shelves_there}
 use Rattle.plant_mirror.specs.declared.at_hand.AtHand.{AtHand}
-use Rattle.plant_model.proofs.WorldLaws.{same_of}
+use Rattle.plant_model.proofs.public.WorldLaws.{same_of}
 use Rattle.plant_model.specs.Parts.{part_of}
 use Rattle.plant_model.specs.RowChanges.{changed_by, no_rows}
 use Rattle.plant_model.specs.RowFacts.{holds_by}
 use Rattle.plant_model.specs.declared.call.Call.{Call}
 use Rattle.plant_model.specs.declared.rows.RowEdit.{RowEdit}
 use Rattle.plant_model.specs.declared.rows.UnitRows.{UnitRows}
-use Rattle.plant_types.proofs.Orders.{name_total}
+use Rattle.plant_types.proofs.public.Orders.{name_total}
 use Rattle.plant_types.specs.Names.{Name, same_name}
 use Rattle.plant_types.specs.Options.{when}
 

@@ -1,1 +1,1 @@
-pub mod CopyLaws
+mod CopyLaws

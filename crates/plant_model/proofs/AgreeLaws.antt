@@ -1,20 +1,20 @@
 -- Imports of the same rows leave the same rows.
-use Rattle.plant_import.proofs.Placed.{there}
-use Rattle.plant_model.proofs.Base.{x}
+use Rattle.plant_import.proofs.public.Placed.{there}
+use Rattle.plant_model.proofs.public.Base.{x}
 use Rattle.plant_model.specs.Changes.{limit_revision}
 use Rattle.plant_model.specs.Parts.{none}
-use Rattle.plant_import.proofs.Counted.{fresh_count}
+use Rattle.plant_import.proofs.public.Counted.{fresh_count}
 use Rattle.plant_model.specs.declared.reply.Full.TheVariants.{Events as TooManyEvents}
 use Rattle.plant_alarm.specs.declared.event.Event.{Event}
 use Rattle.plant_floods.specs.Activations.{of_alarm}
-use Rattle.plant_import.proofs.FileLaws.{Within, all_from, all_member, and_parts, back_within, both_ways, fit_within, fresh_alike, front_within, kept_fresh, member, no_fault, no_more, or_left, or_right, passing-append, same_more, same_number_new, within_both}
+use Rattle.plant_import.proofs.public.FileLaws.{Within, all_from, all_member, and_parts, back_within, both_ways, fit_within, fresh_alike, front_within, kept_fresh, member, no_fault, no_more, or_left, or_right, passing-append, same_more, same_number_new, within_both}
 use Rattle.plant_import.specs.Files.{SameMembers, are_known, is_fit}
 use Rattle.plant_import.specs.Merging.{first_fault, fresh, is_new, same_event}
 use Rattle.plant_import.specs.declared.bad_file.BadFile.{BadFile}
-use Rattle.plant_model.proofs.EventLaws.{events_brought, events_in_order, found_event, now, tag_registered}
+use Rattle.plant_model.proofs.public.EventLaws.{events_brought, events_in_order, found_event, now, tag_registered}
 use Rattle.plant_model.proofs.EventLists.{IsOf, distinct_rising, of_both, of_find, of_same, one_said, rises}
-use Rattle.plant_model.proofs.HistoryLaws.{tags_of_alarms}
-use Rattle.plant_model.proofs.LegalLaws.{followed}
+use Rattle.plant_model.proofs.public.HistoryLaws.{tags_of_alarms}
+use Rattle.plant_model.proofs.public.LegalLaws.{followed}
 use Rattle.plant_model.specs.Alarms.{latching, limit}
 use Rattle.plant_import.specs.Numbers.{has_number, new_numbers}
 use Rattle.plant_model.specs.Events.{events}
@@ -36,8 +36,8 @@ use Rattle.plant_model.specs.declared.reply.Refused.{Refused}
 use Rattle.plant_model.specs.declared.reply.Refused.TheVariants.{MomentBehind, NotGranted, RoleLacking, UnitFull}
 use Rattle.plant_model.specs.declared.reply.Reply.{Reply}
 use Rattle.plant_model.specs.declared.rows.UnitRows.{UnitRows}
-use Rattle.plant_types.proofs.Orders.{number_total, same_numbers}
-use Rattle.plant_types.proofs.KeyedRowLaws.{same_rows}
+use Rattle.plant_types.proofs.public.Orders.{number_total, same_numbers}
+use Rattle.plant_types.proofs.public.KeyedRowLaws.{same_rows}
 use Rattle.plant_types.specs.Limits.{max_events}
 use Rattle.plant_types.specs.Names.{Name, name_cmp, same_name}
 use Rattle.plant_types.specs.Options.{or_else}

@@ -1,13 +1,13 @@
 -- The changes of proposals and decisions turn the rows of the history into those of the history with the call.
-use Rattle.plant_import.proofs.Placed.{there}
-use Rattle.plant_model.proofs.ChangeLaws.{rows-same, with_request}
-use Rattle.plant_types.proofs.Orders.{same_names, same_numbers}
-use Rattle.plant_types.proofs.KeyedRowLaws.{put-rows, tied}
-use Rattle.plant_model.proofs.Base.{base, x}
-use Rattle.plant_model.proofs.ChangeLaws.{Turns, put_row-map, said_anew}
-use Rattle.plant_model.proofs.HistoryLaws.{alarm_of, alarms_told, change_with, changes_told, numbers_of_changes, record_with, records_told, tag_of_record, tags_of_alarms, tags_of_records}
+use Rattle.plant_import.proofs.public.Placed.{there}
+use Rattle.plant_model.proofs.public.ChangeLaws.{rows-same, with_request}
+use Rattle.plant_types.proofs.public.Orders.{same_names, same_numbers}
+use Rattle.plant_types.proofs.public.KeyedRowLaws.{put-rows, tied}
+use Rattle.plant_model.proofs.public.Base.{base, x}
+use Rattle.plant_model.proofs.public.ChangeLaws.{Turns, put_row-map, said_anew}
+use Rattle.plant_model.proofs.public.HistoryLaws.{alarm_of, alarms_told, change_with, changes_told, numbers_of_changes, record_with, records_told, tag_of_record, tags_of_alarms, tags_of_records}
 use Rattle.plant_model.proofs.MatrixLaws.{band_keys, bands_anew, bands_told, cell_keys, cells_anew, cells_told, no_next}
-use Rattle.plant_model.proofs.PutLaws.{put_bands, put_cells, put_records, puts, puts-rows, said, said-rows}
+use Rattle.plant_model.proofs.public.PutLaws.{put_bands, put_cells, put_records, puts, puts-rows, said, said-rows}
 use Rattle.plant_model.specs.Alarms.{latching, limit, quota}
 use Rattle.plant_model.specs.Changes.{Decision, Draft, change, change_as, decision, draft, kind_of_change, limit_in, limit_revision, matrix, matrix_in, matrix_revision, no_matrix, proposals, record_as, record_of, record_revision, said_of_matrix, sheet, sheet_in}
 use Rattle.plant_model.specs.Events.{events_of}

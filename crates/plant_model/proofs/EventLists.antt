@@ -1,15 +1,15 @@
 -- Events by their numbers: what a list of events has at each number, and what a file without a fault adds to those that are kept.
 use Rattle.plant_alarm.specs.declared.event.Event.{Event}
 use Rattle.plant_floods.specs.Activations.{of_alarm}
-use Rattle.plant_import.proofs.FileLaws.{AreDistinct, all_member, clash_of, file_fits, first_member, fit_parts, fit_within, fits_in, kept_fresh, member, no_first, none_member, none_within, or_left, or_right}
-use Rattle.plant_import.proofs.Nearest.{order_above, same_any, same_is}
-use Rattle.plant_import.proofs.Risings.{Before, Each, Rising, is_rising}
+use Rattle.plant_import.proofs.public.FileLaws.{AreDistinct, all_member, clash_of, file_fits, first_member, fit_parts, fit_within, fits_in, kept_fresh, member, no_first, none_member, none_within, or_left, or_right}
+use Rattle.plant_import.proofs.public.Nearest.{order_above, same_any, same_is}
+use Rattle.plant_import.proofs.public.Risings.{Before, Each, Rising, is_rising}
 use Rattle.plant_import.specs.Fields.{first_cause}
 use Rattle.plant_import.specs.Files.{SameMembers, are_known, is_fit}
 use Rattle.plant_import.specs.Merging.{IsRising, clashes, first_fault, fresh, merge_fault, out_of_order, same_event}
 use Rattle.plant_import.specs.declared.bad_file.Cause.TheVariants.{MomentAhead, MomentOutOfOrder, SequenceClash, TagUnknown}
-use Rattle.plant_model.proofs.FactLaws.{not_true, same_number_of}
-use Rattle.plant_model.proofs.PutLaws.{said}
+use Rattle.plant_model.proofs.public.FactLaws.{not_true, same_number_of}
+use Rattle.plant_model.proofs.public.PutLaws.{said}
 use Rattle.plant_import.specs.Numbers.{has_number}
 use Rattle.plant_model.specs.RowFacts.{event_number}
 use Rattle.plant_types.specs.Names.{Name, same_name}

@@ -1,30 +1,13 @@
-pub mod PlaceOrders
-pub mod PutLaws
-pub mod HistoryLaws
-pub mod FactLaws
-pub mod HeldLaws
-pub mod MatrixLaws
-pub mod ChangeLaws
-pub mod DecisionLaws
-pub mod ServiceLaws
-pub mod ProposalLaws
-pub mod ReadLaws
-pub mod CountLaws
-pub mod EventLists
-pub mod EventLaws
-pub mod ImportLaws
-pub mod AcceptLaws
-pub mod PartLists
-pub mod PartLaws
-pub mod WorldLaws
-pub mod PurgeLaws
-pub mod LegalLaws
-pub mod AgreeLaws
-pub mod EndLaws
-pub mod QuotaLaws
-pub mod ShelfLaws
-pub mod OwnLaws
-pub mod Base
+mod PlaceOrders
+pub mod public
+mod MatrixLaws
+mod DecisionLaws
+mod ProposalLaws
+mod EventLists
+mod PurgeLaws
+mod AgreeLaws
+mod ShelfLaws
+mod OwnLaws
 mod WorkedShelves
 mod WorkedGrants
 mod WorkedService

@@ -1,6 +1,6 @@
 -- The rows of matrices: at the places that the history names, and put anew by an entry that brings a matrix.
-use Rattle.plant_import.proofs.Placed.{there}
-use Rattle.plant_model.proofs.Base.{x}
+use Rattle.plant_import.proofs.public.Placed.{there}
+use Rattle.plant_model.proofs.public.Base.{x}
 use Rattle.plant_model.specs.Changes.{is_proposal, matrix_in, proposals}
 use Rattle.plant_model.specs.declared.call.Request.{Request}
 use Rattle.plant_model.specs.declared.call.Request.TheVariants.{OpenUnit, Propose}
@@ -17,18 +17,18 @@ use Rattle.plant_model.specs.declared.call.Call.{Call}
 use Rattle.plant_model.specs.declared.rows.BandRow.{BandRow}
 use Rattle.plant_model.specs.declared.rows.CellRow.{CellRow}
 use Rattle.plant_ration.specs.declared.cell.Cell.{Cell}
-use Rattle.plant_model.proofs.FactLaws.{not_true, same_number_of}
-use Rattle.plant_model.proofs.HistoryLaws.{any-append-left, any-append-right, latest-named, mapped_key, when_Some}
+use Rattle.plant_model.proofs.public.FactLaws.{not_true, same_number_of}
+use Rattle.plant_model.proofs.public.HistoryLaws.{any-append-left, any-append-right, latest-named, mapped_key, when_Some}
 use Rattle.plant_model.proofs.PlaceOrders.{band_total, cell_total, same_bands, same_cells}
-use Rattle.plant_model.proofs.PutLaws.{else_none, said, said-told}
+use Rattle.plant_model.proofs.public.PutLaws.{else_none, said, said-told}
 use Rattle.plant_model.specs.Histories.{all_named, same_number}
 use Rattle.plant_model.specs.Matrices.{BandKey, CellKey, at_place, band_at, band_cmp, band_places, cell_cmp, cell_of, cell_places, cells_of_row, matrix_numbered, numbered_matrix, places_in, when_number}
 use Rattle.plant_model.specs.Parts.{none}
 use Rattle.plant_model.specs.RowFacts.{band_key, cell_key}
 use Rattle.plant_model.specs.Rows.{band_row, cell_row}
 use Rattle.plant_ration.specs.Grid.{Grid}
-use Rattle.plant_types.proofs.Orders.{then_Equal}
-use Rattle.plant_types.proofs.KeyedRowLaws.{Tells, settled, tied}
+use Rattle.plant_types.proofs.public.Orders.{then_Equal}
+use Rattle.plant_types.proofs.public.KeyedRowLaws.{Tells, settled, tied}
 use Rattle.plant_types.specs.Options.{or_else, when}
 use Rattle.plant_types.specs.KeyedRows.{row_at}
 

@@ -2,15 +2,15 @@
 use Rattle.std.proofs.Common.{List, None, Option, Some, [], cond, false, not, refl, subst, sym, true, Bool, ◌∙◌, ◌∷◌, ◌≡◌}
 use Rattle.std.specs.Prelude.{if◌then◌else◌, is_some, unwrap_or}
 use Rattle.std.specs.FinMap.{get, get-empty, get-insert}
-use Rattle.plant_model.proofs.LegalLaws.{first_entry, later_entry}
-use Rattle.plant_model.proofs.ServiceLaws.{both_true}
-use Rattle.plant_model.proofs.WorldLaws.{opening_changes}
+use Rattle.plant_model.proofs.public.LegalLaws.{first_entry, later_entry}
+use Rattle.plant_model.proofs.public.ServiceLaws.{both_true}
+use Rattle.plant_model.proofs.public.WorldLaws.{opening_changes}
 use Rattle.plant_model.specs.Openings.{HasItsHistories, HistoriesAreOwn, IsEntryOf, IsHistoryOf, has_values}
 use Rattle.plant_model.specs.Verdicts.{changes_history, is_opening, verdict}
 use Rattle.plant_model.specs.Worlds.{World, answer_at, by_admin, history, next_at, opening, unit_answer, unit_named, with_call}
 use Rattle.plant_model.specs.declared.call.Call.{Call}
-use Rattle.plant_types.proofs.Orders.{name_total, same_names}
-use Rattle.plant_types.proofs.KeyedRowLaws.{tied}
+use Rattle.plant_types.proofs.public.Orders.{name_total, same_names}
+use Rattle.plant_types.proofs.public.KeyedRowLaws.{tied}
 use Rattle.plant_types.specs.Names.{Name, name_cmp, same_name}
 
 follow : (admin u : Name) (h : List Call) (c : Call) → IsHistoryOf admin u h → IsEntryOf u c → not (is_opening c.request) ≡ true → IsHistoryOf admin u (c ∷ h)

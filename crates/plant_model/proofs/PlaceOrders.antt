@@ -4,7 +4,7 @@ use Rattle.std.specs.Ordering.{nat_cmp, ordering_then}
 use Rattle.std.specs.Prelude.{◌≡◌}
 use Rattle.std.specs.declared.cmp.Ordering.TheVariants.{Equal}
 use Rattle.plant_model.specs.Matrices.{BandKey, CellKey, band_cmp, cell_cmp}
-use Rattle.plant_types.proofs.Orders.{same_numbers, then_Equal}
+use Rattle.plant_types.proofs.public.Orders.{same_numbers, then_Equal}
 
 pub band_total : IsTotalOrder band_cmp
 band_total = then_total (on_total (λ (k : BandKey). k.0) nat_cmp_total) (on_total (λ (k : BandKey). k.1) nat_cmp_total)

@@ -1,10 +1,10 @@
 -- In a legal history only what was proposed is decided, each limit that was proposed is of a registered alarm, and there are as many rows
 -- of changes as proposals.
-use Rattle.plant_import.proofs.Placed.{there}
-use Rattle.plant_model.proofs.Base.{base, x}
-use Rattle.plant_model.proofs.FactLaws.{draft_bound, none_counted, same_number_of}
-use Rattle.plant_model.proofs.HistoryLaws.{alarm_of, change_with, when_Some}
-use Rattle.plant_model.proofs.ServiceLaws.{both_true, is_some-map, registered, registered_stays}
+use Rattle.plant_import.proofs.public.Placed.{there}
+use Rattle.plant_model.proofs.public.Base.{base, x}
+use Rattle.plant_model.proofs.public.FactLaws.{draft_bound, none_counted, same_number_of}
+use Rattle.plant_model.proofs.public.HistoryLaws.{alarm_of, change_with, when_Some}
+use Rattle.plant_model.proofs.public.ServiceLaws.{both_true, is_some-map, registered, registered_stays}
 use Rattle.plant_model.specs.Alarms.{latching}
 use Rattle.plant_model.specs.Changes.{Decision, Draft, approved_limit, change, decision, draft, is_proposal, kind_of_change, limit_in, limit_revision, proposals, said_of_decision, said_of_draft}
 use Rattle.plant_model.specs.Facts.{facts, limit_revision_of}
@@ -26,8 +26,8 @@ use Rattle.plant_model.specs.declared.reply.Reply.TheVariants.{Done, Number}
 use Rattle.plant_model.specs.declared.rows.AlarmRow.{AlarmRow}
 use Rattle.plant_ration.specs.declared.change.ChangeKind.{ChangeKind}
 use Rattle.plant_ration.specs.declared.change.ChangeKind.TheVariants.{Limit, Matrix, Rationale}
-use Rattle.plant_types.proofs.Orders.{same_names}
-use Rattle.plant_types.proofs.KeyedRowLaws.{tied}
+use Rattle.plant_types.proofs.public.Orders.{same_names}
+use Rattle.plant_types.proofs.public.KeyedRowLaws.{tied}
 use Rattle.plant_types.specs.Limits.{max_changes}
 use Rattle.plant_types.specs.Names.{Name, same_name}
 use Rattle.plant_types.specs.Options.{or_else, when}

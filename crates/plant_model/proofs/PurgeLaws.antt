@@ -11,8 +11,8 @@ use Rattle.plant_model.specs.Verdicts.{verdict, changes_history}
 use Rattle.plant_model.specs.Worlds.{World, history, unit_named, unit_seen, is_taken, answer_at, answer, with_call, next_at, next, empty_world}
 use Rattle.plant_model.specs.Views.{has_pair, names_in, purge, answers_to, IsInside, IsAlwaysInside}
 use Rattle.plant_model.specs.Laws.{OthersCallsCanGo}
-use Rattle.plant_types.proofs.Orders.{name_total}
-use Rattle.plant_model.proofs.WorldLaws.{same_of, any-mono, not_true, clash, seen, own_histories, history-with_call, is_taken-with_call, taken_by_other, Alike, own_answer, same_answer}
+use Rattle.plant_types.proofs.public.Orders.{name_total}
+use Rattle.plant_model.proofs.public.WorldLaws.{same_of, any-mono, not_true, clash, seen, own_histories, history-with_call, is_taken-with_call, taken_by_other, Alike, own_answer, same_answer}
 
 -- what is held stands
 held_stands : (t : ℕ) (o : Option (Option ℕ)) → unwrap_or (option_map (is_before t) o) false ≡ true → is_some o ≡ true

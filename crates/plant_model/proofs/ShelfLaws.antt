@@ -5,11 +5,11 @@ use Rattle.std.proofs.lemmas.Bool.Decides.{leb_tells}
 use Rattle.std.proofs.lemmas.List.Kept.{IsNonDecreasingBy-filter}
 use Rattle.std.specs.List.Sorted.{IsNonDecreasingBy}
 use Rattle.std.specs.Prelude.{option_and_then, option_map, unwrap_or}
-use Rattle.plant_alarm.proofs.Returns.{shelf_by_events}
+use Rattle.plant_alarm.proofs.public.Returns.{shelf_by_events}
 use Rattle.plant_alarm.specs.States.{IsInTime, last_return}
 use Rattle.plant_alarm.specs.declared.event.Event.{Event}
 use Rattle.plant_import.specs.Merging.{IsRising}
-use Rattle.plant_model.proofs.EventLaws.{events_rise, unspoken}
+use Rattle.plant_model.proofs.public.EventLaws.{events_rise, unspoken}
 use Rattle.plant_model.specs.Alarms.{latching, limit}
 use Rattle.plant_model.specs.Changes.{limit_revision}
 use Rattle.plant_model.specs.Events.{events, events_of}

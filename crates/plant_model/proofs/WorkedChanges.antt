@@ -1,7 +1,7 @@
 -- Worked examples: management of change, rationalisation records, and limits.
 use Rattle.plant_alarm.specs.declared.shelf.ShelfState.TheVariants.{OneShotShelved, Unshelved}
 use Rattle.plant_alarm.specs.declared.summary.AlarmState.TheVariants.{Normal}
-use Rattle.plant_model.proofs.Base.{IsAnswered, IsDone, abe, amy, ann, at, base, call, eve, grant, grid, lt, plain, pt, root, status, ste, u1, vic, x}
+use Rattle.plant_model.proofs.public.Base.{IsAnswered, IsDone, abe, amy, ann, at, base, call, eve, grant, grid, lt, plain, pt, root, status, ste, u1, vic, x}
 use Rattle.plant_model.specs.Refusals.{holds_some}
 use Rattle.plant_model.specs.Rows.{rows_of}
 use Rattle.plant_model.specs.Verdicts.{verdict}

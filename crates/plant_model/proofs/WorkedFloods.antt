@@ -5,7 +5,7 @@ use Rattle.plant_alarm.specs.declared.summary.AlarmState.TheVariants.{Normal, Un
 use Rattle.plant_floods.specs.Activations.{period_counts}
 use Rattle.plant_floods.specs.Floods.{floods}
 use Rattle.plant_floods.specs.declared.run.Run.{Run}
-use Rattle.plant_model.proofs.Base.{IsAnswered, ann, at, base, call, event, lt, pt, u1, vic, x}
+use Rattle.plant_model.proofs.public.Base.{IsAnswered, ann, at, base, call, event, lt, pt, u1, vic, x}
 use Rattle.plant_model.specs.Events.{flood_lines, is_aligned}
 use Rattle.plant_model.specs.Refusals.{holds_some}
 use Rattle.plant_model.specs.Verdicts.{verdict}

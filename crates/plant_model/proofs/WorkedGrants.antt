@@ -8,7 +8,7 @@ use Rattle.plant_model.specs.declared.call.Request.TheVariants.{Grant, OpenUnit,
 use Rattle.plant_model.specs.declared.reply.Refused.TheVariants.{AlreadyHeld, EndNotAhead, LastSteward, MomentBehind, NotGranted, NotHeld}
 use Rattle.plant_types.specs.declared.role.Role.{Role}
 use Rattle.plant_types.specs.declared.role.Role.TheVariants.{Operator, Steward, Viewer}
-use Rattle.plant_model.proofs.Base.{IsAnswered, IsDone, ann, at, base, bob, call, grant, grid, plain, pt, root, ste, u1, vic}
+use Rattle.plant_model.proofs.public.Base.{IsAnswered, IsDone, ann, at, base, bob, call, grant, grid, plain, pt, root, ste, u1, vic}
 use Rattle.plant_model.specs.Refusals.{holds_some}
 use Rattle.plant_model.specs.Rows.{rows_of}
 use Rattle.plant_model.specs.Verdicts.{verdict}

@@ -7,7 +7,7 @@ use Rattle.plant_alarm.specs.declared.summary.AlarmState.{AlarmState}
 use Rattle.plant_alarm.specs.declared.summary.AlarmState.TheVariants.{Acknowledged, LatchedAck, LatchedUnack, Normal, ReturnedUnack, Unacknowledged}
 use Rattle.plant_import.specs.Merging.{merge_fault}
 use Rattle.plant_import.specs.declared.bad_file.Cause.TheVariants.{Header, MomentAhead, MomentOutOfOrder, SequenceClash, TagUnknown}
-use Rattle.plant_model.proofs.Base.{IsAnswered, ann, at, base, call, event, lt, plain, pt, status, u1, vic, x}
+use Rattle.plant_model.proofs.public.Base.{IsAnswered, ann, at, base, call, event, lt, plain, pt, status, u1, vic, x}
 use Rattle.plant_model.specs.Refusals.{holds_some}
 use Rattle.plant_model.specs.Rows.{rows_of}
 use Rattle.plant_model.specs.Verdicts.{verdict}

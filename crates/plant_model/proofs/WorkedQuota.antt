@@ -2,7 +2,7 @@
 use Rattle.plant_alarm.specs.declared.event.Event.{Event}
 use Rattle.plant_alarm.specs.declared.event.EventKind.TheVariants.{Act, Rtn}
 use Rattle.plant_import.specs.Merging.{merge_fault}
-use Rattle.plant_model.proofs.Base.{IsAnswered, IsDone, ann, at, call, eve, event, grid, root, ste, x}
+use Rattle.plant_model.proofs.public.Base.{IsAnswered, IsDone, ann, at, call, eve, event, grid, root, ste, x}
 use Rattle.plant_model.specs.Facts.{facts}
 use Rattle.plant_model.specs.Refusals.{holds_some}
 use Rattle.plant_model.specs.Replies.{shelf_lines}

@@ -5,7 +5,7 @@ use Rattle.plant_model.specs.declared.call.Call.{Call}
 use Rattle.plant_model.specs.declared.call.Request.TheVariants.{Grant, OneShotShelve, OpenUnit, PlaceInService, Register, RemoveFromService, TimedShelve, Unshelve, Withdraw}
 use Rattle.plant_ration.specs.declared.cell.Cell.TheVariants.{P1, P2, P3, P4}
 use Rattle.plant_types.specs.declared.role.Role.TheVariants.{Viewer}
-use Rattle.plant_model.proofs.Base.{amy, ann, at, base, bob, call, eve, grid, lt, moe, opened, pt, root, ste, u1, vic, x}
+use Rattle.plant_model.proofs.public.Base.{amy, ann, at, base, bob, call, eve, grid, lt, moe, opened, pt, root, ste, u1, vic, x}
 use Rattle.plant_model.specs.Facts.{facts}
 use Rattle.plant_model.specs.Parts.{part_of}
 use Rattle.plant_model.specs.Refusals.{holds_some}

@@ -8,7 +8,7 @@ use Rattle.plant_model.specs.declared.call.Request.TheVariants.{Alarms, PlaceInS
 use Rattle.plant_model.specs.declared.reply.Refused.TheVariants.{AlarmUnknown, AlreadyOutOfService, NotOutOfService, RoleLacking}
 use Rattle.plant_model.specs.declared.reply.Reply.TheVariants.{Alarms as AlarmsOf, Standing as StandingOf, Status as StatusOf}
 use Rattle.plant_types.specs.declared.role.Role.TheVariants.{Maintainer}
-use Rattle.plant_model.proofs.Base.{IsAnswered, IsDone, ann, at, base, call, lt, moe, pt, status, u1, vic, x}
+use Rattle.plant_model.proofs.public.Base.{IsAnswered, IsDone, ann, at, base, call, lt, moe, pt, status, u1, vic, x}
 use Rattle.plant_model.specs.Refusals.{holds_some}
 use Rattle.plant_model.specs.Rows.{alarm_row}
 use Rattle.plant_model.specs.Verdicts.{verdict}

@@ -8,7 +8,7 @@ use Rattle.plant_model.specs.declared.call.Request.TheVariants.{OneShotShelve, R
 use Rattle.plant_model.specs.declared.reply.Refused.TheVariants.{ConditionAlreadyShelved, ConditionNotShelved, MomentBehind, NotGranted, ShelvingTimeOutOfRange}
 use Rattle.plant_model.specs.declared.reply.Reply.TheVariants.{Done, Shelves as ShelvesOf}
 use Rattle.plant_types.specs.declared.role.Role.TheVariants.{Operator}
-use Rattle.plant_model.proofs.Base.{IsDone, ann, at, base, bob, call, eve, grant, lt, opened, plain, pt, status, u1, x}
+use Rattle.plant_model.proofs.public.Base.{IsDone, ann, at, base, bob, call, eve, grant, lt, opened, plain, pt, status, u1, x}
 use Rattle.plant_model.specs.Refusals.{holds_some}
 use Rattle.plant_model.specs.Rows.{rows_of}
 use Rattle.plant_model.specs.Verdicts.{verdict}

@@ -8,7 +8,7 @@ use Rattle.plant_model.specs.declared.reply.Refused.TheVariants.{MomentBehind, N
 use Rattle.plant_model.specs.declared.reply.Reply.TheVariants.{Done, Mine, Units}
 use Rattle.plant_types.specs.declared.role.Role.TheVariants.{Maintainer, Operator, Viewer}
 use Rattle.plant_types.specs.declared.role.Role.{Role}
-use Rattle.plant_model.proofs.Base.{ann, at, base, bob, call, grid, lt, root, ste, u1, vic}
+use Rattle.plant_model.proofs.public.Base.{ann, at, base, bob, call, grid, lt, root, ste, u1, vic}
 use Rattle.plant_model.specs.Worlds.{answer, answer_of_units, empty_world, opening}
 use Rattle.plant_types.specs.Names.{Name, name_cmp}
 

@@ -30,11 +30,11 @@ use Rattle.plant_alarm.specs.Shelves.{shelf_state}
 use Rattle.plant_books.specs.Contents.{Content, IsKnownTo, after_changes, last_return, mine_shelf, mine_shelves, mine_unit, mine_units, part_in, rows_in, shelves_mine, with_rows}
 use Rattle.plant_books.specs.Counting.{Counts, CountsFault}
 use Rattle.plant_books.specs.declared.books.Books.{Ghosts}
-use Rattle.plant_model.proofs.Base.{lt}
-use Rattle.plant_model.proofs.FactLaws.{alarm_in}
-use Rattle.plant_model.proofs.HeldLaws.{any_of_rows, roles_of_rows}
-use Rattle.plant_model.proofs.LegalLaws.{next_legal, own_units_after, same_unit, there_of_held}
-use Rattle.plant_model.proofs.WorldLaws.{Said, equal_views, not_granted, refused_changes, same_keys, same_seen, view_alike}
+use Rattle.plant_model.proofs.public.Base.{lt}
+use Rattle.plant_model.proofs.public.FactLaws.{alarm_in}
+use Rattle.plant_model.proofs.public.HeldLaws.{any_of_rows, roles_of_rows}
+use Rattle.plant_model.proofs.public.LegalLaws.{next_legal, own_units_after, same_unit, there_of_held}
+use Rattle.plant_model.proofs.public.WorldLaws.{Said, equal_views, not_granted, refused_changes, same_keys, same_seen, view_alike}
 use Rattle.plant_model.specs.Facts.{facts, returned}
 use Rattle.plant_model.specs.Grants.{held, holds_any, roles_held}
 use Rattle.plant_model.specs.Histories.{last_moment}
@@ -52,8 +52,8 @@ use Rattle.plant_office.specs.Lines.{line_of_mine, line_of_shelf}
 use Rattle.plant_office.specs.Runs.{IsAlike}
 use Rattle.plant_office.specs.Served.{Holds, IsIsolated, IsOwnUnit, IsServed}
 use Rattle.plant_office.specs.Serves.{Serves}
-use Rattle.plant_types.proofs.DateTests.{left}
-use Rattle.plant_types.proofs.Orders.{name_total}
+use Rattle.plant_types.proofs.public.DateTests.{left}
+use Rattle.plant_types.proofs.public.Orders.{name_total}
 use Rattle.plant_types.specs.Names.{Name, same_name}
 use Rattle.plant_types.specs.Options.{when}
 use Rattle.plant_unit.specs.Judged.{IsOpening, IsPartOf, IsVerdictOn}

@@ -13,8 +13,8 @@ use Rattle.sqlite.proofs.Callers.{finds_again}
 use Rattle.plant_books.specs.Contents.{Content}
 use Rattle.plant_store.specs.Changes.{IsHonest}
 use Rattle.plant_store.specs.Keeping.{Keeps, KeepsIn}
-use Rattle.plant_store.proofs.Contents.{keeps_same}
-use Rattle.plant_store.proofs.Databases.{same_database}
+use Rattle.plant_store.proofs.public.Contents.{keeps_same}
+use Rattle.plant_store.proofs.public.Databases.{same_database}
 
 module _ {D : Type 0} {g : disk.Ghosts D} (old new : Held (FileStore D g)) (files : Files D) (live : IsLive (file_state old)) (settled : IsTrue (file_state old).is_open → (file_state old).now ≡ (file_state old).committed)
     (copied : AreClean g files.log files.db → IsCopied old files) (opened : IsOpened new) (found : Finds files new) (up : IsTrue (file_state new).is_open) where

@@ -1,1 +1,1 @@
-pub mod Again
+mod Again

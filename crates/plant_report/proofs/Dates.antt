@@ -5,7 +5,7 @@ use Rattle.std.proofs.lemmas.Int.{ints}
 use Rattle.std.proofs.lemmas.Bool.{ltb-true, ltb-false}
 use Rattle.jiff_core.specs.Calendar.{day_count, days_in_month, IsCivilDate}
 use Rattle.jiff_core.proofs.CalendarLemmas.{day_count-day, day_count-next_month, day_count-next_year, day_count-last_of_year, days_in_month_bounds}
-use Rattle.plant_types.proofs.Days.{day_count-2000, years}
+use Rattle.plant_types.proofs.public.Days.{day_count-2000, years}
 use Rattle.plant_report.specs.Moments.{Date, date_after}
 
 -- the date n days after 2000-01-01

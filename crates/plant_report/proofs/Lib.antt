@@ -1,4 +1,4 @@
-pub mod Dates
-pub mod Written
-pub mod ColumnLaws
-pub mod Examples
+mod Dates
+mod Written
+mod ColumnLaws
+mod Examples

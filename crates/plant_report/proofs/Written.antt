@@ -5,8 +5,8 @@ use Rattle.std.proofs.lemmas.Int.{ints}
 use Rattle.jiff_core.specs.Calendar.{days_in_month, IsCivilDate}
 use Rattle.plant_types.specs.Moment.{moment_of, is_date, is_time, has_form, civil_of, is_civil, days_since_2000}
 use Rattle.plant_types.specs.Spelling.{spelled}
-use Rattle.plant_types.proofs.Days.{day_count-2000, until-2100, is_date_true, years}
-use Rattle.plant_types.proofs.Round.{written}
+use Rattle.plant_types.proofs.public.Days.{day_count-2000, until-2100, is_date_true, years}
+use Rattle.plant_types.proofs.public.Round.{written}
 use Rattle.plant_report.specs.Moments.{date_after, moment_text}
 use Rattle.plant_report.proofs.Dates.{date_after_is}
 

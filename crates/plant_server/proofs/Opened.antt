@@ -6,7 +6,7 @@ use Rattle.sqlite.specs.State.{HasCleanDisk, IsLive, Opens, State}
 use Rattle.sqlite_wal.specs.Recovery.{Image}
 use Rattle.plant_books.specs.Contents.{Content}
 use Rattle.plant_server.specs.Files.{HoldBooks, HoldDatabase}
-use Rattle.plant_store.proofs.Databases.{same_database}
+use Rattle.plant_store.proofs.public.Databases.{same_database}
 use Rattle.plant_store.specs.Changes.{IsHonest}
 use Rattle.plant_store.specs.Keeping.{HaveRows, Keeps}
 

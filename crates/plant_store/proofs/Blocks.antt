@@ -7,7 +7,7 @@ use Rattle.sqlite_trees.specs.Tree.{IsAscending}
 use Rattle.plant_store.specs.declared.shelves.UnitShelf.{UnitShelf}
 use Rattle.plant_store.proofs.LineLaws.{NotAbove, less_when, same_codes}
 use Rattle.plant_types.specs.Names.{Name, name_cmp, same_name}
-use Rattle.plant_types.proofs.Orders.{name_total}
+use Rattle.plant_types.proofs.public.Orders.{name_total}
 
 abbrev pub is_under : Name → UnitShelf → Bool
 is_under q x = same_name q x.unit

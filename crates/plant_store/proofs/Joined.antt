@@ -25,18 +25,18 @@ use Rattle.plant_types.specs.Names.{Name}
 use Rattle.plant_tables.specs.Kept.{by_columns, is_of}
 use Rattle.plant_tables.specs.Shape.{IsRowIn}
 use Rattle.plant_tables.specs.Tidy.{AreApart}
-use Rattle.plant_tables.proofs.Keys.{equal_is, by_columns_total}
-use Rattle.plant_tables.proofs.Kept.{all-sort, no_ties-out, sort-filter}
-use Rattle.plant_tables.proofs.Joins.{joins, meets, met}
-use Rattle.plant_tables.proofs.Shapes.{named}
+use Rattle.plant_tables.proofs.public.Keys.{equal_is, by_columns_total}
+use Rattle.plant_tables.proofs.public.Kept.{all-sort, no_ties-out, sort-filter}
+use Rattle.plant_tables.proofs.public.Joins.{joins, meets, met}
+use Rattle.plant_tables.proofs.public.Shapes.{named}
 use Rattle.plant_store.specs.Keeping.{KeepsIn, has_any}
 use Rattle.plant_store.specs.Mine.{is_named, last_in, line_at, line_cells, lines_of}
 use Rattle.plant_columns.specs.Tables.{books_schema, grant_shape, rows_seen, unit_shape}
 use Rattle.plant_columns.specs.Tables.Kept.{UnitKept, GrantKept}
 use Rattle.plant_store.specs.Texts.{mine_text}
-use Rattle.plant_store.proofs.Contents.{was_opened}
+use Rattle.plant_store.proofs.public.Contents.{was_opened}
 use Rattle.plant_store.proofs.Meanings.{mine_is, mine_plain, mine_shows, mine_tests, order_3}
-use Rattle.plant_columns.proofs.ShapeLaws.{good}
+use Rattle.plant_columns.proofs.public.ShapeLaws.{good}
 
 abbrev grant_key : List ℕ
 grant_key = 1 ∷ 2 ∷ 3 ∷ []

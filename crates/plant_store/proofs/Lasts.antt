@@ -22,15 +22,15 @@ use Rattle.plant_model.specs.declared.rows.ChangeEntry.{ChangeEntry}
 use Rattle.plant_types.specs.Names.{Name}
 use Rattle.plant_tables.specs.Kept.{by_columns, is_of, kept, plain_query}
 use Rattle.plant_tables.specs.Tidy.{AreApart}
-use Rattle.plant_tables.proofs.Joins.{strict-sort}
-use Rattle.plant_tables.proofs.Keys.{by_columns_total}
-use Rattle.plant_tables.proofs.Kept.{no_ties-out}
-use Rattle.plant_tables.proofs.Laws.{Reads, reads, passes, shows}
-use Rattle.plant_tables.proofs.Shapes.{shown_kept}
+use Rattle.plant_tables.proofs.public.Joins.{strict-sort}
+use Rattle.plant_tables.proofs.public.Keys.{by_columns_total}
+use Rattle.plant_tables.proofs.public.Kept.{no_ties-out}
+use Rattle.plant_tables.proofs.public.Laws.{Reads, reads, passes, shows}
+use Rattle.plant_tables.proofs.public.Shapes.{shown_kept}
 use Rattle.plant_columns.specs.Codes.{number}
 use Rattle.plant_columns.specs.Tables.{AreBooks, books_schema, rows_seen, change_shape}
 use Rattle.plant_columns.specs.Tables.Kept.{ChangeKept}
-use Rattle.plant_columns.proofs.ShapeLaws.{good}
+use Rattle.plant_columns.proofs.public.ShapeLaws.{good}
 use Rattle.plant_store.specs.Texts.{last_change_text}
 use Rattle.plant_store.proofs.Meanings.{by_unit, falling_2, last_change_is, last_change_plain}
 use Rattle.plant_store.proofs.Joined.{one_test}

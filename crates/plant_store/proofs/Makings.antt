@@ -21,15 +21,15 @@ use Rattle.sqlite_value.specs.declared.value.Value.TheVariants.{Int, Null, Text}
 use Rattle.sqlite_value.specs.Order.{Row}
 use Rattle.plant_tables.specs.Shape.{IsRowIn, table_in}
 use Rattle.plant_tables.specs.Tidy.{IsTidy}
-use Rattle.plant_tables.proofs.Changes.{KeepsOthers, creates, indexes, lone_step, same_value, went}
-use Rattle.plant_tables.proofs.Family.{kept_at}
-use Rattle.plant_tables.proofs.Laws.{cast_int, cast_null}
+use Rattle.plant_tables.proofs.public.Changes.{KeepsOthers, creates, indexes, lone_step, same_value, went}
+use Rattle.plant_tables.proofs.public.Family.{kept_at}
+use Rattle.plant_tables.proofs.public.Laws.{cast_int, cast_null}
 use Rattle.plant_store.specs.Making.{AreEmpty, AreNew}
 use Rattle.plant_columns.specs.Tables.{Kept, alarms_schema, alarm_shape, band_shape, bands_schema, books_schema, cell_shape, cells_schema, change_shape, changes_schema, event_shape, events_schema, grant_shape, grants_schema, no_schema, office_row, office_schema, office_table, record_shape, records_schema, shape, shelf_shape, shelves_schema, unit_shape, units_schema}
 use Rattle.plant_columns.specs.Tables.Kept.{UnitKept, GrantKept, AlarmKept, ShelfKept, BandKept, CellKept, EventKept, RecordKept, ChangeKept}
 use Rattle.plant_store.specs.Texts.{alarms_text, bands_text, by_person_text, cells_text, changes_text, events_text, grants_text, office_text, put_office_text, records_text, shelves_text, units_text}
 use Rattle.plant_store.proofs.Meanings.{alarms_created, alarms_is, alarms_made, alarms_plain, bands_created, bands_is, bands_made, bands_plain, by_person_created, by_person_is, by_person_made, by_person_plain, cells_created, cells_is, cells_made, cells_plain, changes_created, changes_is, changes_made, changes_plain, events_created, events_is, events_made, events_plain, grants_created, grants_is, grants_made, grants_plain, office_created, office_is, office_made, office_plain, put_office_is, put_office_plain, records_created, records_is, records_made, records_plain, shelves_created, shelves_is, shelves_made, shelves_plain, units_created, units_is, units_made, units_plain}
-use Rattle.plant_columns.proofs.ShapeLaws.{all_listed}
+use Rattle.plant_columns.proofs.public.ShapeLaws.{all_listed}
 use Rattle.plant_store.proofs.Writes.{free}
 
 still_empty : (ts : List Table) (old new : Trees) → KeepsRows ts old new → AllByRecursion (λ t. old t.tree ≡ []) ts → AllByRecursion (λ t. new t.tree ≡ []) ts

@@ -23,21 +23,21 @@ use Rattle.plant_model.specs.RowChanges.{no_rows}
 use Rattle.plant_types.specs.Names.{Name, name_cmp, same_name}
 use Rattle.plant_types.specs.Options.{when}
 use Rattle.plant_types.specs.KeyedRows.{IsInOrder, row_at}
-use Rattle.plant_types.proofs.Orders.{name_total, same_names}
-use Rattle.plant_types.proofs.KeyedRowLaws.{IsInOrder-honest, row_at-honest, same_rows}
+use Rattle.plant_types.proofs.public.Orders.{name_total, same_names}
+use Rattle.plant_types.proofs.public.KeyedRowLaws.{IsInOrder-honest, row_at-honest, same_rows}
 use Rattle.plant_tables.specs.Kept.{by_columns, is_of}
 use Rattle.plant_tables.specs.Shape.{IsRowIn}
-use Rattle.plant_tables.proofs.Keys.{by_columns_total}
-use Rattle.plant_tables.proofs.Kept.{all-kept, all-sort, no_ties-out, sort-filter}
-use Rattle.plant_tables.proofs.Joins.{strict-sort}
-use Rattle.plant_tables.proofs.Shapes.{named}
+use Rattle.plant_tables.proofs.public.Keys.{by_columns_total}
+use Rattle.plant_tables.proofs.public.Kept.{all-kept, all-sort, no_ties-out, sort-filter}
+use Rattle.plant_tables.proofs.public.Joins.{strict-sort}
+use Rattle.plant_tables.proofs.public.Shapes.{named}
 use Rattle.plant_store.specs.declared.mine.Line.{Line}
 use Rattle.plant_store.specs.Keeping.{KeepsIn, has_any}
 use Rattle.plant_store.specs.Mine.{is_named, last_in, line_at, lines_of, runs_of, standing_lines}
 use Rattle.plant_columns.specs.Tables.{grant_shape, rows_seen}
 use Rattle.plant_columns.specs.Tables.Kept.{UnitKept, GrantKept}
 use Rattle.plant_store.proofs.LineLaws.{roles_at, run_at, run_with, runs_in_order}
-use Rattle.plant_columns.proofs.ShapeLaws.{good}
+use Rattle.plant_columns.proofs.public.ShapeLaws.{good}
 
 abbrev grant_key : List ℕ
 grant_key = 1 ∷ 2 ∷ 3 ∷ []

@@ -14,17 +14,17 @@ use Rattle.sqlite_keyed.proofs.ListLemmas.{filter_same}
 use Rattle.sqlite_trees.specs.Tree.{IsAscending}
 use Rattle.plant_columns.specs.Tables.{AreBooks, band_shape, cell_shape, change_shape, rows_seen}
 use Rattle.plant_columns.specs.Tables.Kept.{BandKept, CellKept, ChangeKept}
-use Rattle.plant_columns.proofs.ShapeLaws.{good}
+use Rattle.plant_columns.proofs.public.ShapeLaws.{good}
 use Rattle.plant_model.specs.Histories.{same_number}
 use Rattle.plant_model.specs.Matrices.{band_cmp, cell_cmp}
 use Rattle.plant_model.specs.RowFacts.{band_key, cell_key, change_number}
 use Rattle.plant_model.specs.declared.rows.BandRow.{BandRow}
 use Rattle.plant_model.specs.declared.rows.CellRow.{CellRow}
 use Rattle.plant_model.specs.declared.rows.RecordEntry.{RecordEntry}
-use Rattle.plant_tables.proofs.Shapes.{rises}
+use Rattle.plant_tables.proofs.public.Shapes.{rises}
 use Rattle.plant_types.specs.Names.{Name}
 use Rattle.plant_types.specs.KeyedRows.{IsInOrder}
-use Rattle.plant_types.proofs.KeyedRowLaws.{IsInOrder-put_row, tied}
+use Rattle.plant_types.proofs.public.KeyedRowLaws.{IsInOrder-put_row, tied}
 use Rattle.plant_store.specs.Numbers.{AreNumbers, is_among, with_number}
 use Rattle.plant_store.proofs.Queries.{passing_none}
 

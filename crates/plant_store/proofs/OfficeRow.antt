@@ -20,14 +20,14 @@ use Rattle.sqlite_value.specs.Order.{Row, column}
 use Rattle.plant_books.specs.Contents.{Content}
 use Rattle.plant_columns.specs.Shown.{columns}
 use Rattle.plant_columns.specs.Tables.{AreBooks, office_table}
-use Rattle.plant_store.proofs.Contents.{keeps_same}
+use Rattle.plant_store.proofs.public.Contents.{keeps_same}
 use Rattle.plant_store.proofs.OfficeMeaning.{is_refused, is_understood, query}
 use Rattle.plant_store.proofs.ThreeColumns.{IsColumn}
 use Rattle.plant_store.specs.Changes.{IsHonest}
 use Rattle.plant_store.specs.Keeping.{Keeps, KeepsIn}
 use Rattle.plant_store.specs.Opening.{IsOffice, IsThisOffice, has_office, is_office, office_cells, office_in, office_shown, place_named}
 use Rattle.plant_store.specs.Texts.{office_row_text}
-use Rattle.plant_tables.proofs.Laws.{reads, shows}
+use Rattle.plant_tables.proofs.public.Laws.{reads, shows}
 use Rattle.plant_tables.specs.Tables.{column_of}
 use Rattle.plant_types.specs.Names.{Name}
 

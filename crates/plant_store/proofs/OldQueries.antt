@@ -8,7 +8,7 @@ use Rattle.sqlite_value.specs.Order.{Row, bytes, column}
 use Rattle.sqlite_value.proofs.OrderLemmas.{value_cmp-Text}
 use Rattle.plant_columns.specs.Tables.{Kept, KeyOf, alarm_shape, band_shape, cell_shape, change_shape, event_shape, record_shape, shelf_shape}
 use Rattle.plant_columns.specs.Tables.Kept.{AlarmKept, BandKept, CellKept, ChangeKept, EventKept, GrantKept, RecordKept, ShelfKept, UnitKept}
-use Rattle.plant_columns.proofs.ShapeLaws.{alarm_good, band_good, cast_number, cell_good, change_good, event_good, numbers, one, record_good, role_back, shelf_good}
+use Rattle.plant_columns.proofs.public.ShapeLaws.{alarm_good, band_good, cast_number, cell_good, change_good, event_good, numbers, one, record_good, role_back, shelf_good}
 use Rattle.plant_store.specs.OldTables.{AreOldBooks, OldRowOf, old_books_schema, old_grant_shape, old_rows, old_shape, old_unit_shape}
 use Rattle.plant_store.specs.Statements.{ReadsOld}
 use Rattle.plant_store.specs.Texts.{alarms_of_text, bands_of_text, cells_of_text, changes_of_text, events_of_text, old_codes_text, old_grants_of_text, old_units_of_text, records_of_text, shelves_of_text}
@@ -19,8 +19,8 @@ use Rattle.plant_store.proofs.Queries.{one_test}
 use Rattle.plant_store.proofs.Reading.{reads_all}
 use Rattle.plant_tables.specs.Kept.{by_columns}
 use Rattle.plant_tables.specs.Shape.{IsRowIn}
-use Rattle.plant_tables.proofs.Shapes.{IsShape, finds_rows}
-use Rattle.plant_types.proofs.Orders.{pair_total}
+use Rattle.plant_tables.proofs.public.Shapes.{IsShape, finds_rows}
+use Rattle.plant_types.proofs.public.Orders.{pair_total}
 use Rattle.plant_types.specs.Names.{Name}
 use Rattle.plant_types.specs.Roles.{role_no}
 
@@ -93,4 +93,4 @@ code_rows (r ∷ rows) all = ap₂ ◌∷◌ (ap (λ (q : Row). column q 1 ∷ [
 pub find_old_codes : (old new : State) → AreOldBooks old.now → (rows : List Row) → Shown old_codes_text [] old new rows → rows ≡ map (λ c. Text c ∷ []) (old_codes old.now.trees)
 find_old_codes old new books rows h =
     finds_rows old_unit_shape old_unit_good old_books_schema old_codes_text [] code_shows order_1 code_names old_codes_is.0 old_codes_is.1 old_codes_plain [] refl (λ r. true) (λ r. refl) old new books.same_schema (books.tidy UnitKept).apart rows h
-    ∙ code_rows _ (Rattle.plant_tables.proofs.Kept.all-kept (by_columns (1 ∷ [])) (Rattle.plant_tables.proofs.Keys.by_columns_total (1 ∷ [])) (IsRowIn old_unit_shape) (λ r. true) (old.now.trees 1) (books.tidy UnitKept).each)
+    ∙ code_rows _ (Rattle.plant_tables.proofs.public.Kept.all-kept (by_columns (1 ∷ [])) (Rattle.plant_tables.proofs.public.Keys.by_columns_total (1 ∷ [])) (IsRowIn old_unit_shape) (λ r. true) (old.now.trees 1) (books.tidy UnitKept).each)

@@ -22,8 +22,8 @@ use Rattle.plant_model.specs.declared.call.Request.{Request}
 use Rattle.plant_model.specs.declared.call.Request.TheVariants.{Grant, OneShotShelve, OpenUnit, TimedShelve}
 use Rattle.plant_model.specs.declared.reply.Refused.{Refused}
 use Rattle.plant_model.specs.declared.reply.Refused.TheVariants.{AlarmUnknown, EndNotAhead, MomentBehind, NotGranted, ShelfQuota}
-use Rattle.plant_model.proofs.EndLaws.{without_ends}
-use Rattle.plant_model.proofs.QuotaLaws.{few_others}
+use Rattle.plant_model.proofs.public.EndLaws.{without_ends}
+use Rattle.plant_model.proofs.public.QuotaLaws.{few_others}
 use Rattle.plant_store.specs.OldRules.{WasLegal, OldHistoriesAreLegal, OldVerdictsStay, is_of_old, old_lacks_role, old_own_refusals, old_refusals, old_verdict}
 use Rattle.plant_types.specs.Names.{Name}
 use Rattle.plant_types.specs.Roles.{Pair, all_roles}

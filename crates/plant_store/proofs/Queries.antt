@@ -16,8 +16,8 @@ use Rattle.plant_model.specs.declared.rows.AlarmRow.{AlarmRow}
 use Rattle.plant_model.specs.declared.rows.ShelfRow.{ShelfRow}
 use Rattle.plant_types.specs.Names.{Name, same_name}
 use Rattle.plant_tables.specs.Kept.{is_of}
-use Rattle.plant_tables.proofs.Keys.{equal_is}
-use Rattle.plant_tables.proofs.Shapes.{finds_rows, shown_kept}
+use Rattle.plant_tables.proofs.public.Keys.{equal_is}
+use Rattle.plant_tables.proofs.public.Shapes.{finds_rows, shown_kept}
 use Rattle.plant_columns.specs.Codes.{number}
 use Rattle.plant_columns.specs.Shown.{columns}
 use Rattle.plant_columns.specs.Tables.{AreBooks, KeyOf, RowOf, books_schema, shape, rows_seen, unit_shape, grant_shape, alarm_shape, shelf_shape, band_shape, cell_shape, event_shape, record_shape, change_shape}
@@ -26,7 +26,7 @@ use Rattle.plant_store.specs.Statements.{Reads}
 use Rattle.plant_store.specs.Texts.{units_of_text, grants_of_text, alarms_of_text, shelves_of_text, bands_of_text, cells_of_text, events_of_text, own_grants_text, alarm_at_text, shelf_at_text, tags_of_text, shelf_tags_text, records_of_text, changes_of_text, record_at_text, bands_at_text, cells_at_text, change_at_text}
 use Rattle.plant_store.proofs.Meanings.{by_unit, order_1, order_2, order_3, order_4, unit_shows, grant_shows, alarm_shows, shelf_shows, band_shows, cell_shows, event_shows, unit_names, grant_names, alarm_names, shelf_names, band_names, cell_names, event_names, units_of_is, grants_of_is, alarms_of_is, shelves_of_is, bands_of_is, cells_of_is, events_of_is, own_grants_is, alarm_at_is, shelf_at_is, tags_of_is, shelf_tags_is, units_of_plain, grants_of_plain, alarms_of_plain, shelves_of_plain, bands_of_plain, cells_of_plain, events_of_plain, own_grants_plain, alarm_at_plain, shelf_at_plain, tags_of_plain, shelf_tags_plain, record_shows, record_names, change_shows, change_names, records_of_is, records_of_plain, changes_of_is, changes_of_plain, record_at_is, record_at_plain, bands_at_is, bands_at_plain, cells_at_is, cells_at_plain, change_at_is, change_at_plain}
 use Rattle.plant_store.proofs.Reading.{reads_all, reads_some}
-use Rattle.plant_columns.proofs.ShapeLaws.{good, numbers}
+use Rattle.plant_columns.proofs.public.ShapeLaws.{good, numbers}
 
 pub if_ok : {A E : Type 0} {P Q : A → Type 0} (r : Result A E) → ((x : A) → P x → Q x) → IfOk r P → IfOk r Q
 if_ok (Ok x) f h = f x h

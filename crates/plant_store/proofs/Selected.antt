@@ -16,7 +16,7 @@ use Rattle.plant_model.specs.declared.rows.ShelfRow.{ShelfRow}
 use Rattle.plant_model.specs.declared.rows.UnitPart.{UnitPart}
 use Rattle.plant_model.specs.declared.rows.UnitRow.{UnitRow}
 use Rattle.plant_model.specs.declared.rows.UnitRows.{UnitRows}
-use Rattle.plant_model.proofs.PartLaws.{own_holds}
+use Rattle.plant_model.proofs.public.PartLaws.{own_holds}
 use Rattle.plant_model.specs.Histories.{same_number}
 use Rattle.plant_model.specs.Parts.{Selection, counted_for, part_of, part_of_holder, part_of_stranger, rows_selected, selected}
 use Rattle.plant_model.specs.RowChanges.{no_rows}
@@ -25,7 +25,7 @@ use Rattle.plant_types.specs.KeyedRows.{IsInOrder, row_at}
 use Rattle.std.specs.Ordering.{nat_cmp}
 use Rattle.plant_types.specs.Names.{Name, same_name}
 use Rattle.plant_types.specs.Roles.{Pair}
-use Rattle.plant_books.proofs.EventLaws.{none_asked}
+use Rattle.plant_books.proofs.public.EventLaws.{none_asked}
 use Rattle.plant_books.specs.Asking.{is_wanted, looks_at_events}
 use Rattle.plant_books.specs.declared.asking.Wanted.{Wanted}
 use Rattle.plant_books.specs.declared.asking.Wanted.TheVariants.{Every, Nothing, One}
@@ -38,7 +38,7 @@ use Rattle.plant_model.specs.declared.call.Request.{Request}
 use Rattle.plant_model.specs.declared.call.Request.TheVariants.{Floods, Import}
 use Rattle.std.specs.List.{slice_get}
 use Rattle.std.proofs.Common.{[], arith, length, refl, ◌∷◌}
-use Rattle.plant_store.proofs.Contents.{kept_rows, never_opened}
+use Rattle.plant_store.proofs.public.Contents.{kept_rows, never_opened}
 use Rattle.plant_store.proofs.Queries.{passing_all, passing_none}
 
 alarms_are : (s : Selection) (w : Wanted) → ((a : Name) → s.alarm a ≡ is_wanted w a) → (rows : List AlarmRow) → alarms_with w rows ≡ filter (λ r. s.alarm r.tag) rows

@@ -36,7 +36,7 @@ use Rattle.plant_model.specs.declared.rows.UnitRows.{UnitRows}
 use Rattle.plant_model.specs.Matrices.{band_cmp, cell_cmp}
 use Rattle.plant_model.specs.RowChanges.{changed_by, no_rows}
 use Rattle.plant_model.specs.RowFacts.{alarm_tag, band_key, cell_key, change_number, event_number, pair_of, record_tag, shelf_tag}
-use Rattle.plant_columns.proofs.ShapeLaws.{band_total, cell_total}
+use Rattle.plant_columns.proofs.public.ShapeLaws.{band_total, cell_total}
 use Rattle.plant_store.specs.declared.migration.TableKind.TheVariants.{Alarms, Bands, Cells, Changes, Events, Grants, Records, Shelves, Units}
 use Rattle.plant_store.specs.declared.old_rows.CodeLine.{CodeLine}
 use Rattle.plant_store.specs.Changes.{Applies, IsOfficeOf}
@@ -44,16 +44,16 @@ use Rattle.plant_store.specs.Keeping.{HaveRows, has_any}
 use Rattle.plant_store.specs.Making.{AreNew}
 use Rattle.plant_store.specs.OldTables.{AreOldBooks, old_pair_of, old_own_key, old_rows, old_unit_shape}
 use Rattle.plant_store.specs.Upgrading.{AreTakenOver, HaveOldRows, all_kinds, is_among, old_codes, puts_all, puts_of, upgraded_grant, upgraded_rows, upgraded_unit}
-use Rattle.plant_store.proofs.Contents.{nothing_at, same_codes}
+use Rattle.plant_store.proofs.public.Contents.{nothing_at, same_codes}
 use Rattle.plant_store.proofs.OldQueries.{old_good, old_unit_good}
 use Rattle.plant_store.proofs.Writes.{changed_by-append}
 use Rattle.plant_tables.specs.Kept.{by_columns, is_of}
 use Rattle.plant_tables.specs.Shape.{IsRowIn, rows_in as rows_of}
-use Rattle.plant_tables.proofs.Joins.{strict-sort}
-use Rattle.plant_tables.proofs.Kept.{all-sort, sort-filter}
-use Rattle.plant_tables.proofs.Keys.{by_columns_total}
-use Rattle.plant_tables.proofs.Shapes.{named, rises}
-use Rattle.plant_types.proofs.Orders.{name_total, pair_total}
+use Rattle.plant_tables.proofs.public.Joins.{strict-sort}
+use Rattle.plant_tables.proofs.public.Kept.{all-sort, sort-filter}
+use Rattle.plant_tables.proofs.public.Keys.{by_columns_total}
+use Rattle.plant_tables.proofs.public.Shapes.{named, rises}
+use Rattle.plant_types.proofs.public.Orders.{name_total, pair_total}
 use Rattle.plant_types.specs.Names.{Name, name_cmp, same_name}
 use Rattle.plant_types.specs.Roles.{pair_cmp}
 use Rattle.plant_types.specs.KeyedRows.{IsInOrder, put_row}

@@ -29,17 +29,17 @@ use Rattle.plant_types.specs.declared.role.Role.{Role}
 use Rattle.plant_types.specs.Names.{Name}
 use Rattle.plant_types.specs.KeyedRows.{IsInOrder, put_row}
 use Rattle.plant_tables.specs.Shape.{rows_in, row_in, table_in}
-use Rattle.plant_tables.proofs.Changes.{HasNoReferences}
-use Rattle.plant_tables.proofs.Family.{Edits, kept_at, put_edits, remove_edits, same_table}
-use Rattle.plant_tables.proofs.Inserted.{adds_row}
-use Rattle.plant_tables.proofs.Shapes.{removes_row, rises}
+use Rattle.plant_tables.proofs.public.Changes.{HasNoReferences}
+use Rattle.plant_tables.proofs.public.Family.{Edits, kept_at, put_edits, remove_edits, same_table}
+use Rattle.plant_tables.proofs.public.Inserted.{adds_row}
+use Rattle.plant_tables.proofs.public.Shapes.{removes_row, rises}
 use Rattle.plant_columns.specs.Codes.{role}
 use Rattle.plant_store.specs.Changes.{Applies}
 use Rattle.plant_columns.specs.Tables.{AreBooks, AreSeen, Kept, KeyOf, RowOf, books_schema, office_table, own_key, rows_at, rows_seen, shape, unit_shape}
 use Rattle.plant_columns.specs.Tables.Kept.{UnitKept, GrantKept, AlarmKept, ShelfKept, BandKept, CellKept, EventKept, RecordKept, ChangeKept}
 use Rattle.plant_store.specs.Texts.{put_unit_text, put_grant_text, put_alarm_text, put_shelf_text, put_band_text, put_cell_text, put_change_text, put_event_text, put_record_text, remove_grant_text, remove_shelf_text}
 use Rattle.plant_store.proofs.Meanings.{by_two, by_three, put_unit_terms, put_grant_terms, put_alarm_terms, put_shelf_terms, put_band_terms, put_cell_terms, put_change_terms, put_event_terms, put_record_terms, put_unit_is, put_grant_is, put_alarm_is, put_shelf_is, put_band_is, put_cell_is, put_change_is, put_event_is, put_record_is, put_unit_plain, put_grant_plain, put_alarm_plain, put_shelf_plain, put_band_plain, put_cell_plain, put_change_plain, put_event_plain, put_record_plain, remove_grant_is, remove_grant_plain, remove_shelf_is, remove_shelf_plain}
-use Rattle.plant_columns.proofs.ShapeLaws.{all_listed, good, listed}
+use Rattle.plant_columns.proofs.public.ShapeLaws.{all_listed, good, listed}
 
 pub free : HasNoReferences books_schema
 free = (refl, (refl, (refl, (refl, (refl, (refl, (refl, (refl, (refl, (refl, tt))))))))))

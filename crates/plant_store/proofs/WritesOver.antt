@@ -32,14 +32,14 @@ use Rattle.plant_types.specs.KeyedRows.{put_row}
 use Rattle.plant_tables.specs.Kept.{by_columns, plain_query}
 use Rattle.plant_tables.specs.Shape.{row_in}
 use Rattle.sqlite.specs.Effect.{Database}
-use Rattle.plant_tables.proofs.Family.{Edits, no_edits, set_edits}
-use Rattle.plant_tables.proofs.Keys.{agree_is}
-use Rattle.plant_tables.proofs.Laws.{passes, shows}
-use Rattle.plant_tables.proofs.Updated.{equal_when, leaves, sets_some}
+use Rattle.plant_tables.proofs.public.Family.{Edits, no_edits, set_edits}
+use Rattle.plant_tables.proofs.public.Keys.{agree_is}
+use Rattle.plant_tables.proofs.public.Laws.{passes, shows}
+use Rattle.plant_tables.proofs.public.Updated.{equal_when, leaves, sets_some}
 use Rattle.plant_columns.specs.Codes.{number, open_number, role}
 use Rattle.plant_columns.specs.Tables.{AreBooks, Kept, KeyOf, RowOf, alarm_shape, books_schema, change_shape, grant_shape, record_shape, shape, shelf_shape, unit_shape}
 use Rattle.plant_columns.specs.Tables.Kept.{AlarmKept, ChangeKept, GrantKept, RecordKept, ShelfKept, UnitKept}
-use Rattle.plant_columns.proofs.ShapeLaws.{all_listed, good, listed, numbers}
+use Rattle.plant_columns.proofs.public.ShapeLaws.{all_listed, good, listed, numbers}
 use Rattle.plant_store.specs.Changes.{Applies}
 use Rattle.plant_store.specs.Statements.{changes_written}
 use Rattle.plant_store.specs.Texts.{over_alarm_text, over_change_text, over_grant_text, over_record_text, over_shelf_text, over_unit_text}

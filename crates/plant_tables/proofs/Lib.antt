@@ -1,14 +1,3 @@
-pub mod Changes
-pub mod Kept
-pub mod Rows
-pub mod Keys
-pub mod Laws
-pub mod Bridge
-pub mod Joins
-pub mod Shared
-pub mod JoinsMany
-pub mod Asking
-pub mod Shapes
-pub mod Inserted
-pub mod Updated
-pub mod Family
+pub mod public
+mod Rows
+mod Shared

@@ -1,7 +1,3 @@
-pub mod KeyedRowLaws
-pub mod Orders
-pub mod DateTests
-pub mod Days
-pub mod Round
-pub mod Unique
-pub mod Examples
+pub mod public
+mod Unique
+mod Examples

@@ -9,8 +9,8 @@ use Rattle.std.specs.List.{list_all, zip}
 use Rattle.plant_types.specs.Text.{is_digit}
 use Rattle.plant_types.specs.Moment.{decimal_value, form, fits_at, has_form, Civil, civil_of, is_civil, is_date, days_since_2000, seconds_since_2000, moment_of}
 use Rattle.plant_types.specs.Spelling.{digit, spelled}
-use Rattle.plant_types.proofs.DateTests.{left, right, date_is, IsTime, time_is}
-use Rattle.plant_types.proofs.Days.{day_count-2000, since-2000}
+use Rattle.plant_types.proofs.public.DateTests.{left, right, date_is, IsTime, time_is}
+use Rattle.plant_types.proofs.public.Days.{day_count-2000, since-2000}
 
 -- what a digit is
 low_digit : (b : ℕ) → is_digit b ≡ true → 48 ≤ b

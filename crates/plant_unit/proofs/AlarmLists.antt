@@ -15,11 +15,11 @@ use Rattle.plant_floods.specs.Activations.{of_alarm}
 use Rattle.plant_model.specs.RowChanges.{with_state}
 use Rattle.plant_model.specs.RowFacts.{alarm_tag}
 use Rattle.plant_model.specs.declared.rows.AlarmRow.{AlarmRow}
-use Rattle.plant_types.proofs.Orders.{name_total, same_names}
-use Rattle.plant_types.proofs.KeyedRowLaws.{tied}
+use Rattle.plant_types.proofs.public.Orders.{name_total, same_names}
+use Rattle.plant_types.proofs.public.KeyedRowLaws.{tied}
 use Rattle.plant_types.specs.Names.{Name, name_cmp, same_name}
 use Rattle.plant_types.specs.KeyedRows.{IsInOrder}
-use Rattle.plant_books.proofs.RowsFound.{After as TagsAfter, Ordered as TagsOrdered, Parts as TagsParts, after_more, greater, later, lesser, ordered, turned, back}
+use Rattle.plant_books.proofs.public.RowsFound.{After as TagsAfter, Ordered as TagsOrdered, Parts as TagsParts, after_more, greater, later, lesser, ordered, turned, back}
 use Rattle.plant_unit.specs.Summaries.{summaries, summary_of, with_summary}
 
 abbrev After : Name → List AlarmRow → Type 0

@@ -7,14 +7,14 @@ use Rattle.std.specs.Ordering.{nat_cmp}
 use Rattle.std.specs.Prelude.{Err, List, Ok, Result, [], filter_map, length, not, true, ℕ, ◌++◌, ◌+◌, ◌∷◌, ◌≡◌, ◌≤◌}
 use Rattle.std.specs.declared.cmp.Ordering.TheVariants.{Equal, Greater, Less}
 use Rattle.plant_alarm.specs.declared.event.Event.{Event}
-use Rattle.plant_import.proofs.Counted.{fresh_count}
+use Rattle.plant_import.proofs.public.Counted.{fresh_count}
 use Rattle.plant_import.specs.Merging.{fresh}
 use Rattle.plant_import.specs.Numbers.{event_number, has_number, new_numbers, numbers_of, with_events}
 use Rattle.plant_import.specs.declared.bad_file.BadFile.{BadFile}
-use Rattle.plant_model.proofs.EventLaws.{import_accepted, legal_kept}
-use Rattle.plant_model.proofs.HistoryLaws.{numbers_of_events}
-use Rattle.plant_model.proofs.ImportLaws.{events_put}
-use Rattle.plant_model.proofs.ServiceLaws.{both_true}
+use Rattle.plant_model.proofs.public.EventLaws.{import_accepted, legal_kept}
+use Rattle.plant_model.proofs.public.HistoryLaws.{numbers_of_events}
+use Rattle.plant_model.proofs.public.ImportLaws.{events_put}
+use Rattle.plant_model.proofs.public.ServiceLaws.{both_true}
 use Rattle.plant_model.specs.Events.{event_numbered, events, imported}
 use Rattle.plant_model.specs.Facts.{facts}
 use Rattle.plant_model.specs.Legality.{IsLegal}

@@ -4,7 +4,7 @@ use Rattle.std.proofs.lemmas.Bool.{lt-ltb, ltb-true}
 use Rattle.std.proofs.lemmas.List.{map-append, take_more}
 use Rattle.std.specs.Prelude.{All, IfOk, IsTrue, List, Ok, Result, Err, [], length, map, ℕ, ◌*◌, ◌++◌, ◌+◌, ◌<◌, ◌∷◌, ◌≡◌, ◌≤◌}
 use Rattle.plant_alarm.specs.declared.event.Event.{Event}
-use Rattle.plant_floods.proofs.Inside.{ends_within, run_at}
+use Rattle.plant_floods.proofs.public.Inside.{ends_within, run_at}
 use Rattle.plant_floods.specs.Activations.{period_counts}
 use Rattle.plant_floods.specs.Floods.{floods}
 use Rattle.plant_floods.specs.declared.run.Run.{Run}

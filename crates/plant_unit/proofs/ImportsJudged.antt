@@ -4,9 +4,9 @@ use Rattle.std.proofs.Common.{ap, append_assoc, arith, refl, subst, sym, ◌∙�
 use Rattle.std.proofs.lemmas.Bool.{ltb-false}
 use Rattle.std.specs.Prelude.{Bool, Err, IfOk, List, None, Ok, Option, Result, Some, [], false, filter, if◌then◌else◌, length, map, nat_lt, not, true, ℕ, ◌++◌, ◌+◌, ◌∷◌, ◌≡◌, ◌≤◌}
 use Rattle.plant_alarm.specs.declared.event.Event.{Event}
-use Rattle.plant_import.proofs.Counted.{fresh_count}
+use Rattle.plant_import.proofs.public.Counted.{fresh_count}
 use Rattle.plant_import.specs.Merging.{IsRising, first_fault, fresh, merge, merged_or}
-use Rattle.plant_import.proofs.NeededLaws.{needed_merge, needed_numbers, needed_rises}
+use Rattle.plant_import.proofs.public.NeededLaws.{needed_merge, needed_numbers, needed_rises}
 use Rattle.plant_import.specs.Needed.{needed}
 use Rattle.plant_import.specs.Numbers.{new_numbers, with_events}
 use Rattle.plant_import.specs.declared.bad_file.BadFile.{BadFile}

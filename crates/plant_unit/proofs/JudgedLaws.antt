@@ -12,16 +12,16 @@ use Rattle.plant_model.specs.declared.rows.UnitPart.{UnitPart}
 use Rattle.plant_model.specs.declared.rows.Verdict.TheVariants.{Accepted as IsAccepted, Refused as IsRefused}
 use Rattle.plant_model.specs.declared.rows.Verdict.{Verdict}
 use Rattle.plant_types.specs.declared.fault.Fault.{Fault}
-use Rattle.plant_model.proofs.AcceptLaws.{accepted_turns}
-use Rattle.plant_model.proofs.ChangeLaws.{opening_turns}
-use Rattle.plant_model.proofs.FactLaws.{not_true}
-use Rattle.plant_model.proofs.ReadLaws.{facts-rows}
+use Rattle.plant_model.proofs.public.AcceptLaws.{accepted_turns}
+use Rattle.plant_model.proofs.public.ChangeLaws.{opening_turns}
+use Rattle.plant_model.proofs.public.FactLaws.{not_true}
+use Rattle.plant_model.proofs.public.ReadLaws.{facts-rows}
 use Rattle.plant_unit.proofs.KeptLaws.{part_events, part_kept_of}
 use Rattle.plant_alarm.specs.declared.event.Event.{Event}
 use Rattle.plant_model.specs.Events.{events}
 use Rattle.plant_model.specs.Refusals.{holds_some}
-use Rattle.plant_model.proofs.PartLaws.{part_changes, part_verdict, stranger_verdict}
-use Rattle.plant_model.proofs.WorldLaws.{not_granted, refused_changes}
+use Rattle.plant_model.proofs.public.PartLaws.{part_changes, part_verdict, stranger_verdict}
+use Rattle.plant_model.proofs.public.WorldLaws.{not_granted, refused_changes}
 use Rattle.plant_unit.specs.Additions.{AreEventsFor, AreKept}
 use Rattle.plant_model.specs.Facts.{Facts, facts}
 use Rattle.plant_model.specs.Legality.{IsLegal}

@@ -1,16 +1,16 @@
 -- What the parts of a legal history keep.
 use Rattle.plant_alarm.specs.declared.event.Event.{Event}
-use Rattle.plant_model.proofs.CountLaws.{few_limits, few_matrices, few_proposals, few_records}
-use Rattle.plant_model.proofs.FactLaws.{alarm_in, change_entry_in, not_true, revision_in, same_number_of, sheet_source}
-use Rattle.plant_model.proofs.HistoryLaws.{alarm_of, alarms_told, change_with, changes_told, number_of_change, numbers_of_changes, record_with, records_told, shelves_told, tag_of_record, tags_of_alarms, tags_of_records, tags_of_shelves}
-use Rattle.plant_model.proofs.PartLaws.{matrix_there, own_holds}
+use Rattle.plant_model.proofs.public.CountLaws.{few_limits, few_matrices, few_proposals, few_records}
+use Rattle.plant_model.proofs.public.FactLaws.{alarm_in, change_entry_in, not_true, revision_in, same_number_of, sheet_source}
+use Rattle.plant_model.proofs.public.HistoryLaws.{alarm_of, alarms_told, change_with, changes_told, number_of_change, numbers_of_changes, record_with, records_told, shelves_told, tag_of_record, tags_of_alarms, tags_of_records, tags_of_shelves}
+use Rattle.plant_model.proofs.public.PartLaws.{matrix_there, own_holds}
 use Rattle.plant_alarm.specs.States.{summary}
 use Rattle.plant_types.specs.Limits.{max_changes, max_events}
 use Rattle.plant_unit.specs.Summaries.{summary_in, summary_of}
-use Rattle.plant_model.proofs.PartLists.{or_later, or_true}
-use Rattle.plant_model.proofs.QuotaLaws.{few_alarms}
-use Rattle.plant_model.proofs.ReadLaws.{change_count, in_force_numbered, left_in_order, proposed_matrix, read_back, row_at-left, shaped}
-use Rattle.plant_model.proofs.ServiceLaws.{both_true}
+use Rattle.plant_model.proofs.public.PartLists.{or_later, or_true}
+use Rattle.plant_model.proofs.public.QuotaLaws.{few_alarms}
+use Rattle.plant_model.proofs.public.ReadLaws.{change_count, in_force_numbered, left_in_order, proposed_matrix, read_back, row_at-left, shaped}
+use Rattle.plant_model.proofs.public.ServiceLaws.{both_true}
 use Rattle.plant_model.specs.Alarms.{latching}
 use Rattle.plant_model.specs.Changes.{Draft, change, draft, kind_of_change, matrix, matrix_revision, record_of, sheet}
 use Rattle.plant_model.specs.Events.{events}
@@ -36,8 +36,8 @@ use Rattle.plant_ration.specs.Matrix.{is_matrix}
 use Rattle.plant_ration.specs.declared.change.ChangeKind.{ChangeKind}
 use Rattle.plant_ration.specs.declared.change.ChangeKind.TheVariants.{Limit, Matrix, Rationale}
 use Rattle.plant_ration.specs.declared.change.Sheet.{Sheet}
-use Rattle.plant_types.proofs.Orders.{name_total, number_total, same_names, same_numbers}
-use Rattle.plant_types.proofs.KeyedRowLaws.{IsInOrder-rows}
+use Rattle.plant_types.proofs.public.Orders.{name_total, number_total, same_names, same_numbers}
+use Rattle.plant_types.proofs.public.KeyedRowLaws.{IsInOrder-rows}
 use Rattle.plant_types.specs.Names.{Name, name_cmp, same_name}
 use Rattle.plant_model.specs.Shelves.{shelf}
 use Rattle.plant_types.specs.KeyedRows.{IsInOrder, in_order, row_at}
@@ -51,9 +51,9 @@ use Rattle.std.specs.Ordering.{is_lt, nat_cmp}
 use Rattle.std.specs.declared.cmp.Ordering.{Ordering}
 use Rattle.std.specs.Prelude.{Bool, List, None, Option, Some, T, [], false, filter, filter_map, if◌then◌else◌, is_some, length, map, max, option_map, true, unwrap_or, ℕ, ◌&&◌, ◌<◌, ◌==◌, ◌||◌, ◌∷◌, ◌≡◌, ◌≤◌}
 use Rattle.plant_import.specs.Merging.{IsRising}
-use Rattle.plant_import.proofs.NeededLaws.{needed_few, needed_rises}
+use Rattle.plant_import.proofs.public.NeededLaws.{needed_few, needed_rises}
 use Rattle.plant_model.specs.Events.{rows_of_file}
-use Rattle.plant_model.proofs.EventLaws.{events_rise}
+use Rattle.plant_model.proofs.public.EventLaws.{events_rise}
 
 -- Tests of rows that pass a wider one
 filter-none : {X : Type 0} (narrow wide : X → Bool) → ((x : X) → narrow x ≡ true → wide x ≡ false) → (xs : List X) → filter narrow (filter wide xs) ≡ []

@@ -1,13 +1,13 @@
-pub mod MatrixLaws
-pub mod AlarmLists
-pub mod NamedLaws
-pub mod EventBounds
-pub mod KeptLaws
-pub mod ImportsJudged
-pub mod FloodLines
-pub mod JudgedLaws
-pub mod Loops
-pub mod ReadingLaws
-pub mod ProposalLaws
-pub mod DecisionLaws
-pub mod VerdictLaws
+mod MatrixLaws
+mod AlarmLists
+mod NamedLaws
+mod EventBounds
+mod KeptLaws
+mod ImportsJudged
+mod FloodLines
+mod JudgedLaws
+pub mod public
+mod ReadingLaws
+mod ProposalLaws
+mod DecisionLaws
+mod VerdictLaws

@@ -12,9 +12,9 @@ use Rattle.plant_alarm.specs.States.{summary}
 use Rattle.plant_alarm.specs.declared.event.Event.{Event}
 use Rattle.plant_alarm.specs.declared.summary.Summary.{Summary}
 use Rattle.plant_floods.specs.Activations.{of_alarm}
-use Rattle.plant_import.proofs.LaterLaws.{fresh_after}
-use Rattle.plant_import.proofs.NeededLaws.{needed_late, needed_rises}
-use Rattle.plant_import.proofs.Risings.{in_number_order}
+use Rattle.plant_import.proofs.public.LaterLaws.{fresh_after}
+use Rattle.plant_import.proofs.public.NeededLaws.{needed_late, needed_rises}
+use Rattle.plant_import.proofs.public.Risings.{in_number_order}
 use Rattle.plant_import.specs.Needed.{from_last_before, has_late, needed}
 use Rattle.plant_import.specs.Numbers.{event_number, with_events}
 use Rattle.plant_types.specs.KeyedRows.{IsInOrder}

@@ -2,7 +2,7 @@
 use Rattle.std.proofs.Common.{ap, cond, refl, sym, ◌∙◌}
 use Rattle.std.specs.Prelude.{Bool, Err, IfOk, List, None, Ok, Option, Result, Some, [], false, is_some, not, true, ℕ, ◌∷◌, ◌≡◌}
 use Rattle.std.specs.Result.{result_err}
-use Rattle.plant_model.proofs.FactLaws.{is_same_number, same_number_of}
+use Rattle.plant_model.proofs.public.FactLaws.{is_same_number, same_number_of}
 use Rattle.plant_model.specs.Changes.{priority_by}
 use Rattle.plant_model.specs.Facts.{Facts}
 use Rattle.plant_model.specs.Histories.{same_number}

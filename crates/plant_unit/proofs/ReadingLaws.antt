@@ -12,7 +12,7 @@ use Rattle.plant_model.specs.Refusals.{has_row}
 use Rattle.plant_unit.specs.Readings.{has_its_sheet, has_sheet, is_left_out, is_matrix_at, is_outside, sheet_found}
 use Rattle.std.specs.List.{cons_option, find, list_all, list_any, slice_get}
 use Rattle.std.specs.Prelude.{IfOk, filter_map, option_and_then, option_map, option_to_list, suc, unwrap_or, zero, ◌-◌, ◌||◌}
-use Rattle.plant_unit.proofs.Loops.{append-[], filter_map_more}
+use Rattle.plant_unit.proofs.public.Loops.{append-[], filter_map_more}
 use Rattle.std.proofs.Common.{ap, arith, cond, eqb→eq, get_or, refl, subst, sym, take, ◌<◌, ◌∙◌}
 use Rattle.std.proofs.lemmas.List.{map-append}
 use Rattle.std.proofs.lemmas.List.FromFn.{filter_of_map_range_with_len_more}

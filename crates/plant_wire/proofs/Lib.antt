@@ -1,4 +1,3 @@
-pub mod Growing
-pub mod Running
-pub mod Serving
-pub mod Sessions
+pub mod public
+mod Serving
+mod Sessions

@@ -15,8 +15,8 @@ use Rattle.plant_wire.specs.Marks.{Mark, said, honest, item_of, mark_text, out_o
 use Rattle.plant_wire.specs.declared.step.Stop.{Stop}
 use Rattle.plant_wire.specs.declared.step.Stop.TheVariants.{WriteFailed, Fault}
 use Rattle.plant_wire.specs.Step.{IsPut, IsAnswer, IsStopped, StopsFor, Serves, ServesBroken}
-use Rattle.plant_wire.proofs.Growing.{Appends-none, Appends-append, drop-add}
-use Rattle.plant_wire.proofs.Running.{Joins}
+use Rattle.plant_wire.proofs.public.Growing.{Appends-none, Appends-append, drop-add}
+use Rattle.plant_wire.proofs.public.Running.{Joins}
 
 -- a session may stop within an answer that is none by a fault, whatever the cause
 pub stops_for : (last : Last) (stop : Stop) → IsFaultless last → StopsFor last stop

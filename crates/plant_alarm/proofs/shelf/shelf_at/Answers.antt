@@ -2,7 +2,7 @@
 use Rattle.std.proofs.Common.{rules, ◌≡◌, ◌-◌, ◌∙◌}
 use Rattle.plant_alarm.specs.declared.shelf.ShelfState.TheVariants.{Unshelved, OneShotShelved}
 use Rattle.plant_alarm.specs.Shelves.{shelf_state}
-use Rattle.plant_alarm.proofs.Returns.{shelf_by_events}
+use Rattle.plant_alarm.proofs.public.Returns.{shelf_by_events}
 use Rattle.plant_alarm.proofs.shelf.shelf_at.Goals as goal
 
 pub returns-then-not-is_after-clause-events : goal.returns-then-not-is_after-clause-events

@@ -1,10 +1,10 @@
 use Rattle.std.proofs.Common.{ap}
 use Rattle.std.specs.Cmp.{nat_cmp_total, on_total}
 use Rattle.std.specs.Ordering.{nat_cmp}
-use Rattle.plant_books.proofs.OrderLaws.{put_by_keys, rows_rise}
+use Rattle.plant_books.proofs.public.OrderLaws.{put_by_keys, rows_rise}
 use Rattle.plant_model.specs.RowFacts.{alarm_tag, change_number, record_tag, shelf_tag}
 use Rattle.plant_books.specs.Changing.{whole}
-use Rattle.plant_types.proofs.Orders.{name_total}
+use Rattle.plant_types.proofs.public.Orders.{name_total}
 use Rattle.plant_types.specs.Names.{name_cmp}
 use Rattle.plant_books.proofs.changes.put_row.Goals as goal
 

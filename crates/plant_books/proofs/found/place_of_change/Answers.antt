@@ -2,7 +2,7 @@ use Rattle.std.proofs.Common.{rules}
 use Rattle.std.specs.Prelude.{nat_lt}
 use Rattle.std.proofs.lemmas.Bool.{ltb-false, ltb-true}
 use Rattle.std.proofs.lemmas.List.Sorted.{IsPartitionPoint-from_clause}
-use Rattle.plant_import.proofs.Placed.{parted}
+use Rattle.plant_import.proofs.public.Placed.{parted}
 use Rattle.plant_model.specs.RowFacts.{change_number}
 use Rattle.plant_model.specs.declared.rows.ChangeEntry.{ChangeEntry}
 use Rattle.plant_books.proofs.found.place_of_change.Goals as goal

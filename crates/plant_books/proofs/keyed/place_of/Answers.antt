@@ -1,5 +1,5 @@
 use Rattle.std.proofs.Common.{◌∙◌, sym}
-use Rattle.plant_books.proofs.KeyedLaws.{put_over}
+use Rattle.plant_books.proofs.public.KeyedLaws.{put_over}
 use Rattle.plant_books.proofs.keyed.place_of.Goals as goal
 
 pub returns-in-Equal : goal.returns-in-Equal

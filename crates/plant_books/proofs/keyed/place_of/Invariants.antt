@@ -1,4 +1,4 @@
-use Rattle.plant_books.proofs.KeyedLaws.{ComesAfter}
+use Rattle.plant_books.proofs.public.KeyedLaws.{ComesAfter}
 use Rattle.plant_books.proofs.keyed.place_of.Given as goal
 
 abbrev pub invariant-loop-place : goal.invariant-loop-place

@@ -4,8 +4,8 @@ use Rattle.std.proofs.lemmas.Bool.{ltb-false, ltb-true}
 use Rattle.std.proofs.lemmas.List.Sorted.{IsPartitionPoint-from_clause}
 use Rattle.std.specs.Option.{is_some}
 use Rattle.std.specs.Ordering.{is_eq, is_lt}
-use Rattle.plant_books.proofs.KeyedLaws.{Parts, comes_after, other_after, put_before, put_behind, put_over, sorted_parted}
-use Rattle.plant_types.proofs.KeyedRowLaws.{tied}
+use Rattle.plant_books.proofs.public.KeyedLaws.{Parts, comes_after, other_after, put_before, put_behind, put_over, sorted_parted}
+use Rattle.plant_types.proofs.public.KeyedRowLaws.{tied}
 use Rattle.plant_books.proofs.keyed.sorted_place.Goals as goal
 
 pub returns-in-Some : goal.returns-in-Some

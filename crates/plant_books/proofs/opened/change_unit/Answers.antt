@@ -3,7 +3,7 @@ use Rattle.std.specs.Prelude.{OnOk, unwrap_or}
 use Rattle.plant_books.specs.Listed.{rows_at, unit_cmp}
 use Rattle.plant_books.specs.Order.{AreInOrder}
 use Rattle.plant_books.specs.declared.opened.OpenedUnit.{OpenedUnit}
-use Rattle.plant_books.proofs.OrderLaws.{or_none_in_order, rows_in_order}
+use Rattle.plant_books.proofs.public.OrderLaws.{or_none_in_order, rows_in_order}
 use Rattle.plant_model.specs.RowChanges.{changed_by, no_rows}
 use Rattle.plant_types.specs.KeyedRows.{put_row}
 use Rattle.plant_books.proofs.opened.change_unit.Goals as goal

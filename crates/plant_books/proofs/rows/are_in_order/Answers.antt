@@ -1,9 +1,9 @@
 use Rattle.std.proofs.Common.{rules, ◌≡◌, true}
 use Rattle.std.specs.Cmp.{nat_cmp_total, on_total}
 use Rattle.std.specs.Ordering.{nat_cmp}
-use Rattle.plant_books.proofs.OrderLaws.{keys_rise}
+use Rattle.plant_books.proofs.public.OrderLaws.{keys_rise}
 use Rattle.plant_model.specs.RowFacts.{alarm_tag, change_number, event_number, record_tag, shelf_tag}
-use Rattle.plant_types.proofs.Orders.{name_total}
+use Rattle.plant_types.proofs.public.Orders.{name_total}
 use Rattle.plant_types.specs.Names.{name_cmp}
 use Rattle.plant_books.proofs.rows.are_in_order.Goals as goal
 use Rattle.plant_books.proofs.rows.are_in_order.Goals.{then-alarms, else-alarms, then-shelves, else-shelves, then-events, else-events}

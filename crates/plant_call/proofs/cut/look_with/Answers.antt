@@ -1,4 +1,4 @@
-use Rattle.plant_call.proofs.Waiting.{waits_none, waits_read}
+use Rattle.plant_call.proofs.public.Waiting.{waits_none, waits_read}
 use Rattle.plant_call.proofs.cut.look_with.Goals as goal
 
 pub returns-in-Whole-clause-wanted : goal.returns-in-Whole-clause-wanted

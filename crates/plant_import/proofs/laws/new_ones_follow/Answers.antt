@@ -1,4 +1,4 @@
-use Rattle.plant_import.proofs.LaterLaws.{fresh_after}
+use Rattle.plant_import.proofs.public.LaterLaws.{fresh_after}
 use Rattle.plant_import.proofs.laws.new_ones_follow.Goals as goal
 
 pub returns : goal.returns

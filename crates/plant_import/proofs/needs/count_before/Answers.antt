@@ -1,7 +1,7 @@
 use Rattle.std.proofs.Common.{rules}
 use Rattle.std.proofs.lemmas.List.Sorted.{IsPartitionPoint-from_clause}
 use Rattle.plant_import.specs.Needed.{is_before_all}
-use Rattle.plant_import.proofs.NeededLaws.{parted_before, parted_count}
+use Rattle.plant_import.proofs.public.NeededLaws.{parted_before, parted_count}
 use Rattle.plant_import.proofs.needs.count_before.Goals as goal
 
 pub returns-clause-value : goal.returns-clause-value

@@ -1,5 +1,5 @@
 use Rattle.std.proofs.Common.{arith}
-use Rattle.plant_import.proofs.NeededLaws.{reached_next}
+use Rattle.plant_import.proofs.public.NeededLaws.{reached_next}
 use Rattle.plant_import.proofs.needs.last_numbers.Goals as goal
 
 pub loop-event-preserved : goal.loop-event-preserved

@@ -1,8 +1,8 @@
 use Rattle.std.proofs.Common.{ap, arith, rules, sym, ◌∙◌}
 use Rattle.std.specs.List.{list_any}
 use Rattle.plant_import.specs.Numbers.{has_number}
-use Rattle.plant_import.proofs.Counted.{count_known, count_put}
-use Rattle.plant_import.proofs.Risings.{in_number_order}
+use Rattle.plant_import.proofs.public.Counted.{count_known, count_put}
+use Rattle.plant_import.proofs.public.Risings.{in_number_order}
 use Rattle.plant_import.proofs.numbers.count_new.Goals as goal
 
 pub loop-i-preserved-in_ok-insert : goal.loop-i-preserved-in_ok-insert

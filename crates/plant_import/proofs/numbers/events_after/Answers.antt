@@ -1,5 +1,5 @@
-use Rattle.plant_import.proofs.Counted.{joined_twice}
-use Rattle.plant_import.proofs.Risings.{in_number_order}
+use Rattle.plant_import.proofs.public.Counted.{joined_twice}
+use Rattle.plant_import.proofs.public.Risings.{in_number_order}
 use Rattle.plant_import.proofs.numbers.events_after.Goals as goal
 
 pub returns-clause-value : goal.returns-clause-value

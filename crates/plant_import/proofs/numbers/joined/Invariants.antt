@@ -1,7 +1,7 @@
 use Rattle.std.proofs.Common.{drop, ◌++◌, ◌≡◌}
 use Rattle.std.specs.Ordering.{nat_cmp}
 use Rattle.plant_import.specs.Numbers.{event_number, with_events}
-use Rattle.plant_import.proofs.Placed.{Rises}
+use Rattle.plant_import.proofs.public.Placed.{Rises}
 use Rattle.plant_import.proofs.numbers.joined.Given as goal
 use Rattle.plant_types.specs.KeyedRows.{IsInOrder}
 

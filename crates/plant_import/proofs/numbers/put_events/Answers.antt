@@ -6,7 +6,7 @@ use Rattle.plant_alarm.specs.declared.event.Event.{Event}
 use Rattle.plant_import.specs.Needed.{is_before_all}
 use Rattle.plant_import.specs.Numbers.{event_number, with_events}
 use Rattle.plant_import.proofs.Appended.{appended, sorted}
-use Rattle.plant_import.proofs.Counted.{put_twice}
+use Rattle.plant_import.proofs.public.Counted.{put_twice}
 use Rattle.plant_types.specs.KeyedRows.{IsInOrder}
 use Rattle.plant_import.proofs.numbers.put_events.Goals as goal
 

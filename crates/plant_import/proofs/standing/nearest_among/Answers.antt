@@ -1,8 +1,8 @@
 use Rattle.std.proofs.Common.{List, ap, ◌-◌, ◌∙◌, length}
 use Rattle.std.specs.Prelude.{slice_get}
 use Rattle.plant_import.proofs.ByNumber.{below_is, from_is}
-use Rattle.plant_import.proofs.Nearest.{parts}
-use Rattle.plant_import.proofs.Risings.{in_number_order}
+use Rattle.plant_import.proofs.public.Nearest.{parts}
+use Rattle.plant_import.proofs.public.Risings.{in_number_order}
 use Rattle.plant_import.proofs.standing.nearest_among.Goals as goal
 
 pub returns : goal.returns

@@ -5,8 +5,8 @@ use Rattle.std.specs.Prelude.{nat_lt}
 use Rattle.std.proofs.lemmas.Bool.{eqb-false, eqb-true}
 use Rattle.plant_import.specs.Standing.{below, from}
 use Rattle.plant_import.proofs.ByNumber.{halves}
-use Rattle.plant_import.proofs.Nearest.{above_rising, below_rising, higher, stands_apart, stands_clash, stands_known}
-use Rattle.plant_import.proofs.Risings.{Each, rising_back}
+use Rattle.plant_import.proofs.public.Nearest.{above_rising, below_rising, higher, stands_apart, stands_clash, stands_known}
+use Rattle.plant_import.proofs.public.Risings.{Each, rising_back}
 use Rattle.plant_import.proofs.standing.stands.Goals as goal
 use Rattle.plant_import.proofs.standing.stands.Goals.{in-Some+else-eq, in_default}
 

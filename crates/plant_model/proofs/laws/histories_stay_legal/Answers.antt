@@ -1,4 +1,4 @@
-use Rattle.plant_model.proofs.LegalLaws.{next_legal}
+use Rattle.plant_model.proofs.public.LegalLaws.{next_legal}
 use Rattle.plant_model.proofs.laws.histories_stay_legal.Goals as goal
 
 pub returns : goal.returns

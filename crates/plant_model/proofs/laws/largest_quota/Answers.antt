@@ -1,4 +1,4 @@
-use Rattle.plant_model.proofs.QuotaLaws.{few_others}
+use Rattle.plant_model.proofs.public.QuotaLaws.{few_others}
 use Rattle.plant_model.proofs.laws.largest_quota.Goals as goal
 
 pub returns : goal.returns

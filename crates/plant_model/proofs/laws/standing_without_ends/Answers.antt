@@ -1,4 +1,4 @@
-use Rattle.plant_model.proofs.EndLaws.{without_ends}
+use Rattle.plant_model.proofs.public.EndLaws.{without_ends}
 use Rattle.plant_model.proofs.laws.standing_without_ends.Goals as goal
 
 pub returns : goal.returns

@@ -1,4 +1,4 @@
-use Rattle.plant_model.proofs.WorldLaws.{unseen_calls, codes_are_the_administrators, equal_views, calls_to_seen_units}
+use Rattle.plant_model.proofs.public.WorldLaws.{unseen_calls, codes_are_the_administrators, equal_views, calls_to_seen_units}
 use Rattle.plant_model.proofs.laws.two_worlds.Goals as goal
 
 pub returns-clause-unseen : goal.returns-clause-unseen

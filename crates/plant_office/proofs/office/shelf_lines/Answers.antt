@@ -4,7 +4,7 @@ use Rattle.std.specs.Prelude.{Option}
 use Rattle.plant_books.specs.declared.books.MineShelf.{MineShelf}
 use Rattle.plant_model.specs.declared.reply.MineLine.{MineLine}
 use Rattle.plant_office.specs.Lines.{line_of_shelf}
-use Rattle.plant_unit.proofs.Loops.{filter_map_more}
+use Rattle.plant_unit.proofs.public.Loops.{filter_map_more}
 use Rattle.plant_office.proofs.office.shelf_lines.Goals as goal
 use Rattle.plant_office.proofs.office.shelf_lines.Goals.{in-Some+in_ok-push, in_default}
 

@@ -7,7 +7,7 @@ use Rattle.plant_store.specs.Mine.{line_cells}
 use Rattle.plant_store.proofs.Joined.{find_mine}
 use Rattle.plant_store.proofs.Meanings.{mine_plain}
 use Rattle.plant_store.proofs.Queries.{if_ok, told_by}
-use Rattle.plant_columns.proofs.ShapeLaws.{open_number_back, role_back}
+use Rattle.plant_columns.proofs.public.ShapeLaws.{open_number_back, role_back}
 use Rattle.plant_store.proofs.ReadsOnly.{reads_plain}
 use Rattle.plant_store.proofs.mine.lines.Goals as goal
 

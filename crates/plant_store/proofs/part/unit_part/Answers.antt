@@ -7,7 +7,7 @@ use Rattle.plant_types.specs.Names.{same_name}
 use Rattle.plant_store.specs.Keeping.{has_any}
 use Rattle.plant_columns.specs.Tables.{AreBooks, rows_seen}
 use Rattle.plant_columns.specs.Tables.Kept.{UnitKept, GrantKept}
-use Rattle.plant_store.proofs.Contents.{keeps_same}
+use Rattle.plant_store.proofs.public.Contents.{keeps_same}
 use Rattle.plant_store.proofs.Selected.{holder_found, no_part, stranger_found}
 use Rattle.plant_store.proofs.part.unit_part.Goals as goal
 

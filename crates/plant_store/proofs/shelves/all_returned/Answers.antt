@@ -2,7 +2,7 @@ use Rattle.std.proofs.Common.{◌≡◌, ◌∙◌, ap, sym, arith, take, ◌∷
 use Rattle.std.proofs.lemmas.List.{take_more}
 use Rattle.sqlite.specs.Held.{state}
 use Rattle.plant_store.specs.declared.shelves.UnitShelf.{UnitShelf}
-use Rattle.plant_store.proofs.Contents.{keeps_same}
+use Rattle.plant_store.proofs.public.Contents.{keeps_same}
 use Rattle.plant_store.proofs.ReadsOnly.{reads_then}
 use Rattle.plant_store.proofs.ShelfLaws.{returned_more}
 use Rattle.plant_store.proofs.shelves.all_returned.Goals as goal

@@ -2,7 +2,7 @@ use Rattle.std.proofs.Common.{◌≡◌, refl}
 use Rattle.sqlite.specs.Held.{state}
 use Rattle.sqlite_value.specs.Order.{Row, bytes, column}
 use Rattle.plant_columns.specs.Codes.{flag_in, number_in, open_number_in}
-use Rattle.plant_columns.proofs.ShapeLaws.{flag_back, open_number_back}
+use Rattle.plant_columns.proofs.public.ShapeLaws.{flag_back, open_number_back}
 use Rattle.plant_store.specs.declared.shelves.ShelfLine.{ShelfLine}
 use Rattle.plant_store.specs.Shelves.{shelf_line_cells}
 use Rattle.plant_store.proofs.JoinedShelves.{find_mine_shelves}

@@ -1,7 +1,7 @@
 use Rattle.std.proofs.Common.{◌∙◌, ap, map, None}
 use Rattle.sqlite.specs.Held.{state}
 use Rattle.plant_store.specs.Shelves.{all_shelves, merged_after, standing_shelf_lines, with_return}
-use Rattle.plant_store.proofs.Contents.{keeps_same}
+use Rattle.plant_store.proofs.public.Contents.{keeps_same}
 use Rattle.plant_store.proofs.JoinedShelves.{all_apart}
 use Rattle.plant_store.proofs.Queries.{if_ok}
 use Rattle.plant_store.proofs.ShelfLaws.{merged_held, mine_of_all, none_before}

@@ -1,4 +1,4 @@
-use Rattle.plant_store.proofs.Contents.{any_is}
+use Rattle.plant_store.proofs.public.Contents.{any_is}
 use Rattle.plant_store.proofs.unit.has_row.Goals as goal
 
 pub returns : goal.returns

@@ -7,7 +7,7 @@ use Rattle.plant_books.specs.Contents.{without_events}
 use Rattle.plant_columns.specs.Tables.{AreBooks, AreSeen, rows_seen}
 use Rattle.plant_columns.specs.Tables.Kept.{UnitKept, GrantKept, AlarmKept, ShelfKept, BandKept, CellKept, EventKept, RecordKept, ChangeKept}
 use Rattle.plant_model.specs.declared.rows.UnitRows.{UnitRows}
-use Rattle.plant_store.proofs.Contents.{none_found, whole_found}
+use Rattle.plant_store.proofs.public.Contents.{none_found, whole_found}
 use Rattle.plant_store.proofs.unit.rows_but_events.Goals as goal
 
 -- each list was seen in a database that is the first one

@@ -5,7 +5,7 @@ use lib.Dec.{T}
 use lib.Signed.{non_neg}
 use Rattle.std.proofs.lemmas.Bool.{false≢true}
 use Rattle.std.proofs.lemmas.Int.{ints, to_z-of_z}
-use Rattle.plant_types.proofs.Days.{IsDayAfter, day_after, day_is_there}
+use Rattle.plant_types.proofs.public.Days.{IsDayAfter, day_after, day_is_there}
 use Rattle.plant_types.proofs.civil.day_after.Goals as goal
 
 as_signed : (n : ℕ) → n < 36525 → to_z w64 n ≡ pos n

@@ -4,7 +4,7 @@ use Rattle.plant_model.specs.RowChanges.{state_put}
 use Rattle.plant_model.specs.declared.rows.AlarmRow.{AlarmRow}
 use Rattle.plant_model.specs.declared.rows.RowEdit.{RowEdit}
 use Rattle.plant_unit.proofs.AlarmLists.{summarized}
-use Rattle.plant_unit.proofs.Loops.{append-[], grown, passing_next}
+use Rattle.plant_unit.proofs.public.Loops.{append-[], grown, passing_next}
 use Rattle.plant_unit.specs.Summaries.{is_named}
 use Rattle.plant_unit.proofs.alarms.push_named.Goals as goal
 use Rattle.plant_unit.proofs.alarms.push_named.Goals.{in-Some+in_ok-push, in_default}

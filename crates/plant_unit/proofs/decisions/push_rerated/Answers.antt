@@ -8,7 +8,7 @@ use Rattle.plant_model.specs.declared.rows.RowEdit.{RowEdit}
 use Rattle.plant_model.specs.declared.rows.RowEdit.TheVariants.{Put}
 use Rattle.plant_model.specs.declared.rows.RecordEntry.{RecordEntry}
 use Rattle.plant_model.specs.declared.rows.Row.TheVariants.{Record as RecordPut}
-use Rattle.plant_unit.proofs.Loops.{append-[], grown}
+use Rattle.plant_unit.proofs.public.Loops.{append-[], grown}
 use Rattle.plant_unit.proofs.ReadingLaws.{each_passes, told_more}
 use Rattle.plant_unit.specs.Readings.{has_its_sheet}
 use Rattle.plant_unit.proofs.decisions.push_rerated.Goals as goal

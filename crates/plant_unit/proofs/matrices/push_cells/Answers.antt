@@ -1,7 +1,7 @@
 use Rattle.plant_model.specs.declared.rows.RowEdit.TheVariants.{Put}
 use Rattle.plant_model.specs.declared.rows.Row.TheVariants.{Cell as CellPut}
 use Rattle.plant_unit.specs.MatrixRows.{row_of_cells}
-use Rattle.plant_unit.proofs.Loops.{grown, next_cells}
+use Rattle.plant_unit.proofs.public.Loops.{grown, next_cells}
 use Rattle.plant_unit.proofs.matrices.push_cells.Goals as goal
 
 pub loop-i-preserved : goal.loop-i-preserved

@@ -8,7 +8,7 @@ use Rattle.plant_model.specs.Facts.{returned}
 use Rattle.plant_model.specs.Replies.{line_of}
 use Rattle.plant_model.specs.RowFacts.{facts_in}
 use Rattle.plant_model.specs.Shelves.{shelf_left}
-use Rattle.plant_unit.proofs.Loops.{filter_map_more}
+use Rattle.plant_unit.proofs.public.Loops.{filter_map_more}
 use Rattle.plant_unit.proofs.replies.lines.Goals as goal
 use Rattle.plant_unit.proofs.replies.lines.Goals.{in-Some+in_ok-push, in_default}
 

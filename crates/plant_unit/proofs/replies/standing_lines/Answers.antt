@@ -5,7 +5,7 @@ use Rattle.plant_model.specs.declared.rows.AlarmRow.{AlarmRow}
 use Rattle.plant_model.specs.declared.reply.StandingLine.{StandingLine}
 use Rattle.plant_model.specs.Replies.{standing_line}
 use Rattle.plant_model.specs.RowFacts.{facts_in}
-use Rattle.plant_unit.proofs.Loops.{filter_map_more}
+use Rattle.plant_unit.proofs.public.Loops.{filter_map_more}
 use Rattle.plant_unit.proofs.replies.standing_lines.Goals as goal
 use Rattle.plant_unit.proofs.replies.standing_lines.Goals.{in-Some+in_ok-push, in_default}
 

@@ -1,5 +1,5 @@
 use Rattle.std.proofs.Common.{arith, ◌∙◌, ◌<◌}
-use Rattle.plant_wire.proofs.Growing.{Appends-more}
+use Rattle.plant_wire.proofs.public.Growing.{Appends-more}
 use Rattle.plant_wire.proofs.put.put_all.Goals as goal
 
 pub puts-preserved : goal.puts-preserved

@@ -1,6 +1,6 @@
 use Rattle.std.proofs.Common.{[]}
-use Rattle.plant_wire.proofs.Growing.{Consumes-none}
-use Rattle.plant_wire.proofs.Running.{ran_none}
+use Rattle.plant_wire.proofs.public.Growing.{Consumes-none}
+use Rattle.plant_wire.proofs.public.Running.{ran_none}
 use Rattle.plant_wire.proofs.Serving.{part_none}
 use Rattle.plant_wire.proofs.reads.session.Goals as goal
 

@@ -1,5 +1,5 @@
 use Rattle.sqlite.specs.Held.{state}
-use Rattle.plant_store.proofs.Contents.{keeps_same}
+use Rattle.plant_store.proofs.public.Contents.{keeps_same}
 use Rattle.plant_store.proofs.tables.TablesBooks.rows.Goals as goal
 
 pub returns-in-Ok-clause-same : goal.returns-in-Ok-clause-same

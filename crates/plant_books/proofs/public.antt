@@ -1,0 +1,4 @@
+pub mod KeyedLaws
+pub mod RowsFound
+pub mod OrderLaws
+pub mod EventLaws

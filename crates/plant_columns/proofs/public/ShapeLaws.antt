@@ -1,0 +1,335 @@
+-- The shape of each table is a shape, and the schema lists each.
+use Rattle.std.proofs.Common.{◌≡◌, ℕ, pos, Bool, true, false, ◌&&◌, ◌||◌, List, [], ◌∷◌, Option, None, Some, refl, ap, ap₂, sym, ◌∙◌, is_eq, nat_cmp}
+use Rattle.std.specs.Cmp.{IsTotalOrder}
+use Rattle.std.specs.Cmp.Lexicographic.{nat_list_cmp_total}
+use Rattle.std.specs.Ordering.{ordering_then}
+use Rattle.std.specs.declared.cmp.Ordering.{Ordering}
+use Rattle.std.specs.declared.cmp.Ordering.TheVariants.{Equal}
+use Rattle.std.proofs.lemmas.Cmp.{nat_cmp_total, then_total, on_total}
+use Rattle.sqlite.specs.Cast.{cast}
+use Rattle.sqlite.specs.Collation.TheVariants.{Binary}
+use Rattle.sqlite.specs.Kind.TheVariants.{Integer, Text as TextKind}
+use Rattle.sqlite.specs.Tree.{rowid}
+use Rattle.sqlite_rules.specs.Keys.{conflicts}
+use Rattle.sqlite_schema.specs.Rules.{equal, agree}
+use Rattle.sqlite_sql.specs.Ops.{unary}
+use Rattle.sqlite_value.specs.declared.value.Value.{Value}
+use Rattle.sqlite_value.specs.declared.value.Value.TheVariants.{Text}
+use Rattle.sqlite_value.specs.Keys.{plain, first_key}
+use Rattle.sqlite_value.specs.Order.{Row, value_cmp}
+use Rattle.sqlite_value.proofs.OrderLemmas.{value_cmp-Int, value_cmp-Text, then-Equal}
+use Rattle.plant_alarm.specs.declared.event.EventKind.{EventKind}
+use Rattle.plant_alarm.specs.declared.event.EventKind.TheVariants.{Ack, Act, Reset, Rtn, Sup, Unsup}
+use Rattle.plant_alarm.specs.declared.summary.AlarmState.{AlarmState}
+use Rattle.plant_alarm.specs.declared.summary.AlarmState.TheVariants.{Acknowledged, LatchedAck, LatchedUnack, Normal, ReturnedUnack, Unacknowledged}
+use Rattle.plant_ration.specs.declared.cell.Cell.{Cell}
+use Rattle.plant_ration.specs.declared.cell.Cell.TheVariants.{N, P1, P2, P3, P4}
+use Rattle.plant_ration.specs.declared.change.ChangeState.{ChangeState}
+use Rattle.plant_ration.specs.declared.change.ChangeState.TheVariants.{Approved, Proposed, Rejected, Withdrawn}
+use Rattle.plant_types.specs.declared.role.Role.{Role}
+use Rattle.plant_types.specs.declared.role.Role.TheVariants.{Approver, Engineer, Maintainer, Operator, Steward, Viewer}
+use Rattle.plant_types.specs.Roles.{role_no}
+use Rattle.plant_types.proofs.public.Orders.{pair_total}
+use Rattle.plant_model.specs.declared.rows.ChangeTopic.{ChangeTopic}
+use Rattle.plant_model.specs.declared.rows.ChangeTopic.TheVariants.{Limit as LimitTopic, Matrix as MatrixTopic, Record as RecordTopic}
+use Rattle.plant_model.specs.Matrices.{BandKey, CellKey, band_cmp, cell_cmp}
+use Rattle.plant_tables.specs.Shape.{Shape, table_in}
+use Rattle.plant_tables.proofs.public.Bridge.{int_cmp-pos}
+use Rattle.plant_tables.proofs.public.Family.{AreListed}
+use Rattle.plant_tables.proofs.public.Laws.{cast_int, cast_null}
+use Rattle.plant_tables.proofs.public.Shapes.{IsListed, IsShape}
+use Rattle.plant_columns.specs.Codes.{cell_no, cell_numbered, decision_no, decision_numbered, flag, flag_in, kind_no, kind_numbered, number, open_number, open_number_in, open_text, open_text_in, role_numbered, state_no, state_numbered, topic_no, topic_numbered}
+use Rattle.plant_columns.specs.Tables.{Kept, RowOf, KeyOf, alarm_shape, band_shape, books_schema, cell_shape, change_shape, event_shape, grant_shape, record_shape, shape, shelf_shape, unit_shape}
+use Rattle.plant_columns.specs.Tables.Kept.{UnitKept, GrantKept, AlarmKept, ShelfKept, BandKept, CellKept, EventKept, RecordKept, ChangeKept}
+
+-- ---- what is written is read back
+
+pub role_back : (r : Role) → role_numbered (role_no r) ≡ r
+role_back Viewer = refl
+role_back Operator = refl
+role_back Maintainer = refl
+role_back Engineer = refl
+role_back Approver = refl
+role_back Steward = refl
+
+pub state_back : (s : AlarmState) → state_numbered (state_no s) ≡ s
+state_back Normal = refl
+state_back Unacknowledged = refl
+state_back Acknowledged = refl
+state_back ReturnedUnack = refl
+state_back LatchedUnack = refl
+state_back LatchedAck = refl
+
+pub kind_back : (k : EventKind) → kind_numbered (kind_no k) ≡ k
+kind_back Act = refl
+kind_back Rtn = refl
+kind_back Ack = refl
+kind_back Reset = refl
+kind_back Sup = refl
+kind_back Unsup = refl
+
+pub topic_back : (t : ChangeTopic) → topic_numbered (topic_no t) ≡ t
+topic_back RecordTopic = refl
+topic_back MatrixTopic = refl
+topic_back LimitTopic = refl
+
+pub decision_back : (s : ChangeState) → decision_numbered (decision_no s) ≡ s
+decision_back Proposed = refl
+decision_back Approved = refl
+decision_back Rejected = refl
+decision_back Withdrawn = refl
+
+pub cell_back : (c : Cell) → cell_numbered (cell_no c) ≡ c
+cell_back N = refl
+cell_back P1 = refl
+cell_back P2 = refl
+cell_back P3 = refl
+cell_back P4 = refl
+
+pub flag_back : (b : Bool) → flag_in (flag b) ≡ b
+flag_back true = refl
+flag_back false = refl
+
+pub open_number_back : (o : Option ℕ) → open_number_in (open_number o) ≡ o
+open_number_back None = refl
+open_number_back (Some n) = refl
+
+pub open_text_back : (o : Option (List ℕ)) → open_text_in (open_text o) ≡ o
+open_text_back None = refl
+open_text_back (Some t) = refl
+
+-- ---- no cell is cast
+
+pub cast_number : (n : ℕ) → cast Integer (number n) ≡ number n
+cast_number n = cast_int (pos n)
+
+cast_open_number : (o : Option ℕ) → cast Integer (open_number o) ≡ open_number o
+cast_open_number None = cast_null
+cast_open_number (Some n) = cast_int (pos n)
+
+cast_open_text : (o : Option (List ℕ)) → cast TextKind (open_text o) ≡ open_text o
+unfolding unary
+cast_open_text None = refl
+cast_open_text (Some t) = refl
+
+-- ---- the order of values is that of what they hold
+
+pub numbers : (m n : ℕ) → value_cmp (number m) (number n) ≡ nat_cmp m n
+numbers m n = value_cmp-Int (pos m) (pos n) ∙ int_cmp-pos m n
+
+pub one : {a b : Ordering} → a ≡ b → ordering_then a Equal ≡ b
+one {a} {b} h = then-Equal a ∙ h
+
+pub band_total : IsTotalOrder band_cmp
+band_total = then_total (on_total (λ (k : BandKey). k.0) nat_cmp_total) (on_total (λ (k : BandKey). k.1) nat_cmp_total)
+
+pub cell_total : IsTotalOrder cell_cmp
+cell_total = then_total (on_total (λ (k : CellKey). k.0) nat_cmp_total) (then_total (on_total (λ (k : CellKey). k.1) nat_cmp_total) (on_total (λ (k : CellKey). k.2) nat_cmp_total))
+
+-- ---- table by table
+
+pub unit_good : IsShape unit_shape
+unit_good = record {
+  total = nat_cmp_total;
+  back = λ id u x. refl;
+  agrees = λ id jd u v x y. refl;
+  keyed = λ id u x. (refl, tt);
+  fits = λ u x i. Text u ∷ cast_number x.last_s i ∷ cast_number x.matrix_no i ∷ cast_number x.matrix_rev i ∷ cast_number x.quota i ∷ [];
+}
+
+pub grant_good : IsShape grant_shape
+grant_good = record {
+  total = pair_total;
+  back = λ id u x i. record { person = x.person; role_no = role_back x.role_no i; end_s = open_number_back x.end_s i };
+  agrees = λ id jd u v x y. sym (ap₂ ordering_then (value_cmp-Text x.person y.person) (one (numbers (role_no x.role_no) (role_no y.role_no))));
+  keyed = λ id u x. (refl, (refl, (refl, tt)));
+  fits = λ u x i. Text u ∷ Text x.person ∷ cast_number (role_no x.role_no) i ∷ cast_open_number x.end_s i ∷ [];
+}
+
+pub alarm_good : IsShape alarm_shape
+alarm_good = record {
+  total = nat_list_cmp_total;
+  back = λ id u x i. record {
+    tag = x.tag;
+    latching = flag_back x.latching i;
+    max_s = x.max_s;
+    max_rev = x.max_rev;
+    state_no = state_back x.state_no i;
+    suppressed = flag_back x.suppressed i;
+    active_s = open_number_back x.active_s i;
+    return_s = open_number_back x.return_s i;
+    out_s = open_number_back x.out_s i;
+    out_by = open_text_back x.out_by i;
+    out_words = open_text_back x.out_words i;
+  };
+  agrees = λ id jd u v x y. sym (one (value_cmp-Text x.tag y.tag));
+  keyed = λ id u x. (refl, (refl, tt));
+  fits = λ u x i. Text u ∷ Text x.tag ∷ cast_int (pos (Rattle.std.proofs.Common.cond x.latching 1 0)) i ∷ cast_number x.max_s i ∷ cast_number x.max_rev i ∷ cast_number (state_no x.state_no) i ∷ cast_int (pos (Rattle.std.proofs.Common.cond x.suppressed 1 0)) i
+      ∷ cast_open_number x.active_s i ∷ cast_open_number x.return_s i ∷ cast_open_number x.out_s i ∷ cast_open_text x.out_by i ∷ cast_open_text x.out_words i ∷ [];
+}
+
+pub shelf_good : IsShape shelf_shape
+shelf_good = record {
+  total = nat_list_cmp_total;
+  back = λ id u x i. record { tag = x.tag; one_shot = flag_back x.one_shot i; start_s = x.start_s; until_s = x.until_s; person = x.person; words = x.words };
+  agrees = λ id jd u v x y. sym (one (value_cmp-Text x.tag y.tag));
+  keyed = λ id u x. (refl, (refl, tt));
+  fits = λ u x i. Text u ∷ Text x.tag ∷ cast_int (pos (Rattle.std.proofs.Common.cond x.one_shot 1 0)) i ∷ cast_number x.start_s i ∷ cast_number x.until_s i ∷ Text x.person ∷ Text x.words ∷ [];
+}
+
+pub band_good : IsShape band_shape
+band_good = record {
+  total = band_total;
+  back = λ id u x. refl;
+  agrees = λ id jd u v x y. sym (ap₂ ordering_then (numbers x.matrix_no y.matrix_no) (one (numbers x.band_no y.band_no)));
+  keyed = λ id u x. (refl, (refl, (refl, tt)));
+  fits = λ u x i. Text u ∷ cast_number x.matrix_no i ∷ cast_number x.band_no i ∷ cast_number x.limit_s i ∷ [];
+}
+
+pub cell_good : IsShape cell_shape
+cell_good = record {
+  total = cell_total;
+  back = λ id u x i. record { matrix_no = x.matrix_no; severity = x.severity; band_no = x.band_no; cell_no = cell_back x.cell_no i };
+  agrees = λ id jd u v x y. sym (ap₂ ordering_then (numbers x.matrix_no y.matrix_no) (ap₂ ordering_then (numbers x.severity y.severity) (one (numbers x.band_no y.band_no))));
+  keyed = λ id u x. (refl, (refl, (refl, (refl, tt))));
+  fits = λ u x i. Text u ∷ cast_number x.matrix_no i ∷ cast_number x.severity i ∷ cast_number x.band_no i ∷ cast_number (cell_no x.cell_no) i ∷ [];
+}
+
+pub event_good : IsShape event_shape
+event_good = record {
+  total = nat_cmp_total;
+  back = λ id u x i. record { seq = x.seq; moment = x.moment; tag = x.tag; kind = kind_back x.kind i };
+  agrees = λ id jd u v x y. sym (one (numbers x.seq y.seq));
+  keyed = λ id u x. (refl, (refl, tt));
+  fits = λ u x i. Text u ∷ cast_number x.seq i ∷ cast_number x.moment i ∷ Text x.tag ∷ cast_number (kind_no x.kind) i ∷ [];
+}
+
+pub record_good : IsShape record_shape
+record_good = record {
+  total = nat_list_cmp_total;
+  back = λ id u x i. record { tag = x.tag; change_no = x.change_no; rev = x.rev; cell_no = cell_back x.cell_no i };
+  agrees = λ id jd u v x y. sym (one (value_cmp-Text x.tag y.tag));
+  keyed = λ id u x. (refl, (refl, tt));
+  fits = λ u x i. Text u ∷ Text x.tag ∷ cast_number x.change_no i ∷ cast_number x.rev i ∷ cast_number (cell_no x.cell_no) i ∷ [];
+}
+
+pub change_good : IsShape change_shape
+change_good = record {
+  total = nat_cmp_total;
+  back = λ id u x i. record {
+    number = x.number;
+    proposer = x.proposer;
+    proposed_s = x.proposed_s;
+    kind_no = topic_back x.kind_no i;
+    tag = open_text_back x.tag i;
+    base = x.base;
+    cause = open_text_back x.cause i;
+    consequence = open_text_back x.consequence i;
+    remedy = open_text_back x.remedy i;
+    severity = open_number_back x.severity i;
+    response_s = open_number_back x.response_s i;
+    max_s = open_number_back x.max_s i;
+    state_no = decision_back x.state_no i;
+    decider = open_text_back x.decider i;
+    decided_s = open_number_back x.decided_s i;
+  };
+  agrees = λ id jd u v x y. sym (one (numbers x.number y.number));
+  keyed = λ id u x. (refl, (refl, tt));
+  fits = λ u x i. Text u ∷ cast_number x.number i ∷ Text x.proposer ∷ cast_number x.proposed_s i ∷ cast_number (topic_no x.kind_no) i ∷ cast_open_text x.tag i ∷ cast_number x.base i
+      ∷ cast_open_text x.cause i ∷ cast_open_text x.consequence i ∷ cast_open_text x.remedy i ∷ cast_open_number x.severity i ∷ cast_open_number x.response_s i ∷ cast_open_number x.max_s i
+      ∷ cast_number (decision_no x.state_no) i ∷ cast_open_text x.decider i ∷ cast_open_number x.decided_s i ∷ [];
+}
+
+pub good : (i : Kept) → IsShape (shape i)
+good UnitKept = unit_good
+good GrantKept = grant_good
+good AlarmKept = alarm_good
+good ShelfKept = shelf_good
+good BandKept = band_good
+good CellKept = cell_good
+good EventKept = event_good
+good RecordKept = record_good
+good ChangeKept = change_good
+
+-- ---- the schema lists each, and only its key is unique
+
+lone : (e a : Bool) → e ≡ false → ((e && true) || (a || false)) ≡ a
+lone e true h = rw h refl
+lone e false h = rw h refl
+
+alone_in : {X K : Type 0} → Shape X K → Type 0
+alone_in s = (cells r : Row) (id : Value) → equal Binary (rowid r) id ≡ false → conflicts None books_schema.indexes (table_in s) (id ∷ cells) r ≡ agree plain (1 ∷ s.keys) r (1 ∷ s.keys) (id ∷ cells)
+
+unit_alone : alone_in unit_shape
+unfolding first_key alone_in
+unit_alone cells r id free = lone (equal Binary (rowid r) id) (agree plain (1 ∷ unit_shape.keys) r (1 ∷ unit_shape.keys) (id ∷ cells)) free
+
+grant_alone : alone_in grant_shape
+unfolding first_key alone_in
+grant_alone cells r id free = lone (equal Binary (rowid r) id) (agree plain (1 ∷ grant_shape.keys) r (1 ∷ grant_shape.keys) (id ∷ cells)) free
+
+alarm_alone : alone_in alarm_shape
+unfolding first_key alone_in
+alarm_alone cells r id free = lone (equal Binary (rowid r) id) (agree plain (1 ∷ alarm_shape.keys) r (1 ∷ alarm_shape.keys) (id ∷ cells)) free
+
+shelf_alone : alone_in shelf_shape
+unfolding first_key alone_in
+shelf_alone cells r id free = lone (equal Binary (rowid r) id) (agree plain (1 ∷ shelf_shape.keys) r (1 ∷ shelf_shape.keys) (id ∷ cells)) free
+
+band_alone : alone_in band_shape
+unfolding first_key alone_in
+band_alone cells r id free = lone (equal Binary (rowid r) id) (agree plain (1 ∷ band_shape.keys) r (1 ∷ band_shape.keys) (id ∷ cells)) free
+
+cell_alone : alone_in cell_shape
+unfolding first_key alone_in
+cell_alone cells r id free = lone (equal Binary (rowid r) id) (agree plain (1 ∷ cell_shape.keys) r (1 ∷ cell_shape.keys) (id ∷ cells)) free
+
+event_alone : alone_in event_shape
+unfolding first_key alone_in
+event_alone cells r id free = lone (equal Binary (rowid r) id) (agree plain (1 ∷ event_shape.keys) r (1 ∷ event_shape.keys) (id ∷ cells)) free
+
+record_alone : alone_in record_shape
+unfolding first_key alone_in
+record_alone cells r id free = lone (equal Binary (rowid r) id) (agree plain (1 ∷ record_shape.keys) r (1 ∷ record_shape.keys) (id ∷ cells)) free
+
+change_alone : alone_in change_shape
+unfolding first_key alone_in
+change_alone cells r id free = lone (equal Binary (rowid r) id) (agree plain (1 ∷ change_shape.keys) r (1 ∷ change_shape.keys) (id ∷ cells)) free
+
+pub listed : (i : Kept) → IsListed books_schema (shape i)
+unfolding alone_in
+listed UnitKept = record { at = refl; alone = unit_alone }
+listed GrantKept = record { at = refl; alone = grant_alone }
+listed AlarmKept = record { at = refl; alone = alarm_alone }
+listed ShelfKept = record { at = refl; alone = shelf_alone }
+listed BandKept = record { at = refl; alone = band_alone }
+listed CellKept = record { at = refl; alone = cell_alone }
+listed EventKept = record { at = refl; alone = event_alone }
+listed RecordKept = record { at = refl; alone = record_alone }
+listed ChangeKept = record { at = refl; alone = change_alone }
+
+which : ℕ → Kept
+which n =
+    Rattle.std.proofs.Common.cond (Rattle.std.specs.Prelude.nat_eq n 1) UnitKept
+    (Rattle.std.proofs.Common.cond (Rattle.std.specs.Prelude.nat_eq n 3) GrantKept
+    (Rattle.std.proofs.Common.cond (Rattle.std.specs.Prelude.nat_eq n 5) AlarmKept
+    (Rattle.std.proofs.Common.cond (Rattle.std.specs.Prelude.nat_eq n 7) ShelfKept
+    (Rattle.std.proofs.Common.cond (Rattle.std.specs.Prelude.nat_eq n 9) BandKept
+    (Rattle.std.proofs.Common.cond (Rattle.std.specs.Prelude.nat_eq n 11) CellKept
+    (Rattle.std.proofs.Common.cond (Rattle.std.specs.Prelude.nat_eq n 13) EventKept
+    (Rattle.std.proofs.Common.cond (Rattle.std.specs.Prelude.nat_eq n 15) RecordKept ChangeKept)))))))
+
+placed : (i : Kept) → which (shape i).tree ≡ i
+unfolding which
+placed UnitKept = refl
+placed GrantKept = refl
+placed AlarmKept = refl
+placed ShelfKept = refl
+placed BandKept = refl
+placed CellKept = refl
+placed EventKept = refl
+placed RecordKept = refl
+placed ChangeKept = refl
+
+pub all_listed : AreListed RowOf KeyOf shape books_schema
+all_listed = record { which = which; placed = placed; at = λ i. (listed i).at }

@@ -1,0 +1,173 @@
+-- Events in rising number, whose moments don't fall: as a list that is gone through, its parts, and what they are next to one more.
+use Rattle.std.proofs.Common.{◌≡◌, ℕ, zero, suc, ◌+◌, ◌-◌, ◌<◌, ◌≤◌, refl, sym, ap, ◌∙◌, subst, arith, List, [], ◌∷◌, ◌++◌, length, take, drop, get_or, Bool, true, false, ◌||◌, Some, None}
+use Rattle.std.specs.Prelude.{nat_lt, slice_get}
+use Rattle.std.proofs.lemmas.List.{take_more, take_all}
+use Rattle.std.proofs.lemmas.Option.{get_or_from_slice_get, slice_get-get_or}
+use Rattle.std.specs.List.{list_any}
+use Rattle.std.proofs.lemmas.Bool.{le-ltb, ltb-false}
+use Rattle.std.proofs.lemmas.List.Kept.{AllPairs-cons}
+use Rattle.plant_alarm.specs.declared.event.Event.{Event}
+use Rattle.plant_import.specs.Merging.{IsRising}
+use Rattle.plant_import.specs.Numbers.{event_number}
+use Rattle.plant_import.proofs.public.Placed.{AllAbove, Rises, in_order_of}
+use Rattle.plant_types.specs.KeyedRows.{IsInOrder}
+use Rattle.std.specs.Ordering.{nat_cmp}
+
+-- P holds of each
+abbrev pub Each : (Event → Type 0) → List Event → Type 0
+Each P [] = Unit {0}
+Each P (x ∷ xs) = P x × Each P xs
+
+pub each_of : (P : Event → Type 0) (xs : List Event) → ((k : ℕ) (d : Event) → k < length xs → P (get_or xs k d)) → Each P xs
+each_of P [] h = tt
+each_of P (x ∷ xs) h = (h 0 x (omega arith), each_of P xs (λ k d lt. h (suc k) d (omega arith)))
+
+pub each_at : (P : Event → Type 0) (xs : List Event) → Each P xs → (k : ℕ) (d : Event) → k < length xs → P (get_or xs k d)
+each_at P [] h k d lt = absurd (omega arith)
+each_at P (x ∷ xs) h zero d lt = h.0
+each_at P (x ∷ xs) h (suc k) d lt = each_at P xs h.1 k d (omega arith)
+
+pub each_weaker : (P Q : Event → Type 0) → ((x : Event) → P x → Q x) → (xs : List Event) → Each P xs → Each Q xs
+each_weaker P Q f [] h = tt
+each_weaker P Q f (x ∷ xs) h = (f x h.0, each_weaker P Q f xs h.1)
+
+pub each_both : (P Q R : Event → Type 0) → ((x : Event) → P x → Q x → R x) → (xs : List Event) → Each P xs → Each Q xs → Each R xs
+each_both P Q R f [] h k = tt
+each_both P Q R f (x ∷ xs) h k = (f x h.0 k.0, each_both P Q R f xs h.1 k.1)
+
+pub each_append : (P : Event → Type 0) (xs ys : List Event) → Each P xs → Each P ys → Each P (xs ++ ys)
+each_append P [] ys h k = k
+each_append P (x ∷ xs) ys h k = (h.0, each_append P xs ys h.1 k)
+
+pub each_front : (P : Event → Type 0) (xs ys : List Event) → Each P (xs ++ ys) → Each P xs
+each_front P [] ys h = tt
+each_front P (x ∷ xs) ys h = (h.0, each_front P xs ys h.1)
+
+pub each_back : (P : Event → Type 0) (xs ys : List Event) → Each P (xs ++ ys) → Each P ys
+each_back P [] ys h = h
+each_back P (x ∷ xs) ys h = each_back P xs ys h.1
+
+-- a smaller number, and no later moment
+abbrev pub Before : Event → Event → Type 0
+Before a b = (a.seq < b.seq) × (a.moment ≤ b.moment)
+
+abbrev pub Rising : List Event → Type 0
+Rising [] = Unit {0}
+Rising (x ∷ xs) = Each (Before x) xs × Rising xs
+
+pub rising_of : (xs : List Event) → IsRising xs → Rising xs
+rising_of [] h = tt
+rising_of (x ∷ xs) h = (each_of (Before x) xs (λ k d lt. h 0 (suc k) d (omega arith) (omega arith)), rising_of xs (λ i j d lt le. h (suc i) (suc j) d (omega arith) (omega arith)))
+
+pub is_rising : (xs : List Event) → Rising xs → IsRising xs
+is_rising [] h = λ i j d lt le. absurd (omega arith)
+is_rising (x ∷ xs) h = AllPairs-cons Before x xs (each_at (Before x) xs h.0) (is_rising xs h.1)
+
+pub rising_front : (xs ys : List Event) → Rising (xs ++ ys) → Rising xs
+rising_front [] ys h = tt
+rising_front (x ∷ xs) ys h = (each_front (Before x) xs ys h.0, rising_front xs ys h.1)
+
+pub rising_back : (xs ys : List Event) → Rising (xs ++ ys) → Rising ys
+rising_back [] ys h = h
+rising_back (x ∷ xs) ys h = rising_back xs ys h.1
+
+-- tests over lists
+pub any_none : (p : Event → Bool) (xs : List Event) → Each (λ x. p x ≡ false) xs → list_any p xs ≡ false
+any_none p [] h = refl
+any_none p (x ∷ xs) h = ap (λ b. b || list_any p xs) h.0 ∙ any_none p xs h.1
+
+pub any_same : (p q : Event → Bool) (xs : List Event) → Each (λ x. p x ≡ q x) xs → list_any p xs ≡ list_any q xs
+any_same p q [] h = refl
+any_same p q (x ∷ xs) h = ap (λ b. b || list_any p xs) h.0 ∙ ap (λ b. q x || b) (any_same p q xs h.1)
+
+or_false : (a b : Bool) → (a || b) ≡ false → (a ≡ false) × (b ≡ false)
+or_false true b e = cc
+or_false false b e = (refl, e)
+
+pub each_not : (p : Event → Bool) (xs : List Event) → list_any p xs ≡ false → Each (λ x. p x ≡ false) xs
+each_not p [] e = tt
+each_not p (x ∷ xs) e = let both = or_false (p x) (list_any p xs) e in (both.0, each_not p xs both.1)
+
+or_right : (a b : Bool) → b ≡ true → (a || b) ≡ true
+or_right true b e = refl
+or_right false b e = e
+
+or_true : (a : Bool) → (a || true) ≡ true
+or_true true = refl
+or_true false = refl
+
+pub any_there : (p : Event → Bool) (xs ys : List Event) (y : Event) → p y ≡ true → list_any p (xs ++ y ∷ ys) ≡ true
+any_there p [] ys y e = ap (λ b. b || list_any p ys) e
+any_there p (x ∷ xs) ys y e = ap (λ b. p x || b) (any_there p xs ys y e) ∙ or_true (p x)
+
+-- a test that the first or the last of rising events settles
+pub first_settles : (m : ℕ) (x : Event) (xs : List Event) → Rising (x ∷ xs) → nat_lt x.moment m ≡ list_any (λ e. nat_lt e.moment m) (x ∷ xs)
+first_settles m x xs h = by (nat_lt x.moment m) refl
+  where
+    by : (b : Bool) → nat_lt x.moment m ≡ b → nat_lt x.moment m ≡ list_any (λ e. nat_lt e.moment m) (x ∷ xs)
+    by true e = e ∙ sym (ap (λ b. b || list_any (λ e. nat_lt e.moment m) xs) e)
+    by false e =
+        let le : m ≤ x.moment = ltb-false x.moment m e in
+        let none = any_none (λ e. nat_lt e.moment m) xs (each_weaker (Before x) (λ y. nat_lt y.moment m ≡ false) (λ y b. le-ltb y.moment m (omega (arith, b.1, le))) xs h.0) in
+        e ∙ sym (ap (λ b. b || list_any (λ e. nat_lt e.moment m) xs) e ∙ none)
+
+before_last : (xs : List Event) (x : Event) → Rising (xs ++ x ∷ []) → Each (λ y. Before y x) xs
+before_last [] x h = tt
+before_last (y ∷ ys) x h = ((each_back (Before y) ys (x ∷ []) h.0).0, before_last ys x h.1)
+
+last_settles_so : (m : ℕ) (xs : List Event) (x : Event) → Rising (xs ++ x ∷ []) → nat_lt m x.moment ≡ list_any (λ e. nat_lt m e.moment) (xs ++ x ∷ [])
+last_settles_so m xs x h = by (nat_lt m x.moment) refl
+  where
+    by : (b : Bool) → nat_lt m x.moment ≡ b → nat_lt m x.moment ≡ list_any (λ e. nat_lt m e.moment) (xs ++ x ∷ [])
+    by true e = e ∙ sym (any_there (λ e. nat_lt m e.moment) xs [] x e)
+    by false e =
+        let le : x.moment ≤ m = ltb-false m x.moment e in
+        let front = each_weaker (λ y. Before y x) (λ y. nat_lt m y.moment ≡ false) (λ y b. le-ltb m y.moment (omega (arith, b.1, le))) xs (before_last xs x h) in
+        e ∙ sym (any_none (λ e. nat_lt m e.moment) (xs ++ x ∷ []) (each_append (λ y. nat_lt m y.moment ≡ false) xs (x ∷ []) front (e, tt)))
+
+-- the first of a list, and the last
+first_cut : (xs : List Event) (x : Event) → Some x ≡ slice_get xs 0 → xs ≡ x ∷ drop 1 xs
+first_cut [] x e = cc
+first_cut (y ∷ ys) x e = let same : x ≡ y = cc in ap (λ z. z ∷ ys) (sym same)
+
+pub first_none : (xs : List Event) → None ≡ slice_get xs 0 → xs ≡ []
+first_none [] e = refl
+first_none (y ∷ ys) e = cc
+
+pub first_settles_at : (m : ℕ) (xs : List Event) (x : Event) → Some x ≡ slice_get xs 0 → IsRising xs → nat_lt x.moment m ≡ list_any (λ e. nat_lt e.moment m) xs
+first_settles_at m xs x e h =
+    let cut = first_cut xs x e in
+    first_settles m x (drop 1 xs) (subst (λ (l : List Event). Rising l) cut (rising_of xs h)) ∙ ap (list_any (λ e. nat_lt e.moment m)) (sym cut)
+
+last_cut : (xs : List Event) (x : Event) → Some x ≡ slice_get xs (length xs - 1) → xs ≡ take (length xs - 1) xs ++ x ∷ []
+last_cut [] x e = cc
+last_cut (y ∷ ys) x e =
+    let n = length ys in
+    let at : length (y ∷ ys) - 1 ≡ n = omega arith in
+    let lt : n < length (y ∷ ys) = omega arith in
+    let here : get_or (y ∷ ys) n x ≡ x = get_or_from_slice_get (y ∷ ys) n x x (sym (e ∙ ap (slice_get (y ∷ ys)) at)) in
+    sym (take_all (n + 1) (y ∷ ys) (omega arith)) ∙ take_more (y ∷ ys) n x lt ∙ ap (λ z. take n (y ∷ ys) ++ z ∷ []) here ∙ ap (λ k. take k (y ∷ ys) ++ x ∷ []) (sym at)
+
+pub last_settles_at : (m : ℕ) (xs : List Event) (x : Event) → Some x ≡ slice_get xs (length xs - 1) → IsRising xs → nat_lt m x.moment ≡ list_any (λ e. nat_lt m e.moment) xs
+last_settles_at m xs x e h =
+    let cut = last_cut xs x e in
+    last_settles_so m (take (length xs - 1) xs) x (subst (λ (l : List Event). Rising l) cut (rising_of xs h)) ∙ ap (list_any (λ e. nat_lt m e.moment)) (sym cut)
+
+pub last_none : (xs : List Event) → None ≡ slice_get xs (length xs - 1) → xs ≡ []
+last_none [] e = refl
+last_none (y ∷ ys) e =
+    let at : length (y ∷ ys) - 1 ≡ length ys = omega arith in
+    let there = slice_get-get_or (y ∷ ys) (length ys) y (omega arith) in
+    absurd (cc (e ∙ ap (slice_get (y ∷ ys)) at ∙ there))
+
+-- events in rising number whose moments don't fall are in the order of their numbers
+numbers_above : (n : ℕ) (xs : List Event) → Each (λ y. n < y.seq) xs → AllAbove event_number n xs
+numbers_above n [] h = tt
+numbers_above n (x ∷ xs) h = (h.0, numbers_above n xs h.1)
+
+numbers_rise : (xs : List Event) → Rising xs → Rises event_number xs
+numbers_rise [] h = tt
+numbers_rise (x ∷ xs) h = (numbers_above x.seq xs (each_weaker (Before x) (λ y. x.seq < y.seq) (λ y b. b.0) xs h.0), numbers_rise xs h.1)
+
+pub in_number_order : (xs : List Event) → IsRising xs → IsInOrder nat_cmp event_number xs
+in_number_order xs h = in_order_of event_number xs (numbers_rise xs (rising_of xs h))

@@ -1,0 +1,282 @@
+-- A function gives each table of a history: its rows are at keys that the history names, and have their keys.
+use Rattle.plant_import.proofs.public.Placed.{there}
+use Rattle.plant_model.proofs.public.Base.{x}
+use Rattle.plant_model.specs.Changes.{Draft, approved_sheet, change, change_as, decision, draft, kind_of_change, limit_revision, matrix, proposals, record_as, record_of, record_revision, said_of_draft, sheet, sheet_in}
+use Rattle.plant_model.specs.Rows.{numbers_proposed, tag_rationalised, tags_approved}
+use Rattle.plant_model.specs.declared.call.Request.TheVariants.{Approve, Propose}
+use Rattle.plant_model.specs.declared.reply.ChangeRow.{ChangeRow}
+use Rattle.plant_model.specs.declared.reply.RecordRow.{RecordRow}
+use Rattle.plant_ration.specs.declared.change.ChangeKind.{ChangeKind}
+use Rattle.plant_ration.specs.declared.change.ChangeKind.TheVariants.{Limit, Matrix, Rationale}
+use Rattle.plant_ration.specs.declared.change.Sheet.{Sheet}
+use Rattle.std.specs.Prelude.{max, ◌+◌}
+use Rattle.plant_alarm.specs.declared.event.Event.{Event}
+use Rattle.plant_model.specs.Alarms.{latching, limit, said_of_latching}
+use Rattle.plant_import.specs.Numbers.{has_number, numbers_of}
+use Rattle.plant_model.specs.Events.{event_numbered, events_of, imported}
+use Rattle.plant_model.specs.Grants.{said_of_pair, standing}
+use Rattle.plant_model.specs.Histories.{Begins, Over, Said, all_named, latest, same_number, still, what_stands}
+use Rattle.plant_model.specs.Parts.{none, nothing}
+use Rattle.plant_model.specs.RowFacts.{alarm_tag, event_number, pair_of, shelf_tag}
+use Rattle.plant_model.specs.Rows.{alarm_as, alarm_row, grant_as, grant_row, pairs_named, tags_registered, tags_shelved}
+use Rattle.plant_model.specs.Service.{outage}
+use Rattle.plant_model.specs.Shelves.{said_of_shelf, shelf}
+use Rattle.plant_model.specs.declared.call.Call.{Call}
+use Rattle.plant_model.specs.declared.call.Request.{Request}
+use Rattle.plant_model.specs.declared.call.Request.TheVariants.{Grant, OneShotShelve, OpenUnit, Register, TimedShelve, Unshelve, Withdraw}
+use Rattle.plant_model.specs.declared.rows.AlarmRow.{AlarmRow}
+use Rattle.plant_model.specs.declared.rows.ShelfRow.{ShelfRow}
+use Rattle.plant_types.proofs.public.Orders.{name_total, number_total, pair_total, same_names, same_numbers, same_pairs}
+use Rattle.plant_types.proofs.public.KeyedRowLaws.{Tells, tied}
+use Rattle.plant_types.specs.Names.{Name, name_cmp, same_name}
+use Rattle.plant_types.specs.Options.{or_else, when}
+use Rattle.plant_types.specs.Roles.{Pair, pair_cmp}
+use Rattle.plant_types.specs.declared.role.Role.TheVariants.{Steward}
+use Rattle.std.proofs.Common.{ap, cond, inl, inr, refl, subst, sym, ◌∙◌}
+use Rattle.std.specs.List.{find, list_any}
+use Rattle.std.specs.Ordering.{eq_by_cmp, nat_cmp}
+use Rattle.std.specs.Prelude.{Bool, List, None, Option, Some, [], false, option_and_then, option_map, true, unwrap_or, ℕ, ◌++◌, ◌||◌, ◌∷◌, ◌≡◌, ◌⊎◌}
+use Rattle.std.specs.declared.cmp.Ordering.{Ordering}
+
+pub when_or : {A : Type 0} (b : Bool) (x : A) → (when b x ≡ None) ⊎ (b ≡ true)
+when_or true x = inr refl
+when_or false x = inl refl
+
+pub when_Some : {A : Type 0} (b : Bool) (x y : A) → when b x ≡ Some y → x ≡ y
+when_Some true x y e = cc
+when_Some false x y e = cc
+
+pub any-append-left : {K : Type 0} (p : K → Bool) (xs ys : List K) → list_any p xs ≡ true → list_any p (xs ++ ys) ≡ true
+any-append-left p [] ys e = cc
+any-append-left p (x ∷ xs) ys e =
+    elim (p x) as (λ b. (b || list_any p xs) ≡ true → (b || list_any p (xs ++ ys)) ≡ true) [ true ↦ λ _. refl | false ↦ λ rest. any-append-left p xs ys rest ] e
+
+pub any-append-right : {K : Type 0} (p : K → Bool) (xs ys : List K) → list_any p ys ≡ true → list_any p (xs ++ ys) ≡ true
+any-append-right p [] ys e = e
+any-append-right p (x ∷ xs) ys e = elim (p x) as (λ b. (b || list_any p (xs ++ ys)) ≡ true) [ true ↦ refl | false ↦ any-append-right p xs ys e ]
+
+-- where each entry speaks of keys alone that it names, what the newest says is of keys that are named
+module _ {A X K : Type 0} (R : K → K → Ordering) (says : Call → List Call → Option A) (g : A → Option X) (names : Call → List Call → List K) (k : K) where
+  abbrev IsNamed : Call → List Call → A → Type 0
+  IsNamed c before x = (g x ≡ None) ⊎ (list_any (eq_by_cmp R k) (names c before) ≡ true)
+
+  pub latest-named : ((c : Call) (before : List Call) (x : A) → says c before ≡ Some x → IsNamed c before x) → (h : List Call) → (option_and_then g (latest says h) ≡ None) ⊎ (list_any (eq_by_cmp R k) (all_named names h) ≡ true)
+  latest-named each [] = inl refl
+  latest-named each (c ∷ h) =
+      elim (says c h) as (λ o. says c h ≡ o → (option_and_then g (or_else o (latest says h)) ≡ None) ⊎ (list_any (eq_by_cmp R k) (names c h ++ all_named names h) ≡ true)) [
+        | None ↦ λ none. elim (latest-named each h) [
+          | inl rest ↦ inl rest
+          | inr there ↦ inr (any-append-right _ (names c h) _ there)
+        ]
+        | Some x ↦ λ some. elim (each c h x some) [
+          | inl nothing ↦ inl nothing
+          | inr here ↦ inr (any-append-left _ (names c h) _ here)
+        ]
+      ] refl
+
+-- what each entry says holds of what the newest says
+pub latest-holds : {A : Type 0} (says : Call → List Call → Option A) (P : A → Type 0) → ((c : Call) (before : List Call) (x : A) → says c before ≡ Some x → P x) → (h : List Call) (x : A) → latest says h ≡ Some x → P x
+latest-holds says P each [] x e = cc
+latest-holds says P each (c ∷ h) x e =
+    elim (says c h) as (λ o. says c h ≡ o → or_else o (latest says h) ≡ Some x → P x) [
+      | None ↦ λ none is. latest-holds says P each h x is
+      | Some y ↦ λ some is. each c h x (some ∙ is)
+    ] refl e
+
+mapped_none : {A X : Type 0} (f : A → X) (o : Option A) → option_and_then (λ x. Some (f x)) o ≡ None → option_map f o ≡ None
+mapped_none f None e = refl
+mapped_none f (Some x) e = cc
+
+pub mapped_key : {A X K : Type 0} (key : X → K) (f : A → X) (k : K) (o : Option A) (r : X) → ((x : A) → key (f x) ≡ k) → option_map f o ≡ Some r → key r ≡ k
+mapped_key key f k None r is e = cc
+mapped_key key f k (Some x) r is e = let same : f x ≡ r = cc in ap key (sym same) ∙ is x
+
+-- a request that names one key
+one_named : {A X K : Type 0} (R : K → K → Ordering) (g : A → Option X) (k x : K) (v y : A) → when (eq_by_cmp R k x) v ≡ Some y → (g y ≡ None) ⊎ (list_any (eq_by_cmp R k) (x ∷ []) ≡ true)
+one_named R g k x v y e =
+    elim (when_or (eq_by_cmp R k x) v) [ inl none ↦ absurd (let no : None ≡ Some y = sym none ∙ e in cc) | inr same ↦ inr (ap (λ b. b || false) same) ]
+
+-- Grants
+flat_none : {A X : Type 0} (f : A → X) (o : Option (Said A)) → option_and_then (λ x. option_map f (what_stands x)) o ≡ None → option_map f (still o) ≡ None
+flat_none f None e = refl
+flat_none f (Some x) e = e
+
+pair_is_named : (k : Pair) (q : Request) (v : Said (Option ℕ)) → said_of_pair k q ≡ Some v → (option_map (grant_as k) (what_stands v) ≡ None) ⊎ (list_any (eq_by_cmp pair_cmp k) (pairs_named q) ≡ true)
+pair_is_named k (OpenUnit u s m q) v e = one_named pair_cmp (λ x. option_map (grant_as k) (what_stands x)) k (s, Steward) (Begins None) v e
+pair_is_named k (Grant u p t) v e = one_named pair_cmp (λ x. option_map (grant_as k) (what_stands x)) k (p, t.0) (Begins t.1) v e
+pair_is_named k (Withdraw u p r) v e = one_named pair_cmp (λ x. option_map (grant_as k) (what_stands x)) k (p, r) Over v e
+pair_is_named k _ v e = cc
+
+abbrev pub pairs_of : List Call → List Pair
+pairs_of h = all_named (λ c before. pairs_named c.request) h
+
+pub grants_told : (h : List Call) → Tells pair_cmp pair_of (grant_row h) (pairs_of h)
+grants_told h =
+    record {
+      order = pair_total;
+      same = same_pairs;
+      at_key = λ k r e. mapped_key pair_of (grant_as k) k (standing h k) r (λ x. refl) e;
+      among = λ k. elim (latest-named pair_cmp (λ c before. said_of_pair k c.request) (λ x. option_map (grant_as k) (what_stands x)) (λ c before. pairs_named c.request) k (λ c before x. pair_is_named k c.request x) h) [
+        | inl none ↦ inl (flat_none (grant_as k) (latest (λ c before. said_of_pair k c.request) h) none)
+        | inr there ↦ inr there
+      ];
+    }
+
+-- Alarms
+tag_is_registered : (a : Name) (g : Bool → Option AlarmRow) (q : Request) (l : Bool) → said_of_latching a q ≡ Some l → (g l ≡ None) ⊎ (list_any (eq_by_cmp name_cmp a) (tags_registered q) ≡ true)
+tag_is_registered a g (Register u b l m) v e = one_named name_cmp g a b l v e
+tag_is_registered a g _ v e = cc
+
+abbrev pub tags_of_alarms : List Call → List Name
+tags_of_alarms h = all_named (λ c before. tags_registered c.request) h
+
+abbrev pub alarm_of : List Call → Name → Bool → AlarmRow
+alarm_of h a = alarm_as a (unwrap_or (limit h a) 0) (limit_revision h a) (events_of h a) (outage h a)
+
+pub alarms_told : (h : List Call) → Tells name_cmp alarm_tag (alarm_row h) (tags_of_alarms h)
+alarms_told h =
+    record {
+      order = name_total;
+      same = same_names;
+      at_key = λ a r e. mapped_key alarm_tag (alarm_of h a) a (latching h a) r (λ x. refl) e;
+      among = λ a. elim (latest-named name_cmp (λ c before. said_of_latching a c.request) (λ l. Some (alarm_of h a l)) (λ c before. tags_registered c.request) a (λ c before x. tag_is_registered a (λ l. Some (alarm_of h a l)) c.request x) h) [
+        | inl none ↦ inl (mapped_none (alarm_of h a) (latching h a) none)
+        | inr there ↦ inr there
+      ];
+    }
+
+-- Shelves
+tag_is_shelved : (a p : Name) (t : ℕ) (before : List Call) (q : Request) (v : Said ShelfRow) → said_of_shelf a p t before q ≡ Some v → (what_stands v ≡ None) ⊎ (list_any (eq_by_cmp name_cmp a) (tags_shelved q) ≡ true)
+tag_is_shelved a p t before (TimedShelve u b d w) v e = one_named name_cmp what_stands a b _ v e
+tag_is_shelved a p t before (OneShotShelve u b w) v e = one_named name_cmp what_stands a b _ v e
+tag_is_shelved a p t before (Unshelve u b) v e = one_named name_cmp what_stands a b _ v e
+tag_is_shelved a p t before _ v e = cc
+
+-- a shelf that is said of an alarm has its tag
+abbrev HasTag : Name → Said ShelfRow → Type 0
+HasTag a Over = Unit {0}
+HasTag a (Begins s) = s.tag ≡ a
+
+when_HasTag : (b : Bool) (a : Name) (o x : Said ShelfRow) → when b o ≡ Some x → HasTag a o → HasTag a x
+when_HasTag b a o x e h = subst (HasTag a) (when_Some b o x e) h
+
+shelf_has_tag : (a p : Name) (t : ℕ) (before : List Call) (q : Request) (x : Said ShelfRow) → said_of_shelf a p t before q ≡ Some x → HasTag a x
+shelf_has_tag a p t before (TimedShelve u b d w) x e = when_HasTag (same_name a b) a _ x e refl
+shelf_has_tag a p t before (OneShotShelve u b w) x e = when_HasTag (same_name a b) a _ x e refl
+shelf_has_tag a p t before (Unshelve u b) x e = when_HasTag (same_name a b) a _ x e tt
+shelf_has_tag a p t before _ x e = cc
+
+shelf_row_tag : (a : Name) (o : Option (Said ShelfRow)) (r : ShelfRow) → ((x : Said ShelfRow) → o ≡ Some x → HasTag a x) → still o ≡ Some r → r.tag ≡ a
+shelf_row_tag a None r has e = cc
+shelf_row_tag a (Some Over) r has e = cc
+shelf_row_tag a (Some (Begins s)) r has e = let same : s ≡ r = cc in sym (ap (λ (x : ShelfRow). x.tag) same) ∙ has (Begins s) refl
+
+flat_same : {X : Type 0} (o : Option (Said X)) → option_and_then what_stands o ≡ None → still o ≡ None
+flat_same None e = refl
+flat_same (Some x) e = e
+
+abbrev pub tags_of_shelves : List Call → List Name
+tags_of_shelves h = all_named (λ c before. tags_shelved c.request) h
+
+pub shelves_told : (h : List Call) → Tells name_cmp shelf_tag (shelf h) (tags_of_shelves h)
+shelves_told h =
+    record {
+      order = name_total;
+      same = same_names;
+      at_key = λ a r e. shelf_row_tag a _ r (latest-holds (λ c before. said_of_shelf a c.person c.moment before c.request) (HasTag a) (λ c before x said. shelf_has_tag a c.person c.moment before c.request x said) h) e;
+      among = λ a. elim (latest-named name_cmp (λ c before. said_of_shelf a c.person c.moment before c.request) what_stands (λ c before. tags_shelved c.request) a (λ c before x. tag_is_shelved a c.person c.moment before c.request x) h) [
+        | inl none ↦ inl (flat_same (latest (λ c before. said_of_shelf a c.person c.moment before c.request) h) none)
+        | inr there ↦ inr there
+      ];
+    }
+
+-- Events
+find_holds : (n : ℕ) (es : List Event) (e : Event) → find (has_number n) es ≡ Some e → same_number n e.seq ≡ true
+find_holds n [] e is = cc
+find_holds n (x ∷ es) e is =
+    elim (same_number n x.seq) as (λ b. same_number n x.seq ≡ b → cond b (Some x) (find (has_number n) es) ≡ Some e → same_number n e.seq ≡ true) [
+      | true ↦ λ t here. let same : x ≡ e = cc in ap (λ y. same_number n y.seq) (sym same) ∙ t
+      | false ↦ λ t rest. find_holds n es e rest
+    ] refl is
+
+find_any : (n : ℕ) (es : List Event) (e : Event) → find (has_number n) es ≡ Some e → list_any (eq_by_cmp nat_cmp n) (numbers_of es) ≡ true
+find_any n [] e is = cc
+find_any n (x ∷ es) e is =
+    elim (same_number n x.seq) as (λ b. cond b (Some x) (find (has_number n) es) ≡ Some e → (b || list_any (eq_by_cmp nat_cmp n) (numbers_of es)) ≡ true) [ true ↦ λ _. refl | false ↦ λ rest. find_any n es e rest ] is
+
+abbrev pub numbers_of_events : List Call → List ℕ
+numbers_of_events h = all_named (λ c before. numbers_of (imported c.request)) h
+
+itself : {X : Type 0} (o : Option X) → option_and_then (λ x. Some x) o ≡ None → o ≡ None
+itself None e = refl
+itself (Some x) e = cc
+
+pub events_told : (h : List Call) → Tells nat_cmp event_number (event_numbered h) (numbers_of_events h)
+events_told h =
+    record {
+      order = number_total;
+      same = same_numbers;
+      at_key = λ n r e. sym (same_numbers n r.seq (tied _ _ (latest-holds (λ c before. find (has_number n) (imported c.request)) (λ x. same_number n x.seq ≡ true) (λ c before x. find_holds n (imported c.request) x) h r e) refl));
+      among = λ n. elim (latest-named nat_cmp (λ c before. find (has_number n) (imported c.request)) (λ x. Some x) (λ c before. numbers_of (imported c.request)) n (λ c before x is. inr (find_any n (imported c.request) x is)) h) [
+        | inl none ↦ inl (itself _ none)
+        | inr there ↦ inr there
+      ];
+    }
+
+-- Records
+sheet_is_named : (a : Name) (n : ℕ) (g : ℕ × Sheet → Option RecordRow) (k : Option ChangeKind) (x : ℕ × Sheet) → sheet_in a n k ≡ Some x → (g x ≡ None) ⊎ (list_any (eq_by_cmp name_cmp a) (tag_rationalised k) ≡ true)
+sheet_is_named a n g None x e = cc
+sheet_is_named a n g (Some (Rationale b s)) x e = one_named name_cmp g a b (n, s) x e
+sheet_is_named a n g (Some (Matrix m)) x e = cc
+sheet_is_named a n g (Some (Limit b max)) x e = cc
+
+sheet_is_approved : (a : Name) (g : ℕ × Sheet → Option RecordRow) (before : List Call) (q : Request) (x : ℕ × Sheet) → approved_sheet a before q ≡ Some x → (g x ≡ None) ⊎ (list_any (eq_by_cmp name_cmp a) (tags_approved before q) ≡ true)
+sheet_is_approved a g before (Approve u n) x e = sheet_is_named a n g (kind_of_change before n) x e
+sheet_is_approved a g before _ x e = cc
+
+abbrev pub tags_of_records : List Call → List Name
+tags_of_records h = all_named (λ c before. tags_approved before c.request) h
+
+abbrev pub record_with : List Call → Name → ℕ × Sheet → RecordRow
+record_with h a = record_as (matrix h).1 (record_revision h a) a
+
+abbrev pub tag_of_record : RecordRow → Name
+tag_of_record r = r.tag
+
+pub records_told : (h : List Call) → Tells name_cmp tag_of_record (record_of h) (tags_of_records h)
+records_told h =
+    record {
+      order = name_total;
+      same = same_names;
+      at_key = λ a r e. mapped_key tag_of_record (record_with h a) a (sheet h a) r (λ x. refl) e;
+      among = λ a. elim (latest-named name_cmp (λ c before. approved_sheet a before c.request) (λ x. Some (record_with h a x)) (λ c before. tags_approved before c.request) a (λ c before x. sheet_is_approved a (λ y. Some (record_with h a y)) before c.request x) h) [
+        | inl none ↦ inl (mapped_none (record_with h a) (sheet h a) none)
+        | inr there ↦ inr there
+      ];
+    }
+
+-- Changes
+draft_is_named : (n : ℕ) (p : Name) (t : ℕ) (g : Draft → Option ChangeRow) (before : List Call) (q : Request) (x : Draft) → said_of_draft n p t before q ≡ Some x → (g x ≡ None) ⊎ (list_any (eq_by_cmp nat_cmp n) (numbers_proposed before q) ≡ true)
+draft_is_named n p t g before (Propose u y) x e = one_named nat_cmp g n (proposals before + 1) _ x e
+draft_is_named n p t g before _ x e = cc
+
+abbrev pub numbers_of_changes : List Call → List ℕ
+numbers_of_changes h = all_named (λ c before. numbers_proposed before c.request) h
+
+abbrev pub change_with : List Call → ℕ → Draft → ChangeRow
+change_with h n = change_as n (decision h n)
+
+abbrev pub number_of_change : ChangeRow → ℕ
+number_of_change c = c.number
+
+pub changes_told : (h : List Call) → Tells nat_cmp number_of_change (change h) (numbers_of_changes h)
+changes_told h =
+    record {
+      order = number_total;
+      same = same_numbers;
+      at_key = λ n r e. mapped_key number_of_change (change_with h n) n (draft h n) r (λ x. refl) e;
+      among = λ n. elim (latest-named nat_cmp (λ c before. said_of_draft n c.person c.moment before c.request) (λ x. Some (change_with h n x)) (λ c before. numbers_proposed before c.request) n (λ c before x. draft_is_named n c.person c.moment (λ y. Some (change_with h n y)) before c.request x) h) [
+        | inl none ↦ inl (mapped_none (change_with h n) (draft h n) none)
+        | inr there ↦ inr there
+      ];
+    }

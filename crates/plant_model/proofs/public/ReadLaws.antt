@@ -1,0 +1,548 @@
+-- The matrices of a legal history are read back from the rows of their bands and cells, each at its number.
+use Rattle.plant_model.proofs.public.Base.{plain}
+use Rattle.plant_model.proofs.public.FactLaws.{AreReadable, draft_bound, facts_told, not_true}
+use Rattle.plant_model.proofs.public.HistoryLaws.{change_with, changes_told, numbers_of_changes, when_Some}
+use Rattle.plant_model.proofs.MatrixLaws.{number_bound}
+use Rattle.plant_model.specs.Changes.{Draft, change, draft, kind_of_change, matrix, matrix_in, no_matrix, proposals, said_of_draft, said_of_matrix}
+use Rattle.plant_model.specs.Facts.{facts}
+use Rattle.plant_model.specs.Histories.{latest}
+use Rattle.plant_model.specs.Legality.{IsLegal, has_matrix, is_matrix_kind, may_follow}
+use Rattle.plant_model.specs.Matrices.{numbered_matrix, when_number}
+use Rattle.plant_model.specs.RowFacts.{change_number, facts_from, facts_of, last_number}
+use Rattle.plant_model.specs.Rows.{alarm_rows, change_entry, change_rows}
+use Rattle.plant_model.specs.Verdicts.{is_opening}
+use Rattle.plant_model.specs.declared.call.Request.{Request}
+use Rattle.plant_model.specs.declared.call.Request.TheVariants.{Approve, OpenUnit, Propose}
+use Rattle.plant_ration.specs.declared.change.ChangeKind.{ChangeKind}
+use Rattle.plant_ration.specs.declared.change.ChangeKind.TheVariants.{Limit, Matrix, Rationale}
+use Rattle.plant_types.proofs.public.KeyedRowLaws.{put-rows}
+use Rattle.plant_types.specs.Names.{Name}
+use Rattle.plant_types.specs.Options.{or_else, when}
+use Rattle.plant_types.specs.KeyedRows.{put_row}
+use Rattle.std.specs.FinMap.Entries.{by_order}
+use Rattle.std.specs.Prelude.{is_some, max, not, ◌-◌}
+use Rattle.plant_import.proofs.public.Placed.{there}
+use Rattle.plant_model.proofs.public.Base.{at, x}
+use Rattle.plant_model.proofs.public.FactLaws.{is_same_number, same_number_of}
+use Rattle.plant_model.proofs.public.HistoryLaws.{mapped_key}
+use Rattle.plant_model.proofs.MatrixLaws.{band_here, band_key_of, band_keys, bands_told, cell_key_of, cell_keys, cells_told, found_any, row_here}
+use Rattle.plant_model.proofs.PlaceOrders.{band_total, cell_total, same_bands, same_cells}
+use Rattle.plant_model.proofs.public.ServiceLaws.{both_true}
+use Rattle.plant_model.specs.Histories.{same_number}
+use Rattle.plant_model.specs.Matrices.{BandKey, CellKey, at_place, band_at, band_cmp, band_places, cell_cmp, cell_of, matrix_numbered}
+use Rattle.plant_model.specs.RowFacts.{band_key, cell_key, cells_at, has_cells, matrix_read}
+use Rattle.plant_model.specs.Rows.{band_row, band_rows, cell_row, cell_rows, rows_of}
+use Rattle.plant_model.specs.declared.call.Call.{Call}
+use Rattle.plant_model.specs.declared.rows.BandRow.{BandRow}
+use Rattle.plant_model.specs.declared.rows.CellRow.{CellRow}
+use Rattle.plant_ration.specs.Grid.{Grid}
+use Rattle.plant_ration.specs.Matrix.{is_matrix}
+use Rattle.plant_ration.specs.declared.cell.Cell.{Cell}
+use Rattle.plant_types.proofs.public.KeyedRowLaws.{IsInOrder-rows, IsInOrder-told, Tells, row_at-rows, row_at-told, same_rows, settled, tied}
+use Rattle.plant_types.specs.KeyedRows.{IsInOrder, in_order, row_at}
+use Rattle.std.proofs.Common.{eqb→eq, T, ap, append_assoc, arith, cond, inl, inr, length-append, refl, subst, sym, ◌∙◌, ◌⊎◌}
+use Rattle.std.proofs.lemmas.Bool.Decides.{nat_tests}
+use Rattle.std.specs.Cmp.{IsTotalOrder, nat_cmp_is}
+use Rattle.std.specs.FinMap.{get}
+use Rattle.std.specs.FinMap.Entries.{below_all}
+use Rattle.std.specs.List.{cons_option, enumerate_from, list_all, list_any, range_with_len, slice_get}
+use Rattle.std.specs.Ordering.{eq_by_cmp, is_lt, nat_cmp, ordering_then}
+use Rattle.std.specs.Prelude.{Bool, List, None, Option, Some, [], false, filter, filter_map, length, map, nat_le, nat_lt, option_and_then, option_map, suc, true, unwrap_or, zero, ℕ, ◌&&◌, ◌++◌, ◌+◌, ◌<◌, ◌==◌, ◌∷◌, ◌≡◌, ◌≤◌}
+use Rattle.std.specs.declared.cmp.Ordering.{Ordering}
+use Rattle.std.specs.declared.cmp.Ordering.TheVariants.{Equal, Greater, Less}
+
+no_row : {X : Type 0} (b : Bool) (o : Option X) → o ≡ None → o ≡ cond b o None
+no_row true o e = refl
+no_row false o e = e
+
+-- The rows of a table whose keys pass a test
+module _ {K X : Type 0} (R : K → K → Ordering) (key : X → K) where
+  both : (a b : Bool) → T a → T b → T (a && b)
+  both true b p q = q
+  both false b p q = p
+
+  first : (a b : Bool) → T (a && b) → T a
+  first true b p = tt
+  first false b p = p
+
+  second : (a b : Bool) → T (a && b) → T b
+  second true b p = p
+  second false b p = absurd p
+
+  below_left : (p : X → Bool) (k : K) (rows : List X) → T (below_all R k (map (λ r. (key r, r)) rows)) → T (below_all R k (map (λ r. (key r, r)) (filter p rows)))
+  below_left p k [] h = tt
+  below_left p k (r ∷ rows) h =
+      let rest = below_left p k rows (second _ _ h) in
+      elim (p r) as (λ b. T (below_all R k (map (λ r. (key r, r)) (cond b (r ∷ filter p rows) (filter p rows))))) [ true ↦ both _ _ (first _ _ h) rest | false ↦ rest ]
+
+  -- rows in order stay in order where some are left out
+  pub left_in_order : (p : X → Bool) (rows : List X) → IsInOrder R key rows → IsInOrder R key (filter p rows)
+  left_in_order p [] h = tt
+  left_in_order p (r ∷ rows) h =
+      let rest = left_in_order p rows (second _ _ h) in
+      elim (p r) as (λ b. IsInOrder R key (cond b (r ∷ filter p rows) (filter p rows))) [ true ↦ both _ _ (below_left p (key r) rows (first _ _ h)) rest | false ↦ rest ]
+
+  module _ (o : IsTotalOrder R) (same : (x y : K) → R x y ≡ Equal → x ≡ y) (test : K → Bool) where
+    pub row_at-left : (q : K) (rows : List X) → row_at R key q (filter (λ r. test (key r)) rows) ≡ cond (test q) (row_at R key q rows) None
+    row_at-left q [] = no_row (test q) None refl
+    row_at-left q (r ∷ rows) =
+        let rest = row_at-left q rows in
+        elim (test (key r)) as (λ b. test (key r) ≡ b → row_at R key q (cond b (r ∷ filter (λ r. test (key r)) rows) (filter (λ r. test (key r)) rows)) ≡ cond (test q) (row_at R key q (r ∷ rows)) None) [
+          | true ↦ λ t. elim (eq_by_cmp R q (key r)) as (λ b. eq_by_cmp R q (key r) ≡ b → cond b (Some r) (row_at R key q (filter (λ r. test (key r)) rows)) ≡ cond (test q) (cond b (Some r) (row_at R key q rows)) None) [
+            | true ↦ λ e. sym (ap (λ b. cond b (Some r) None) (ap test (same q (key r) (tied _ true e refl)) ∙ t))
+            | false ↦ λ _. rest
+          ] refl
+          | false ↦ λ t. rest ∙ elim (eq_by_cmp R q (key r)) as (λ b. eq_by_cmp R q (key r) ≡ b → cond (test q) (row_at R key q rows) None ≡ cond (test q) (cond b (Some r) (row_at R key q rows)) None) [
+            | true ↦ λ e. let no : test q ≡ false = ap test (same q (key r) (tied _ true e refl)) ∙ t in ap (λ b. cond b (row_at R key q rows) None) no ∙ sym (ap (λ b. cond b (Some r) None) no)
+            | false ↦ λ _. refl
+          ] refl
+        ] refl
+
+    -- they are those that another function tells at rising places
+    left_rows : (told : K → Option X) (ks : List K) → Tells R key told ks → (row : K → Option X) (places : List K) → ((k : K) (r : X) → row k ≡ Some r → key r ≡ k) → IsInOrder R (λ k. k) places → ((q : K) → (row q ≡ None) ⊎ (list_any (eq_by_cmp R q) places ≡ true)) → ((q : K) → cond (test q) (told q) None ≡ row q) → filter (λ r. test (key r)) (filter_map told (in_order R ks)) ≡ filter_map row places
+    left_rows told ks t row places at_key rise among is =
+        same_rows R key o same _ _ (left_in_order (λ r. test (key r)) _ (IsInOrder-rows told ks t)) (IsInOrder-told R key o same row at_key places rise)
+        (λ q. row_at-left q _ ∙ ap (λ x. cond (test q) x None) (row_at-rows told ks t q) ∙ is q
+        ∙ sym (row_at-told R key o same row at_key q places ∙ ap (λ b. cond b (row q) None) (found_any R q places) ∙ settled _ _ (among q)))
+
+-- The elements of a list, one for each of its places
+get-after : {A : Type 0} (pre : List A) (x : A) (post : List A) → slice_get (pre ++ x ∷ post) (length pre) ≡ Some x
+get-after [] x post = refl
+get-after (y ∷ pre) x post = get-after pre x post
+
+pub place-after : {A : Type 0} (pre : List A) (x : A) (post : List A) → at_place (pre ++ x ∷ post) (length pre + 1) ≡ Some x
+place-after pre x post = ap (at_place (pre ++ x ∷ post)) (let e : length pre + 1 ≡ suc (length pre) = omega arith in e) ∙ get-after pre x post
+
+pub filter_map-map : {A B C : Type 0} (f : B → Option C) (g : A → B) (xs : List A) → filter_map f (map g xs) ≡ filter_map (λ x. f (g x)) xs
+filter_map-map f g [] = refl
+filter_map-map f g (x ∷ xs) = ap (cons_option (f (g x))) (filter_map-map f g xs)
+
+-- rows made of the elements at the places of a list are made of its elements in their order
+pub listed : {A B : Type 0} (make : ℕ → A → B) (whole pre xs : List A) (s : ℕ) → s ≡ length pre + 1 → whole ≡ pre ++ xs → filter_map (λ b. option_map (make b) (at_place whole b)) (range_with_len s (length xs)) ≡ map (λ e. make e.0 e.1) (enumerate_from s xs)
+listed make whole pre [] s at is = refl
+listed make whole pre (x ∷ xs) s at is =
+    let here : at_place whole s ≡ Some x = ap (λ w. at_place w s) is ∙ ap (at_place (pre ++ x ∷ xs)) at ∙ place-after pre x xs in
+    let more : s + 1 ≡ length (pre ++ x ∷ []) + 1 = omega (arith, at, length-append pre (x ∷ [])) in
+    let rest = listed make whole (pre ++ x ∷ []) xs (s + 1) more (is ∙ sym (append_assoc pre (x ∷ []) xs)) in
+    λ i. cons_option (option_map (make s) (here i)) (rest i)
+
+told_back : {A B : Type 0} (make : ℕ → A → B) (get : B → A) → ((b : ℕ) (x : A) → get (make b x) ≡ x) → (xs : List A) (s : ℕ) → map get (map (λ e. make e.0 e.1) (enumerate_from s xs)) ≡ xs
+told_back make get back [] s = refl
+told_back make get back (x ∷ xs) s = λ i. back s x i ∷ told_back make get back xs (s + 1) i
+
+-- Places rise
+lower : (a b : ℕ) → a < b → is_lt (nat_cmp a b) ≡ true
+lower a b less = ap (λ c. is_lt (cond c Less (cond (a == b) Equal Greater))) (test a b less) where
+  test : (a b : ℕ) → a < b → nat_lt a b ≡ true
+  test a b less = grind (arith, nat_tests)
+
+level : (n : ℕ) → nat_cmp n n ≡ Equal
+level n = tied _ true (is_same_number n) refl
+
+band_below : (n a b : ℕ) → a < b → is_lt (band_cmp (band_key_of n a) (band_key_of n b)) ≡ true
+band_below n a b less = ap (λ o. is_lt (ordering_then o (nat_cmp a b))) (level n) ∙ lower a b less
+
+cell_below : (n s a b : ℕ) → a < b → is_lt (cell_cmp (cell_key_of n s a) (cell_key_of n s b)) ≡ true
+cell_below n s a b less = (λ i. is_lt (ordering_then (level n i) (ordering_then (level s i) (nat_cmp a b)))) ∙ lower a b less
+
+module _ {K : Type 0} (R : K → K → Ordering) (place : ℕ → K) (below : (a b : ℕ) → a < b → is_lt (R (place a) (place b)) ≡ true) where
+  below_range : (a s len : ℕ) → a < s → T (below_all R (place a) (map (λ k. (k, k)) (map place (range_with_len s len))))
+  below_range a s zero less = tt
+  below_range a s (suc len) less = both R (λ k. k) _ _ (subst T (sym (below a s less)) tt) (below_range a (s + 1) len (omega (arith, less)))
+
+  places_rise : (s len : ℕ) → IsInOrder R (λ k. k) (map place (range_with_len s len))
+  places_rise s zero = tt
+  places_rise s (suc len) = both R (λ k. k) _ _ (below_range s (s + 1) len (omega arith)) (places_rise (s + 1) len)
+
+-- The limits and the cells of a matrix
+module _ (h : List Call) (n : ℕ) (m : Grid) (numbered : matrix_numbered h n ≡ Some m) where
+  abbrev at_band : BandKey → Option BandRow
+  at_band q = cond (same_number n q.0) (band_at q m) None
+
+  band_make : ℕ → ℕ → BandRow
+  band_make b l = record { matrix_no = n; band_no = b; limit_s = l }
+
+  band_kept : (q : BandKey) (r : BandRow) → at_band q ≡ Some r → band_key r ≡ q
+  band_kept q r e = elim (same_number n q.0) as (λ b. cond b (band_at q m) None ≡ Some r → band_key r ≡ q) [
+    | true ↦ λ is. mapped_key band_key (λ l. record { matrix_no = q.0; band_no = q.1; limit_s = l }) q (at_place m.limits q.1) r (λ x. refl) is
+    | false ↦ λ no. cc
+  ] e
+
+  band_among : (q : BandKey) → (at_band q ≡ None) ⊎ (list_any (eq_by_cmp band_cmp q) (band_places n m) ≡ true)
+  band_among q = elim (same_number n q.0) as (λ b. same_number n q.0 ≡ b → (cond b (band_at q m) None ≡ None) ⊎ (list_any (eq_by_cmp band_cmp q) (band_places n m) ≡ true)) [
+    | true ↦ λ s. subst (λ k. (band_at q m ≡ None) ⊎ (list_any (eq_by_cmp band_cmp q) (band_places k m) ≡ true)) (sym (same_number_of n q.0 s)) (band_here q.0 q.1 m)
+    | false ↦ λ _. inl refl
+  ] refl
+
+  band_told : (q : BandKey) → cond (same_number n q.0) (band_row h q) None ≡ at_band q
+  band_told q = elim (same_number n q.0) as (λ b. same_number n q.0 ≡ b → cond b (band_row h q) None ≡ cond b (band_at q m) None) [
+    | true ↦ λ s. ap (λ k. option_and_then (band_at q) (matrix_numbered h k)) (sym (same_number_of n q.0 s)) ∙ ap (option_and_then (band_at q)) numbered
+    | false ↦ λ _. refl
+  ] refl
+
+  limits_back : map (λ (b : BandRow). b.limit_s) (filter (λ (b : BandRow). same_number n b.matrix_no) (band_rows h)) ≡ m.limits
+  unfolding band_make
+  limits_back =
+      ap (map (λ (b : BandRow). b.limit_s)) (
+      left_rows band_cmp band_key band_total same_bands (λ k. same_number n k.0) (band_row h) (band_keys h) (bands_told h) at_band (band_places n m) band_kept (places_rise band_cmp (band_key_of n) (band_below n) 1 (length m.limits)) band_among band_told
+      ∙ filter_map-map at_band (band_key_of n) (range_with_len 1 (length m.limits))
+      ∙ (λ i. filter_map (λ b. cond (is_same_number n i) (option_map (band_make b) (at_place m.limits b)) None) (range_with_len 1 (length m.limits)))
+      ∙ listed band_make m.limits [] m.limits 1 refl refl)
+      ∙ told_back band_make (λ (b : BandRow). b.limit_s) (λ b x. refl) m.limits 1
+
+  module _ (s : ℕ) where
+    abbrev row_there : List Cell
+    row_there = unwrap_or (at_place m.cells s) []
+
+    abbrev is_cell : CellKey → Bool
+    is_cell q = same_number n q.0 && same_number s q.1
+
+    abbrev at_cell : CellKey → Option CellRow
+    at_cell q = cond (is_cell q) (option_map (λ c. record { matrix_no = q.0; severity = q.1; band_no = q.2; cell_no = c }) (at_place row_there q.2)) None
+
+    cell_make : ℕ → Cell → CellRow
+    cell_make b c = record { matrix_no = n; severity = s; band_no = b; cell_no = c }
+
+    cell_kept : (q : CellKey) (r : CellRow) → at_cell q ≡ Some r → cell_key r ≡ q
+    cell_kept q r e = elim (is_cell q) as (λ b. cond b (option_map (λ c. record { matrix_no = q.0; severity = q.1; band_no = q.2; cell_no = c }) (at_place row_there q.2)) None ≡ Some r → cell_key r ≡ q) [
+      | true ↦ λ is. mapped_key cell_key (λ c. record { matrix_no = q.0; severity = q.1; band_no = q.2; cell_no = c }) q (at_place row_there q.2) r (λ x. refl) is
+      | false ↦ λ no. cc
+    ] e
+
+    cell_keyed : (q : CellKey) → is_cell q ≡ true → (n ≡ q.0) × (s ≡ q.1)
+    cell_keyed q e = let parts = both_true (same_number n q.0) (same_number s q.1) e in (same_number_of n q.0 parts.0, same_number_of s q.1 parts.1)
+
+    abbrev cell_made : CellKey → Option CellRow
+    cell_made q = option_map (λ c. record { matrix_no = q.0; severity = q.1; band_no = q.2; cell_no = c }) (at_place row_there q.2)
+
+    abbrev cell_range : List CellKey
+    cell_range = map (cell_key_of n s) (range_with_len 1 (length row_there))
+
+    among_of : (q : CellKey) → n ≡ q.0 → s ≡ q.1 → (at_place row_there q.2 ≡ None) ⊎ (list_any (eq_by_cmp cell_cmp (cell_key_of n s q.2)) cell_range ≡ true) → (cell_made q ≡ None) ⊎ (list_any (eq_by_cmp cell_cmp q) cell_range ≡ true)
+    among_of q a b (inl none) = inl (ap (option_map (λ c. record { matrix_no = q.0; severity = q.1; band_no = q.2; cell_no = c })) none)
+    among_of q a b (inr there) = inr ((λ i. list_any (eq_by_cmp cell_cmp (sym a i, sym b i, q.2)) cell_range) ∙ there)
+
+    cell_among : (q : CellKey) → (at_cell q ≡ None) ⊎ (list_any (eq_by_cmp cell_cmp q) cell_range ≡ true)
+    cell_among q = elim (is_cell q) as (λ b. is_cell q ≡ b → (cond b (cell_made q) None ≡ None) ⊎ (list_any (eq_by_cmp cell_cmp q) cell_range ≡ true)) [
+      | true ↦ λ t. among_of q (cell_keyed q t).0 (cell_keyed q t).1 (row_here n s q.2 row_there)
+      | false ↦ λ _. inl refl
+    ] refl
+
+    row_of_place : (o : Option (List Cell)) (b : ℕ) → option_and_then (λ row. at_place row b) o ≡ at_place (unwrap_or o []) b
+    row_of_place (Some row) b = refl
+    row_of_place None zero = refl
+    row_of_place None (suc b) = refl
+
+    cell_told : (q : CellKey) → cond (is_cell q) (cell_row h q) None ≡ at_cell q
+    cell_told q = elim (is_cell q) as (λ b. is_cell q ≡ b → cond b (cell_row h q) None ≡ cond b (option_map (λ c. record { matrix_no = q.0; severity = q.1; band_no = q.2; cell_no = c }) (at_place row_there q.2)) None) [
+      | true ↦ λ t.
+          let keys = cell_keyed q t in
+          ap (λ k. option_and_then (cell_of q) (matrix_numbered h k)) (sym keys.0) ∙ ap (option_and_then (cell_of q)) numbered
+          ∙ ap (option_map (λ c. record { matrix_no = q.0; severity = q.1; band_no = q.2; cell_no = c })) (row_of_place (at_place m.cells q.1) q.2 ∙ ap (λ k. at_place (unwrap_or (at_place m.cells k) []) q.2) (sym keys.1))
+      | false ↦ λ _. refl
+    ] refl
+
+    both_same : (same_number n n && same_number s s) ≡ true
+    both_same = λ i. is_same_number n i && is_same_number s i
+
+    cells_back : cells_at (cell_rows h) n s ≡ row_there
+    unfolding cell_make
+    cells_back =
+        ap (map (λ (c : CellRow). c.cell_no)) (
+        left_rows cell_cmp cell_key cell_total same_cells is_cell (cell_row h) (cell_keys h) (cells_told h) at_cell (map (cell_key_of n s) (range_with_len 1 (length row_there))) cell_kept (places_rise cell_cmp (cell_key_of n s) (cell_below n s) 1 (length row_there)) cell_among cell_told
+        ∙ filter_map-map at_cell (cell_key_of n s) (range_with_len 1 (length row_there))
+        ∙ (λ i. filter_map (λ b. cond (both_same i) (option_map (cell_make b) (at_place row_there b)) None) (range_with_len 1 (length row_there)))
+        ∙ listed cell_make row_there [] row_there 1 refl refl)
+        ∙ told_back cell_make (λ (c : CellRow). c.cell_no) (λ b x. refl) row_there 1
+
+-- The rows that have cells are all rows of a matrix
+le_of : (m n : ℕ) → nat_le m n ≡ true → m ≤ n
+le_of m n e = grind (arith, nat_tests)
+
+abbrev AllFull : List (List Cell) → Type 0
+AllFull [] = Unit {0}
+AllFull (row ∷ rows) = (has_cells row ≡ true) × AllFull rows
+
+wide_full : (width : ℕ) (rows : List (List Cell)) → list_all (λ row. length row == width + 1) rows ≡ true → AllFull rows
+wide_full width [] e = tt
+wide_full width ([] ∷ rows) e = absurd (none width (both_true (0 == width + 1) _ e).0) where
+  none : (w : ℕ) → (0 == w + 1) ≡ true → ⊥
+  none w t = let same : 0 ≡ w + 1 = eqb→eq 0 (w + 1) (subst T (sym t) tt) in omega (arith, same)
+wide_full width ((c ∷ row) ∷ rows) e = (refl, wide_full width rows (both_true _ _ e).1)
+
+five_rows : (rows : List (List Cell)) → length rows ≤ 5 → AllFull rows → filter has_cells (map (λ s. unwrap_or (at_place rows s) []) (range_with_len 1 5)) ≡ rows
+five_rows [] few full = refl
+five_rows (a ∷ []) few full = λ i. cond (full.0 i) (a ∷ []) []
+five_rows (a ∷ b ∷ []) few full = λ i. cond (full.0 i) (a ∷ cond (full.1.0 i) (b ∷ []) []) (cond (full.1.0 i) (b ∷ []) [])
+five_rows (a ∷ b ∷ c ∷ []) few full = let f = full in ap (λ x. cond x (a ∷ filter has_cells (b ∷ c ∷ [])) (filter has_cells (b ∷ c ∷ []))) f.0 ∙ ap (λ xs. a ∷ xs) (five_rest2 b c f.1.0 f.1.1.0) where
+  five_rest2 : (b c : List Cell) → has_cells b ≡ true → has_cells c ≡ true → filter has_cells (b ∷ c ∷ []) ≡ b ∷ c ∷ []
+  five_rest2 b c p q = λ i. cond (p i) (b ∷ cond (q i) (c ∷ []) []) (cond (q i) (c ∷ []) [])
+five_rows (a ∷ b ∷ c ∷ d ∷ []) few full = four a b c d full.0 full.1.0 full.1.1.0 full.1.1.1.0 where
+  four : (a b c d : List Cell) → has_cells a ≡ true → has_cells b ≡ true → has_cells c ≡ true → has_cells d ≡ true → filter has_cells (a ∷ b ∷ c ∷ d ∷ []) ≡ a ∷ b ∷ c ∷ d ∷ []
+  four (x ∷ a) (y ∷ b) (z ∷ c) (w ∷ d) p q r s = refl
+  four [] b c d p q r s = cc
+  four (x ∷ a) [] c d p q r s = cc
+  four (x ∷ a) (y ∷ b) [] d p q r s = cc
+  four (x ∷ a) (y ∷ b) (z ∷ c) [] p q r s = cc
+five_rows (a ∷ b ∷ c ∷ d ∷ e ∷ []) few full = five a b c d e full.0 full.1.0 full.1.1.0 full.1.1.1.0 full.1.1.1.1.0 where
+  five : (a b c d e : List Cell) → has_cells a ≡ true → has_cells b ≡ true → has_cells c ≡ true → has_cells d ≡ true → has_cells e ≡ true → filter has_cells (a ∷ b ∷ c ∷ d ∷ e ∷ []) ≡ a ∷ b ∷ c ∷ d ∷ e ∷ []
+  five (x ∷ a) (y ∷ b) (z ∷ c) (w ∷ d) (v ∷ e) p q r s t = refl
+  five [] b c d e p q r s t = cc
+  five (x ∷ a) [] c d e p q r s t = cc
+  five (x ∷ a) (y ∷ b) [] d e p q r s t = cc
+  five (x ∷ a) (y ∷ b) (z ∷ c) [] e p q r s t = cc
+  five (x ∷ a) (y ∷ b) (z ∷ c) (w ∷ d) [] p q r s t = cc
+five_rows (a ∷ b ∷ c ∷ d ∷ e ∷ f ∷ rest) few full = absurd (omega (arith, few))
+
+pub read_back : (h : List Call) (n : ℕ) (m : Grid) → matrix_numbered h n ≡ Some m → is_matrix m.limits m.cells ≡ true → matrix_read (rows_of h) n ≡ m
+read_back h n m numbered shape =
+    let has = (both_true _ _ (both_true _ _ shape).0).0 in
+    let most = (both_true _ _ has).0 in
+    let few = le_of (length m.cells) 5 (both_true _ _ (both_true _ _ (both_true _ _ most).0).0).1 in
+    let full = wide_full (length m.limits) m.cells (both_true _ _ most).1 in
+    λ i. record {
+      limits = limits_back h n m numbered i;
+      cells = ((λ j. filter has_cells (cells_back h n m numbered 1 j ∷ cells_back h n m numbered 2 j ∷ cells_back h n m numbered 3 j ∷ cells_back h n m numbered 4 j ∷ cells_back h n m numbered 5 j ∷ [])) ∙ five_rows m.cells few full) i;
+    }
+
+-- The matrix of a proposed change is that of its number
+positive_step : (h : List Call) (n : ℕ) (d : Draft) (p : Name) (t : ℕ) (q : Request) → (draft h n ≡ Some d → 1 ≤ n) → or_else (said_of_draft n p t h q) (draft h n) ≡ Some d → 1 ≤ n
+positive_step h n d p t (Propose u x) before e =
+    elim (same_number n (proposals h + 1)) as (λ b. same_number n (proposals h + 1) ≡ b → or_else (when b (record { proposer = p; proposed = t; kind = x.kind; base = x.base })) (draft h n) ≡ Some d → 1 ≤ n) [
+      | true ↦ λ s _. let is : n ≡ proposals h + 1 = same_number_of n (proposals h + 1) s in omega (arith, is)
+      | false ↦ λ _ rest. before rest
+    ] refl e
+positive_step h n d p t _ before e = before e
+
+pub draft_positive : (h : List Call) (n : ℕ) (d : Draft) → draft h n ≡ Some d → 1 ≤ n
+draft_positive [] n d e = cc
+draft_positive (c ∷ h) n d e = positive_step h n d c.person c.moment c.request (draft_positive h n d) e
+
+drafted_kind : (h : List Call) (n : ℕ) (k : ChangeKind) → kind_of_change h n ≡ Some k → 1 ≤ n
+drafted_kind h n k e = by (draft h n) refl e where
+  by : (o : Option Draft) → draft h n ≡ o → option_map (λ d. d.kind) o ≡ Some k → 1 ≤ n
+  by None is e = cc
+  by (Some d) is e = draft_positive h n d is
+
+other_matrix : (n k : ℕ) (kind : ChangeKind) (rest : Option Grid) → same_number n k ≡ false → or_else (when_number n (matrix_in k (Some kind))) rest ≡ rest
+other_matrix n k (Matrix m) rest other = ap (λ b. or_else (when b m) rest) other
+other_matrix n k (Rationale a s) rest other = refl
+other_matrix n k (Limit a max) rest other = refl
+
+own_matrix : (n k : ℕ) (kind : ChangeKind) (m : Grid) (rest : Option Grid) → same_number n k ≡ true → Some kind ≡ Some (Matrix m) → or_else (when_number n (matrix_in k (Some kind))) rest ≡ Some m
+own_matrix n k (Matrix x) m rest own e = ap (λ b. or_else (when b x) rest) own ∙ (let same : x ≡ m = cc in ap (λ y. Some y) same)
+own_matrix n k (Rationale a s) m rest own e = cc
+own_matrix n k (Limit a max) m rest own e = cc
+
+numbered_step : (h : List Call) (n : ℕ) (m : Grid) (p : Name) (t : ℕ) (q : Request) → 1 ≤ n → (kind_of_change h n ≡ Some (Matrix m) → matrix_numbered h n ≡ Some m) → option_map (λ (d : Draft). d.kind) (or_else (said_of_draft n p t h q) (draft h n)) ≡ Some (Matrix m) → or_else (when_number n (numbered_matrix h q)) (matrix_numbered h n) ≡ Some m
+numbered_step h n m p t (OpenUnit u s x k) above before e = ap (λ b. or_else (when b x) (matrix_numbered h n)) (not_true (same_number n 0) (λ z. let is : n ≡ 0 = same_number_of n 0 z in omega (arith, above, is))) ∙ before e
+numbered_step h n m p t (Propose u x) above before e =
+    elim (same_number n (proposals h + 1)) as (λ b. same_number n (proposals h + 1) ≡ b → option_map (λ (d : Draft). d.kind) (or_else (when b (record { proposer = p; proposed = t; kind = x.kind; base = x.base })) (draft h n)) ≡ Some (Matrix m) → or_else (when_number n (matrix_in (proposals h + 1) (Some x.kind))) (matrix_numbered h n) ≡ Some m) [
+      | true ↦ λ s here. own_matrix n (proposals h + 1) x.kind m (matrix_numbered h n) s here
+      | false ↦ λ s rest. other_matrix n (proposals h + 1) x.kind (matrix_numbered h n) s ∙ before rest
+    ] refl e
+numbered_step h n m p t _ above before e = before e
+
+pub proposed_matrix : (h : List Call) (n : ℕ) (m : Grid) → kind_of_change h n ≡ Some (Matrix m) → matrix_numbered h n ≡ Some m
+proposed_matrix [] n m e = cc
+proposed_matrix (c ∷ h) n m e = numbered_step h n m c.person c.moment c.request (drafted_kind (c ∷ h) n (Matrix m) e) (proposed_matrix h n m) e
+
+-- each matrix of a legal history is one
+shape_here : (h : List Call) (n : ℕ) (q : Request) (m : Grid) → has_matrix q ≡ true → when_number n (numbered_matrix h q) ≡ Some m → is_matrix m.limits m.cells ≡ true
+shape_here h n (OpenUnit u s x k) m has e = ap (λ (y : Grid). is_matrix y.limits y.cells) (sym (when_Some (same_number n 0) x m e)) ∙ has
+shape_here h n (Propose u x) m has e = by x.kind has e where
+  by : (k : ChangeKind) → is_matrix_kind k ≡ true → when_number n (matrix_in (proposals h + 1) (Some k)) ≡ Some m → is_matrix m.limits m.cells ≡ true
+  by (Matrix y) has e = ap (λ (y : Grid). is_matrix y.limits y.cells) (sym (when_Some (same_number n (proposals h + 1)) y m e)) ∙ has
+  by (Rationale a s) has e = cc
+  by (Limit a max) has e = cc
+shape_here h n _ m has e = cc
+
+pub shaped : (h : List Call) → IsLegal h → (n : ℕ) (m : Grid) → matrix_numbered h n ≡ Some m → is_matrix m.limits m.cells ≡ true
+shaped [] legal n m e = absurd legal
+shaped (c ∷ []) legal n m e =
+    elim (when_number n (numbered_matrix [] c.request)) as (λ o. when_number n (numbered_matrix [] c.request) ≡ o → or_else o None ≡ Some m → is_matrix m.limits m.cells ≡ true) [
+      | None ↦ λ _ no. cc
+      | Some x ↦ λ some is. shape_here [] n c.request m legal.1 (some ∙ is)
+    ] refl e
+shaped (c ∷ b ∷ h) legal n m e =
+    elim (when_number n (numbered_matrix (b ∷ h) c.request)) as (λ o. when_number n (numbered_matrix (b ∷ h) c.request) ≡ o → or_else o (matrix_numbered (b ∷ h) n) ≡ Some m → is_matrix m.limits m.cells ≡ true) [
+      | None ↦ λ _ rest. shaped (b ∷ h) legal.2 n m rest
+      | Some x ↦ λ some is. shape_here (b ∷ h) n c.request m legal.1 (some ∙ is)
+    ] refl e
+
+-- the matrix in force has its number
+abbrev matrix_said : List Call → Option (ℕ × Grid)
+matrix_said h = latest (λ c before. said_of_matrix before c.request) h
+
+matrix_stays : (h : List Call) (q : Request) (k : ℕ) (m : Grid) → is_opening q ≡ false → matrix_numbered h k ≡ Some m → or_else (when_number k (numbered_matrix h q)) (matrix_numbered h k) ≡ Some m
+matrix_stays h (OpenUnit u s x n) k m plain e = cc
+matrix_stays h (Propose u x) k m plain e =
+    other_matrix k (proposals h + 1) x.kind (matrix_numbered h k) (not_true (same_number k (proposals h + 1)) (λ z. let is : k ≡ proposals h + 1 = same_number_of k (proposals h + 1) z in let less : k ≤ proposals h = number_bound h k m e in omega (arith, is, less))) ∙ e
+matrix_stays h _ k m plain e = e
+
+matrix_approved : (n : ℕ) (k : Option ChangeKind) (x : ℕ × Grid) → matrix_in n k ≡ Some x → (n ≡ x.0) × (k ≡ Some (Matrix x.1))
+matrix_approved n (Some (Matrix m)) x e = let same : (n, m) ≡ x = cc in (ap (λ (y : ℕ × Grid). y.0) same, ap (λ (y : ℕ × Grid). Some (Matrix y.1)) same)
+matrix_approved n (Some (Rationale a s)) x e = cc
+matrix_approved n (Some (Limit a max)) x e = cc
+matrix_approved n None x e = cc
+
+said_numbered : (h : List Call) (q : Request) (x : ℕ × Grid) → said_of_matrix h q ≡ Some x → or_else (when_number x.0 (numbered_matrix h q)) (matrix_numbered h x.0) ≡ Some x.1
+said_numbered h (OpenUnit u s m k) x e =
+    let same : (0, m) ≡ x = cc in
+    subst (λ (y : ℕ × Grid). or_else (when (same_number y.0 0) m) (matrix_numbered h y.0) ≡ Some y.1) same (ap (λ b. or_else (when b m) (matrix_numbered h 0)) (is_same_number 0))
+said_numbered h (Approve u n) x e =
+    let known = matrix_approved n (kind_of_change h n) x e in
+    proposed_matrix h x.0 x.1 (ap (kind_of_change h) (sym known.0) ∙ known.1)
+said_numbered h _ x e = cc
+
+plain_of : (h : List Call) (c : Call) → may_follow h c ≡ true → is_opening c.request ≡ false
+plain_of h c may = by (is_opening c.request) (both_true (not (is_opening c.request)) _ may).0 where
+  by : (b : Bool) → not b ≡ true → b ≡ false
+  by true e = cc
+  by false e = refl
+
+matrix_in_force : (h : List Call) → IsLegal h → (x : ℕ × Grid) → matrix_said h ≡ Some x → matrix_numbered h x.0 ≡ Some x.1
+matrix_in_force [] legal x e = absurd legal
+matrix_in_force (c ∷ []) legal x e =
+    elim (said_of_matrix [] c.request) as (λ o. said_of_matrix [] c.request ≡ o → or_else o None ≡ Some x → matrix_numbered (c ∷ []) x.0 ≡ Some x.1) [
+      | None ↦ λ _ no. cc
+      | Some y ↦ λ some is. said_numbered [] c.request x (some ∙ is)
+    ] refl e
+matrix_in_force (c ∷ b ∷ h) legal x e =
+    elim (said_of_matrix (b ∷ h) c.request) as (λ o. said_of_matrix (b ∷ h) c.request ≡ o → or_else o (matrix_said (b ∷ h)) ≡ Some x → matrix_numbered (c ∷ b ∷ h) x.0 ≡ Some x.1) [
+      | None ↦ λ _ rest. matrix_stays (b ∷ h) c.request x.0 x.1 (plain_of (b ∷ h) c legal.0) (matrix_in_force (b ∷ h) legal.2 x rest)
+      | Some y ↦ λ some is. said_numbered (b ∷ h) c.request x (some ∙ is)
+    ] refl e
+
+-- there is one
+opening_says : (q : Request) → is_opening q ≡ true → is_some (said_of_matrix [] q) ≡ true
+opening_says (OpenUnit u s m k) e = refl
+opening_says _ e = cc
+
+else_some : {A : Type 0} (o p : Option A) → is_some p ≡ true → is_some (or_else o p) ≡ true
+else_some None p e = e
+else_some (Some x) p e = refl
+
+else_first : {A : Type 0} (o : Option A) → is_some o ≡ true → is_some (or_else o None) ≡ true
+else_first None e = e
+else_first (Some x) e = refl
+
+matrix_there : (h : List Call) → IsLegal h → is_some (matrix_said h) ≡ true
+matrix_there [] legal = absurd legal
+matrix_there (c ∷ []) legal = else_first (said_of_matrix [] c.request) (opening_says c.request legal.0)
+matrix_there (c ∷ b ∷ h) legal = else_some (said_of_matrix (b ∷ h) c.request) (matrix_said (b ∷ h)) (matrix_there (b ∷ h) legal.2)
+
+pub in_force_numbered : (h : List Call) → IsLegal h → matrix_numbered h (matrix h).0 ≡ Some (matrix h).1
+in_force_numbered h legal = by (matrix_said h) refl (matrix_there h legal) where
+  by : (o : Option (ℕ × Grid)) → matrix_said h ≡ o → is_some o ≡ true → matrix_numbered h (unwrap_or o no_matrix).0 ≡ Some (unwrap_or o no_matrix).1
+  by None is there = cc
+  by (Some x) is there = matrix_in_force h legal x is
+
+pub readable : (h : List Call) → IsLegal h → AreReadable h
+readable h legal =
+    record {
+      proposed = λ n m is. let numbered = proposed_matrix h n m is in read_back h n m numbered (shaped h legal n m numbered);
+      in_force = let numbered = in_force_numbered h legal in read_back h (matrix h).0 (matrix h).1 numbered (shaped h legal (matrix h).0 (matrix h).1 numbered);
+    }
+
+-- There are as many rows of changes as proposals
+abbrev numbered_draft : List Call → ℕ → Option ℕ
+numbered_draft h n = option_map (λ d. n) (draft h n)
+
+numbers_told : (h : List Call) → Tells nat_cmp (λ n. n) (numbered_draft h) (numbers_of_changes h)
+numbers_told h =
+    let told = changes_told h in
+    record {
+      order = told.order;
+      same = told.same;
+      at_key = λ n r e. mapped_key (λ k. k) (λ (d : Draft). n) n (draft h n) r (λ x. refl) e;
+      among = λ n. elim (told.among n) [ inl none ↦ inl (by_draft n (draft h n) none) | inr there ↦ inr there ];
+    }
+  where
+    by_draft : (n : ℕ) (o : Option Draft) → option_map (change_with h n) o ≡ None → option_map (λ d. n) o ≡ None
+    by_draft n None e = refl
+    by_draft n (Some d) e = cc
+
+abbrev numbers_kept : List Call → List ℕ
+numbers_kept h = filter_map (numbered_draft h) (in_order nat_cmp (numbers_of_changes h))
+
+next_free : (h : List Call) → draft h (proposals h + 1) ≡ None
+next_free h =
+    elim (draft h (proposals h + 1)) as (λ o. draft h (proposals h + 1) ≡ o → o ≡ None) [
+      | None ↦ λ _. refl
+      | Some d ↦ λ e. let less : proposals h + 1 ≤ proposals h = draft_bound h (proposals h + 1) d e in absurd (omega (arith, less))
+    ] refl
+
+number_anew : (n k : ℕ) (d : Draft) (rest : Option Draft) → option_map (λ d. k) (or_else (when (same_number k n) d) rest) ≡ cond (same_number k n) (Some n) (option_map (λ d. k) rest)
+number_anew n k d rest =
+    elim (same_number k n) as (λ s. same_number k n ≡ s → option_map (λ d. k) (or_else (when s d) rest) ≡ cond s (Some n) (option_map (λ d. k) rest)) [
+      | true ↦ λ e. ap (λ y. Some y) (same_number_of k n e)
+      | false ↦ λ e. refl
+    ] refl
+
+-- the next number comes behind those before
+next_put : (s k : ℕ) → put_row nat_cmp (λ n. n) (s + k) (range_with_len s k) ≡ range_with_len s (suc k)
+next_put s zero = ap (λ n. n ∷ []) (let e : s + 0 ≡ s = omega arith in e)
+next_put s (suc k) =
+    let above : s < s + suc k = omega arith in
+    let moved : s + suc k ≡ (s + 1) + k = omega arith in
+    let next : ℕ = s + suc k in
+    let rest : List ℕ = range_with_len (s + 1) k in
+    ap (λ v. by_order v (next ∷ s ∷ rest) (next ∷ rest) (s ∷ put_row nat_cmp (λ n. n) next rest)) (sym (nat_cmp_is next s Greater above))
+    ∙ ap (λ n. s ∷ put_row nat_cmp (λ n. n) n rest) moved
+    ∙ ap (λ ns. s ∷ ns) (next_put (s + 1) k)
+
+kept_step : (h : List Call) (p : Name) (t : ℕ) (q : Request) → numbers_kept h ≡ range_with_len 1 (proposals h) → numbers_kept (record { person = p; moment = t; request = q } ∷ h) ≡ range_with_len 1 (proposals (record { person = p; moment = t; request = q } ∷ h))
+kept_step h p t (Propose u x) before =
+    let c : List Call = record { person = p; moment = t; request = Propose u x } ∷ h in
+    let n : ℕ = proposals h + 1 in
+    let put : put_row nat_cmp (λ k. k) n (numbers_kept h) ≡ numbers_kept c = put-rows (numbered_draft h) (numbered_draft c) (numbers_of_changes h) (numbers_of_changes c) n (numbers_told h) (numbers_told c) (λ k. number_anew n k (record { proposer = p; proposed = t; kind = x.kind; base = x.base }) (draft h k)) in
+    let one : n ≡ 1 + proposals h = omega arith in
+    let next : suc (proposals h) ≡ n = omega arith in
+    sym put ∙ ap (put_row nat_cmp (λ k. k) n) before ∙ ap (λ m. put_row nat_cmp (λ k. k) m (range_with_len 1 (proposals h))) one ∙ next_put 1 (proposals h) ∙ ap (range_with_len 1) next
+kept_step h p t _ before = before
+
+-- the numbers of the changes are those from 1 to the number of proposals
+kept_all : (h : List Call) → numbers_kept h ≡ range_with_len 1 (proposals h)
+kept_all [] = refl
+kept_all (c ∷ h) = kept_step h c.person c.moment c.request (kept_all h)
+
+numbers_shown : (h : List Call) (ks : List ℕ) → map change_number (map change_entry (filter_map (change h) ks)) ≡ filter_map (numbered_draft h) ks
+numbers_shown h [] = refl
+numbers_shown h (k ∷ ks) = by (draft h k) (numbers_shown h ks) where
+  by : (o : Option Draft) → map change_number (map change_entry (filter_map (change h) ks)) ≡ filter_map (numbered_draft h) ks
+      → map change_number (map change_entry (cons_option (option_map (change_with h k) o) (filter_map (change h) ks))) ≡ cons_option (option_map (λ d. k) o) (filter_map (numbered_draft h) ks)
+  by None same = same
+  by (Some d) same = ap (λ ns. k ∷ ns) same
+
+last_mapped : {A B : Type 0} (f : A → B) (xs : List A) (i : ℕ) → option_map f (slice_get xs i) ≡ slice_get (map f xs) i
+last_mapped f [] i = refl
+last_mapped f (x ∷ xs) zero = refl
+last_mapped f (x ∷ xs) (suc i) = last_mapped f xs i
+
+length-map : {A B : Type 0} (f : A → B) (xs : List A) → length (map f xs) ≡ length xs
+length-map f [] = refl
+length-map f (x ∷ xs) = ap suc (length-map f xs)
+
+length-numbers : (s n : ℕ) → length (range_with_len s n) ≡ n
+length-numbers s zero = refl
+length-numbers s (suc n) = ap suc (length-numbers (s + 1) n)
+
+last_in_range : (s k : ℕ) → slice_get (range_with_len s (suc k)) k ≡ Some (s + k)
+last_in_range s zero = ap (λ n. Some n) (let e : s ≡ s + 0 = omega arith in e)
+last_in_range s (suc k) = last_in_range (s + 1) k ∙ ap (λ n. Some n) (let e : (s + 1) + k ≡ s + suc k = omega arith in e)
+
+last_of_numbers : (n : ℕ) → unwrap_or (slice_get (range_with_len 1 n) (n - 1)) 0 ≡ n
+last_of_numbers zero = refl
+last_of_numbers (suc k) = ap (λ o. unwrap_or o 0) (ap (slice_get (range_with_len 1 (suc k))) (let e : suc k - 1 ≡ k = omega arith in e) ∙ last_in_range 1 k) ∙ (let e : 1 + k ≡ suc k = omega arith in e)
+
+pub change_count : (h : List Call) → last_number (change_rows h) ≡ proposals h
+change_count h =
+    let numbers : map change_number (change_rows h) ≡ range_with_len 1 (proposals h) = numbers_shown h (in_order nat_cmp (numbers_of_changes h)) ∙ kept_all h in
+    let many : length (change_rows h) ≡ proposals h = sym (length-map change_number (change_rows h)) ∙ ap length numbers ∙ length-numbers 1 (proposals h) in
+    ap (λ o. unwrap_or o 0) (last_mapped change_number (change_rows h) (length (change_rows h) - 1) ∙ (λ i. slice_get (numbers i) (many i - 1)))
+    ∙ last_of_numbers (proposals h)
+
+-- the rows of a legal history give its facts
+pub facts-rows : (h : List Call) → IsLegal h → facts_of (rows_of h) ≡ facts h
+facts-rows h legal = ap (facts_from (rows_of h) (length (alarm_rows h))) (change_count h) ∙ facts_told h (readable h legal)

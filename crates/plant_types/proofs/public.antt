@@ -1,0 +1,5 @@
+pub mod KeyedRowLaws
+pub mod Orders
+pub mod DateTests
+pub mod Days
+pub mod Round

@@ -1,0 +1,105 @@
+-- What the office did in one step after another.
+use Rattle.std.proofs.Common.{◌≡◌, ◌<◌, ◌+◌, ℕ, List, [], ◌∷◌, ◌++◌, cond, refl, sym, subst, arith}
+use Rattle.std.specs.Prelude.{◌-◌, ◌^◌}
+use Rattle.std.proofs.lemmas.List.Sums.{sum_by-append}
+use Rattle.plant_model.specs.declared.call.Call.{Call}
+use Rattle.plant_model.specs.declared.reply.Answer.{Answer}
+use Rattle.plant_model.specs.Worlds.{World, IsLegalWorld}
+use Rattle.plant_books.specs.Contents.{Content}
+use Rattle.plant_model.specs.declared.reply.Answer.TheVariants.{Fault as Faulted, Refused as WasRefused, Reply as Replied}
+use Rattle.plant_types.specs.declared.fault.Fault.TheVariants.{Memory, Store}
+use Rattle.plant_office.specs.Answers.{CountsAnswer, IfSaid, OnFault}
+use Rattle.plant_office.specs.Served.{Holds, IsServed}
+use Rattle.plant_office.specs.Runs.{AreAnswers, AreIsolated, IsRun, after_answer, is_store, stores_in, world_after}
+use Rattle.plant_office.proofs.public.Running.{run_more, run_none}
+use Rattle.plant_wire.specs.Ran.{Ran}
+
+answers-append : (w : World) (cs ds : List Call) (xs bs : List Answer) → AreAnswers w cs xs → AreAnswers (world_after w cs xs) ds bs → AreAnswers w (cs ++ ds) (xs ++ bs)
+answers-append w [] ds [] bs h k = k
+answers-append w (c ∷ cs) ds (a ∷ xs) bs h k = (h.0, answers-append (after_answer w c a) cs ds xs bs h.1 k)
+answers-append w [] ds (a ∷ xs) bs h k = absurd h
+answers-append w (c ∷ cs) ds [] bs h k = absurd h
+
+world-append : (w : World) (cs ds : List Call) (xs bs : List Answer) → AreAnswers w cs xs → world_after w (cs ++ ds) (xs ++ bs) ≡ world_after (world_after w cs xs) ds bs
+world-append w [] ds [] bs h = refl
+world-append w (c ∷ cs) ds (a ∷ xs) bs h = world-append (after_answer w c a) cs ds xs bs h.1
+world-append w [] ds (a ∷ xs) bs h = absurd h
+world-append w (c ∷ cs) ds [] bs h = absurd h
+
+isolated-append : (w : World) (cs ds : List Call) (xs bs : List Answer) → AreAnswers w cs xs → AreIsolated w cs xs → AreIsolated (world_after w cs xs) ds bs → AreIsolated w (cs ++ ds) (xs ++ bs)
+isolated-append w [] ds [] bs h i k = k
+isolated-append w (c ∷ cs) ds (a ∷ xs) bs h i k = (i.0, isolated-append (after_answer w c a) cs ds xs bs h.1 i.1 k)
+isolated-append w [] ds (a ∷ xs) bs h i k = absurd h
+isolated-append w (c ∷ cs) ds [] bs h i k = absurd h
+
+run-append : (w : World) (cs ds : List Call) (xs bs : List Answer) (mid left : Content → Type 0) → IsRun w cs xs mid → IsRun (world_after w cs xs) ds bs left → IsRun w (cs ++ ds) (xs ++ bs) left
+run-append w cs ds xs bs mid left first second =
+    let world = sym (world-append w cs ds xs bs first.answered) in
+    record {
+      answered = answers-append w cs ds xs bs first.answered second.answered;
+      isolated = isolated-append w cs ds xs bs first.answered first.isolated second.isolated;
+      after = second.after;
+      left_it = second.left_it;
+      holds = subst (Holds second.after) world second.holds;
+      legal = subst IsLegalWorld world second.legal;
+    }
+
+-- the count of answers Store
+stores-append : (xs ys : List Answer) → stores_in (xs ++ ys) ≡ stores_in xs + stores_in ys
+stores-append xs ys = sum_by-append (λ x. cond (is_store x) 1 0) xs ys
+
+counted_one : (before after : ℕ) (answer : Answer) → CountsAnswer before after answer
+    → before + stores_in (answer ∷ []) < 2 ^ 64 → after ≡ before + stores_in (answer ∷ [])
+counted_one before after (Replied r) counts room = let none : stores_in (Replied r ∷ []) ≡ 0 = refl in omega (arith, none, counts)
+counted_one before after (WasRefused r) counts room = let none : stores_in (WasRefused r ∷ []) ≡ 0 = refl in omega (arith, none, counts)
+counted_one before after (Faulted Memory) counts room = let none : stores_in (Faulted Memory ∷ []) ≡ 0 = refl in omega (arith, none, counts)
+counted_one before after (Faulted Store) counts room =
+    let one : stores_in (Faulted Store ∷ []) ≡ 1 = refl in
+    let less : before < 2 ^ 64 - 1 = omega (arith, one, room) in
+    let more = counts less in
+    omega (arith, one, more)
+
+counted_both : (before between after : ℕ) (xs ys : List Answer)
+    → (before + stores_in xs < 2 ^ 64 → between ≡ before + stores_in xs)
+    → (between + stores_in ys < 2 ^ 64 → after ≡ between + stores_in ys)
+    → before + stores_in (xs ++ ys) < 2 ^ 64 → after ≡ before + stores_in (xs ++ ys)
+counted_both before between after xs ys first second room =
+    let both = stores-append xs ys in
+    let early : before + stores_in xs < 2 ^ 64 = omega (arith, both, room) in
+    let mid = first early in
+    let late : between + stores_in ys < 2 ^ 64 = omega (arith, both, room, mid) in
+    let end = second late in
+    omega (arith, both, mid, end)
+
+-- no call was made
+pub ran_none : (held : Content → Type 0) (tells : Type 0) (count : ℕ) → Ran held tells held count count [] []
+ran_none held tells count = record {
+  run = λ m h w legal holds t. run_none w m held h holds legal;
+  counted = λ room. let none : stores_in [] ≡ 0 = refl in omega (arith, none);
+}
+
+-- one call was
+pub ran_one : (held : Content → Type 0) (tells : Type 0) (left : Content → Type 0) (before after : ℕ) (call : Call) (answer : Answer)
+    → ((m : Content) → held m → (w : World) → IsLegalWorld w → Holds m w → tells → IfSaid answer (λ a. IsServed w call a left))
+    → ((m : Content) → held m → OnFault answer (left m)) → CountsAnswer before after answer → Ran held tells left before after (call ∷ []) (answer ∷ [])
+ran_one held tells left before after call answer served fault counts =
+    record {
+      run = λ m h w legal holds t.
+          run_more w [] [] call answer held left (run_none w m held h holds legal) (λ m' h' w' legal' holds'. served m' h' w' legal' holds' t) fault;
+      counted = counted_one before after answer counts;
+    }
+
+-- what two steps did, one after the other
+pub record Joins (first second both : List Call → List Answer → Type 0) : Type 0 where
+  pub join : (cs ds : List Call) (xs bs : List Answer) → first cs xs → second ds bs → both (cs ++ ds) (xs ++ bs)
+
+pub ran_joins : (held mid left : Content → Type 0) (tells_first tells : Type 0) (before between after : ℕ) → (tells → tells_first)
+    → Joins (Ran held tells_first mid before between) (Ran mid tells left between after) (Ran held tells left before after)
+ran_joins held mid left tells_first tells before between after honest = record {
+  join = λ cs ds xs bs first second. record {
+    run = λ m h w legal holds t.
+        let a = first.run m h w legal holds (honest t) in
+        run-append w cs ds xs bs mid left a (second.run a.after a.left_it (world_after w cs xs) a.legal a.holds t);
+    counted = counted_both before between after xs bs first.counted second.counted;
+  };
+}
