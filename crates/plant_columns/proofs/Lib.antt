@@ -1,1 +1,3 @@
+mod Rows
+mod Shared
 pub mod public

@@ -1,1 +1,13 @@
+pub mod Changes
+pub mod Kept
+pub mod Keys
+pub mod Laws
+pub mod Bridge
+pub mod Joins
+pub mod JoinsMany
+pub mod Asking
+pub mod Shapes
+pub mod Inserted
+pub mod Updated
+pub mod Family
 pub mod ShapeLaws

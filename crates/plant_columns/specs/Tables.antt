@@ -23,8 +23,8 @@ use Rattle.plant_model.specs.declared.rows.UnitRows.{UnitRows}
 use Rattle.plant_model.specs.Matrices.{BandKey, CellKey, band_cmp, cell_cmp}
 use Rattle.plant_model.specs.RowFacts.{alarm_tag, band_key, cell_key, change_number, event_number, pair_of, record_tag, shelf_tag}
 use Rattle.plant_columns.specs.Codes.{alarm_state, cell, cell_in, change_state, change_state_in, flag, flag_in, kind, kind_in, number, number_in, open_number, open_number_in, open_text, open_text_in, role, role_in, state_in, topic, topic_in}
-use Rattle.plant_tables.specs.Shape.{AreTables, Shape, seen, table_in}
-use Rattle.plant_tables.specs.Tables.{column_of, index_of, open_column}
+use Rattle.plant_columns.specs.Shape.{AreTables, Shape, seen, table_in}
+use Rattle.plant_columns.specs.Forms.{column_of, index_of, open_column}
 use Rattle.plant_types.specs.Names.{Name, name_cmp}
 use Rattle.plant_types.specs.Roles.{Pair, pair_cmp}
 

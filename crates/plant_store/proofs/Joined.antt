@@ -22,13 +22,13 @@ use Rattle.std.proofs.lemmas.Cmp.{tied_back, tied_itself, alike_right}
 use Rattle.plant_books.specs.Contents.{Content}
 use Rattle.plant_model.specs.RowChanges.{no_rows}
 use Rattle.plant_types.specs.Names.{Name}
-use Rattle.plant_tables.specs.Kept.{by_columns, is_of}
-use Rattle.plant_tables.specs.Shape.{IsRowIn}
-use Rattle.plant_tables.specs.Tidy.{AreApart}
-use Rattle.plant_tables.proofs.public.Keys.{equal_is, by_columns_total}
-use Rattle.plant_tables.proofs.public.Kept.{all-sort, no_ties-out, sort-filter}
-use Rattle.plant_tables.proofs.public.Joins.{joins, meets, met}
-use Rattle.plant_tables.proofs.public.Shapes.{named}
+use Rattle.plant_columns.specs.Kept.{by_columns, is_of}
+use Rattle.plant_columns.specs.Shape.{IsRowIn}
+use Rattle.plant_columns.specs.Tidy.{AreApart}
+use Rattle.plant_columns.proofs.public.Keys.{equal_is, by_columns_total}
+use Rattle.plant_columns.proofs.public.Kept.{all-sort, no_ties-out, sort-filter}
+use Rattle.plant_columns.proofs.public.Joins.{joins, meets, met}
+use Rattle.plant_columns.proofs.public.Shapes.{named}
 use Rattle.plant_store.specs.Keeping.{KeepsIn, has_any}
 use Rattle.plant_store.specs.Mine.{is_named, last_in, line_at, line_cells, lines_of}
 use Rattle.plant_columns.specs.Tables.{books_schema, grant_shape, rows_seen, unit_shape}

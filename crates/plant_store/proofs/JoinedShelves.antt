@@ -30,13 +30,13 @@ use Rattle.plant_columns.specs.Tables.Kept.{GrantKept, ShelfKept}
 use Rattle.plant_columns.proofs.public.ShapeLaws.{good}
 use Rattle.plant_model.specs.declared.rows.GrantRow.{GrantRow}
 use Rattle.plant_model.specs.RowChanges.{no_rows}
-use Rattle.plant_tables.specs.Kept.{by_columns, is_of, plain_query}
-use Rattle.plant_tables.specs.Shape.{IsRowIn}
-use Rattle.plant_tables.proofs.public.Joins.{meets, met, strict-sort}
-use Rattle.plant_tables.proofs.public.JoinsMany.{joins_many}
-use Rattle.plant_tables.proofs.public.Keys.{by_columns_total, equal_is}
-use Rattle.plant_tables.proofs.public.Kept.{all-sort, sort-filter}
-use Rattle.plant_tables.proofs.public.Shapes.{named, shown_kept, some_kept}
+use Rattle.plant_columns.specs.Kept.{by_columns, is_of, plain_query}
+use Rattle.plant_columns.specs.Shape.{IsRowIn}
+use Rattle.plant_columns.proofs.public.Joins.{meets, met, strict-sort}
+use Rattle.plant_columns.proofs.public.JoinsMany.{joins_many}
+use Rattle.plant_columns.proofs.public.Keys.{by_columns_total, equal_is}
+use Rattle.plant_columns.proofs.public.Kept.{all-sort, sort-filter}
+use Rattle.plant_columns.proofs.public.Shapes.{named, shown_kept, some_kept}
 use Rattle.plant_types.specs.Names.{Name, name_cmp, same_name}
 use Rattle.plant_store.specs.Keeping.{KeepsIn, has_any}
 use Rattle.plant_store.specs.Shelves.{all_shelves, is_again, line_with, lines_beside, shelf_line_cells, shelf_lines, shelves_under, unit_shelf}

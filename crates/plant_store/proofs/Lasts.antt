@@ -20,13 +20,13 @@ use Rattle.sqlite_value.specs.Order.{Row, column}
 use Rattle.plant_model.specs.RowFacts.{last_number}
 use Rattle.plant_model.specs.declared.rows.ChangeEntry.{ChangeEntry}
 use Rattle.plant_types.specs.Names.{Name}
-use Rattle.plant_tables.specs.Kept.{by_columns, is_of, kept, plain_query}
-use Rattle.plant_tables.specs.Tidy.{AreApart}
-use Rattle.plant_tables.proofs.public.Joins.{strict-sort}
-use Rattle.plant_tables.proofs.public.Keys.{by_columns_total}
-use Rattle.plant_tables.proofs.public.Kept.{no_ties-out}
-use Rattle.plant_tables.proofs.public.Laws.{Reads, reads, passes, shows}
-use Rattle.plant_tables.proofs.public.Shapes.{shown_kept}
+use Rattle.plant_columns.specs.Kept.{by_columns, is_of, kept, plain_query}
+use Rattle.plant_columns.specs.Tidy.{AreApart}
+use Rattle.plant_columns.proofs.public.Joins.{strict-sort}
+use Rattle.plant_columns.proofs.public.Keys.{by_columns_total}
+use Rattle.plant_columns.proofs.public.Kept.{no_ties-out}
+use Rattle.plant_columns.proofs.public.Laws.{Reads, reads, passes, shows}
+use Rattle.plant_columns.proofs.public.Shapes.{shown_kept}
 use Rattle.plant_columns.specs.Codes.{number}
 use Rattle.plant_columns.specs.Tables.{AreBooks, books_schema, rows_seen, change_shape}
 use Rattle.plant_columns.specs.Tables.Kept.{ChangeKept}

@@ -9,7 +9,7 @@ use Rattle.plant_types.specs.Names.{Name, name_cmp, same_name}
 use Rattle.plant_types.specs.KeyedRows.{IsInOrder, row_at}
 use Rattle.plant_types.proofs.public.Orders.{name_total, same_names}
 use Rattle.plant_types.proofs.public.KeyedRowLaws.{tied}
-use Rattle.plant_tables.proofs.public.Bridge.{IsInOrder-rising}
+use Rattle.plant_columns.proofs.public.Bridge.{IsInOrder-rising}
 use Rattle.plant_store.specs.declared.mine.Line.{Line}
 use Rattle.plant_store.specs.Keeping.{has_any}
 use Rattle.plant_store.specs.Mine.{put_run, runs_of, started}

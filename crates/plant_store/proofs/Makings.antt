@@ -19,11 +19,11 @@ use Rattle.sqlite.proofs.Callers.{IsPlain, command_of, runs_as, statement_of}
 use Rattle.sqlite_keyed.proofs.ListLemmas.{all-append}
 use Rattle.sqlite_value.specs.declared.value.Value.TheVariants.{Int, Null, Text}
 use Rattle.sqlite_value.specs.Order.{Row}
-use Rattle.plant_tables.specs.Shape.{IsRowIn, table_in}
-use Rattle.plant_tables.specs.Tidy.{IsTidy}
-use Rattle.plant_tables.proofs.public.Changes.{KeepsOthers, creates, indexes, lone_step, same_value, went}
-use Rattle.plant_tables.proofs.public.Family.{kept_at}
-use Rattle.plant_tables.proofs.public.Laws.{cast_int, cast_null}
+use Rattle.plant_columns.specs.Shape.{IsRowIn, table_in}
+use Rattle.plant_columns.specs.Tidy.{IsTidy}
+use Rattle.plant_columns.proofs.public.Changes.{KeepsOthers, creates, indexes, lone_step, same_value, went}
+use Rattle.plant_columns.proofs.public.Family.{kept_at}
+use Rattle.plant_columns.proofs.public.Laws.{cast_int, cast_null}
 use Rattle.plant_store.specs.Making.{AreEmpty, AreNew}
 use Rattle.plant_columns.specs.Tables.{Kept, alarms_schema, alarm_shape, band_shape, bands_schema, books_schema, cell_shape, cells_schema, change_shape, changes_schema, event_shape, events_schema, grant_shape, grants_schema, no_schema, office_row, office_schema, office_table, record_shape, records_schema, shape, shelf_shape, shelves_schema, unit_shape, units_schema}
 use Rattle.plant_columns.specs.Tables.Kept.{UnitKept, GrantKept, AlarmKept, ShelfKept, BandKept, CellKept, EventKept, RecordKept, ChangeKept}

@@ -18,8 +18,8 @@ use Rattle.sqlite_value.specs.declared.value.Value.TheVariants.{Null, Int}
 use Rattle.sqlite_value.specs.Keys.{ascending}
 use Rattle.plant_store.specs.Texts.{office_text, units_text, grants_text, alarms_text, shelves_text, bands_text, cells_text, events_text, by_person_text, put_office_text, office_row_text, over_unit_text, over_grant_text, over_alarm_text, over_shelf_text, over_record_text, over_change_text, put_unit_text, put_grant_text, put_alarm_text, put_shelf_text, put_band_text, put_cell_text, put_event_text, remove_grant_text, remove_shelf_text, units_of_text, grants_of_text, alarms_of_text, shelves_of_text, bands_of_text, cells_of_text, events_of_text, own_grants_text, alarm_at_text, shelf_at_text, tags_of_text, shelf_tags_text, mine_shelves_text, mine_text, records_text, changes_text, put_record_text, put_change_text, records_of_text, changes_of_text, record_at_text, bands_at_text, cells_at_text, change_at_text, last_change_text}
 use Rattle.plant_columns.specs.Tables.{office_table, unit_shape, grant_shape, alarm_shape, shelf_shape, band_shape, cell_shape, event_shape, by_person, no_schema, office_schema, units_schema, grants_schema, alarms_schema, shelves_schema, bands_schema, cells_schema, events_schema, books_schema, record_shape, change_shape, records_schema, changes_schema}
-use Rattle.plant_tables.specs.Kept.{plain_query}
-use Rattle.plant_tables.specs.Shape.{table_in}
+use Rattle.plant_columns.specs.Kept.{plain_query}
+use Rattle.plant_columns.specs.Shape.{table_in}
 
 -- ---- what makes the schema: the table that a text defines lies in tree 0 until it is made
 

@@ -25,12 +25,12 @@ use Rattle.plant_types.specs.Options.{when}
 use Rattle.plant_types.specs.KeyedRows.{IsInOrder, row_at}
 use Rattle.plant_types.proofs.public.Orders.{name_total, same_names}
 use Rattle.plant_types.proofs.public.KeyedRowLaws.{IsInOrder-honest, row_at-honest, same_rows}
-use Rattle.plant_tables.specs.Kept.{by_columns, is_of}
-use Rattle.plant_tables.specs.Shape.{IsRowIn}
-use Rattle.plant_tables.proofs.public.Keys.{by_columns_total}
-use Rattle.plant_tables.proofs.public.Kept.{all-kept, all-sort, no_ties-out, sort-filter}
-use Rattle.plant_tables.proofs.public.Joins.{strict-sort}
-use Rattle.plant_tables.proofs.public.Shapes.{named}
+use Rattle.plant_columns.specs.Kept.{by_columns, is_of}
+use Rattle.plant_columns.specs.Shape.{IsRowIn}
+use Rattle.plant_columns.proofs.public.Keys.{by_columns_total}
+use Rattle.plant_columns.proofs.public.Kept.{all-kept, all-sort, no_ties-out, sort-filter}
+use Rattle.plant_columns.proofs.public.Joins.{strict-sort}
+use Rattle.plant_columns.proofs.public.Shapes.{named}
 use Rattle.plant_store.specs.declared.mine.Line.{Line}
 use Rattle.plant_store.specs.Keeping.{KeepsIn, has_any}
 use Rattle.plant_store.specs.Mine.{is_named, last_in, line_at, lines_of, runs_of, standing_lines}

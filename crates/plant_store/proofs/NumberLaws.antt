@@ -21,7 +21,7 @@ use Rattle.plant_model.specs.RowFacts.{band_key, cell_key, change_number}
 use Rattle.plant_model.specs.declared.rows.BandRow.{BandRow}
 use Rattle.plant_model.specs.declared.rows.CellRow.{CellRow}
 use Rattle.plant_model.specs.declared.rows.RecordEntry.{RecordEntry}
-use Rattle.plant_tables.proofs.public.Shapes.{rises}
+use Rattle.plant_columns.proofs.public.Shapes.{rises}
 use Rattle.plant_types.specs.Names.{Name}
 use Rattle.plant_types.specs.KeyedRows.{IsInOrder}
 use Rattle.plant_types.proofs.public.KeyedRowLaws.{IsInOrder-put_row, tied}

@@ -14,7 +14,7 @@ use Rattle.sqlite_schema.specs.declared.schema.Schema.{Schema}
 use Rattle.sqlite_schema.specs.declared.schema.Table.{Table}
 use Rattle.sqlite_schema.specs.Names.{table_named, place_of}
 use Rattle.sqlite_typing.specs.Types.{accepts_program}
-use Rattle.plant_tables.specs.Kept.{plain_query}
+use Rattle.plant_columns.specs.Kept.{plain_query}
 use Rattle.plant_store.specs.Texts.{office_row_text}
 use Rattle.plant_store.proofs.OfficeAsked.{Asks, asked}
 use Rattle.plant_store.proofs.ThreeColumns.{IsColumn, is_read, not_read}

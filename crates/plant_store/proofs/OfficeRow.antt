@@ -27,8 +27,8 @@ use Rattle.plant_store.specs.Changes.{IsHonest}
 use Rattle.plant_store.specs.Keeping.{Keeps, KeepsIn}
 use Rattle.plant_store.specs.Opening.{IsOffice, IsThisOffice, has_office, is_office, office_cells, office_in, office_shown, place_named}
 use Rattle.plant_store.specs.Texts.{office_row_text}
-use Rattle.plant_tables.proofs.public.Laws.{reads, shows}
-use Rattle.plant_tables.specs.Tables.{column_of}
+use Rattle.plant_columns.proofs.public.Laws.{reads, shows}
+use Rattle.plant_columns.specs.Forms.{column_of}
 use Rattle.plant_types.specs.Names.{Name}
 
 -- ---- a table and its columns are found by their names

@@ -9,7 +9,7 @@ use Rattle.sqlite_tied.specs.Compute.{everything}
 use Rattle.plant_store.specs.OldTables.{old_books_schema}
 use Rattle.plant_store.specs.Texts.{alarms_of_text, bands_of_text, cells_of_text, changes_of_text, events_of_text, office_row_text, old_codes_text, old_grants_of_text, old_units_of_text, records_of_text, shelves_of_text}
 use Rattle.plant_store.proofs.Meanings.{alarm_names, alarm_shows, band_names, band_shows, by_unit, cell_names, cell_shows, change_names, change_shows, event_names, event_shows, order_1, order_2, order_3, order_4, record_names, record_shows, shelf_names, shelf_shows}
-use Rattle.plant_tables.specs.Kept.{plain_query}
+use Rattle.plant_columns.specs.Kept.{plain_query}
 
 pub office_row_plain : IsPlain (understood old_books_schema office_row_text)
 unfolding understood everything

@@ -17,9 +17,9 @@ use Rattle.plant_store.proofs.Meanings.{alarm_names, alarm_shows, band_names, ba
 use Rattle.plant_store.proofs.OldMeanings.{alarms_of_is, alarms_of_plain, bands_of_is, bands_of_plain, cells_of_is, cells_of_plain, changes_of_is, changes_of_plain, code_names, code_shows, events_of_is, events_of_plain, old_codes_is, old_codes_plain, old_grant_names, old_grant_shows, old_grants_of_is, old_grants_of_plain, old_unit_names, old_unit_shows, old_units_of_is, old_units_of_plain, records_of_is, records_of_plain, shelves_of_is, shelves_of_plain}
 use Rattle.plant_store.proofs.Queries.{one_test}
 use Rattle.plant_store.proofs.Reading.{reads_all}
-use Rattle.plant_tables.specs.Kept.{by_columns}
-use Rattle.plant_tables.specs.Shape.{IsRowIn}
-use Rattle.plant_tables.proofs.public.Shapes.{IsShape, finds_rows}
+use Rattle.plant_columns.specs.Kept.{by_columns}
+use Rattle.plant_columns.specs.Shape.{IsRowIn}
+use Rattle.plant_columns.proofs.public.Shapes.{IsShape, finds_rows}
 use Rattle.plant_types.proofs.public.Orders.{pair_total}
 use Rattle.plant_types.specs.Names.{Name}
 use Rattle.plant_types.specs.Roles.{role_no}
@@ -93,4 +93,4 @@ code_rows (r ∷ rows) all = ap₂ ◌∷◌ (ap (λ (q : Row). column q 1 ∷ [
 pub find_old_codes : (old new : State) → AreOldBooks old.now → (rows : List Row) → Shown old_codes_text [] old new rows → rows ≡ map (λ c. Text c ∷ []) (old_codes old.now.trees)
 find_old_codes old new books rows h =
     finds_rows old_unit_shape old_unit_good old_books_schema old_codes_text [] code_shows order_1 code_names old_codes_is.0 old_codes_is.1 old_codes_plain [] refl (λ r. true) (λ r. refl) old new books.same_schema (books.tidy UnitKept).apart rows h
-    ∙ code_rows _ (Rattle.plant_tables.proofs.public.Kept.all-kept (by_columns (1 ∷ [])) (Rattle.plant_tables.proofs.public.Keys.by_columns_total (1 ∷ [])) (IsRowIn old_unit_shape) (λ r. true) (old.now.trees 1) (books.tidy UnitKept).each)
+    ∙ code_rows _ (Rattle.plant_columns.proofs.public.Kept.all-kept (by_columns (1 ∷ [])) (Rattle.plant_columns.proofs.public.Keys.by_columns_total (1 ∷ [])) (IsRowIn old_unit_shape) (λ r. true) (old.now.trees 1) (books.tidy UnitKept).each)

@@ -15,9 +15,9 @@ use Rattle.plant_model.specs.Histories.{same_number}
 use Rattle.plant_model.specs.declared.rows.AlarmRow.{AlarmRow}
 use Rattle.plant_model.specs.declared.rows.ShelfRow.{ShelfRow}
 use Rattle.plant_types.specs.Names.{Name, same_name}
-use Rattle.plant_tables.specs.Kept.{is_of}
-use Rattle.plant_tables.proofs.public.Keys.{equal_is}
-use Rattle.plant_tables.proofs.public.Shapes.{finds_rows, shown_kept}
+use Rattle.plant_columns.specs.Kept.{is_of}
+use Rattle.plant_columns.proofs.public.Keys.{equal_is}
+use Rattle.plant_columns.proofs.public.Shapes.{finds_rows, shown_kept}
 use Rattle.plant_columns.specs.Codes.{number}
 use Rattle.plant_columns.specs.Shown.{columns}
 use Rattle.plant_columns.specs.Tables.{AreBooks, KeyOf, RowOf, books_schema, shape, rows_seen, unit_shape, grant_shape, alarm_shape, shelf_shape, band_shape, cell_shape, event_shape, record_shape, change_shape}

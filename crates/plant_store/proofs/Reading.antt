@@ -21,10 +21,10 @@ use Rattle.plant_columns.specs.Shown.{columns}
 use Rattle.plant_columns.specs.Tables.{Kept}
 use Rattle.plant_store.specs.Statements.{ReadsIn}
 use Rattle.plant_store.proofs.Meanings.{by_two, by_unit}
-use Rattle.plant_tables.specs.Kept.{by_columns, is_of, plain_query}
-use Rattle.plant_tables.specs.Shape.{AreTables, Shape, row_in, rows_passing, seen}
-use Rattle.plant_tables.proofs.public.Laws.{one_answer, passes, reads, shows}
-use Rattle.plant_tables.proofs.public.Shapes.{IsShape, shown_kept, some_kept}
+use Rattle.plant_columns.specs.Kept.{by_columns, is_of, plain_query}
+use Rattle.plant_columns.specs.Shape.{AreTables, Shape, row_in, rows_passing, seen}
+use Rattle.plant_columns.proofs.public.Laws.{one_answer, passes, reads, shows}
+use Rattle.plant_columns.proofs.public.Shapes.{IsShape, shown_kept, some_kept}
 use Rattle.plant_types.specs.Names.{Name}
 
 -- ---- what was shown is read back

@@ -4,7 +4,7 @@ use Rattle.sqlite.specs.State.{HasCleanDisk, State}
 use Rattle.sqlite.specs.declared.error.Error.{Error}
 use Rattle.sqlite.proofs.StateLemmas.{survives_then}
 use Rattle.plant_store.specs.StaysInside.{StaysInside}
-use Rattle.plant_tables.proofs.public.Asking.{keeps_then}
+use Rattle.plant_columns.proofs.public.Asking.{keeps_then}
 
 -- a step after one that succeeded
 pub stays_then : {V W : Type 0} {value : V} {result : Result W Error} {first mid last : State} → StaysInside (Ok value) first mid → StaysInside result mid last → StaysInside result first last

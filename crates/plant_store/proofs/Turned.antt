@@ -8,8 +8,8 @@ use Rattle.sqlite_keyed.proofs.ListLemmas.{flat_map_none, flat_map_same_on, map-
 use Rattle.sqlite_sql.specs.Term.{Term}
 use Rattle.sqlite_value.specs.declared.keys.Key.{Key}
 use Rattle.sqlite_value.specs.Order.{Row}
-use Rattle.plant_tables.specs.Kept.{plain_query}
-use Rattle.plant_tables.proofs.public.Joins.{meets, pair_shown, met, shown_each}
+use Rattle.plant_columns.specs.Kept.{plain_query}
+use Rattle.plant_columns.proofs.public.Joins.{meets, pair_shown, met, shown_each}
 
 split_pairs : {A B : Type 0} (f g : A → List B) (xs : List A) → IsPermutation (flat_map f xs ++ flat_map g xs) (flat_map (λ x. f x ++ g x) xs)
 split_pairs f g [] = IsPermutation-refl []

@@ -47,12 +47,12 @@ use Rattle.plant_store.specs.Upgrading.{AreTakenOver, HaveOldRows, all_kinds, is
 use Rattle.plant_store.proofs.public.Contents.{nothing_at, same_codes}
 use Rattle.plant_store.proofs.OldQueries.{old_good, old_unit_good}
 use Rattle.plant_store.proofs.Writes.{changed_by-append}
-use Rattle.plant_tables.specs.Kept.{by_columns, is_of}
-use Rattle.plant_tables.specs.Shape.{IsRowIn, rows_in as rows_of}
-use Rattle.plant_tables.proofs.public.Joins.{strict-sort}
-use Rattle.plant_tables.proofs.public.Kept.{all-sort, sort-filter}
-use Rattle.plant_tables.proofs.public.Keys.{by_columns_total}
-use Rattle.plant_tables.proofs.public.Shapes.{named, rises}
+use Rattle.plant_columns.specs.Kept.{by_columns, is_of}
+use Rattle.plant_columns.specs.Shape.{IsRowIn, rows_in as rows_of}
+use Rattle.plant_columns.proofs.public.Joins.{strict-sort}
+use Rattle.plant_columns.proofs.public.Kept.{all-sort, sort-filter}
+use Rattle.plant_columns.proofs.public.Keys.{by_columns_total}
+use Rattle.plant_columns.proofs.public.Shapes.{named, rises}
 use Rattle.plant_types.proofs.public.Orders.{name_total, pair_total}
 use Rattle.plant_types.specs.Names.{Name, name_cmp, same_name}
 use Rattle.plant_types.specs.Roles.{pair_cmp}

@@ -28,11 +28,11 @@ use Rattle.plant_model.specs.RowChanges.{changed_by}
 use Rattle.plant_types.specs.declared.role.Role.{Role}
 use Rattle.plant_types.specs.Names.{Name}
 use Rattle.plant_types.specs.KeyedRows.{IsInOrder, put_row}
-use Rattle.plant_tables.specs.Shape.{rows_in, row_in, table_in}
-use Rattle.plant_tables.proofs.public.Changes.{HasNoReferences}
-use Rattle.plant_tables.proofs.public.Family.{Edits, kept_at, put_edits, remove_edits, same_table}
-use Rattle.plant_tables.proofs.public.Inserted.{adds_row}
-use Rattle.plant_tables.proofs.public.Shapes.{removes_row, rises}
+use Rattle.plant_columns.specs.Shape.{rows_in, row_in, table_in}
+use Rattle.plant_columns.proofs.public.Changes.{HasNoReferences}
+use Rattle.plant_columns.proofs.public.Family.{Edits, kept_at, put_edits, remove_edits, same_table}
+use Rattle.plant_columns.proofs.public.Inserted.{adds_row}
+use Rattle.plant_columns.proofs.public.Shapes.{removes_row, rises}
 use Rattle.plant_columns.specs.Codes.{role}
 use Rattle.plant_store.specs.Changes.{Applies}
 use Rattle.plant_columns.specs.Tables.{AreBooks, AreSeen, Kept, KeyOf, RowOf, books_schema, office_table, own_key, rows_at, rows_seen, shape, unit_shape}

@@ -29,13 +29,13 @@ use Rattle.plant_model.specs.declared.rows.UnitRow.{UnitRow}
 use Rattle.plant_types.specs.Names.{Name}
 use Rattle.plant_types.specs.Roles.{role_no}
 use Rattle.plant_types.specs.KeyedRows.{put_row}
-use Rattle.plant_tables.specs.Kept.{by_columns, plain_query}
-use Rattle.plant_tables.specs.Shape.{row_in}
+use Rattle.plant_columns.specs.Kept.{by_columns, plain_query}
+use Rattle.plant_columns.specs.Shape.{row_in}
 use Rattle.sqlite.specs.Effect.{Database}
-use Rattle.plant_tables.proofs.public.Family.{Edits, no_edits, set_edits}
-use Rattle.plant_tables.proofs.public.Keys.{agree_is}
-use Rattle.plant_tables.proofs.public.Laws.{passes, shows}
-use Rattle.plant_tables.proofs.public.Updated.{equal_when, leaves, sets_some}
+use Rattle.plant_columns.proofs.public.Family.{Edits, no_edits, set_edits}
+use Rattle.plant_columns.proofs.public.Keys.{agree_is}
+use Rattle.plant_columns.proofs.public.Laws.{passes, shows}
+use Rattle.plant_columns.proofs.public.Updated.{equal_when, leaves, sets_some}
 use Rattle.plant_columns.specs.Codes.{number, open_number, role}
 use Rattle.plant_columns.specs.Tables.{AreBooks, Kept, KeyOf, RowOf, alarm_shape, books_schema, change_shape, grant_shape, record_shape, shape, shelf_shape, unit_shape}
 use Rattle.plant_columns.specs.Tables.Kept.{AlarmKept, ChangeKept, GrantKept, RecordKept, ShelfKept, UnitKept}

@@ -13,7 +13,7 @@ use Rattle.plant_store.specs.declared.mine.Line.{Line}
 use Rattle.plant_columns.specs.Codes.{number, open_number, open_number_in, role, role_in}
 use Rattle.plant_columns.specs.Tables.{grant_shape, rows_seen}
 use Rattle.plant_columns.specs.Tables.Kept.{UnitKept}
-use Rattle.plant_tables.specs.Kept.{by_columns, kept}
+use Rattle.plant_columns.specs.Kept.{by_columns, kept}
 use Rattle.plant_types.specs.Names.{Name, same_name}
 
 -- the second column has this name

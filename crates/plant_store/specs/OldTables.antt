@@ -18,7 +18,7 @@ use Rattle.plant_model.specs.declared.rows.RecordEntry.{RecordEntry}
 use Rattle.plant_model.specs.declared.rows.ShelfRow.{ShelfRow}
 use Rattle.plant_store.specs.declared.old_rows.OldGrantRow.{OldGrantRow}
 use Rattle.plant_store.specs.declared.old_rows.OldUnitRow.{OldUnitRow}
-use Rattle.plant_tables.specs.Shape.{AreTables, Shape, seen, table_in}
+use Rattle.plant_columns.specs.Shape.{AreTables, Shape, seen, table_in}
 use Rattle.plant_types.specs.Names.{Name}
 use Rattle.plant_types.specs.Roles.{Pair, pair_cmp}
 

@@ -22,7 +22,7 @@ use Rattle.plant_store.specs.declared.old_rows.OldGrantRow.{OldGrantRow}
 use Rattle.plant_store.specs.declared.old_rows.OldUnitRow.{OldUnitRow}
 use Rattle.plant_store.specs.Keeping.{has_any}
 use Rattle.plant_store.specs.OldTables.{AreOldBooks, old_office_row, old_rows}
-use Rattle.plant_tables.specs.Kept.{by_columns, kept}
+use Rattle.plant_columns.specs.Kept.{by_columns, kept}
 use Rattle.plant_types.specs.Names.{Name, same_name}
 
 abbrev pub upgraded_unit : OldUnitRow → UnitRow

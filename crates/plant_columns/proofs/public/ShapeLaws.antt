@@ -33,11 +33,11 @@ use Rattle.plant_types.proofs.public.Orders.{pair_total}
 use Rattle.plant_model.specs.declared.rows.ChangeTopic.{ChangeTopic}
 use Rattle.plant_model.specs.declared.rows.ChangeTopic.TheVariants.{Limit as LimitTopic, Matrix as MatrixTopic, Record as RecordTopic}
 use Rattle.plant_model.specs.Matrices.{BandKey, CellKey, band_cmp, cell_cmp}
-use Rattle.plant_tables.specs.Shape.{Shape, table_in}
-use Rattle.plant_tables.proofs.public.Bridge.{int_cmp-pos}
-use Rattle.plant_tables.proofs.public.Family.{AreListed}
-use Rattle.plant_tables.proofs.public.Laws.{cast_int, cast_null}
-use Rattle.plant_tables.proofs.public.Shapes.{IsListed, IsShape}
+use Rattle.plant_columns.specs.Shape.{Shape, table_in}
+use Rattle.plant_columns.proofs.public.Bridge.{int_cmp-pos}
+use Rattle.plant_columns.proofs.public.Family.{AreListed}
+use Rattle.plant_columns.proofs.public.Laws.{cast_int, cast_null}
+use Rattle.plant_columns.proofs.public.Shapes.{IsListed, IsShape}
 use Rattle.plant_columns.specs.Codes.{cell_no, cell_numbered, decision_no, decision_numbered, flag, flag_in, kind_no, kind_numbered, number, open_number, open_number_in, open_text, open_text_in, role_numbered, state_no, state_numbered, topic_no, topic_numbered}
 use Rattle.plant_columns.specs.Tables.{Kept, RowOf, KeyOf, alarm_shape, band_shape, books_schema, cell_shape, change_shape, event_shape, grant_shape, record_shape, shape, shelf_shape, unit_shape}
 use Rattle.plant_columns.specs.Tables.Kept.{UnitKept, GrantKept, AlarmKept, ShelfKept, BandKept, CellKept, EventKept, RecordKept, ChangeKept}

@@ -19,7 +19,7 @@ use Rattle.plant_store.specs.Changes.{Applies, IsOfficeOf}
 use Rattle.plant_store.specs.Keeping.{KeepsIn, has_any}
 use Rattle.plant_store.specs.Making.{AreNew}
 use Rattle.plant_columns.specs.Tables.{AreBooks, AreSeen, Kept, rows_at, rows_seen, shape}
-use Rattle.plant_tables.specs.Shape.{rows_in as rows_of}
+use Rattle.plant_columns.specs.Shape.{rows_in as rows_of}
 use Rattle.plant_columns.specs.Tables.Kept.{UnitKept, GrantKept, AlarmKept, ShelfKept, BandKept, CellKept, EventKept, RecordKept, ChangeKept}
 
 pub same_codes : (a b : Name) → same_name a b ≡ true → a ≡ b

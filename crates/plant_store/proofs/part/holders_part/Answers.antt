@@ -18,7 +18,7 @@ use Rattle.plant_model.specs.Histories.{same_number}
 use Rattle.plant_store.proofs.Selected.{approved_found, part_found, read_in_order, records_asked}
 use Rattle.plant_columns.proofs.public.ShapeLaws.{good}
 use Rattle.plant_columns.specs.Tables.{event_shape}
-use Rattle.plant_tables.proofs.public.Shapes.{rises}
+use Rattle.plant_columns.proofs.public.Shapes.{rises}
 use Rattle.plant_model.specs.RowFacts.{event_number}
 use Rattle.plant_types.specs.KeyedRows.{IsInOrder}
 use Rattle.std.specs.Ordering.{nat_cmp}

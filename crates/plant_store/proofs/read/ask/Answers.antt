@@ -8,7 +8,7 @@ use Rattle.sqlite.specs.Schema.{Schema}
 use Rattle.sqlite.specs.State.{State, Shown, FailsToQuery, IsUnchanged, IsRolledBack, HasCleanDisk}
 use Rattle.sqlite.specs.Values.{bound}
 use Rattle.sqlite.proofs.Callers.{IsPlain}
-use Rattle.plant_tables.proofs.public.Asking.{asked, same_now, was_open}
+use Rattle.plant_columns.proofs.public.Asking.{asked, same_now, was_open}
 use Rattle.plant_store.proofs.read.ask.Goals as goal
 
 either_way : (sql : List ℕ) (params : Row) (old new : State) (r : Result (Vec Row Global) Error) → (schema : Schema) → old.now.schema ≡ schema → IsPlain (understood schema sql) → IfOk r (λ rows. Shown sql params old new rows.items)

@@ -6,7 +6,7 @@ use Rattle.sqlite.proofs.StateLemmas.{survives_then}
 use Rattle.plant_model.specs.declared.rows.RowEdit.{RowEdit}
 use Rattle.plant_store.specs.Changes.{Applies}
 use Rattle.plant_store.proofs.Writes.{applies_then}
-use Rattle.plant_tables.proofs.public.Asking.{keeps_then}
+use Rattle.plant_columns.proofs.public.Asking.{keeps_then}
 use Rattle.plant_store.proofs.write.change_all.Goals as goal
 
 pub loop-change-preserved : goal.loop-change-preserved

@@ -5,7 +5,7 @@ use Rattle.std.specs.List.{AllByRecursion}
 use Rattle.sqlite.specs.Tree.{rowid, IsTable, IsAscending}
 use Rattle.sqlite.specs.View.{is_int}
 use Rattle.sqlite_value.specs.Order.{Row}
-use Rattle.plant_tables.specs.Kept.{by_columns}
+use Rattle.plant_columns.specs.Kept.{by_columns}
 
 -- each row has an integer for its rowid, and no two have one
 pub record AreRows (rows : List Row) : Type 0 where

@@ -14,11 +14,11 @@ use Rattle.sqlite_sql.specs.Term.{Term, holds}
 use Rattle.sqlite_sql.proofs.QueryLemmas.{output_cmp_total}
 use Rattle.sqlite_value.specs.declared.keys.Key.{Key}
 use Rattle.sqlite_value.specs.Order.{Row}
-use Rattle.plant_tables.specs.Kept.{by_columns, plain_query}
-use Rattle.plant_tables.specs.Tidy.{AreApart}
-use Rattle.plant_tables.proofs.public.Keys.{by_columns_total}
-use Rattle.plant_tables.proofs.public.Kept.{all-insert, all-sort}
-use Rattle.plant_tables.proofs.public.Laws.{overlay_none}
+use Rattle.plant_columns.specs.Kept.{by_columns, plain_query}
+use Rattle.plant_columns.specs.Tidy.{AreApart}
+use Rattle.plant_columns.proofs.public.Keys.{by_columns_total}
+use Rattle.plant_columns.proofs.public.Kept.{all-insert, all-sort}
+use Rattle.plant_columns.proofs.public.Laws.{overlay_none}
 
 module _ {X : Type 0} (cmp : X → X → Ordering) (total : IsTotalOrder cmp) where
   strict-insert : (new : X) (xs : List X) → AllByRecursion (λ y. is_eq (cmp new y) ≡ false) xs → IsAscending (λ a b. cmp a b ≡ Less) xs → IsAscending (λ a b. cmp a b ≡ Less) (insert_sorted cmp new xs)

@@ -9,9 +9,9 @@ use Rattle.sqlite_schema.specs.declared.schema.Column.{Column}
 use Rattle.sqlite_value.specs.declared.value.Value.{Value}
 use Rattle.sqlite_value.specs.declared.value.Value.TheVariants.{Text}
 use Rattle.sqlite_value.specs.Order.{Row, column, bytes}
-use Rattle.plant_tables.specs.Kept.{by_columns, kept, is_of}
-use Rattle.plant_tables.specs.Tables.{table_of}
-use Rattle.plant_tables.specs.Tidy.{IsTidy}
+use Rattle.plant_columns.specs.Kept.{by_columns, kept, is_of}
+use Rattle.plant_columns.specs.Forms.{table_of}
+use Rattle.plant_columns.specs.Tidy.{IsTidy}
 
 -- X is a row without its unit, K its key. The first column is the unit's code, and begins the key.
 pub record Shape (X K : Type 0) : Type 0 where

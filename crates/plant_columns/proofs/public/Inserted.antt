@@ -36,15 +36,15 @@ use Rattle.sqlite_value.specs.declared.value.Value.{Value}
 use Rattle.sqlite_value.specs.declared.value.Value.TheVariants.{Null, Int, Text}
 use Rattle.sqlite_value.specs.Keys.{plain, first_key}
 use Rattle.sqlite_value.specs.Order.{value_cmp}
-use Rattle.plant_tables.specs.Kept.{taken_out, by_columns}
-use Rattle.plant_tables.specs.Shape.{Shape, table_in, row_in}
-use Rattle.plant_tables.specs.Tables.{table_of}
-use Rattle.plant_tables.specs.Tidy.{AreRows}
-use Rattle.plant_tables.proofs.public.Changes.{went, same_value, KeepsOthers, HasNoReferences, lone_step}
-use Rattle.plant_tables.proofs.public.Keys.{agree_is, equal_is}
-use Rattle.plant_tables.proofs.public.Laws.{cast_null}
-use Rattle.plant_tables.proofs.Rows.{below_next, put_last}
-use Rattle.plant_tables.proofs.public.Shapes.{IsShape, IsListed, PutsRow}
+use Rattle.plant_columns.specs.Kept.{taken_out, by_columns}
+use Rattle.plant_columns.specs.Shape.{Shape, table_in, row_in}
+use Rattle.plant_columns.specs.Forms.{table_of}
+use Rattle.plant_columns.specs.Tidy.{AreRows}
+use Rattle.plant_columns.proofs.public.Changes.{went, same_value, KeepsOthers, HasNoReferences, lone_step}
+use Rattle.plant_columns.proofs.public.Keys.{agree_is, equal_is}
+use Rattle.plant_columns.proofs.public.Laws.{cast_null}
+use Rattle.plant_columns.proofs.Rows.{below_next, put_last}
+use Rattle.plant_columns.proofs.public.Shapes.{IsShape, IsListed, PutsRow}
 
 -- The new row is put in with the next rowid, and each rule holds of what is then there.
 record HasInserted (schema : Schema) (table : Table) (source : Row) (old new : Database) : Type 0 where

@@ -9,11 +9,11 @@ use Rattle.sqlite.specs.Tree.{Trees}
 use Rattle.sqlite_rules.specs.Lists.{Has}
 use Rattle.sqlite_rules.proofs.ListLemmas.{all_has}
 use Rattle.plant_types.specs.KeyedRows.{put_row, remove_row}
-use Rattle.plant_tables.specs.Shape.{Shape, table_in, IsRowIn, rows_in, seen, AreTables}
-use Rattle.plant_tables.specs.Tidy.{IsTidy}
-use Rattle.plant_tables.proofs.public.Changes.{KeepsOthers}
-use Rattle.plant_tables.proofs.public.Updated.{Leaves, SetsRow, mine_after_set, others_after_set, tidy_after_set}
-use Rattle.plant_tables.proofs.public.Shapes.{IsShape, PutsRow, RemovesRow, tidy_after_put, mine_after_put, others_after_put, tidy_after_out, mine_after_out, others_after_out}
+use Rattle.plant_columns.specs.Shape.{Shape, table_in, IsRowIn, rows_in, seen, AreTables}
+use Rattle.plant_columns.specs.Tidy.{IsTidy}
+use Rattle.plant_columns.proofs.public.Changes.{KeepsOthers}
+use Rattle.plant_columns.proofs.public.Updated.{Leaves, SetsRow, mine_after_set, others_after_set, tidy_after_set}
+use Rattle.plant_columns.proofs.public.Shapes.{IsShape, PutsRow, RemovesRow, tidy_after_put, mine_after_put, others_after_put, tidy_after_out, mine_after_out, others_after_out}
 
 same_or_not : (m n : ℕ) → (m ≡ n) ⊎ (m ≢ n)
 same_or_not m n = go (nat_cmp m n) (ranks m n)

@@ -40,16 +40,16 @@ use Rattle.sqlite_value.specs.declared.value.Value.{Value}
 use Rattle.sqlite_value.specs.declared.value.Value.TheVariants.{Null}
 use Rattle.sqlite_value.specs.Order.{bytes, column, value_cmp}
 use Rattle.plant_types.specs.KeyedRows as model
-use Rattle.plant_tables.specs.Kept.{taken_out, by_columns, is_of, kept, plain_query}
-use Rattle.plant_tables.specs.Shape.{Shape, table_in, row_in, IsRowIn, rows_in}
-use Rattle.plant_tables.specs.Tidy.{AreRows, AreApart, IsTidy}
-use Rattle.plant_tables.proofs.public.Changes.{went, same_value, KeepsOthers, HasNoReferences, lone_step}
-use Rattle.plant_tables.proofs.public.Keys.{by_columns_total}
-use Rattle.plant_tables.proofs.public.Kept.{HasNoTies, sort_push, no_ties-out}
-use Rattle.plant_tables.proofs.public.Laws.{cast_int, reads, passes, shows}
-use Rattle.plant_tables.proofs.Rows.{AreFound, without_found}
-use Rattle.plant_tables.proofs.public.Shapes.{IsShape, IsListed, agrees_in, is_row, named}
-use Rattle.plant_tables.proofs.Shared.{put_mine, put_other}
+use Rattle.plant_columns.specs.Kept.{taken_out, by_columns, is_of, kept, plain_query}
+use Rattle.plant_columns.specs.Shape.{Shape, table_in, row_in, IsRowIn, rows_in}
+use Rattle.plant_columns.specs.Tidy.{AreRows, AreApart, IsTidy}
+use Rattle.plant_columns.proofs.public.Changes.{went, same_value, KeepsOthers, HasNoReferences, lone_step}
+use Rattle.plant_columns.proofs.public.Keys.{by_columns_total}
+use Rattle.plant_columns.proofs.public.Kept.{HasNoTies, sort_push, no_ties-out}
+use Rattle.plant_columns.proofs.public.Laws.{cast_int, reads, passes, shows}
+use Rattle.plant_columns.proofs.Rows.{AreFound, without_found}
+use Rattle.plant_columns.proofs.public.Shapes.{IsShape, IsListed, agrees_in, is_row, named}
+use Rattle.plant_columns.proofs.Shared.{put_mine, put_other}
 
 -- The rows that are answered are taken out by their rowids, and what is to stand for them is put in.
 pub record HasUpdated (schema : Schema) (table : Table) (q : Query) (params : Row) (count : ℕ) (old new : Database) : Type 0 where

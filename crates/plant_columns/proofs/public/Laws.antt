@@ -18,16 +18,16 @@ use Rattle.sqlite_value.specs.declared.keys.Key.{Key}
 use Rattle.sqlite_value.specs.declared.value.Value.{Value}
 use Rattle.sqlite_value.specs.declared.value.Value.TheVariants.{Null, Int}
 use Rattle.sqlite_value.specs.Order.{Row}
-use Rattle.plant_tables.specs.Kept.{by_columns, plain_query, kept}
+use Rattle.plant_columns.specs.Kept.{by_columns, plain_query, kept}
 use Rattle.sqlite_keyed.specs.Lists.{sort_by}
 use Rattle.sqlite_keyed.proofs.SortLemmas.{sorted_is-sort_by, sort_by-map}
 use Rattle.sqlite_keyed.proofs.ListLemmas.{ascending-map, map-map}
 use Rattle.sqlite_sql.proofs.QueryLemmas.{output_cmp_total}
 use Rattle.sqlite_trees.specs.Tree.{IsAscending}
-use Rattle.plant_tables.specs.Tables.{table_of}
-use Rattle.plant_tables.specs.Tidy.{AreRows}
-use Rattle.plant_tables.proofs.Rows.{AreFound, without_found}
-use Rattle.plant_tables.proofs.public.Changes.{HasDeleted}
+use Rattle.plant_columns.specs.Forms.{table_of}
+use Rattle.plant_columns.specs.Tidy.{AreRows}
+use Rattle.plant_columns.proofs.Rows.{AreFound, without_found}
+use Rattle.plant_columns.proofs.public.Changes.{HasDeleted}
 
 -- ---- reading
 

@@ -14,11 +14,11 @@ use Rattle.sqlite_sql.specs.Term.{Term}
 use Rattle.sqlite_sql.proofs.QueryLemmas.{output_cmp_total}
 use Rattle.sqlite_value.specs.declared.keys.Key.{Key}
 use Rattle.sqlite_value.specs.Order.{Row}
-use Rattle.plant_tables.specs.Kept.{by_columns, plain_query}
-use Rattle.plant_tables.specs.Tidy.{AreApart}
-use Rattle.plant_tables.proofs.public.Keys.{by_columns_total}
-use Rattle.plant_tables.proofs.public.Laws.{overlay_none}
-use Rattle.plant_tables.proofs.public.Joins.{strict-sort, ascending-flat_map, picked, all_picked, meets, pair_shown, met, shown_each}
+use Rattle.plant_columns.specs.Kept.{by_columns, plain_query}
+use Rattle.plant_columns.specs.Tidy.{AreApart}
+use Rattle.plant_columns.proofs.public.Keys.{by_columns_total}
+use Rattle.plant_columns.proofs.public.Laws.{overlay_none}
+use Rattle.plant_columns.proofs.public.Joins.{strict-sort, ascending-flat_map, picked, all_picked, meets, pair_shown, met, shown_each}
 
 module _ {A B : Type 0} (t : A → Bool) (out : A → B) (S : A → A → Type 0) (R : B → B → Type 0) (keeps : (u v : A) → t u ≡ true → t v ≡ true → S u v → R (out u) (out v)) where
   above : (u : A) → t u ≡ true → (us : List A) → AllByRecursion (S u) us → AllByRecursion (R (out u)) (picked t out us)

@@ -10,7 +10,7 @@ use Rattle.sqlite_trees.specs.Tree.{IsAscending}
 use Rattle.sqlite_keyed.specs.Lists.{insert_sorted}
 use Rattle.sqlite_keyed.proofs.ListLemmas.{all_weaker}
 use Rattle.plant_types.specs.KeyedRows.{put_row, remove_row, IsInOrder}
-use Rattle.plant_tables.specs.Kept.{taken_out, put_in}
+use Rattle.plant_columns.specs.Kept.{taken_out, put_in}
 
 module _ {K X : Type 0} (R : K → K → Ordering) (key : X → K) where
   abbrev pub by_key_of : X → X → Ordering

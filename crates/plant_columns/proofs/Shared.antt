@@ -8,17 +8,17 @@ use Rattle.sqlite_keyed.proofs.ListLemmas.{all-filter, all-append}
 use Rattle.sqlite_value.specs.declared.value.Value.TheVariants.{Text}
 use Rattle.sqlite_value.specs.Order.{Row, column, value_cmp}
 use Rattle.sqlite_value.proofs.OrderLemmas.{value_cmp_total, value_cmp-Text}
-use Rattle.plant_tables.specs.Kept.{taken_out, by_columns, kept, is_of}
+use Rattle.plant_columns.specs.Kept.{taken_out, by_columns, kept, is_of}
 use Rattle.std.specs.Cmp.{IsTotalOrder}
 use Rattle.sqlite_value.specs.Order.{bytes}
 use Rattle.sqlite_trees.specs.Tree.{IsAscending}
 use Rattle.std.proofs.Common.{Less, T}
 use Rattle.plant_types.specs.KeyedRows.{put_row, remove_row, IsInOrder}
-use Rattle.plant_tables.proofs.public.Bridge.{put_is, IsInOrder-rising}
-use Rattle.plant_tables.proofs.public.Joins.{strict-sort}
-use Rattle.plant_tables.specs.Tidy.{AreRows, IsTidy}
-use Rattle.plant_tables.proofs.public.Keys.{by_columns_total, then_tied}
-use Rattle.plant_tables.proofs.public.Kept.{kept-put, kept-put_other, kept-out, kept-out_other, no_ties-out, no_ties-put, all-kept, read-put, read-out}
+use Rattle.plant_columns.proofs.public.Bridge.{put_is, IsInOrder-rising}
+use Rattle.plant_columns.proofs.public.Joins.{strict-sort}
+use Rattle.plant_columns.specs.Tidy.{AreRows, IsTidy}
+use Rattle.plant_columns.proofs.public.Keys.{by_columns_total, then_tied}
+use Rattle.plant_columns.proofs.public.Kept.{kept-put, kept-put_other, kept-out, kept-out_other, no_ties-out, no_ties-put, all-kept, read-put, read-out}
 
 equal_when : (o : Ordering) → is_eq o ≡ true → o ≡ Equal
 equal_when Less h = absurd (true≢false (sym h))
@@ -91,7 +91,7 @@ module _ (ks : List ℕ) where
           agrees a b p.0 q.0 ∙ sym (ap (λ o. Rattle.std.specs.Ordering.ordering_then o (by_columns ks a b)) tie)
 
       all_of : (u : List ℕ) (rows : List Row) → AllByRecursion Wf rows → AllByRecursion (λ r. Wf r × (column r 1 ≡ Text u)) (kept (by_columns (1 ∷ ks)) (is_of u) rows)
-      all_of u rows all = Rattle.plant_tables.proofs.public.Kept.all-sort (by_columns (1 ∷ ks)) (by_columns_total (1 ∷ ks)) (λ r. Wf r × (column r 1 ≡ Text u)) (filter (is_of u) rows) (of_unit u rows all)
+      all_of u rows all = Rattle.plant_columns.proofs.public.Kept.all-sort (by_columns (1 ∷ ks)) (by_columns_total (1 ∷ ks)) (λ r. Wf r × (column r 1 ≡ Text u)) (filter (is_of u) rows) (of_unit u rows all)
 
       rise : (u : List ℕ) (rows : List Row) → AllByRecursion (λ r. Wf r × (column r 1 ≡ Text u)) rows → IsAscending (λ a b. by_columns (1 ∷ ks) a b ≡ Less) rows → IsAscending (λ a b. R (key a) (key b) ≡ Less) (map read rows)
       rise u [] all up = tt

@@ -15,7 +15,7 @@ use Rattle.sqlite_rules.specs.Calls.{ids_of}
 use Rattle.sqlite_rules.proofs.ListLemmas.{all_has, all_from, some_has, some_from}
 use Rattle.sqlite_rules.proofs.PlaceLemmas.{tied_same}
 use Rattle.sqlite_rules.proofs.TableLemmas.{int_is}
-use Rattle.plant_tables.specs.Tidy.{AreRows}
+use Rattle.plant_columns.specs.Tidy.{AreRows}
 
 -- the rowids of the rows that pass the test, and no other
 pub record AreFound (p : Row → Bool) (rows found : List Row) : Type 0 where

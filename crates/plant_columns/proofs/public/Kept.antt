@@ -7,7 +7,7 @@ use Rattle.std.proofs.lemmas.Cmp.{upto}
 use Rattle.sqlite_trees.specs.Tree.{IsAscending}
 use Rattle.sqlite_keyed.specs.Lists.{insert_sorted, sort_by}
 use Rattle.sqlite_keyed.proofs.ListLemmas.{all_weaker, all-filter, filter_all, ascending-filter}
-use Rattle.plant_tables.specs.Kept.{taken_out, put_in, kept}
+use Rattle.plant_columns.specs.Kept.{taken_out, put_in, kept}
 
 module _ {X : Type 0} (cmp : X → X → Ordering) (total : IsTotalOrder cmp) where
   abbrev pub AtMost : X → X → Type 0

@@ -23,14 +23,14 @@ use Rattle.sqlite_value.specs.declared.value.Value.TheVariants.{Null, Int, Text}
 use Rattle.sqlite_value.specs.Keys.{plain}
 use Rattle.sqlite_value.specs.Order.{Row, column, bytes}
 use Rattle.plant_types.specs.KeyedRows.{put_row, remove_row, IsInOrder}
-use Rattle.plant_tables.specs.Kept.{taken_out, by_columns, plain_query, kept, is_of}
-use Rattle.plant_tables.specs.Shape.{Shape, table_in, row_in, IsRowIn, rows_in, rows_passing}
-use Rattle.plant_tables.specs.Tidy.{AreRows, AreApart, IsTidy}
-use Rattle.plant_tables.proofs.public.Changes.{HasNoReferences, KeepsOthers, deletes}
-use Rattle.plant_tables.proofs.public.Keys.{HasKey, agree_is, by_columns_total}
-use Rattle.plant_tables.proofs.public.Kept.{all-kept, sort-filter}
-use Rattle.plant_tables.proofs.public.Laws.{removes, passes, shows, reads, one_answer}
-use Rattle.plant_tables.proofs.Shared.{tidy-put, tidy-out, put_mine, put_other, out_mine, out_other, in_order}
+use Rattle.plant_columns.specs.Kept.{taken_out, by_columns, plain_query, kept, is_of}
+use Rattle.plant_columns.specs.Shape.{Shape, table_in, row_in, IsRowIn, rows_in, rows_passing}
+use Rattle.plant_columns.specs.Tidy.{AreRows, AreApart, IsTidy}
+use Rattle.plant_columns.proofs.public.Changes.{HasNoReferences, KeepsOthers, deletes}
+use Rattle.plant_columns.proofs.public.Keys.{HasKey, agree_is, by_columns_total}
+use Rattle.plant_columns.proofs.public.Kept.{all-kept, sort-filter}
+use Rattle.plant_columns.proofs.public.Laws.{removes, passes, shows, reads, one_answer}
+use Rattle.plant_columns.proofs.Shared.{tidy-put, tidy-out, put_mine, put_other, out_mine, out_other, in_order}
 
 -- what is to be shown of one shape
 pub record IsShape {X K : Type 0} (s : Shape X K) : Type 0 where

@@ -13,7 +13,7 @@ use Rattle.sqlite_value.proofs.OrderLemmas.{value_cmp_total, value_cmp-Null}
 use Rattle.sqlite_sql.specs.Ops.{binary, is_null, is_true, from_truth}
 use Rattle.sqlite_sql.proofs.QueryLemmas.{key_cmp_total}
 use Rattle.sqlite_schema.specs.Rules.{equal, agree}
-use Rattle.plant_tables.specs.Kept.{by_columns}
+use Rattle.plant_columns.specs.Kept.{by_columns}
 
 pub by_columns_total : (ks : List ℕ) → IsTotalOrder (by_columns ks)
 by_columns_total [] = key_cmp_total [] 0

@@ -1,3 +1,0 @@
-pub mod public
-mod Rows
-mod Shared

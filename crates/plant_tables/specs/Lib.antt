@@ -1,4 +1,0 @@
-pub mod Tables
-pub mod Kept
-pub mod Tidy
-pub mod Shape
