@@ -36,7 +36,7 @@ fn one_row(alloc: Global, row: UnitRow) -> Result<List<UnitRow>, Fault>
 }
 
 /// Puts a row of a unit.
-#[tactic(auto, using(crate::proofs::EventLaws::with_push))]
+#[tactic(auto, using(crate::proofs::public::EventLaws::with_push))]
 fn put_row(alloc: Global, changing: &mut Changing, row: Row) -> Result<(), Fault>
     ensures ok { AreInOrder (whole changing.old) → OnOk result (whole changing.new ≡ row_put row (whole changing.old)) }
     ensures events { OnOk result (changing.new.rows.events ≡ changing.old.rows.events) }

@@ -17,7 +17,7 @@ use Rattle.plant_import.proofs.public.Nearest.{AreParts, order_above, order_belo
 use Rattle.plant_import.proofs.public.Risings.{Before, Each, Rising, each_weaker, is_rising, rising_of}
 use Rattle.plant_import.specs.Merging.{IsRising, out_of_order}
 use Rattle.plant_import.specs.Numbers.{event_number, has_number}
-use Rattle.plant_import.specs.Standing.{below, from}
+use Rattle.plant_import.specs.Relation.{below, from}
 use Rattle.plant_types.specs.KeyedRows.{put_row}
 
 abbrev pub numbered : List Event → List (ℕ × Event)

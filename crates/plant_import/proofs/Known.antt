@@ -9,7 +9,7 @@ use Rattle.std.specs.Cmp.Lexicographic.{nat_list_cmp_total}
 use Rattle.std.specs.List.{list_any}
 use Rattle.std.specs.Prelude.{Bool, ℕ, ◌||◌}
 use Rattle.plant_types.specs.Names.{Name, name_cmp, same_name}
-use Rattle.plant_import.specs.Standing.{AreKnown}
+use Rattle.plant_import.specs.Relation.{AreKnown}
 
 or_swap : (a b : Bool) → cond a true b ≡ (b || (a || false))
 or_swap true true = refl

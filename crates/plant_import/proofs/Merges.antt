@@ -19,9 +19,9 @@ use Rattle.plant_import.specs.Numbers.{has_number}
 use Rattle.std.proofs.lemmas.Bool.{lt-ltb, le-ltb}
 use Rattle.std.proofs.lemmas.List.Folds.{list_any-append}
 use Rattle.plant_import.specs.declared.bad_file.Cause.TheVariants.{TagUnknown, MomentAhead, SequenceClash, MomentOutOfOrder}
-use Rattle.plant_import.specs.declared.standing.Standing.{Standing}
-use Rattle.plant_import.specs.declared.standing.Standing.TheVariants.{New, Known, Clash, OutOfOrder}
-use Rattle.plant_import.specs.Standing.{StandsSo, Stands, IsJudged, joined}
+use Rattle.plant_import.specs.declared.relation.Relation.{Relation}
+use Rattle.plant_import.specs.declared.relation.Relation.TheVariants.{New, Known, Clash, OutOfOrder}
+use Rattle.plant_import.specs.Relation.{RelatesSo, IsRelated, IsJudged, joined}
 use Rattle.plant_import.specs.Merging.{IsRising, same_event, clashes, out_of_order, merge_fault, first_fault, is_new, fresh, merged_or, merge}
 
 or_else-assoc : {A : Type 0} (a b c : Option A) → or_else (or_else a b) c ≡ or_else a (or_else b c)
@@ -99,7 +99,7 @@ merged_whole tags now kept rows new repeated h =
     both : {a b : List Event} {m n : ℕ} → a ≡ b → m ≡ n → adds a m ≡ adds b n
     both p q = cc
 
--- the fault of a row among other events, where it stands so to them
+-- the fault of a row among other events, where it relates so to them
 unknown_tag : (tags : List Name) (now : ℕ) (others : List Event) (e : Event) → list_any (same_name e.tag) tags ≡ false → merge_fault tags now others e ≡ Some TagUnknown
 unfolding merge_fault
 unknown_tag tags now others e tag = rw tag refl
@@ -112,16 +112,16 @@ clash : (tags : List Name) (now : ℕ) (others : List Event) (e : Event) → lis
 unfolding merge_fault
 clash tags now others e tag le is = rw (tag, le-ltb now e.moment le, is) refl
 
-disorder : (tags : List Name) (now : ℕ) (others : List Event) (e : Event) (same : Bool) → list_any (same_name e.tag) tags ≡ true → e.moment ≤ now → StandsSo others e same false true → merge_fault tags now others e ≡ Some MomentOutOfOrder
+disorder : (tags : List Name) (now : ℕ) (others : List Event) (e : Event) (same : Bool) → list_any (same_name e.tag) tags ≡ true → e.moment ≤ now → RelatesSo others e same false true → merge_fault tags now others e ≡ Some MomentOutOfOrder
 unfolding merge_fault
 disorder tags now others e same tag le is = rw (tag, le-ltb now e.moment le, is.clash_is, is.order_is) refl
 
-in_order : (tags : List Name) (now : ℕ) (others : List Event) (e : Event) (same : Bool) → list_any (same_name e.tag) tags ≡ true → e.moment ≤ now → StandsSo others e same false false → merge_fault tags now others e ≡ None
+in_order : (tags : List Name) (now : ℕ) (others : List Event) (e : Event) (same : Bool) → list_any (same_name e.tag) tags ≡ true → e.moment ≤ now → RelatesSo others e same false false → merge_fault tags now others e ≡ None
 unfolding merge_fault
 in_order tags now others e same tag le is = rw (tag, le-ltb now e.moment le, is.clash_is, is.order_is) refl
 
--- how it stands to two lists one after the other
-both : (kept fresh : List Event) (e : Event) (a b c a' b' c' : Bool) → StandsSo kept e a b c → StandsSo fresh e a' b' c' → StandsSo (kept ++ fresh) e (a || a') (b || b') (c || c')
+-- how it relates to two lists one after the other
+both : (kept fresh : List Event) (e : Event) (a b c a' b' c' : Bool) → RelatesSo kept e a b c → RelatesSo fresh e a' b' c' → RelatesSo (kept ++ fresh) e (a || a') (b || b') (c || c')
 both kept fresh e a b c a' b' c' h k =
     record {
       same_is = list_any-append (same_event e) kept fresh ∙ two h.same_is k.same_is;
@@ -152,10 +152,10 @@ module _ (tags : List Name) (now : ℕ) (kept fresh : List Event) (e : Event) (t
   abbrev others : List Event
   others = kept ++ fresh
 
-  seen_so : (same : Bool) → StandsSo others e same false false → IsJudged tags now kept fresh e (Ok (not same))
+  seen_so : (same : Bool) → RelatesSo others e same false false → IsJudged tags now kept fresh e (Ok (not same))
   seen_so same is = (in_order tags now others e same tag le is, ap not is.same_is)
 
-  pub judged_so : (k f : Standing) → Stands kept e k → Stands fresh e f → IsJudged tags now kept fresh e (joined k f)
+  pub judged_so : (k f : Relation) → IsRelated kept e k → IsRelated fresh e f → IsJudged tags now kept fresh e (joined k f)
   judged_so Clash f h g = clash tags now others e tag le (clash_first kept fresh e h)
   judged_so New Clash h g = clash tags now others e tag le (clash_second kept fresh e g)
   judged_so Known Clash h g = clash tags now others e tag le (clash_second kept fresh e g)

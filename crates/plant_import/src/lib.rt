@@ -9,7 +9,7 @@ mod needs;
 mod numbers;
 mod reading;
 mod records;
-mod standing;
+mod relation;
 
 pub use bad_file::{BadFile, Cause};
 pub use merging::{Merged, merge};

@@ -5,11 +5,11 @@ ghost use Rattle.plant_types.specs.declared.fault.Fault.TheVariants.{Memory};
 ghost use Rattle.plant_import.specs.Merging as merging;
 ghost use Rattle.plant_import.specs.Merging.{IsRising};
 ghost use Rattle.plant_import.specs.Numbers.{AreByNumber, with_event};
-ghost use Rattle.plant_import.specs.Standing as standing;
-ghost use Rattle.plant_import.specs.Standing.{AreKnown, IsJudged};
+ghost use Rattle.plant_import.specs.Relation as relation;
+ghost use Rattle.plant_import.specs.Relation.{AreKnown, IsJudged};
 
 use crate::numbers::put;
-use crate::standing::{Standing, nearest_among, nearest_by_number, stands};
+use crate::relation::{Relation, nearest_among, nearest_by_number, relation_of};
 use crate::{BadFile, Cause};
 use plant_alarm::{Event, Number};
 use plant_types::{Fault, List, Moment, Tag};
@@ -111,19 +111,19 @@ fn judged(
         return Err(Cause::MomentAhead);
     }
     joined(
-        stands(nearest_among(kept, event.seq), event),
-        stands(nearest_by_number(fresh, event.seq), event),
+        relation_of(nearest_among(kept, event.seq), event),
+        relation_of(nearest_by_number(fresh, event.seq), event),
     )
 }
 
-/// What a row's standing to the kept events and to the earlier new rows comes to.
-fn joined(kept: Standing, fresh: Standing) -> Result<bool, Cause>
-    ensures { result ≡ standing.joined kept fresh }
+/// What a row's relation to the kept events and to the earlier new rows comes to.
+fn joined(kept: Relation, fresh: Relation) -> Result<bool, Cause>
+    ensures { result ≡ relation.joined kept fresh }
 {
     match (kept, fresh) {
-        (Standing::Clash, _) | (_, Standing::Clash) => Err(Cause::SequenceClash),
-        (Standing::OutOfOrder, _) | (_, Standing::OutOfOrder) => Err(Cause::MomentOutOfOrder),
-        (Standing::New, Standing::New) => Ok(true),
-        (Standing::Known, _) | (_, Standing::Known) => Ok(false),
+        (Relation::Clash, _) | (_, Relation::Clash) => Err(Cause::SequenceClash),
+        (Relation::OutOfOrder, _) | (_, Relation::OutOfOrder) => Err(Cause::MomentOutOfOrder),
+        (Relation::New, Relation::New) => Ok(true),
+        (Relation::Known, _) | (_, Relation::Known) => Ok(false),
     }
 }

@@ -9,7 +9,7 @@ ghost use Rattle.plant_import.specs.Needed.{is_before_all};
 ghost use Rattle.plant_import.specs.Numbers as numbers;
 ghost use Rattle.plant_import.specs.Numbers.{AreByNumber, new_numbers, with_events, AreNumbered, with_event};
 
-use crate::standing::place_of;
+use crate::relation::place_of;
 use plant_alarm::{Event, Number};
 use plant_types::{Fault, List};
 use std::alloc::Global;

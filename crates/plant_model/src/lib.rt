@@ -16,6 +16,6 @@ pub use reply::{
     StandingLine, StatusRow, UnitLine,
 };
 pub use rows::{
-    AlarmRow, BandRow, CellRow, ChangeEntry, ChangeTopic, GrantRow, Key, RecordEntry, Row, RowEdit,
-    ShelfRow, UnitPart, UnitRow, UnitRows, Verdict,
+    AlarmRow, BandRow, CellRow, ChangeEntry, ChangeTopic, Changes, GrantRow, Key, RecordEntry, Row,
+    RowEdit, ShelfRow, UnitPart, UnitRow, UnitRows, Verdict,
 };

@@ -151,9 +151,12 @@ pub enum RowEdit {
     Remove(Key),
 }
 
+/// Rows put or removed by key, in this order.
+pub type Changes = List<RowEdit>;
+
 /// What a unit answers: a refusal, or the reply with the changes that the call makes (none for a read).
 #[derive(Drop)]
 pub enum Verdict {
     Refused(Refused),
-    Accepted(Reply, List<RowEdit>),
+    Accepted(Reply, Changes),
 }

@@ -24,7 +24,7 @@ use Rattle.plant_types.specs.Names.{Name, name_cmp, same_name}
 use Rattle.plant_types.specs.Options.{when}
 use Rattle.plant_types.specs.KeyedRows.{IsInOrder, row_at}
 use Rattle.plant_types.proofs.public.Orders.{name_total, same_names}
-use Rattle.plant_types.proofs.public.KeyedRowLaws.{IsInOrder-honest, row_at-honest, same_rows}
+use Rattle.plant_types.proofs.public.KeyedRowLaws.{IsInOrder-told, row_at-told, same_rows}
 use Rattle.plant_columns.specs.Kept.{by_columns, is_of}
 use Rattle.plant_columns.specs.Shape.{IsRowIn}
 use Rattle.plant_columns.proofs.public.Keys.{by_columns_total}
@@ -89,11 +89,11 @@ module _ (s : State) (m : Content) (k : KeepsIn s m) (t : ℕ) (p : Name) where
       go (Some rows) h = inner rows (is_held_in t p (Some rows)) h
 
   units_rise : IsInOrder name_cmp (λ (u : MineUnit). u.unit) (mine_units m t p)
-  units_rise = IsInOrder-honest name_cmp (λ (u : MineUnit). u.unit) name_total same_names (λ q. mine_unit t p q (get m.units q)) has_code (keys m.units) (keys_rise m.units)
+  units_rise = IsInOrder-told name_cmp (λ (u : MineUnit). u.unit) name_total same_names (λ q. mine_unit t p q (get m.units q)) has_code (keys m.units) (keys_rise m.units)
 
   found_unit : (q : Name) → row_at name_cmp (λ (u : MineUnit). u.unit) q (mine_units m t p) ≡ mine_unit t p q (get m.units q)
   found_unit q =
-      row_at-honest name_cmp (λ (u : MineUnit). u.unit) name_total same_names (λ q. mine_unit t p q (get m.units q)) has_code q (keys m.units)
+      row_at-told name_cmp (λ (u : MineUnit). u.unit) name_total same_names (λ q. mine_unit t p q (get m.units q)) has_code q (keys m.units)
       ∙ ap (λ b. cond b (mine_unit t p q (get m.units q)) None) (key_found m.units q)
       ∙ go (get m.units q)
     where

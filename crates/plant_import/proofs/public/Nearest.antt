@@ -14,7 +14,7 @@ use Rattle.plant_alarm.specs.declared.event.Event.{Event}
 use Rattle.plant_alarm.specs.declared.event.EventKind.{EventKind}
 use Rattle.plant_alarm.specs.declared.event.EventKind.TheVariants.{Act, Rtn, Ack, Reset, Sup, Unsup}
 use Rattle.plant_import.specs.Merging.{IsRising, same_event, clashes, out_of_order, kind_no}
-use Rattle.plant_import.specs.Standing.{StandsSo}
+use Rattle.plant_import.specs.Relation.{RelatesSo}
 use Rattle.plant_import.proofs.public.Risings.{Each, each_of, each_weaker, each_both, each_append, each_back, Before, Rising, rising_of, is_rising, rising_front, rising_back, any_none, any_same, each_not, any_there}
 
 -- events that are the same
@@ -79,7 +79,7 @@ order_same e x same = rw (le-ltb e.seq x.seq (omega arith), le-ltb x.seq e.seq (
 
 -- no event has its number
 pub apart : (below above : List Event) (e : Event) → Each (λ x. x.seq < e.seq) below → Each (λ x. e.seq < x.seq) above
-    → StandsSo (below ++ above) e false false (list_any (λ x. nat_lt e.moment x.moment) below || list_any (λ x. nat_lt x.moment e.moment) above)
+    → RelatesSo (below ++ above) e false false (list_any (λ x. nat_lt e.moment x.moment) below || list_any (λ x. nat_lt x.moment e.moment) above)
 apart below above e low high =
     record {
       same_is =
@@ -106,7 +106,7 @@ and_no false = refl
 no_clash_with_itself : (e : Event) → same_event e e ≡ true → clashes e e ≡ false
 no_clash_with_itself e s = ap (λ b. (e.seq == e.seq) && not b) s ∙ and_no (e.seq == e.seq)
 
-known_itself : (below rest : List Event) (e : Event) → same_event e e ≡ true → Rising (below ++ e ∷ rest) → StandsSo (below ++ e ∷ rest) e true false false
+known_itself : (below rest : List Event) (e : Event) → same_event e e ≡ true → Rising (below ++ e ∷ rest) → RelatesSo (below ++ e ∷ rest) e true false false
 known_itself below rest e s rising =
     let low = before_it below rest e rising in
     let high = (rising_back below (e ∷ rest) rising).0 in
@@ -121,10 +121,10 @@ known_itself below rest e s rising =
     }
 
 -- it is one of them
-pub known : (below rest : List Event) (e other : Event) → same_event e other ≡ true → Rising (below ++ other ∷ rest) → StandsSo (below ++ other ∷ rest) e true false false
+pub known : (below rest : List Event) (e other : Event) → same_event e other ≡ true → Rising (below ++ other ∷ rest) → RelatesSo (below ++ other ∷ rest) e true false false
 known below rest e other s rising =
     let same : e ≡ other = same_is e other s in
-    subst (λ (y : Event). StandsSo (below ++ y ∷ rest) e true false false) same
+    subst (λ (y : Event). RelatesSo (below ++ y ∷ rest) e true false false) same
     (known_itself below rest e (subst (λ (y : Event). same_event e y ≡ true) (sym same) s) (subst (λ (y : Event). Rising (below ++ y ∷ rest)) (sym same) rising))
 
 -- the two parts of rising events at a number
@@ -174,10 +174,10 @@ cut_first : (xs : List Event) (x : Event) → Some x ≡ slice_get xs 0 → xs �
 cut_first [] x e = cc
 cut_first (y ∷ ys) x e = let same : x ≡ y = cc in ap (λ z. z ∷ ys) (sym same)
 
-pub stands_known : (events below above : List Event) (e other : Event) → AreParts events e.seq below above → Some other ≡ slice_get above 0 → same_event e other ≡ true → StandsSo events e true false false
-stands_known events below above e other p first s =
+pub related_known : (events below above : List Event) (e other : Event) → AreParts events e.seq below above → Some other ≡ slice_get above 0 → same_event e other ≡ true → RelatesSo events e true false false
+related_known events below above e other p first s =
     let cut : events ≡ below ++ other ∷ drop 1 above = p.whole ∙ ap (λ l. below ++ l) (cut_first above other first) in
-    subst (λ (l : List Event). StandsSo l e true false false) (sym cut)
+    subst (λ (l : List Event). RelatesSo l e true false false) (sym cut)
     (known below (drop 1 above) e other s (subst (λ (l : List Event). Rising l) (ap (λ l. below ++ l) (cut_first above other first)) p.rising))
 
 pub stands_clash : (events below above : List Event) (e other : Event) → AreParts events e.seq below above → Some other ≡ slice_get above 0 → e.seq ≡ other.seq → same_event e other ≡ false → list_any (clashes e) events ≡ true
@@ -187,7 +187,7 @@ stands_clash events below above e other p first same s =
     ap (list_any (clashes e)) cut ∙ any_there (clashes e) below (drop 1 above) other clash
 
 pub stands_apart : (events below above : List Event) (e : Event) (b c d : Bool) → AreParts events e.seq below above → Each (λ x. e.seq < x.seq) above
-    → b ≡ list_any (λ x. nat_lt e.moment x.moment) below → c ≡ list_any (λ x. nat_lt x.moment e.moment) above → (b || c) ≡ d → StandsSo events e false false d
+    → b ≡ list_any (λ x. nat_lt e.moment x.moment) below → c ≡ list_any (λ x. nat_lt x.moment e.moment) above → (b || c) ≡ d → RelatesSo events e false false d
 stands_apart events below above e b c d p high eb ec ed =
     let told : (list_any (λ x. nat_lt e.moment x.moment) below || list_any (λ x. nat_lt x.moment e.moment) above) ≡ d = ap (λ x. x || list_any (λ x. nat_lt x.moment e.moment) above) (sym eb) ∙ ap (λ x. b || x) (sym ec) ∙ ed in
-    subst (λ (l : List Event). StandsSo l e false false d) (sym p.whole) (subst (λ (x : Bool). StandsSo (below ++ above) e false false x) told (apart below above e p.low high))
+    subst (λ (l : List Event). RelatesSo l e false false d) (sym p.whole) (subst (λ (x : Bool). RelatesSo (below ++ above) e false false x) told (apart below above e p.low high))

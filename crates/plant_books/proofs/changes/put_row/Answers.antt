@@ -26,8 +26,8 @@ returns-in-Record-clause-ok c order =
     (put_by_keys name_cmp record_tag c.put_sorted-in-Record.result c.put_sorted-in-Record.new.rows c.args.changing.now.rows.records c.in-Record.row (λ is. ap (λ rows. record (whole c.args.changing.now) { records = rows }) is)
     (c.put_sorted-in-Record.ensures.ok (on_total record_tag name_total) (rows_rise name_cmp record_tag c.args.changing.now.rows.records order.records)))
 
-pub returns-in-RowEdit-clause-ok : goal.returns-in-RowEdit-clause-ok
-returns-in-RowEdit-clause-ok c order =
-    rw c.in-RowEdit.is
-    (put_by_keys nat_cmp change_number c.put_sorted-in-RowEdit.result c.put_sorted-in-RowEdit.new.rows c.args.changing.now.rows.changes c.in-RowEdit.row (λ is. ap (λ rows. record (whole c.args.changing.now) { changes = rows }) is)
-    (c.put_sorted-in-RowEdit.ensures.ok (on_total change_number nat_cmp_total) (rows_rise nat_cmp change_number c.args.changing.now.rows.changes order.changes)))
+pub returns-in-Change-clause-ok : goal.returns-in-Change-clause-ok
+returns-in-Change-clause-ok c order =
+    rw c.in-Change.is
+    (put_by_keys nat_cmp change_number c.put_sorted-in-Change.result c.put_sorted-in-Change.new.rows c.args.changing.now.rows.changes c.in-Change.row (λ is. ap (λ rows. record (whole c.args.changing.now) { changes = rows }) is)
+    (c.put_sorted-in-Change.ensures.ok (on_total change_number nat_cmp_total) (rows_rise nat_cmp change_number c.args.changing.now.rows.changes order.changes)))

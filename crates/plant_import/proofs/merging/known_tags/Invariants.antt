@@ -1,5 +1,5 @@
 use Rattle.std.proofs.Common.{take}
-use Rattle.plant_import.specs.Standing.{AreKnown}
+use Rattle.plant_import.specs.Relation.{AreKnown}
 use Rattle.plant_import.proofs.merging.known_tags.Given as goal
 
 abbrev pub invariant-loop-tag : goal.invariant-loop-tag

@@ -4,7 +4,7 @@ use Rattle.plant_import.specs.declared.bad_file.Cause.{Cause}
 use Rattle.plant_alarm.specs.declared.event.Event.{Event}
 use Rattle.plant_import.specs.Merging.{IsRising}
 use Rattle.plant_import.specs.Numbers.{AreByNumber}
-use Rattle.plant_import.specs.Standing.{IsJudged}
+use Rattle.plant_import.specs.Relation.{IsJudged}
 use Rattle.plant_import.proofs.ByNumber.{put_in}
 use Rattle.plant_import.proofs.Merges.{so_none, so_new_at, so_known_at, so_fault_at, so_all}
 use Rattle.plant_import.proofs.merging.merge.Goals as goal

@@ -3,7 +3,7 @@ use Rattle.std.specs.List.{list_any}
 use Rattle.std.specs.Option.{option_copied}
 use Rattle.std.specs.Prelude.{nat_lt}
 use Rattle.plant_import.proofs.public.Risings.{last_none, last_settles_at}
-use Rattle.plant_import.proofs.standing.is_before_last.Goals as goal
+use Rattle.plant_import.proofs.relation.is_before_last.Goals as goal
 
 pub returns-in-Some : goal.returns-in-Some
 returns-in-Some c es rising last =

@@ -3,7 +3,7 @@ use Rattle.std.specs.Prelude.{slice_get}
 use Rattle.plant_import.proofs.ByNumber.{below_is, from_is}
 use Rattle.plant_import.proofs.public.Nearest.{parts}
 use Rattle.plant_import.proofs.public.Risings.{in_number_order}
-use Rattle.plant_import.proofs.standing.nearest_among.Goals as goal
+use Rattle.plant_import.proofs.relation.nearest_among.Goals as goal
 
 pub returns : goal.returns
 returns c rising =

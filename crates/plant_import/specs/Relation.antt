@@ -1,4 +1,4 @@
--- How a row stands to events in rising number: what the code finds from the nearest of them.
+-- How a row relates to events in rising number: what the code finds from the nearest of them.
 use Rattle.std.specs.Prelude.{ℕ, ◌≡◌, ◌-◌, Bool, true, false, List, ◌++◌, Option, Some, None, Result, Ok, Err, filter, length, nat_lt, not, slice_get}
 use Rattle.std.specs.Borrow.{Bor}
 use Rattle.std.specs.BTreeSet.{BTreeSet, contains}
@@ -8,22 +8,22 @@ use Rattle.plant_types.specs.Names.{Name, name_cmp, same_name}
 use Rattle.plant_alarm.specs.declared.event.Event.{Event}
 use Rattle.plant_import.specs.declared.bad_file.Cause.{Cause}
 use Rattle.plant_import.specs.declared.bad_file.Cause.TheVariants.{SequenceClash, MomentOutOfOrder}
-use Rattle.plant_import.specs.declared.standing.Nearest.{Nearest}
-use Rattle.plant_import.specs.declared.standing.Standing.{Standing}
-use Rattle.plant_import.specs.declared.standing.Standing.TheVariants.{New, Known, Clash, OutOfOrder}
+use Rattle.plant_import.specs.declared.relation.Nearest.{Nearest}
+use Rattle.plant_import.specs.declared.relation.Relation.{Relation}
+use Rattle.plant_import.specs.declared.relation.Relation.TheVariants.{New, Known, Clash, OutOfOrder}
 use Rattle.plant_import.specs.Merging.{clashes, is_new, merge_fault, out_of_order, same_event}
 
 -- whether one of the events is the same, clashes, or is out of order with this one
-pub record StandsSo (events : List Event) (e : Event) (same clash order : Bool) : Type 0 where
+pub record RelatesSo (events : List Event) (e : Event) (same clash order : Bool) : Type 0 where
   pub same_is : list_any (same_event e) events ≡ same
   pub clash_is : list_any (clashes e) events ≡ clash
   pub order_is : list_any (out_of_order e) events ≡ order
 
-abbrev pub Stands : List Event → Event → Standing → Type 0
-Stands events e New = StandsSo events e false false false
-Stands events e Known = StandsSo events e true false false
-Stands events e Clash = list_any (clashes e) events ≡ true
-Stands events e OutOfOrder = StandsSo events e false false true
+abbrev pub IsRelated : List Event → Event → Relation → Type 0
+IsRelated events e New = RelatesSo events e false false false
+IsRelated events e Known = RelatesSo events e true false false
+IsRelated events e Clash = list_any (clashes e) events ≡ true
+IsRelated events e OutOfOrder = RelatesSo events e false false true
 
 -- the events with a smaller number, and the others
 abbrev pub below : ℕ → List Event → List Event
@@ -52,8 +52,8 @@ abbrev pub IsJudged : List Name → ℕ → List Event → List Event → Event 
 IsJudged tags now kept seen e (Err cause) = merge_fault tags now (kept ++ seen) e ≡ Some cause
 IsJudged tags now kept seen e (Ok new) = (merge_fault tags now (kept ++ seen) e ≡ None) × (is_new (kept ++ seen) e ≡ new)
 
--- what the standing to the kept events and to the earlier new rows comes to
-abbrev pub joined : Standing → Standing → Result Bool Cause
+-- what the relation to the kept events and to the earlier new rows comes to
+abbrev pub joined : Relation → Relation → Result Bool Cause
 joined Clash fresh = Err SequenceClash
 joined kept Clash = Err SequenceClash
 joined OutOfOrder fresh = Err MomentOutOfOrder

@@ -4,15 +4,15 @@ ghost use Rattle.std.specs.List.Sorted.{IsPartitionPoint};
 ghost use Rattle.plant_alarm.specs.declared.event.Event.{Event as TheEvent};
 ghost use Rattle.plant_import.specs.Merging.{IsRising, same_event};
 ghost use Rattle.plant_import.specs.Numbers.{AreByNumber, AreNumbered};
-ghost use Rattle.plant_import.specs.Standing as standing;
-ghost use Rattle.plant_import.specs.Standing.{AreNearest, IsFirst, IsLast, Stands};
+ghost use Rattle.plant_import.specs.Relation as relation;
+ghost use Rattle.plant_import.specs.Relation.{AreNearest, IsFirst, IsLast, IsRelated};
 
 use plant_alarm::{Event, Number};
 use std::collections::BTreeMap;
 
-/// How an event stands to events in rising number.
+/// How an event relates to events in rising number.
 #[derive(Clone, Copy)]
-pub enum Standing {
+pub enum Relation {
     /// None has its number, and it may stand among them.
     New,
     /// It is one of them.
@@ -56,7 +56,7 @@ pub fn nearest_by_number<'a>(events: &'a BTreeMap<Number, Event>, seq: Number) -
 
 fn last_below(events: &BTreeMap<Number, Event>, seq: Number) -> Option<&Event>
     ensures { (es : List TheEvent) → AreByNumber events.now es
-        → IsLast (standing.below seq es) result }
+        → IsLast (relation.below seq es) result }
 {
     match events.range(..seq).next_back() {
         Some((_, event)) => Some(event),
@@ -66,7 +66,7 @@ fn last_below(events: &BTreeMap<Number, Event>, seq: Number) -> Option<&Event>
 
 fn first_from(events: &BTreeMap<Number, Event>, seq: Number) -> Option<&Event>
     ensures { (es : List TheEvent) → AreByNumber events.now es
-        → IsFirst (standing.from seq es) result }
+        → IsFirst (relation.from seq es) result }
 {
     match events.range(seq..).next() {
         Some((_, event)) => Some(event),
@@ -74,27 +74,27 @@ fn first_from(events: &BTreeMap<Number, Event>, seq: Number) -> Option<&Event>
     }
 }
 
-/// How an event stands to events in rising number whose moments don't fall, of which these are the nearest to its number.
-pub fn stands(nearest: Nearest<'_>, event: &Event) -> Standing
+/// How an event relates to events in rising number whose moments don't fall, of which these are the nearest to its number.
+pub fn relation_of(nearest: Nearest<'_>, event: &Event) -> Relation
     ensures { (es : List TheEvent) → IsRising es → AreNearest es event.now.seq nearest.entry
-        → Stands es event.now result }
+        → IsRelated es event.now result }
 {
     if let Some(other) = nearest.from {
         if other.seq == event.seq {
             return if is_same(event, other) {
-                Standing::Known
+                Relation::Known
             } else {
-                Standing::Clash
+                Relation::Clash
             };
         }
     }
     if is_before_last(event, nearest.below) {
-        return Standing::OutOfOrder;
+        return Relation::OutOfOrder;
     }
     if is_after_first(event, nearest.from) {
-        return Standing::OutOfOrder;
+        return Relation::OutOfOrder;
     }
-    Standing::New
+    Relation::New
 }
 
 /// How many of the events, which stand in rising number, have a smaller number.

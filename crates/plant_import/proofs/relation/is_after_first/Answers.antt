@@ -3,7 +3,7 @@ use Rattle.std.specs.List.{list_any}
 use Rattle.std.specs.Option.{option_copied}
 use Rattle.std.specs.Prelude.{nat_lt}
 use Rattle.plant_import.proofs.public.Risings.{first_none, first_settles_at}
-use Rattle.plant_import.proofs.standing.is_after_first.Goals as goal
+use Rattle.plant_import.proofs.relation.is_after_first.Goals as goal
 
 pub returns-in-Some : goal.returns-in-Some
 returns-in-Some c es rising first =

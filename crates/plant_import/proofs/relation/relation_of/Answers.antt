@@ -3,17 +3,17 @@ use Rattle.std.specs.List.{list_any}
 use Rattle.std.specs.Option.{option_copied}
 use Rattle.std.specs.Prelude.{nat_lt}
 use Rattle.std.proofs.lemmas.Bool.{eqb-false, eqb-true}
-use Rattle.plant_import.specs.Standing.{below, from}
+use Rattle.plant_import.specs.Relation.{below, from}
 use Rattle.plant_import.proofs.ByNumber.{halves}
-use Rattle.plant_import.proofs.public.Nearest.{above_rising, below_rising, higher, stands_apart, stands_clash, stands_known}
+use Rattle.plant_import.proofs.public.Nearest.{above_rising, below_rising, higher, stands_apart, stands_clash, related_known}
 use Rattle.plant_import.proofs.public.Risings.{Each, rising_back}
-use Rattle.plant_import.proofs.standing.stands.Goals as goal
-use Rattle.plant_import.proofs.standing.stands.Goals.{in-Some+else-eq, in_default}
+use Rattle.plant_import.proofs.relation.relation_of.Goals as goal
+use Rattle.plant_import.proofs.relation.relation_of.Goals.{in-Some+else-eq, in_default}
 
 pub returns-then-is_same : goal.returns-then-is_same
 returns-then-is_same c es rising near =
     let e = c.args.event.now in
-    stands_known es (below e.seq es) (from e.seq es) e c.in-Some.other.now (halves e.seq es rising) (sym (ap option_copied c.in-Some.is) ∙ near.1) (search rules)
+    related_known es (below e.seq es) (from e.seq es) e c.in-Some.other.now (halves e.seq es rising) (sym (ap option_copied c.in-Some.is) ∙ near.1) (search rules)
 
 pub returns-else-is_same : goal.returns-else-is_same
 returns-else-is_same c es rising near =

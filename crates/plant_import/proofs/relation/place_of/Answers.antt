@@ -5,7 +5,7 @@ use Rattle.std.proofs.lemmas.List.Sorted.{IsPartitionPoint-from_clause}
 use Rattle.plant_alarm.specs.declared.event.Event.{Event}
 use Rattle.plant_import.specs.Numbers.{event_number}
 use Rattle.plant_import.proofs.public.Placed.{parted}
-use Rattle.plant_import.proofs.standing.place_of.Goals as goal
+use Rattle.plant_import.proofs.relation.place_of.Goals as goal
 
 pub returns-clause-place : goal.returns-clause-place
 returns-clause-place c rising =
