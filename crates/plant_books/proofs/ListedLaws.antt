@@ -13,9 +13,9 @@ use Rattle.plant_model.specs.declared.rows.RowEdit.{RowEdit}
 use Rattle.plant_model.specs.declared.rows.UnitRows.{UnitRows}
 use Rattle.plant_types.specs.declared.fault.Fault.{Fault}
 use Rattle.plant_books.specs.Contents.{Content, after_changes, no_units, part_in, rows_in, with_rows}
-use Rattle.plant_books.specs.Listed.{IsListed, rows_at, unit_cmp}
+use Rattle.plant_books.specs.Listed.{AllInOrder, IsListed, rows_at, unit_cmp}
 use Rattle.plant_books.specs.Order.{AreInOrder}
-use Rattle.plant_books.proofs.public.OrderLaws.{AllInOrder, changed_in_order, or_none_in_order, put_all_in_order, rows_in_order}
+use Rattle.plant_books.proofs.public.OrderLaws.{changed_in_order, or_none_in_order, put_all_in_order, rows_in_order}
 use Rattle.plant_model.proofs.public.Base.{lt}
 use Rattle.plant_model.specs.Parts.{part_of}
 use Rattle.plant_model.specs.RowChanges.{changed_by, no_rows}
@@ -69,7 +69,7 @@ none_listed admin opened none =
       ordered = subst AllInOrder (sym none) tt;
     }
 
--- what is told of each code with what is found there, is told of each unit of the list with its rows
+-- what is said of each code with what is found there, is said of each unit of the list with its rows
 second : (a b : Bool) → T (a && b) → T b
 second true b p = p
 second false b p = absurd p
@@ -116,7 +116,7 @@ told_listed f admin opened m h =
     sym (told_entries f opened) ∙ ap (filter_map (λ e. f e.0 (Some e.1))) h.units
     ∙ sym (told_found f (get m.units) (entries m.units) (subst (λ g. AreFound g (entries m.units)) lookup (are_found (entries m.units) (entries_sorted m.units))))
 
--- the same for what is told in lists
+-- the same for lists of what is said
 all_found : {A : Type 0} (f : Name → Option UnitRows → List A) (g : Name → Option UnitRows) (es : List (Name × UnitRows)) → AreFound g es → flat_map (λ u. f u (g u)) (map (λ e. e.0) es) ≡ flat_map (λ e. f e.0 (Some e.1)) es
 all_found f g [] a = refl
 all_found f g (e ∷ es) a = λ i. f e.0 (a.0 i) ++ all_found f g es a.1 i

@@ -2,7 +2,7 @@
 use Rattle.std.specs.BTreeSet.{BTreeSet, contains}
 use Rattle.std.specs.List.{list_any}
 use Rattle.std.specs.Ordering.{nat_cmp}
-use Rattle.std.specs.Prelude.{Bool, List, [], None, Option, Some, false, option_copied, true, ℕ, ◌&&◌, ◌≡◌}
+use Rattle.std.specs.Prelude.{Bool, IfOk, List, [], None, Option, Result, Some, false, filter, length, option_copied, true, ℕ, ◌&&◌, ◌||◌, ◌≡◌}
 use Rattle.plant_alarm.specs.declared.event.Event.{Event}
 use Rattle.plant_books.specs.declared.asking.Scope.{Scope}
 use Rattle.plant_books.specs.declared.asking.Scope.TheVariants.{AllAlarms, AllEvents, AllGrants, AllRecords, AllShelves, Approval, Content, File, NothingElse, OneAlarm, OneChange, OneRecord, Shelving}
@@ -12,12 +12,16 @@ use Rattle.plant_books.specs.declared.asking.WantedEvents.{WantedEvents}
 use Rattle.plant_books.specs.declared.asking.WantedEvents.TheVariants.{Beside, Every as EveryEvent, Nothing as NoEvents}
 use Rattle.plant_import.specs.Needed.{needed}
 use Rattle.plant_model.specs.Histories.{same_number}
-use Rattle.plant_model.specs.Parts.{Scope as Looked, Selection, all_events, every, is_crowded, is_source, nothing, of_approved, of_content, of_number, of_records, of_shelving, of_tag, scope_of}
+use Rattle.plant_model.specs.Parts.{Scope as Looked, Selection, all_events, every, is_crowded, is_in_force, is_source, nothing, of_approved, of_content, of_number, of_records, of_shelving, of_tag, of_topic, rows_selected, scope_of, selected}
 use Rattle.plant_model.specs.Parts as looked
-use Rattle.plant_model.specs.RowFacts.{change_found}
+use Rattle.plant_model.specs.RowFacts.{change_found, pair_of}
 use Rattle.plant_model.specs.declared.call.Request.{Request}
+use Rattle.plant_model.specs.declared.rows.BandRow.{BandRow}
+use Rattle.plant_model.specs.declared.rows.CellRow.{CellRow}
 use Rattle.plant_model.specs.declared.rows.ChangeEntry.{ChangeEntry}
+use Rattle.plant_model.specs.declared.rows.GrantRow.{GrantRow}
 use Rattle.plant_model.specs.declared.rows.RecordEntry.{RecordEntry}
+use Rattle.plant_model.specs.declared.rows.UnitRow.{UnitRow}
 use Rattle.plant_model.specs.declared.rows.UnitRows.{UnitRows}
 use Rattle.plant_types.specs.Names.{Name, same_name}
 
@@ -37,6 +41,34 @@ selection_by rows AllShelves = record nothing { alarm = every; shelf = every }
 selection_by rows AllAlarms = record nothing { alarm = every; shelf = every; rationale = every }
 selection_by rows AllEvents = record nothing { events = all_events }
 
+-- what a change is of
+abbrev pub of_change : ChangeEntry → UnitRows → Selection
+of_change c rows = of_topic rows c.tag c.kind_no
+
+-- of the rows of any unit the scope takes in these
+abbrev pub Selects : Scope → (UnitRows → Selection) → Type 0
+Selects scope these = (rows : UnitRows) → selection_by rows scope ≡ these rows
+
+-- the rows that a scope takes in of a unit's, for a caller of this name
+abbrev pub rows_by : Name → UnitRows → Scope → UnitRows
+rows_by p rows scope = rows_selected p (selection_by rows scope) rows
+
+-- the grants that it takes in: the caller's, and others
+abbrev pub grants_by : Name → UnitRows → Scope → List GrantRow
+grants_by p rows scope = filter (λ g. same_name p g.person || (selection_by rows scope).pair (pair_of g)) rows.grants
+
+-- the limits of the matrices that it takes in
+abbrev pub bands_by : UnitRows → Scope → List BandRow
+bands_by rows scope = filter (λ r. (selection_by rows scope).matrix r.matrix_no) rows.bands
+
+-- the cells of the matrices that it takes in
+abbrev pub cells_by : UnitRows → Scope → List CellRow
+cells_by rows scope = filter (λ r. (selection_by rows scope).matrix r.matrix_no) rows.cells
+
+-- the changes that it takes in
+abbrev pub changes_by : UnitRows → Scope → List ChangeEntry
+changes_by rows scope = filter (λ r. (selection_by rows scope).change r.number) rows.changes
+
 abbrev pub is_shelving_scope : Looked → Bool
 is_shelving_scope (looked.Shelving a) = true
 is_shelving_scope _ = false
@@ -53,10 +85,22 @@ number_of_approval _ = None
 abbrev pub number_approved : Request → Option ℕ
 number_approved q = number_of_approval (scope_of q)
 
+-- a unit with this row of its own and so many shelves is crowded, or not
+abbrev pub IsCrowdedWith : List UnitRow → ℕ → Bool → Type 0
+IsCrowdedWith units shelves crowded = (rows : UnitRows) → rows.units ≡ units → length rows.shelves ≡ shelves → is_crowded rows ≡ crowded
+
+-- the change that the request approves is this, if it is there
+abbrev pub IsApprovedBy : UnitRows → Request → Option ChangeEntry → Type 0
+IsApprovedBy rows q approved = (n : ℕ) → number_approved q ≡ Some n → change_found rows n ≡ approved
+
 -- in a unit of these rows: whether it is crowded, for a shelving, and the change that is approved, for an approval
 pub record IsSeenIn (rows : UnitRows) (q : Request) (crowded : Bool) (approved : Option ChangeEntry) : Type 0 where
   pub crowding : is_shelving q ≡ true → is_crowded rows ≡ crowded
   pub found : (n : ℕ) → number_approved q ≡ Some n → change_found rows n ≡ approved
+
+-- of the rows of any unit that is seen so, the scope takes in what the request looks at
+abbrev pub IsScopeOf : Request → Bool → Option ChangeEntry → Scope → Type 0
+IsScopeOf q crowded approved scope = (rows : UnitRows) → IsSeenIn rows q crowded approved → selection_by rows scope ≡ selected rows q
 
 abbrev pub has_events : Looked → Bool
 has_events (looked.File es) = true
@@ -79,16 +123,40 @@ is_wanted Nothing a = false
 is_wanted (One b) a = same_name b.now a
 is_wanted Every a = true
 
+-- of the rows of any unit the tags that pass are those that are wanted
+abbrev pub AreWanted : (UnitRows → Name → Bool) → Wanted → Type 0
+AreWanted passes wanted = (rows : UnitRows) (a : Name) → passes rows a ≡ is_wanted wanted a
+
 -- the events that are wanted, of all
 abbrev pub events_wanted : WantedEvents → List Event → List Event
 events_wanted NoEvents es = []
 events_wanted (Beside rows) es = needed es rows.now
 events_wanted EveryEvent es = es
 
--- the number is the one, where there is one
+-- the events that a scope takes in are those that are wanted
+abbrev pub AreEventsWanted : Scope → WantedEvents → Type 0
+AreEventsWanted scope wanted = (rows : UnitRows) (es : List Event) → (selection_by rows scope).events es ≡ events_wanted wanted es
+
+-- the number is the one, if there is one
 abbrev pub is_number : Option ℕ → ℕ → Bool
 is_number None n = false
 is_number (Some m) n = same_number m n
+
+-- a scope takes in no matrix
+abbrev pub TakesNoMatrix : Scope → Type 0
+TakesNoMatrix scope = (rows : UnitRows) (n : ℕ) → (selection_by rows scope).matrix n ≡ false
+
+-- a scope takes in the matrix of its number, and if asked the one in force
+abbrev pub TakesMatrix : Scope → Bool → Type 0
+TakesMatrix scope asked = (rows : UnitRows) (n : ℕ) → (selection_by rows scope).matrix n ≡ ((asked && is_in_force rows n) || is_number (number_named scope) n)
+
+-- of the rows of any unit these are the changes that the records came from, or none if not asked
+abbrev pub TakesSources : (UnitRows → Selection) → Bool → Type 0
+TakesSources these asked = (rows : UnitRows) (n : ℕ) → (these rows).change n ≡ (asked && is_source rows (these rows).rationale n)
+
+-- a scope takes in the change of its number, and if asked those that its records came from
+abbrev pub TakesChanges : Scope → Bool → Type 0
+TakesChanges scope asked = (rows : UnitRows) (n : ℕ) → (selection_by rows scope).change n ≡ ((asked && is_source rows (selection_by rows scope).rationale n) || is_number (number_named scope) n)
 
 -- the set has the numbers of the changes that records of these tags came from
 abbrev pub AreSources : BTreeSet ℕ → (Name → Bool) → List RecordEntry → Type 0
@@ -97,3 +165,7 @@ AreSources numbers tags records = (n : ℕ) → contains nat_cmp numbers n ≡ l
 -- the set has the numbers that pass, and no others
 abbrev pub HasNumbers : BTreeSet ℕ → (ℕ → Bool) → Type 0
 HasNumbers numbers passes = (n : ℕ) → contains nat_cmp numbers n ≡ passes n
+
+-- the numbers of the changes that a scope takes in of a unit with these records
+abbrev pub GivesNumbers : {E : Type 0} → Scope → List RecordEntry → Result (BTreeSet ℕ) E → Type 0
+GivesNumbers scope records said = (rows : UnitRows) → rows.records ≡ records → IfOk said (λ numbers. HasNumbers numbers (selection_by rows scope).change)

@@ -1,9 +1,9 @@
 -- What books contain: the administrator's name, and the rows of each opened unit.
 use Rattle.std.specs.FinMap.{FinMap, contains_key, empty, get, insert, keys}
 use Rattle.std.specs.List.{flat_map, list_any}
-use Rattle.std.specs.Prelude.{Bool, List, None, Option, Some, [], false, filter, filter_map, if◌then◌else◌, map, option_and_then, option_map, true, unwrap_or, ℕ, ◌≡◌, ◌⊎◌}
+use Rattle.std.specs.Prelude.{Bool, List, None, OnOk, Option, Result, Some, [], false, filter, filter_map, if◌then◌else◌, map, option_and_then, option_map, true, unwrap_or, ℕ, ◌++◌, ◌≡◌, ◌⊎◌}
 use Rattle.plant_alarm.specs.declared.event.Event.{Event}
-use Rattle.plant_books.specs.declared.books.MineShelf.{MineShelf}
+use Rattle.plant_books.specs.declared.books.MineRow.{MineRow}
 use Rattle.plant_books.specs.declared.books.MineUnit.{MineUnit}
 use Rattle.plant_model.specs.declared.call.Call.{Call}
 use Rattle.plant_model.specs.declared.rows.AlarmRow.{AlarmRow}
@@ -87,16 +87,20 @@ mine_units m t p = filter_map (λ u. mine_unit t p u (get m.units u)) (keys m.un
 abbrev pub last_return : List AlarmRow → Name → Option ℕ
 last_return alarms a = option_and_then (λ r. r.return_s) (row_at name_cmp alarm_tag a alarms)
 
-abbrev pub mine_shelf : Name → UnitRows → ShelfRow → MineShelf
-mine_shelf u rows s = record { unit = u; shelf = s; last_return = last_return rows.alarms s.tag }
+abbrev pub mine_row : Name → UnitRows → ShelfRow → MineRow
+mine_row u rows s = record { unit = u; shelf = s; last_return = last_return rows.alarms s.tag }
+
+-- the shelves of a unit are put at the end of others
+abbrev pub AddsShelves : {A E : Type 0} → Name → UnitRows → List MineRow → List MineRow → Result A E → Type 0
+AddsShelves u rows before after said = OnOk said (after ≡ before ++ map (mine_row u rows) rows.shelves)
 
 -- the shelves of a unit in which the person holds a role at the moment
-abbrev pub shelves_mine : ℕ → Name → Name → Option UnitRows → List MineShelf
+abbrev pub shelves_mine : ℕ → Name → Name → Option UnitRows → List MineRow
 shelves_mine t p u None = []
-shelves_mine t p u (Some rows) = if is_held_in t p (Some rows) then map (mine_shelf u rows) rows.shelves else []
+shelves_mine t p u (Some rows) = if is_held_in t p (Some rows) then map (mine_row u rows) rows.shelves else []
 
 -- the shelves of all units in which the person holds a role at the moment, by unit and tag, each once
-abbrev pub mine_shelves : Content → ℕ → Name → List MineShelf
+abbrev pub mine_shelves : Content → ℕ → Name → List MineRow
 mine_shelves m t p = flat_map (λ u. shelves_mine t p u (get m.units u)) (keys m.units)
 
 -- the part of a unit's rows that a call looks at, none where the code was never opened

@@ -1,6 +1,10 @@
 pub mod Contents
 pub mod Counting
+pub mod Results
+pub mod Books
 pub mod Asking
 pub mod Listed
 pub mod Changing
 pub mod Order
+pub mod Found
+pub mod Keyed

@@ -1,14 +1,19 @@
 -- Books in a list of units.
 use Rattle.std.specs.FinMap.{entries}
 use Rattle.std.specs.List.{AllByRecursion}
-use Rattle.std.specs.Prelude.{List, Option, map, option_map, ◌≡◌}
+use Rattle.std.specs.Prelude.{List, Option, Some, filter_map, flat_map, map, option_map, unwrap_or, ℕ, ◌≡◌}
 use Rattle.std.specs.declared.cmp.Ordering.{Ordering}
 use Rattle.plant_books.specs.declared.opened.OpenedUnit.{OpenedUnit}
-use Rattle.plant_books.specs.Contents.{Content}
+use Rattle.plant_books.specs.Contents.{Content, is_held_in, mine_unit, shelves_mine}
 use Rattle.plant_books.specs.Order.{AreInOrder}
+use Rattle.plant_books.specs.declared.books.MineRow.{MineRow}
+use Rattle.plant_books.specs.declared.books.MineUnit.{MineUnit}
+use Rattle.plant_model.specs.RowChanges.{changed_by, no_rows}
+use Rattle.plant_model.specs.declared.rows.RowEdit.{RowEdit}
 use Rattle.plant_model.specs.declared.rows.UnitRows.{UnitRows}
 use Rattle.plant_types.specs.Names.{Name, name_cmp}
-use Rattle.plant_types.specs.KeyedRows.{row_at}
+use Rattle.plant_types.specs.KeyedRows.{put_row, row_at}
+use Rattle.plant_types.specs.Options.{when}
 
 -- units by their codes
 abbrev pub unit_cmp : OpenedUnit → OpenedUnit → Ordering
@@ -17,6 +22,30 @@ unit_cmp a b = name_cmp a.unit b.unit
 -- the rows of the unit with a code
 abbrev pub rows_at : List OpenedUnit → Name → Option UnitRows
 rows_at opened u = option_map (λ o. o.rows) (row_at name_cmp (λ o. o.unit) u opened)
+
+-- the rows of each unit are in the order of their keys
+abbrev pub AllInOrder : List OpenedUnit → Type 0
+AllInOrder opened = AllByRecursion (λ o. AreInOrder o.rows) opened
+
+-- the codes of the units in which the person holds a role at the moment
+abbrev pub listed_codes : List OpenedUnit → ℕ → Name → List Name
+listed_codes opened t p = filter_map (λ o. when (is_held_in t p (Some o.rows)) o.unit) opened
+
+-- these units with the person's roles and their last moments
+abbrev pub listed_units : List OpenedUnit → ℕ → Name → List MineUnit
+listed_units opened t p = filter_map (λ o. mine_unit t p o.unit (Some o.rows)) opened
+
+-- the shelves of these units
+abbrev pub listed_shelves : List OpenedUnit → ℕ → Name → List MineRow
+listed_shelves opened t p = flat_map (λ o. shelves_mine t p o.unit (Some o.rows)) opened
+
+-- a unit after changes of its rows
+abbrev pub unit_after : List OpenedUnit → Name → List RowEdit → OpenedUnit
+unit_after opened u cs = record { unit = u; rows = changed_by cs (unwrap_or (rows_at opened u) no_rows) }
+
+-- the list with this unit, which is put among the others if it was never opened
+abbrev pub listed_after : List OpenedUnit → Name → List RowEdit → List OpenedUnit
+listed_after opened u cs = put_row unit_cmp (λ o. o) (unit_after opened u cs) opened
 
 -- the administrator is that of the content, and the units are its codes with their rows, in the order of codes; the rows of each
 -- are in the order of their keys

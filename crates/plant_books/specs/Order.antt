@@ -1,9 +1,24 @@
 -- Rows in the order of their keys, as a unit keeps them.
 use Rattle.std.specs.Ordering.{nat_cmp}
+use Rattle.std.specs.Prelude.{List}
+use Rattle.plant_alarm.specs.declared.event.Event.{Event}
 use Rattle.plant_model.specs.RowFacts.{alarm_tag, change_number, event_number, record_tag, shelf_tag}
+use Rattle.plant_model.specs.declared.rows.ChangeEntry.{ChangeEntry}
 use Rattle.plant_model.specs.declared.rows.UnitRows.{UnitRows}
-use Rattle.plant_types.specs.Names.{name_cmp}
+use Rattle.plant_types.specs.Names.{Name, name_cmp}
 use Rattle.plant_types.specs.KeyedRows.{IsInOrder}
+
+-- the rows, whose tags are read so, rise by their tags
+abbrev pub TagsRise : {X : Type 0} → (X → Name) → List X → Type 0
+TagsRise tag rows = IsInOrder name_cmp tag rows
+
+-- the events rise by their numbers
+abbrev pub EventsRise : List Event → Type 0
+EventsRise es = IsInOrder nat_cmp event_number es
+
+-- the changes rise by their numbers
+abbrev pub ChangesRise : List ChangeEntry → Type 0
+ChangesRise changes = IsInOrder nat_cmp change_number changes
 
 -- alarms, shelves and records rise by their tags, events and changes by their numbers
 pub record AreInOrder (rows : UnitRows) : Type 0 where

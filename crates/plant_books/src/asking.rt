@@ -1,11 +1,10 @@
 //! What a call looks at, and which rows of each table that is.
 
-ghost use Rattle.std.specs.Prelude.{◌≡◌, ◌&&◌, ◌||◌, ℕ, List, Option, length, option_copied};
-ghost use Rattle.plant_alarm.specs.declared.event.Event.{Event as TheEvent};
+ghost use Rattle.std.specs.Prelude.{◌≡◌, ◌||◌, option_copied};
 ghost use Rattle.plant_books.specs.Asking as asked;
-ghost use Rattle.plant_books.specs.Asking.{IsSeenIn, events_wanted, is_number, is_wanted, selection_by};
+ghost use Rattle.plant_books.specs.Asking.{AreEventsWanted, AreWanted, IsCrowdedWith, IsScopeOf, Selects, TakesChanges, TakesMatrix, TakesSources, is_number, is_wanted, of_change, selection_by};
 ghost use Rattle.plant_model.specs.Events.{rows_of_file};
-ghost use Rattle.plant_model.specs.Parts.{is_crowded as is_crowded_in, is_in_force, is_source, of_approved, of_topic, scope_of_proposal, selected, selection};
+ghost use Rattle.plant_model.specs.Parts.{scope_of_proposal, selection};
 ghost use Rattle.plant_model.specs.declared.rows.UnitRows.{UnitRows};
 ghost use Rattle.plant_types.specs.Names.{Name, same_name};
 ghost use Rattle.plant_types.specs.Roles.{Pair};
@@ -93,7 +92,7 @@ pub fn looks_at_events(request: &Request) -> bool
 
 /// Whether a unit that keeps this many shelves is crowded: its quota may be used up.
 pub fn is_crowded(units: &List<UnitRow>, shelves: u64) -> bool
-    ensures { (rows : UnitRows) → rows.units ≡ units.now → length rows.shelves ≡ shelves → is_crowded_in rows ≡ result }
+    ensures { IsCrowdedWith units.now shelves result }
 {
     match units.as_slice().first() {
         Some(unit) => unit.quota.get() <= shelves,
@@ -123,7 +122,7 @@ fn rows_of(file: &FileRead) -> &[Event]
 
 /// What a proposal of a change of this kind looks at.
 fn scope_of_kind(kind: &ChangeKind) -> Scope<'_>
-    ensures { (rows : UnitRows) → selection_by rows result ≡ selection rows (scope_of_proposal kind.now) }
+    ensures { Selects result (λ rows. selection rows (scope_of_proposal kind.now)) }
 {
     match kind {
         ChangeKind::Rationale(tag, _) | ChangeKind::Limit(tag, _) => Scope::Content(tag),
@@ -137,7 +136,7 @@ pub fn scope_of<'a>(
     crowded: bool,
     approved: Option<&'a ChangeEntry>,
 ) -> Scope<'a>
-    ensures { (rows : UnitRows) → IsSeenIn rows request.now crowded (option_copied approved.entry) → selection_by rows result ≡ selected rows request.now }
+    ensures { IsScopeOf request.now crowded (option_copied approved.entry) result }
 {
     match request {
         Request::Grant { .. } | Request::Withdraw { .. } => Scope::AllGrants,
@@ -183,7 +182,7 @@ fn wanted_in(tag: &Tag, crowded: bool) -> Wanted<'_>
 
 /// The alarms that a change is of.
 fn alarms_changed(change: &ChangeEntry) -> Wanted<'_>
-    ensures { (rows : UnitRows) (a : Name) → (of_topic rows change.now.tag change.now.kind_no).alarm a ≡ is_wanted result a }
+    ensures { AreWanted (λ rows. (of_change change.now rows).alarm) result }
 {
     match (change.kind_no, &change.tag) {
         (ChangeTopic::Matrix, _) => Wanted::Nothing,
@@ -194,7 +193,7 @@ fn alarms_changed(change: &ChangeEntry) -> Wanted<'_>
 
 /// The records that a change is of.
 fn records_changed(change: &ChangeEntry) -> Wanted<'_>
-    ensures { (rows : UnitRows) (a : Name) → (of_topic rows change.now.tag change.now.kind_no).rationale a ≡ is_wanted result a }
+    ensures { AreWanted (λ rows. (of_change change.now rows).rationale) result }
 {
     match (change.kind_no, &change.tag) {
         (ChangeTopic::Matrix, _) => Wanted::Every,
@@ -205,7 +204,7 @@ fn records_changed(change: &ChangeEntry) -> Wanted<'_>
 
 /// Whether a change is of all records, and so of the changes that they came from.
 fn changes_sources(change: &ChangeEntry) -> bool
-    ensures { (rows : UnitRows) (n : ℕ) → (of_topic rows change.now.tag change.now.kind_no).change n ≡ (result && is_source rows (of_topic rows change.now.tag change.now.kind_no).rationale n) }
+    ensures { TakesSources (of_change change.now) result }
 {
     match (change.kind_no, &change.tag) {
         (ChangeTopic::Matrix, _) | (ChangeTopic::Record | ChangeTopic::Limit, None) => true,
@@ -215,7 +214,7 @@ fn changes_sources(change: &ChangeEntry) -> bool
 
 /// The alarms that the scope takes in.
 pub fn wanted_alarms<'a>(scope: Scope<'a>) -> Wanted<'a>
-    ensures { (rows : UnitRows) (a : Name) → (selection_by rows scope.entry).alarm a ≡ is_wanted result a }
+    ensures { AreWanted (λ rows. (selection_by rows scope.entry).alarm) result }
 {
     match scope {
         Scope::OneAlarm(tag) | Scope::OneRecord(tag) | Scope::Content(tag) => Wanted::One(tag),
@@ -233,7 +232,7 @@ pub fn wanted_alarms<'a>(scope: Scope<'a>) -> Wanted<'a>
 
 /// The shelves that the scope takes in.
 pub fn wanted_shelves<'a>(scope: Scope<'a>) -> Wanted<'a>
-    ensures { (rows : UnitRows) (a : Name) → (selection_by rows scope.entry).shelf a ≡ is_wanted result a }
+    ensures { AreWanted (λ rows. (selection_by rows scope.entry).shelf) result }
 {
     match scope {
         Scope::OneAlarm(tag) => Wanted::One(tag),
@@ -253,7 +252,7 @@ pub fn wanted_shelves<'a>(scope: Scope<'a>) -> Wanted<'a>
 
 /// The records that the scope takes in.
 pub fn wanted_records<'a>(scope: Scope<'a>) -> Wanted<'a>
-    ensures { (rows : UnitRows) (a : Name) → (selection_by rows scope.entry).rationale a ≡ is_wanted result a }
+    ensures { AreWanted (λ rows. (selection_by rows scope.entry).rationale) result }
 {
     match scope {
         Scope::OneRecord(tag) | Scope::Content(tag) => Wanted::One(tag),
@@ -273,7 +272,7 @@ pub fn wanted_records<'a>(scope: Scope<'a>) -> Wanted<'a>
 
 /// The events that the scope takes in.
 pub fn wanted_events<'a>(scope: Scope<'a>) -> WantedEvents<'a>
-    ensures { (rows : UnitRows) (es : List TheEvent) → (selection_by rows scope.entry).events es ≡ events_wanted result es }
+    ensures { AreEventsWanted scope.entry result }
 {
     match scope {
         Scope::File(rows) => WantedEvents::Beside(rows),
@@ -294,7 +293,7 @@ pub fn wanted_change(scope: Scope<'_>) -> Option<u32>
 
 /// Whether the scope takes in the matrix in force.
 pub fn wants_matrix(scope: Scope<'_>) -> bool
-    ensures { (rows : UnitRows) (n : ℕ) → (selection_by rows scope.entry).matrix n ≡ ((result && is_in_force rows n) || is_number (asked.number_named scope.entry) n) }
+    ensures { TakesMatrix scope.entry result }
 {
     matches!(
         scope,
@@ -304,7 +303,7 @@ pub fn wants_matrix(scope: Scope<'_>) -> bool
 
 /// Whether the scope takes in the changes that its records came from.
 pub fn wants_sources(scope: Scope<'_>) -> bool
-    ensures { (rows : UnitRows) (n : ℕ) → (selection_by rows scope.entry).change n ≡ ((result && is_source rows (selection_by rows scope.entry).rationale n) || is_number (asked.number_named scope.entry) n) }
+    ensures { TakesChanges scope.entry result }
 {
     match scope {
         Scope::OneRecord(_) | Scope::AllRecords => true,
@@ -313,7 +312,7 @@ pub fn wants_sources(scope: Scope<'_>) -> bool
     }
 }
 
-/// Whether the number is the one, where there is one.
+/// Whether the number is the one, if there is one.
 pub fn is_number(one: Option<u32>, number: u32) -> bool
     ensures { result ≡ is_number one number }
 {

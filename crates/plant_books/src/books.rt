@@ -1,12 +1,10 @@
-ghost use Rattle.std.specs.Prelude.{◌≡◌, ℕ, Some, IfOk, OnOk, OnErr};
+ghost use Rattle.std.specs.Prelude.{◌≡◌, ℕ};
 ghost use Rattle.std.specs.FinMap as fin;
-ghost use Rattle.plant_types.specs.Names.{Name};
-ghost use Rattle.plant_model.specs.Worlds.{unit_named};
-ghost use Rattle.plant_books.specs.Contents.{Content, IsKnownTo, after_changes, codes_held, events_in, mine_shelves, mine_units, part_in, rows_but_events};
-ghost use Rattle.plant_books.specs.Counting.{Counts};
+ghost use Rattle.plant_books.specs.Books.{CountsBy, Finds, FindsPart, Keeps, KeepsOnErr, Makes};
+ghost use Rattle.plant_books.specs.Contents.{Content, codes_held, events_in, mine_shelves, mine_units, rows_but_events};
 
 use plant_alarm::Event;
-use plant_model::{Call, RowEdit, ShelfRow, UnitPart, UnitRows};
+use plant_model::{Call, Changes, ShelfRow, UnitPart, UnitRows};
 use plant_types::{Fault, List, Moment, Person, Role, UnitCode};
 
 /// A unit in which a person holds roles, with its last moment.
@@ -19,7 +17,7 @@ pub struct MineUnit {
 
 /// A shelf of a unit in which a person holds a role, with the moment at which its alarm last returned to normal.
 #[derive(Drop)]
-pub struct MineShelf {
+pub struct MineRow {
     pub unit: UnitCode,
     pub shelf: ShelfRow,
     pub last_return: Option<Moment>,
@@ -42,65 +40,72 @@ pub trait Books {
 
     /// Whether the unit was opened.
     fn taken(&mut self, unit: &UnitCode) -> Result<bool, Fault>
-        ensures found { (m : Content) → represents self.old m → is_honest self.new → IfOk result (λ taken. taken ≡ fin.contains_key m.units unit.now) }
-        ensures same { (m : Content) → represents self.old m → represents self.new m }
+        ensures found { Finds represents is_honest self.old self.new result
+            (λ m. fin.contains_key m.units unit.now) }
+        ensures same { Keeps represents self.old self.new }
         ensures honest { is_honest self.new → is_honest self.old }
-        ensures count { Counts (stores self.old) (stores self.new) result };
+        ensures count { CountsBy stores self.old self.new result };
 
     /// All rows of the unit, none where it was never opened.
     fn rows(&mut self, unit: &UnitCode) -> Result<Option<UnitRows>, Fault>
-        ensures found { (m : Content) → represents self.old m → is_honest self.new → IfOk result (λ rows. rows ≡ fin.get m.units unit.now) }
-        ensures same { (m : Content) → represents self.old m → represents self.new m }
+        ensures found { Finds represents is_honest self.old self.new result
+            (λ m. fin.get m.units unit.now) }
+        ensures same { Keeps represents self.old self.new }
         ensures honest { is_honest self.new → is_honest self.old }
-        ensures count { Counts (stores self.old) (stores self.new) result };
+        ensures count { CountsBy stores self.old self.new result };
 
     /// All rows of the unit but its events, none where it was never opened.
     fn rows_but_events(&mut self, unit: &UnitCode) -> Result<Option<UnitRows>, Fault>
-        ensures found { (m : Content) → represents self.old m → is_honest self.new → IfOk result (λ rows. rows ≡ rows_but_events m unit.now) }
-        ensures same { (m : Content) → represents self.old m → represents self.new m }
+        ensures found { Finds represents is_honest self.old self.new result
+            (λ m. rows_but_events m unit.now) }
+        ensures same { Keeps represents self.old self.new }
         ensures honest { is_honest self.new → is_honest self.old }
-        ensures count { Counts (stores self.old) (stores self.new) result };
+        ensures count { CountsBy stores self.old self.new result };
 
     /// All events of the unit, none where it was never opened.
     fn events(&mut self, unit: &UnitCode) -> Result<List<Event>, Fault>
-        ensures found { (m : Content) → represents self.old m → is_honest self.new → IfOk result (λ events. events ≡ events_in m unit.now) }
-        ensures same { (m : Content) → represents self.old m → represents self.new m }
+        ensures found { Finds represents is_honest self.old self.new result
+            (λ m. events_in m unit.now) }
+        ensures same { Keeps represents self.old self.new }
         ensures honest { is_honest self.new → is_honest self.old }
-        ensures count { Counts (stores self.old) (stores self.new) result };
+        ensures count { CountsBy stores self.old self.new result };
 
     /// The rows of the unit that the call looks at, none where the unit was never opened or the call names none.
     fn part(&mut self, call: &Call) -> Result<Option<UnitPart>, Fault>
-        ensures found { (m : Content) → represents self.old m → is_honest self.new → (u : Name) → unit_named call.now.request ≡ Some u → IfOk result (λ part. part ≡ part_in m call.now u) }
-        ensures same { (m : Content) → represents self.old m → represents self.new m }
+        ensures found { FindsPart represents is_honest self.old self.new call.now result }
+        ensures same { Keeps represents self.old self.new }
         ensures honest { is_honest self.new → is_honest self.old }
-        ensures count { Counts (stores self.old) (stores self.new) result };
+        ensures count { CountsBy stores self.old self.new result };
 
     /// The codes of the units in which the person holds a role at the moment, rising, each once.
     fn held(&mut self, person: &Person, now: Moment) -> Result<List<UnitCode>, Fault>
-        ensures found { (m : Content) → represents self.old m → is_honest self.new → IfOk result (λ codes. codes ≡ codes_held m now person.now) }
-        ensures same { (m : Content) → represents self.old m → represents self.new m }
+        ensures found { Finds represents is_honest self.old self.new result
+            (λ m. codes_held m now person.now) }
+        ensures same { Keeps represents self.old self.new }
         ensures honest { is_honest self.new → is_honest self.old }
-        ensures count { Counts (stores self.old) (stores self.new) result };
+        ensures count { CountsBy stores self.old self.new result };
 
     /// The units in which the person holds a role at the moment, rising, each once with its roles by number.
     fn mine_units(&mut self, person: &Person, now: Moment) -> Result<List<MineUnit>, Fault>
-        ensures found { (m : Content) → represents self.old m → is_honest self.new → IfOk result (λ units. units ≡ mine_units m now person.now) }
-        ensures same { (m : Content) → represents self.old m → represents self.new m }
+        ensures found { Finds represents is_honest self.old self.new result
+            (λ m. mine_units m now person.now) }
+        ensures same { Keeps represents self.old self.new }
         ensures honest { is_honest self.new → is_honest self.old }
-        ensures count { Counts (stores self.old) (stores self.new) result };
+        ensures count { CountsBy stores self.old self.new result };
 
     /// Every shelf of the units in which the person holds a role at the moment, by unit and tag, each once. Shelves whose
     /// time has passed are among them.
-    fn mine_shelves(&mut self, person: &Person, now: Moment) -> Result<List<MineShelf>, Fault>
-        ensures found { (m : Content) → represents self.old m → is_honest self.new → IfOk result (λ shelves. shelves ≡ mine_shelves m now person.now) }
-        ensures same { (m : Content) → represents self.old m → represents self.new m }
+    fn mine_shelves(&mut self, person: &Person, now: Moment) -> Result<List<MineRow>, Fault>
+        ensures found { Finds represents is_honest self.old self.new result
+            (λ m. mine_shelves m now person.now) }
+        ensures same { Keeps represents self.old self.new }
         ensures honest { is_honest self.new → is_honest self.old }
-        ensures count { Counts (stores self.old) (stores self.new) result };
+        ensures count { CountsBy stores self.old self.new result };
 
     /// Makes the changes to this unit's rows in their order: all of them, or none.
-    fn apply(&mut self, unit: &UnitCode, changes: &List<RowEdit>) -> Result<(), Fault>
-        ensures made { (m : Content) → represents self.old m → IsKnownTo m unit.now changes.now → OnOk result (represents self.new (after_changes m unit.now changes.now)) }
-        ensures unchanged { (m : Content) → represents self.old m → OnErr result (represents self.new m) }
+    fn apply(&mut self, unit: &UnitCode, changes: &Changes) -> Result<(), Fault>
+        ensures made { Makes represents self.old self.new unit.now changes.now result }
+        ensures unchanged { KeepsOnErr represents self.old self.new result }
         ensures honest { is_honest self.new → is_honest self.old }
-        ensures count { Counts (stores self.old) (stores self.new) result };
+        ensures count { CountsBy stores self.old self.new result };
 }

@@ -1,12 +1,12 @@
-ghost use Rattle.std.specs.Prelude.{◌≡◌, ◌∷◌, [], IfErr, IfOk, OnErr, OnOk};
-ghost use Rattle.plant_model.specs.RowChanges.{changed, changed_by, put as row_put, removed};
-ghost use Rattle.plant_model.specs.RowFacts.{event_number, pair_of, shelf_tag};
-ghost use Rattle.plant_books.specs.Order.{AreInOrder};
-ghost use Rattle.std.specs.Ordering.{nat_cmp};
-ghost use Rattle.plant_books.specs.Changing.{puts_event, whole};
-ghost use Rattle.plant_types.specs.Names.{name_cmp};
+ghost use Rattle.std.specs.Prelude.{◌≡◌, ◌∷◌, [], IfErr, IfOk, OnOk};
+ghost use Rattle.plant_model.specs.RowChanges.{changed_by, removed};
+ghost use Rattle.plant_model.specs.RowFacts.{pair_of, shelf_tag};
+ghost use Rattle.plant_books.specs.Changing.{MakesChange, PutsRow, puts_event, whole};
+ghost use Rattle.plant_books.specs.Found.{without_tag};
+ghost use Rattle.plant_books.specs.Order.{AreInOrder, EventsRise, TagsRise};
+ghost use Rattle.plant_books.specs.Results.{Gives};
 ghost use Rattle.plant_types.specs.Roles.{pair_cmp};
-ghost use Rattle.plant_types.specs.KeyedRows.{IsInOrder, remove_row};
+ghost use Rattle.plant_types.specs.KeyedRows.{remove_row};
 ghost use Rattle.plant_types.specs.declared.fault.Fault.TheVariants.{Memory};
 
 use crate::found::remove;
@@ -38,7 +38,7 @@ fn one_row(alloc: Global, row: UnitRow) -> Result<List<UnitRow>, Fault>
 /// Puts a row of a unit.
 #[tactic(auto, using(crate::proofs::public::EventLaws::with_push))]
 fn put_row(alloc: Global, changing: &mut Changing, row: Row) -> Result<(), Fault>
-    ensures ok { AreInOrder (whole changing.old) → OnOk result (whole changing.new ≡ row_put row (whole changing.old)) }
+    ensures ok { PutsRow row changing.old changing.new result }
     ensures events { OnOk result (changing.new.rows.events ≡ changing.old.rows.events) }
     ensures memory { IfErr result (λ e. e ≡ Memory) }
 {
@@ -70,7 +70,7 @@ fn without_grant(grants: List<GrantRow>, person: &Person, role: Role) -> List<Gr
 
 /// The shelves, which stand in the order of their tags, without that of a tag.
 fn without_shelf(mut shelves: List<ShelfRow>, tag: &Tag) -> List<ShelfRow>
-    ensures { IsInOrder name_cmp shelf_tag shelves → result ≡ remove_row name_cmp shelf_tag tag.now shelves }
+    ensures { TagsRise shelf_tag shelves → result ≡ without_tag shelf_tag tag.now shelves }
 {
     remove(&mut shelves, tag);
     shelves
@@ -78,7 +78,7 @@ fn without_shelf(mut shelves: List<ShelfRow>, tag: &Tag) -> List<ShelfRow>
 
 /// The rows without that of a key.
 fn without(rows: UnitRows, key: &Key) -> UnitRows
-    ensures value { IsInOrder name_cmp shelf_tag rows.shelves → result ≡ removed key.now rows }
+    ensures value { TagsRise shelf_tag rows.shelves → result ≡ removed key.now rows }
     ensures events { result.events ≡ rows.events }
 {
     match key {
@@ -95,7 +95,7 @@ fn without(rows: UnitRows, key: &Key) -> UnitRows
 
 /// The rows after one change.
 fn after_change(alloc: Global, mut changing: Changing, change: &RowEdit) -> Result<Changing, Fault>
-    ensures value { AreInOrder (whole changing) → IfOk result (λ after. whole after ≡ changed change.now (whole changing)) }
+    ensures value { MakesChange change.now changing result }
     ensures events { IfOk result (λ after. after.rows.events ≡ changing.rows.events) }
     ensures memory { IfErr result (λ e. e ≡ Memory) }
 {
@@ -113,7 +113,7 @@ fn after_change(alloc: Global, mut changing: Changing, change: &RowEdit) -> Resu
 
 /// The rows with the events that wait beside them.
 fn settled(alloc: Global, changing: Changing) -> Result<UnitRows, Fault>
-    ensures value { IsInOrder nat_cmp event_number changing.rows.events → IfOk result (λ rows. rows ≡ whole changing) }
+    ensures value { EventsRise changing.rows.events → Gives result (whole changing) }
     ensures memory { IfErr result (λ e. e ≡ Memory) }
 {
     let Changing { mut rows, fresh } = changing;

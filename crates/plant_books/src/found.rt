@@ -1,14 +1,12 @@
 //! Rows found by their tags, in a table that stands in the order of the tags, and changes by their numbers.
 
-ghost use Rattle.std.specs.BTreeSet.{contains};
-ghost use Rattle.std.specs.Prelude.{◌≡◌, ◌<◌, ◌≤◌, IfErr, IfOk, true, false, filter, length, option_copied};
+ghost use Rattle.std.specs.Prelude.{◌≡◌, ◌≤◌, IfErr, IfOk, length, option_copied};
 ghost use Rattle.std.specs.Option.{option_to_list};
-ghost use Rattle.std.specs.List.Sorted.{IsPartitionPoint};
-ghost use Rattle.std.specs.Ordering.{is_lt, nat_cmp};
-ghost use Rattle.plant_books.specs.Asking.{is_wanted};
-ghost use Rattle.plant_model.specs.RowFacts.{alarm_tag, change_number, record_tag, shelf_tag};
-ghost use Rattle.plant_types.specs.Names.{Name, name_cmp};
-ghost use Rattle.plant_types.specs.KeyedRows.{IsInOrder, remove_row, row_at};
+ghost use Rattle.plant_books.specs.Found.{IsPlaceOfNumber, IsPlaceOfTag, change_by_number, changes_in, row_by_tag, rows_wanted, without_tag};
+ghost use Rattle.plant_books.specs.Order.{ChangesRise, TagsRise};
+ghost use Rattle.plant_books.specs.Results.{Gives};
+ghost use Rattle.plant_model.specs.RowFacts.{alarm_tag, record_tag, shelf_tag};
+ghost use Rattle.plant_types.specs.Names.{Name};
 ghost use Rattle.plant_types.specs.declared.fault.Fault.TheVariants.{Memory};
 
 use crate::asking::Wanted;
@@ -52,14 +50,14 @@ impl Tagged for RecordEntry {
 
 /// How many of the rows have a smaller tag.
 pub fn place_of<T: Tagged>(rows: &[T], tag: &Tag) -> usize
-    ensures { IsInOrder name_cmp T.key rows.now → IsPartitionPoint (λ r. is_lt (name_cmp (T.key r) tag.now) ≡ true) (λ r. is_lt (name_cmp (T.key r) tag.now) ≡ false) rows.now result }
+    ensures { TagsRise T.key rows.now → IsPlaceOfTag T.key tag.now rows.now result }
 {
     rows.partition_point(|row| *row.tag() < *tag)
 }
 
 /// The row of the tag.
 pub fn row_of<'a, T: Tagged>(rows: &'a [T], tag: &Tag) -> Option<&'a T>
-    ensures { IsInOrder name_cmp T.key rows.now → option_copied result ≡ row_at name_cmp T.key tag.now rows.now }
+    ensures { TagsRise T.key rows.now → option_copied result ≡ row_by_tag T.key tag.now rows.now }
 {
     match rows.get(place_of(rows, tag)) {
         Some(row) if *row.tag() == *tag => Some(row),
@@ -69,7 +67,7 @@ pub fn row_of<'a, T: Tagged>(rows: &'a [T], tag: &Tag) -> Option<&'a T>
 
 /// Takes the row of the tag out, if there is one.
 pub fn remove<T: Tagged>(rows: &mut List<T>, tag: &Tag)
-    ensures { IsInOrder name_cmp T.key rows.old → rows.new ≡ remove_row name_cmp T.key tag.now rows.old }
+    ensures { TagsRise T.key rows.old → rows.new ≡ without_tag T.key tag.now rows.old }
 {
     let place = place_of(rows.as_slice(), tag);
     if let Some(row) = rows.as_slice().get(place) {
@@ -97,7 +95,7 @@ pub fn rows_wanted<T: Tagged + Duplicate>(
     rows: &List<T>,
     wanted: &Wanted<'_>,
 ) -> Result<List<T>, Fault>
-    ensures value { IsInOrder name_cmp T.key rows.now → IfOk result (λ found. found ≡ filter (λ r. is_wanted wanted.now (T.key r)) rows.now) }
+    ensures value { TagsRise T.key rows.now → Gives result (rows_wanted T.key wanted.now rows.now) }
     ensures memory { IfErr result (λ e. e ≡ Memory) }
 {
     match wanted {
@@ -110,14 +108,14 @@ pub fn rows_wanted<T: Tagged + Duplicate>(
 /// How many of the changes, which stand in rising number, have a smaller number.
 fn place_of_change(changes: &[ChangeEntry], number: u32) -> usize
     ensures bound { result ≤ length changes.now }
-    ensures place { IsInOrder nat_cmp change_number changes.now → IsPartitionPoint (λ c. c.number < number) (λ c. number ≤ c.number) changes.now result }
+    ensures place { ChangesRise changes.now → IsPlaceOfNumber number changes.now result }
 {
     changes.partition_point(|change| change.number < number)
 }
 
 /// The change of a number, of changes in rising number.
 pub fn change_at(changes: &[ChangeEntry], number: u32) -> Option<&ChangeEntry>
-    ensures { IsInOrder nat_cmp change_number changes.now → option_copied result ≡ row_at nat_cmp change_number number changes.now }
+    ensures { ChangesRise changes.now → option_copied result ≡ change_by_number number changes.now }
 {
     match changes.get(place_of_change(changes, number)) {
         Some(change) if change.number == number => Some(change),
@@ -131,7 +129,7 @@ pub fn changes_of(
     changes: &[ChangeEntry],
     numbers: &BTreeSet<u32>,
 ) -> Result<List<ChangeEntry>, Fault>
-    ensures value { IsInOrder nat_cmp change_number changes.now → IfOk result (λ found. found ≡ filter (λ c. contains nat_cmp numbers.now c.number) changes.now) }
+    ensures value { ChangesRise changes.now → Gives result (changes_in numbers.now changes.now) }
     ensures memory { IfErr result (λ e. e ≡ Memory) }
 {
     let mut found = List::new(alloc);

@@ -1,6 +1,5 @@
-ghost use Rattle.std.specs.Cmp.{IsTotalOrder};
-ghost use Rattle.std.specs.Prelude.{◌≡◌, IfErr, MatchResult, OnErr, OnOk, insert, slice_set};
-ghost use Rattle.plant_types.specs.KeyedRows.{IsInOrder, put_row};
+ghost use Rattle.std.specs.Prelude.{◌≡◌, IfErr, OnErr, OnOk};
+ghost use Rattle.plant_books.specs.Keyed.{IfSorted, IsPlaceFor, Puts};
 ghost use Rattle.plant_types.specs.declared.fault.Fault.TheVariants.{Memory};
 
 use plant_types::{Fault, List};
@@ -19,9 +18,7 @@ pub trait Keyed: Drop {
 
 /// The place of the row of the same key, or else the place where the row belongs.
 fn place_of<T: Keyed>(rows: &[T], row: &T) -> Result<usize, usize>
-    ensures { MatchResult result
-        (λ place. slice_set rows.now place row.now ≡ put_row T.order (λ r. r) row.now rows.now)
-        (λ place. insert rows.now place row.now ≡ put_row T.order (λ r. r) row.now rows.now) }
+    ensures { IsPlaceFor T.order row.now rows.now result }
 {
     for (place, other) in rows.iter().enumerate() {
         match row.key_cmp(other) {
@@ -36,7 +33,7 @@ fn place_of<T: Keyed>(rows: &[T], row: &T) -> Result<usize, usize>
 /// Puts a row in the place of the row of its key, or where it belongs in the order of keys.
 /// If memory runs out, the rows are unchanged.
 pub fn put<T: Keyed>(rows: &mut List<T>, row: T) -> Result<(), Fault>
-    ensures ok { OnOk result (rows.new ≡ put_row T.order (λ r. r) row rows.old) }
+    ensures ok { OnOk result (Puts T.order row rows.old rows.new) }
     ensures err { OnErr result (rows.new ≡ rows.old) }
     ensures memory { IfErr result (λ e. e ≡ Memory) }
 {
@@ -52,9 +49,7 @@ pub fn put<T: Keyed>(rows: &mut List<T>, row: T) -> Result<(), Fault>
 /// The place of the row of the same key, or else the place where the row belongs, found by halving: the rows stand in the
 /// order of their keys.
 fn sorted_place<T: Keyed>(rows: &[T], row: &T) -> Result<usize, usize>
-    ensures { IsTotalOrder T.order → IsInOrder T.order (λ r. r) rows.now → MatchResult result
-        (λ place. slice_set rows.now place row.now ≡ put_row T.order (λ r. r) row.now rows.now)
-        (λ place. insert rows.now place row.now ≡ put_row T.order (λ r. r) row.now rows.now) }
+    ensures { IfSorted T.order rows.now (IsPlaceFor T.order row.now rows.now result) }
 {
     let place = rows.partition_point(|other| other.key_cmp(row).is_lt());
     match rows.get(place) {
@@ -65,7 +60,7 @@ fn sorted_place<T: Keyed>(rows: &[T], row: &T) -> Result<usize, usize>
 
 /// Puts a row among rows that stand in the order of their keys, as `put` does, but finds its place by halving.
 pub fn put_sorted<T: Keyed>(rows: &mut List<T>, row: T) -> Result<(), Fault>
-    ensures ok { IsTotalOrder T.order → IsInOrder T.order (λ r. r) rows.old → OnOk result (rows.new ≡ put_row T.order (λ r. r) row rows.old) }
+    ensures ok { IfSorted T.order rows.old (OnOk result (Puts T.order row rows.old rows.new)) }
     ensures err { OnErr result (rows.new ≡ rows.old) }
     ensures memory { IfErr result (λ e. e ≡ Memory) }
 {

@@ -17,7 +17,7 @@ pub use asking::{
     number_approved, scope_of, wanted_alarms, wanted_change, wanted_events, wanted_records,
     wanted_shelves, wants_all_grants, wants_matrix, wants_sources,
 };
-pub use books::{Books, MineShelf, MineUnit};
+pub use books::{Books, MineRow, MineUnit};
 pub use changes::{after_changes, puts_event};
 pub use found::{Tagged, change_at, place_of, row_of};
 pub use grants::{holds_some_by, is_before, is_held_by, is_pair};

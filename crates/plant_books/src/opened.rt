@@ -1,18 +1,17 @@
-ghost use Rattle.std.specs.Prelude.{◌≡◌, IfErr, IfOk, IfSome, OnErr, OnOk, Some, filter_map, flat_map, is_some, map, option_copied, option_map, unwrap_or, ◌++◌};
-ghost use Rattle.std.specs.List.{AllByRecursion};
+ghost use Rattle.std.specs.Prelude.{◌≡◌, IfErr, IfOk, IfSome, OnErr, OnOk, is_some, option_copied, option_map, unwrap_or};
 ghost use Rattle.plant_books.specs.Contents as contents;
-ghost use Rattle.plant_books.specs.Contents.{is_held_in, mine_shelf, mine_unit, shelves_mine, without_events};
-ghost use Rattle.plant_books.specs.Listed.{rows_at, unit_cmp};
-ghost use Rattle.plant_books.specs.Order.{AreInOrder};
+ghost use Rattle.plant_books.specs.Contents.{AddsShelves, without_events};
+ghost use Rattle.plant_books.specs.Listed.{AllInOrder, listed_after, listed_codes, listed_shelves, listed_units, rows_at};
+ghost use Rattle.plant_books.specs.Order.{AreInOrder, TagsRise};
+ghost use Rattle.plant_books.specs.Results.{Gives};
 ghost use Rattle.plant_model.specs.Parts.{part_of as the_part};
-ghost use Rattle.plant_model.specs.RowChanges.{changed_by, no_rows};
+ghost use Rattle.plant_model.specs.RowChanges.{no_rows};
 ghost use Rattle.plant_model.specs.RowFacts.{alarm_tag, unit_read};
-ghost use Rattle.plant_types.specs.Options.{when};
 ghost use Rattle.plant_types.specs.Names.{name_cmp};
-ghost use Rattle.plant_types.specs.KeyedRows.{IsInOrder, put_row, row_at};
+ghost use Rattle.plant_types.specs.KeyedRows.{row_at};
 ghost use Rattle.plant_types.specs.declared.fault.Fault.TheVariants.{Memory};
 
-use crate::books::{MineShelf, MineUnit};
+use crate::books::{MineRow, MineUnit};
 use crate::changes::after_changes;
 use crate::found::row_of;
 use crate::grants::{holds_role, roles_held};
@@ -80,7 +79,7 @@ pub fn copy_but_events(
     units: &List<OpenedUnit>,
     unit: &UnitCode,
 ) -> Result<Option<UnitRows>, Fault>
-    ensures value { IfOk result (λ rows. rows ≡ option_map without_events (rows_at units.now unit.now)) }
+    ensures value { Gives result (option_map without_events (rows_at units.now unit.now)) }
     ensures memory { IfErr result (λ e. e ≡ Memory) }
 {
     match rows_of(units, unit) {
@@ -95,7 +94,7 @@ pub fn events_of(
     units: &List<OpenedUnit>,
     unit: &UnitCode,
 ) -> Result<List<Event>, Fault>
-    ensures value { IfOk result (λ events. events ≡ (unwrap_or (rows_at units.now unit.now) no_rows).events) }
+    ensures value { Gives result (unwrap_or (rows_at units.now unit.now) no_rows).events }
     ensures memory { IfErr result (λ e. e ≡ Memory) }
 {
     match rows_of(units, unit) {
@@ -111,7 +110,8 @@ pub fn part_at(
     unit: &UnitCode,
     call: &Call,
 ) -> Result<Option<UnitPart>, Fault>
-    ensures value { IfSome (rows_at units.now unit.now) AreInOrder → IfOk result (λ part. part ≡ option_map (the_part call.now) (rows_at units.now unit.now)) }
+    ensures value { IfSome (rows_at units.now unit.now) AreInOrder
+        → Gives result (option_map (the_part call.now) (rows_at units.now unit.now)) }
     ensures memory { IfErr result (λ e. e ≡ Memory) }
 {
     match rows_of(units, unit) {
@@ -137,7 +137,7 @@ pub fn codes_held(
     person: &Person,
     now: Moment,
 ) -> Result<List<UnitCode>, Fault>
-    ensures value { IfOk result (λ codes. codes ≡ filter_map (λ o. when (is_held_in now person.now (Some o.rows)) o.unit) units.now) }
+    ensures value { Gives result (listed_codes units.now now person.now) }
     ensures memory { IfErr result (λ e. e ≡ Memory) }
 {
     let mut codes = List::new(alloc);
@@ -156,7 +156,7 @@ pub fn units_held(
     person: &Person,
     now: Moment,
 ) -> Result<List<MineUnit>, Fault>
-    ensures value { IfOk result (λ mine. mine ≡ filter_map (λ o. mine_unit now person.now o.unit (Some o.rows)) units.now) }
+    ensures value { Gives result (listed_units units.now now person.now) }
     ensures memory { IfErr result (λ e. e ≡ Memory) }
 {
     let mut mine = List::new(alloc);
@@ -191,7 +191,7 @@ pub fn last_return(alarms: &[AlarmRow], tag: &Tag) -> Option<Moment>
 
 /// When the alarm of the tag last returned to normal, of alarms in the order of their tags.
 fn return_of(alarms: &[AlarmRow], tag: &Tag) -> Option<Moment>
-    ensures { IsInOrder name_cmp alarm_tag alarms.now → result ≡ contents.last_return alarms.now tag.now }
+    ensures { TagsRise alarm_tag alarms.now → result ≡ contents.last_return alarms.now tag.now }
 {
     match row_of(alarms, tag) {
         Some(alarm) => alarm.return_s,
@@ -202,16 +202,16 @@ fn return_of(alarms: &[AlarmRow], tag: &Tag) -> Option<Moment>
 /// Puts the shelves of a unit at the end.
 pub fn push_shelves(
     alloc: Global,
-    mine: &mut List<MineShelf>,
+    mine: &mut List<MineRow>,
     unit: &UnitCode,
     rows: &UnitRows,
 ) -> Result<(), Fault>
-    ensures pushed { AreInOrder rows.now → OnOk result (mine.new ≡ mine.old ++ map (mine_shelf unit.now rows.now) rows.now.shelves) }
+    ensures pushed { AreInOrder rows.now → AddsShelves unit.now rows.now mine.old mine.new result }
     ensures memory { IfErr result (λ e. e ≡ Memory) }
 {
     let alarms = rows.alarms.as_slice();
     for shelf in rows.shelves.as_slice() {
-        mine.push(MineShelf {
+        mine.push(MineRow {
             unit: unit.duplicate(alloc)?,
             shelf: shelf.duplicate(alloc)?,
             last_return: return_of(alarms, &shelf.tag),
@@ -226,8 +226,8 @@ pub fn shelves_held(
     units: &List<OpenedUnit>,
     person: &Person,
     now: Moment,
-) -> Result<List<MineShelf>, Fault>
-    ensures value { AllByRecursion (λ o. AreInOrder o.rows) units.now → IfOk result (λ mine. mine ≡ flat_map (λ o. shelves_mine now person.now o.unit (Some o.rows)) units.now) }
+) -> Result<List<MineRow>, Fault>
+    ensures value { AllInOrder units.now → Gives result (listed_shelves units.now now person.now) }
     ensures memory { IfErr result (λ e. e ≡ Memory) }
 {
     let mut mine = List::new(alloc);
@@ -247,10 +247,8 @@ pub fn change_unit(
     unit: &UnitCode,
     changes: &List<RowEdit>,
 ) -> Result<(), Fault>
-    ensures made { AllByRecursion (λ o. AreInOrder o.rows) units.old → OnOk result (units.new ≡ put_row unit_cmp (λ o. o) (record {
-      unit = unit.now;
-      rows = changed_by changes.now (unwrap_or (rows_at units.old unit.now) no_rows);
-    }) units.old) }
+    ensures made { AllInOrder units.old
+        → OnOk result (units.new ≡ listed_after units.old unit.now changes.now) }
     ensures unchanged { OnErr result (units.new ≡ units.old) }
     ensures memory { IfErr result (λ e. e ≡ Memory) }
 {

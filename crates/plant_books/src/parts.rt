@@ -1,13 +1,11 @@
-ghost use Rattle.std.specs.Prelude.{◌≡◌, ◌||◌, ℕ, IfErr, IfOk, Some, false, filter, option_copied, true};
-ghost use Rattle.plant_books.specs.Asking.{AreSources, HasNumbers, events_wanted, is_shelving as is_shelving_by, is_wanted, number_approved as number_approved_by, selection_by};
+ghost use Rattle.std.specs.Prelude.{◌≡◌, IfErr, IfOk, false, filter, option_copied, true};
+ghost use Rattle.plant_books.specs.Asking.{AreSources, GivesNumbers, IsApprovedBy, TakesNoMatrix, bands_by, cells_by, changes_by, events_wanted, grants_by, is_shelving as is_shelving_by, is_wanted, rows_by, selection_by};
 ghost use Rattle.plant_books.specs.Contents.{without_events};
-ghost use Rattle.plant_books.specs.Order.{AreInOrder};
-ghost use Rattle.plant_model.specs.Parts.{counted_for, is_crowded as is_crowded_in, part_of as the_part, part_of_holder as holders_part, rows_selected, selected};
+ghost use Rattle.plant_books.specs.Order.{AreInOrder, ChangesRise, EventsRise};
+ghost use Rattle.plant_books.specs.Results.{Gives};
+ghost use Rattle.plant_model.specs.Parts.{counted_for, is_crowded as is_crowded_in, part_of as the_part, part_of_holder as holders_part, selected};
 ghost use Rattle.plant_model.specs.RowChanges.{no_rows};
-ghost use Rattle.plant_model.specs.declared.rows.UnitRows.{UnitRows as TheRows};
-ghost use Rattle.plant_model.specs.RowFacts.{change_found, change_number, event_number, last_number as last_number_of, pair_of, unit_read};
-ghost use Rattle.plant_types.specs.KeyedRows.{IsInOrder};
-ghost use Rattle.std.specs.Ordering.{nat_cmp};
+ghost use Rattle.plant_model.specs.RowFacts.{last_number as last_number_of, unit_read};
 ghost use Rattle.plant_types.specs.Names.{same_name};
 ghost use Rattle.plant_types.specs.declared.fault.Fault.TheVariants.{Memory};
 
@@ -53,7 +51,7 @@ fn grants_asked(
     person: &Person,
     scope: Scope<'_>,
 ) -> Result<List<GrantRow>, Fault>
-    ensures value { IfOk result (λ asked. asked ≡ filter (λ g. same_name person.now g.person || (selection_by rows.now scope.entry).pair (pair_of g)) rows.now.grants) }
+    ensures value { Gives result (grants_by person.now rows.now scope.entry) }
     ensures memory { IfErr result (λ e. e ≡ Memory) }
 {
     let all = wants_all_grants(scope);
@@ -72,7 +70,7 @@ pub fn events_asked(
     events: &List<Event>,
     wanted: WantedEvents<'_>,
 ) -> Result<List<Event>, Fault>
-    ensures value { IsInOrder nat_cmp event_number events.now → IfOk result (λ asked. asked ≡ events_wanted wanted.entry events.now) }
+    ensures value { EventsRise events.now → Gives result (events_wanted wanted.entry events.now) }
     ensures memory { IfErr result (λ e. e ≡ Memory) }
 {
     match wanted {
@@ -102,14 +100,14 @@ fn is_matrix_asked(rows: &UnitRows, scope: Scope<'_>, number: u32) -> bool
 
 /// Whether the scope takes in some matrix.
 fn wants_some_matrix(scope: Scope<'_>) -> bool
-    ensures { result ≡ false → (rows : TheRows) (n : ℕ) → (selection_by rows scope.entry).matrix n ≡ false }
+    ensures { result ≡ false → TakesNoMatrix scope.entry }
 {
     wants_matrix(scope) || wanted_change(scope).is_some()
 }
 
 /// The limits of the matrices that the scope takes in.
 fn bands_asked(alloc: Global, rows: &UnitRows, scope: Scope<'_>) -> Result<List<BandRow>, Fault>
-    ensures value { IfOk result (λ asked. asked ≡ filter (λ r. (selection_by rows.now scope.entry).matrix r.matrix_no) rows.now.bands) }
+    ensures value { Gives result (bands_by rows.now scope.entry) }
     ensures memory { IfErr result (λ e. e ≡ Memory) }
 {
     let mut asked = List::new(alloc);
@@ -126,7 +124,7 @@ fn bands_asked(alloc: Global, rows: &UnitRows, scope: Scope<'_>) -> Result<List<
 
 /// The cells of the matrices that the scope takes in.
 fn cells_asked(alloc: Global, rows: &UnitRows, scope: Scope<'_>) -> Result<List<CellRow>, Fault>
-    ensures value { IfOk result (λ asked. asked ≡ filter (λ r. (selection_by rows.now scope.entry).matrix r.matrix_no) rows.now.cells) }
+    ensures value { Gives result (cells_by rows.now scope.entry) }
     ensures memory { IfErr result (λ e. e ≡ Memory) }
 {
     let mut asked = List::new(alloc);
@@ -165,7 +163,7 @@ fn numbers_asked(
     records: &[RecordEntry],
     scope: Scope<'_>,
 ) -> Result<BTreeSet<u32>, Fault>
-    ensures value { (rows : TheRows) → rows.records ≡ records.now → IfOk result (λ numbers. HasNumbers numbers (selection_by rows scope.entry).change) }
+    ensures value { GivesNumbers scope.entry records.now result }
     ensures memory { IfErr result (λ e. e ≡ Memory) }
 {
     let mut numbers = if wants_sources(scope) {
@@ -185,7 +183,7 @@ fn changes_asked(
     rows: &UnitRows,
     scope: Scope<'_>,
 ) -> Result<List<ChangeEntry>, Fault>
-    ensures value { IsInOrder nat_cmp change_number rows.now.changes → IfOk result (λ asked. asked ≡ filter (λ r. (selection_by rows.now scope.entry).change r.number) rows.now.changes) }
+    ensures value { ChangesRise rows.now.changes → Gives result (changes_by rows.now scope.entry) }
     ensures memory { IfErr result (λ e. e ≡ Memory) }
 {
     let numbers = numbers_asked(alloc, rows.records.as_slice(), scope)?;
@@ -199,7 +197,7 @@ fn rows_asked(
     person: &Person,
     scope: Scope<'_>,
 ) -> Result<UnitRows, Fault>
-    ensures value { AreInOrder rows.now → IfOk result (λ asked. asked ≡ rows_selected person.now (selection_by rows.now scope.entry) rows.now) }
+    ensures value { AreInOrder rows.now → Gives result (rows_by person.now rows.now scope.entry) }
     ensures memory { IfErr result (λ e. e ≡ Memory) }
 {
     Ok(UnitRows {
@@ -224,7 +222,7 @@ fn is_crowded_by(rows: &UnitRows, request: &Request) -> bool
 
 /// The change that the request approves, if it is there.
 fn approved_by<'a>(rows: &'a UnitRows, request: &Request) -> Option<&'a ChangeEntry>
-    ensures { AreInOrder rows.now → (n : ℕ) → number_approved_by request.now ≡ Some n → change_found rows.now n ≡ option_copied result }
+    ensures { AreInOrder rows.now → IsApprovedBy rows.now request.now (option_copied result) }
 {
     match number_approved(request) {
         Some(number) => change_at(rows.changes.as_slice(), number),
@@ -267,7 +265,7 @@ fn count_asked(rows: &UnitRows, call: &Call) -> u64
 
 /// The part of a caller who holds a role.
 fn part_of_holder(alloc: Global, rows: &UnitRows, call: &Call) -> Result<UnitPart, Fault>
-    ensures value { AreInOrder rows.now → IfOk result (λ part. part ≡ holders_part call.now rows.now) }
+    ensures value { AreInOrder rows.now → Gives result (holders_part call.now rows.now) }
     ensures memory { IfErr result (λ e. e ≡ Memory) }
 {
     Ok(UnitPart {
@@ -282,7 +280,7 @@ fn own_grants(
     grants: &List<GrantRow>,
     person: &Person,
 ) -> Result<List<GrantRow>, Fault>
-    ensures value { IfOk result (λ own. own ≡ filter (λ g. same_name person.now g.person) grants.now) }
+    ensures value { Gives result (filter (λ g. same_name person.now g.person) grants.now) }
     ensures memory { IfErr result (λ e. e ≡ Memory) }
 {
     let mut own = List::new(alloc);
@@ -318,7 +316,7 @@ pub fn part_of_grants(alloc: Global, units: List<UnitRow>, grants: List<GrantRow
 /// The part of a unit's rows that the call looks at: of a caller who holds no role the unit's own row and the
 /// caller's grants alone.
 pub fn part_of(alloc: Global, rows: &UnitRows, call: &Call) -> Result<UnitPart, Fault>
-    ensures value { AreInOrder rows.now → IfOk result (λ part. part ≡ the_part call.now rows.now) }
+    ensures value { AreInOrder rows.now → Gives result (the_part call.now rows.now) }
     ensures memory { IfErr result (λ e. e ≡ Memory) }
 {
     if holds_some_by(rows.grants.as_slice(), &call.person, call.moment) {

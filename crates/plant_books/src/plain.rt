@@ -2,13 +2,13 @@ ghost use Rattle.std.specs.Prelude.{◌≡◌, ⊤};
 ghost use Rattle.plant_books.specs.Contents.{no_units};
 ghost use Rattle.plant_books.specs.Listed.{IsListed};
 
-use crate::books::{Books, MineShelf, MineUnit};
+use crate::books::{Books, MineRow, MineUnit};
 use crate::opened::{
     OpenedUnit, change_unit, codes_held, copy_but_events, copy_of, events_of, is_opened, part_at,
     shelves_held, units_held,
 };
 use plant_alarm::Event;
-use plant_model::{Call, RowEdit, UnitPart, UnitRows};
+use plant_model::{Call, Changes, UnitPart, UnitRows};
 use plant_types::{Fault, List, Moment, Person, UnitCode};
 use std::alloc::Global;
 
@@ -76,11 +76,11 @@ impl Books for Plain {
         units_held(self.alloc, &self.units, person, now)
     }
 
-    fn mine_shelves(&mut self, person: &Person, now: Moment) -> Result<List<MineShelf>, Fault> {
+    fn mine_shelves(&mut self, person: &Person, now: Moment) -> Result<List<MineRow>, Fault> {
         shelves_held(self.alloc, &self.units, person, now)
     }
 
-    fn apply(&mut self, unit: &UnitCode, changes: &List<RowEdit>) -> Result<(), Fault> {
+    fn apply(&mut self, unit: &UnitCode, changes: &Changes) -> Result<(), Fault> {
         change_unit(self.alloc, &mut self.units, unit, changes)
     }
 }

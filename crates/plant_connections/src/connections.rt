@@ -1,11 +1,10 @@
 ghost use Rattle.std.specs.Prelude.{◌≡◌, ◌+◌, ℕ, List, length, take, IfOk, OnOk, OnErr};
 ghost use Rattle.std.specs.Io.KnownBytes.{Appends};
-ghost use Rattle.plant_wire.specs.Ran.{Ran};
 ghost use Rattle.plant_wire.specs.declared.reads.End.{End};
 ghost use Rattle.plant_model.specs.declared.call.Call.{Call};
 ghost use Rattle.plant_model.specs.declared.reply.Answer.{Answer};
 ghost use Rattle.plant_connections.specs.Connections as spec;
-ghost use Rattle.plant_connections.specs.Connections.{GoesThrough, IsConnection, StopsAfter, Tells};
+ghost use Rattle.plant_connections.specs.Connections.{GoesThrough, IsConnection, RanFrom, StopsAfter, Tells};
 
 use crate::texts::{end_name, say};
 use itoa::Buffer;
@@ -42,7 +41,7 @@ fn serve_next<L: Listener, B: Books>(
     listener: &mut L,
     office: &mut Office<B>,
 ) -> Result<End, Failed>
-    ensures does { IfOk result (IsConnection (Ran (B.represents office.old.books) (B.is_honest office.new.books) (B.represents office.new.books) (B.stores office.old.books) (B.stores office.new.books))) }
+    ensures does { IfOk result (IsConnection (RanFrom B.Books office.old.books office.new.books)) }
     ensures honest { OnOk result (B.is_honest office.new.books → B.is_honest office.old.books) }
     ensures counted { OnOk result (L.accepted listener.new ≡ L.accepted listener.old + 1) }
     ensures ok { OnOk result (L.failures listener.new ≡ L.failures listener.old) }
@@ -69,7 +68,8 @@ fn line_of(alloc: Global, count: u64, end: End) -> Result<Vec<u8>, AllocError>
 
 /// Says how a connection ended. What can't be written is passed over.
 fn say_end<W: Write>(alloc: Global, log: &mut W, count: u64, end: End)
-    ensures { (n : ℕ) × Appends (W.contents log.old) (W.contents log.new) (take n (spec.line_of count end)) }
+    ensures { (n : ℕ)
+        × Appends (W.contents log.old) (W.contents log.new) (take n (spec.line_of count end)) }
 {
     if let Ok(line) = line_of(alloc, count, end) {
         say(log, &line);
@@ -85,11 +85,13 @@ pub fn serve_connections<L: Listener, B: Books, W: Write>(
     office: &mut Office<B>,
     log: &mut W,
 ) -> Result<(), Failed>
-    ensures served { (ends : List End) × GoesThrough B.represents B.is_honest B.stores office.old.books ends office.new.books
+    ensures served { (ends : List End)
+        × GoesThrough B.represents B.is_honest B.stores office.old.books ends office.new.books
         × Tells (W.contents log.old) ends (W.contents log.new)
         × (L.accepted listener.new ≡ L.accepted listener.old + length ends)
         × StopsAfter n (L.failures listener.old) (L.failures listener.new) (length ends) result }
-    ensures ran { (calls : List Call) × (answers : List Answer) × Ran (B.represents office.old.books) (B.is_honest office.new.books) (B.represents office.new.books) (B.stores office.old.books) (B.stores office.new.books) calls answers }
+    ensures ran { (calls : List Call) × (answers : List Answer)
+        × RanFrom B.Books office.old.books office.new.books calls answers }
     ensures honest { B.is_honest office.new.books → B.is_honest office.old.books }
 {
     'connections: for count in 0..n {

@@ -12,9 +12,9 @@ use Rattle.plant_books.proofs.public.EventLaws.{changed_without, part_without, s
 use Rattle.plant_books.proofs.public.OrderLaws.{changed_in_order}
 use Rattle.plant_books.specs.Asking.{looks_at_events}
 use Rattle.plant_books.specs.Changing.{puts_event}
-use Rattle.plant_books.specs.Contents.{Content, after_changes, is_held_by, is_held_in, mine_shelf, rows_in, shelves_mine, without_events}
+use Rattle.plant_books.specs.Contents.{Content, after_changes, is_held_by, is_held_in, mine_row, rows_in, shelves_mine, without_events}
 use Rattle.plant_books.specs.Order.{AreInOrder}
-use Rattle.plant_books.specs.declared.books.MineShelf.{MineShelf}
+use Rattle.plant_books.specs.declared.books.MineRow.{MineRow}
 use Rattle.plant_mirror.specs.Copies.{AreCopies, Copy, IsCopy, There, row_count, rows_of_all, seen, shelves_there}
 use Rattle.plant_mirror.specs.declared.at_hand.AtHand.{AtHand}
 use Rattle.plant_model.proofs.public.WorldLaws.{same_of}
@@ -179,10 +179,10 @@ seen_with_events b (Some r) rows e =
     let same : seen b r ≡ rows = cc e in
     ap (λ x. Some x) (sym (events_again b r)) ∙ ap (λ (x : UnitRows). Some (record x { events = r.events })) same
 
-pub shelves_seen : (u : Name) (b : Bool) (o : Option UnitRows) (rows : UnitRows) → option_map (seen b) o ≡ Some rows → shelves_there u o ≡ map (mine_shelf u rows) rows.shelves
+pub shelves_seen : (u : Name) (b : Bool) (o : Option UnitRows) (rows : UnitRows) → option_map (seen b) o ≡ Some rows → shelves_there u o ≡ map (mine_row u rows) rows.shelves
 shelves_seen u b None rows e = absurd (cc e)
-shelves_seen u true (Some r) rows e = let same : r ≡ rows = cc e in ap (λ (x : UnitRows). map (mine_shelf u x) x.shelves) same
-shelves_seen u false (Some r) rows e = let same : without_events r ≡ rows = cc e in ap (λ (x : UnitRows). map (mine_shelf u x) x.shelves) same
+shelves_seen u true (Some r) rows e = let same : r ≡ rows = cc e in ap (λ (x : UnitRows). map (mine_row u x) x.shelves) same
+shelves_seen u false (Some r) rows e = let same : without_events r ≡ rows = cc e in ap (λ (x : UnitRows). map (mine_row u x) x.shelves) same
 
 -- the part of a call, where it is that of the rows which there are
 pub part_there : (c : Call) (b : Bool) (o : Option UnitRows) (rows : UnitRows) → option_map (seen b) o ≡ Some rows → ((r : UnitRows) → seen b r ≡ rows → part_of c rows ≡ part_of c r) → Some (part_of c rows) ≡ option_map (part_of c) o
@@ -236,10 +236,10 @@ none_left [] (suc i) h = refl
 none_left (u ∷ us) zero h = absurd (omega (arith, h))
 none_left (u ∷ us) (suc i) h = none_left us i (omega (arith, h))
 
-pub all_told : (f : Name → List MineShelf) (mine all : List MineShelf) (us : List Name) (i : ℕ) → length us ≤ i → mine ++ flat_map f (drop i us) ≡ all → mine ≡ all
+pub all_told : (f : Name → List MineRow) (mine all : List MineRow) (us : List Name) (i : ℕ) → length us ≤ i → mine ++ flat_map f (drop i us) ≡ all → mine ≡ all
 all_told f mine all us i h honest = sym (append-nil mine) ∙ ap (λ xs. mine ++ flat_map f xs) (sym (none_left us i h)) ∙ honest
 
-pub more_told : (f : Name → List MineShelf) (mine more all : List MineShelf) (us : List Name) (i : ℕ) (u : Name) → drop i us ≡ u ∷ drop (i + 1) us → f u ≡ more → mine ++ flat_map f (drop i us) ≡ all → (mine ++ more) ++ flat_map f (drop (i + 1) us) ≡ all
+pub more_told : (f : Name → List MineRow) (mine more all : List MineRow) (us : List Name) (i : ℕ) (u : Name) → drop i us ≡ u ∷ drop (i + 1) us → f u ≡ more → mine ++ flat_map f (drop i us) ≡ all → (mine ++ more) ++ flat_map f (drop (i + 1) us) ≡ all
 more_told f mine more all us i u e is honest =
     append_assoc mine more (flat_map f (drop (i + 1) us))
     ∙ ap (λ xs. mine ++ (xs ++ flat_map f (drop (i + 1) us))) (sym is)
@@ -251,19 +251,19 @@ pub held_shelves : (there : There) (t : ℕ) (p : Name) (us : List Name) → fla
 held_shelves there t p [] = refl
 held_shelves there t p (u ∷ us) = by (there u) refl (held_shelves there t p us)
   where
-    seen : List Name → List MineShelf
+    seen : List Name → List MineRow
     seen vs = flat_map (λ v. shelves_there v (there v)) vs
 
     rest : List Name
     rest = filter_map (λ v. when (is_held_in t p (there v)) v) us
 
-    mine : List MineShelf
+    mine : List MineRow
     mine = flat_map (λ v. shelves_mine t p v (there v)) us
 
     by : (o : Option UnitRows) → there u ≡ o → seen rest ≡ mine → seen (cons_option (when (is_held_in t p o) u) rest) ≡ shelves_mine t p u o ++ mine
     by None e same = same
     by (Some rows) e same =
-        elim (list_any (is_held_by t p) rows.grants) as (λ b. seen (cons_option (when b u) rest) ≡ cond b (map (mine_shelf u rows) rows.shelves) [] ++ mine) [
+        elim (list_any (is_held_by t p) rows.grants) as (λ b. seen (cons_option (when b u) rest) ≡ cond b (map (mine_row u rows) rows.shelves) [] ++ mine) [
           | true ↦ λ i. shelves_there u (e i) ++ same i
           | false ↦ same
         ]

@@ -1,9 +1,9 @@
 -- Copies of units' rows, beside the books that keep them.
 use Rattle.std.specs.FinMap.{get}
 use Rattle.std.specs.Prelude.{Bool, List, None, Option, Some, [], false, length, map, option_map, true, ℕ, ◌+◌, ◌∷◌, ◌≡◌}
-use Rattle.plant_books.specs.Contents.{Content, mine_shelf, without_events}
+use Rattle.plant_books.specs.Contents.{Content, mine_row, without_events}
 use Rattle.plant_books.specs.Order.{AreInOrder}
-use Rattle.plant_books.specs.declared.books.MineShelf.{MineShelf}
+use Rattle.plant_books.specs.declared.books.MineRow.{MineRow}
 use Rattle.plant_mirror.specs.declared.at_hand.AtHand.{AtHand}
 use Rattle.plant_model.specs.declared.rows.UnitRows.{UnitRows}
 use Rattle.plant_types.specs.Names.{Name, same_name}
@@ -58,6 +58,6 @@ pub record IsMirrored (below : Content → Type 0) (is_honest : Type 0) (copies 
   pub copied : is_honest → AreCopies (get m.units) copies
 
 -- the shelves of a unit, each with the moment at which its alarm last returned to normal
-abbrev pub shelves_there : Name → Option UnitRows → List MineShelf
+abbrev pub shelves_there : Name → Option UnitRows → List MineRow
 shelves_there u None = []
-shelves_there u (Some rows) = map (mine_shelf u rows) rows.shelves
+shelves_there u (Some rows) = map (mine_row u rows) rows.shelves

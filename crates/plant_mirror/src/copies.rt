@@ -7,7 +7,7 @@ ghost use Rattle.plant_types.specs.declared.fault.Fault.TheVariants.{Memory};
 
 use crate::at_hand::AtHand;
 use lru::LruCache;
-use plant_books::{MineShelf, push_shelves};
+use plant_books::{MineRow, push_shelves};
 use plant_model::UnitRows;
 use plant_types::{Fault, List, UnitCode};
 use std::alloc::Global;
@@ -65,7 +65,7 @@ impl Copies {
         &self,
         alloc: Global,
         units: &[UnitCode],
-    ) -> Result<Option<List<MineShelf>>, Fault>
+    ) -> Result<Option<List<MineRow>>, Fault>
         ensures found { (there : There) → AreCopies there self.now.units.entries
             → IfOk result (λ found. IfSome found (λ mine. mine
             ≡ flat_map (λ u. copies.shelves_there u (there u)) units.now)) }

@@ -11,9 +11,9 @@ use crate::at_hand::AtHand;
 use crate::copies::Copies;
 use plant_alarm::Event;
 use plant_books::{
-    Books, MineShelf, MineUnit, are_in_order, looks_at_events, part_of, rows_but_events,
+    Books, MineRow, MineUnit, are_in_order, looks_at_events, part_of, rows_but_events,
 };
-use plant_model::{Call, RowEdit, UnitPart, UnitRows};
+use plant_model::{Call, Changes, UnitPart, UnitRows};
 use plant_types::{Duplicate, Fault, List, Moment, Person, UnitCode};
 use std::alloc::Global;
 
@@ -224,7 +224,7 @@ impl<B: Books> Books for Mirror<B> {
         self.books.mine_units(person, now)
     }
 
-    fn mine_shelves(&mut self, person: &Person, now: Moment) -> Result<List<MineShelf>, Fault> {
+    fn mine_shelves(&mut self, person: &Person, now: Moment) -> Result<List<MineRow>, Fault> {
         let units = self.books.held(person, now)?;
         if let Some(shelves) = self.copies.shelves_of(self.alloc, units.as_slice())? {
             return Ok(shelves);
@@ -232,7 +232,7 @@ impl<B: Books> Books for Mirror<B> {
         self.books.mine_shelves(person, now)
     }
 
-    fn apply(&mut self, unit: &UnitCode, changes: &List<RowEdit>) -> Result<(), Fault> {
+    fn apply(&mut self, unit: &UnitCode, changes: &Changes) -> Result<(), Fault> {
         if let Err(fault) = self.books.apply(unit, changes) {
             // Books that have shut are to be asked, and to say so.
             self.copies.clear();

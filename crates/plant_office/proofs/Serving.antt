@@ -6,7 +6,7 @@ use Rattle.std.specs.FinMap.Entries.{find as found}
 use Rattle.std.specs.FinMap.{contains_key, get, get-insert, keys}
 use Rattle.std.specs.List.{cons_option, flat_map}
 use Rattle.std.specs.Prelude.{Bool, Err, IfOk, IsErrAnd, List, None, Ok, OnErr, Option, Result, Some, [], cond, false, filter_map, fold, if◌then◌else◌, is_ok, is_some, map, max, nat_lt, not, option_and_then, option_map, true, unwrap_or, ℕ, ◌<◌, ◌∷◌, ◌≡◌, ◌≤◌}
-use Rattle.plant_books.specs.declared.books.MineShelf.{MineShelf}
+use Rattle.plant_books.specs.declared.books.MineRow.{MineRow}
 use Rattle.plant_books.specs.declared.books.MineUnit.{MineUnit}
 use Rattle.plant_model.specs.declared.call.Call.{Call}
 use Rattle.plant_model.specs.declared.call.Request.TheVariants.{MyShelves, MyUnits, OpenUnit}
@@ -27,7 +27,7 @@ use Rattle.plant_model.specs.declared.rows.Verdict.TheVariants.{Accepted as IsAc
 use Rattle.plant_model.specs.declared.rows.Verdict.{Verdict}
 use Rattle.plant_types.specs.declared.fault.Fault.{Fault}
 use Rattle.plant_alarm.specs.Shelves.{shelf_state}
-use Rattle.plant_books.specs.Contents.{Content, IsKnownTo, after_changes, last_return, mine_shelf, mine_shelves, mine_unit, mine_units, part_in, rows_in, shelves_mine, with_rows}
+use Rattle.plant_books.specs.Contents.{Content, IsKnownTo, after_changes, last_return, mine_row, mine_shelves, mine_unit, mine_units, part_in, rows_in, shelves_mine, with_rows}
 use Rattle.plant_books.specs.Counting.{Counts, CountsFault}
 use Rattle.plant_books.specs.declared.books.Books.{Ghosts}
 use Rattle.plant_model.proofs.public.Base.{lt}
@@ -300,10 +300,10 @@ returned_in : (h : List Call) (a : Name) → last_return (alarm_rows h) a ≡ re
 returned_in h a = ap (option_and_then (λ (r : AlarmRow). r.return_s)) (alarm_in h a)
 
 -- the shelves of a unit that is seen
-abbrev shelves_of : Name × List Call → List MineShelf
-shelves_of e = map (mine_shelf e.0 (rows_of e.1)) (shelf_rows e.1)
+abbrev shelves_of : Name × List Call → List MineRow
+shelves_of e = map (mine_row e.0 (rows_of e.1)) (shelf_rows e.1)
 
-abbrev seen_shelves : Option (Name × List Call) → List MineShelf
+abbrev seen_shelves : Option (Name × List Call) → List MineRow
 seen_shelves None = []
 seen_shelves (Some e) = shelves_of e
 
@@ -331,7 +331,7 @@ filter_map-of_map f g (x ∷ xs) = ap (cons_option (f (g x))) (filter_map-of_map
 -- the lines of one unit's shelves
 unit_shelf_lines : (t : ℕ) (u : Name) (h : List Call) → filter_map (line_of_shelf t) (shelves_of (u, h)) ≡ map (mine_line u) (shelf_lines (facts h) t)
 unit_shelf_lines t u h =
-    filter_map-of_map (line_of_shelf t) (mine_shelf u (rows_of h)) (shelf_rows h)
+    filter_map-of_map (line_of_shelf t) (mine_row u (rows_of h)) (shelf_rows h)
     ∙ (λ i. filter_map (λ s. option_map (mine_line u) (line_of s (shelf_state (shelf_left (Some s)) (returned_in h s.tag i) t))) (shelf_rows h))
     ∙ filter_map-mapped (mine_line u) (λ s. line_of s (shelf_state (shelf_left (Some s)) (returned (facts h) s.tag) t)) (shelf_rows h)
 
@@ -341,7 +341,7 @@ all_shelf_lines t (e ∷ us) =
     filter_map-append (line_of_shelf t) (shelves_of e) (flat_map shelves_of us)
     ∙ (λ i. unit_shelf_lines t e.0 e.1 i ++ all_shelf_lines t us i)
 
-pub told_shelves : (b : Content) (w : World) (c : Call) (units : List MineUnit) (last : ℕ) (shelves : List MineShelf) (lines : List MineLine) (person : Name) → Holds b w → c.request ≡ MyShelves → units ≡ mine_units b c.moment c.person → last ≡ fold max c.moment (map (λ (u : MineUnit). u.last) units) → shelves ≡ mine_shelves b c.moment c.person → lines ≡ filter_map (line_of_shelf c.moment) shelves → last ≤ c.moment → person ≡ c.person → IsAnswered w c (Ok (Mine person c.moment lines)) (λ m. m ≡ b)
+pub told_shelves : (b : Content) (w : World) (c : Call) (units : List MineUnit) (last : ℕ) (shelves : List MineRow) (lines : List MineLine) (person : Name) → Holds b w → c.request ≡ MyShelves → units ≡ mine_units b c.moment c.person → last ≡ fold max c.moment (map (λ (u : MineUnit). u.last) units) → shelves ≡ mine_shelves b c.moment c.person → lines ≡ filter_map (line_of_shelf c.moment) shelves → last ≤ c.moment → person ≡ c.person → IsAnswered w c (Ok (Mine person c.moment lines)) (λ m. m ≡ b)
 told_shelves b w c units last shelves lines person h asked is e found l le copied =
     let us = units_held w c.moment c.person in
     let same : lines ≡ mine_lines c.moment us = l ∙ ap (filter_map (line_of_shelf c.moment)) (found ∙ shelves_told b w c.moment c.person h) ∙ all_shelf_lines c.moment us in

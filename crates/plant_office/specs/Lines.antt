@@ -1,6 +1,6 @@
 -- The lines of a person's units and shelves.
 use Rattle.std.specs.Prelude.{Option, Some, option_map, ℕ}
-use Rattle.plant_books.specs.declared.books.MineShelf.{MineShelf}
+use Rattle.plant_books.specs.declared.books.MineRow.{MineRow}
 use Rattle.plant_books.specs.declared.books.MineUnit.{MineUnit}
 use Rattle.plant_model.specs.declared.reply.MineLine.{MineLine}
 use Rattle.plant_model.specs.declared.reply.UnitLine.{UnitLine}
@@ -13,5 +13,5 @@ abbrev pub line_of_mine : MineUnit → UnitLine
 line_of_mine u = record { unit = u.unit; roles = u.roles }
 
 -- the line of a shelf that is not over at the moment
-abbrev pub line_of_shelf : ℕ → MineShelf → Option MineLine
+abbrev pub line_of_shelf : ℕ → MineRow → Option MineLine
 line_of_shelf t s = option_map (mine_line s.unit) (line_of s.shelf (shelf_state (shelf_left (Some s.shelf)) s.last_return t))

@@ -13,7 +13,7 @@ ghost use Rattle.plant_office.specs.Served.{Holds, IsIsolated, IsServed};
 ghost use Rattle.plant_office.specs.Serves.{Serves};
 ghost use Rattle.plant_office.specs.Lines.{line_of_mine, line_of_shelf};
 
-use plant_books::{Books, MineShelf, MineUnit};
+use plant_books::{Books, MineRow, MineUnit};
 use plant_model::{Answer, Call, MineLine, Refused, Reply, Request, UnitLine, Verdict};
 use plant_ration::ChangeKind;
 use plant_types::{Fault, List, Moment, UnitCode};
@@ -251,7 +251,7 @@ fn latest(now: Moment, units: &[MineUnit]) -> Moment
 }
 
 /// The line of a shelf with its unit; none where its time has passed.
-fn mine_line(alloc: Global, mine: &MineShelf, now: Moment) -> Result<Option<MineLine>, Fault>
+fn mine_line(alloc: Global, mine: &MineRow, now: Moment) -> Result<Option<MineLine>, Fault>
     ensures value { IfOk result (λ line. line ≡ line_of_shelf now mine.now) }
     ensures err { IfErr result (λ e. e ≡ Memory) }
 {
@@ -265,7 +265,7 @@ fn mine_line(alloc: Global, mine: &MineShelf, now: Moment) -> Result<Option<Mine
 }
 
 /// The lines of the shelves that hold at the moment.
-fn shelf_lines(alloc: Global, shelves: &[MineShelf], now: Moment) -> Result<List<MineLine>, Fault>
+fn shelf_lines(alloc: Global, shelves: &[MineRow], now: Moment) -> Result<List<MineLine>, Fault>
     ensures value { IfOk result (λ lines. lines ≡ filter_map (line_of_shelf now) shelves.now) }
     ensures err { IfErr result (λ e. e ≡ Memory) }
 {

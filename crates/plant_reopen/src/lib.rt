@@ -20,7 +20,8 @@ fn reopen_files<D: Disk + Drop>(
 ) -> Option<Connection<FileStore<D>>>
     requires { conn.in_transaction ≡ false }
     ensures mode { IfSome result (λ again. again.in_transaction ≡ false) }
-    ensures kept { (m : Content) → Keeps (file_state conn) m → IfSome result (λ again. Keeps (file_state again) m) }
+    ensures kept { (m : Content) → Keeps (file_state conn) m
+        → IfSome result (λ again. Keeps (file_state again) m) }
 {
     let _live = conn.schema();
     let _settled = conn.is_autocommit();
@@ -46,7 +47,9 @@ pub fn reopen<D: Disk + Drop>(
     options: Options,
 ) -> Option<Tables<FileStore<D>>>
     ensures fresh { IfSome result (λ again. (again.0.1 ≡ admin) × (again.1 ≡ 0)) }
-    ensures kept { (m : Content) → tables.0.1 ≡ m.admin → Keeps (file_state tables.0.0) m → m.admin ≡ admin → IfSome result (λ again. (again.0.1 ≡ m.admin) × Keeps (file_state again.0.0) m) }
+    ensures kept { (m : Content) → tables.0.1 ≡ m.admin → Keeps (file_state tables.0.0) m
+        → m.admin ≡ admin
+        → IfSome result (λ again. (again.0.1 ≡ m.admin) × Keeps (file_state again.0.0) m) }
 {
     let conn = reopen_files(alloc, tables.close(), options)?;
     match Tables::open(alloc, conn, admin) {

@@ -1,7 +1,7 @@
 ghost use Rattle.std.specs.Prelude.{◌≡◌, ◌⊎◌, IfErr, IfOk};
 ghost use Rattle.plant_server.specs.Statuses as statuses;
 ghost use Rattle.plant_server.specs.Statuses.{IsFollowed, IsOfMigration, IsOfPort, IsServed, IsStreamed, Whatever};
-ghost use Rattle.plant_wire.specs.Ran.{Ran};
+ghost use Rattle.plant_connections.specs.Connections.{RanFrom};
 
 use crate::books::in_memory;
 use crate::files::{close_file, in_file};
@@ -77,9 +77,11 @@ fn serve_streams<B: Books, I: Inlet, O: Outlet, E: Write>(
     outlet: &mut O,
     errors: &mut E,
 ) -> u8
-    ensures does { IsStreamed (I.remaining inlet.old) (I.remaining inlet.new) (O.written outlet.old) (O.written outlet.new)
-        (Ran (B.represents office.old.books) (B.is_honest office.new.books) (B.represents office.new.books) (B.stores office.old.books) (B.stores office.new.books)) result }
-    ensures streamed { IsStreamed (I.remaining inlet.old) (I.remaining inlet.new) (O.written outlet.old) (O.written outlet.new) Whatever result }
+    ensures does { IsStreamed (I.remaining inlet.old) (I.remaining inlet.new)
+        (O.written outlet.old) (O.written outlet.new)
+        (RanFrom B.Books office.old.books office.new.books) result }
+    ensures streamed { IsStreamed (I.remaining inlet.old) (I.remaining inlet.new)
+        (O.written outlet.old) (O.written outlet.new) Whatever result }
     ensures honest { B.is_honest office.new.books → B.is_honest office.old.books }
 {
     let end = session(alloc, inlet, outlet, office);
@@ -131,7 +133,8 @@ fn serve_office<B: Books, I: Inlet, O: Outlet + Write, E: Write>(
     outlet: &mut O,
     errors: &mut E,
 ) -> u8
-    ensures { IsServed service (I.remaining inlet.old) (I.remaining inlet.new) (O.written outlet.old) (O.written outlet.new) result }
+    ensures { IsServed service (I.remaining inlet.old) (I.remaining inlet.new)
+        (O.written outlet.old) (O.written outlet.new) result }
 {
     match service {
         None => serve_streams(rt.alloc(), office, inlet, outlet, errors),
@@ -149,7 +152,8 @@ fn serve_books<S: Alter + Drop, I: Inlet, O: Outlet + Write, E: Write>(
     outlet: &mut O,
     errors: &mut E,
 ) -> (u8, Tables<S>)
-    ensures { IsServed service (I.remaining inlet.old) (I.remaining inlet.new) (O.written outlet.old) (O.written outlet.new) result.0 }
+    ensures { IsServed service (I.remaining inlet.old) (I.remaining inlet.new)
+        (O.written outlet.old) (O.written outlet.new) result.0 }
 {
     let alloc = rt.alloc();
     match Copies::new(alloc, MAX_ROWS_AT_HAND) {
@@ -176,7 +180,9 @@ fn serve_opened<S: Alter + Drop, I: Inlet, O: Outlet + Write, E: Write>(
     outlet: &mut O,
     errors: &mut E,
 ) -> (u8, Option<Tables<S>>)
-    ensures served { IfOk opened (λ _. IsServed service (I.remaining inlet.old) (I.remaining inlet.new) (O.written outlet.old) (O.written outlet.new) result.0) }
+    ensures served { IfOk opened (λ _. IsServed service
+        (I.remaining inlet.old) (I.remaining inlet.new)
+        (O.written outlet.old) (O.written outlet.new) result.0) }
     ensures unready { IfErr opened (λ _. result.0 ≡ statuses.unready) }
 {
     match opened {
@@ -198,7 +204,9 @@ fn serve<I: Inlet, O: Outlet + Write, E: Write>(
     outlet: &mut O,
     errors: &mut E,
 ) -> u8
-    ensures { (result ≡ statuses.unready) ⊎ IsServed service (I.remaining inlet.old) (I.remaining inlet.new) (O.written outlet.old) (O.written outlet.new) result }
+    ensures { (result ≡ statuses.unready)
+        ⊎ IsServed service (I.remaining inlet.old) (I.remaining inlet.new)
+        (O.written outlet.old) (O.written outlet.new) result }
 {
     match db {
         None => {
@@ -256,7 +264,8 @@ fn run<I: Inlet, O: Outlet + Write, E: Write>(
     outlet: &mut O,
     errors: &mut E,
 ) -> u8
-    ensures { IsFollowed line.task (I.remaining inlet.old) (I.remaining inlet.new) (O.written outlet.old) (O.written outlet.new) result }
+    ensures { IsFollowed line.task (I.remaining inlet.old) (I.remaining inlet.new)
+        (O.written outlet.old) (O.written outlet.new) result }
 {
     let Line { admin, task } = line;
     match task {

@@ -45,9 +45,12 @@ pub fn connect<S: Start>(
 ) -> Result<Connection<FileStore<FileFrom<S>>>, StoreFault>
     ensures mode { IfOk result (λ conn. conn.in_transaction ≡ false) }
     ensures opened { IfOk result (λ conn. HasCleanDisk (file_state conn) → IsOpened conn) }
-    ensures found { IfOk result (λ conn. HasCleanDisk (file_state conn) → FindsIn (image_at S.Start) (file_state conn)) }
-    ensures sums { IfOk result (λ conn. HasCleanDisk (file_state conn) → IsBlankAs true (image_at S.Start) → (view conn.store).has_sums ≡ true) }
-    ensures refused { IfErr result (λ e. (error : EngineError) × IsTrue (is_open_error error) × (e ≡ files.fault_of error)) }
+    ensures found { IfOk result (λ conn. HasCleanDisk (file_state conn)
+        → FindsIn (image_at S.Start) (file_state conn)) }
+    ensures sums { IfOk result (λ conn. HasCleanDisk (file_state conn)
+        → IsBlankAs true (image_at S.Start) → (view conn.store).has_sums ≡ true) }
+    ensures refused { IfErr result (λ e. (error : EngineError)
+        × IsTrue (is_open_error error) × (e ≡ files.fault_of error)) }
 {
     match Connection::open_from(rt, path, true, start) {
         Ok(conn) => Ok(conn),
@@ -64,7 +67,8 @@ fn open_file<S: Start>(
     start: S,
 ) -> Result<Tables<FileStore<FileFrom<S>>>, StoreFault>
     ensures own { IfOk result (λ books. (books.0.1 ≡ admin) × (books.1 ≡ 0)) }
-    ensures kept { (m : Content) → HoldBooks (image_at S.Start) m → IfOk result (λ books. Keeps (file_state books.0.0) m) }
+    ensures kept { (m : Content) → HoldBooks (image_at S.Start) m
+        → IfOk result (λ books. Keeps (file_state books.0.0) m) }
     ensures office { (db : Database) → HoldDatabase (image_at S.Start) db
         → IfOk result (λ books. IsHonest (file_state books.0.0) → IsThisOffice admin db) }
 {
@@ -161,7 +165,8 @@ pub fn in_file<S: Start>(
     start: S,
 ) -> Result<Tables<FileStore<FileFrom<S>>>, StoreFault>
     ensures own { IfOk result (λ books. (books.0.1 ≡ admin) × (books.1 ≡ 0)) }
-    ensures kept { (m : Content) → HoldBooks (image_at S.Start) m → IfOk result (λ books. Keeps (file_state books.0.0) m) }
+    ensures kept { (m : Content) → HoldBooks (image_at S.Start) m
+        → IfOk result (λ books. Keeps (file_state books.0.0) m) }
     ensures office { (db : Database) → HoldDatabase (image_at S.Start) db
         → IfOk result (λ books. IsHonest (file_state books.0.0) → IsThisOffice admin db) }
 {

@@ -3,9 +3,9 @@
 ghost use Rattle.std.specs.Prelude.{◌≡◌};
 
 use plant_alarm::Event;
-use plant_books::{Books, MineShelf, MineUnit, Plain};
+use plant_books::{Books, MineRow, MineUnit, Plain};
 use plant_examples::{BASE, Exchanges, LOOKED_AT, SHELVED};
-use plant_model::{Call, RowEdit, UnitPart, UnitRows};
+use plant_model::{Call, Changes, UnitPart, UnitRows};
 use plant_trials::{after, lists, mirrored};
 use plant_types::limits::MAX_ROWS_AT_HAND;
 use plant_types::{Fault, List, Moment, Person, UnitCode};
@@ -153,12 +153,12 @@ impl<B: Books> Books for Counting<B> {
         self.books.mine_units(person, now)
     }
 
-    fn mine_shelves(&mut self, person: &Person, now: Moment) -> Result<List<MineShelf>, Fault> {
+    fn mine_shelves(&mut self, person: &Person, now: Moment) -> Result<List<MineRow>, Fault> {
         self.count_asked();
         self.books.mine_shelves(person, now)
     }
 
-    fn apply(&mut self, unit: &UnitCode, changes: &List<RowEdit>) -> Result<(), Fault> {
+    fn apply(&mut self, unit: &UnitCode, changes: &Changes) -> Result<(), Fault> {
         self.count_change();
         self.books.apply(unit, changes)
     }

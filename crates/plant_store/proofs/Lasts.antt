@@ -101,7 +101,7 @@ listed : {X Y : Type 0} (f : X → Y) (o : Option X) → map f (option_to_list o
 listed f None = refl
 listed f (Some x) = refl
 
--- what is shown of the last is told of the last
+-- if all rows are shown alike, so are the last ones
 last_shown : {X Y Z : Type 0} (show : X → Z) (drawn : Y → Z) (rows : List X) (ys : List Y) → map show rows ≡ map drawn ys → map show (option_to_list (slice_get (reverse rows) 0)) ≡ map drawn (option_to_list (slice_get (reverse ys) 0))
 last_shown show drawn rows ys same =
     listed show _ ∙ ap option_to_list (sym (first_of_map show (reverse rows)) ∙ ap (λ l. slice_get l 0) (sym (reverse_map show rows) ∙ ap reverse same ∙ reverse_map drawn ys) ∙ first_of_map drawn (reverse ys)) ∙ sym (listed drawn _)

@@ -7,8 +7,8 @@ use Rattle.std.specs.List.{AllByRecursion, flat_map, list_any, slice_get}
 use Rattle.std.specs.Prelude.{option_and_then, unwrap_or, ◌-◌}
 use Rattle.sqlite_keyed.proofs.ListLemmas.{filter-map}
 use Rattle.sqlite_trees.specs.Tree.{IsAscending}
-use Rattle.plant_books.specs.declared.books.MineShelf.{MineShelf}
-use Rattle.plant_books.specs.Contents.{Content, is_held_by, is_held_in, last_return, mine_shelf, mine_shelves, rows_in, shelves_mine}
+use Rattle.plant_books.specs.declared.books.MineRow.{MineRow}
+use Rattle.plant_books.specs.Contents.{Content, is_held_by, is_held_in, last_return, mine_row, mine_shelves, rows_in, shelves_mine}
 use Rattle.plant_model.specs.Grants.{is_before}
 use Rattle.plant_model.specs.RowChanges.{no_rows}
 use Rattle.plant_model.specs.RowFacts.{alarm_tag}
@@ -63,7 +63,7 @@ pub own_return : (a : Name) (rows : List AlarmRow) → last_return (filter (λ r
 own_return a rows = ap (λ o. option_and_then (λ (r : AlarmRow). r.return_s) o) (own_row a rows)
 
 -- one shelf more
-pub returned_more : (m : Content) (shelves : List UnitShelf) (i : ℕ) (s : UnitShelf) → take (i + 1) shelves ≡ take i shelves ++ s ∷ [] → (before : List MineShelf) → before ≡ map (with_return m) (take i shelves)
+pub returned_more : (m : Content) (shelves : List UnitShelf) (i : ℕ) (s : UnitShelf) → take (i + 1) shelves ≡ take i shelves ++ s ∷ [] → (before : List MineRow) → before ≡ map (with_return m) (take i shelves)
     → before ++ with_return m s ∷ [] ≡ map (with_return m) (take (i + 1) shelves)
 returned_more m shelves i s more before is =
     ap (λ l. l ++ with_return m s ∷ []) is ∙ sym (map-append (with_return m) (take i shelves) (s ∷ [])) ∙ ap (map (with_return m)) (sym more)
@@ -75,16 +75,16 @@ module _ (m : Content) (t : ℕ) (p : Name) where
 
   -- ---- the shelves of the units held, with their returns
 
-  under_returned : (u : Name) (shelves : List ShelfRow) → map (with_return m) (filter is_shelf_held (map (unit_shelf u) shelves)) ≡ cond (is_held_in t p (get m.units u)) (map (mine_shelf u (rows_in m u)) shelves) []
-  under_returned u [] = elim (is_held_in t p (get m.units u)) as (λ b. ◌≡◌ {A = List MineShelf} [] (cond b [] [])) [ true ↦ refl | false ↦ refl ]
+  under_returned : (u : Name) (shelves : List ShelfRow) → map (with_return m) (filter is_shelf_held (map (unit_shelf u) shelves)) ≡ cond (is_held_in t p (get m.units u)) (map (mine_row u (rows_in m u)) shelves) []
+  under_returned u [] = elim (is_held_in t p (get m.units u)) as (λ b. ◌≡◌ {A = List MineRow} [] (cond b [] [])) [ true ↦ refl | false ↦ refl ]
   under_returned u (s ∷ shelves) = go (is_held_in t p (get m.units u)) (under_returned u shelves)
     where
-      go : (b : Bool) → map (with_return m) (filter is_shelf_held (map (unit_shelf u) shelves)) ≡ cond b (map (mine_shelf u (rows_in m u)) shelves) []
-          → map (with_return m) (cond b (unit_shelf u s ∷ filter is_shelf_held (map (unit_shelf u) shelves)) (filter is_shelf_held (map (unit_shelf u) shelves))) ≡ cond b (map (mine_shelf u (rows_in m u)) (s ∷ shelves)) []
-      go true more = ap (λ l. mine_shelf u (rows_in m u) s ∷ l) more
+      go : (b : Bool) → map (with_return m) (filter is_shelf_held (map (unit_shelf u) shelves)) ≡ cond b (map (mine_row u (rows_in m u)) shelves) []
+          → map (with_return m) (cond b (unit_shelf u s ∷ filter is_shelf_held (map (unit_shelf u) shelves)) (filter is_shelf_held (map (unit_shelf u) shelves))) ≡ cond b (map (mine_row u (rows_in m u)) (s ∷ shelves)) []
+      go true more = ap (λ l. mine_row u (rows_in m u) s ∷ l) more
       go false more = more
 
-  one_unit : (u : Name) (o : Option UnitRows) → cond (is_held_in t p o) (map (mine_shelf u (unwrap_or o no_rows)) (unwrap_or o no_rows).shelves) [] ≡ shelves_mine t p u o
+  one_unit : (u : Name) (o : Option UnitRows) → cond (is_held_in t p o) (map (mine_row u (unwrap_or o no_rows)) (unwrap_or o no_rows).shelves) [] ≡ shelves_mine t p u o
   one_unit u None = refl
   one_unit u (Some rows) = refl
 

@@ -1,4 +1,4 @@
--- A connection keeps a content of the books, as far as it can be told.
+-- What it is for a connection to keep a content of the books.
 use Rattle.sqlite.specs.Effect.{Database}
 use Rattle.sqlite.specs.State.{State}
 use Rattle.std.specs.FinMap.{contains_key}

@@ -14,3 +14,8 @@ pub mod OnlyReads
 pub mod StaysInside
 pub mod Upgrading
 pub mod OldRules
+pub mod Reading
+pub mod Parts
+pub mod Writing
+pub mod Opened
+pub mod TakingOver

@@ -4,7 +4,7 @@ use Rattle.sqlite_value.specs.declared.value.Value.TheVariants.{Text}
 use Rattle.sqlite_value.specs.Order.{Row, bytes, column, value_cmp}
 use Rattle.std.specs.List.{slice_get}
 use Rattle.std.specs.Ordering.{is_eq}
-use Rattle.std.specs.Prelude.{Bool, List, None, Option, Some, [], filter, if◌then◌else◌, map, unwrap_or, ℕ, ◌++◌, ◌∷◌}
+use Rattle.std.specs.Prelude.{Bool, List, None, Option, Some, [], filter, if◌then◌else◌, map, unwrap_or, ℕ, ◌++◌, ◌∷◌, ◌≡◌}
 use Rattle.plant_books.specs.declared.books.MineUnit.{MineUnit}
 use Rattle.plant_model.specs.declared.rows.UnitRow.{UnitRow}
 use Rattle.plant_model.specs.Grants.{is_before}
@@ -58,3 +58,8 @@ runs_of (l ∷ ls) = put_run (started l) (runs_of ls)
 abbrev pub runs_after : Option MineUnit → List Line → List MineUnit
 runs_after None ls = runs_of ls
 runs_after (Some u) ls = put_run u (runs_of ls)
+
+-- a line is taken to the run that is open, or to a new one: whatever lines are left, the runs come out the same
+abbrev pub JoinsLine : List MineUnit → Option MineUnit → Line → List MineUnit → MineUnit → Type 0
+JoinsLine units current line units_after next =
+    (rest : List Line) → units_after ++ runs_after (Some next) rest ≡ units ++ runs_after current (line ∷ rest)

@@ -10,7 +10,7 @@ use Rattle.plant_columns.specs.Codes.{number}
 use Rattle.plant_columns.specs.Tables.{schema_no}
 use Rattle.plant_types.specs.Names.{Name}
 
--- the table of this name, wherever it stands; SQL tells no upper from lower case
+-- the table of this name, wherever it stands; SQL does not distinguish upper and lower case
 abbrev pub office_in : Schema → Option Table
 office_in schema = option_and_then (slice_get schema.tables) (table_named schema (codes "office"))
 

@@ -3,9 +3,9 @@ use Rattle.sqlite_value.specs.declared.value.Value.TheVariants.{Text}
 use Rattle.sqlite_value.specs.Order.{Row}
 use Rattle.std.specs.FinMap.{keys}
 use Rattle.std.specs.List.{flat_map, slice_get}
-use Rattle.std.specs.Prelude.{Bool, List, None, Option, Some, [], false, filter, if◌then◌else◌, length, map, ℕ, ◌&&◌, ◌-◌, ◌∷◌}
-use Rattle.plant_books.specs.Contents.{Content, mine_shelf, rows_in}
-use Rattle.plant_books.specs.declared.books.MineShelf.{MineShelf}
+use Rattle.std.specs.Prelude.{Bool, List, None, Option, Some, [], false, filter, if◌then◌else◌, length, map, ℕ, ◌&&◌, ◌++◌, ◌-◌, ◌∷◌, ◌≡◌}
+use Rattle.plant_books.specs.Contents.{Content, mine_row, rows_in}
+use Rattle.plant_books.specs.declared.books.MineRow.{MineRow}
 use Rattle.plant_columns.specs.Codes.{flag, number, open_number}
 use Rattle.plant_model.specs.declared.rows.GrantRow.{GrantRow}
 use Rattle.plant_model.specs.declared.rows.ShelfRow.{ShelfRow}
@@ -59,6 +59,11 @@ merged_after last (l ∷ ls) = if is_again last (shelf_of l) then merged_after l
 abbrev pub last_of : List UnitShelf → Option UnitShelf
 last_of shelves = slice_get shelves (length shelves - 1)
 
+-- the shelf of a line is listed, once: whatever lines are left, the shelves come out the same
+abbrev pub ListsLine : List UnitShelf → ShelfLine → List UnitShelf → Type 0
+ListsLine listed line listed_after =
+    (rest : List ShelfLine) → listed_after ++ merged_after (last_of listed_after) rest ≡ listed ++ merged_after (last_of listed) (line ∷ rest)
+
 -- a shelf with the return that the row of its tag has
-abbrev pub with_return : Content → UnitShelf → MineShelf
-with_return m s = mine_shelf s.unit (rows_in m s.unit) s.shelf
+abbrev pub with_return : Content → UnitShelf → MineRow
+with_return m s = mine_row s.unit (rows_in m s.unit) s.shelf

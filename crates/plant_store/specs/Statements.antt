@@ -4,12 +4,16 @@ use Rattle.sqlite.specs.Listing.{reads_listing, understood}
 use Rattle.sqlite.specs.Schema.{Schema}
 use Rattle.sqlite.specs.Tree.{Trees}
 use Rattle.sqlite.proofs.Callers.{IsPlain, command_of}
+use Rattle.sqlite_value.specs.declared.value.Value.TheVariants.{Text}
 use Rattle.sqlite_value.specs.Order.{Row as Line}
-use Rattle.std.specs.Prelude.{List, [], false, map, suc, zero, ℕ, ◌∷◌, ◌≡◌}
+use Rattle.std.specs.Prelude.{List, [], false, filter, map, suc, zero, ℕ, ◌∷◌, ◌≡◌}
+use Rattle.plant_columns.specs.Codes as codes
 use Rattle.plant_columns.specs.Shown.{columns}
 use Rattle.plant_columns.specs.Tables.{AreBooks, books_schema}
 use Rattle.plant_model.specs.declared.rows.RowEdit.{RowEdit}
+use Rattle.plant_model.specs.Histories.{same_number}
 use Rattle.plant_store.specs.OldTables.{AreOldBooks, old_books_schema}
+use Rattle.plant_types.specs.Names.{Name, same_name}
 
 -- the text of a query under this schema, whose answers in its databases are decoded to these rows
 pub record ReadsIn (schema : Schema) (AreIts : Database → Type 0) {X : Type 0} (width : ℕ) (cells : X → Line) (rows : Trees → List X) (params : Line) (text : List ℕ) : Type 0 where
@@ -23,6 +27,24 @@ Reads width cells rows params text = ReadsIn books_schema AreBooks width cells r
 
 abbrev pub ReadsOld : {X : Type 0} → ℕ → (X → Line) → (Trees → List X) → Line → List ℕ → Type 0
 ReadsOld width cells rows params text = ReadsIn old_books_schema AreOldBooks width cells rows params text
+
+-- the text reads all rows that a unit has in a table
+abbrev pub ReadsUnit : {X : Type 0} → ℕ → (X → Line) → (Name → Trees → List X) → List ℕ → Type 0
+ReadsUnit width cells seen text = (u : Name) → Reads width cells (seen u) (Text u ∷ []) text
+
+-- the text reads the rows that a unit has of one tag in a table
+abbrev pub ReadsTag : {X : Type 0} → ℕ → (X → Line) → (Name → Trees → List X) → (X → Name) → List ℕ → Type 0
+ReadsTag width cells seen tag_of text =
+    (u tag : Name) → Reads width cells (λ trees. filter (λ r. same_name tag (tag_of r)) (seen u trees)) (Text u ∷ Text tag ∷ []) text
+
+-- the text reads the rows that a unit has of one number in a table
+abbrev pub ReadsNumber : {X : Type 0} → ℕ → (X → Line) → (Name → Trees → List X) → (X → ℕ) → List ℕ → Type 0
+ReadsNumber width cells seen number_of text =
+    (u : Name) (n : ℕ) → Reads width cells (λ trees. filter (λ r. same_number n (number_of r)) (seen u trees)) (Text u ∷ codes.number n ∷ []) text
+
+-- the text reads all rows that a unit has in a table of schema 1
+abbrev pub ReadsOldUnit : {X : Type 0} → ℕ → (X → Line) → (Name → Trees → List X) → List ℕ → Type 0
+ReadsOldUnit width cells had text = (u : Name) → ReadsOld width cells (had u) (Text u ∷ []) text
 
 -- the changes made by a statement that wrote so many rows: none, or this one
 abbrev pub changes_written : ℕ → RowEdit → List RowEdit

@@ -1,12 +1,12 @@
 //! The tables of new books.
 
-ghost use Rattle.std.specs.Prelude.{◌≡◌, false, IsTrue, OnOk, OnErr};
+ghost use Rattle.std.specs.Prelude.{◌≡◌, false, OnOk};
 ghost use Rattle.sqlite.specs.Held.{state};
-ghost use Rattle.sqlite.specs.State.{HasCleanDisk};
 ghost use Rattle.plant_store.specs.Changes.{IsHonest};
 ghost use Rattle.plant_store.specs.Making.{AreEmpty, AreNew};
-ghost use Rattle.plant_columns.specs.Tables.{no_schema, grants_schema, shelves_schema, events_schema, changes_schema, books_schema};
-ghost use Rattle.plant_store.specs.StaysInside.{StaysInside};
+ghost use Rattle.plant_columns.specs.Tables.{no_schema, grants_schema, shelves_schema, events_schema, changes_schema};
+ghost use Rattle.plant_store.specs.Reading.{WasHonest};
+ghost use Rattle.plant_store.specs.Writing.{IsBlank, Makes, SameOnErr, SameReference, StaysOpen};
 
 use crate::write::run;
 use plant_columns::encode::single;
@@ -15,10 +15,9 @@ use sqlite::{Alter, Connection, Error, Transaction};
 
 /// Makes the tables of the office, of units and of grants.
 fn make_grants<S: Alter>(tx: &mut Transaction<'_, S>) -> Result<(), Error>
-    ensures same_reference { tx.new.conn.ghost_name ≡ tx.old.conn.ghost_name }
-    ensures made { HasCleanDisk (state S.Store tx.new.conn.now) → IsTrue tx.old.conn.now.in_transaction → AreEmpty no_schema (state S.Store tx.old.conn.now).now
-        → OnOk result (AreEmpty grants_schema (state S.Store tx.new.conn.now).now) }
-    ensures stays { StaysInside result (state S.Store tx.old.conn.now) (state S.Store tx.new.conn.now) }
+    ensures same_reference { SameReference tx.old tx.new }
+    ensures made { Makes tx.old tx.new (AreEmpty no_schema) (AreEmpty grants_schema) result }
+    ensures stays { StaysOpen tx.old tx.new result }
 {
     run(
         tx,
@@ -40,10 +39,9 @@ fn make_grants<S: Alter>(tx: &mut Transaction<'_, S>) -> Result<(), Error>
 
 /// Makes the tables of alarms and of shelves.
 fn make_shelves<S: Alter>(tx: &mut Transaction<'_, S>) -> Result<(), Error>
-    ensures same_reference { tx.new.conn.ghost_name ≡ tx.old.conn.ghost_name }
-    ensures made { HasCleanDisk (state S.Store tx.new.conn.now) → IsTrue tx.old.conn.now.in_transaction → AreEmpty grants_schema (state S.Store tx.old.conn.now).now
-        → OnOk result (AreEmpty shelves_schema (state S.Store tx.new.conn.now).now) }
-    ensures stays { StaysInside result (state S.Store tx.old.conn.now) (state S.Store tx.new.conn.now) }
+    ensures same_reference { SameReference tx.old tx.new }
+    ensures made { Makes tx.old tx.new (AreEmpty grants_schema) (AreEmpty shelves_schema) result }
+    ensures stays { StaysOpen tx.old tx.new result }
 {
     run(
         tx,
@@ -60,10 +58,9 @@ fn make_shelves<S: Alter>(tx: &mut Transaction<'_, S>) -> Result<(), Error>
 
 /// Makes the tables of matrices and of events.
 fn make_events<S: Alter>(tx: &mut Transaction<'_, S>) -> Result<(), Error>
-    ensures same_reference { tx.new.conn.ghost_name ≡ tx.old.conn.ghost_name }
-    ensures made { HasCleanDisk (state S.Store tx.new.conn.now) → IsTrue tx.old.conn.now.in_transaction → AreEmpty shelves_schema (state S.Store tx.old.conn.now).now
-        → OnOk result (AreEmpty events_schema (state S.Store tx.new.conn.now).now) }
-    ensures stays { StaysInside result (state S.Store tx.old.conn.now) (state S.Store tx.new.conn.now) }
+    ensures same_reference { SameReference tx.old tx.new }
+    ensures made { Makes tx.old tx.new (AreEmpty shelves_schema) (AreEmpty events_schema) result }
+    ensures stays { StaysOpen tx.old tx.new result }
 {
     run(
         tx,
@@ -85,10 +82,9 @@ fn make_events<S: Alter>(tx: &mut Transaction<'_, S>) -> Result<(), Error>
 
 /// Makes the tables of records and of changes.
 fn make_changes<S: Alter>(tx: &mut Transaction<'_, S>) -> Result<(), Error>
-    ensures same_reference { tx.new.conn.ghost_name ≡ tx.old.conn.ghost_name }
-    ensures made { HasCleanDisk (state S.Store tx.new.conn.now) → IsTrue tx.old.conn.now.in_transaction → AreEmpty events_schema (state S.Store tx.old.conn.now).now
-        → OnOk result (AreEmpty changes_schema (state S.Store tx.new.conn.now).now) }
-    ensures stays { StaysInside result (state S.Store tx.old.conn.now) (state S.Store tx.new.conn.now) }
+    ensures same_reference { SameReference tx.old tx.new }
+    ensures made { Makes tx.old tx.new (AreEmpty events_schema) (AreEmpty changes_schema) result }
+    ensures stays { StaysOpen tx.old tx.new result }
 {
     run(
         tx,
@@ -105,10 +101,9 @@ fn make_changes<S: Alter>(tx: &mut Transaction<'_, S>) -> Result<(), Error>
 
 /// Makes the index of grants by persons, and the office's row.
 fn make_office<S: Alter>(tx: &mut Transaction<'_, S>, admin: &Person) -> Result<(), Error>
-    ensures same_reference { tx.new.conn.ghost_name ≡ tx.old.conn.ghost_name }
-    ensures made { HasCleanDisk (state S.Store tx.new.conn.now) → IsTrue tx.old.conn.now.in_transaction → AreEmpty changes_schema (state S.Store tx.old.conn.now).now
-        → OnOk result (AreNew admin.now (state S.Store tx.new.conn.now).now) }
-    ensures stays { StaysInside result (state S.Store tx.old.conn.now) (state S.Store tx.new.conn.now) }
+    ensures same_reference { SameReference tx.old tx.new }
+    ensures made { Makes tx.old tx.new (AreEmpty changes_schema) (AreNew admin.now) result }
+    ensures stays { StaysOpen tx.old tx.new result }
 {
     run(
         tx,
@@ -125,10 +120,9 @@ fn make_office<S: Alter>(tx: &mut Transaction<'_, S>, admin: &Person) -> Result<
 
 /// Makes all tables, within a transaction.
 pub fn make_tables<S: Alter>(tx: &mut Transaction<'_, S>, admin: &Person) -> Result<(), Error>
-    ensures same_reference { tx.new.conn.ghost_name ≡ tx.old.conn.ghost_name }
-    ensures made { HasCleanDisk (state S.Store tx.new.conn.now) → IsTrue tx.old.conn.now.in_transaction → (state S.Store tx.old.conn.now).now.schema ≡ no_schema
-        → OnOk result (AreNew admin.now (state S.Store tx.new.conn.now).now) }
-    ensures stays { StaysInside result (state S.Store tx.old.conn.now) (state S.Store tx.new.conn.now) }
+    ensures same_reference { SameReference tx.old tx.new }
+    ensures made { Makes tx.old tx.new IsBlank (AreNew admin.now) result }
+    ensures stays { StaysOpen tx.old tx.new result }
 {
     make_grants(tx)?;
     make_shelves(tx)?;
@@ -142,9 +136,10 @@ pub fn make_tables<S: Alter>(tx: &mut Transaction<'_, S>, admin: &Person) -> Res
 pub fn make_all<S: Alter>(conn: &mut Connection<S>, admin: &Person) -> Result<(), Error>
     requires { conn.old.in_transaction ≡ false }
     ensures mode { conn.new.in_transaction ≡ false }
-    ensures made { IsHonest (state S.Store conn.new) → (state S.Store conn.old).now.schema ≡ no_schema → OnOk result (AreNew admin.now (state S.Store conn.new).now) }
-    ensures unchanged { IsHonest (state S.Store conn.new) → OnErr result ((state S.Store conn.new).now ≡ (state S.Store conn.old).now) }
-    ensures honest { IsHonest (state S.Store conn.new) → IsHonest (state S.Store conn.old) }
+    ensures made { IsHonest (state S.Store conn.new) → IsBlank (state S.Store conn.old).now
+        → OnOk result (AreNew admin.now (state S.Store conn.new).now) }
+    ensures unchanged { SameOnErr S.Store conn.old conn.new result }
+    ensures honest { WasHonest S.Store conn.old conn.new }
 {
     let _settled = conn.is_autocommit();
     let mut tx = conn.transaction();

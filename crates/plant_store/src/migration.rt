@@ -1,19 +1,22 @@
 //! A plant's rows taken over from a store of schema 1 into new tables of this schema.
 
-ghost use Rattle.std.specs.Prelude.{◌≡◌, ◌≢◌, [], false, map, IfErr, IfOk, IsErrAnd, IsTrue, OnErr, OnOk, Err};
+ghost use Rattle.std.specs.Prelude.{◌≡◌, ◌≢◌, false, map, IfErr, IfOk, IsErrAnd, IsTrue, OnOk, Err};
 ghost use Rattle.sqlite.specs.Held.{state};
 ghost use Rattle.sqlite.specs.State.{HasCleanDisk};
 ghost use Rattle.plant_books.specs.Contents.{Content};
-ghost use Rattle.plant_columns.specs.Tables.{AreBooks, no_schema};
+ghost use Rattle.plant_columns.specs.Tables.{no_schema};
 ghost use Rattle.plant_model.specs.declared.rows.RowEdit.TheVariants.{Put};
 ghost use Rattle.plant_types.specs.declared.fault.Fault.TheVariants.{Store};
-ghost use Rattle.plant_store.specs.Changes.{Applies, IsHonest};
-ghost use Rattle.plant_store.specs.OnlyReads.{OnlyReadsOld};
+ghost use Rattle.plant_store.specs.Changes.{IsHonest};
 ghost use Rattle.plant_store.specs.Keeping.{HaveRows, Keeps};
-ghost use Rattle.plant_store.specs.OldTables.{AreOldBooks, old_schema_no};
-ghost use Rattle.plant_store.specs.Opening.{IsOffice, has_office};
-ghost use Rattle.plant_store.specs.StaysInside.{StaysInside};
-ghost use Rattle.plant_store.specs.Upgrading.{AreTakenOver, HaveOldRows, all_kinds, old_codes, puts_all, puts_of, upgraded_rows};
+ghost use Rattle.plant_store.specs.OldTables.{old_schema_no};
+ghost use Rattle.plant_store.specs.Opening.{IsOffice};
+ghost use Rattle.plant_store.specs.Upgrading.{HaveOldRows, all_kinds};
+ghost use Rattle.plant_store.specs.Opened.{HasNoOffice, HasOldBooks, IsAnothers, WasOffice};
+ghost use Rattle.plant_store.specs.Reading.{ReadsOldBooks};
+ghost use Rattle.plant_store.specs.TakingOver.{Takes, TakesTable, TakesTables, TakesUnits};
+ghost use Rattle.plant_store.specs.Writing.{IsBlank, SameDatabase, SameOnErr, SameReference, StaysOpen, Writes};
+ghost use Rattle.plant_store.specs.declared.tables.StoreFault.TheVariants.{NotThisStore};
 
 use crate::make::make_tables;
 use crate::old_rows::{CodeLine, OldGrantRow, OldRow, OldUnitRow, old_codes_of, old_rows_of};
@@ -57,10 +60,9 @@ fn put_rows<T: OldRow, N: Alter>(
     unit: &UnitCode,
     rows: &[T],
 ) -> Result<(), Error>
-    ensures same_reference { tx.new.conn.ghost_name ≡ tx.old.conn.ghost_name }
-    ensures made { HasCleanDisk (state N.Store tx.new.conn.now) → IsTrue tx.old.conn.now.in_transaction → AreBooks (state N.Store tx.old.conn.now).now
-        → OnOk result (Applies unit.now (map (λ r. Put (T.becomes r)) rows.now) (state N.Store tx.old.conn.now).now (state N.Store tx.new.conn.now).now) }
-    ensures stays { StaysInside result (state N.Store tx.old.conn.now) (state N.Store tx.new.conn.now) }
+    ensures same_reference { SameReference tx.old tx.new }
+    ensures made { Writes tx.old tx.new unit.now (map (λ r. Put (T.becomes r)) rows.now) result }
+    ensures stays { StaysOpen tx.old tx.new result }
 {
     for row in rows {
         row.put(alloc, tx, unit)?;
@@ -77,11 +79,10 @@ fn take_rows<T: OldRow, O: Alter, N: Alter>(
 ) -> Result<(), Error>
     requires reading { from.old.in_transaction ≡ false }
     ensures mode { from.new.in_transaction ≡ false }
-    ensures reads { OnlyReadsOld (state O.Store from.old) (state O.Store from.new) }
-    ensures same_reference { tx.new.conn.ghost_name ≡ tx.old.conn.ghost_name }
-    ensures made { IsHonest (state O.Store from.new) → AreOldBooks (state O.Store from.old).now → HasCleanDisk (state N.Store tx.new.conn.now) → IsTrue tx.old.conn.now.in_transaction → AreBooks (state N.Store tx.old.conn.now).now
-        → OnOk result (Applies unit.now (map (λ r. Put (T.becomes r)) (T.had unit.now (state O.Store from.old).now.trees)) (state N.Store tx.old.conn.now).now (state N.Store tx.new.conn.now).now) }
-    ensures stays { StaysInside result (state N.Store tx.old.conn.now) (state N.Store tx.new.conn.now) }
+    ensures reads { ReadsOldBooks O.Store from.old from.new }
+    ensures same_reference { SameReference tx.old tx.new }
+    ensures made { Takes O.Store from.old from.new tx.old tx.new unit.now T.had T.becomes result }
+    ensures stays { StaysOpen tx.old tx.new result }
 {
     let rows = old_rows_of::<T, O>(alloc, from, unit)?;
     put_rows::<T, N>(alloc, tx, unit, rows.as_slice())
@@ -97,11 +98,10 @@ fn take_table<O: Alter, N: Alter>(
 ) -> Result<(), Error>
     requires reading { from.old.in_transaction ≡ false }
     ensures mode { from.new.in_transaction ≡ false }
-    ensures reads { OnlyReadsOld (state O.Store from.old) (state O.Store from.new) }
-    ensures same_reference { tx.new.conn.ghost_name ≡ tx.old.conn.ghost_name }
-    ensures made { IsHonest (state O.Store from.new) → AreOldBooks (state O.Store from.old).now → HasCleanDisk (state N.Store tx.new.conn.now) → IsTrue tx.old.conn.now.in_transaction → AreBooks (state N.Store tx.old.conn.now).now
-        → OnOk result (Applies unit.now (puts_of (upgraded_rows unit.now (state O.Store from.old).now.trees) kind.now) (state N.Store tx.old.conn.now).now (state N.Store tx.new.conn.now).now) }
-    ensures stays { StaysInside result (state N.Store tx.old.conn.now) (state N.Store tx.new.conn.now) }
+    ensures reads { ReadsOldBooks O.Store from.old from.new }
+    ensures same_reference { SameReference tx.old tx.new }
+    ensures made { TakesTable O.Store from.old from.new tx.old tx.new unit.now kind.now result }
+    ensures stays { StaysOpen tx.old tx.new result }
 {
     match kind {
         TableKind::Units => take_rows::<OldUnitRow, O, N>(alloc, from, tx, unit),
@@ -126,11 +126,10 @@ fn take_tables<O: Alter, N: Alter>(
 ) -> Result<(), Error>
     requires reading { from.old.in_transaction ≡ false }
     ensures mode { from.new.in_transaction ≡ false }
-    ensures reads { OnlyReadsOld (state O.Store from.old) (state O.Store from.new) }
-    ensures same_reference { tx.new.conn.ghost_name ≡ tx.old.conn.ghost_name }
-    ensures made { IsHonest (state O.Store from.new) → AreOldBooks (state O.Store from.old).now → HasCleanDisk (state N.Store tx.new.conn.now) → IsTrue tx.old.conn.now.in_transaction → AreBooks (state N.Store tx.old.conn.now).now
-        → OnOk result (Applies unit.now (puts_all (upgraded_rows unit.now (state O.Store from.old).now.trees) kinds.now) (state N.Store tx.old.conn.now).now (state N.Store tx.new.conn.now).now) }
-    ensures stays { StaysInside result (state N.Store tx.old.conn.now) (state N.Store tx.new.conn.now) }
+    ensures reads { ReadsOldBooks O.Store from.old from.new }
+    ensures same_reference { SameReference tx.old tx.new }
+    ensures made { TakesTables O.Store from.old from.new tx.old tx.new unit.now kinds.now result }
+    ensures stays { StaysOpen tx.old tx.new result }
 {
     for kind in kinds {
         take_table(alloc, from, tx, unit, kind)?;
@@ -147,11 +146,10 @@ fn take_unit<O: Alter, N: Alter>(
 ) -> Result<(), Error>
     requires reading { from.old.in_transaction ≡ false }
     ensures mode { from.new.in_transaction ≡ false }
-    ensures reads { OnlyReadsOld (state O.Store from.old) (state O.Store from.new) }
-    ensures same_reference { tx.new.conn.ghost_name ≡ tx.old.conn.ghost_name }
-    ensures made { IsHonest (state O.Store from.new) → AreOldBooks (state O.Store from.old).now → HasCleanDisk (state N.Store tx.new.conn.now) → IsTrue tx.old.conn.now.in_transaction → AreBooks (state N.Store tx.old.conn.now).now
-        → OnOk result (Applies unit.now (puts_all (upgraded_rows unit.now (state O.Store from.old).now.trees) all_kinds) (state N.Store tx.old.conn.now).now (state N.Store tx.new.conn.now).now) }
-    ensures stays { StaysInside result (state N.Store tx.old.conn.now) (state N.Store tx.new.conn.now) }
+    ensures reads { ReadsOldBooks O.Store from.old from.new }
+    ensures same_reference { SameReference tx.old tx.new }
+    ensures made { TakesTables O.Store from.old from.new tx.old tx.new unit.now all_kinds result }
+    ensures stays { StaysOpen tx.old tx.new result }
 {
     take_tables(
         alloc,
@@ -181,11 +179,10 @@ fn take_units<O: Alter, N: Alter>(
 ) -> Result<(), Error>
     requires reading { from.old.in_transaction ≡ false }
     ensures mode { from.new.in_transaction ≡ false }
-    ensures reads { OnlyReadsOld (state O.Store from.old) (state O.Store from.new) }
-    ensures same_reference { tx.new.conn.ghost_name ≡ tx.old.conn.ghost_name }
-    ensures made { IsHonest (state O.Store from.new) → AreOldBooks (state O.Store from.old).now → map (λ l. l.unit) lines.now ≡ old_codes (state O.Store from.old).now.trees → HasCleanDisk (state N.Store tx.new.conn.now) → IsTrue tx.old.conn.now.in_transaction → AreTakenOver [] (state O.Store from.old).now.trees (state N.Store tx.old.conn.now).now
-        → OnOk result (AreTakenOver (old_codes (state O.Store from.old).now.trees) (state O.Store from.old).now.trees (state N.Store tx.new.conn.now).now × ((state N.Store tx.new.conn.now).now.trees 0 ≡ (state N.Store tx.old.conn.now).now.trees 0)) }
-    ensures stays { StaysInside result (state N.Store tx.old.conn.now) (state N.Store tx.new.conn.now) }
+    ensures reads { ReadsOldBooks O.Store from.old from.new }
+    ensures same_reference { SameReference tx.old tx.new }
+    ensures made { TakesUnits O.Store from.old from.new tx.old tx.new lines.now result }
+    ensures stays { StaysOpen tx.old tx.new result }
 {
     for line in lines {
         take_unit(alloc, from, tx, &line.unit)?;
@@ -202,11 +199,13 @@ fn fill<O: Alter, N: Alter>(
 ) -> Result<(), Error>
     requires reading { from.old.in_transaction ≡ false }
     ensures mode { from.new.in_transaction ≡ false }
-    ensures reads { OnlyReadsOld (state O.Store from.old) (state O.Store from.new) }
-    ensures same_reference { tx.new.conn.ghost_name ≡ tx.old.conn.ghost_name }
-    ensures made { IsHonest (state O.Store from.new) → HasCleanDisk (state N.Store tx.new.conn.now) → IsTrue tx.old.conn.now.in_transaction → (state N.Store tx.old.conn.now).now.schema ≡ no_schema → (m : Content) → m.admin ≡ admin.now → HaveOldRows m (state O.Store from.old).now
+    ensures reads { ReadsOldBooks O.Store from.old from.new }
+    ensures same_reference { SameReference tx.old tx.new }
+    ensures made { IsHonest (state O.Store from.new) → HasCleanDisk (state N.Store tx.new.conn.now)
+        → IsTrue tx.old.conn.now.in_transaction → IsBlank (state N.Store tx.old.conn.now).now
+        → (m : Content) → m.admin ≡ admin.now → HaveOldRows m (state O.Store from.old).now
         → OnOk result (HaveRows m (state N.Store tx.new.conn.now).now) }
-    ensures stays { StaysInside result (state N.Store tx.old.conn.now) (state N.Store tx.new.conn.now) }
+    ensures stays { StaysOpen tx.old tx.new result }
 {
     let lines = old_codes_of(alloc, from)?;
     make_tables(tx, admin)?;
@@ -223,11 +222,13 @@ fn take_over<O: Alter, N: Alter>(
     requires reading { from.old.in_transaction ≡ false }
     requires writing { into.old.in_transaction ≡ false }
     ensures mode { from.new.in_transaction ≡ false }
-    ensures reads { OnlyReadsOld (state O.Store from.old) (state O.Store from.new) }
+    ensures reads { ReadsOldBooks O.Store from.old from.new }
     ensures outside { into.new.in_transaction ≡ false }
-    ensures taken { IsHonest (state O.Store from.new) → IsHonest (state N.Store into.new) → (state N.Store into.old).now.schema ≡ no_schema → (m : Content) → m.admin ≡ admin.now → HaveOldRows m (state O.Store from.old).now
+    ensures taken { IsHonest (state O.Store from.new) → IsHonest (state N.Store into.new)
+        → IsBlank (state N.Store into.old).now
+        → (m : Content) → m.admin ≡ admin.now → HaveOldRows m (state O.Store from.old).now
         → OnOk result (HaveRows m (state N.Store into.new).now) }
-    ensures unchanged { IsHonest (state N.Store into.new) → OnErr result ((state N.Store into.new).now ≡ (state N.Store into.old).now) }
+    ensures unchanged { SameOnErr N.Store into.old into.new result }
 {
     let _settled = into.is_autocommit();
     let mut tx = into.transaction();
@@ -246,12 +247,14 @@ fn take_into_blank<O: Alter, N: Alter>(
     requires reading { from.old.in_transaction ≡ false }
     requires writing { into.old.in_transaction ≡ false }
     ensures mode { from.new.in_transaction ≡ false }
-    ensures reads { OnlyReadsOld (state O.Store from.old) (state O.Store from.new) }
+    ensures reads { ReadsOldBooks O.Store from.old from.new }
     ensures outside { into.new.in_transaction ≡ false }
-    ensures taken { IsHonest (state O.Store from.new) → (m : Content) → m.admin ≡ admin.now → HaveOldRows m (state O.Store from.old).now → OnOk result (Keeps (state N.Store into.new) m) }
+    ensures taken { IsHonest (state O.Store from.new) → (m : Content) → m.admin ≡ admin.now
+        → HaveOldRows m (state O.Store from.old).now
+        → OnOk result (Keeps (state N.Store into.new) m) }
     ensures blank { OnOk result ((state N.Store into.old).now.schema ≡ no_schema) }
     ensures full { (state N.Store into.old).now.schema ≢ no_schema → result ≡ Err Store }
-    ensures unchanged { IsHonest (state N.Store into.new) → OnErr result ((state N.Store into.new).now ≡ (state N.Store into.old).now) }
+    ensures unchanged { SameOnErr N.Store into.old into.new result }
 {
     if !is_blank(into.schema()) {
         return Err(Fault::Store);
@@ -276,17 +279,22 @@ pub fn migrate<O: Alter, N: Alter>(
 ) -> Result<(Connection<O>, Tables<N>), MigrateRefused<O, N>>
     requires reading { old.in_transaction ≡ false }
     requires writing { new.in_transaction ≡ false }
-    ensures taken { (m : Content) → m.admin ≡ admin → IfOk result (λ r. IsHonest (state O.Store r.0) → HaveOldRows m (state O.Store old).now → Keeps (state N.Store r.1.0.0) m) }
-    ensures fresh { IfOk result (λ r. (r.1.0.1 ≡ admin) × ((r.1.1 ≡ 0) × (r.0.in_transaction ≡ false))) }
-    ensures office { IfOk result (λ r. IsHonest (state O.Store r.0) → IsOffice old_schema_no admin (state O.Store old).now) }
+    ensures taken { (m : Content) → m.admin ≡ admin
+        → IfOk result (λ r. IsHonest (state O.Store r.0) → HaveOldRows m (state O.Store old).now
+        → Keeps (state N.Store r.1.0.0) m) }
+    ensures fresh { IfOk result (λ r. (r.1.0.1 ≡ admin)
+        × ((r.1.1 ≡ 0) × (r.0.in_transaction ≡ false))) }
+    ensures office { IfOk result (λ r. WasOffice O.Store old r.0 old_schema_no admin) }
     ensures blank { IfOk result (λ r. (state N.Store new).now.schema ≡ no_schema) }
-    ensures other { IfErr result (λ e. e.fault ≡ StoreFault.NotThisStore → IsHonest (state O.Store e.old) → ¬ IsOffice old_schema_no admin (state O.Store old).now) }
-    ensures missing { has_office (state O.Store old).now.schema ≡ false → IsErrAnd result (λ e. e.fault ≡ StoreFault.NotThisStore) }
-    ensures own { IsOffice old_schema_no admin (state O.Store old).now → IfErr result (λ e. IsHonest (state O.Store e.old) → e.fault ≢ StoreFault.NotThisStore) }
-    ensures read { AreOldBooks (state O.Store old).now → IfOk result (λ r. IsHonest (state O.Store r.0) → (state O.Store r.0).now ≡ (state O.Store old).now) }
-    ensures unread { AreOldBooks (state O.Store old).now → IfErr result (λ e. IsHonest (state O.Store e.old) → (state O.Store e.old).now ≡ (state O.Store old).now) }
-    ensures unchanged { IfErr result (λ e. IsHonest (state N.Store e.new) → (state N.Store e.new).now ≡ (state N.Store new).now) }
-    ensures back { IfErr result (λ e. (e.admin ≡ admin) × ((e.old.in_transaction ≡ false) × (e.new.in_transaction ≡ false))) }
+    ensures other { IfErr result (λ e. IsAnothers O.Store old e.old old_schema_no admin e.fault) }
+    ensures missing { HasNoOffice O.Store old → IsErrAnd result (λ e. e.fault ≡ NotThisStore) }
+    ensures own { IsOffice old_schema_no admin (state O.Store old).now
+        → IfErr result (λ e. IsHonest (state O.Store e.old) → e.fault ≢ NotThisStore) }
+    ensures read { HasOldBooks O.Store old → IfOk result (λ r. SameDatabase O.Store old r.0) }
+    ensures unread { HasOldBooks O.Store old → IfErr result (λ e. SameDatabase O.Store old e.old) }
+    ensures unchanged { IfErr result (λ e. SameDatabase N.Store new e.new) }
+    ensures back { IfErr result (λ e. (e.admin ≡ admin)
+        × ((e.old.in_transaction ≡ false) × (e.new.in_transaction ≡ false))) }
 {
     let fault = match is_office_of(&mut old, OLD_SCHEMA, &admin) {
         Ok(true) => match take_into_blank(alloc, &mut old, &mut new, &admin) {

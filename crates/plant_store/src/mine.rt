@@ -1,17 +1,11 @@
 //! The units in which a person holds roles.
 
-ghost use Rattle.std.specs.Prelude.{◌≡◌, [], ◌∷◌, ◌++◌, false, map, List, Some, IfOk, OnOk};
+ghost use Rattle.std.specs.Prelude.{◌≡◌, [], ◌∷◌, ◌++◌, false, map, IfOk, OnOk};
 ghost use Rattle.sqlite.specs.Held.{state};
-ghost use Rattle.sqlite_value.specs.Order.{Row as SqlRow};
-ghost use Rattle.plant_books.specs.Contents as contents;
-ghost use Rattle.plant_books.specs.Contents.{Content};
+ghost use Rattle.plant_books.specs.Contents.{codes_held, mine_units as units_held};
 ghost use Rattle.plant_model.specs.Grants.{is_before};
-ghost use Rattle.plant_types.specs.Names.{same_name};
-ghost use Rattle.plant_store.specs.declared.mine.Line.{Line as LineRow};
-ghost use Rattle.plant_store.specs.Changes.{IsHonest};
-ghost use Rattle.plant_store.specs.OnlyReads.{OnlyReads};
-ghost use Rattle.plant_store.specs.Keeping.{KeepsIn};
-ghost use Rattle.plant_store.specs.Mine.{line_cells, lines_of, runs_after, runs_of, standing_lines, started};
+ghost use Rattle.plant_store.specs.Mine.{JoinsLine, line_cells, lines_of, runs_of, standing_lines, started};
+ghost use Rattle.plant_store.specs.Reading.{Finds, ReadsBooks};
 
 use crate::read::ask;
 use plant_books::MineUnit;
@@ -96,7 +90,7 @@ fn join(
     current: Option<MineUnit>,
     line: &Line,
 ) -> Result<MineUnit, Error>
-    ensures { IfOk result (λ next. (rest : List LineRow) → units.new ++ runs_after (Some next) rest ≡ units.old ++ runs_after current (line.now ∷ rest)) }
+    ensures { IfOk result (JoinsLine units.old current line.now units.new) }
 {
     let Some(mut unit) = current else {
         return start(alloc, line);
@@ -135,8 +129,9 @@ fn lines<S: Alter>(
 ) -> Result<List<Line>, Error>
     requires { conn.old.in_transaction ≡ false }
     ensures mode { conn.new.in_transaction ≡ false }
-    ensures found { IsHonest (state S.Store conn.new) → (m : Content) → KeepsIn (state S.Store conn.old) m → IfOk result (λ lines. lines ≡ lines_of person.now (state S.Store conn.old).now.trees) }
-    ensures reads { OnlyReads (state S.Store conn.old) (state S.Store conn.new) }
+    ensures found { Finds S.Store conn.old conn.new result
+        (λ _. lines_of person.now (state S.Store conn.old).now.trees) }
+    ensures reads { ReadsBooks S.Store conn.old conn.new }
 {
     let rows = ask(
         conn,
@@ -155,8 +150,8 @@ pub fn mine_units<S: Alter>(
 ) -> Result<List<MineUnit>, Error>
     requires { conn.old.in_transaction ≡ false }
     ensures mode { conn.new.in_transaction ≡ false }
-    ensures found { IsHonest (state S.Store conn.new) → (m : Content) → KeepsIn (state S.Store conn.old) m → IfOk result (λ units. units ≡ contents.mine_units m now person.now) }
-    ensures reads { OnlyReads (state S.Store conn.old) (state S.Store conn.new) }
+    ensures found { Finds S.Store conn.old conn.new result (λ m. units_held m now person.now) }
+    ensures reads { ReadsBooks S.Store conn.old conn.new }
 {
     let lines = lines(alloc, conn, person)?;
     group(alloc, lines.as_slice(), now)
@@ -185,8 +180,8 @@ pub fn held<S: Alter>(
 ) -> Result<List<UnitCode>, Error>
     requires { conn.old.in_transaction ≡ false }
     ensures mode { conn.new.in_transaction ≡ false }
-    ensures found { IsHonest (state S.Store conn.new) → (m : Content) → KeepsIn (state S.Store conn.old) m → IfOk result (λ codes. codes ≡ contents.codes_held m now person.now) }
-    ensures reads { OnlyReads (state S.Store conn.old) (state S.Store conn.new) }
+    ensures found { Finds S.Store conn.old conn.new result (λ m. codes_held m now person.now) }
+    ensures reads { ReadsBooks S.Store conn.old conn.new }
 {
     let units = mine_units(alloc, conn, person, now)?;
     codes(alloc, units.as_slice())

@@ -1,17 +1,13 @@
 //! The numbers of the matrices and of the changes that a scope takes in, and the rows that a unit has of numbers.
 
-ghost use Rattle.std.specs.List.{flat_map, list_any};
-ghost use Rattle.std.specs.Prelude.{◌≡◌, ◌++◌, ◌||◌, ℕ, Bool, false, filter, insert, IfOk, MatchOption, OnOk};
-ghost use Rattle.sqlite.specs.Held.{state};
+ghost use Rattle.std.specs.Prelude.{◌≡◌, ◌++◌, false, filter, insert, IfOk, MatchOption, OnOk};
 ghost use Rattle.plant_books.specs.Asking.{is_number, selection_by};
-ghost use Rattle.plant_columns.specs.Tables.{AreBooks, rows_seen};
-ghost use Rattle.plant_columns.specs.Tables.Kept.{BandKept, CellKept, ChangeKept};
 ghost use Rattle.plant_model.specs.Histories.{same_number};
 ghost use Rattle.plant_model.specs.declared.rows.UnitRows.{UnitRows as Rows};
-ghost use Rattle.plant_store.specs.Changes.{IsHonest};
-ghost use Rattle.plant_store.specs.OnlyReads.{OnlyReads};
 ghost use Rattle.plant_store.specs.Mine.{own_row};
-ghost use Rattle.plant_store.specs.Numbers.{AreNumbers, with_number};
+ghost use Rattle.plant_store.specs.Numbers.{Adds, AreNumbers, is_source_of, with_number};
+ghost use Rattle.plant_store.specs.Parts.{LoadsBands, LoadsCells, LoadsChanges, LoadsEach};
+ghost use Rattle.plant_store.specs.Reading.{ReadsBooks};
 
 use crate::read::rows_of_number;
 use crate::stored::Numbered;
@@ -24,7 +20,8 @@ use std::cmp::Ordering;
 
 /// The place where a number belongs among rising numbers, unless it is there.
 fn place_of(numbers: &[u32], number: u32) -> Option<usize>
-    ensures { MatchOption result (with_number number numbers.now ≡ numbers.now) (λ place. insert numbers.now place number ≡ with_number number numbers.now) }
+    ensures { MatchOption result (with_number number numbers.now ≡ numbers.now)
+        (λ place. insert numbers.now place number ≡ with_number number numbers.now) }
 {
     for (place, other) in numbers.iter().enumerate() {
         match number.cmp(other) {
@@ -38,7 +35,7 @@ fn place_of(numbers: &[u32], number: u32) -> Option<usize>
 
 /// Puts a number where it belongs, once.
 fn put(numbers: &mut List<u32>, number: u32) -> Result<(), Error>
-    ensures { OnOk result ((p : ℕ → Bool) → AreNumbers numbers.old p → AreNumbers numbers.new (λ k. p k || same_number number k)) }
+    ensures { OnOk result (Adds numbers.old (same_number number) numbers.new) }
 {
     let Some(place) = place_of(numbers.as_slice(), number) else {
         return Ok(());
@@ -51,7 +48,7 @@ fn put(numbers: &mut List<u32>, number: u32) -> Result<(), Error>
 
 /// Puts a number where it belongs, where there is one.
 fn put_some(numbers: &mut List<u32>, number: Option<u32>) -> Result<(), Error>
-    ensures { OnOk result ((p : ℕ → Bool) → AreNumbers numbers.old p → AreNumbers numbers.new (λ k. p k || is_number number k)) }
+    ensures { OnOk result (Adds numbers.old (is_number number) numbers.new) }
 {
     match number {
         Some(number) => put(numbers, number),
@@ -71,7 +68,8 @@ fn matrix_in_force(units: &[UnitRow]) -> u32
 
 /// The numbers of the matrices that the scope takes in.
 fn matrix_numbers(alloc: Global, units: &[UnitRow], scope: Scope<'_>) -> Result<List<u32>, Error>
-    ensures { (rows : Rows) → rows.units ≡ units.now → IfOk result (λ numbers. AreNumbers numbers (selection_by rows scope.entry).matrix) }
+    ensures { (rows : Rows) → rows.units ≡ units.now
+        → IfOk result (λ numbers. AreNumbers numbers (selection_by rows scope.entry).matrix) }
 {
     let mut numbers = List::new(alloc);
     if wants_matrix(scope) {
@@ -83,7 +81,7 @@ fn matrix_numbers(alloc: Global, units: &[UnitRow], scope: Scope<'_>) -> Result<
 
 /// Puts the numbers of the changes that the records came from.
 fn put_sources(numbers: &mut List<u32>, records: &[RecordEntry]) -> Result<(), Error>
-    ensures { OnOk result ((p : ℕ → Bool) → AreNumbers numbers.old p → AreNumbers numbers.new (λ k. p k || list_any (λ r. same_number k r.change_no) records.now)) }
+    ensures { OnOk result (Adds numbers.old (is_source_of records.now) numbers.new) }
 {
     for record in records {
         put(numbers, record.change_no)?;
@@ -97,7 +95,9 @@ fn change_numbers(
     records: &[RecordEntry],
     scope: Scope<'_>,
 ) -> Result<List<u32>, Error>
-    ensures { (rows : Rows) → records.now ≡ filter (λ r. (selection_by rows scope.entry).rationale r.tag) rows.records → IfOk result (λ numbers. AreNumbers numbers (selection_by rows scope.entry).change) }
+    ensures { (rows : Rows)
+        → records.now ≡ filter (λ r. (selection_by rows scope.entry).rationale r.tag) rows.records
+        → IfOk result (λ numbers. AreNumbers numbers (selection_by rows scope.entry).change) }
 {
     let mut numbers = List::new(alloc);
     if wants_sources(scope) {
@@ -127,8 +127,8 @@ fn rows_numbered<T: Numbered, S: Alter>(
 ) -> Result<List<T>, Error>
     requires { conn.old.in_transaction ≡ false }
     ensures mode { conn.new.in_transaction ≡ false }
-    ensures rows { IsHonest (state S.Store conn.new) → AreBooks (state S.Store conn.old).now → IfOk result (λ rows. rows ≡ flat_map (λ n. filter (λ r. same_number n (T.number r)) (T.seen unit.now (state S.Store conn.old).now.trees)) numbers.now) }
-    ensures reads { OnlyReads (state S.Store conn.old) (state S.Store conn.new) }
+    ensures rows { LoadsEach S.Store conn.old conn.new T.seen unit.now T.number numbers.now result }
+    ensures reads { ReadsBooks S.Store conn.old conn.new }
 {
     let mut rows = Vec::new(alloc);
     for number in numbers {
@@ -148,8 +148,8 @@ pub fn some_bands<S: Alter>(
 ) -> Result<List<BandRow>, Error>
     requires { conn.old.in_transaction ≡ false }
     ensures mode { conn.new.in_transaction ≡ false }
-    ensures rows { IsHonest (state S.Store conn.new) → AreBooks (state S.Store conn.old).now → (rows : Rows) → rows.units ≡ units.now → IfOk result (λ bands. bands ≡ filter (λ r. (selection_by rows scope.entry).matrix r.matrix_no) (rows_seen unit.now (state S.Store conn.old).now.trees BandKept)) }
-    ensures reads { OnlyReads (state S.Store conn.old) (state S.Store conn.new) }
+    ensures rows { LoadsBands S.Store conn.old conn.new unit.now units.now scope.entry result }
+    ensures reads { ReadsBooks S.Store conn.old conn.new }
 {
     let numbers = matrix_numbers(alloc, units.as_slice(), scope)?;
     rows_numbered(alloc, conn, unit, numbers.as_slice())
@@ -165,8 +165,8 @@ pub fn some_cells<S: Alter>(
 ) -> Result<List<CellRow>, Error>
     requires { conn.old.in_transaction ≡ false }
     ensures mode { conn.new.in_transaction ≡ false }
-    ensures rows { IsHonest (state S.Store conn.new) → AreBooks (state S.Store conn.old).now → (rows : Rows) → rows.units ≡ units.now → IfOk result (λ cells. cells ≡ filter (λ r. (selection_by rows scope.entry).matrix r.matrix_no) (rows_seen unit.now (state S.Store conn.old).now.trees CellKept)) }
-    ensures reads { OnlyReads (state S.Store conn.old) (state S.Store conn.new) }
+    ensures rows { LoadsCells S.Store conn.old conn.new unit.now units.now scope.entry result }
+    ensures reads { ReadsBooks S.Store conn.old conn.new }
 {
     let numbers = matrix_numbers(alloc, units.as_slice(), scope)?;
     rows_numbered(alloc, conn, unit, numbers.as_slice())
@@ -182,8 +182,8 @@ pub fn some_changes<S: Alter>(
 ) -> Result<List<ChangeEntry>, Error>
     requires { conn.old.in_transaction ≡ false }
     ensures mode { conn.new.in_transaction ≡ false }
-    ensures rows { IsHonest (state S.Store conn.new) → AreBooks (state S.Store conn.old).now → (rows : Rows) → records.now ≡ filter (λ r. (selection_by rows scope.entry).rationale r.tag) rows.records → IfOk result (λ changes. changes ≡ filter (λ r. (selection_by rows scope.entry).change r.number) (rows_seen unit.now (state S.Store conn.old).now.trees ChangeKept)) }
-    ensures reads { OnlyReads (state S.Store conn.old) (state S.Store conn.new) }
+    ensures rows { LoadsChanges S.Store conn.old conn.new unit.now records.now scope.entry result }
+    ensures reads { ReadsBooks S.Store conn.old conn.new }
 {
     let numbers = change_numbers(alloc, records.as_slice(), scope)?;
     rows_numbered(alloc, conn, unit, numbers.as_slice())

@@ -1,22 +1,18 @@
 //! The rows of a store of schema 1: how each table is read, and what its rows become.
 
-ghost use Rattle.std.specs.Prelude.{◌≡◌, ◌∷◌, [], false, map, IfOk, IsTrue, List, OnOk};
-ghost use Rattle.sqlite.specs.Held.{state};
-ghost use Rattle.sqlite.specs.State.{HasCleanDisk};
+ghost use Rattle.std.specs.Prelude.{◌≡◌, ◌∷◌, [], false, List};
 ghost use Rattle.sqlite.specs.Tree.{Trees};
 ghost use Rattle.sqlite_value.specs.declared.value.Value.TheVariants.{Text as TextValue};
-ghost use Rattle.plant_columns.specs.Tables.{AreBooks};
 ghost use Rattle.plant_columns.specs.Tables.Kept.{AlarmKept, BandKept, CellKept, ChangeKept, EventKept, GrantKept, RecordKept, ShelfKept, UnitKept};
 ghost use Rattle.plant_model.specs.declared.rows.RowEdit.TheVariants.{Put};
 ghost use Rattle.plant_model.specs.declared.rows.Row.{Row as AnyRow};
 ghost use Rattle.plant_model.specs.declared.rows.Row.TheVariants.{Grant as GrantPut, Unit as UnitPut};
-ghost use Rattle.plant_store.specs.Changes.{Applies};
-ghost use Rattle.plant_store.specs.OnlyReads.{OnlyReadsOld};
-ghost use Rattle.plant_store.specs.OldTables.{AreOldBooks, old_grant_shape, old_rows, old_unit_shape};
-ghost use Rattle.plant_store.specs.StaysInside.{StaysInside};
-ghost use Rattle.plant_store.specs.Statements.{ReadsOld};
-ghost use Rattle.plant_store.specs.Upgrading.{old_codes, upgraded_grant, upgraded_unit};
+ghost use Rattle.plant_store.specs.OldTables.{old_grant_shape, old_rows, old_unit_shape};
+ghost use Rattle.plant_store.specs.Statements.{ReadsOldUnit};
+ghost use Rattle.plant_store.specs.Upgrading.{upgraded_grant, upgraded_unit};
 ghost use Rattle.plant_types.specs.Names.{Name};
+ghost use Rattle.plant_store.specs.Reading.{LoadsOld, LoadsOldCodes, ReadsOldBooks};
+ghost use Rattle.plant_store.specs.Writing.{SameReference, StaysOpen, Writes};
 
 use crate::read::read_rows;
 use crate::stored::Stored;
@@ -102,7 +98,7 @@ pub trait OldRow: Shown {
 
     /// The text that reads all rows of a unit.
     fn old_select() -> &'static str
-        ensures { (u : Name) → ReadsOld Self.width Self.cells (had u) (TextValue u ∷ []) result.now };
+        ensures { ReadsOldUnit Self.width Self.cells had result.now };
 
     /// Puts what it becomes.
     fn put<N: Alter>(
@@ -111,10 +107,9 @@ pub trait OldRow: Shown {
         tx: &mut Transaction<'_, N>,
         unit: &UnitCode,
     ) -> Result<(), Error>
-        ensures same_reference { tx.new.conn.ghost_name ≡ tx.old.conn.ghost_name }
-        ensures made { HasCleanDisk (state N.Store tx.new.conn.now) → IsTrue tx.old.conn.now.in_transaction → AreBooks (state N.Store tx.old.conn.now).now
-            → OnOk result (Applies unit.now (Put (becomes self.now) ∷ []) (state N.Store tx.old.conn.now).now (state N.Store tx.new.conn.now).now) }
-        ensures stays { StaysInside result (state N.Store tx.old.conn.now) (state N.Store tx.new.conn.now) };
+        ensures same_reference { SameReference tx.old tx.new }
+        ensures made { Writes tx.old tx.new unit.now (Put (becomes self.now) ∷ []) result }
+        ensures stays { StaysOpen tx.old tx.new result };
 }
 
 /// A row of a table that is the same in schema 1.
@@ -124,7 +119,7 @@ pub trait Unchanged: Stored {
 
     /// The text that reads all rows of a unit, in schema 1 too.
     fn same_select() -> &'static str
-        ensures { (u : Name) → ReadsOld Self.width Self.cells (had_before u) (TextValue u ∷ []) result.now };
+        ensures { ReadsOldUnit Self.width Self.cells had_before result.now };
 }
 
 impl OldRow for OldUnitRow {
@@ -261,8 +256,8 @@ pub fn old_codes_of<S: Alter>(
 ) -> Result<List<CodeLine>, Error>
     requires { conn.old.in_transaction ≡ false }
     ensures mode { conn.new.in_transaction ≡ false }
-    ensures rows { HasCleanDisk (state S.Store conn.new) → AreOldBooks (state S.Store conn.old).now → IfOk result (λ lines. map (λ l. l.unit) lines ≡ old_codes (state S.Store conn.old).now.trees) }
-    ensures reads { OnlyReadsOld (state S.Store conn.old) (state S.Store conn.new) }
+    ensures rows { LoadsOldCodes S.Store conn.old conn.new result }
+    ensures reads { ReadsOldBooks S.Store conn.old conn.new }
 {
     read_rows(alloc, conn, "SELECT unit FROM units ORDER BY unit", &[])
 }
@@ -275,8 +270,8 @@ pub fn old_rows_of<T: OldRow, S: Alter>(
 ) -> Result<List<T>, Error>
     requires { conn.old.in_transaction ≡ false }
     ensures mode { conn.new.in_transaction ≡ false }
-    ensures rows { HasCleanDisk (state S.Store conn.new) → AreOldBooks (state S.Store conn.old).now → IfOk result (λ rows. rows ≡ T.had unit.now (state S.Store conn.old).now.trees) }
-    ensures reads { OnlyReadsOld (state S.Store conn.old) (state S.Store conn.new) }
+    ensures rows { LoadsOld S.Store conn.old conn.new (T.had unit.now) result }
+    ensures reads { ReadsOldBooks S.Store conn.old conn.new }
 {
     read_rows(alloc, conn, T::old_select(), &single(unit))
 }

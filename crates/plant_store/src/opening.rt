@@ -5,11 +5,12 @@ ghost use Rattle.sqlite.specs.Held.{state};
 ghost use Rattle.sqlite_value.specs.Order.{column};
 ghost use Rattle.sqlite_value.specs.declared.value.Value.TheVariants.{Text as TextValue};
 ghost use Rattle.plant_store.specs.Changes.{IsHonest};
-ghost use Rattle.plant_store.specs.OnlyReads.{OnlyReads, OnlyReadsOld};
 ghost use Rattle.plant_columns.specs.Codes as codings;
 ghost use Rattle.plant_store.specs.Opening as opening;
 ghost use Rattle.plant_store.specs.Opening.{IsOffice, office_cells};
 ghost use Rattle.plant_columns.specs.Shown.{columns};
+ghost use Rattle.plant_store.specs.Opened.{FindsOffice, HasNoOffice};
+ghost use Rattle.plant_store.specs.Reading.{ReadsBooks, ReadsOldBooks};
 
 use crate::read::ask;
 use plant_types::Person;
@@ -85,9 +86,11 @@ fn has_its_row<S: Alter>(
 ) -> Result<bool, Error>
     requires { conn.old.in_transaction ≡ false }
     ensures mode { conn.new.in_transaction ≡ false }
-    ensures row { IsHonest (state S.Store conn.new) → opening.has_office (state S.Store conn.old).now.schema ≡ true → IfOk result (λ is. IsTrue is ↔ IsOffice schema admin.now (state S.Store conn.old).now) }
-    ensures reads { OnlyReads (state S.Store conn.old) (state S.Store conn.new) }
-    ensures reads_old { OnlyReadsOld (state S.Store conn.old) (state S.Store conn.new) }
+    ensures row { IsHonest (state S.Store conn.new)
+        → opening.has_office (state S.Store conn.old).now.schema ≡ true
+        → IfOk result (λ is. IsTrue is ↔ IsOffice schema admin.now (state S.Store conn.old).now) }
+    ensures reads { ReadsBooks S.Store conn.old conn.new }
+    ensures reads_old { ReadsOldBooks S.Store conn.old conn.new }
 {
     let rows = ask(conn, "SELECT id, schema_no, admin FROM office", &[])?;
     Ok(is_office_row(rows.as_slice(), schema, admin))
@@ -101,10 +104,10 @@ pub fn is_office_of<S: Alter>(
 ) -> Result<bool, Error>
     requires { conn.old.in_transaction ≡ false }
     ensures mode { conn.new.in_transaction ≡ false }
-    ensures row { IsHonest (state S.Store conn.new) → IfOk result (λ is. IsTrue is ↔ IsOffice schema admin.now (state S.Store conn.old).now) }
-    ensures missing { opening.has_office (state S.Store conn.old).now.schema ≡ false → result ≡ Ok false }
-    ensures reads { OnlyReads (state S.Store conn.old) (state S.Store conn.new) }
-    ensures reads_old { OnlyReadsOld (state S.Store conn.old) (state S.Store conn.new) }
+    ensures row { FindsOffice S.Store conn.old conn.new schema admin.now result }
+    ensures missing { HasNoOffice S.Store conn.old → result ≡ Ok false }
+    ensures reads { ReadsBooks S.Store conn.old conn.new }
+    ensures reads_old { ReadsOldBooks S.Store conn.old conn.new }
 {
     if !has_office(conn.schema()) {
         return Ok(false);

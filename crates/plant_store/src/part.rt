@@ -1,25 +1,20 @@
 //! The part of a unit's rows that a call looks at.
 
-ghost use Rattle.std.specs.Prelude.{◌≡◌, ◌||◌, ℕ, false, filter, true, IfOk, Some};
+ghost use Rattle.std.specs.Prelude.{◌≡◌, false, IfOk, Some};
 ghost use Rattle.sqlite.specs.Held.{state};
-ghost use Rattle.sqlite.specs.State.{HasCleanDisk};
-ghost use Rattle.plant_model.specs.Parts.{counted_for, is_crowded as is_crowded_in, part_of_holder};
+ghost use Rattle.plant_model.specs.Parts.{part_of_holder};
 ghost use Rattle.plant_model.specs.Worlds.{unit_named};
-ghost use Rattle.plant_types.specs.Names.{same_name};
-ghost use Rattle.plant_model.specs.declared.rows.UnitRows.{UnitRows as Rows};
 ghost use Rattle.plant_types.specs.Names.{Name};
-ghost use Rattle.plant_books.specs.Asking.{is_shelving as is_shelving_by, looks_at_events as looks_at_events_by, number_approved as number_approved_by, selection_by};
-ghost use Rattle.plant_model.specs.Histories.{same_number};
 ghost use Rattle.plant_books.specs.Contents.{Content, part_in, rows_in};
 ghost use Rattle.plant_store.specs.Changes.{IsHonest};
-ghost use Rattle.plant_store.specs.OnlyReads.{OnlyReads};
 ghost use Rattle.plant_store.specs.Keeping.{KeepsIn};
-ghost use Rattle.plant_columns.specs.Tables.{AreBooks, rows_seen};
-ghost use Rattle.plant_columns.specs.Tables.Kept.{UnitKept, GrantKept, AlarmKept, ShelfKept, EventKept, RecordKept, ChangeKept};
+ghost use Rattle.plant_columns.specs.Tables.{rows_seen};
+ghost use Rattle.plant_columns.specs.Tables.Kept.{UnitKept};
 ghost use Rattle.plant_model.specs.RowFacts.{event_number};
 ghost use Rattle.plant_types.specs.KeyedRows.{IsInOrder};
 ghost use Rattle.std.specs.Ordering.{nat_cmp};
-ghost use Rattle.plant_store.specs.Wanted.{alarms_with, events_with, records_with, shelves_with};
+ghost use Rattle.plant_store.specs.Parts.{AreAskedBy, LoadsApproved, LoadsCount, LoadsCrowding, LoadsGrants, alarms_seen, events_seen, grants_of, records_seen, shelves_seen};
+ghost use Rattle.plant_store.specs.Reading.{Finds, Loads, ReadsBooks};
 
 use crate::numbers::{some_bands, some_cells, some_changes};
 use crate::read::{
@@ -51,9 +46,8 @@ pub fn some_grants<S: Alter>(
 ) -> Result<List<GrantRow>, Error>
     requires { conn.old.in_transaction ≡ false }
     ensures mode { conn.new.in_transaction ≡ false }
-    ensures rows { HasCleanDisk (state S.Store conn.new) → AreBooks (state S.Store conn.old).now → IfOk result (λ rows. (p : Name) → own ≡ filter (λ g. same_name p g.person) (rows_seen unit.now (state S.Store conn.old).now.trees GrantKept)
-        → rows ≡ filter (λ g. same_name p g.person || all) (rows_seen unit.now (state S.Store conn.old).now.trees GrantKept)) }
-    ensures reads { OnlyReads (state S.Store conn.old) (state S.Store conn.new) }
+    ensures rows { LoadsGrants S.Store conn.old conn.new unit.now own all result }
+    ensures reads { ReadsBooks S.Store conn.old conn.new }
 {
     if all {
         all_rows(alloc, conn, unit)
@@ -71,8 +65,8 @@ pub fn some_alarms<S: Alter>(
 ) -> Result<List<AlarmRow>, Error>
     requires { conn.old.in_transaction ≡ false }
     ensures mode { conn.new.in_transaction ≡ false }
-    ensures rows { HasCleanDisk (state S.Store conn.new) → AreBooks (state S.Store conn.old).now → IfOk result (λ rows. rows ≡ alarms_with wanted.entry (rows_seen unit.now (state S.Store conn.old).now.trees AlarmKept)) }
-    ensures reads { OnlyReads (state S.Store conn.old) (state S.Store conn.new) }
+    ensures rows { Loads S.Store conn.old conn.new (alarms_seen wanted.entry unit.now) result }
+    ensures reads { ReadsBooks S.Store conn.old conn.new }
 {
     match wanted {
         Wanted::Nothing => Ok(List::new(alloc)),
@@ -90,8 +84,8 @@ pub fn some_shelves<S: Alter>(
 ) -> Result<List<ShelfRow>, Error>
     requires { conn.old.in_transaction ≡ false }
     ensures mode { conn.new.in_transaction ≡ false }
-    ensures rows { HasCleanDisk (state S.Store conn.new) → AreBooks (state S.Store conn.old).now → IfOk result (λ rows. rows ≡ shelves_with wanted.entry (rows_seen unit.now (state S.Store conn.old).now.trees ShelfKept)) }
-    ensures reads { OnlyReads (state S.Store conn.old) (state S.Store conn.new) }
+    ensures rows { Loads S.Store conn.old conn.new (shelves_seen wanted.entry unit.now) result }
+    ensures reads { ReadsBooks S.Store conn.old conn.new }
 {
     match wanted {
         Wanted::Nothing => Ok(List::new(alloc)),
@@ -109,8 +103,8 @@ pub fn some_records<S: Alter>(
 ) -> Result<List<RecordEntry>, Error>
     requires { conn.old.in_transaction ≡ false }
     ensures mode { conn.new.in_transaction ≡ false }
-    ensures rows { HasCleanDisk (state S.Store conn.new) → AreBooks (state S.Store conn.old).now → IfOk result (λ rows. rows ≡ records_with wanted.entry (rows_seen unit.now (state S.Store conn.old).now.trees RecordKept)) }
-    ensures reads { OnlyReads (state S.Store conn.old) (state S.Store conn.new) }
+    ensures rows { Loads S.Store conn.old conn.new (records_seen wanted.entry unit.now) result }
+    ensures reads { ReadsBooks S.Store conn.old conn.new }
 {
     match wanted {
         Wanted::Nothing => Ok(List::new(alloc)),
@@ -128,8 +122,8 @@ pub fn some_events<S: Alter>(
 ) -> Result<List<Event>, Error>
     requires { conn.old.in_transaction ≡ false }
     ensures mode { conn.new.in_transaction ≡ false }
-    ensures rows { HasCleanDisk (state S.Store conn.new) → AreBooks (state S.Store conn.old).now → IfOk result (λ rows. rows ≡ events_with wanted (rows_seen unit.now (state S.Store conn.old).now.trees EventKept)) }
-    ensures reads { OnlyReads (state S.Store conn.old) (state S.Store conn.new) }
+    ensures rows { Loads S.Store conn.old conn.new (events_seen wanted unit.now) result }
+    ensures reads { ReadsBooks S.Store conn.old conn.new }
 {
     if wanted {
         all_rows(alloc, conn, unit)
@@ -140,7 +134,7 @@ pub fn some_events<S: Alter>(
 
 /// Of the unit's events, which stand in rising number, those that the scope takes in. All of them are not copied.
 fn events_for(alloc: Global, events: List<Event>, scope: Scope<'_>) -> Result<List<Event>, Error>
-    ensures { IsInOrder nat_cmp event_number events → IfOk result (λ asked. (rows : Rows) → asked ≡ (selection_by rows scope.entry).events events) }
+    ensures { IsInOrder nat_cmp event_number events → IfOk result (AreAskedBy scope.entry events) }
 {
     let wanted = wanted_events(scope);
     if matches!(wanted, WantedEvents::Every) {
@@ -162,8 +156,8 @@ fn count_for<S: Alter>(
 ) -> Result<u64, Error>
     requires { conn.old.in_transaction ≡ false }
     ensures mode { conn.new.in_transaction ≡ false }
-    ensures rows { HasCleanDisk (state S.Store conn.new) → AreBooks (state S.Store conn.old).now → IfOk result (λ n. (rows : Rows) → rows.alarms ≡ rows_seen unit.now (state S.Store conn.old).now.trees AlarmKept → rows.changes ≡ rows_seen unit.now (state S.Store conn.old).now.trees ChangeKept → (looks_at_events_by request.now ≡ true → rows.events ≡ events.now) → n ≡ counted_for rows request.now) }
-    ensures reads { OnlyReads (state S.Store conn.old) (state S.Store conn.new) }
+    ensures rows { LoadsCount S.Store conn.old conn.new unit.now request.now events.now result }
+    ensures reads { ReadsBooks S.Store conn.old conn.new }
 {
     match request.kind().count() {
         Counted::Nothing => Ok(0),
@@ -182,8 +176,8 @@ fn crowded_for<S: Alter>(
 ) -> Result<bool, Error>
     requires { conn.old.in_transaction ≡ false }
     ensures mode { conn.new.in_transaction ≡ false }
-    ensures rows { HasCleanDisk (state S.Store conn.new) → AreBooks (state S.Store conn.old).now → IfOk result (λ crowded. (rows : Rows) → rows.units ≡ units.now → rows.shelves ≡ rows_seen unit.now (state S.Store conn.old).now.trees ShelfKept → is_shelving_by request.now ≡ true → is_crowded_in rows ≡ crowded) }
-    ensures reads { OnlyReads (state S.Store conn.old) (state S.Store conn.new) }
+    ensures rows { LoadsCrowding S.Store conn.old conn.new unit.now units.now request.now result }
+    ensures reads { ReadsBooks S.Store conn.old conn.new }
 {
     if is_shelving(request) {
         Ok(is_crowded(units, count_of_shelves(conn, unit)?))
@@ -201,8 +195,8 @@ fn approved_for<S: Alter>(
 ) -> Result<List<ChangeEntry>, Error>
     requires { conn.old.in_transaction ≡ false }
     ensures mode { conn.new.in_transaction ≡ false }
-    ensures rows { HasCleanDisk (state S.Store conn.new) → AreBooks (state S.Store conn.old).now → IfOk result (λ rows. (n : ℕ) → number_approved_by request.now ≡ Some n → rows ≡ filter (λ r. same_number n r.number) (rows_seen unit.now (state S.Store conn.old).now.trees ChangeKept)) }
-    ensures reads { OnlyReads (state S.Store conn.old) (state S.Store conn.new) }
+    ensures rows { LoadsApproved S.Store conn.old conn.new unit.now request.now result }
+    ensures reads { ReadsBooks S.Store conn.old conn.new }
 {
     match number_approved(request) {
         Some(number) => rows_of_number(alloc, conn, unit, number),
@@ -221,10 +215,12 @@ fn holders_part<S: Alter>(
 ) -> Result<UnitPart, Error>
     requires { conn.old.in_transaction ≡ false }
     ensures mode { conn.new.in_transaction ≡ false }
-    ensures found { IsHonest (state S.Store conn.new) → (m : Content) → KeepsIn (state S.Store conn.old) m
-        → units ≡ rows_seen unit.now (state S.Store conn.old).now.trees UnitKept → own ≡ filter (λ g. same_name call.now.person g.person) (rows_seen unit.now (state S.Store conn.old).now.trees GrantKept)
+    ensures found { IsHonest (state S.Store conn.new) → (m : Content)
+        → KeepsIn (state S.Store conn.old) m
+        → units ≡ rows_seen unit.now (state S.Store conn.old).now.trees UnitKept
+        → own ≡ grants_of call.now.person unit.now (state S.Store conn.old).now.trees
         → IfOk result (λ part. part ≡ part_of_holder call.now (rows_in m unit.now)) }
-    ensures reads { OnlyReads (state S.Store conn.old) (state S.Store conn.new) }
+    ensures reads { ReadsBooks S.Store conn.old conn.new }
 {
     let request = &call.request;
     let crowded = crowded_for(conn, unit, &units, request)?;
@@ -271,8 +267,8 @@ fn unit_part<S: Alter>(
 ) -> Result<Option<UnitPart>, Error>
     requires { conn.old.in_transaction ≡ false }
     ensures mode { conn.new.in_transaction ≡ false }
-    ensures found { IsHonest (state S.Store conn.new) → (m : Content) → KeepsIn (state S.Store conn.old) m → IfOk result (λ part. part ≡ part_in m call.now unit.now) }
-    ensures reads { OnlyReads (state S.Store conn.old) (state S.Store conn.new) }
+    ensures found { Finds S.Store conn.old conn.new result (λ m. part_in m call.now unit.now) }
+    ensures reads { ReadsBooks S.Store conn.old conn.new }
 {
     let units = all_rows(alloc, conn, unit)?;
     if !has_row(&units) {
@@ -294,8 +290,10 @@ pub fn part_of<S: Alter>(
 ) -> Result<Option<UnitPart>, Error>
     requires { conn.old.in_transaction ≡ false }
     ensures mode { conn.new.in_transaction ≡ false }
-    ensures found { IsHonest (state S.Store conn.new) → (m : Content) → KeepsIn (state S.Store conn.old) m → (u : Name) → unit_named call.now.request ≡ Some u → IfOk result (λ part. part ≡ part_in m call.now u) }
-    ensures reads { OnlyReads (state S.Store conn.old) (state S.Store conn.new) }
+    ensures found { IsHonest (state S.Store conn.new) → (m : Content)
+        → KeepsIn (state S.Store conn.old) m → (u : Name) → unit_named call.now.request ≡ Some u
+        → IfOk result (λ part. part ≡ part_in m call.now u) }
+    ensures reads { ReadsBooks S.Store conn.old conn.new }
 {
     match call.request.unit() {
         Some(unit) => unit_part(alloc, conn, unit, call),

@@ -1,21 +1,9 @@
 //! The statements that read one unit's rows of one table.
 
-ghost use Rattle.std.specs.Prelude.{◌≡◌, [], ◌∷◌, false, filter, length, map, IfOk, List};
-ghost use Rattle.sqlite.specs.Held.{state};
-ghost use Rattle.sqlite.specs.Listing.{understood};
-ghost use Rattle.sqlite.specs.Schema.{Schema};
-ghost use Rattle.sqlite.specs.State.{HasCleanDisk, Shown as IsShown};
-ghost use Rattle.sqlite.specs.Values.{bound};
-ghost use Rattle.sqlite.proofs.Callers.{IsPlain};
-ghost use Rattle.sqlite_value.specs.Order.{Row as Line};
-ghost use Rattle.plant_model.specs.Histories.{same_number};
-ghost use Rattle.plant_model.specs.RowFacts.{last_number};
-ghost use Rattle.plant_types.specs.Names.{same_name};
-ghost use Rattle.plant_store.specs.Changes.{IsHonest};
-ghost use Rattle.plant_store.specs.OnlyReads.{OnlyReads};
-ghost use Rattle.plant_columns.specs.Shown.{columns};
-ghost use Rattle.plant_columns.specs.Tables.{AreBooks, rows_seen};
-ghost use Rattle.plant_columns.specs.Tables.Kept.{AlarmKept, ChangeKept, GrantKept, ShelfKept};
+ghost use Rattle.std.specs.Prelude.{◌≡◌, false};
+ghost use Rattle.plant_columns.specs.Tables.Kept.{AlarmKept, ShelfKept};
+ghost use Rattle.plant_store.specs.Parts.{count_seen, grants_of, last_change_seen};
+ghost use Rattle.plant_store.specs.Reading.{Asks, Decodes, Loads, LoadsNumber, LoadsTag, ReadsBooks, SameIfPlain, WasHonest};
 
 use crate::stored::{Numbered, Stored, Tagged};
 use plant_columns::decode::{Shown, read_all, wide};
@@ -34,9 +22,9 @@ pub fn ask<S: Alter>(
 ) -> Result<Vec<Row>, Error>
     requires { conn.old.in_transaction ≡ false }
     ensures mode { conn.new.in_transaction ≡ false }
-    ensures rows { HasCleanDisk (state S.Store conn.new) → IfOk result (λ rows. IsShown sql.now (bound cells.now) (state S.Store conn.old) (state S.Store conn.new) rows.items) }
-    ensures same { IsHonest (state S.Store conn.new) → (schema : Schema) → (state S.Store conn.old).now.schema ≡ schema → IsPlain (understood schema sql.now) → (state S.Store conn.new).now ≡ (state S.Store conn.old).now }
-    ensures honest { IsHonest (state S.Store conn.new) → IsHonest (state S.Store conn.old) }
+    ensures rows { Asks S.Store conn.old conn.new sql.now cells.now result (λ rows. rows.items) }
+    ensures same { SameIfPlain S.Store conn.old conn.new sql.now }
+    ensures honest { WasHonest S.Store conn.old conn.new }
 {
     let _settled = conn.is_autocommit();
     conn.query_all(sql, cells)
@@ -51,9 +39,9 @@ pub fn read_rows<T: Shown, S: Alter>(
 ) -> Result<List<T>, Error>
     requires { conn.old.in_transaction ≡ false }
     ensures mode { conn.new.in_transaction ≡ false }
-    ensures rows { HasCleanDisk (state S.Store conn.new) → IfOk result (λ rows. (lines : List Line) × (IsShown sql.now (bound cells.now) (state S.Store conn.old) (state S.Store conn.new) lines × (map (columns T.width) lines ≡ map T.cells rows))) }
-    ensures same { IsHonest (state S.Store conn.new) → (schema : Schema) → (state S.Store conn.old).now.schema ≡ schema → IsPlain (understood schema sql.now) → (state S.Store conn.new).now ≡ (state S.Store conn.old).now }
-    ensures honest { IsHonest (state S.Store conn.new) → IsHonest (state S.Store conn.old) }
+    ensures rows { Decodes S.Store conn.old conn.new sql.now cells.now T.width T.cells result }
+    ensures same { SameIfPlain S.Store conn.old conn.new sql.now }
+    ensures honest { WasHonest S.Store conn.old conn.new }
 {
     let rows = ask(conn, sql, cells)?;
     read_all(alloc, rows.as_slice())
@@ -67,8 +55,8 @@ pub fn all_rows<T: Stored, S: Alter>(
 ) -> Result<List<T>, Error>
     requires { conn.old.in_transaction ≡ false }
     ensures mode { conn.new.in_transaction ≡ false }
-    ensures rows { HasCleanDisk (state S.Store conn.new) → AreBooks (state S.Store conn.old).now → IfOk result (λ rows. rows ≡ T.seen unit.now (state S.Store conn.old).now.trees) }
-    ensures reads { OnlyReads (state S.Store conn.old) (state S.Store conn.new) }
+    ensures rows { Loads S.Store conn.old conn.new (T.seen unit.now) result }
+    ensures reads { ReadsBooks S.Store conn.old conn.new }
 {
     read_rows(alloc, conn, T::select(), &single(unit))
 }
@@ -82,8 +70,8 @@ pub fn row_of_tag<T: Tagged, S: Alter>(
 ) -> Result<List<T>, Error>
     requires { conn.old.in_transaction ≡ false }
     ensures mode { conn.new.in_transaction ≡ false }
-    ensures rows { HasCleanDisk (state S.Store conn.new) → AreBooks (state S.Store conn.old).now → IfOk result (λ rows. rows ≡ filter (λ r. same_name tag.now (T.tag r)) (T.seen unit.now (state S.Store conn.old).now.trees)) }
-    ensures reads { OnlyReads (state S.Store conn.old) (state S.Store conn.new) }
+    ensures rows { LoadsTag S.Store conn.old conn.new T.seen unit.now T.tag tag.now result }
+    ensures reads { ReadsBooks S.Store conn.old conn.new }
 {
     read_rows(alloc, conn, T::select_of_tag(), &pair(unit, tag))
 }
@@ -97,8 +85,8 @@ pub fn rows_of_number<T: Numbered, S: Alter>(
 ) -> Result<List<T>, Error>
     requires { conn.old.in_transaction ≡ false }
     ensures mode { conn.new.in_transaction ≡ false }
-    ensures rows { HasCleanDisk (state S.Store conn.new) → AreBooks (state S.Store conn.old).now → IfOk result (λ rows. rows ≡ filter (λ r. same_number number (T.number r)) (T.seen unit.now (state S.Store conn.old).now.trees)) }
-    ensures reads { OnlyReads (state S.Store conn.old) (state S.Store conn.new) }
+    ensures rows { LoadsNumber S.Store conn.old conn.new T.seen unit.now T.number number result }
+    ensures reads { ReadsBooks S.Store conn.old conn.new }
 {
     read_rows(alloc, conn, T::select_of_number(), &numbered(unit, number))
 }
@@ -112,8 +100,8 @@ pub fn own_grants<S: Alter>(
 ) -> Result<List<GrantRow>, Error>
     requires { conn.old.in_transaction ≡ false }
     ensures mode { conn.new.in_transaction ≡ false }
-    ensures rows { HasCleanDisk (state S.Store conn.new) → AreBooks (state S.Store conn.old).now → IfOk result (λ rows. rows ≡ filter (λ g. same_name person.now g.person) (rows_seen unit.now (state S.Store conn.old).now.trees GrantKept)) }
-    ensures reads { OnlyReads (state S.Store conn.old) (state S.Store conn.new) }
+    ensures rows { Loads S.Store conn.old conn.new (grants_of person.now unit.now) result }
+    ensures reads { ReadsBooks S.Store conn.old conn.new }
 {
     read_rows(
         alloc,
@@ -127,8 +115,8 @@ pub fn own_grants<S: Alter>(
 pub fn count_of_alarms<S: Alter>(conn: &mut Connection<S>, unit: &UnitCode) -> Result<u64, Error>
     requires { conn.old.in_transaction ≡ false }
     ensures mode { conn.new.in_transaction ≡ false }
-    ensures rows { HasCleanDisk (state S.Store conn.new) → AreBooks (state S.Store conn.old).now → IfOk result (λ n. n ≡ length (rows_seen unit.now (state S.Store conn.old).now.trees AlarmKept)) }
-    ensures reads { OnlyReads (state S.Store conn.old) (state S.Store conn.new) }
+    ensures rows { Loads S.Store conn.old conn.new (count_seen unit.now AlarmKept) result }
+    ensures reads { ReadsBooks S.Store conn.old conn.new }
 {
     let tags = ask(
         conn,
@@ -142,8 +130,8 @@ pub fn count_of_alarms<S: Alter>(conn: &mut Connection<S>, unit: &UnitCode) -> R
 pub fn count_of_shelves<S: Alter>(conn: &mut Connection<S>, unit: &UnitCode) -> Result<u64, Error>
     requires { conn.old.in_transaction ≡ false }
     ensures mode { conn.new.in_transaction ≡ false }
-    ensures rows { HasCleanDisk (state S.Store conn.new) → AreBooks (state S.Store conn.old).now → IfOk result (λ n. n ≡ length (rows_seen unit.now (state S.Store conn.old).now.trees ShelfKept)) }
-    ensures reads { OnlyReads (state S.Store conn.old) (state S.Store conn.new) }
+    ensures rows { Loads S.Store conn.old conn.new (count_seen unit.now ShelfKept) result }
+    ensures reads { ReadsBooks S.Store conn.old conn.new }
 {
     let tags = ask(
         conn,
@@ -157,8 +145,8 @@ pub fn count_of_shelves<S: Alter>(conn: &mut Connection<S>, unit: &UnitCode) -> 
 pub fn last_change_number<S: Alter>(conn: &mut Connection<S>, unit: &UnitCode) -> Result<u64, Error>
     requires { conn.old.in_transaction ≡ false }
     ensures mode { conn.new.in_transaction ≡ false }
-    ensures rows { HasCleanDisk (state S.Store conn.new) → AreBooks (state S.Store conn.old).now → IfOk result (λ n. n ≡ last_number (rows_seen unit.now (state S.Store conn.old).now.trees ChangeKept)) }
-    ensures reads { OnlyReads (state S.Store conn.old) (state S.Store conn.new) }
+    ensures rows { Loads S.Store conn.old conn.new (last_change_seen unit.now) result }
+    ensures reads { ReadsBooks S.Store conn.old conn.new }
 {
     let rows = ask(
         conn,

@@ -1,18 +1,13 @@
 //! The shelves of the units in which a person holds roles.
 
-ghost use Rattle.std.specs.Prelude.{◌≡◌, ◌∷◌, ◌++◌, false, map, List, None, IfOk, OnOk};
-ghost use Rattle.sqlite.specs.Held.{state};
-ghost use Rattle.plant_books.specs.Contents as contents;
-ghost use Rattle.plant_books.specs.Contents.{Content};
-ghost use Rattle.plant_store.specs.Changes.{IsHonest};
-ghost use Rattle.plant_store.specs.OnlyReads.{OnlyReads};
-ghost use Rattle.plant_store.specs.Keeping.{KeepsIn};
-ghost use Rattle.plant_store.specs.Shelves.{is_again, last_of, merged_after, shelf_line_cells, shelf_lines, shelf_of, standing_shelf_lines, with_return};
-ghost use Rattle.plant_store.specs.declared.shelves.ShelfLine.{ShelfLine as LineRow};
+ghost use Rattle.std.specs.Prelude.{◌≡◌, false, map, None, IfOk, OnOk};
+ghost use Rattle.plant_books.specs.Contents.{mine_shelves as shelves_held};
+ghost use Rattle.plant_store.specs.Shelves.{ListsLine, is_again, last_of, merged_after, shelf_line_cells, shelf_lines, shelf_of, standing_shelf_lines, with_return};
+ghost use Rattle.plant_store.specs.Reading.{Finds, ReadsBooks};
 
 use crate::mine::{is_before_end, push};
 use crate::read::{ask, row_of_tag};
-use plant_books::{MineShelf, last_return};
+use plant_books::{MineRow, last_return};
 use plant_columns::decode::{Shown, flag, moment, open_moment, read_all, text, wide};
 use plant_columns::encode::single;
 use plant_model::ShelfRow;
@@ -79,7 +74,7 @@ fn is_last(listed: &[UnitShelf], line: &ShelfLine) -> bool
 /// Lists the shelf of the line, once.
 #[tactic(auto, using(crate::proofs::ShelfLaws::lists_one, crate::proofs::ShelfLaws::lists_none))]
 fn list(alloc: Global, listed: &mut List<UnitShelf>, line: &ShelfLine) -> Result<(), Error>
-    ensures { OnOk result ((rest : List LineRow) → listed.new ++ merged_after (last_of listed.new) rest ≡ listed.old ++ merged_after (last_of listed.old) (line.now ∷ rest)) }
+    ensures { OnOk result (ListsLine listed.old line.now listed.new) }
 {
     if is_last(listed.as_slice(), line) {
         return Ok(());
@@ -93,7 +88,7 @@ fn list(alloc: Global, listed: &mut List<UnitShelf>, line: &ShelfLine) -> Result
 
 /// The shelves of the lines, each once, without those of grants that have ended.
 fn merge(alloc: Global, lines: &[ShelfLine], now: Moment) -> Result<List<UnitShelf>, Error>
-    ensures { IfOk result (λ listed. listed ≡ merged_after None (standing_shelf_lines now lines.now)) }
+    ensures { IfOk result (λ all. all ≡ merged_after None (standing_shelf_lines now lines.now)) }
 {
     let mut listed = List::new(alloc);
     for line in lines {
@@ -112,8 +107,8 @@ fn lines<S: Alter>(
 ) -> Result<List<ShelfLine>, Error>
     requires { conn.old.in_transaction ≡ false }
     ensures mode { conn.new.in_transaction ≡ false }
-    ensures found { IsHonest (state S.Store conn.new) → (m : Content) → KeepsIn (state S.Store conn.old) m → IfOk result (λ lines. lines ≡ shelf_lines m person.now) }
-    ensures reads { OnlyReads (state S.Store conn.old) (state S.Store conn.new) }
+    ensures found { Finds S.Store conn.old conn.new result (λ m. shelf_lines m person.now) }
+    ensures reads { ReadsBooks S.Store conn.old conn.new }
 {
     let rows = ask(
         conn,
@@ -128,14 +123,14 @@ fn returned<S: Alter>(
     alloc: Global,
     conn: &mut Connection<S>,
     listed: &UnitShelf,
-) -> Result<MineShelf, Error>
+) -> Result<MineRow, Error>
     requires { conn.old.in_transaction ≡ false }
     ensures mode { conn.new.in_transaction ≡ false }
-    ensures found { IsHonest (state S.Store conn.new) → (m : Content) → KeepsIn (state S.Store conn.old) m → IfOk result (λ mine. mine ≡ with_return m listed.now) }
-    ensures reads { OnlyReads (state S.Store conn.old) (state S.Store conn.new) }
+    ensures found { Finds S.Store conn.old conn.new result (λ m. with_return m listed.now) }
+    ensures reads { ReadsBooks S.Store conn.old conn.new }
 {
     let alarms = row_of_tag(alloc, conn, &listed.unit, &listed.shelf.tag)?;
-    Ok(MineShelf {
+    Ok(MineRow {
         unit: copied(alloc, &listed.unit)?,
         shelf: copied(alloc, &listed.shelf)?,
         last_return: last_return(alarms.as_slice(), &listed.shelf.tag),
@@ -147,11 +142,11 @@ fn all_returned<S: Alter>(
     alloc: Global,
     conn: &mut Connection<S>,
     shelves: &[UnitShelf],
-) -> Result<List<MineShelf>, Error>
+) -> Result<List<MineRow>, Error>
     requires { conn.old.in_transaction ≡ false }
     ensures mode { conn.new.in_transaction ≡ false }
-    ensures found { IsHonest (state S.Store conn.new) → (m : Content) → KeepsIn (state S.Store conn.old) m → IfOk result (λ mine. mine ≡ map (with_return m) shelves.now) }
-    ensures reads { OnlyReads (state S.Store conn.old) (state S.Store conn.new) }
+    ensures found { Finds S.Store conn.old conn.new result (λ m. map (with_return m) shelves.now) }
+    ensures reads { ReadsBooks S.Store conn.old conn.new }
 {
     let mut mine = List::new(alloc);
     for shelf in shelves {
@@ -167,11 +162,11 @@ pub fn mine_shelves<S: Alter>(
     conn: &mut Connection<S>,
     person: &Person,
     now: Moment,
-) -> Result<List<MineShelf>, Error>
+) -> Result<List<MineRow>, Error>
     requires { conn.old.in_transaction ≡ false }
     ensures mode { conn.new.in_transaction ≡ false }
-    ensures found { IsHonest (state S.Store conn.new) → (m : Content) → KeepsIn (state S.Store conn.old) m → IfOk result (λ mine. mine ≡ contents.mine_shelves m now person.now) }
-    ensures reads { OnlyReads (state S.Store conn.old) (state S.Store conn.new) }
+    ensures found { Finds S.Store conn.old conn.new result (λ m. shelves_held m now person.now) }
+    ensures reads { ReadsBooks S.Store conn.old conn.new }
 {
     let lines = lines(alloc, conn, person)?;
     let shelves = merge(alloc, lines.as_slice(), now)?;

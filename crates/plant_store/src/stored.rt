@@ -1,23 +1,17 @@
 //! The tables, each described once: the statements that read its rows and that put one.
 
-ghost use Rattle.std.specs.Prelude.{◌≡◌, ◌∷◌, [], ℕ, filter, IfOk, IsTrue, List, OnOk};
-ghost use Rattle.sqlite.specs.Held.{state};
-ghost use Rattle.sqlite.specs.State.{HasCleanDisk};
+ghost use Rattle.std.specs.Prelude.{◌≡◌, ◌∷◌, [], ℕ, List};
 ghost use Rattle.sqlite.specs.Tree.{Trees};
-ghost use Rattle.sqlite_value.specs.declared.value.Value.TheVariants.{Text as TextValue};
-ghost use Rattle.plant_columns.specs.Codes as codes;
-ghost use Rattle.plant_columns.specs.Tables.{AreBooks, rows_seen};
+ghost use Rattle.plant_columns.specs.Tables.{rows_seen};
 ghost use Rattle.plant_columns.specs.Tables.Kept.{AlarmKept, BandKept, CellKept, ChangeKept, EventKept, GrantKept, RecordKept, ShelfKept, UnitKept};
-ghost use Rattle.plant_model.specs.Histories.{same_number};
 ghost use Rattle.plant_model.specs.RowFacts.{change_number};
 ghost use Rattle.plant_model.specs.declared.rows.RowEdit.TheVariants.{Put};
 ghost use Rattle.plant_model.specs.declared.rows.Row.{Row as AnyRow};
 ghost use Rattle.plant_model.specs.declared.rows.Row.TheVariants.{Alarm as AlarmPut, Band as BandPut, Cell as CellPut, Change as ChangePut, Event as EventPut, Grant as GrantPut, Record as RecordPut, Shelf as ShelfPut, Unit as UnitPut};
-ghost use Rattle.plant_store.specs.Changes.{Applies};
-ghost use Rattle.plant_store.specs.StaysInside.{StaysInside};
-ghost use Rattle.plant_store.specs.Statements.{Reads, changes_written};
+ghost use Rattle.plant_store.specs.Statements.{ReadsNumber, ReadsTag, ReadsUnit};
 ghost use Rattle.plant_store.specs.Texts.{alarms_of_text, bands_of_text, cells_of_text, changes_of_text, events_of_text, grants_of_text, records_of_text, shelves_of_text, units_of_text};
-ghost use Rattle.plant_types.specs.Names.{Name, same_name};
+ghost use Rattle.plant_types.specs.Names.{Name};
+ghost use Rattle.plant_store.specs.Writing.{SameReference, StaysOpen, Updates, Writes};
 
 use crate::write::{run, run_counting};
 use plant_alarm::Event;
@@ -44,25 +38,23 @@ pub trait Stored: Shown {
 
     /// The text that reads all rows of a unit, in the order of their keys.
     fn select() -> &'static str
-        ensures reads { (u : Name) → Reads Self.width Self.cells (seen u) (TextValue u ∷ []) result.now }
+        ensures reads { ReadsUnit Self.width Self.cells seen result.now }
         ensures text { result.now ≡ select_text };
 
     /// Updates the row with the same key, and returns how many rows were written. Rows of some tables never change: 0.
     fn update<S: Alter>(&self, tx: &mut Transaction<'_, S>, unit: &UnitCode) -> Result<usize, Error>
-        ensures same_reference { tx.new.conn.ghost_name ≡ tx.old.conn.ghost_name }
-        ensures made { HasCleanDisk (state S.Store tx.new.conn.now) → IsTrue tx.old.conn.now.in_transaction → AreBooks (state S.Store tx.old.conn.now).now
-            → IfOk result (λ count. Applies unit.now (changes_written count (Put (as_row self.now))) (state S.Store tx.old.conn.now).now (state S.Store tx.new.conn.now).now) }
-        ensures stays { StaysInside result (state S.Store tx.old.conn.now) (state S.Store tx.new.conn.now) }
+        ensures same_reference { SameReference tx.old tx.new }
+        ensures made { Updates tx.old tx.new unit.now (Put (as_row self.now)) result }
+        ensures stays { StaysOpen tx.old tx.new result }
     {
         Ok(0)
     }
 
     /// Puts the row as a new one. Fails if there is a row of its key.
     fn insert<S: Alter>(&self, tx: &mut Transaction<'_, S>, unit: &UnitCode) -> Result<(), Error>
-        ensures same_reference { tx.new.conn.ghost_name ≡ tx.old.conn.ghost_name }
-        ensures made { HasCleanDisk (state S.Store tx.new.conn.now) → IsTrue tx.old.conn.now.in_transaction → AreBooks (state S.Store tx.old.conn.now).now
-            → OnOk result (Applies unit.now (Put (as_row self.now) ∷ []) (state S.Store tx.old.conn.now).now (state S.Store tx.new.conn.now).now) }
-        ensures stays { StaysInside result (state S.Store tx.old.conn.now) (state S.Store tx.new.conn.now) };
+        ensures same_reference { SameReference tx.old tx.new }
+        ensures made { Writes tx.old tx.new unit.now (Put (as_row self.now) ∷ []) result }
+        ensures stays { StaysOpen tx.old tx.new result };
 }
 
 /// A row of a table whose key has a tag.
@@ -71,7 +63,7 @@ pub trait Tagged: Stored {
 
     /// The text that reads the unit's row of a tag.
     fn select_of_tag() -> &'static str
-        ensures { (u tagged : Name) → Reads Self.width Self.cells (λ trees. filter (λ r. same_name tagged (tag r)) (Self.seen u trees)) (TextValue u ∷ TextValue tagged ∷ []) result.now };
+        ensures { ReadsTag Self.width Self.cells Self.seen tag result.now };
 }
 
 /// A row of a table whose key begins with a number: that of a matrix, or of a change.
@@ -80,7 +72,7 @@ pub trait Numbered: Stored {
 
     /// The text that reads the unit's rows of a number.
     fn select_of_number() -> &'static str
-        ensures { (u : Name) (n : ℕ) → Reads Self.width Self.cells (λ trees. filter (λ r. same_number n (number r)) (Self.seen u trees)) (TextValue u ∷ codes.number n ∷ []) result.now };
+        ensures { ReadsNumber Self.width Self.cells Self.seen number result.now };
 }
 
 impl Stored for UnitRow {

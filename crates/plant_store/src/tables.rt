@@ -1,22 +1,25 @@
 //! The books of an office, kept in the tables of a connection.
 
-ghost use Rattle.std.specs.Prelude.{◌≡◌, ◌≢◌, ◌↔◌, ℕ, [], false, IsTrue, IsErrAnd, IfOk, IfErr, OnOk, OnErr};
+ghost use Rattle.std.specs.Prelude.{◌≡◌, ◌≢◌, ◌↔◌, ℕ, false, IsTrue, IsErrAnd, IfOk, IfErr};
 ghost use Rattle.sqlite.specs.Held.{state};
 ghost use Rattle.plant_books.specs.Contents.{Content, no_units};
 ghost use Rattle.plant_books.specs.Counting.{CountsFault};
 ghost use Rattle.plant_store.specs.Changes.{IsHonest};
 ghost use Rattle.plant_store.specs.Counting.{Names};
 ghost use Rattle.plant_store.specs.Keeping.{Keeps};
-ghost use Rattle.plant_store.specs.Opening.{IsThisOffice, has_office};
-ghost use Rattle.plant_columns.specs.Tables.{no_schema};
+ghost use Rattle.plant_columns.specs.Tables.{no_schema, schema_no};
 ghost use Rattle.plant_types.specs.declared.fault.Fault.TheVariants.{Store};
+ghost use Rattle.plant_store.specs.Opened.{HasNoOffice, IsAnothers, KeepsAll, KeepsIfErr, KeepsIfOk, WasOffice};
+ghost use Rattle.plant_store.specs.Reading.{WasHonest};
+ghost use Rattle.plant_store.specs.Writing.{SameDatabase};
+ghost use Rattle.plant_store.specs.declared.tables.StoreFault.TheVariants.{NotThisStore};
 
 use crate::make::make_all;
 use crate::opening::is_office_of;
 use crate::{mine, part, shelves, unit, write};
 use plant_alarm::Event;
-use plant_books::{Books, MineShelf, MineUnit};
-use plant_model::{Call, RowEdit, UnitPart, UnitRows};
+use plant_books::{Books, MineRow, MineUnit};
+use plant_model::{Call, Changes, UnitPart, UnitRows};
 use plant_types::{Fault, List, Moment, Person, UnitCode};
 use sqlite::{Alter, Connection, Error as SqlError, ErrorCode};
 use sqlite_schema::schema::Schema;
@@ -105,12 +108,14 @@ impl<S: Alter> Tables<S> {
         admin: Person,
     ) -> Result<Tables<S>, Unopened<S>>
         requires { conn.in_transaction ≡ false }
-        ensures made { IfOk result (λ t. (t.0.1 ≡ admin) × Keeps (state S.Store t.0.0) (no_units admin)) }
+        ensures made { IfOk result (λ t. (t.0.1 ≡ admin)
+            × Keeps (state S.Store t.0.0) (no_units admin)) }
         ensures count { IfOk result (λ t. t.1 ≡ 0) }
         ensures blank { IfOk result (λ t. (state S.Store conn).now.schema ≡ no_schema) }
-        ensures refused { (state S.Store conn).now.schema ≢ no_schema → IfErr result (λ e. e.fault ≡ StoreFault.Fault Store) }
+        ensures refused { (state S.Store conn).now.schema ≢ no_schema
+            → IfErr result (λ e. e.fault ≡ StoreFault.Fault Store) }
         ensures fault { IfErr result (λ e. e.fault ≢ StoreFault.NotThisStore) }
-        ensures unchanged { IfErr result (λ e. IsHonest (state S.Store e.conn) → (state S.Store e.conn).now ≡ (state S.Store conn).now) }
+        ensures unchanged { IfErr result (λ e. SameDatabase S.Store conn e.conn) }
         ensures back { IfErr result (λ e. (e.admin ≡ admin) × (e.conn.in_transaction ≡ false)) }
     {
         if !is_blank(conn.schema()) {
@@ -143,14 +148,15 @@ impl<S: Alter> Tables<S> {
         admin: Person,
     ) -> Result<Tables<S>, Unopened<S>>
         requires { conn.in_transaction ≡ false }
-        ensures kept { (m : Content) → Keeps (state S.Store conn) m → IfOk result (λ t. Keeps (state S.Store t.0.0) m) }
+        ensures kept { KeepsIfOk S.Store conn result (λ t. t.0.0) }
         ensures fresh { IfOk result (λ t. (t.0.1 ≡ admin) × (t.1 ≡ 0)) }
-        ensures honest { IfOk result (λ t. IsHonest (state S.Store t.0.0) → IsHonest (state S.Store conn)) }
-        ensures office { IfOk result (λ t. IsHonest (state S.Store t.0.0) → IsThisOffice admin (state S.Store conn).now) }
-        ensures other { IfErr result (λ e. e.fault ≡ StoreFault.NotThisStore → IsHonest (state S.Store e.conn) → ¬ IsThisOffice admin (state S.Store conn).now) }
-        ensures missing { has_office (state S.Store conn).now.schema ≡ false → IsErrAnd result (λ e. e.fault ≡ StoreFault.NotThisStore) }
-        ensures own { (m : Content) → Keeps (state S.Store conn) m → m.admin ≡ admin → IfErr result (λ e. IsHonest (state S.Store e.conn) → e.fault ≢ StoreFault.NotThisStore) }
-        ensures left { (m : Content) → Keeps (state S.Store conn) m → IfErr result (λ e. Keeps (state S.Store e.conn) m) }
+        ensures honest { IfOk result (λ t. WasHonest S.Store conn t.0.0) }
+        ensures office { IfOk result (λ t. WasOffice S.Store conn t.0.0 schema_no admin) }
+        ensures other { IfErr result (λ e. IsAnothers S.Store conn e.conn schema_no admin e.fault) }
+        ensures missing { HasNoOffice S.Store conn → IsErrAnd result (λ e. e.fault ≡ NotThisStore) }
+        ensures own { (m : Content) → Keeps (state S.Store conn) m → m.admin ≡ admin
+            → IfErr result (λ e. IsHonest (state S.Store e.conn) → e.fault ≢ NotThisStore) }
+        ensures left { KeepsIfErr S.Store conn result (λ e. e.conn) }
         ensures back { IfErr result (λ e. (e.admin ≡ admin) × (e.conn.in_transaction ≡ false)) }
     {
         match is_office_of(&mut conn, SCHEMA, &admin) {
@@ -207,7 +213,7 @@ impl<S: Alter> Tables<S> {
         ensures limit { self.new.0.0 ≡ record self.old.0.0 { step_limit = steps } }
         ensures admin { self.new.0.1 ≡ self.old.0.1 }
         ensures count { self.new.1 ≡ self.old.1 }
-        ensures kept { (m : Content) → Keeps (state S.Store self.old.0.0) m → Keeps (state S.Store self.new.0.0) m }
+        ensures kept { KeepsAll S.Store self.old.0.0 self.new.0.0 }
     {
         self.conn.set_step_limit(steps);
     }
@@ -301,7 +307,7 @@ impl<S: Alter> Books for Tables<S> {
         }
     }
 
-    fn mine_shelves(&mut self, person: &Person, now: Moment) -> Result<List<MineShelf>, Fault> {
+    fn mine_shelves(&mut self, person: &Person, now: Moment) -> Result<List<MineRow>, Fault> {
         match shelves::mine_shelves(self.alloc, &mut self.conn, person, now) {
             Ok(found) => Ok(found),
             Err(error) => {
@@ -312,7 +318,7 @@ impl<S: Alter> Books for Tables<S> {
         }
     }
 
-    fn apply(&mut self, unit: &UnitCode, changes: &List<RowEdit>) -> Result<(), Fault> {
+    fn apply(&mut self, unit: &UnitCode, changes: &Changes) -> Result<(), Fault> {
         match write::apply(&mut self.conn, unit, changes.as_slice()) {
             Ok(()) => Ok(()),
             Err(error) => {

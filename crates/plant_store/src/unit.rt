@@ -1,13 +1,10 @@
 //! The rows of one unit: all of them, or all but its events, or its events alone.
 
 ghost use Rattle.std.specs.FinMap.{contains_key, get};
-ghost use Rattle.std.specs.Prelude.{◌≡◌, ℕ, false, IfOk};
-ghost use Rattle.sqlite.specs.Held.{state};
-ghost use Rattle.plant_books.specs.Contents as contents;
-ghost use Rattle.plant_books.specs.Contents.{Content, events_in};
-ghost use Rattle.plant_store.specs.Changes.{IsHonest};
-ghost use Rattle.plant_store.specs.OnlyReads.{OnlyReads};
-ghost use Rattle.plant_store.specs.Keeping.{KeepsIn, has_any};
+ghost use Rattle.std.specs.Prelude.{◌≡◌, false};
+ghost use Rattle.plant_books.specs.Contents.{events_in, rows_but_events as all_but_events};
+ghost use Rattle.plant_store.specs.Keeping.{has_any};
+ghost use Rattle.plant_store.specs.Reading.{Finds, ReadsBooks};
 
 use crate::read::all_rows;
 use plant_alarm::Event;
@@ -31,8 +28,8 @@ pub fn taken<S: Alter>(
 ) -> Result<bool, Error>
     requires { conn.old.in_transaction ≡ false }
     ensures mode { conn.new.in_transaction ≡ false }
-    ensures found { IsHonest (state S.Store conn.new) → (m : Content) → KeepsIn (state S.Store conn.old) m → IfOk result (λ taken. taken ≡ contains_key m.units unit.now) }
-    ensures reads { OnlyReads (state S.Store conn.old) (state S.Store conn.new) }
+    ensures found { Finds S.Store conn.old conn.new result (λ m. contains_key m.units unit.now) }
+    ensures reads { ReadsBooks S.Store conn.old conn.new }
 {
     let units = all_rows(alloc, conn, unit)?;
     Ok(has_row(&units))
@@ -46,8 +43,8 @@ pub fn rows_but_events<S: Alter>(
 ) -> Result<Option<UnitRows>, Error>
     requires { conn.old.in_transaction ≡ false }
     ensures mode { conn.new.in_transaction ≡ false }
-    ensures found { IsHonest (state S.Store conn.new) → (m : Content) → KeepsIn (state S.Store conn.old) m → IfOk result (λ rows. rows ≡ contents.rows_but_events m unit.now) }
-    ensures reads { OnlyReads (state S.Store conn.old) (state S.Store conn.new) }
+    ensures found { Finds S.Store conn.old conn.new result (λ m. all_but_events m unit.now) }
+    ensures reads { ReadsBooks S.Store conn.old conn.new }
 {
     let units = all_rows(alloc, conn, unit)?;
     if !has_row(&units) {
@@ -81,8 +78,8 @@ pub fn events<S: Alter>(
 ) -> Result<List<Event>, Error>
     requires { conn.old.in_transaction ≡ false }
     ensures mode { conn.new.in_transaction ≡ false }
-    ensures found { IsHonest (state S.Store conn.new) → (m : Content) → KeepsIn (state S.Store conn.old) m → IfOk result (λ events. events ≡ events_in m unit.now) }
-    ensures reads { OnlyReads (state S.Store conn.old) (state S.Store conn.new) }
+    ensures found { Finds S.Store conn.old conn.new result (λ m. events_in m unit.now) }
+    ensures reads { ReadsBooks S.Store conn.old conn.new }
 {
     all_rows(alloc, conn, unit)
 }
@@ -95,8 +92,8 @@ pub fn rows_of<S: Alter>(
 ) -> Result<Option<UnitRows>, Error>
     requires { conn.old.in_transaction ≡ false }
     ensures mode { conn.new.in_transaction ≡ false }
-    ensures found { IsHonest (state S.Store conn.new) → (m : Content) → KeepsIn (state S.Store conn.old) m → IfOk result (λ rows. rows ≡ get m.units unit.now) }
-    ensures reads { OnlyReads (state S.Store conn.old) (state S.Store conn.new) }
+    ensures found { Finds S.Store conn.old conn.new result (λ m. get m.units unit.now) }
+    ensures reads { ReadsBooks S.Store conn.old conn.new }
 {
     match rows_but_events(alloc, conn, unit)? {
         None => Ok(None),

@@ -1,14 +1,10 @@
 //! The statements that write, each inside a transaction.
 
-ghost use Rattle.std.specs.Prelude.{◌≡◌, ℕ, [], ◌∷◌, false, IfOk, IsTrue, Ok, OnOk, OnErr};
-ghost use Rattle.sqlite.specs.Held.{state};
-ghost use Rattle.sqlite.specs.State.{Executes, HasCleanDisk, KeepsCommit, Survives};
-ghost use Rattle.sqlite.specs.Values.{bound};
+ghost use Rattle.std.specs.Prelude.{◌≡◌, [], ◌∷◌, false, IsTrue};
 ghost use Rattle.plant_model.specs.declared.rows.RowEdit.TheVariants.{Put, Remove};
 ghost use Rattle.plant_model.specs.declared.rows.Key.TheVariants.{Grant as GrantKey, Shelf as ShelfKey};
-ghost use Rattle.plant_store.specs.Changes.{Applies, IsHonest};
-ghost use Rattle.plant_columns.specs.Tables.{AreBooks};
-ghost use Rattle.plant_store.specs.StaysInside.{StaysInside};
+ghost use Rattle.plant_store.specs.Reading.{WasHonest};
+ghost use Rattle.plant_store.specs.Writing.{Commits, CommitsNothing, CrashLoses, IsOpenIfOk, RunsCounting, RunsStatement, SameOnErr, SameReference, StaysOpen, Writes, WritesOpen};
 
 use crate::stored::Stored;
 use plant_columns::encode::{grant_key, pair};
@@ -23,10 +19,9 @@ pub fn run<S: Alter>(
     sql: &str,
     cells: &[ValueRef<'_>],
 ) -> Result<(), Error>
-    ensures same_reference { tx.new.conn.ghost_name ≡ tx.old.conn.ghost_name }
-    ensures made { HasCleanDisk (state S.Store tx.new.conn.now) → IsTrue tx.old.conn.now.in_transaction
-        → OnOk result ((count : ℕ) × Executes sql.now (bound cells.now) (state S.Store tx.old.conn.now) (state S.Store tx.new.conn.now) (Ok count)) }
-    ensures stays { StaysInside result (state S.Store tx.old.conn.now) (state S.Store tx.new.conn.now) }
+    ensures same_reference { SameReference tx.old tx.new }
+    ensures made { RunsStatement tx.old tx.new sql.now cells.now result }
+    ensures stays { StaysOpen tx.old tx.new result }
 {
     tx.execute(sql, cells)?;
     Ok(())
@@ -38,10 +33,9 @@ pub fn run_counting<S: Alter>(
     sql: &str,
     cells: &[ValueRef<'_>],
 ) -> Result<usize, Error>
-    ensures same_reference { tx.new.conn.ghost_name ≡ tx.old.conn.ghost_name }
-    ensures made { HasCleanDisk (state S.Store tx.new.conn.now) → IsTrue tx.old.conn.now.in_transaction
-        → IfOk result (λ count. Executes sql.now (bound cells.now) (state S.Store tx.old.conn.now) (state S.Store tx.new.conn.now) (Ok count)) }
-    ensures stays { StaysInside result (state S.Store tx.old.conn.now) (state S.Store tx.new.conn.now) }
+    ensures same_reference { SameReference tx.old tx.new }
+    ensures made { RunsCounting tx.old tx.new sql.now cells.now result }
+    ensures stays { StaysOpen tx.old tx.new result }
 {
     tx.execute(sql, cells)
 }
@@ -52,10 +46,9 @@ pub fn put<T: Stored, S: Alter>(
     unit: &UnitCode,
     row: &T,
 ) -> Result<(), Error>
-    ensures same_reference { tx.new.conn.ghost_name ≡ tx.old.conn.ghost_name }
-    ensures made { HasCleanDisk (state S.Store tx.new.conn.now) → IsTrue tx.old.conn.now.in_transaction → AreBooks (state S.Store tx.old.conn.now).now
-        → OnOk result (Applies unit.now (Put (T.as_row row.now) ∷ []) (state S.Store tx.old.conn.now).now (state S.Store tx.new.conn.now).now) }
-    ensures stays { StaysInside result (state S.Store tx.old.conn.now) (state S.Store tx.new.conn.now) }
+    ensures same_reference { SameReference tx.old tx.new }
+    ensures made { Writes tx.old tx.new unit.now (Put (T.as_row row.now) ∷ []) result }
+    ensures stays { StaysOpen tx.old tx.new result }
 {
     let written = row.update(tx, unit)?;
     if written != 0 {
@@ -71,10 +64,9 @@ fn remove_grant<S: Alter>(
     person: &Person,
     role: Role,
 ) -> Result<(), Error>
-    ensures same_reference { tx.new.conn.ghost_name ≡ tx.old.conn.ghost_name }
-    ensures made { HasCleanDisk (state S.Store tx.new.conn.now) → IsTrue tx.old.conn.now.in_transaction → AreBooks (state S.Store tx.old.conn.now).now
-        → OnOk result (Applies unit.now (Remove (GrantKey person.now role) ∷ []) (state S.Store tx.old.conn.now).now (state S.Store tx.new.conn.now).now) }
-    ensures stays { StaysInside result (state S.Store tx.old.conn.now) (state S.Store tx.new.conn.now) }
+    ensures same_reference { SameReference tx.old tx.new }
+    ensures made { Writes tx.old tx.new unit.now (Remove (GrantKey person.now role) ∷ []) result }
+    ensures stays { StaysOpen tx.old tx.new result }
 {
     run(
         tx,
@@ -89,10 +81,9 @@ fn remove_shelf<S: Alter>(
     unit: &UnitCode,
     tag: &Tag,
 ) -> Result<(), Error>
-    ensures same_reference { tx.new.conn.ghost_name ≡ tx.old.conn.ghost_name }
-    ensures made { HasCleanDisk (state S.Store tx.new.conn.now) → IsTrue tx.old.conn.now.in_transaction → AreBooks (state S.Store tx.old.conn.now).now
-        → OnOk result (Applies unit.now (Remove (ShelfKey tag.now) ∷ []) (state S.Store tx.old.conn.now).now (state S.Store tx.new.conn.now).now) }
-    ensures stays { StaysInside result (state S.Store tx.old.conn.now) (state S.Store tx.new.conn.now) }
+    ensures same_reference { SameReference tx.old tx.new }
+    ensures made { Writes tx.old tx.new unit.now (Remove (ShelfKey tag.now) ∷ []) result }
+    ensures stays { StaysOpen tx.old tx.new result }
 {
     run(
         tx,
@@ -103,10 +94,9 @@ fn remove_shelf<S: Alter>(
 
 /// Puts a row of one of the tables.
 fn put_row<S: Alter>(tx: &mut Transaction<'_, S>, unit: &UnitCode, row: &Row) -> Result<(), Error>
-    ensures same_reference { tx.new.conn.ghost_name ≡ tx.old.conn.ghost_name }
-    ensures made { HasCleanDisk (state S.Store tx.new.conn.now) → IsTrue tx.old.conn.now.in_transaction → AreBooks (state S.Store tx.old.conn.now).now
-        → OnOk result (Applies unit.now (Put row.now ∷ []) (state S.Store tx.old.conn.now).now (state S.Store tx.new.conn.now).now) }
-    ensures stays { StaysInside result (state S.Store tx.old.conn.now) (state S.Store tx.new.conn.now) }
+    ensures same_reference { SameReference tx.old tx.new }
+    ensures made { Writes tx.old tx.new unit.now (Put row.now ∷ []) result }
+    ensures stays { StaysOpen tx.old tx.new result }
 {
     match row {
         Row::Unit(row) => put(tx, unit, row),
@@ -127,10 +117,9 @@ fn remove_row<S: Alter>(
     unit: &UnitCode,
     key: &Key,
 ) -> Result<(), Error>
-    ensures same_reference { tx.new.conn.ghost_name ≡ tx.old.conn.ghost_name }
-    ensures made { HasCleanDisk (state S.Store tx.new.conn.now) → IsTrue tx.old.conn.now.in_transaction → AreBooks (state S.Store tx.old.conn.now).now
-        → OnOk result (Applies unit.now (Remove key.now ∷ []) (state S.Store tx.old.conn.now).now (state S.Store tx.new.conn.now).now) }
-    ensures stays { StaysInside result (state S.Store tx.old.conn.now) (state S.Store tx.new.conn.now) }
+    ensures same_reference { SameReference tx.old tx.new }
+    ensures made { Writes tx.old tx.new unit.now (Remove key.now ∷ []) result }
+    ensures stays { StaysOpen tx.old tx.new result }
 {
     match key {
         Key::Grant(person, role) => remove_grant(tx, unit, person, *role),
@@ -144,10 +133,9 @@ fn change_one<S: Alter>(
     unit: &UnitCode,
     change: &RowEdit,
 ) -> Result<(), Error>
-    ensures same_reference { tx.new.conn.ghost_name ≡ tx.old.conn.ghost_name }
-    ensures made { HasCleanDisk (state S.Store tx.new.conn.now) → IsTrue tx.old.conn.now.in_transaction → AreBooks (state S.Store tx.old.conn.now).now
-        → OnOk result (Applies unit.now (change.now ∷ []) (state S.Store tx.old.conn.now).now (state S.Store tx.new.conn.now).now) }
-    ensures stays { StaysInside result (state S.Store tx.old.conn.now) (state S.Store tx.new.conn.now) }
+    ensures same_reference { SameReference tx.old tx.new }
+    ensures made { Writes tx.old tx.new unit.now (change.now ∷ []) result }
+    ensures stays { StaysOpen tx.old tx.new result }
 {
     match change {
         RowEdit::Put(row) => put_row(tx, unit, row),
@@ -162,12 +150,11 @@ fn change_all<S: Alter>(
     changes: &[RowEdit],
 ) -> Result<(), Error>
     requires { IsTrue tx.old.conn.now.in_transaction }
-    ensures same_reference { tx.new.conn.ghost_name ≡ tx.old.conn.ghost_name }
-    ensures made { HasCleanDisk (state S.Store tx.new.conn.now) → AreBooks (state S.Store tx.old.conn.now).now
-        → OnOk result (Applies unit.now changes.now (state S.Store tx.old.conn.now).now (state S.Store tx.new.conn.now).now) }
-    ensures inside { HasCleanDisk (state S.Store tx.new.conn.now) → OnOk result (IsTrue tx.new.conn.now.in_transaction) }
-    ensures kept { HasCleanDisk (state S.Store tx.new.conn.now) → KeepsCommit (state S.Store tx.old.conn.now) (state S.Store tx.new.conn.now) }
-    ensures survives { Survives (state S.Store tx.old.conn.now) (state S.Store tx.new.conn.now) (λ _. ⊥) }
+    ensures same_reference { SameReference tx.old tx.new }
+    ensures made { WritesOpen tx.old tx.new unit.now changes.now result }
+    ensures inside { IsOpenIfOk tx.new result }
+    ensures kept { CommitsNothing tx.old tx.new }
+    ensures survives { CrashLoses tx.old tx.new }
 {
     for change in changes {
         change_one(tx, unit, change)?;
@@ -183,10 +170,9 @@ pub fn apply<S: Alter>(
 ) -> Result<(), Error>
     requires { conn.old.in_transaction ≡ false }
     ensures mode { conn.new.in_transaction ≡ false }
-    ensures made { IsHonest (state S.Store conn.new) → AreBooks (state S.Store conn.old).now
-        → OnOk result (Applies unit.now changes.now (state S.Store conn.old).now (state S.Store conn.new).now) }
-    ensures unchanged { IsHonest (state S.Store conn.new) → OnErr result ((state S.Store conn.new).now ≡ (state S.Store conn.old).now) }
-    ensures honest { IsHonest (state S.Store conn.new) → IsHonest (state S.Store conn.old) }
+    ensures made { Commits S.Store conn.old conn.new unit.now changes.now result }
+    ensures unchanged { SameOnErr S.Store conn.old conn.new result }
+    ensures honest { WasHonest S.Store conn.old conn.new }
 {
     let _settled = conn.is_autocommit();
     let mut tx = conn.transaction();

@@ -5,7 +5,7 @@ use crate::fixtures::{
     push_shelf, put, rows, tag, unit,
 };
 use plant_alarm::{Event, EventKind};
-use plant_books::{Books, MineShelf, MineUnit};
+use plant_books::{Books, MineRow, MineUnit};
 use plant_model::{RowEdit, UnitRows};
 use plant_store::Tables;
 use plant_types::{Fault, List, Moment, Role, UnitCode};
@@ -114,7 +114,7 @@ fn shelves_of(
     alloc: Global,
     books: &mut Tables<MemStore>,
     name: &[u8],
-) -> List<MineShelf> {
+) -> List<MineRow> {
     books
         .mine_shelves(&person(rt, alloc, name), at(rt, 95))
         .expect(rt, "shelves")
@@ -131,7 +131,7 @@ fn seconds_of(moment: Option<Moment>) -> Option<u64> {
 fn is_shelf_of(
     rt: &impl Abort,
     alloc: Global,
-    mine: &MineShelf,
+    mine: &MineRow,
     code: &[u8],
     name: &[u8],
     returned: Option<u64>,

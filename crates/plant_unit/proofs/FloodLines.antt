@@ -11,9 +11,7 @@ use Rattle.plant_floods.specs.declared.run.Run.{Run}
 use Rattle.plant_model.specs.Events.{flood_line, flood_lines}
 use Rattle.plant_model.specs.declared.reply.FloodLine.{FloodLine}
 use Rattle.plant_types.specs.Moment.{is_moment}
-
-abbrev pub EndsBy : ℕ → ℕ → Run → Type 0
-EndsBy begin until r = (r.first ≤ r.last) × (begin + 600 * r.last + 600 ≤ until)
+use Rattle.plant_unit.specs.Floods.{EndsBy}
 
 moment_below : (m n : ℕ) → m ≤ n → IsTrue (is_moment n) → IsTrue (is_moment m)
 moment_below m n le h =

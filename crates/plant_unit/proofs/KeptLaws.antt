@@ -68,21 +68,21 @@ no_event_rises : IsRising []
 no_event_rises i j d lt le = absurd (omega arith)
 
 -- the events that a request looks at rise as all do, and are no more
-abbrev AreFew : List Event → Type 0
-AreFew es = IsRising es × (length es ≤ 4294967295)
+abbrev RiseAndAreFew : List Event → Type 0
+RiseAndAreFew es = IsRising es × (length es ≤ 4294967295)
 
-few_of_topic : (rows : UnitRows) (tag : Option Name) (k : ChangeTopic) (es : List Event) → AreFew ((of_topic rows tag k).events es)
+few_of_topic : (rows : UnitRows) (tag : Option Name) (k : ChangeTopic) (es : List Event) → RiseAndAreFew ((of_topic rows tag k).events es)
 few_of_topic rows tag MatrixTopic es = (no_event_rises, omega arith)
 few_of_topic rows (Some a) RecordTopic es = (no_event_rises, omega arith)
 few_of_topic rows (Some a) LimitTopic es = (no_event_rises, omega arith)
 few_of_topic rows None RecordTopic es = (no_event_rises, omega arith)
 few_of_topic rows None LimitTopic es = (no_event_rises, omega arith)
 
-few_of_approved : (rows : UnitRows) (n : ℕ) (o : Option ChangeEntry) (es : List Event) → AreFew ((of_approved rows n o).events es)
+few_of_approved : (rows : UnitRows) (n : ℕ) (o : Option ChangeEntry) (es : List Event) → RiseAndAreFew ((of_approved rows n o).events es)
 few_of_approved rows n None es = (no_event_rises, omega arith)
 few_of_approved rows n (Some c) es = few_of_topic rows c.tag c.kind_no es
 
-few_of : (rows : UnitRows) (s : Scope) (es : List Event) → IsRising es → length es ≤ max_events → AreFew ((selection rows s).events es)
+few_of : (rows : UnitRows) (s : Scope) (es : List Event) → IsRising es → length es ≤ max_events → RiseAndAreFew ((selection rows s).events es)
 few_of rows (File file) es h few = (needed_rises es file h, (let le = needed_few es file h in omega (arith, few, le)))
 few_of rows AllEvents es h few = (h, omega (arith, few))
 few_of rows (Approval n) es h few = few_of_approved rows n (change_found rows n) es

@@ -110,7 +110,7 @@ no_row m severity e = ap (λ (rows : List (List Cell)). cond (severity == 0) Non
     by true = refl
     by false = refl
 
--- what is told of the records that are read
+-- a test of the records that can be read
 pub any_told : {X Y : Type 0} (g : Y → Bool) (f : X → Option Y) (xs : List X) → list_any (λ x. unwrap_or (option_map g (f x)) false) xs ≡ list_any g (filter_map f xs)
 any_told g f [] = refl
 any_told {Y = Y} g f (x ∷ xs) = by (f x) (any_told g f xs)

@@ -5,11 +5,18 @@ use Rattle.plant_import.specs.Needed.{needed}
 use Rattle.plant_model.specs.Events.{rows_of_file}
 use Rattle.plant_model.specs.declared.call.Request.{Request}
 use Rattle.plant_model.specs.declared.call.Request.TheVariants.{Floods, Import}
+use Rattle.plant_model.specs.declared.reply.Reply.{Reply}
+use Rattle.plant_model.specs.declared.reply.Reply.TheVariants.{Imported}
+use Rattle.plant_model.specs.declared.rows.Row.TheVariants.{Event as EventPut, Unit as UnitPut}
+use Rattle.plant_model.specs.declared.rows.RowEdit.{RowEdit}
+use Rattle.plant_model.specs.declared.rows.RowEdit.TheVariants.{Put}
+use Rattle.plant_books.specs.Results.{Gives}
 use Rattle.plant_unit.specs.Summaries.{AreTold}
 use Rattle.plant_import.specs.declared.merging.Merged.{Merged}
 use Rattle.plant_model.specs.Facts.{Facts, limit_revision_of}
 use Rattle.plant_model.specs.Refusals.{file_refusals, first_refusal}
-use Rattle.plant_model.specs.RowFacts.{alarm_tag, change_found, change_number, change_read, facts_in, record_tag, shelf_tag, unit_read}
+use Rattle.plant_model.specs.RowChanges.{import_changes, unit_after}
+use Rattle.plant_model.specs.RowFacts.{alarm_tag, change_found, change_number, change_read, facts_among, facts_in, record_tag, shelf_tag, unit_read}
 use Rattle.plant_model.specs.Rows.{change_entry}
 use Rattle.plant_model.specs.declared.reply.Refused.{Refused}
 use Rattle.plant_model.specs.declared.rows.ChangeEntry.{ChangeEntry}
@@ -19,7 +26,7 @@ use Rattle.plant_types.specs.KeyedRows.{IsInOrder}
 use Rattle.plant_unit.specs.Readings.{has_its_sheet, has_kind, is_left_out, is_matrix_at}
 use Rattle.std.specs.List.{list_all}
 use Rattle.std.specs.Ordering.{nat_cmp}
-use Rattle.std.specs.Prelude.{Err, List, None, Ok, Option, Result, Some, length, true, ℕ, ◌-◌, ◌<◌, ◌||◌, ◌≡◌, ◌≤◌}
+use Rattle.std.specs.Prelude.{Err, List, None, Ok, Option, Result, Some, length, map, true, ℕ, ◌-◌, ◌<◌, ◌||◌, ◌∷◌, ◌≡◌, ◌≤◌}
 
 abbrev pub addition_or : Option Refused → Merged → Result Merged Refused
 addition_or None added = Ok added
@@ -32,13 +39,29 @@ rows_added kept rows = record { fresh = fresh kept rows; repeated = length rows 
 abbrev pub addition : Facts → ℕ → List Event → Result Merged Refused
 addition f t rows = addition_or (first_refusal (file_refusals f t (Ok rows))) (rows_added f.events rows)
 
+-- the events are not too many to be counted in 32 bits
+abbrev pub AreFew : List Event → Type 0
+AreFew es = length es ≤ 4294967295
+
+-- the reply to an import that adds these rows
+abbrev pub import_reply : Merged → Reply
+import_reply added = Imported (length added.fresh) added.repeated
+
+-- the changes that put events
+abbrev pub event_puts : List Event → List RowEdit
+event_puts es = map (λ e. Put (EventPut e)) es
+
 -- the part of an import: of these events it has those that the file's rows need, and how many there are; the states of its alarms
--- are told from them
+-- are computed from them
 pub record AreEventsOf (part : UnitPart) (rows es : List Event) : Type 0 where
   pub rise : IsRising es
   pub needed_are : part.rows.events ≡ needed es rows
   pub count_is : part.count ≡ length es
   pub told : AreTold part.rows.alarms es
+
+-- by all events of the unit: what a file's rows add at a moment, or why they are refused
+abbrev pub GivesAddition : {E : Type 0} → UnitPart → ℕ → List Event → Result (Result Merged Refused) E → Type 0
+GivesAddition part t rows said = (es : List Event) → AreEventsOf part rows es → Gives said (addition (facts_among part es) t rows)
 
 -- the events that a request sees in a part: an import those of which it has some, a list of floods those that it has
 abbrev pub AreEventsFor : UnitPart → Request → List Event → Type 0
@@ -53,6 +76,12 @@ pub record AreAdded (es rows added : List Event) : Type 0 where
   pub tags : List Name
   pub now : ℕ
   pub no_fault : first_fault tags now 2 es rows ≡ None
+
+-- by all events of the unit: the changes of an import that adds these of a file's rows at a moment
+abbrev pub GivesImport : {E : Type 0} → UnitPart → ℕ → List Event → List Event → Result (List RowEdit) E → Type 0
+GivesImport part t rows added said =
+    IsInOrder name_cmp alarm_tag part.rows.alarms → (u : Name) (es : List Event) → AreEventsOf part rows es → AreAdded es rows added
+    → Gives said (Put (UnitPut (unit_after (facts_among part es) t (Import u (Ok rows)))) ∷ import_changes (facts_among part es) rows)
 
 -- what the parts of a legal history keep
 pub record AreKept (part : UnitPart) : Type 0 where

@@ -1,5 +1,5 @@
 -- What a judgement says.
-use Rattle.std.specs.Prelude.{Bool, Err, List, None, Ok, Option, Result, Some, [], false, if◌then◌else◌, is_ok, nat_lt, not, true, ℕ, ◌++◌, ◌∷◌, ◌≡◌}
+use Rattle.std.specs.Prelude.{Bool, Err, IsOkAnd, List, None, Ok, Option, Result, Some, [], false, if◌then◌else◌, is_ok, nat_lt, not, true, ℕ, ◌++◌, ◌∷◌, ◌≡◌}
 use Rattle.plant_model.specs.Changes.{priority_by}
 use Rattle.plant_model.specs.declared.call.Call.{Call}
 use Rattle.plant_model.specs.declared.call.Request.{Request}
@@ -26,14 +26,18 @@ use Rattle.plant_model.specs.declared.rows.Verdict.TheVariants.{Accepted as IsAc
 use Rattle.plant_model.specs.Facts.{Facts}
 use Rattle.plant_model.specs.Legality.{IsLegal}
 use Rattle.plant_model.specs.Parts.{part_of}
-use Rattle.plant_model.specs.Refusals.{first_refusal, has_row, holds_some, is_not_needed, kind_refusals, lacks_role, own_refusals, role_needed}
+use Rattle.plant_model.specs.Refusals.{base_changed, first_refusal, has_row, holds_some, is_not_needed, kind_refusals, lacks_role, of_change, own_refusals, role_needed}
 use Rattle.plant_model.specs.Replies.{reply}
-use Rattle.plant_model.specs.declared.reply.Refused.TheVariants.{MomentBehind, NotAnAlarm, NotGranted, OutsideMatrix}
+use Rattle.plant_model.specs.declared.reply.Refused.TheVariants.{MomentBehind, NotAnAlarm, NotGranted, NotProposer, OutsideMatrix, SamePerson}
 use Rattle.plant_model.specs.RowChanges.{changed_by, changes_for, in_force, kind_row, no_rows, own_changes, puts_unit}
+use Rattle.plant_model.specs.RowFacts.{change_read, facts_in}
 use Rattle.plant_model.specs.Rows.{rows_of}
 use Rattle.plant_model.specs.Verdicts.{after, changes_history, refused_or, verdict, verdict_of}
 use Rattle.plant_model.specs.Worlds.{opening}
-use Rattle.plant_types.specs.Names.{Name}
+use Rattle.plant_alarm.specs.declared.event.Event.{Event}
+use Rattle.plant_model.specs.declared.rows.UnitRows.{UnitRows}
+use Rattle.plant_types.specs.Names.{Name, same_name}
+use Rattle.plant_unit.specs.Additions.{AreEventsFor}
 
 abbrev pub is_import : Request → Bool
 is_import (Import u file) = true
@@ -58,6 +62,22 @@ one_change (Ok change) = Ok (change ∷ [])
 abbrev pub own_answer : Facts → Name → ℕ → Request → Result Reply Refused
 own_answer f p t r = refused_or (first_refusal (own_refusals f p t r)) (reply f t r)
 
+-- of a change whose row is this: the first of the refusals of a call on it, if any
+abbrev pub IsRefusalOf : ChangeEntry → (ChangeRow → List (Bool × Refused)) → Option Refused → Type 0
+IsRefusalOf e refusals refused = (rows : UnitRows) → refused ≡ first_refusal (of_change (Some (change_read rows e)) refusals)
+
+-- refused to a person who did not propose the change
+abbrev pub if_not_proposer : Name → ChangeRow → List (Bool × Refused)
+if_not_proposer p = λ c. (not (same_name p c.proposer), NotProposer) ∷ []
+
+-- refused to the person who proposed the change
+abbrev pub if_proposer : Name → ChangeRow → List (Bool × Refused)
+if_proposer p = λ c. (same_name p c.proposer, SamePerson) ∷ []
+
+-- refused if the base is not the revision in force
+abbrev pub base_refusal : ℕ → ℕ → Option Refused
+base_refusal base revision = first_refusal (base_changed base revision ∷ [])
+
 -- the refusals of a sheet by a matrix
 abbrev pub sheet_refusals : Grid → ℕ → ℕ → List (Bool × Refused)
 sheet_refusals m severity response = (not (has_row m severity), OutsideMatrix) ∷ (is_not_needed (priority_of m severity response), NotAnAlarm) ∷ []
@@ -73,6 +93,10 @@ record_decision f base a s = decided_or (first_refusal (kind_refusals f base (Ra
 abbrev pub done_as : UnitRow → Result RowEdit Refused → Verdict
 done_as row (Err refused) = IsRefused refused
 done_as row (Ok change) = IsAccepted Done (Put (UnitPut row) ∷ change ∷ [])
+
+-- the verdict on what was decided, if something was, with the call's moment as the unit's last
+abbrev pub IsDone : {E : Type 0} → UnitRow → ℕ → Result (Result RowEdit Refused) E → Verdict → Type 0
+IsDone unit t decided = λ v. IsOkAnd decided (λ d. v ≡ done_as (record unit { last_s = t }) d)
 
 abbrev pub answered_as : Result Reply Refused → Verdict
 answered_as (Err refused) = IsRefused refused
@@ -90,6 +114,10 @@ changes_in (IsAccepted reply changes) = changes
 abbrev pub IsPartOf : Option UnitPart → List Call → Call → Type 0
 IsPartOf None h c = h ≡ []
 IsPartOf (Some part) h c = (part ≡ part_of c (rows_of h)) × IsLegal h
+
+-- these are all events of the unit, as far as a caller who holds a role sees some
+abbrev pub AreEventsSeen : UnitPart → Call → List Event → Type 0
+AreEventsSeen part c es = holds_some (facts_in part) c.moment c.person ≡ true → AreEventsFor part c.request es
 
 -- the verdict that the facts of a unit give, with its changes: none for a refusal or a read
 pub record IsJudged (f : Facts) (c : Call) (v : Verdict) : Type 0 where
@@ -129,3 +157,7 @@ pub record IsOpening (by_admin taken : Bool) (c : Call) (v : Verdict) : Type 0 w
   pub changes : is_ok (opening by_admin taken) ≡ true → changed_by (changes_in v) no_rows ≡ rows_of (c ∷ [])
   pub none : is_ok (opening by_admin taken) ≡ false → changes_in v ≡ []
   pub puts : is_ok (opening by_admin taken) ≡ true → puts_unit (changes_in v) ≡ true
+
+-- the same for the administrator of this name
+abbrev pub IsOpeningFor : Name → Bool → Call → Verdict → Type 0
+IsOpeningFor administrator taken c = IsOpening (same_name c.person administrator) taken c

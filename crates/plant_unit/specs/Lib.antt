@@ -2,5 +2,9 @@ pub mod MatrixRows
 pub mod Readings
 pub mod Summaries
 pub mod Additions
+pub mod Alarms
 pub mod Judged
+pub mod Deciding
+pub mod FromFacts
 pub mod Shelving
+pub mod Floods

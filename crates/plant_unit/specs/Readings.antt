@@ -1,4 +1,6 @@
 -- What is read from rows, where all of it is there.
+use Rattle.std.specs.List.{list_any}
+use Rattle.plant_model.specs.Facts.{Facts}
 use Rattle.plant_model.specs.Refusals.{has_row}
 use Rattle.plant_model.specs.RowFacts.{change_found, change_read, record_read, kind_read, matrix_read, sheet_read}
 use Rattle.plant_model.specs.declared.reply.ChangeRow.{ChangeRow}
@@ -45,6 +47,10 @@ kind_found rows c topic = when (has_kind rows c topic) (kind_read rows c topic)
 abbrev pub change_whole : UnitRows → ChangeEntry → Option ChangeRow
 change_whole rows c = when (has_kind rows c c.kind_no) (change_read rows c)
 
+-- the change that a record came from
+abbrev pub source_found : UnitRows → RecordEntry → Option ChangeEntry
+source_found rows r = change_found rows r.change_no
+
 -- the change that a record came from, where it is there, has the columns of a sheet
 abbrev pub has_its_sheet : UnitRows → RecordEntry → Bool
 has_its_sheet rows r = unwrap_or (option_map has_sheet (change_found rows r.change_no)) true
@@ -52,6 +58,10 @@ has_its_sheet rows r = unwrap_or (option_map has_sheet (change_found rows r.chan
 -- the severity of a record that is read is no row of the matrix
 unfoldable pub is_outside : Grid → UnitRows → RecordEntry → Bool
 is_outside m rows r = unwrap_or (option_map (λ x. not (has_row m x.severity)) (record_read rows r)) false
+
+-- the severity of some record is not a row of the matrix
+abbrev pub has_outside : Grid → Facts → Bool
+has_outside m f = list_any (λ r. not (has_row m r.severity)) f.rationales
 
 -- how many changes of an alarm's limit were approved; none where the alarm is not there
 abbrev pub limit_revision : Option AlarmRow → ℕ

@@ -1,17 +1,28 @@
 -- What shelving an alarm changes, and by which result name it is refused (OPC 10000-9).
-use Rattle.std.specs.Prelude.{false, true}
+use Rattle.std.specs.Prelude.{Bool, List, Option, Result, Some, [], false, not, true, ℕ, ◌&&◌, ◌∷◌}
+use Rattle.plant_alarm.specs.Shelves.{is_unshelved, shelf_state}
 use Rattle.plant_alarm.specs.declared.shelf.Shelf.{Shelf}
 use Rattle.plant_alarm.specs.declared.shelf.Shelf.TheVariants.{Clear, OneShot, Timed}
 use Rattle.plant_alarm.specs.declared.shelf.ShelfRefused.{ShelfRefused}
 use Rattle.plant_alarm.specs.declared.shelf.ShelfRefused.TheVariants.{ConditionAlreadyShelved, ConditionNotShelved, ShelvingTimeOutOfRange}
-use Rattle.plant_model.specs.Shelves.{shelf_row_as}
+use Rattle.plant_model.specs.Facts.{Facts, returned}
+use Rattle.plant_model.specs.Refusals.{first_refusal, over_quota}
+use Rattle.plant_model.specs.Replies.{line_of}
+use Rattle.plant_model.specs.RowFacts.{facts_in}
+use Rattle.plant_model.specs.Shelves.{shelf_left, shelf_row_as}
+use Rattle.plant_model.specs.declared.call.Call.{Call}
 use Rattle.plant_model.specs.declared.reply.Refused.{Refused}
+use Rattle.plant_model.specs.declared.reply.ShelfLine.{ShelfLine}
 use Rattle.plant_model.specs.declared.reply.Refused.TheVariants.{ConditionAlreadyShelved as IsShelved, ConditionNotShelved as IsUnshelved, ShelvingTimeOutOfRange as IsOutOfRange}
 use Rattle.plant_model.specs.declared.rows.RowEdit.{RowEdit}
 use Rattle.plant_model.specs.declared.rows.RowEdit.TheVariants.{Put, Remove}
 use Rattle.plant_model.specs.declared.rows.Key.TheVariants.{Shelf as ShelfKey}
 use Rattle.plant_model.specs.declared.rows.Row.TheVariants.{Shelf as ShelfPut}
-use Rattle.plant_types.specs.Names.{Name}
+use Rattle.plant_model.specs.declared.rows.AlarmRow.{AlarmRow}
+use Rattle.plant_model.specs.declared.rows.ShelfRow.{ShelfRow}
+use Rattle.plant_model.specs.declared.rows.UnitPart.{UnitPart}
+use Rattle.plant_types.specs.Names.{Name, same_name}
+use Rattle.plant_unit.specs.Judged.{decided_or}
 
 abbrev pub refusal_of : ShelfRefused → Refused
 refusal_of (ShelvingTimeOutOfRange max) = IsOutOfRange max
@@ -23,3 +34,19 @@ abbrev pub shelf_change : Name → Name → Name → Shelf → RowEdit
 shelf_change a p words Clear = Remove (ShelfKey a)
 shelf_change a p words (Timed start until) = Put (ShelfPut (shelf_row_as false start until p words a))
 shelf_change a p words (OneShot start until) = Put (ShelfPut (shelf_row_as true start until p words a))
+
+-- what is decided about a shelving whose alarm allows it: its change, unless the unit's quota is used up
+abbrev pub shelf_decision : UnitPart → Call → Name → Name → Shelf → Result (List RowEdit) Refused
+shelf_decision part c a words shelf = decided_or (first_refusal (over_quota (facts_in part) a c.moment ∷ [])) (shelf_change a c.person words shelf ∷ [])
+
+-- the row is the shelf of another alarm, and that alarm is shelved at the moment
+abbrev pub is_other_shelved : Facts → Name → ShelfRow → ℕ → Bool
+is_other_shelved f a s t = not (same_name a s.tag) && not (is_unshelved (shelf_state (shelf_left (Some s)) (returned f s.tag) t))
+
+-- the line of a shelf whose alarm last returned to normal at this moment, if it holds
+abbrev pub line_at : ShelfRow → Option ℕ → ℕ → Option ShelfLine
+line_at s returned_s t = line_of s (shelf_state (shelf_left (Some s)) returned_s t)
+
+-- an alarm is shelved at the moment
+abbrev pub is_shelved : Facts → AlarmRow → ℕ → Bool
+is_shelved f r t = not (is_unshelved (shelf_state (shelf_left (f.shelf r.tag)) r.return_s t))

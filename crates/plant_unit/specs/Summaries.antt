@@ -1,4 +1,4 @@
--- The state of each alarm, told from the events of all.
+-- The state of each alarm, computed from the events of all.
 use Rattle.plant_alarm.specs.States.{summary}
 use Rattle.plant_alarm.specs.declared.event.Event.{Event}
 use Rattle.plant_alarm.specs.declared.summary.Summary.{Summary}
@@ -29,7 +29,7 @@ is_named es r = list_any (λ e. same_name r.tag e.tag) es
 abbrev pub summary_in : AlarmRow → Summary
 summary_in r = record { state = r.state_no; suppressed = r.suppressed; active_since = r.active_s; last_return = r.return_s }
 
--- the columns of each alarm are told from its events
+-- the columns of each alarm are computed from its events
 abbrev pub AreTold : List AlarmRow → List Event → Type 0
 AreTold alarms es = map summary_in alarms ≡ summaries alarms es
 

@@ -1,21 +1,12 @@
 //! The states of alarms after an import.
 
-ghost use Rattle.std.specs.Prelude.{◌≡◌, ◌++◌, ◌∷◌, [], IfErr, IfOk, List, OnOk, Some, false, filter, if◌then◌else◌, length, map, option_to_list, slice_get, slice_set, true};
-ghost use Rattle.std.specs.List.Sorted.{IsPartitionPoint};
-ghost use Rattle.std.specs.Ordering.{is_lt};
-ghost use Rattle.plant_types.specs.Names.{name_cmp};
-ghost use Rattle.plant_types.specs.KeyedRows.{IsInOrder};
+ghost use Rattle.std.specs.Prelude.{◌≡◌, ◌++◌, ◌∷◌, [], IfErr, IfOk, OnOk, length, map};
 ghost use Rattle.plant_types.specs.declared.fault.Fault.TheVariants.{Memory};
-ghost use Rattle.plant_alarm.specs.States.{summary};
-ghost use Rattle.plant_alarm.specs.declared.event.Event.{Event as TheEvent};
-ghost use Rattle.plant_import.specs.Merging.{IsRising};
+ghost use Rattle.plant_books.specs.Results.{Gives};
 ghost use Rattle.plant_import.specs.Numbers.{with_events};
-ghost use Rattle.plant_model.specs.RowChanges.{state_put};
-ghost use Rattle.plant_model.specs.RowFacts.{alarm_tag};
+ghost use Rattle.plant_unit.specs.Alarms.{Adds, AddsAt, ForImport, GivesAnew, GivesNamed, GivesOn, PushesNamed, states_after};
 ghost use Rattle.plant_unit.specs.Summaries as states;
-ghost use Rattle.plant_unit.specs.Summaries.{AreNamed, AreTold, is_named, summary_of};
-ghost use Rattle.plant_unit.specs.Additions.{AreAdded};
-ghost use Rattle.plant_import.specs.Needed.{needed};
+ghost use Rattle.plant_unit.specs.Summaries.{AreNamed};
 
 use plant_alarm::{Event, Summary};
 use plant_books::place_of;
@@ -28,7 +19,7 @@ use std::collections::BTreeSet;
 /// Brings the summary at a place forward by one more event of its alarm.
 fn add_at(summaries: &mut List<Summary>, place: usize, event: &Event, latching: bool)
     ensures length { length summaries.new ≡ length summaries.old }
-    ensures value { (es : List TheEvent) → slice_get summaries.old place ≡ Some (summary latching es) → summaries.new ≡ slice_set summaries.old place (summary latching (es ++ event.now ∷ [])) }
+    ensures value { AddsAt place event.now latching summaries.old summaries.new }
 {
     if let Some(summary) = summaries.as_slice().get(place) {
         let mut next = *summary;
@@ -40,7 +31,7 @@ fn add_at(summaries: &mut List<Summary>, place: usize, event: &Event, latching: 
 /// Brings the summaries of alarms, which stand in the order of their tags, forward by one more event.
 fn add_event(summaries: &mut List<Summary>, alarms: &[AlarmRow], event: &Event)
     ensures length { length summaries.new ≡ length summaries.old }
-    ensures value { IsInOrder name_cmp alarm_tag alarms.now → (es : List TheEvent) → summaries.old ≡ states.summaries alarms.now es → summaries.new ≡ states.summaries alarms.now (es ++ event.now ∷ []) }
+    ensures value { Adds alarms.now (event.now ∷ []) summaries.old summaries.new }
 {
     let place = place_of(alarms, &event.tag);
     if let Some(alarm) = alarms.get(place) {
@@ -82,14 +73,14 @@ fn summaries_in(alloc: Global, alarms: &[AlarmRow]) -> Result<List<Summary>, Fau
 /// Brings the summaries of alarms, which stand in the order of their tags, forward by more events.
 fn add_events(summaries: &mut List<Summary>, alarms: &[AlarmRow], events: &[Event])
     ensures length { length summaries.new ≡ length summaries.old }
-    ensures value { IsInOrder name_cmp alarm_tag alarms.now → (es : List TheEvent) → summaries.old ≡ states.summaries alarms.now es → summaries.new ≡ states.summaries alarms.now (es ++ events.now) }
+    ensures value { Adds alarms.now events.now summaries.old summaries.new }
 {
     for event in events {
         add_event(summaries, alarms, event);
     }
 }
 
-/// The summaries of alarms, told anew from their kept and their new events.
+/// The summaries of alarms, computed anew from their kept and their new events.
 fn told_anew(
     alloc: Global,
     alarms: &[AlarmRow],
@@ -97,7 +88,7 @@ fn told_anew(
     fresh: &[Event],
 ) -> Result<List<Summary>, Fault>
     ensures length { IfOk result (λ s. length s ≡ length alarms.now) }
-    ensures value { IsRising kept.now → IsInOrder name_cmp alarm_tag alarms.now → IfOk result (λ s. s ≡ states.summaries alarms.now (with_events kept.now fresh.now)) }
+    ensures value { GivesAnew alarms.now kept.now fresh.now result }
     ensures err { IfErr result (λ e. e ≡ Memory) }
 {
     let mut summaries = no_summaries(alloc, alarms)?;
@@ -112,7 +103,7 @@ fn told_anew(
 /// The summaries in the rows of alarms, brought forward by new events that come after all others of their alarms.
 fn told_on(alloc: Global, alarms: &[AlarmRow], fresh: &[Event]) -> Result<List<Summary>, Fault>
     ensures length { IfOk result (λ s. length s ≡ length alarms.now) }
-    ensures value { IsInOrder name_cmp alarm_tag alarms.now → (es : List TheEvent) → AreTold alarms.now es → IfOk result (λ s. s ≡ states.summaries alarms.now (es ++ with_events [] fresh.now)) }
+    ensures value { GivesOn alarms.now fresh.now result }
     ensures err { IfErr result (λ e. e ≡ Memory) }
 {
     let mut summaries = summaries_in(alloc, alarms)?;
@@ -124,7 +115,7 @@ fn told_on(alloc: Global, alarms: &[AlarmRow], fresh: &[Event]) -> Result<List<S
     Ok(summaries)
 }
 
-/// The alarm's row with its state told anew.
+/// The alarm's row with the state of a summary.
 fn with_summary(alloc: Global, alarm: &AlarmRow, summary: &Summary) -> Result<AlarmRow, Fault>
     ensures value { IfOk result (λ row. row ≡ states.with_summary alarm.now summary.now) }
     ensures err { IfErr result (λ e. e ≡ Memory) }
@@ -156,7 +147,7 @@ fn alarm_change(
     alarm: &AlarmRow,
     summary: &Summary,
 ) -> Result<Option<RowEdit>, Fault>
-    ensures value { (es fresh : List TheEvent) → AreNamed named.now fresh → summary.now ≡ summary_of es alarm.now → IfOk result (λ change. option_to_list change ≡ (if is_named fresh alarm.now then state_put es alarm.now ∷ [] else [])) }
+    ensures value { GivesNamed named.now alarm.now summary.now result }
     ensures err { IfErr result (λ e. e ≡ Memory) }
 {
     if !named.contains(&alarm.tag) {
@@ -174,7 +165,7 @@ fn push_named(
     named: &BTreeSet<Tag>,
 ) -> Result<(), Fault>
     requires { length summaries.now ≡ length alarms.now }
-    ensures value { (es fresh : List TheEvent) → AreNamed named.now fresh → summaries.now ≡ states.summaries alarms.now es → OnOk result (changes.new ≡ changes.old ++ map (state_put es) (filter (is_named fresh) alarms.now)) }
+    ensures value { PushesNamed named.now alarms.now summaries.now changes.old changes.new result }
     ensures err { IfErr result (λ e. e ≡ Memory) }
 {
     for (i, alarm) in alarms.iter().enumerate() {
@@ -194,7 +185,8 @@ fn summaries_after(
     fresh: &[Event],
 ) -> Result<List<Summary>, Fault>
     ensures length { IfOk result (λ s. length s ≡ length alarms.now) }
-    ensures value { IsInOrder name_cmp alarm_tag alarms.now → (es : List TheEvent) → kept.now ≡ needed es rows.now → AreAdded es rows.now fresh.now → AreTold alarms.now es → IfOk result (λ s. s ≡ states.summaries alarms.now (with_events es fresh.now)) }
+    ensures value { ForImport alarms.now kept.now rows.now fresh.now
+        (λ es. Gives result (states.summaries alarms.now (with_events es fresh.now))) }
     ensures err { IfErr result (λ e. e ≡ Memory) }
 {
     if has_late(alloc, kept, rows)? {
@@ -213,7 +205,8 @@ pub fn push_alarms(
     rows: &[Event],
     fresh: &[Event],
 ) -> Result<(), Fault>
-    ensures value { IsInOrder name_cmp alarm_tag alarms.now → (es : List TheEvent) → kept.now ≡ needed es rows.now → AreAdded es rows.now fresh.now → AreTold alarms.now es → OnOk result (changes.new ≡ changes.old ++ map (state_put (with_events es fresh.now)) (filter (is_named fresh.now) alarms.now)) }
+    ensures value { ForImport alarms.now kept.now rows.now fresh.now
+        (λ es. OnOk result (changes.new ≡ changes.old ++ states_after es fresh.now alarms.now)) }
     ensures err { IfErr result (λ e. e ≡ Memory) }
 {
     let summaries = summaries_after(alloc, alarms, kept, rows, fresh)?;

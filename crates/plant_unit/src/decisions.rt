@@ -1,22 +1,19 @@
 //! Proposing changes, and deciding them.
 
-ghost use Rattle.std.specs.Prelude.{◌≡◌, ◌<◌, ◌+◌, ◌++◌, IfErr, IfOk, None, OnOk, Some, map, option_map, true};
-ghost use Rattle.plant_types.specs.Names.{Name};
+ghost use Rattle.std.specs.Prelude.{◌≡◌, ◌<◌, ◌+◌, ◌++◌, IfErr, IfOk, None};
 ghost use Rattle.plant_types.specs.declared.fault.Fault.TheVariants.{Memory};
 ghost use Rattle.plant_ration.specs.declared.change.ChangeKind.TheVariants.{Limit, Matrix as MatrixKind, Rationale};
+ghost use Rattle.plant_books.specs.Results.{Gives};
 ghost use Rattle.plant_model.specs.Changes.{priority_by};
-ghost use Rattle.plant_model.specs.Refusals.{first_refusal, kind_refusals};
-ghost use Rattle.plant_model.specs.RowChanges as row_changes;
-ghost use Rattle.plant_model.specs.RowChanges.{in_force, own_changes};
-ghost use Rattle.plant_model.specs.RowFacts.{facts_in, record_read, unit_read};
+ghost use Rattle.plant_model.specs.RowChanges.{in_force};
+ghost use Rattle.plant_model.specs.RowFacts.{facts_in, unit_read};
 ghost use Rattle.plant_model.specs.Rows as rows;
 ghost use Rattle.plant_model.specs.Rows.{change_entry};
 ghost use Rattle.plant_model.specs.declared.call.Request.TheVariants.{Approve, Propose, Reject, WithdrawChange};
-ghost use Rattle.plant_model.specs.declared.rows.RowEdit.TheVariants.{Put};
-ghost use Rattle.plant_model.specs.declared.rows.Row.TheVariants.{Change as ChangePut, Record as RecordPut};
 ghost use Rattle.plant_unit.specs.Additions.{AreKept};
-ghost use Rattle.plant_unit.specs.Judged.{IsApproved, IsJudgedOwn, decided_row, decision, one_change};
-ghost use Rattle.plant_unit.specs.Readings.{has_its_sheet};
+ghost use Rattle.plant_unit.specs.Deciding as deciding;
+ghost use Rattle.plant_unit.specs.Deciding.{GivesRerated, decided_put, rerated_puts, unit_row_after, with_limit};
+ghost use Rattle.plant_unit.specs.FromFacts.{AddsFrom, AddsProposal, ApprovesFrom, DecidesFrom, JudgesFrom, RefusesFrom, refusal_of_kind};
 
 use crate::matrices::push_matrix;
 use crate::proposals::{
@@ -46,7 +43,7 @@ fn topic(kind: &ChangeKind) -> ChangeTopic
 
 /// The row of a change, without what its kind puts there.
 fn bare_entry(alloc: Global, change: &ChangeRow) -> Result<ChangeEntry, Fault>
-    ensures value { IfOk result (λ entry. entry ≡ record (change_entry change.now) { tag = None; cause = None; consequence = None; remedy = None; severity = None; response_s = None; max_s = None }) }
+    ensures value { Gives result (deciding.bare_entry change.now) }
     ensures err { IfErr result (λ e. e ≡ Memory) }
 {
     Ok(ChangeEntry {
@@ -110,7 +107,7 @@ fn push_proposal(
     call: &Call,
     proposal: &Proposal,
 ) -> Result<(), Fault>
-    ensures value { AreKept part.now → (u : Name) → OnOk result (changes.new ≡ changes.old ++ own_changes (facts_in part.now) call.now.person call.now.moment (Propose u proposal.now)) }
+    ensures value { AddsProposal part.now call.now proposal.now changes.old changes.new result }
     ensures err { IfErr result (λ e. e ≡ Memory) }
 {
     let number = next_number(part);
@@ -138,7 +135,7 @@ fn decided(
     state: ChangeState,
     call: &Call,
 ) -> Result<RowEdit, Fault>
-    ensures value { IfOk result (λ put. put ≡ Put (ChangePut (decided_row state call.now.person call.now.moment entry.now))) }
+    ensures value { Gives result (decided_put state call.now entry.now) }
     ensures err { IfErr result (λ e. e ≡ Memory) }
 {
     let mut row = entry.duplicate(alloc)?;
@@ -155,7 +152,7 @@ pub fn withdraw_change(
     call: &Call,
     number: u32,
 ) -> Result<Result<RowEdit, Refused>, Fault>
-    ensures value { AreKept part.now → (u : Name) → IfOk result (λ d. one_change d ≡ decision (facts_in part.now) call.now.person call.now.moment (WithdrawChange u number)) }
+    ensures value { DecidesFrom part.now call.now (λ u. WithdrawChange u number) result }
     ensures err { IfErr result (λ e. e ≡ Memory) }
 {
     let Some(entry) = entry_of(part.rows.changes.as_slice(), number) else {
@@ -174,7 +171,7 @@ pub fn reject(
     call: &Call,
     number: u32,
 ) -> Result<Result<RowEdit, Refused>, Fault>
-    ensures value { AreKept part.now → (u : Name) → IfOk result (λ d. one_change d ≡ decision (facts_in part.now) call.now.person call.now.moment (Reject u number)) }
+    ensures value { DecidesFrom part.now call.now (λ u. Reject u number) result }
     ensures err { IfErr result (λ e. e ≡ Memory) }
 {
     let Some(entry) = entry_of(part.rows.changes.as_slice(), number) else {
@@ -205,8 +202,7 @@ fn push_record(
     sheet: &Sheet,
 ) -> Result<Option<Refused>, Fault>
     requires { unit_read part.now.rows ≡ unit.now }
-    ensures refused { AreKept part.now → IfOk result (λ r. r ≡ first_refusal
-        (kind_refusals (facts_in part.now) change.now.base (Rationale tag.now sheet.now))) }
+    ensures refused { RefusesFrom part.now change.now.base (Rationale tag.now sheet.now) result }
     ensures added { AreKept part.now → IfOk result (λ r. r ≡ None
         → changes.new ≡ changes.old
         ++ in_force (facts_in part.now) change.now.number (Rationale tag.now sheet.now)) }
@@ -232,7 +228,7 @@ fn rerated(
     matrix: &Matrix,
     row: &RecordEntry,
 ) -> Result<Option<RecordEntry>, Fault>
-    ensures value { AreKept part.now → has_its_sheet part.now.rows row.now ≡ true → IfOk result (λ entry. entry ≡ option_map (row_changes.rerated matrix.now) (record_read part.now.rows row.now)) }
+    ensures value { GivesRerated part.now matrix.now row.now result }
     ensures err { IfErr result (λ e. e ≡ Memory) }
 {
     let Some(entry) = source_of(part, row) else {
@@ -256,7 +252,7 @@ fn push_rerated(
     part: &UnitPart,
     matrix: &Matrix,
 ) -> Result<(), Fault>
-    ensures value { AreKept part.now → OnOk result (changes.new ≡ changes.old ++ map (λ r. Put (RecordPut (row_changes.rerated matrix.now r))) (facts_in part.now).rationales) }
+    ensures value { AddsFrom part.now result changes.old changes.new (rerated_puts matrix.now) }
     ensures err { IfErr result (λ e. e ≡ Memory) }
 {
     for row in part.rows.records.as_slice() {
@@ -279,8 +275,7 @@ fn push_matrix_in_force(
     matrix: &Matrix,
 ) -> Result<Option<Refused>, Fault>
     requires { unit_read part.now.rows ≡ unit.now }
-    ensures refused { AreKept part.now → IfOk result (λ r. r ≡ first_refusal
-        (kind_refusals (facts_in part.now) change.now.base (MatrixKind matrix.now))) }
+    ensures refused { RefusesFrom part.now change.now.base (MatrixKind matrix.now) result }
     ensures added { AreKept part.now → IfOk result (λ r. r ≡ None
         → changes.new ≡ changes.old
         ++ in_force (facts_in part.now) change.now.number (MatrixKind matrix.now)) }
@@ -295,7 +290,7 @@ fn push_matrix_in_force(
 
 /// The row of an alarm whose limit is changed.
 fn limited(alloc: Global, alarm: &AlarmRow, max: Seconds) -> Result<AlarmRow, Fault>
-    ensures value { alarm.now.max_rev < 4294967295 → IfOk result (λ row. row ≡ record alarm.now { max_s = max; max_rev = alarm.now.max_rev + 1 }) }
+    ensures value { alarm.now.max_rev < 4294967295 → Gives result (with_limit alarm.now max) }
     ensures err { IfErr result (λ e. e ≡ Memory) }
 {
     let mut row = alarm.duplicate(alloc)?;
@@ -313,8 +308,7 @@ fn push_limit(
     tag: &Tag,
     max: Seconds,
 ) -> Result<Option<Refused>, Fault>
-    ensures refused { IfOk result (λ r. r ≡ first_refusal
-        (kind_refusals (facts_in part.now) change.now.base (Limit tag.now max))) }
+    ensures refused { Gives result (refusal_of_kind part.now change.now.base (Limit tag.now max)) }
     ensures added { AreKept part.now → IfOk result (λ r. r ≡ None
         → changes.new ≡ changes.old
         ++ in_force (facts_in part.now) change.now.number (Limit tag.now max)) }
@@ -340,8 +334,7 @@ fn push_in_force(
     change: &ChangeRow,
 ) -> Result<Option<Refused>, Fault>
     requires { unit_read part.now.rows ≡ unit.now }
-    ensures refused { AreKept part.now → IfOk result (λ r. r ≡ first_refusal
-        (kind_refusals (facts_in part.now) change.now.base change.now.kind)) }
+    ensures refused { RefusesFrom part.now change.now.base change.now.kind result }
     ensures added { AreKept part.now → IfOk result (λ r. r ≡ None
         → changes.new ≡ changes.old
         ++ in_force (facts_in part.now) change.now.number change.now.kind) }
@@ -360,7 +353,7 @@ fn push_in_force(
 
 /// The unit's row after the approval of a change of this kind.
 fn approved_row(unit: &UnitRow, now: Moment, change: &ChangeRow) -> UnitRow
-    ensures { unit.now.matrix_rev < 4294967295 → result ≡ row_changes.kind_row now unit.now change.now.number change.now.kind }
+    ensures { unit.now.matrix_rev < 4294967295 → result ≡ unit_row_after now unit.now change.now }
 {
     let row = UnitRow {
         last_s: now,
@@ -386,7 +379,7 @@ fn bring_into_force(
     change: &ChangeRow,
 ) -> Result<Verdict, Fault>
     requires { unit_read part.now.rows ≡ unit.now }
-    ensures value { AreKept part.now → IfOk result (IsApproved (facts_in part.now) call.now.person call.now.moment change.now entry.now) }
+    ensures value { ApprovesFrom part.now call.now change.now entry.now result }
     ensures err { IfErr result (λ e. e ≡ Memory) }
 {
     let mut changes = List::new(alloc);
@@ -407,7 +400,7 @@ pub fn approve(
     number: u32,
 ) -> Result<Verdict, Fault>
     requires { unit_read part.now.rows ≡ unit.now }
-    ensures value { AreKept part.now → (u : Name) → call.now.request ≡ Approve u number → IfOk result (IsJudgedOwn (facts_in part.now) call.now) }
+    ensures value { JudgesFrom part.now call.now (λ u. Approve u number) result }
     ensures err { IfErr result (λ e. e ≡ Memory) }
 {
     let Some(entry) = entry_of(part.rows.changes.as_slice(), number) else {
@@ -431,7 +424,7 @@ pub fn propose(
     proposal: &Proposal,
 ) -> Result<Verdict, Fault>
     requires { unit_read part.now.rows ≡ unit.now }
-    ensures value { AreKept part.now → (u : Name) → call.now.request ≡ Propose u proposal.now → IfOk result (IsJudgedOwn (facts_in part.now) call.now) }
+    ensures value { JudgesFrom part.now call.now (λ u. Propose u proposal.now) result }
     ensures err { IfErr result (λ e. e ≡ Memory) }
 {
     if let Some(refused) = proposal_refusal(alloc, unit, part, proposal)? {

@@ -1,15 +1,16 @@
 //! The facts that a verdict looks at, read from the rows of a part.
 
-ghost use Rattle.std.specs.Prelude.{◌≡◌, ℕ, Some, ◌&&◌, not, count_by, option_copied, option_map, option_and_then, unwrap_or, false};
+ghost use Rattle.std.specs.Prelude.{◌≡◌, count_by, option_copied};
 ghost use Rattle.std.specs.List.{list_any};
-ghost use Rattle.plant_types.specs.Names.{name_cmp, same_name};
+ghost use Rattle.plant_types.specs.Names.{name_cmp};
 ghost use Rattle.plant_types.specs.KeyedRows.{row_at};
 ghost use Rattle.plant_types.specs.Roles.{same_pair};
 ghost use Rattle.plant_alarm.specs.Shelves.{is_unshelved, shelf_state};
 ghost use Rattle.plant_model.specs.Shelves as shelves;
-ghost use Rattle.plant_model.specs.Facts.{is_steward_row, others_shelved, returned, shelf_now};
+ghost use Rattle.plant_model.specs.Facts.{is_steward_row, others_shelved, shelf_now};
 ghost use Rattle.plant_model.specs.Refusals.{holds_some};
-ghost use Rattle.plant_model.specs.RowFacts.{alarm_tag, facts_in, pair_of, shelf_tag};
+ghost use Rattle.plant_model.specs.RowFacts.{facts_in, pair_of, shelf_tag};
+ghost use Rattle.plant_unit.specs.Shelving as shelving;
 
 use plant_alarm::{Shelf, ShelfState, shelf_at};
 use plant_books::{holds_some_by, is_held_by, is_pair, last_return};
@@ -94,7 +95,7 @@ fn is_unshelved(state: ShelfState) -> bool
 }
 
 fn is_other_shelved(part: &UnitPart, tag: &Tag, row: &ShelfRow, now: Moment) -> bool
-    ensures { result ≡ (not (same_name tag.now row.now.tag) && not (is_unshelved (shelf_state (shelves.shelf_left (Some row.now)) (returned (facts_in part.now) row.now.tag) now))) }
+    ensures { result ≡ shelving.is_other_shelved (facts_in part.now) tag.now row.now now }
 {
     if *tag == row.tag {
         return false;

@@ -1,9 +1,12 @@
 //! The floods of alarms in a range of moments.
 
-ghost use Rattle.std.specs.Prelude.{◌≡◌, ◌≤◌, ◌+◌, ◌*◌, All, IfErr, IfOk, IsTrue, length, map, ℕ};
+ghost use Rattle.std.specs.Prelude.{◌≡◌, ◌+◌, ◌*◌, All, IfErr, IsTrue, map, ℕ};
 ghost use Rattle.plant_types.specs.Moment.{is_moment};
 ghost use Rattle.plant_types.specs.declared.fault.Fault.TheVariants.{Memory};
+ghost use Rattle.plant_books.specs.Results.{Gives};
 ghost use Rattle.plant_model.specs.Events as flood;
+ghost use Rattle.plant_unit.specs.Additions.{AreFew};
+ghost use Rattle.plant_unit.specs.Floods.{EndsBy, IsLineOf};
 
 use plant_alarm::Event;
 use plant_floods::{Run, floods, period_counts};
@@ -29,7 +32,7 @@ fn later(begin: Moment, periods: usize) -> Moment
 }
 
 fn flood_line(begin: Moment, run: &Run) -> FloodLine
-    ensures { IsTrue (is_moment (begin + 600 * run.now.first)) → IsTrue (is_moment (begin + 600 * run.now.last + 600)) → result ≡ flood.flood_line begin run.now }
+    ensures { IsLineOf begin run.now result }
 {
     FloodLine {
         start: later(begin, run.first),
@@ -41,7 +44,8 @@ fn flood_line(begin: Moment, run: &Run) -> FloodLine
 
 /// The lines of runs, of which each ends before a moment.
 fn lines_of(alloc: Global, begin: Moment, runs: &[Run]) -> Result<List<FloodLine>, Fault>
-    ensures value { (until : ℕ) → IsTrue (is_moment until) → All (λ r. (r.first ≤ r.last) × (begin + 600 * r.last + 600 ≤ until)) runs.now → IfOk result (λ lines. lines ≡ map (flood.flood_line begin) runs.now) }
+    ensures value { (until : ℕ) → IsTrue (is_moment until) → All (EndsBy begin until) runs.now
+        → Gives result (map (flood.flood_line begin) runs.now) }
     ensures err { IfErr result (λ e. e ≡ Memory) }
 {
     let mut lines = List::new(alloc);
@@ -58,7 +62,7 @@ pub fn flood_lines(
     begin: Moment,
     until: Moment,
 ) -> Result<List<FloodLine>, Fault>
-    ensures value { length events.now ≤ 4294967295 → IfOk result (λ lines. lines ≡ flood.flood_lines events.now begin until) }
+    ensures value { AreFew events.now → Gives result (flood.flood_lines events.now begin until) }
     ensures err { IfErr result (λ e. e ≡ Memory) }
 {
     let counts = period_counts(alloc, events, begin, until)?;

@@ -1,11 +1,10 @@
 //! Granting roles and withdrawing them.
 
-ghost use Rattle.std.specs.Prelude.{◌≡◌, ℕ, IfErr, IfOk};
+ghost use Rattle.std.specs.Prelude.{◌≡◌, IfErr};
 ghost use Rattle.plant_types.specs.Names.{Name};
 ghost use Rattle.plant_types.specs.declared.fault.Fault.TheVariants.{Memory};
-ghost use Rattle.plant_model.specs.RowFacts.{facts_in};
 ghost use Rattle.plant_model.specs.declared.call.Request.TheVariants.{Grant, Withdraw};
-ghost use Rattle.plant_unit.specs.Judged.{decision, one_change};
+ghost use Rattle.plant_unit.specs.FromFacts.{DecidesAlways, DecidesAs};
 
 use crate::facts::{is_held, stands, stewards};
 use plant_books::is_before;
@@ -22,7 +21,7 @@ pub fn grant(
     person: &Person,
     tenure: Tenure,
 ) -> Result<Result<RowEdit, Refused>, Fault>
-    ensures value { (p u : Name) → IfOk result (λ d. one_change d ≡ decision (facts_in part.now) p now (Grant u person.now tenure)) }
+    ensures value { (p u : Name) → DecidesAs part.now p now (Grant u person.now tenure) result }
     ensures err { IfErr result (λ e. e ≡ Memory) }
 {
     if part.rows.grants.as_slice().len() >= MAX_GRANTS {
@@ -48,7 +47,7 @@ pub fn withdraw(
     person: &Person,
     role: Role,
 ) -> Result<Result<RowEdit, Refused>, Fault>
-    ensures value { (t : ℕ) (p u : Name) → IfOk result (λ d. one_change d ≡ decision (facts_in part.now) p t (Withdraw u person.now role)) }
+    ensures value { DecidesAlways part.now (λ u. Withdraw u person.now role) result }
     ensures err { IfErr result (λ e. e ≡ Memory) }
 {
     let grants = part.rows.grants.as_slice();

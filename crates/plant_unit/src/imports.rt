@@ -1,20 +1,10 @@
 //! The judgement of an import whose caller may make it.
 
-ghost use Rattle.std.specs.Prelude.{◌≡◌, ◌≤◌, ◌+◌, ◌++◌, ◌∷◌, IfErr, IfOk, List, Ok, OnOk, length, map, nat_lt};
-ghost use Rattle.plant_types.specs.Names.{Name};
+ghost use Rattle.std.specs.Prelude.{◌≡◌, ◌+◌, ◌++◌, IfErr, IfOk, OnOk, map, nat_lt};
 ghost use Rattle.plant_types.specs.declared.fault.Fault.TheVariants.{Memory};
-ghost use Rattle.plant_alarm.specs.declared.event.Event.{Event as TheEvent};
-ghost use Rattle.plant_model.specs.RowChanges as changes;
-ghost use Rattle.plant_model.specs.RowChanges.{unit_after};
-ghost use Rattle.plant_model.specs.RowFacts.{alarm_tag, facts_among, unit_read};
-ghost use Rattle.plant_model.specs.declared.call.Request.TheVariants.{Import};
-ghost use Rattle.plant_model.specs.declared.reply.Reply.TheVariants.{Imported};
-ghost use Rattle.plant_model.specs.declared.rows.RowEdit.TheVariants.{Put};
-ghost use Rattle.plant_model.specs.declared.rows.Row.TheVariants.{Event as EventPut, Unit as UnitPut};
-ghost use Rattle.plant_types.specs.Names.{name_cmp};
-ghost use Rattle.plant_types.specs.KeyedRows.{IsInOrder};
-ghost use Rattle.plant_unit.specs.Additions.{AreAdded, AreEventsFor, AreEventsOf, AreKept, addition};
-ghost use Rattle.plant_unit.specs.Judged.{IsJudgedOwn};
+ghost use Rattle.plant_model.specs.RowFacts.{alarm_tag, unit_read};
+ghost use Rattle.plant_unit.specs.Additions.{AreFew, GivesAddition, GivesImport, event_puts, import_reply};
+ghost use Rattle.plant_unit.specs.FromFacts.{JudgesImport};
 
 use crate::alarms::push_alarms;
 use plant_alarm::Event;
@@ -50,7 +40,7 @@ fn added(
     now: Moment,
     rows: &[Event],
 ) -> Result<Result<Merged, Refused>, Fault>
-    ensures value { (es : List TheEvent) → AreEventsOf part.now rows.now es → IfOk result (λ added. added ≡ addition (facts_among part.now es) now rows.now) }
+    ensures value { GivesAddition part.now now rows.now result }
     ensures err { IfErr result (λ e. e ≡ Memory) }
 {
     let kept = part.rows.events.as_slice();
@@ -66,7 +56,7 @@ fn added(
 
 /// The reply to an import that added these rows; 4,294,967,295 new ones where there are more.
 fn imported(merged: &Merged) -> Reply
-    ensures { length merged.now.fresh ≤ 4294967295 → result ≡ Imported (length merged.now.fresh) merged.now.repeated }
+    ensures { AreFew merged.now.fresh → result ≡ import_reply merged.now }
 {
     Reply::Imported {
         fresh: u32::try_from(merged.fresh.len()).unwrap_or(u32::MAX),
@@ -75,7 +65,7 @@ fn imported(merged: &Merged) -> Reply
 }
 
 fn push_events(alloc: Global, changes: &mut List<RowEdit>, events: &[Event]) -> Result<(), Fault>
-    ensures value { OnOk result (changes.new ≡ changes.old ++ map (λ e. Put (EventPut e)) events.now) }
+    ensures value { OnOk result (changes.new ≡ changes.old ++ event_puts events.now) }
     ensures err { IfErr result (λ e. e ≡ Memory) }
 {
     for event in events {
@@ -94,7 +84,7 @@ fn import_changes(
     added: &[Event],
 ) -> Result<List<RowEdit>, Fault>
     requires { unit_read part.now.rows ≡ unit.now }
-    ensures value { IsInOrder name_cmp alarm_tag part.now.rows.alarms → (u : Name) (es : List TheEvent) → AreEventsOf part.now rows.now es → AreAdded es rows.now added.now → IfOk result (λ cs. cs ≡ Put (UnitPut (unit_after (facts_among part.now es) now (Import u (Ok rows.now)))) ∷ changes.import_changes (facts_among part.now es) rows.now) }
+    ensures value { GivesImport part.now now rows.now added.now result }
     ensures err { IfErr result (λ e. e ≡ Memory) }
 {
     let mut changes = List::new(alloc);
@@ -117,7 +107,7 @@ pub fn judge_import(
     file: &FileRead,
 ) -> Result<Verdict, Fault>
     requires { unit_read part.now.rows ≡ unit.now }
-    ensures value { AreKept part.now → (u : Name) (es : List TheEvent) → call.now.request ≡ Import u file.now → AreEventsFor part.now call.now.request es → IfOk result (IsJudgedOwn (facts_among part.now es) call.now) }
+    ensures value { JudgesImport part.now call.now file.now result }
     ensures err { IfErr result (λ e. e ≡ Memory) }
 {
     let rows = match file {

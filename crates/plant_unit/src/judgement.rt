@@ -1,13 +1,11 @@
 ghost use Rattle.std.specs.Prelude.{◌≡◌, List, IfOk, IfErr, option_copied, true, false};
-ghost use Rattle.plant_types.specs.Names.{same_name};
 ghost use Rattle.plant_types.specs.declared.fault.Fault.TheVariants.{Memory};
 ghost use Rattle.plant_alarm.specs.declared.event.Event.{Event as TheEvent};
-ghost use Rattle.plant_model.specs.Refusals.{holds_some};
 ghost use Rattle.plant_model.specs.RowFacts.{facts_among, facts_in, unit_read};
 ghost use Rattle.plant_model.specs.Verdicts.{is_opening};
 ghost use Rattle.plant_model.specs.declared.call.Call.{Call};
-ghost use Rattle.plant_unit.specs.Additions.{AreEventsFor, AreKept};
-ghost use Rattle.plant_unit.specs.Judged.{IsJudged, IsJudgedOwn, IsOpening, IsPartOf, IsVerdictOn, is_import};
+ghost use Rattle.plant_unit.specs.Additions.{AreKept};
+ghost use Rattle.plant_unit.specs.Judged.{AreEventsSeen, IsJudged, IsJudgedOwn, IsOpeningFor, IsPartOf, IsVerdictOn, is_import};
 
 use crate::changes::opening_changes;
 use crate::decisions::{approve, propose, reject, withdraw_change};
@@ -100,7 +98,8 @@ fn judge_own(alloc: Global, unit: &UnitRow, part: &UnitPart, call: &Call) -> Res
 fn judge_part(alloc: Global, unit: &UnitRow, part: &UnitPart, call: &Call) -> Result<Verdict, Fault>
     requires row { unit_read part.now.rows ≡ unit.now }
     requires plain { is_opening call.now.request ≡ false }
-    ensures value { AreKept part.now → (es : List TheEvent) → (holds_some (facts_in part.now) call.now.moment call.now.person ≡ true → AreEventsFor part.now call.now.request es) → IfOk result (IsJudged (facts_among part.now es) call.now) }
+    ensures value { AreKept part.now → (es : List TheEvent) → AreEventsSeen part.now call.now es
+        → IfOk result (IsJudged (facts_among part.now es) call.now) }
     ensures err { IfErr result (λ e. e ≡ Memory) }
 {
     if let Some(refused) = holder_refusal(unit, part, call) {
@@ -119,7 +118,8 @@ fn judge_part(alloc: Global, unit: &UnitRow, part: &UnitPart, call: &Call) -> Re
 /// those of the history followed by the call (none for a refusal or a read).
 pub fn judge(alloc: Global, part: Option<&UnitPart>, call: &Call) -> Result<Verdict, Fault>
     requires { is_opening call.now.request ≡ false }
-    ensures value { (h : List Call) → IsPartOf (option_copied part.entry) h call.now → IfOk result (IsVerdictOn h call.now) }
+    ensures value { (h : List Call) → IsPartOf (option_copied part.entry) h call.now
+        → IfOk result (IsVerdictOn h call.now) }
     ensures err { IfErr result (λ e. e ≡ Memory) }
 {
     let Some(part) = part else {
@@ -139,7 +139,7 @@ pub fn judge_open(
     call: &Call,
 ) -> Result<Verdict, Fault>
     requires { is_opening call.now.request ≡ true }
-    ensures value { IfOk result (IsOpening (same_name call.now.person administrator.now) taken call.now) }
+    ensures value { IfOk result (IsOpeningFor administrator.now taken call.now) }
     ensures err { IfErr result (λ e. e ≡ Memory) }
 {
     if call.person != *administrator {

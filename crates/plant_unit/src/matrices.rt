@@ -1,14 +1,10 @@
 //! The matrices of a unit, read from their rows and put into them.
 
-ghost use Rattle.std.specs.Prelude.{◌≡◌, ◌≤◌, ◌++◌, All, IfErr, IfOk, OnOk, filter, flat_map, length, map};
-ghost use Rattle.std.specs.List.{enumerate_from, range_with_len};
+ghost use Rattle.std.specs.Prelude.{◌≡◌, ◌≤◌, ◌++◌, All, IfErr, IfOk, OnOk, length};
 ghost use Rattle.plant_types.specs.declared.fault.Fault.TheVariants.{Memory};
-ghost use Rattle.plant_model.specs.Histories.{same_number};
 ghost use Rattle.plant_model.specs.RowChanges.{matrix_changes};
-ghost use Rattle.plant_model.specs.RowFacts.{cells_at, has_cells};
-ghost use Rattle.plant_model.specs.declared.rows.RowEdit.TheVariants.{Put};
-ghost use Rattle.plant_model.specs.declared.rows.Row.TheVariants.{Band as BandPut, Cell as CellPut};
-ghost use Rattle.plant_unit.specs.MatrixRows.{band_row_of, row_of_cells};
+ghost use Rattle.plant_model.specs.RowFacts.{cells_at};
+ghost use Rattle.plant_unit.specs.MatrixRows.{band_puts, cell_lists, cell_puts, items_of, limits_at, row_puts};
 ghost use Rattle.plant_unit.specs.Readings.{matrix_found};
 
 use plant_model::{BandRow, CellRow, Row, RowEdit, UnitRows};
@@ -18,7 +14,7 @@ use std::alloc::Global;
 
 /// The limits of the matrix of a number.
 fn limits_of(alloc: Global, bands: &[BandRow], number: u32) -> Result<Vec<u64>, Fault>
-    ensures value { IfOk result (λ limits. limits.items ≡ map (λ b. b.limit_s) (filter (λ b. same_number number b.matrix_no) bands.now)) }
+    ensures value { IfOk result (λ limits. limits.items ≡ limits_at bands.now number) }
     ensures err { IfErr result (λ e. e ≡ Memory) }
 {
     let mut limits = Vec::new(alloc);
@@ -46,7 +42,7 @@ fn row_of(alloc: Global, cells: &[CellRow], number: u32, severity: u8) -> Result
 
 /// The rows of the matrix of a number, as far as there are cells.
 fn cells_of(alloc: Global, cells: &[CellRow], number: u32) -> Result<Vec<Vec<Cell>>, Fault>
-    ensures value { IfOk result (λ rows. map (λ row. row.items) rows.items ≡ filter has_cells (map (cells_at cells.now number) (range_with_len 1 5))) }
+    ensures value { IfOk result (λ rows. items_of rows.items ≡ cell_lists cells.now number) }
     ensures err { IfErr result (λ e. e ≡ Memory) }
 {
     let mut rows = Vec::new(alloc);
@@ -71,7 +67,7 @@ pub fn matrix_of(alloc: Global, rows: &UnitRows, number: u32) -> Result<Option<M
 
 fn push_bands(changes: &mut List<RowEdit>, number: u32, limits: &[u64]) -> Result<(), Fault>
     requires { length limits.now ≤ 4 }
-    ensures value { OnOk result (changes.new ≡ changes.old ++ map (λ r. Put (BandPut r)) (map (band_row_of number) (enumerate_from 1 limits.now))) }
+    ensures value { OnOk result (changes.new ≡ changes.old ++ band_puts number limits.now) }
     ensures err { IfErr result (λ e. e ≡ Memory) }
 {
     for (i, limit) in limits.iter().enumerate() {
@@ -91,7 +87,7 @@ fn push_row(
     row: &[Cell],
 ) -> Result<(), Fault>
     requires { length row.now ≤ 5 }
-    ensures value { OnOk result (changes.new ≡ changes.old ++ map (λ r. Put (CellPut r)) (row_of_cells number (severity, row.now))) }
+    ensures value { OnOk result (changes.new ≡ changes.old ++ row_puts number (severity, row.now)) }
     ensures err { IfErr result (λ e. e ≡ Memory) }
 {
     for (i, cell) in row.iter().enumerate() {
@@ -108,7 +104,7 @@ fn push_row(
 fn push_cells(changes: &mut List<RowEdit>, number: u32, cells: &[Vec<Cell>]) -> Result<(), Fault>
     requires rows { length cells.now ≤ 5 }
     requires wide { All (λ row. length row.items ≤ 5) cells.now }
-    ensures value { OnOk result (changes.new ≡ changes.old ++ map (λ r. Put (CellPut r)) (flat_map (row_of_cells number) (enumerate_from 1 (map (λ row. row.items) cells.now)))) }
+    ensures value { OnOk result (changes.new ≡ changes.old ++ cell_puts number cells.now) }
     ensures err { IfErr result (λ e. e ≡ Memory) }
 {
     for (i, row) in cells.iter().enumerate() {

@@ -1,19 +1,15 @@
 //! The refusals of calls on changes.
 
-ghost use Rattle.std.specs.Prelude.{◌≡◌, ◌∷◌, [], IfErr, IfOk, Some, not, option_copied, ℕ};
-ghost use Rattle.std.specs.List.{list_any};
-ghost use Rattle.plant_types.specs.Names.{Name};
+ghost use Rattle.std.specs.Prelude.{◌≡◌, IfErr, option_copied};
 ghost use Rattle.plant_types.specs.declared.fault.Fault.TheVariants.{Memory};
 ghost use Rattle.plant_ration.specs.declared.change.ChangeKind.TheVariants.{Matrix as MatrixKind};
 ghost use Rattle.plant_model.specs.Refusals as refusals;
-ghost use Rattle.plant_model.specs.Refusals.{base_changed, first_refusal, kind_refusals, kind_unknown, of_change, own_refusals};
-ghost use Rattle.plant_model.specs.RowFacts.{change_read, facts_in, unit_read};
-ghost use Rattle.plant_types.specs.Names.{same_name};
+ghost use Rattle.plant_model.specs.Refusals.{first_refusal, kind_unknown};
+ghost use Rattle.plant_model.specs.RowFacts.{facts_in, unit_read};
 ghost use Rattle.plant_model.specs.declared.call.Request.TheVariants.{Propose};
-ghost use Rattle.plant_model.specs.declared.reply.Refused.TheVariants.{NotProposer, SamePerson};
-ghost use Rattle.plant_model.specs.declared.rows.UnitRows.{UnitRows as TheRows};
 ghost use Rattle.plant_unit.specs.Additions.{AreKept};
-ghost use Rattle.plant_unit.specs.Judged.{record_decision, sheet_decision};
+ghost use Rattle.plant_unit.specs.FromFacts.{GivesFrom, RefusesAlways, RefusesFrom, refusal_of_kind};
+ghost use Rattle.plant_unit.specs.Judged.{IsRefusalOf, base_refusal, if_not_proposer, if_proposer, record_decision, sheet_decision};
 ghost use Rattle.plant_unit.specs.Readings as readings;
 
 use crate::matrices::matrix_of;
@@ -54,8 +50,7 @@ pub fn record_priority(
     sheet: &Sheet,
 ) -> Result<Result<Cell, Refused>, Fault>
     requires { unit_read part.now.rows ≡ unit.now }
-    ensures value { AreKept part.now
-        → IfOk result (λ d. d ≡ record_decision (facts_in part.now) base tag.now sheet.now) }
+    ensures value { GivesFrom part.now result (λ f. record_decision f base tag.now sheet.now) }
     ensures err { IfErr result (λ e. e ≡ Memory) }
 {
     let revision = revision_of(part, tag);
@@ -81,7 +76,7 @@ fn is_outside(part: &UnitPart, matrix: &Matrix, row: &RecordEntry) -> bool
 
 /// Whether some record has a severity that is no row of the matrix.
 fn has_outside(part: &UnitPart, matrix: &Matrix) -> bool
-    ensures { AreKept part.now → result ≡ list_any (λ r. not (refusals.has_row matrix.now r.severity)) (facts_in part.now).rationales }
+    ensures { AreKept part.now → result ≡ readings.has_outside matrix.now (facts_in part.now) }
 {
     for row in part.rows.records.as_slice() {
         if is_outside(part, matrix, row) {
@@ -99,7 +94,7 @@ pub fn matrix_refusal(
     matrix: &Matrix,
 ) -> Option<Refused>
     requires { unit_read part.now.rows ≡ unit.now }
-    ensures { AreKept part.now → result ≡ first_refusal (kind_refusals (facts_in part.now) base (MatrixKind matrix.now)) }
+    ensures { AreKept part.now → result ≡ refusal_of_kind part.now base (MatrixKind matrix.now) }
 {
     let revision = unit.matrix_rev;
     if base != revision {
@@ -123,8 +118,7 @@ fn limit_revision(alarm: Option<&AlarmRow>) -> u32
 
 /// The refusal of a change of an alarm's limit, for its base, if any.
 pub fn limit_refusal(alarm: Option<&AlarmRow>, base: u32) -> Option<Refused>
-    ensures { result ≡ first_refusal
-        (base_changed base (readings.limit_revision (option_copied alarm.entry)) ∷ []) }
+    ensures { result ≡ base_refusal base (readings.limit_revision (option_copied alarm.entry)) }
 {
     let revision = limit_revision(alarm);
     if base != revision {
@@ -143,7 +137,7 @@ fn kind_refusal(
     kind: &ChangeKind,
 ) -> Result<Option<Refused>, Fault>
     requires { unit_read part.now.rows ≡ unit.now }
-    ensures value { AreKept part.now → IfOk result (λ r. r ≡ first_refusal (kind_refusals (facts_in part.now) base kind.now)) }
+    ensures value { RefusesFrom part.now base kind.now result }
     ensures err { IfErr result (λ e. e ≡ Memory) }
 {
     match kind {
@@ -182,7 +176,7 @@ pub fn proposal_refusal(
     proposal: &Proposal,
 ) -> Result<Option<Refused>, Fault>
     requires { unit_read part.now.rows ≡ unit.now }
-    ensures value { AreKept part.now → (t : ℕ) (p u : Name) → IfOk result (λ r. r ≡ first_refusal (own_refusals (facts_in part.now) p t (Propose u proposal.now))) }
+    ensures value { RefusesAlways part.now (λ u. Propose u proposal.now) result }
     ensures err { IfErr result (λ e. e ≡ Memory) }
 {
     if part.count >= MAX_CHANGES {
@@ -196,7 +190,7 @@ pub fn proposal_refusal(
 
 /// The refusal of taking a change back, if any.
 pub fn withdrawal_refusal(entry: &ChangeEntry, person: &Person) -> Option<Refused>
-    ensures { (rows : TheRows) → result ≡ first_refusal (of_change (Some (change_read rows entry.now)) (λ c. (not (same_name person.now c.proposer), NotProposer) ∷ [])) }
+    ensures { IsRefusalOf entry.now (if_not_proposer person.now) result }
 {
     match entry.state_no {
         ChangeState::Proposed if *person == entry.proposer => None,
@@ -207,7 +201,7 @@ pub fn withdrawal_refusal(entry: &ChangeEntry, person: &Person) -> Option<Refuse
 
 /// The refusal of rejecting a change, if any.
 pub fn rejection_refusal(entry: &ChangeEntry, person: &Person) -> Option<Refused>
-    ensures { (rows : TheRows) → result ≡ first_refusal (of_change (Some (change_read rows entry.now)) (λ c. (same_name person.now c.proposer, SamePerson) ∷ [])) }
+    ensures { IsRefusalOf entry.now (if_proposer person.now) result }
 {
     match entry.state_no {
         ChangeState::Proposed if *person == entry.proposer => Some(Refused::SamePerson),

@@ -5,11 +5,13 @@ ghost use Rattle.std.specs.Ordering.{nat_cmp};
 ghost use Rattle.plant_types.specs.Names.{name_cmp};
 ghost use Rattle.plant_types.specs.KeyedRows.{row_at};
 ghost use Rattle.plant_types.specs.declared.fault.Fault.TheVariants.{Memory};
-ghost use Rattle.plant_model.specs.RowFacts.{change_found, change_number, facts_in, record_from, record_tag};
+ghost use Rattle.plant_books.specs.Results.{Gives};
+ghost use Rattle.plant_model.specs.RowFacts.{change_number, facts_in, record_from, record_tag};
 ghost use Rattle.plant_model.specs.declared.rows.ChangeTopic.TheVariants.{Limit as LimitTopic, Matrix as MatrixTopic, Record as RecordTopic};
 ghost use Rattle.plant_model.specs.declared.rows.UnitRows.{UnitRows as TheRows};
 ghost use Rattle.plant_unit.specs.Additions.{AreKept};
-ghost use Rattle.plant_unit.specs.Readings.{change_whole, kind_found, sheet_found};
+ghost use Rattle.plant_unit.specs.FromFacts.{GivesFrom};
+ghost use Rattle.plant_unit.specs.Readings.{change_whole, kind_found, sheet_found, source_found};
 
 use crate::matrices::matrix_of;
 use plant_books::{change_at, row_of};
@@ -36,7 +38,7 @@ pub fn entry_of<'a>(changes: &'a [ChangeEntry], number: u32) -> Option<&'a Chang
 
 /// The row of the change that a record came from.
 pub fn source_of<'a>(part: &'a UnitPart, row: &RecordEntry) -> Option<&'a ChangeEntry>
-    ensures { AreKept part.now → option_copied result ≡ change_found part.now.rows row.now.change_no }
+    ensures { AreKept part.now → option_copied result ≡ source_found part.now.rows row.now }
 {
     change_at(part.rows.changes.as_slice(), row.change_no)
 }
@@ -93,7 +95,7 @@ pub fn rationale_from(
     row: &RecordEntry,
     entry: &ChangeEntry,
 ) -> Result<Option<RecordRow>, Fault>
-    ensures value { IfOk result (λ found. found ≡ option_map (record_from row.now) (sheet_found entry.now)) }
+    ensures value { Gives result (option_map (record_from row.now) (sheet_found entry.now)) }
     ensures err { IfErr result (λ e. e ≡ Memory) }
 {
     let Some(sheet) = sheet_of(alloc, entry)? else {
@@ -114,7 +116,7 @@ pub fn rationale_from(
 
 /// The record of an alarm.
 pub fn rationale_of(alloc: Global, part: &UnitPart, tag: &Tag) -> Result<Option<RecordRow>, Fault>
-    ensures value { AreKept part.now → IfOk result (λ found. found ≡ (facts_in part.now).rationale tag.now) }
+    ensures value { GivesFrom part.now result (λ f. f.rationale tag.now) }
     ensures err { IfErr result (λ e. e ≡ Memory) }
 {
     let Some(row) = record_of(part.rows.records.as_slice(), tag) else {
@@ -127,7 +129,7 @@ pub fn rationale_of(alloc: Global, part: &UnitPart, tag: &Tag) -> Result<Option<
 }
 
 fn record_kind(alloc: Global, entry: &ChangeEntry) -> Result<Option<ChangeKind>, Fault>
-    ensures value { (rows : TheRows) → IfOk result (λ kind. kind ≡ kind_found rows entry.now RecordTopic) }
+    ensures value { (rows : TheRows) → Gives result (kind_found rows entry.now RecordTopic) }
     ensures err { IfErr result (λ e. e ≡ Memory) }
 {
     let Some(tag) = &entry.tag else {
@@ -144,7 +146,7 @@ fn matrix_kind(
     rows: &UnitRows,
     entry: &ChangeEntry,
 ) -> Result<Option<ChangeKind>, Fault>
-    ensures value { IfOk result (λ kind. kind ≡ kind_found rows.now entry.now MatrixTopic) }
+    ensures value { Gives result (kind_found rows.now entry.now MatrixTopic) }
     ensures err { IfErr result (λ e. e ≡ Memory) }
 {
     match matrix_of(alloc, rows, entry.number)? {
@@ -154,7 +156,7 @@ fn matrix_kind(
 }
 
 fn limit_kind(alloc: Global, entry: &ChangeEntry) -> Result<Option<ChangeKind>, Fault>
-    ensures value { (rows : TheRows) → IfOk result (λ kind. kind ≡ kind_found rows entry.now LimitTopic) }
+    ensures value { (rows : TheRows) → Gives result (kind_found rows entry.now LimitTopic) }
     ensures err { IfErr result (λ e. e ≡ Memory) }
 {
     let Some(tag) = &entry.tag else {
@@ -168,7 +170,7 @@ fn limit_kind(alloc: Global, entry: &ChangeEntry) -> Result<Option<ChangeKind>, 
 
 /// What a change is of and to what, where all of it is there.
 fn kind_of(alloc: Global, rows: &UnitRows, entry: &ChangeEntry) -> Result<Option<ChangeKind>, Fault>
-    ensures value { IfOk result (λ kind. kind ≡ kind_found rows.now entry.now entry.now.kind_no) }
+    ensures value { Gives result (kind_found rows.now entry.now entry.now.kind_no) }
     ensures err { IfErr result (λ e. e ≡ Memory) }
 {
     match entry.kind_no {
@@ -204,7 +206,7 @@ pub fn change_from(
 
 /// The change of a number.
 pub fn change_of(alloc: Global, part: &UnitPart, number: u32) -> Result<Option<ChangeRow>, Fault>
-    ensures value { AreKept part.now → IfOk result (λ change. change ≡ (facts_in part.now).change number) }
+    ensures value { GivesFrom part.now result (λ f. f.change number) }
     ensures err { IfErr result (λ e. e ≡ Memory) }
 {
     match entry_of(part.rows.changes.as_slice(), number) {

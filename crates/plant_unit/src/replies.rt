@@ -1,16 +1,16 @@
 //! The answers to calls that only ask.
 
-ghost use Rattle.std.specs.Prelude.{◌≡◌, ◌≤◌, ℕ, Some, IfOk, IfErr, false, filter_map, length, map, not, option_copied};
+ghost use Rattle.std.specs.Prelude.{◌≡◌, ℕ, IfErr};
 ghost use Rattle.plant_types.specs.Names.{Name};
 ghost use Rattle.plant_types.specs.declared.fault.Fault.TheVariants.{Memory};
-ghost use Rattle.plant_alarm.specs.Shelves.{is_unshelved, shelf_state};
+ghost use Rattle.plant_books.specs.Results.{Gives};
 ghost use Rattle.plant_model.specs.Facts.{returned};
 ghost use Rattle.plant_model.specs.Replies as replies;
-ghost use Rattle.plant_model.specs.Replies.{line_of, shelf_lines};
+ghost use Rattle.plant_model.specs.Replies.{shelf_lines};
 ghost use Rattle.plant_model.specs.RowFacts.{facts_in};
-ghost use Rattle.plant_model.specs.Shelves as shelves;
-ghost use Rattle.plant_unit.specs.Additions.{AreKept};
-ghost use Rattle.plant_unit.specs.Judged.{own_answer};
+ghost use Rattle.plant_unit.specs.Additions.{AreFew, AreKept};
+ghost use Rattle.plant_unit.specs.FromFacts.{Answers, AnswersAlways, AnswersAnyone, GivesFrom};
+ghost use Rattle.plant_unit.specs.Shelving.{is_shelved, line_at};
 ghost use Rattle.plant_model.specs.declared.call.Request.TheVariants.{Alarms as AlarmsCall, ChangeOf as ChangeCall, Floods as FloodsCall, RecordOf as RecordCall, Shelves as ShelvesCall, Standing as StandingCall, Status as StatusCall};
 
 use crate::facts::{state_now, state_of};
@@ -31,7 +31,7 @@ pub fn status(
     now: Moment,
     tag: &Tag,
 ) -> Result<Result<Reply, Refused>, Fault>
-    ensures value { (p u : Name) → IfOk result (λ a. a ≡ own_answer (facts_in part.now) p now (StatusCall u tag.now)) }
+    ensures value { (p u : Name) → Answers part.now p now (StatusCall u tag.now) result }
     ensures err { IfErr result (λ e. e ≡ Memory) }
 {
     let Some(alarm) = alarm_of(part.rows.alarms.as_slice(), tag) else {
@@ -59,7 +59,7 @@ pub fn shelf_line(
     returned: Option<Moment>,
     now: Moment,
 ) -> Result<Option<ShelfLine>, Fault>
-    ensures value { IfOk result (λ l. l ≡ line_of row.now (shelf_state (shelves.shelf_left (Some row.now)) returned now)) }
+    ensures value { Gives result (line_at row.now returned now) }
     ensures err { IfErr result (λ e. e ≡ Memory) }
 {
     let (one_shot, left) = match state_of(Some(row), returned, now) {
@@ -93,14 +93,14 @@ fn line(
     row: &ShelfRow,
     now: Moment,
 ) -> Result<Option<ShelfLine>, Fault>
-    ensures value { AreKept part.now → IfOk result (λ l. l ≡ line_of row.now (shelf_state (shelves.shelf_left (Some row.now)) (returned (facts_in part.now) row.now.tag) now)) }
+    ensures value { GivesFrom part.now result (λ f. line_at row.now (returned f row.now.tag) now) }
     ensures err { IfErr result (λ e. e ≡ Memory) }
 {
     shelf_line(alloc, row, returned_at(part, &row.tag), now)
 }
 
 fn lines(alloc: Global, part: &UnitPart, now: Moment) -> Result<List<ShelfLine>, Fault>
-    ensures value { AreKept part.now → IfOk result (λ lines. lines ≡ shelf_lines (facts_in part.now) now) }
+    ensures value { GivesFrom part.now result (λ f. shelf_lines f now) }
     ensures err { IfErr result (λ e. e ≡ Memory) }
 {
     let shelves = part.rows.shelves.as_slice();
@@ -120,7 +120,7 @@ pub fn shelves(
     now: Moment,
     unit: &UnitCode,
 ) -> Result<Result<Reply, Refused>, Fault>
-    ensures value { AreKept part.now → (p : Name) → IfOk result (λ a. a ≡ own_answer (facts_in part.now) p now (ShelvesCall unit.now)) }
+    ensures value { AreKept part.now → AnswersAnyone part.now now (ShelvesCall unit.now) result }
     ensures err { IfErr result (λ e. e ≡ Memory) }
 {
     Ok(Ok(Reply::Shelves {
@@ -131,7 +131,7 @@ pub fn shelves(
 }
 
 fn is_shelved(part: &UnitPart, alarm: &AlarmRow, now: Moment) -> bool
-    ensures { AreKept part.now → result ≡ not (is_unshelved (shelf_state (shelves.shelf_left ((facts_in part.now).shelf alarm.now.tag)) alarm.now.return_s now)) }
+    ensures { AreKept part.now → result ≡ is_shelved (facts_in part.now) alarm.now now }
 {
     let shelf = row_of(part.rows.shelves.as_slice(), &alarm.tag);
     !matches!(state_of(shelf, alarm.return_s, now), ShelfState::Unshelved)
@@ -143,7 +143,7 @@ fn alarm_line(
     alarm: &AlarmRow,
     now: Moment,
 ) -> Result<AlarmLine, Fault>
-    ensures value { AreKept part.now → IfOk result (λ l. l ≡ replies.alarm_line (facts_in part.now) now alarm.now) }
+    ensures value { GivesFrom part.now result (λ f. replies.alarm_line f now alarm.now) }
     ensures err { IfErr result (λ e. e ≡ Memory) }
 {
     Ok(AlarmLine {
@@ -164,7 +164,7 @@ fn standing_line(
     alarm: &AlarmRow,
     now: Moment,
 ) -> Result<Option<StandingLine>, Fault>
-    ensures value { AreKept part.now → IfOk result (λ l. l ≡ replies.standing_line (facts_in part.now) now alarm.now) }
+    ensures value { GivesFrom part.now result (λ f. replies.standing_line f now alarm.now) }
     ensures err { IfErr result (λ e. e ≡ Memory) }
 {
     let Some(since) = alarm.active_s else {
@@ -183,7 +183,7 @@ fn standing_line(
 }
 
 fn alarm_lines(alloc: Global, part: &UnitPart, now: Moment) -> Result<List<AlarmLine>, Fault>
-    ensures value { AreKept part.now → IfOk result (λ lines. lines ≡ replies.alarm_lines (facts_in part.now) now) }
+    ensures value { GivesFrom part.now result (λ f. replies.alarm_lines f now) }
     ensures err { IfErr result (λ e. e ≡ Memory) }
 {
     let alarms = part.rows.alarms.as_slice();
@@ -195,7 +195,7 @@ fn alarm_lines(alloc: Global, part: &UnitPart, now: Moment) -> Result<List<Alarm
 }
 
 fn standing_lines(alloc: Global, part: &UnitPart, now: Moment) -> Result<List<StandingLine>, Fault>
-    ensures value { AreKept part.now → IfOk result (λ lines. lines ≡ replies.standing_lines (facts_in part.now) now) }
+    ensures value { GivesFrom part.now result (λ f. replies.standing_lines f now) }
     ensures err { IfErr result (λ e. e ≡ Memory) }
 {
     let alarms = part.rows.alarms.as_slice();
@@ -215,7 +215,7 @@ pub fn alarms(
     now: Moment,
     unit: &UnitCode,
 ) -> Result<Result<Reply, Refused>, Fault>
-    ensures value { AreKept part.now → (p : Name) → IfOk result (λ a. a ≡ own_answer (facts_in part.now) p now (AlarmsCall unit.now)) }
+    ensures value { AreKept part.now → AnswersAnyone part.now now (AlarmsCall unit.now) result }
     ensures err { IfErr result (λ e. e ≡ Memory) }
 {
     Ok(Ok(Reply::Alarms {
@@ -232,7 +232,7 @@ pub fn standing(
     now: Moment,
     unit: &UnitCode,
 ) -> Result<Result<Reply, Refused>, Fault>
-    ensures value { AreKept part.now → (p : Name) → IfOk result (λ a. a ≡ own_answer (facts_in part.now) p now (StandingCall unit.now)) }
+    ensures value { AreKept part.now → AnswersAnyone part.now now (StandingCall unit.now) result }
     ensures err { IfErr result (λ e. e ≡ Memory) }
 {
     Ok(Ok(Reply::Standing {
@@ -250,7 +250,8 @@ pub fn floods(
     begin: Moment,
     until: Moment,
 ) -> Result<Result<Reply, Refused>, Fault>
-    ensures value { length part.now.rows.events ≤ 4294967295 → (t : ℕ) (p : Name) → IfOk result (λ a. a ≡ own_answer (facts_in part.now) p t (FloodsCall unit.now begin until)) }
+    ensures value { AreFew part.now.rows.events
+        → (t : ℕ) (p : Name) → Answers part.now p t (FloodsCall unit.now begin until) result }
     ensures err { IfErr result (λ e. e ≡ Memory) }
 {
     if !is_aligned(begin, until) {
@@ -267,7 +268,7 @@ pub fn floods(
 
 /// The record of an alarm.
 pub fn record(alloc: Global, part: &UnitPart, tag: &Tag) -> Result<Result<Reply, Refused>, Fault>
-    ensures value { AreKept part.now → (t : ℕ) (p u : Name) → IfOk result (λ a. a ≡ own_answer (facts_in part.now) p t (RecordCall u tag.now)) }
+    ensures value { AreKept part.now → AnswersAlways part.now (λ u. RecordCall u tag.now) result }
     ensures err { IfErr result (λ e. e ≡ Memory) }
 {
     if alarm_of(part.rows.alarms.as_slice(), tag).is_none() {
@@ -281,7 +282,7 @@ pub fn record(alloc: Global, part: &UnitPart, tag: &Tag) -> Result<Result<Reply,
 
 /// The change of a number.
 pub fn change(alloc: Global, part: &UnitPart, number: u32) -> Result<Result<Reply, Refused>, Fault>
-    ensures value { AreKept part.now → (t : ℕ) (p u : Name) → IfOk result (λ a. a ≡ own_answer (facts_in part.now) p t (ChangeCall u number)) }
+    ensures value { AreKept part.now → AnswersAlways part.now (λ u. ChangeCall u number) result }
     ensures err { IfErr result (λ e. e ≡ Memory) }
 {
     match change_of(alloc, part, number)? {

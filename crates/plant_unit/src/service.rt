@@ -1,13 +1,12 @@
 //! Registering alarms, and taking them out of service and back.
 
-ghost use Rattle.std.specs.Prelude.{◌≡◌, ℕ, Bool, [], IfErr, IfOk, None};
-ghost use Rattle.plant_types.specs.Names.{Name};
+ghost use Rattle.std.specs.Prelude.{◌≡◌, [], IfErr, IfOk, None};
 ghost use Rattle.plant_types.specs.declared.fault.Fault.TheVariants.{Memory};
+ghost use Rattle.plant_books.specs.Results.{Gives};
 ghost use Rattle.plant_model.specs.RowChanges.{placed_in, taken_out};
-ghost use Rattle.plant_model.specs.RowFacts.{facts_in};
 ghost use Rattle.plant_model.specs.Rows.{alarm_as};
 ghost use Rattle.plant_model.specs.declared.call.Request.TheVariants.{PlaceInService, Register, RemoveFromService};
-ghost use Rattle.plant_unit.specs.Judged.{decision, one_change};
+ghost use Rattle.plant_unit.specs.FromFacts.{Decides, DecidesAlways};
 
 use plant_alarm::AlarmState;
 use plant_books::alarm_of;
@@ -37,7 +36,7 @@ fn new_alarm(alloc: Global, tag: &Tag, latching: bool, max: Seconds) -> Result<A
 
 /// The alarm's row, out of service.
 fn removed(alloc: Global, alarm: &AlarmRow, call: &Call, words: &Words) -> Result<AlarmRow, Fault>
-    ensures value { IfOk result (λ row. row ≡ taken_out call.now.person call.now.moment words.now alarm.now) }
+    ensures value { Gives result (taken_out call.now.person call.now.moment words.now alarm.now) }
     ensures err { IfErr result (λ e. e ≡ Memory) }
 {
     let mut row = alarm.duplicate(alloc)?;
@@ -67,7 +66,7 @@ pub fn register(
     latching: bool,
     max: Seconds,
 ) -> Result<Result<RowEdit, Refused>, Fault>
-    ensures value { (t : ℕ) (p u : Name) → IfOk result (λ d. one_change d ≡ decision (facts_in part.now) p t (Register u tag.now latching max)) }
+    ensures value { DecidesAlways part.now (λ u. Register u tag.now latching max) result }
     ensures err { IfErr result (λ e. e ≡ Memory) }
 {
     if part.count >= MAX_ALARMS {
@@ -88,7 +87,7 @@ pub fn remove_from_service(
     tag: &Tag,
     words: &Words,
 ) -> Result<Result<RowEdit, Refused>, Fault>
-    ensures value { (u : Name) → IfOk result (λ d. one_change d ≡ decision (facts_in part.now) call.now.person call.now.moment (RemoveFromService u tag.now words.now)) }
+    ensures value { Decides part.now call.now (λ u. RemoveFromService u tag.now words.now) result }
     ensures err { IfErr result (λ e. e ≡ Memory) }
 {
     let Some(alarm) = alarm_of(part.rows.alarms.as_slice(), tag) else {
@@ -107,7 +106,7 @@ pub fn place_in_service(
     part: &UnitPart,
     tag: &Tag,
 ) -> Result<Result<RowEdit, Refused>, Fault>
-    ensures value { (t : ℕ) (p u : Name) → IfOk result (λ d. one_change d ≡ decision (facts_in part.now) p t (PlaceInService u tag.now)) }
+    ensures value { DecidesAlways part.now (λ u. PlaceInService u tag.now) result }
     ensures err { IfErr result (λ e. e ≡ Memory) }
 {
     let Some(alarm) = alarm_of(part.rows.alarms.as_slice(), tag) else {

@@ -1,13 +1,14 @@
 //! Shelving and unshelving an alarm: `plant_alarm` decides, and after it the unit's quota.
 
-ghost use Rattle.std.specs.Prelude.{◌≡◌, ◌∷◌, [], IfErr, IfOk};
+ghost use Rattle.std.specs.Prelude.{◌≡◌, IfErr};
 ghost use Rattle.plant_types.specs.Names.{Name};
 ghost use Rattle.plant_types.specs.declared.fault.Fault.TheVariants.{Memory};
-ghost use Rattle.plant_model.specs.Refusals.{first_refusal, over_quota};
-ghost use Rattle.plant_model.specs.RowFacts.{facts_in, unit_read};
+ghost use Rattle.plant_books.specs.Results.{Gives};
+ghost use Rattle.plant_model.specs.RowFacts.{unit_read};
 ghost use Rattle.plant_model.specs.declared.call.Request.TheVariants.{OneShotShelve, TimedShelve, Unshelve};
-ghost use Rattle.plant_unit.specs.Judged.{decided_or, decision, one_change};
+ghost use Rattle.plant_unit.specs.FromFacts.{Decides, DecidesAs, GivesOne};
 ghost use Rattle.plant_unit.specs.Shelving as shelving;
+ghost use Rattle.plant_unit.specs.Shelving.{shelf_decision};
 
 use crate::facts::{others_shelved, shelf_left, shelf_of};
 use plant_alarm::{Shelf, ShelfRefused, one_shot, timed, unshelve};
@@ -34,7 +35,7 @@ fn shelf_change(
     words: &Words,
     shelf: Shelf,
 ) -> Result<RowEdit, Fault>
-    ensures value { IfOk result (λ change. change ≡ shelving.shelf_change tag.now person.now words.now shelf) }
+    ensures value { Gives result (shelving.shelf_change tag.now person.now words.now shelf) }
     ensures err { IfErr result (λ e. e ≡ Memory) }
 {
     let tag = tag.copy(alloc)?;
@@ -64,7 +65,7 @@ fn shelve(
     shelf: Shelf,
 ) -> Result<Result<RowEdit, Refused>, Fault>
     requires { unit_read part.now.rows ≡ unit.now }
-    ensures value { IfOk result (λ d. one_change d ≡ decided_or (first_refusal (over_quota (facts_in part.now) tag.now call.now.moment ∷ [])) (shelving.shelf_change tag.now call.now.person words.now shelf ∷ [])) }
+    ensures value { GivesOne result (shelf_decision part.now call.now tag.now words.now shelf) }
     ensures err { IfErr result (λ e. e ≡ Memory) }
 {
     if others_shelved(part, tag, call.moment) as u64 >= unit.quota.get() {
@@ -84,7 +85,8 @@ pub fn shelve_for(
     words: &Words,
 ) -> Result<Result<RowEdit, Refused>, Fault>
     requires { unit_read part.now.rows ≡ unit.now }
-    ensures value { (u : Name) → IfOk result (λ d. one_change d ≡ decision (facts_in part.now) call.now.person call.now.moment (TimedShelve u tag.now seconds words.now)) }
+    ensures value { Decides part.now call.now
+        (λ u. TimedShelve u tag.now seconds words.now) result }
     ensures err { IfErr result (λ e. e ≡ Memory) }
 {
     let Some(alarm) = alarm_of(part.rows.alarms.as_slice(), tag) else {
@@ -107,7 +109,7 @@ pub fn shelve_once(
     words: &Words,
 ) -> Result<Result<RowEdit, Refused>, Fault>
     requires { unit_read part.now.rows ≡ unit.now }
-    ensures value { (u : Name) → IfOk result (λ d. one_change d ≡ decision (facts_in part.now) call.now.person call.now.moment (OneShotShelve u tag.now words.now)) }
+    ensures value { Decides part.now call.now (λ u. OneShotShelve u tag.now words.now) result }
     ensures err { IfErr result (λ e. e ≡ Memory) }
 {
     let Some(alarm) = alarm_of(part.rows.alarms.as_slice(), tag) else {
@@ -127,7 +129,7 @@ pub fn end_shelf(
     now: Moment,
     tag: &Tag,
 ) -> Result<Result<RowEdit, Refused>, Fault>
-    ensures value { (p u : Name) → IfOk result (λ d. one_change d ≡ decision (facts_in part.now) p now (Unshelve u tag.now)) }
+    ensures value { (p u : Name) → DecidesAs part.now p now (Unshelve u tag.now) result }
     ensures err { IfErr result (λ e. e ≡ Memory) }
 {
     let Some(alarm) = alarm_of(part.rows.alarms.as_slice(), tag) else {

@@ -4,7 +4,7 @@ ghost use Rattle.std.specs.Prelude.{◌≡◌, ◌∷◌, [], IfErr, IfOk, IsOkA
 ghost use Rattle.plant_types.specs.declared.fault.Fault.TheVariants.{Memory};
 ghost use Rattle.plant_model.specs.declared.rows.RowEdit.TheVariants.{Put};
 ghost use Rattle.plant_model.specs.declared.rows.Row.TheVariants.{Unit as UnitPut};
-ghost use Rattle.plant_unit.specs.Judged.{answered_as, done_as};
+ghost use Rattle.plant_unit.specs.Judged.{IsDone, answered_as};
 
 use plant_model::{Refused, Reply, Row, RowEdit, UnitRow, Verdict};
 use plant_types::{Fault, List, Moment};
@@ -30,7 +30,7 @@ pub fn done(
     now: Moment,
     decided: Result<Result<RowEdit, Refused>, Fault>,
 ) -> Result<Verdict, Fault>
-    ensures value { IfOk result (λ v. IsOkAnd decided (λ d. v ≡ done_as (record unit.now { last_s = now }) d)) }
+    ensures value { IfOk result (IsDone unit.now now decided) }
     ensures err { IfErr decided (λ e. e ≡ Memory) → IfErr result (λ e. e ≡ Memory) }
 {
     match decided? {

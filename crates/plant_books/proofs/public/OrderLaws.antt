@@ -3,14 +3,13 @@ use Rattle.std.proofs.Common.{Bool, List, None, Some, T, [], ap, arith, cond, fa
 use Rattle.std.specs.Cmp.{IsTotalOrder, nat_cmp_total}
 use Rattle.std.specs.FinMap.{nat_cmp-IsAntisymmetric}
 use Rattle.std.specs.FinMap.Entries.{below_all, by_order, is_sorted}
-use Rattle.std.specs.List.{AllByRecursion}
 use Rattle.std.specs.Option.{option_to_list}
 use Rattle.std.specs.Ordering.{is_eq, is_lt, nat_cmp}
 use Rattle.std.specs.Prelude.{Err, IfSome, Ok, OnOk, Option, Result, filter, option_map, unwrap_or}
 use Rattle.std.specs.declared.cmp.Ordering.{Ordering}
 use Rattle.std.specs.declared.cmp.Ordering.TheVariants.{Equal, Greater, Less}
 use Rattle.plant_books.proofs.public.RowsFound.{After, Ordered, less, lesser, second}
-use Rattle.plant_books.specs.Listed.{rows_at, unit_cmp}
+use Rattle.plant_books.specs.Listed.{AllInOrder, rows_at, unit_cmp}
 use Rattle.plant_books.specs.Order.{AreInOrder}
 use Rattle.plant_books.specs.declared.opened.OpenedUnit.{OpenedUnit}
 use Rattle.plant_model.specs.RowChanges.{changed, changed_by, no_rows, put, removed}
@@ -114,9 +113,6 @@ changed_in_order [] rows h = h
 changed_in_order (c ∷ cs) rows h = changed_in_order cs (changed c rows) (one_in_order c rows h)
 
 -- ---- the rows of every unit of a list
-
-abbrev pub AllInOrder : List OpenedUnit → Type 0
-AllInOrder opened = AllByRecursion (λ o. AreInOrder o.rows) opened
 
 -- the rows of a unit are in order where it is opened
 pub rows_in_order : (u : Name) (opened : List OpenedUnit) → AllInOrder opened → IfSome (rows_at opened u) AreInOrder

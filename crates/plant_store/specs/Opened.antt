@@ -1,0 +1,44 @@
+-- What a connection was that is taken or refused as an office's books, and what it keeps.
+use Rattle.sqlite.specs.Held.{Held, state}
+use Rattle.sqlite_trees.specs.declared.store.Store.{Ghosts}
+use Rattle.std.specs.Prelude.{Bool, IfErr, IfOk, IsTrue, Result, false, ℕ, ◌↔◌, ◌≡◌}
+use Rattle.plant_books.specs.Contents.{Content}
+use Rattle.plant_store.specs.declared.tables.StoreFault.{StoreFault}
+use Rattle.plant_store.specs.declared.tables.StoreFault.TheVariants.{NotThisStore}
+use Rattle.plant_store.specs.Changes.{IsHonest}
+use Rattle.plant_store.specs.Keeping.{Keeps}
+use Rattle.plant_store.specs.OldTables.{AreOldBooks}
+use Rattle.plant_store.specs.Opening.{IsOffice, has_office}
+use Rattle.plant_types.specs.Names.{Name}
+
+-- there is no table of an office with its columns
+abbrev pub HasNoOffice : {S : Type 0} → Ghosts S → Held S → Type 0
+HasNoOffice g conn = has_office (state g conn).now.schema ≡ false
+
+-- its tables are those of a store of schema 1
+abbrev pub HasOldBooks : {S : Type 0} → Ghosts S → Held S → Type 0
+HasOldBooks g conn = AreOldBooks (state g conn).now
+
+-- on an honest disk the result is whether this is an office of the schema and the person
+abbrev pub FindsOffice : {S E : Type 0} → Ghosts S → Held S → Held S → ℕ → Name → Result Bool E → Type 0
+FindsOffice g before after schema admin said = IsHonest (state g after) → IfOk said (λ is. IsTrue is ↔ IsOffice schema admin (state g before).now)
+
+-- on an honest disk it was an office of the schema and the person
+abbrev pub WasOffice : {S : Type 0} → Ghosts S → Held S → Held S → ℕ → Name → Type 0
+WasOffice g before after schema admin = IsHonest (state g after) → IsOffice schema admin (state g before).now
+
+-- a connection that was refused as not this store was, on an honest disk, not an office of the schema and the person
+abbrev pub IsAnothers : {S : Type 0} → Ghosts S → Held S → Held S → ℕ → Name → StoreFault → Type 0
+IsAnothers g before after schema admin fault = fault ≡ NotThisStore → IsHonest (state g after) → ¬ IsOffice schema admin (state g before).now
+
+-- every content that was kept before is kept after
+abbrev pub KeepsAll : {S : Type 0} → Ghosts S → Held S → Held S → Type 0
+KeepsAll g before after = (m : Content) → Keeps (state g before) m → Keeps (state g after) m
+
+-- after a success the connection in the result keeps every content that was kept before
+abbrev pub KeepsIfOk : {S A E : Type 0} → Ghosts S → Held S → Result A E → (A → Held S) → Type 0
+KeepsIfOk g before said conn_of = (m : Content) → Keeps (state g before) m → IfOk said (λ taken. Keeps (state g (conn_of taken)) m)
+
+-- after a refusal the connection in the error keeps every content that was kept before
+abbrev pub KeepsIfErr : {S A E : Type 0} → Ghosts S → Held S → Result A E → (E → Held S) → Type 0
+KeepsIfErr g before said conn_of = (m : Content) → Keeps (state g before) m → IfErr said (λ refused. Keeps (state g (conn_of refused)) m)

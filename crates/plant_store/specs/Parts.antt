@@ -1,0 +1,120 @@
+-- What the reads of a part return: the rows of a unit that a call looks at.
+use Rattle.sqlite.specs.Held.{Held, state}
+use Rattle.sqlite.specs.State.{HasCleanDisk}
+use Rattle.sqlite.specs.Tree.{Trees}
+use Rattle.sqlite_trees.specs.declared.store.Store.{Ghosts}
+use Rattle.std.specs.List.{flat_map}
+use Rattle.std.specs.Prelude.{Bool, IfOk, List, Result, Some, filter, length, true, ℕ, ◌||◌, ◌≡◌}
+use Rattle.plant_alarm.specs.declared.event.Event.{Event}
+use Rattle.plant_books.specs.Asking.{is_shelving, looks_at_events, number_approved, selection_by}
+use Rattle.plant_books.specs.declared.asking.Scope.{Scope}
+use Rattle.plant_books.specs.declared.asking.Wanted.{Wanted}
+use Rattle.plant_columns.specs.Tables.{AreBooks, Kept, rows_seen}
+use Rattle.plant_columns.specs.Tables.Kept.{AlarmKept, BandKept, CellKept, ChangeKept, EventKept, GrantKept, RecordKept, ShelfKept}
+use Rattle.plant_model.specs.declared.call.Request.{Request}
+use Rattle.plant_model.specs.declared.rows.AlarmRow.{AlarmRow}
+use Rattle.plant_model.specs.declared.rows.BandRow.{BandRow}
+use Rattle.plant_model.specs.declared.rows.CellRow.{CellRow}
+use Rattle.plant_model.specs.declared.rows.ChangeEntry.{ChangeEntry}
+use Rattle.plant_model.specs.declared.rows.GrantRow.{GrantRow}
+use Rattle.plant_model.specs.declared.rows.RecordEntry.{RecordEntry}
+use Rattle.plant_model.specs.declared.rows.ShelfRow.{ShelfRow}
+use Rattle.plant_model.specs.declared.rows.UnitRow.{UnitRow}
+use Rattle.plant_model.specs.declared.rows.UnitRows.{UnitRows}
+use Rattle.plant_model.specs.Histories.{same_number}
+use Rattle.plant_model.specs.Parts.{counted_for, is_crowded}
+use Rattle.plant_model.specs.RowFacts.{last_number}
+use Rattle.plant_store.specs.Changes.{IsHonest}
+use Rattle.plant_store.specs.Wanted.{alarms_with, events_with, records_with, shelves_with}
+use Rattle.plant_types.specs.Names.{Name, same_name}
+
+-- ---- of the tables
+
+-- the grants of a person in a unit
+abbrev pub grants_of : Name → Name → Trees → List GrantRow
+grants_of person unit trees = filter (λ g. same_name person g.person) (rows_seen unit trees GrantKept)
+
+-- how many rows a unit has in one table
+abbrev pub count_seen : Name → Kept → Trees → ℕ
+count_seen unit i trees = length (rows_seen unit trees i)
+
+-- the number of a unit's last change
+abbrev pub last_change_seen : Name → Trees → ℕ
+last_change_seen unit trees = last_number (rows_seen unit trees ChangeKept)
+
+-- the alarms, shelves, records and events of a unit that are wanted
+abbrev pub alarms_seen : Wanted → Name → Trees → List AlarmRow
+alarms_seen wanted unit trees = alarms_with wanted (rows_seen unit trees AlarmKept)
+
+abbrev pub shelves_seen : Wanted → Name → Trees → List ShelfRow
+shelves_seen wanted unit trees = shelves_with wanted (rows_seen unit trees ShelfKept)
+
+abbrev pub records_seen : Wanted → Name → Trees → List RecordEntry
+records_seen wanted unit trees = records_with wanted (rows_seen unit trees RecordKept)
+
+abbrev pub events_seen : Bool → Name → Trees → List Event
+events_seen wanted unit trees = events_with wanted (rows_seen unit trees EventKept)
+
+-- ---- of a connection before and after, on a clean disk
+
+-- if the list is a person's grants in the unit, the result is these, or all grants of the unit where all are wanted
+abbrev pub LoadsGrants : {S E : Type 0} → Ghosts S → Held S → Held S → Name → List GrantRow → Bool → Result (List GrantRow) E → Type 0
+LoadsGrants g before after unit own all said =
+    HasCleanDisk (state g after) → AreBooks (state g before).now
+    → IfOk said (λ rows. (p : Name) → own ≡ grants_of p unit (state g before).now.trees
+    → rows ≡ filter (λ r. same_name p r.person || all) (rows_seen unit (state g before).now.trees GrantKept))
+
+-- the result is the count that the request needs in the unit, if the events are the unit's where the request looks at them
+abbrev pub LoadsCount : {S E : Type 0} → Ghosts S → Held S → Held S → Name → Request → List Event → Result ℕ E → Type 0
+LoadsCount g before after unit request events said =
+    HasCleanDisk (state g after) → AreBooks (state g before).now
+    → IfOk said (λ n. (rows : UnitRows) → rows.alarms ≡ rows_seen unit (state g before).now.trees AlarmKept
+    → rows.changes ≡ rows_seen unit (state g before).now.trees ChangeKept
+    → (looks_at_events request ≡ true → rows.events ≡ events) → n ≡ counted_for rows request)
+
+-- for a request that shelves, the result is whether the unit with this row of its own is crowded
+abbrev pub LoadsCrowding : {S E : Type 0} → Ghosts S → Held S → Held S → Name → List UnitRow → Request → Result Bool E → Type 0
+LoadsCrowding g before after unit units request said =
+    HasCleanDisk (state g after) → AreBooks (state g before).now
+    → IfOk said (λ crowded. (rows : UnitRows) → rows.units ≡ units → rows.shelves ≡ rows_seen unit (state g before).now.trees ShelfKept
+    → is_shelving request ≡ true → is_crowded rows ≡ crowded)
+
+-- for a request that approves a change, the result is that change, if the unit has it
+abbrev pub LoadsApproved : {S E : Type 0} → Ghosts S → Held S → Held S → Name → Request → Result (List ChangeEntry) E → Type 0
+LoadsApproved g before after unit request said =
+    HasCleanDisk (state g after) → AreBooks (state g before).now
+    → IfOk said (λ rows. (n : ℕ) → number_approved request ≡ Some n
+    → rows ≡ filter (λ r. same_number n r.number) (rows_seen unit (state g before).now.trees ChangeKept))
+
+-- ---- of a connection before and after, on an honest disk
+
+-- the result is the unit's rows of each number in turn
+abbrev pub LoadsEach : {S X E : Type 0} → Ghosts S → Held S → Held S → (Name → Trees → List X) → Name → (X → ℕ) → List ℕ → Result (List X) E → Type 0
+LoadsEach g before after seen unit number_of numbers said =
+    IsHonest (state g after) → AreBooks (state g before).now
+    → IfOk said (λ rows. rows ≡ flat_map (λ n. filter (λ r. same_number n (number_of r)) (seen unit (state g before).now.trees)) numbers)
+
+-- the result is the limits of the unit's matrices that the scope takes in
+abbrev pub LoadsBands : {S E : Type 0} → Ghosts S → Held S → Held S → Name → List UnitRow → Scope → Result (List BandRow) E → Type 0
+LoadsBands g before after unit units scope said =
+    IsHonest (state g after) → AreBooks (state g before).now → (rows : UnitRows) → rows.units ≡ units
+    → IfOk said (λ bands. bands ≡ filter (λ r. (selection_by rows scope).matrix r.matrix_no) (rows_seen unit (state g before).now.trees BandKept))
+
+-- the result is the cells of the unit's matrices that the scope takes in
+abbrev pub LoadsCells : {S E : Type 0} → Ghosts S → Held S → Held S → Name → List UnitRow → Scope → Result (List CellRow) E → Type 0
+LoadsCells g before after unit units scope said =
+    IsHonest (state g after) → AreBooks (state g before).now → (rows : UnitRows) → rows.units ≡ units
+    → IfOk said (λ cells. cells ≡ filter (λ r. (selection_by rows scope).matrix r.matrix_no) (rows_seen unit (state g before).now.trees CellKept))
+
+-- the result is the unit's changes that the scope takes in, where it takes in these records
+abbrev pub LoadsChanges : {S E : Type 0} → Ghosts S → Held S → Held S → Name → List RecordEntry → Scope → Result (List ChangeEntry) E → Type 0
+LoadsChanges g before after unit records scope said =
+    IsHonest (state g after) → AreBooks (state g before).now
+    → (rows : UnitRows) → records ≡ filter (λ r. (selection_by rows scope).rationale r.tag) rows.records
+    → IfOk said (λ changes. changes ≡ filter (λ r. (selection_by rows scope).change r.number) (rows_seen unit (state g before).now.trees ChangeKept))
+
+-- ---- of lists
+
+-- the list is the events of these that the scope takes in, whatever the unit's other rows are
+abbrev pub AreAskedBy : Scope → List Event → List Event → Type 0
+AreAskedBy scope events asked = (rows : UnitRows) → asked ≡ (selection_by rows scope).events events

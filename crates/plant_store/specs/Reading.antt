@@ -1,0 +1,84 @@
+-- What a read returns, and what it leaves of the tables. Each word takes the connection before and after. A disk is clean
+-- if it has returned what was written, and honest if besides no failure has shut the database.
+use Rattle.sqlite.specs.Held.{Held, state}
+use Rattle.sqlite.specs.Listing.{understood}
+use Rattle.sqlite.specs.Schema.{Schema}
+use Rattle.sqlite.specs.State.{HasCleanDisk, Shown as IsShown}
+use Rattle.sqlite.specs.Tree.{Trees}
+use Rattle.sqlite.specs.Values.{bound}
+use Rattle.sqlite.proofs.Callers.{IsPlain}
+use Rattle.sqlite_trees.specs.declared.store.Store.{Ghosts}
+use Rattle.sqlite_value.specs.declared.value.ValueRef.{ValueRef}
+use Rattle.sqlite_value.specs.Order.{Row as Line}
+use Rattle.std.specs.Prelude.{IfOk, List, Result, filter, map, ℕ, ◌≡◌}
+use Rattle.plant_books.specs.Contents.{Content}
+use Rattle.plant_columns.specs.Shown.{columns}
+use Rattle.plant_columns.specs.Tables.{AreBooks}
+use Rattle.plant_model.specs.Histories.{same_number}
+use Rattle.plant_store.specs.declared.old_rows.CodeLine.{CodeLine}
+use Rattle.plant_store.specs.Changes.{IsHonest}
+use Rattle.plant_store.specs.Keeping.{KeepsIn}
+use Rattle.plant_store.specs.OldTables.{AreOldBooks}
+use Rattle.plant_store.specs.OnlyReads.{OnlyReads, OnlyReadsOld}
+use Rattle.plant_store.specs.Upgrading.{old_codes}
+use Rattle.plant_types.specs.Names.{Name, same_name}
+
+-- the tables of the books are only read
+abbrev pub ReadsBooks : {S : Type 0} → Ghosts S → Held S → Held S → Type 0
+ReadsBooks g before after = OnlyReads (state g before) (state g after)
+
+-- the tables of schema 1 are only read
+abbrev pub ReadsOldBooks : {S : Type 0} → Ghosts S → Held S → Held S → Type 0
+ReadsOldBooks g before after = OnlyReadsOld (state g before) (state g after)
+
+-- if the disk is honest and the store open after it, they were before
+abbrev pub WasHonest : {S : Type 0} → Ghosts S → Held S → Held S → Type 0
+WasHonest g before after = IsHonest (state g after) → IsHonest (state g before)
+
+-- on an honest disk a plain query leaves the database as it was, whatever its schema is
+abbrev pub SameIfPlain : {S : Type 0} → Ghosts S → Held S → Held S → List ℕ → Type 0
+SameIfPlain g before after sql =
+    IsHonest (state g after) → (schema : Schema) → (state g before).now.schema ≡ schema → IsPlain (understood schema sql)
+    → (state g after).now ≡ (state g before).now
+
+-- on a clean disk the lines are those that the query shows
+abbrev pub Asks : {S A E : Type 0} → Ghosts S → Held S → Held S → List ℕ → List ValueRef → Result A E → (A → List Line) → Type 0
+Asks g before after sql cells said lines =
+    HasCleanDisk (state g after) → IfOk said (λ rows. IsShown sql (bound cells) (state g before) (state g after) (lines rows))
+
+-- on a clean disk the rows are those whose cells the query shows
+abbrev pub Decodes : {S X E : Type 0} → Ghosts S → Held S → Held S → List ℕ → List ValueRef → ℕ → (X → Line) → Result (List X) E → Type 0
+Decodes g before after sql cells width shown said =
+    HasCleanDisk (state g after)
+    → IfOk said (λ rows. (lines : List Line) × (IsShown sql (bound cells) (state g before) (state g after) lines × (map (columns width) lines ≡ map shown rows)))
+
+-- on a clean disk the result is this of the tables of the books
+abbrev pub Loads : {S A E : Type 0} → Ghosts S → Held S → Held S → (Trees → A) → Result A E → Type 0
+Loads g before after what said =
+    HasCleanDisk (state g after) → AreBooks (state g before).now → IfOk said (λ found. found ≡ what (state g before).now.trees)
+
+-- on a clean disk the rows are the unit's rows of this tag
+abbrev pub LoadsTag : {S X E : Type 0} → Ghosts S → Held S → Held S → (Name → Trees → List X) → Name → (X → Name) → Name → Result (List X) E → Type 0
+LoadsTag g before after seen unit tag_of tag said =
+    Loads g before after (λ trees. filter (λ r. same_name tag (tag_of r)) (seen unit trees)) said
+
+-- on a clean disk the rows are the unit's rows of this number
+abbrev pub LoadsNumber : {S X E : Type 0} → Ghosts S → Held S → Held S → (Name → Trees → List X) → Name → (X → ℕ) → ℕ → Result (List X) E → Type 0
+LoadsNumber g before after seen unit number_of number said =
+    Loads g before after (λ trees. filter (λ r. same_number number (number_of r)) (seen unit trees)) said
+
+-- on a clean disk the result is this of the tables of schema 1
+abbrev pub LoadsOld : {S A E : Type 0} → Ghosts S → Held S → Held S → (Trees → A) → Result A E → Type 0
+LoadsOld g before after what said =
+    HasCleanDisk (state g after) → AreOldBooks (state g before).now → IfOk said (λ found. found ≡ what (state g before).now.trees)
+
+-- on a clean disk the lines have the codes of all units of schema 1
+abbrev pub LoadsOldCodes : {S E : Type 0} → Ghosts S → Held S → Held S → Result (List CodeLine) E → Type 0
+LoadsOldCodes g before after said =
+    HasCleanDisk (state g after) → AreOldBooks (state g before).now
+    → IfOk said (λ lines. map (λ l. l.unit) lines ≡ old_codes (state g before).now.trees)
+
+-- on an honest disk the result is this of every content that the books hold
+abbrev pub Finds : {S A E : Type 0} → Ghosts S → Held S → Held S → Result A E → (Content → A) → Type 0
+Finds g before after said what =
+    IsHonest (state g after) → (m : Content) → KeepsIn (state g before) m → IfOk said (λ found. found ≡ what m)

@@ -1,0 +1,46 @@
+-- The rows that proposals and decisions about changes put.
+use Rattle.std.specs.Prelude.{List, None, Option, Result, map, option_map, true, ℕ, ◌+◌, ◌≡◌}
+use Rattle.plant_books.specs.Results.{Gives}
+use Rattle.plant_model.specs.Facts.{Facts}
+use Rattle.plant_model.specs.RowChanges.{kind_row, rerated}
+use Rattle.plant_model.specs.RowFacts.{record_read}
+use Rattle.plant_model.specs.Rows.{change_entry}
+use Rattle.plant_model.specs.declared.call.Call.{Call}
+use Rattle.plant_model.specs.declared.reply.ChangeRow.{ChangeRow}
+use Rattle.plant_model.specs.declared.rows.AlarmRow.{AlarmRow}
+use Rattle.plant_model.specs.declared.rows.ChangeEntry.{ChangeEntry}
+use Rattle.plant_model.specs.declared.rows.RecordEntry.{RecordEntry}
+use Rattle.plant_model.specs.declared.rows.Row.TheVariants.{Change as ChangePut, Record as RecordPut}
+use Rattle.plant_model.specs.declared.rows.RowEdit.{RowEdit}
+use Rattle.plant_model.specs.declared.rows.RowEdit.TheVariants.{Put}
+use Rattle.plant_model.specs.declared.rows.UnitPart.{UnitPart}
+use Rattle.plant_model.specs.declared.rows.UnitRow.{UnitRow}
+use Rattle.plant_ration.specs.Grid.{Grid}
+use Rattle.plant_ration.specs.declared.change.ChangeState.{ChangeState}
+use Rattle.plant_unit.specs.Additions.{AreKept}
+use Rattle.plant_unit.specs.Judged.{decided_row}
+use Rattle.plant_unit.specs.Readings.{has_its_sheet}
+
+-- the row of a change, without the columns of its kind
+abbrev pub bare_entry : ChangeRow → ChangeEntry
+bare_entry c = record (change_entry c) { tag = None; cause = None; consequence = None; remedy = None; severity = None; response_s = None; max_s = None }
+
+-- puts the row of a change that the caller decides
+abbrev pub decided_put : ChangeState → Call → ChangeEntry → RowEdit
+decided_put state c e = Put (ChangePut (decided_row state c.person c.moment e))
+
+-- from a part of a legal history: the record of a row, which has its sheet, with its priority by a matrix
+abbrev pub GivesRerated : {E : Type 0} → UnitPart → Grid → RecordEntry → Result (Option RecordEntry) E → Type 0
+GivesRerated part matrix row said = AreKept part → has_its_sheet part.rows row ≡ true → Gives said (option_map (rerated matrix) (record_read part.rows row))
+
+-- puts the records of all alarms, with their priorities by a matrix
+abbrev pub rerated_puts : Grid → Facts → List RowEdit
+rerated_puts matrix f = map (λ r. Put (RecordPut (rerated matrix r))) f.rationales
+
+-- an alarm's row with another limit
+abbrev pub with_limit : AlarmRow → ℕ → AlarmRow
+with_limit alarm max = record alarm { max_s = max; max_rev = alarm.max_rev + 1 }
+
+-- a unit's row after the approval of a change
+abbrev pub unit_row_after : ℕ → UnitRow → ChangeRow → UnitRow
+unit_row_after t unit c = kind_row t unit c.number c.kind
