@@ -150,8 +150,8 @@ fn tag_of(kind: &ChangeKind) -> Option<&[u8]>
 
 /// Adds the member `decided`: a moment, or null.
 fn push_decided(out: &mut Vec<u8>, decided: Option<Moment>) -> Result<(), Fault>
-    ensures value { Adds result out.old.items out.new.items
-        (codes ",\"decided\":" ++ quoted_or_null (option_map moment_text decided)) }
+    ensures value { Adds result (out.old.items ++ codes ",\"decided\":") out.new.items
+        (quoted_or_null (option_map moment_text decided)) }
     ensures err { IfErr result (λ e. e ≡ Memory) }
 {
     match decided {

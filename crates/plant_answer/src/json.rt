@@ -70,7 +70,7 @@ pub(crate) fn push_decimal(out: &mut Vec<u8>, number: u64) -> Result<(), Fault>
 
 /// Adds a number, after some bytes.
 pub(crate) fn push_number(out: &mut Vec<u8>, before: &[u8], number: u64) -> Result<(), Fault>
-    ensures value { Adds result out.old.items out.new.items (before.now ++ decimal number) }
+    ensures value { Adds result (out.old.items ++ before.now) out.new.items (decimal number) }
     ensures err { IfErr result (λ e. e ≡ Memory) }
 {
     out.extend_from_slice(before)?;
@@ -79,7 +79,7 @@ pub(crate) fn push_number(out: &mut Vec<u8>, before: &[u8], number: u64) -> Resu
 
 /// Adds a string, after some bytes.
 pub(crate) fn push_string(out: &mut Vec<u8>, before: &[u8], text: &[u8]) -> Result<(), Fault>
-    ensures value { Adds result out.old.items out.new.items (before.now ++ quoted text.now) }
+    ensures value { Adds result (out.old.items ++ before.now) out.new.items (quoted text.now) }
     ensures err { IfErr result (λ e. e ≡ Memory) }
 {
     out.extend_from_slice(before)?;
@@ -92,8 +92,8 @@ pub(crate) fn push_string_or_null(
     before: &[u8],
     text: Option<&[u8]>,
 ) -> Result<(), Fault>
-    ensures value { Adds result out.old.items out.new.items
-        (before.now ++ quoted_or_null (option_map (λ t. t.now) text.entry)) }
+    ensures value { Adds result (out.old.items ++ before.now) out.new.items
+        (quoted_or_null (option_map (λ t. t.now) text.entry)) }
     ensures err { IfErr result (λ e. e ≡ Memory) }
 {
     out.extend_from_slice(before)?;
@@ -105,7 +105,7 @@ pub(crate) fn push_string_or_null(
 
 /// Adds true or false, after some bytes.
 pub(crate) fn push_truth(out: &mut Vec<u8>, before: &[u8], holds: bool) -> Result<(), Fault>
-    ensures value { Adds result out.old.items out.new.items (before.now ++ truth holds) }
+    ensures value { Adds result (out.old.items ++ before.now) out.new.items (truth holds) }
     ensures err { IfErr result (λ e. e ≡ Memory) }
 {
     let word: &[u8] = if holds { b"true" } else { b"false" };

@@ -20,23 +20,23 @@ abbrev pub OfOldTables : {S : Type 0} → Ghosts S → Held S → Held S → (Tr
 OfOldTables g before after Holds = IsHonest (state g after) → AreOldBooks (state g before).now → Holds (state g before).now.trees
 
 -- the unit's old rows of one table are put, each as the row that it becomes
-abbrev pub Takes : {S N X V E : Type 0} {h : Ghosts N} → Ghosts S → Held S → Held S → Transaction N h → Transaction N h → Name → (Name → Trees → List X) → (X → Row) → Result V E → Type 0
-Takes g from from_after tx tx_after unit had becomes said =
-    OfOldTables g from from_after (λ trees. Writes tx tx_after unit (map (λ r. Put (becomes r)) (had unit trees)) said)
+abbrev pub Takes : {S N X V E : Type 0} → Ghosts S → Held S → Held S → Ghosts N → Transaction N → Transaction N → Name → (Name → Trees → List X) → (X → Row) → Result V E → Type 0
+Takes g from from_after h tx tx_after unit had becomes said =
+    OfOldTables g from from_after (λ trees. Writes h tx tx_after unit (map (λ r. Put (becomes r)) (had unit trees)) said)
 
 -- the unit's rows of the table of this kind are taken over
-abbrev pub TakesTable : {S N V E : Type 0} {h : Ghosts N} → Ghosts S → Held S → Held S → Transaction N h → Transaction N h → Name → TableKind → Result V E → Type 0
-TakesTable g from from_after tx tx_after unit kind said =
-    OfOldTables g from from_after (λ trees. Writes tx tx_after unit (puts_of (upgraded_rows unit trees) kind) said)
+abbrev pub TakesTable : {S N V E : Type 0} → Ghosts S → Held S → Held S → Ghosts N → Transaction N → Transaction N → Name → TableKind → Result V E → Type 0
+TakesTable g from from_after h tx tx_after unit kind said =
+    OfOldTables g from from_after (λ trees. Writes h tx tx_after unit (puts_of (upgraded_rows unit trees) kind) said)
 
 -- the unit's rows of the tables of these kinds are taken over
-abbrev pub TakesTables : {S N V E : Type 0} {h : Ghosts N} → Ghosts S → Held S → Held S → Transaction N h → Transaction N h → Name → List TableKind → Result V E → Type 0
-TakesTables g from from_after tx tx_after unit kinds said =
-    OfOldTables g from from_after (λ trees. Writes tx tx_after unit (puts_all (upgraded_rows unit trees) kinds) said)
+abbrev pub TakesTables : {S N V E : Type 0} → Ghosts S → Held S → Held S → Ghosts N → Transaction N → Transaction N → Name → List TableKind → Result V E → Type 0
+TakesTables g from from_after h tx tx_after unit kinds said =
+    OfOldTables g from from_after (λ trees. Writes h tx tx_after unit (puts_all (upgraded_rows unit trees) kinds) said)
 
 -- if the lines are the codes of all units, the rows of all units are taken over into books without rows, and the office stays
-abbrev pub TakesUnits : {S N V E : Type 0} {h : Ghosts N} → Ghosts S → Held S → Held S → Transaction N h → Transaction N h → List CodeLine → Result V E → Type 0
-TakesUnits {S} {N} {V} {E} {h} g from from_after tx tx_after lines said =
+abbrev pub TakesUnits : {S N V E : Type 0} → Ghosts S → Held S → Held S → Ghosts N → Transaction N → Transaction N → List CodeLine → Result V E → Type 0
+TakesUnits g from from_after h tx tx_after lines said =
     OfOldTables g from from_after (λ trees. map (λ l. l.unit) lines ≡ old_codes trees
     → HasCleanDisk (state h tx_after.conn.now) → IsTrue tx.conn.now.in_transaction → AreTakenOver [] trees (state h tx.conn.now).now
     → OnOk said (AreTakenOver (old_codes trees) trees (state h tx_after.conn.now).now

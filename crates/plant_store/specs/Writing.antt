@@ -22,62 +22,62 @@ IsBlank db = db.schema ≡ no_schema
 -- ---- of a transaction before and after
 
 -- it is still a transaction of the same connection
-abbrev pub SameReference : {S : Type 0} {g : Ghosts S} → Transaction S g → Transaction S g → Type 0
+abbrev pub SameReference : {S : Type 0} → Transaction S → Transaction S → Type 0
 SameReference before after = after.conn.ghost_name ≡ before.conn.ghost_name
 
 -- after a success the transaction is still open, and nothing is committed
-abbrev pub StaysOpen : {S V : Type 0} {g : Ghosts S} → Transaction S g → Transaction S g → Result V Error → Type 0
-StaysOpen {S} {V} {g} before after said = StaysInside said (state g before.conn.now) (state g after.conn.now)
+abbrev pub StaysOpen : {S V : Type 0} → Ghosts S → Transaction S → Transaction S → Result V Error → Type 0
+StaysOpen g before after said = StaysInside said (state g before.conn.now) (state g after.conn.now)
 
 -- after a success on a clean disk the statement has run
-abbrev pub RunsStatement : {S V E : Type 0} {g : Ghosts S} → Transaction S g → Transaction S g → List ℕ → List ValueRef → Result V E → Type 0
-RunsStatement {S} {V} {E} {g} before after sql cells said =
+abbrev pub RunsStatement : {S V E : Type 0} → Ghosts S → Transaction S → Transaction S → List ℕ → List ValueRef → Result V E → Type 0
+RunsStatement g before after sql cells said =
     HasCleanDisk (state g after.conn.now) → IsTrue before.conn.now.in_transaction
     → OnOk said ((count : ℕ) × Executes sql (bound cells) (state g before.conn.now) (state g after.conn.now) (Ok count))
 
 -- after a success on a clean disk the statement has run, and has written as many rows as the result says
-abbrev pub RunsCounting : {S E : Type 0} {g : Ghosts S} → Transaction S g → Transaction S g → List ℕ → List ValueRef → Result ℕ E → Type 0
-RunsCounting {S} {E} {g} before after sql cells said =
+abbrev pub RunsCounting : {S E : Type 0} → Ghosts S → Transaction S → Transaction S → List ℕ → List ValueRef → Result ℕ E → Type 0
+RunsCounting g before after sql cells said =
     HasCleanDisk (state g after.conn.now) → IsTrue before.conn.now.in_transaction
     → IfOk said (λ count. Executes sql (bound cells) (state g before.conn.now) (state g after.conn.now) (Ok count))
 
 -- after a success on a clean disk the unit's rows in the books are changed so, and nothing else is
-abbrev pub Writes : {S V E : Type 0} {g : Ghosts S} → Transaction S g → Transaction S g → Name → List RowEdit → Result V E → Type 0
-Writes {S} {V} {E} {g} before after unit changes said =
+abbrev pub Writes : {S V E : Type 0} → Ghosts S → Transaction S → Transaction S → Name → List RowEdit → Result V E → Type 0
+Writes g before after unit changes said =
     HasCleanDisk (state g after.conn.now) → IsTrue before.conn.now.in_transaction → AreBooks (state g before.conn.now).now
     → OnOk said (Applies unit changes (state g before.conn.now).now (state g after.conn.now).now)
 
 -- after a success on a clean disk this change of the unit's rows is made if a row was written, and nothing else is
-abbrev pub Updates : {S E : Type 0} {g : Ghosts S} → Transaction S g → Transaction S g → Name → RowEdit → Result ℕ E → Type 0
-Updates {S} {E} {g} before after unit change said =
+abbrev pub Updates : {S E : Type 0} → Ghosts S → Transaction S → Transaction S → Name → RowEdit → Result ℕ E → Type 0
+Updates g before after unit change said =
     HasCleanDisk (state g after.conn.now) → IsTrue before.conn.now.in_transaction → AreBooks (state g before.conn.now).now
     → IfOk said (λ count. Applies unit (changes_written count change) (state g before.conn.now).now (state g after.conn.now).now)
 
 -- after a success on a clean disk a database that was such before is such now
-abbrev pub Makes : {S V E : Type 0} {g : Ghosts S} → Transaction S g → Transaction S g → (Database → Type 0) → (Database → Type 0) → Result V E → Type 0
-Makes {S} {V} {E} {g} before after Was Is said =
+abbrev pub Makes : {S V E : Type 0} → Ghosts S → Transaction S → Transaction S → (Database → Type 0) → (Database → Type 0) → Result V E → Type 0
+Makes g before after Was Is said =
     HasCleanDisk (state g after.conn.now) → IsTrue before.conn.now.in_transaction → Was (state g before.conn.now).now
     → OnOk said (Is (state g after.conn.now).now)
 
 -- ---- of a transaction that is open before
 
 -- after a success on a clean disk the unit's rows in the books are changed so, and nothing else is
-abbrev pub WritesOpen : {S V E : Type 0} {g : Ghosts S} → Transaction S g → Transaction S g → Name → List RowEdit → Result V E → Type 0
-WritesOpen {S} {V} {E} {g} before after unit changes said =
+abbrev pub WritesOpen : {S V E : Type 0} → Ghosts S → Transaction S → Transaction S → Name → List RowEdit → Result V E → Type 0
+WritesOpen g before after unit changes said =
     HasCleanDisk (state g after.conn.now) → AreBooks (state g before.conn.now).now
     → OnOk said (Applies unit changes (state g before.conn.now).now (state g after.conn.now).now)
 
 -- after a success on a clean disk it is open
-abbrev pub IsOpenIfOk : {S V E : Type 0} {g : Ghosts S} → Transaction S g → Result V E → Type 0
-IsOpenIfOk {S} {V} {E} {g} after said = HasCleanDisk (state g after.conn.now) → OnOk said (IsTrue after.conn.now.in_transaction)
+abbrev pub IsOpenIfOk : {S V E : Type 0} → Ghosts S → Transaction S → Result V E → Type 0
+IsOpenIfOk g after said = HasCleanDisk (state g after.conn.now) → OnOk said (IsTrue after.conn.now.in_transaction)
 
 -- on a clean disk nothing is committed
-abbrev pub CommitsNothing : {S : Type 0} {g : Ghosts S} → Transaction S g → Transaction S g → Type 0
-CommitsNothing {S} {g} before after = HasCleanDisk (state g after.conn.now) → KeepsCommit (state g before.conn.now) (state g after.conn.now)
+abbrev pub CommitsNothing : {S : Type 0} → Ghosts S → Transaction S → Transaction S → Type 0
+CommitsNothing g before after = HasCleanDisk (state g after.conn.now) → KeepsCommit (state g before.conn.now) (state g after.conn.now)
 
 -- a crash loses what was written
-abbrev pub CrashLoses : {S : Type 0} {g : Ghosts S} → Transaction S g → Transaction S g → Type 0
-CrashLoses {S} {g} before after = Survives (state g before.conn.now) (state g after.conn.now) (λ _. ⊥)
+abbrev pub CrashLoses : {S : Type 0} → Ghosts S → Transaction S → Transaction S → Type 0
+CrashLoses g before after = Survives (state g before.conn.now) (state g after.conn.now) (λ _. ⊥)
 
 -- ---- of a connection before and after, on an honest disk
 

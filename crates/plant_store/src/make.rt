@@ -16,8 +16,9 @@ use sqlite::{Alter, Connection, Error, Transaction};
 /// Makes the tables of the office, of units and of grants.
 fn make_grants<S: Alter>(tx: &mut Transaction<'_, S>) -> Result<(), Error>
     ensures same_reference { SameReference tx.old tx.new }
-    ensures made { Makes tx.old tx.new (AreEmpty no_schema) (AreEmpty grants_schema) result }
-    ensures stays { StaysOpen tx.old tx.new result }
+    ensures made { Makes S.Store tx.old tx.new
+        (AreEmpty no_schema) (AreEmpty grants_schema) result }
+    ensures stays { StaysOpen S.Store tx.old tx.new result }
 {
     run(
         tx,
@@ -40,8 +41,9 @@ fn make_grants<S: Alter>(tx: &mut Transaction<'_, S>) -> Result<(), Error>
 /// Makes the tables of alarms and of shelves.
 fn make_shelves<S: Alter>(tx: &mut Transaction<'_, S>) -> Result<(), Error>
     ensures same_reference { SameReference tx.old tx.new }
-    ensures made { Makes tx.old tx.new (AreEmpty grants_schema) (AreEmpty shelves_schema) result }
-    ensures stays { StaysOpen tx.old tx.new result }
+    ensures made { Makes S.Store tx.old tx.new
+        (AreEmpty grants_schema) (AreEmpty shelves_schema) result }
+    ensures stays { StaysOpen S.Store tx.old tx.new result }
 {
     run(
         tx,
@@ -59,8 +61,9 @@ fn make_shelves<S: Alter>(tx: &mut Transaction<'_, S>) -> Result<(), Error>
 /// Makes the tables of matrices and of events.
 fn make_events<S: Alter>(tx: &mut Transaction<'_, S>) -> Result<(), Error>
     ensures same_reference { SameReference tx.old tx.new }
-    ensures made { Makes tx.old tx.new (AreEmpty shelves_schema) (AreEmpty events_schema) result }
-    ensures stays { StaysOpen tx.old tx.new result }
+    ensures made { Makes S.Store tx.old tx.new
+        (AreEmpty shelves_schema) (AreEmpty events_schema) result }
+    ensures stays { StaysOpen S.Store tx.old tx.new result }
 {
     run(
         tx,
@@ -83,8 +86,9 @@ fn make_events<S: Alter>(tx: &mut Transaction<'_, S>) -> Result<(), Error>
 /// Makes the tables of records and of changes.
 fn make_changes<S: Alter>(tx: &mut Transaction<'_, S>) -> Result<(), Error>
     ensures same_reference { SameReference tx.old tx.new }
-    ensures made { Makes tx.old tx.new (AreEmpty events_schema) (AreEmpty changes_schema) result }
-    ensures stays { StaysOpen tx.old tx.new result }
+    ensures made { Makes S.Store tx.old tx.new
+        (AreEmpty events_schema) (AreEmpty changes_schema) result }
+    ensures stays { StaysOpen S.Store tx.old tx.new result }
 {
     run(
         tx,
@@ -102,8 +106,8 @@ fn make_changes<S: Alter>(tx: &mut Transaction<'_, S>) -> Result<(), Error>
 /// Makes the index of grants by persons, and the office's row.
 fn make_office<S: Alter>(tx: &mut Transaction<'_, S>, admin: &Person) -> Result<(), Error>
     ensures same_reference { SameReference tx.old tx.new }
-    ensures made { Makes tx.old tx.new (AreEmpty changes_schema) (AreNew admin.now) result }
-    ensures stays { StaysOpen tx.old tx.new result }
+    ensures made { Makes S.Store tx.old tx.new (AreEmpty changes_schema) (AreNew admin.now) result }
+    ensures stays { StaysOpen S.Store tx.old tx.new result }
 {
     run(
         tx,
@@ -121,8 +125,8 @@ fn make_office<S: Alter>(tx: &mut Transaction<'_, S>, admin: &Person) -> Result<
 /// Makes all tables, within a transaction.
 pub fn make_tables<S: Alter>(tx: &mut Transaction<'_, S>, admin: &Person) -> Result<(), Error>
     ensures same_reference { SameReference tx.old tx.new }
-    ensures made { Makes tx.old tx.new IsBlank (AreNew admin.now) result }
-    ensures stays { StaysOpen tx.old tx.new result }
+    ensures made { Makes S.Store tx.old tx.new IsBlank (AreNew admin.now) result }
+    ensures stays { StaysOpen S.Store tx.old tx.new result }
 {
     make_grants(tx)?;
     make_shelves(tx)?;

@@ -61,8 +61,9 @@ fn put_rows<T: OldRow, N: Alter>(
     rows: &[T],
 ) -> Result<(), Error>
     ensures same_reference { SameReference tx.old tx.new }
-    ensures made { Writes tx.old tx.new unit.now (map (λ r. Put (T.becomes r)) rows.now) result }
-    ensures stays { StaysOpen tx.old tx.new result }
+    ensures made { Writes N.Store tx.old tx.new unit.now
+        (map (λ r. Put (T.becomes r)) rows.now) result }
+    ensures stays { StaysOpen N.Store tx.old tx.new result }
 {
     for row in rows {
         row.put(alloc, tx, unit)?;
@@ -81,8 +82,9 @@ fn take_rows<T: OldRow, O: Alter, N: Alter>(
     ensures mode { from.new.in_transaction ≡ false }
     ensures reads { ReadsOldBooks O.Store from.old from.new }
     ensures same_reference { SameReference tx.old tx.new }
-    ensures made { Takes O.Store from.old from.new tx.old tx.new unit.now T.had T.becomes result }
-    ensures stays { StaysOpen tx.old tx.new result }
+    ensures made { Takes O.Store from.old from.new N.Store tx.old tx.new unit.now
+        T.had T.becomes result }
+    ensures stays { StaysOpen N.Store tx.old tx.new result }
 {
     let rows = old_rows_of::<T, O>(alloc, from, unit)?;
     put_rows::<T, N>(alloc, tx, unit, rows.as_slice())
@@ -100,8 +102,9 @@ fn take_table<O: Alter, N: Alter>(
     ensures mode { from.new.in_transaction ≡ false }
     ensures reads { ReadsOldBooks O.Store from.old from.new }
     ensures same_reference { SameReference tx.old tx.new }
-    ensures made { TakesTable O.Store from.old from.new tx.old tx.new unit.now kind.now result }
-    ensures stays { StaysOpen tx.old tx.new result }
+    ensures made { TakesTable O.Store from.old from.new N.Store tx.old tx.new unit.now
+        kind.now result }
+    ensures stays { StaysOpen N.Store tx.old tx.new result }
 {
     match kind {
         TableKind::Units => take_rows::<OldUnitRow, O, N>(alloc, from, tx, unit),
@@ -128,8 +131,9 @@ fn take_tables<O: Alter, N: Alter>(
     ensures mode { from.new.in_transaction ≡ false }
     ensures reads { ReadsOldBooks O.Store from.old from.new }
     ensures same_reference { SameReference tx.old tx.new }
-    ensures made { TakesTables O.Store from.old from.new tx.old tx.new unit.now kinds.now result }
-    ensures stays { StaysOpen tx.old tx.new result }
+    ensures made { TakesTables O.Store from.old from.new N.Store tx.old tx.new unit.now
+        kinds.now result }
+    ensures stays { StaysOpen N.Store tx.old tx.new result }
 {
     for kind in kinds {
         take_table(alloc, from, tx, unit, kind)?;
@@ -148,8 +152,9 @@ fn take_unit<O: Alter, N: Alter>(
     ensures mode { from.new.in_transaction ≡ false }
     ensures reads { ReadsOldBooks O.Store from.old from.new }
     ensures same_reference { SameReference tx.old tx.new }
-    ensures made { TakesTables O.Store from.old from.new tx.old tx.new unit.now all_kinds result }
-    ensures stays { StaysOpen tx.old tx.new result }
+    ensures made { TakesTables O.Store from.old from.new N.Store tx.old tx.new unit.now
+        all_kinds result }
+    ensures stays { StaysOpen N.Store tx.old tx.new result }
 {
     take_tables(
         alloc,
@@ -181,8 +186,8 @@ fn take_units<O: Alter, N: Alter>(
     ensures mode { from.new.in_transaction ≡ false }
     ensures reads { ReadsOldBooks O.Store from.old from.new }
     ensures same_reference { SameReference tx.old tx.new }
-    ensures made { TakesUnits O.Store from.old from.new tx.old tx.new lines.now result }
-    ensures stays { StaysOpen tx.old tx.new result }
+    ensures made { TakesUnits O.Store from.old from.new N.Store tx.old tx.new lines.now result }
+    ensures stays { StaysOpen N.Store tx.old tx.new result }
 {
     for line in lines {
         take_unit(alloc, from, tx, &line.unit)?;
@@ -205,7 +210,7 @@ fn fill<O: Alter, N: Alter>(
         → IsTrue tx.old.conn.now.in_transaction → IsBlank (state N.Store tx.old.conn.now).now
         → (m : Content) → m.admin ≡ admin.now → HaveOldRows m (state O.Store from.old).now
         → OnOk result (HaveRows m (state N.Store tx.new.conn.now).now) }
-    ensures stays { StaysOpen tx.old tx.new result }
+    ensures stays { StaysOpen N.Store tx.old tx.new result }
 {
     let lines = old_codes_of(alloc, from)?;
     make_tables(tx, admin)?;

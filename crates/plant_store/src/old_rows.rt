@@ -108,8 +108,8 @@ pub trait OldRow: Shown {
         unit: &UnitCode,
     ) -> Result<(), Error>
         ensures same_reference { SameReference tx.old tx.new }
-        ensures made { Writes tx.old tx.new unit.now (Put (becomes self.now) ∷ []) result }
-        ensures stays { StaysOpen tx.old tx.new result };
+        ensures made { Writes N.Store tx.old tx.new unit.now (Put (becomes self.now) ∷ []) result }
+        ensures stays { StaysOpen N.Store tx.old tx.new result };
 }
 
 /// A row of a table that is the same in schema 1.

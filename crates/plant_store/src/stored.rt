@@ -44,8 +44,8 @@ pub trait Stored: Shown {
     /// Updates the row with the same key, and returns how many rows were written. Rows of some tables never change: 0.
     fn update<S: Alter>(&self, tx: &mut Transaction<'_, S>, unit: &UnitCode) -> Result<usize, Error>
         ensures same_reference { SameReference tx.old tx.new }
-        ensures made { Updates tx.old tx.new unit.now (Put (as_row self.now)) result }
-        ensures stays { StaysOpen tx.old tx.new result }
+        ensures made { Updates S.Store tx.old tx.new unit.now (Put (as_row self.now)) result }
+        ensures stays { StaysOpen S.Store tx.old tx.new result }
     {
         Ok(0)
     }
@@ -53,8 +53,8 @@ pub trait Stored: Shown {
     /// Puts the row as a new one. Fails if there is a row of its key.
     fn insert<S: Alter>(&self, tx: &mut Transaction<'_, S>, unit: &UnitCode) -> Result<(), Error>
         ensures same_reference { SameReference tx.old tx.new }
-        ensures made { Writes tx.old tx.new unit.now (Put (as_row self.now) ∷ []) result }
-        ensures stays { StaysOpen tx.old tx.new result };
+        ensures made { Writes S.Store tx.old tx.new unit.now (Put (as_row self.now) ∷ []) result }
+        ensures stays { StaysOpen S.Store tx.old tx.new result };
 }
 
 /// A row of a table whose key has a tag.

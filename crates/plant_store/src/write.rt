@@ -20,8 +20,8 @@ pub fn run<S: Alter>(
     cells: &[ValueRef<'_>],
 ) -> Result<(), Error>
     ensures same_reference { SameReference tx.old tx.new }
-    ensures made { RunsStatement tx.old tx.new sql.now cells.now result }
-    ensures stays { StaysOpen tx.old tx.new result }
+    ensures made { RunsStatement S.Store tx.old tx.new sql.now cells.now result }
+    ensures stays { StaysOpen S.Store tx.old tx.new result }
 {
     tx.execute(sql, cells)?;
     Ok(())
@@ -34,8 +34,8 @@ pub fn run_counting<S: Alter>(
     cells: &[ValueRef<'_>],
 ) -> Result<usize, Error>
     ensures same_reference { SameReference tx.old tx.new }
-    ensures made { RunsCounting tx.old tx.new sql.now cells.now result }
-    ensures stays { StaysOpen tx.old tx.new result }
+    ensures made { RunsCounting S.Store tx.old tx.new sql.now cells.now result }
+    ensures stays { StaysOpen S.Store tx.old tx.new result }
 {
     tx.execute(sql, cells)
 }
@@ -47,8 +47,8 @@ pub fn put<T: Stored, S: Alter>(
     row: &T,
 ) -> Result<(), Error>
     ensures same_reference { SameReference tx.old tx.new }
-    ensures made { Writes tx.old tx.new unit.now (Put (T.as_row row.now) ∷ []) result }
-    ensures stays { StaysOpen tx.old tx.new result }
+    ensures made { Writes S.Store tx.old tx.new unit.now (Put (T.as_row row.now) ∷ []) result }
+    ensures stays { StaysOpen S.Store tx.old tx.new result }
 {
     let written = row.update(tx, unit)?;
     if written != 0 {
@@ -65,8 +65,9 @@ fn remove_grant<S: Alter>(
     role: Role,
 ) -> Result<(), Error>
     ensures same_reference { SameReference tx.old tx.new }
-    ensures made { Writes tx.old tx.new unit.now (Remove (GrantKey person.now role) ∷ []) result }
-    ensures stays { StaysOpen tx.old tx.new result }
+    ensures made { Writes S.Store tx.old tx.new unit.now
+        (Remove (GrantKey person.now role) ∷ []) result }
+    ensures stays { StaysOpen S.Store tx.old tx.new result }
 {
     run(
         tx,
@@ -82,8 +83,8 @@ fn remove_shelf<S: Alter>(
     tag: &Tag,
 ) -> Result<(), Error>
     ensures same_reference { SameReference tx.old tx.new }
-    ensures made { Writes tx.old tx.new unit.now (Remove (ShelfKey tag.now) ∷ []) result }
-    ensures stays { StaysOpen tx.old tx.new result }
+    ensures made { Writes S.Store tx.old tx.new unit.now (Remove (ShelfKey tag.now) ∷ []) result }
+    ensures stays { StaysOpen S.Store tx.old tx.new result }
 {
     run(
         tx,
@@ -95,8 +96,8 @@ fn remove_shelf<S: Alter>(
 /// Puts a row of one of the tables.
 fn put_row<S: Alter>(tx: &mut Transaction<'_, S>, unit: &UnitCode, row: &Row) -> Result<(), Error>
     ensures same_reference { SameReference tx.old tx.new }
-    ensures made { Writes tx.old tx.new unit.now (Put row.now ∷ []) result }
-    ensures stays { StaysOpen tx.old tx.new result }
+    ensures made { Writes S.Store tx.old tx.new unit.now (Put row.now ∷ []) result }
+    ensures stays { StaysOpen S.Store tx.old tx.new result }
 {
     match row {
         Row::Unit(row) => put(tx, unit, row),
@@ -118,8 +119,8 @@ fn remove_row<S: Alter>(
     key: &Key,
 ) -> Result<(), Error>
     ensures same_reference { SameReference tx.old tx.new }
-    ensures made { Writes tx.old tx.new unit.now (Remove key.now ∷ []) result }
-    ensures stays { StaysOpen tx.old tx.new result }
+    ensures made { Writes S.Store tx.old tx.new unit.now (Remove key.now ∷ []) result }
+    ensures stays { StaysOpen S.Store tx.old tx.new result }
 {
     match key {
         Key::Grant(person, role) => remove_grant(tx, unit, person, *role),
@@ -134,8 +135,8 @@ fn change_one<S: Alter>(
     change: &RowEdit,
 ) -> Result<(), Error>
     ensures same_reference { SameReference tx.old tx.new }
-    ensures made { Writes tx.old tx.new unit.now (change.now ∷ []) result }
-    ensures stays { StaysOpen tx.old tx.new result }
+    ensures made { Writes S.Store tx.old tx.new unit.now (change.now ∷ []) result }
+    ensures stays { StaysOpen S.Store tx.old tx.new result }
 {
     match change {
         RowEdit::Put(row) => put_row(tx, unit, row),
@@ -151,10 +152,10 @@ fn change_all<S: Alter>(
 ) -> Result<(), Error>
     requires { IsTrue tx.old.conn.now.in_transaction }
     ensures same_reference { SameReference tx.old tx.new }
-    ensures made { WritesOpen tx.old tx.new unit.now changes.now result }
-    ensures inside { IsOpenIfOk tx.new result }
-    ensures kept { CommitsNothing tx.old tx.new }
-    ensures survives { CrashLoses tx.old tx.new }
+    ensures made { WritesOpen S.Store tx.old tx.new unit.now changes.now result }
+    ensures inside { IsOpenIfOk S.Store tx.new result }
+    ensures kept { CommitsNothing S.Store tx.old tx.new }
+    ensures survives { CrashLoses S.Store tx.old tx.new }
 {
     for change in changes {
         change_one(tx, unit, change)?;

@@ -11,7 +11,7 @@ use Rattle.plant_call.specs.Front.{Item, waits, whole, broken, StandsAtFront, Pa
 use Rattle.plant_call.specs.Cut.{WaitsBelow}
 use Rattle.plant_call.specs.declared.causes.Cause.{Cause}
 use Rattle.plant_wire.specs.Causes.{cause_text}
-use Rattle.plant_wire.specs.Marks.{Mark, said, honest, item_of, mark_text, out_of, calls_of, answers_of, Last, nothing, begun, breaking, last_text, last_marks, IsSaid, IsFaultless}
+use Rattle.plant_wire.specs.Marks.{Mark, said, malformed, item_of, mark_text, out_of, calls_of, answers_of, Last, nothing, begun, breaking, last_text, last_marks, IsSaid, IsFaultless}
 use Rattle.plant_wire.specs.declared.step.Stop.{Stop}
 use Rattle.plant_wire.specs.declared.step.Stop.TheVariants.{WriteFailed, Fault}
 use Rattle.plant_wire.specs.Step.{IsPut, IsAnswer, IsStopped, StopsFor, Serves, ServesBroken}
@@ -49,12 +49,12 @@ out-append (m ∷ ms) ns = ap (λ (t : List ℕ). mark_text m ++ t) (out-append 
 calls-append : (ms ns : List Mark) → calls_of (ms ++ ns) ≡ calls_of ms ++ calls_of ns
 calls-append [] ns = refl
 calls-append (said call answer ∷ ms) ns = ap (λ (t : List Call). call ∷ t) (calls-append ms ns)
-calls-append (honest cause ∷ ms) ns = calls-append ms ns
+calls-append (malformed cause ∷ ms) ns = calls-append ms ns
 
 answers-append : (ms ns : List Mark) → answers_of (ms ++ ns) ≡ answers_of ms ++ answers_of ns
 answers-append [] ns = refl
 answers-append (said call answer ∷ ms) ns = ap (λ (t : List Answer). answer ∷ t) (answers-append ms ns)
-answers-append (honest cause ∷ ms) ns = answers-append ms ns
+answers-append (malformed cause ∷ ms) ns = answers-append ms ns
 
 Parsed-trans : (a b r : List ℕ) (xs ys : List Item) → Parsed a xs b → Parsed b ys r → Parsed a (xs ++ ys) r
 Parsed-trans a b r [] ys is later = subst (λ (t : List ℕ). Parsed t ys r) (sym is) later

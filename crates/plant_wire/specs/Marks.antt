@@ -11,16 +11,16 @@ use Rattle.plant_wire.specs.Causes.{cause_text}
 -- a request with its answer: a call and what the office said, or the cause that it is
 pub data Mark : Type 0 where
   said : Call → Answer → Mark
-  honest : Cause → Mark
+  malformed : Cause → Mark
 
 -- the request
 abbrev pub item_of : Mark → Item
 item_of (said call answer) = asked call
-item_of (honest cause) = bad cause
+item_of (malformed cause) = bad cause
 
 abbrev pub mark_text : Mark → List ℕ
 mark_text (said call answer) = text_of answer
-mark_text (honest cause) = cause_text cause
+mark_text (malformed cause) = cause_text cause
 
 -- the bytes that are written for them
 abbrev pub out_of : List Mark → List ℕ
@@ -31,13 +31,13 @@ out_of (m ∷ ms) = mark_text m ++ out_of ms
 abbrev pub calls_of : List Mark → List Call
 calls_of [] = []
 calls_of (said call answer ∷ ms) = call ∷ calls_of ms
-calls_of (honest cause ∷ ms) = calls_of ms
+calls_of (malformed cause ∷ ms) = calls_of ms
 
 -- the answers to these
 abbrev pub answers_of : List Mark → List Answer
 answers_of [] = []
 answers_of (said call answer ∷ ms) = answer ∷ answers_of ms
-answers_of (honest cause ∷ ms) = answers_of ms
+answers_of (malformed cause ∷ ms) = answers_of ms
 
 -- what was begun when a session stopped: nothing, an answer, or that to the cause which breaks the stream
 pub data Last : Type 0 where

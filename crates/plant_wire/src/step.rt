@@ -1,7 +1,7 @@
-ghost use Rattle.std.specs.Prelude.{◌≡◌, IfErr};
+ghost use Rattle.std.specs.Prelude.{◌≡◌, IfErr, List, ℕ};
 ghost use Rattle.plant_model.specs.declared.reply.Answer.TheVariants as answers;
 ghost use Rattle.plant_answer.specs.Answers.{text_of};
-ghost use Rattle.plant_call.specs.Cut.{WaitsBelow};
+ghost use Rattle.plant_call.specs.Cut.{IsCutOf, WaitsBelow};
 ghost use Rattle.plant_wire.specs.Causes as spec;
 ghost use Rattle.plant_wire.specs.Step.{Stalls, IsPut, IsAnswer, IsStep, IsRest};
 ghost use Rattle.plant_wire.specs.Over.{RanOn};
@@ -100,6 +100,38 @@ fn answer_call<O: Outlet, B: Books>(
     }
 }
 
+/// Answers what was cut off the front of the bytes, whatever they are. Fewer than `wanted` still wait.
+fn answer_cut<O: Outlet, B: Books>(
+    alloc: Global,
+    cut: &Cut,
+    wanted: usize,
+    outlet: &mut O,
+    office: &mut Office<B>,
+) -> Result<Step, Stop>
+    ensures does { (bytes : List ℕ) → IsCutOf bytes cut.now → WaitsBelow bytes wanted
+        → IsStep bytes (O.written outlet.old) (O.written outlet.new)
+        (RanOn B.Books office.old.books office.new.books) result }
+    ensures honest { B.is_honest office.new.books → B.is_honest office.old.books }
+    ensures stalls { Stalls (O.failures outlet.old) (O.failures outlet.new) result }
+{
+    match cut {
+        Cut::More => Ok(Step::Waits(wanted)),
+        Cut::Fault => Err(Stop::Fault),
+        Cut::Broken(cause) => match put_cause(outlet, *cause) {
+            Ok(()) => Ok(Step::Broken),
+            Err(stop) => Err(stop),
+        },
+        Cut::Malformed(cause, n) => match put_cause(outlet, *cause) {
+            Ok(()) => Ok(Step::Took(*n)),
+            Err(stop) => Err(stop),
+        },
+        Cut::Call(call, n) => match answer_call(alloc, outlet, office, call) {
+            Ok(()) => Ok(Step::Took(*n)),
+            Err(stop) => Err(stop),
+        },
+    }
+}
+
 fn answer_next<O: Outlet, B: Books>(
     alloc: Global,
     routes: &Routes,
@@ -114,22 +146,9 @@ fn answer_next<O: Outlet, B: Books>(
     ensures stalls { Stalls (O.failures outlet.old) (O.failures outlet.new) result }
 {
     let Look { cut, wanted } = look_with(alloc, routes, room, bytes);
-    match cut {
-        Cut::More => Ok(Step::Waits(wanted)),
-        Cut::Fault => Err(Stop::Fault),
-        Cut::Broken(cause) => match put_cause(outlet, cause) {
-            Ok(()) => Ok(Step::Broken),
-            Err(stop) => Err(stop),
-        },
-        Cut::Malformed(cause, n) => match put_cause(outlet, cause) {
-            Ok(()) => Ok(Step::Took(n)),
-            Err(stop) => Err(stop),
-        },
-        Cut::Call(call, n) => match answer_call(alloc, outlet, office, &call) {
-            Ok(()) => Ok(Step::Took(n)),
-            Err(stop) => Err(stop),
-        },
-    }
+    let step = answer_cut(alloc, &cut, wanted, outlet, office);
+    drop(cut);
+    step
 }
 
 /// Answers all whole requests at the front of the bytes. Where fewer are there than are wanted, none is, and they are

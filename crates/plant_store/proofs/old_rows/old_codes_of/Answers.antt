@@ -32,4 +32,4 @@ returns-clause-rows g c clean books =
     if_ok c.read_rows.result (λ lines it. codes_back it.0 _ lines (find_old_codes old new books it.0 it.1.0) it.1.1) (c.read_rows.ensures.rows clean)
 
 pub returns-clause-reads : goal.returns-clause-reads
-returns-clause-reads g c = reads_plain_old _ old_codes_plain c.read_rows.ensures.same c.read_rows.ensures.codes_back
+returns-clause-reads g c = reads_plain_old _ old_codes_plain c.read_rows.ensures.same c.read_rows.ensures.honest

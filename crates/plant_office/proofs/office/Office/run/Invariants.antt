@@ -8,7 +8,7 @@ use Rattle.plant_office.proofs.office.Office.run.Given as goal
 
 abbrev pub invariant-loop-call : goal.invariant-loop-call
 invariant-loop-call g l =
-    let holds = g.B.Books.represents in
+    let represents = g.B.Books.represents in
     let is_honest = g.B.Books.is_honest in
     let stores = g.B.Books.stores in
     record {
