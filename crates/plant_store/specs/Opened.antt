@@ -11,7 +11,7 @@ use Rattle.plant_store.specs.OldTables.{AreOldBooks}
 use Rattle.plant_store.specs.Opening.{IsOffice, has_office}
 use Rattle.plant_types.specs.Names.{Name}
 
--- there is no table of an office with its columns
+-- the schema has no table `office` with the columns that an office has
 abbrev pub HasNoOffice : {S : Type 0} → Ghosts S → Held S → Type 0
 HasNoOffice g conn = has_office (state g conn).now.schema ≡ false
 
