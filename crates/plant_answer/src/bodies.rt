@@ -1,7 +1,7 @@
-ghost use Rattle.std.specs.Prelude.{◌≡◌, ◌++◌, map, IfOk, IfErr};
+ghost use Rattle.std.specs.Prelude.{◌≡◌, ◌++◌, map, IfOk};
 ghost use Rattle.std.specs.List.{join_with_byte};
 ghost use Rattle.plant_types.specs.Adding.{Adds};
-ghost use Rattle.plant_types.specs.declared.fault.Fault.TheVariants.{Memory};
+ghost use Rattle.plant_types.specs.Results.{OnlyMemory};
 ghost use Rattle.plant_answer.specs.Json.{quoted, with_commas};
 ghost use Rattle.plant_answer.specs.Names as names;
 ghost use Rattle.plant_answer.specs.Bodies as spec;
@@ -17,7 +17,7 @@ use std::alloc::Global;
 #[tactic(auto, unfolding(crate::specs::Bodies::imported_body))]
 pub fn imported_body(alloc: Global, fresh: u32, repeated: u64) -> Result<Vec<u8>, Fault>
     ensures value { IfOk result (λ out. out.items ≡ spec.imported_body fresh repeated) }
-    ensures err { IfErr result (λ e. e ≡ Memory) }
+    ensures err { OnlyMemory result }
 {
     let mut out = Vec::with_capacity(alloc, BODY_ROOM)?;
     push_number(&mut out, b"{\"new\":", u64::from(fresh))?;
@@ -30,7 +30,7 @@ pub fn imported_body(alloc: Global, fresh: u32, repeated: u64) -> Result<Vec<u8>
 #[tactic(auto, unfolding(crate::specs::Bodies::number_body))]
 pub fn number_body(alloc: Global, number: u32) -> Result<Vec<u8>, Fault>
     ensures value { IfOk result (λ out. out.items ≡ spec.number_body number) }
-    ensures err { IfErr result (λ e. e ≡ Memory) }
+    ensures err { OnlyMemory result }
 {
     let mut out = Vec::with_capacity(alloc, BODY_ROOM)?;
     push_number(&mut out, b"{\"number\":", u64::from(number))?;
@@ -42,7 +42,7 @@ pub fn number_body(alloc: Global, number: u32) -> Result<Vec<u8>, Fault>
 #[tactic(auto, unfolding(crate::specs::Bodies::status_body))]
 pub fn status_body(alloc: Global, row: &StatusRow) -> Result<Vec<u8>, Fault>
     ensures value { IfOk result (λ out. out.items ≡ spec.status_body row.now) }
-    ensures err { IfErr result (λ e. e ≡ Memory) }
+    ensures err { OnlyMemory result }
 {
     let mut out = Vec::with_capacity(alloc, BODY_ROOM)?;
     push_number(&mut out, b"{\"limit\":", row.limit.get())?;
@@ -70,7 +70,7 @@ pub fn status_body(alloc: Global, row: &StatusRow) -> Result<Vec<u8>, Fault>
 fn push_roles(out: &mut Vec<u8>, roles: &[Role]) -> Result<(), Fault>
     ensures value { Adds result out.old.items out.new.items
         (with_commas (λ r. quoted (names.role_name r)) roles.now) }
-    ensures err { IfErr result (λ e. e ≡ Memory) }
+    ensures err { OnlyMemory result }
 {
     for (i, role) in roles.iter().enumerate() {
         if i > 0 {
@@ -84,7 +84,7 @@ fn push_roles(out: &mut Vec<u8>, roles: &[Role]) -> Result<(), Fault>
 #[tactic(auto, unfolding(crate::specs::Bodies::unit_object))]
 fn push_unit(out: &mut Vec<u8>, line: &UnitLine) -> Result<(), Fault>
     ensures value { Adds result out.old.items out.new.items (unit_object line.now) }
-    ensures err { IfErr result (λ e. e ≡ Memory) }
+    ensures err { OnlyMemory result }
 {
     out.extend_from_slice(b"{\"roles\":[")?;
     push_roles(out, line.roles.as_slice())?;
@@ -95,7 +95,7 @@ fn push_unit(out: &mut Vec<u8>, line: &UnitLine) -> Result<(), Fault>
 /// Adds the units, with a comma between each two.
 fn push_units(out: &mut Vec<u8>, lines: &[UnitLine]) -> Result<(), Fault>
     ensures value { Adds result out.old.items out.new.items (with_commas unit_object lines.now) }
-    ensures err { IfErr result (λ e. e ≡ Memory) }
+    ensures err { OnlyMemory result }
 {
     for (i, line) in lines.iter().enumerate() {
         if i > 0 {
@@ -110,7 +110,7 @@ fn push_units(out: &mut Vec<u8>, lines: &[UnitLine]) -> Result<(), Fault>
 #[tactic(auto, unfolding(crate::specs::Bodies::units_body))]
 pub fn units_body(alloc: Global, lines: &[UnitLine]) -> Result<Vec<u8>, Fault>
     ensures value { IfOk result (λ out. out.items ≡ spec.units_body lines.now) }
-    ensures err { IfErr result (λ e. e ≡ Memory) }
+    ensures err { OnlyMemory result }
 {
     let mut out = Vec::from_slice(alloc, b"{\"units\":[")?;
     push_units(&mut out, lines)?;
@@ -121,7 +121,7 @@ pub fn units_body(alloc: Global, lines: &[UnitLine]) -> Result<Vec<u8>, Fault>
 /// The body of a fault.
 pub fn fault_body(alloc: Global, fault: &Fault) -> Result<Vec<u8>, Fault>
     ensures value { IfOk result (λ out. out.items ≡ spec.fault_body fault.now) }
-    ensures err { IfErr result (λ e. e ≡ Memory) }
+    ensures err { OnlyMemory result }
 {
     let mut out = Vec::with_capacity(alloc, BODY_ROOM)?;
     push_string(&mut out, b"{\"fault\":", fault_name(fault))?;

@@ -1,7 +1,7 @@
-ghost use Rattle.std.specs.Prelude.{◌≡◌, ◌++◌, codes, map, option_map, decimal, IfOk, IfErr};
+ghost use Rattle.std.specs.Prelude.{◌≡◌, ◌++◌, codes, map, option_map, decimal, IfOk};
 ghost use Rattle.std.specs.List.{join_with_byte};
 ghost use Rattle.plant_types.specs.Adding.{Adds};
-ghost use Rattle.plant_types.specs.declared.fault.Fault.TheVariants.{Memory};
+ghost use Rattle.plant_types.specs.Results.{OnlyMemory};
 ghost use Rattle.plant_report.specs.Moments.{moment_text};
 ghost use Rattle.plant_answer.specs.Json.{quoted, quoted_or_null, with_commas};
 ghost use Rattle.plant_answer.specs.Names as names;
@@ -22,7 +22,7 @@ use std::alloc::Global;
 #[tactic(auto, unfolding(crate::specs::Changes::record_body))]
 pub fn record_body(alloc: Global, row: &RecordRow) -> Result<Vec<u8>, Fault>
     ensures value { IfOk result (λ out. out.items ≡ spec.record_body row.now) }
-    ensures err { IfErr result (λ e. e ≡ Memory) }
+    ensures err { OnlyMemory result }
 {
     let mut out = Vec::with_capacity(alloc, BODY_ROOM)?;
     push_string(&mut out, b"{\"action\":", row.action.as_bytes())?;
@@ -41,7 +41,7 @@ pub fn record_body(alloc: Global, row: &RecordRow) -> Result<Vec<u8>, Fault>
 #[tactic(auto, unfolding(crate::specs::Changes::sheet_object))]
 fn push_sheet(out: &mut Vec<u8>, sheet: &Sheet) -> Result<(), Fault>
     ensures value { Adds result out.old.items out.new.items (sheet_object sheet.now) }
-    ensures err { IfErr result (λ e. e ≡ Memory) }
+    ensures err { OnlyMemory result }
 {
     push_string(out, b"{\"action\":", sheet.action.as_bytes())?;
     push_string(out, b",\"cause\":", sheet.cause.as_bytes())?;
@@ -54,7 +54,7 @@ fn push_sheet(out: &mut Vec<u8>, sheet: &Sheet) -> Result<(), Fault>
 /// Adds the numbers, with a comma between each two.
 fn push_numbers(out: &mut Vec<u8>, numbers: &[u64]) -> Result<(), Fault>
     ensures value { Adds result out.old.items out.new.items (with_commas decimal numbers.now) }
-    ensures err { IfErr result (λ e. e ≡ Memory) }
+    ensures err { OnlyMemory result }
 {
     for (i, number) in numbers.iter().enumerate() {
         if i > 0 {
@@ -69,7 +69,7 @@ fn push_numbers(out: &mut Vec<u8>, numbers: &[u64]) -> Result<(), Fault>
 fn push_cells(out: &mut Vec<u8>, cells: &[Cell]) -> Result<(), Fault>
     ensures value { Adds result out.old.items out.new.items
         (with_commas (λ cell. quoted (names.cell_name cell)) cells.now) }
-    ensures err { IfErr result (λ e. e ≡ Memory) }
+    ensures err { OnlyMemory result }
 {
     for (i, cell) in cells.iter().enumerate() {
         if i > 0 {
@@ -82,7 +82,7 @@ fn push_cells(out: &mut Vec<u8>, cells: &[Cell]) -> Result<(), Fault>
 
 fn push_row(out: &mut Vec<u8>, row: &[Cell]) -> Result<(), Fault>
     ensures value { Adds result out.old.items out.new.items (row_list row.now) }
-    ensures err { IfErr result (λ e. e ≡ Memory) }
+    ensures err { OnlyMemory result }
 {
     out.push(b'[')?;
     push_cells(out, row)?;
@@ -93,7 +93,7 @@ fn push_row(out: &mut Vec<u8>, row: &[Cell]) -> Result<(), Fault>
 fn push_rows(out: &mut Vec<u8>, rows: &[Vec<Cell>]) -> Result<(), Fault>
     ensures value { Adds result out.old.items out.new.items
         (with_commas row_list (map (λ row. row.items) rows.now)) }
-    ensures err { IfErr result (λ e. e ≡ Memory) }
+    ensures err { OnlyMemory result }
 {
     for (i, row) in rows.iter().enumerate() {
         if i > 0 {
@@ -107,7 +107,7 @@ fn push_rows(out: &mut Vec<u8>, rows: &[Vec<Cell>]) -> Result<(), Fault>
 #[tactic(auto, unfolding(crate::specs::Changes::matrix_object))]
 fn push_matrix(out: &mut Vec<u8>, matrix: &Matrix) -> Result<(), Fault>
     ensures value { Adds result out.old.items out.new.items (matrix_object matrix.now) }
-    ensures err { IfErr result (λ e. e ≡ Memory) }
+    ensures err { OnlyMemory result }
 {
     out.extend_from_slice(b"{\"bands\":[")?;
     push_numbers(out, matrix.limits())?;
@@ -119,7 +119,7 @@ fn push_matrix(out: &mut Vec<u8>, matrix: &Matrix) -> Result<(), Fault>
 #[tactic(auto, unfolding(crate::specs::Changes::limit_object))]
 fn push_limit(out: &mut Vec<u8>, max: Seconds) -> Result<(), Fault>
     ensures value { Adds result out.old.items out.new.items (limit_object max) }
-    ensures err { IfErr result (λ e. e ≡ Memory) }
+    ensures err { OnlyMemory result }
 {
     push_number(out, b"{\"max\":", max.get())?;
     Ok(out.push(b'}')?)
@@ -128,7 +128,7 @@ fn push_limit(out: &mut Vec<u8>, max: Seconds) -> Result<(), Fault>
 /// Adds what is proposed.
 fn push_content(out: &mut Vec<u8>, kind: &ChangeKind) -> Result<(), Fault>
     ensures value { Adds result out.old.items out.new.items (content_object kind.now) }
-    ensures err { IfErr result (λ e. e ≡ Memory) }
+    ensures err { OnlyMemory result }
 {
     match kind {
         ChangeKind::Rationale(_, sheet) => push_sheet(out, sheet),
@@ -152,7 +152,7 @@ fn tag_of(kind: &ChangeKind) -> Option<&[u8]>
 fn push_decided(out: &mut Vec<u8>, decided: Option<Moment>) -> Result<(), Fault>
     ensures value { Adds result (out.old.items ++ codes ",\"decided\":") out.new.items
         (quoted_or_null (option_map moment_text decided)) }
-    ensures err { IfErr result (λ e. e ≡ Memory) }
+    ensures err { OnlyMemory result }
 {
     match decided {
         Some(moment) => push_string(out, b",\"decided\":", &write_moment(moment)),
@@ -174,7 +174,7 @@ fn bytes_of(person: &Option<Person>) -> Option<&[u8]>
 #[tactic(auto, unfolding(crate::specs::Changes::change_body))]
 pub fn change_body(alloc: Global, row: &ChangeRow) -> Result<Vec<u8>, Fault>
     ensures value { IfOk result (λ out. out.items ≡ spec.change_body row.now) }
-    ensures err { IfErr result (λ e. e ≡ Memory) }
+    ensures err { OnlyMemory result }
 {
     let mut out = Vec::with_capacity(alloc, BODY_ROOM)?;
     push_number(&mut out, b"{\"base\":", u64::from(row.base))?;

@@ -1,7 +1,7 @@
-ghost use Rattle.std.specs.Prelude.{◌≡◌, ◌++◌, IfErr, option_map, decimal, ◌==◌, ◌||◌, not};
+ghost use Rattle.std.specs.Prelude.{◌≡◌, ◌++◌, option_map, decimal, ◌==◌, ◌||◌, not};
 ghost use Rattle.std.specs.List.{flat_map, list_all};
 ghost use Rattle.plant_types.specs.Adding.{Adds};
-ghost use Rattle.plant_types.specs.declared.fault.Fault.TheVariants.{Memory};
+ghost use Rattle.plant_types.specs.Results.{OnlyMemory};
 ghost use Rattle.plant_answer.specs.Json.{escaped, quoted, quoted_or_null, truth};
 
 use itoa::Buffer;
@@ -19,7 +19,7 @@ fn is_escaped(b: u8) -> bool
 
 fn push_escaped(out: &mut Vec<u8>, b: u8) -> Result<(), Fault>
     ensures value { Adds result out.old.items out.new.items (escaped b) }
-    ensures err { IfErr result (λ e. e ≡ Memory) }
+    ensures err { OnlyMemory result }
 {
     if is_escaped(b) {
         out.push(b'\\')?;
@@ -37,7 +37,7 @@ fn is_plain(text: &[u8]) -> bool
 #[tactic(auto, using(crate::proofs::Plain::plain_text))]
 fn push_all_escaped(out: &mut Vec<u8>, text: &[u8]) -> Result<(), Fault>
     ensures value { Adds result out.old.items out.new.items (flat_map escaped text.now) }
-    ensures err { IfErr result (λ e. e ≡ Memory) }
+    ensures err { OnlyMemory result }
 {
     if is_plain(text) {
         return Ok(out.extend_from_slice(text)?);
@@ -52,7 +52,7 @@ fn push_all_escaped(out: &mut Vec<u8>, text: &[u8]) -> Result<(), Fault>
 #[tactic(auto, unfolding(crate::specs::Json::quoted))]
 pub fn push_quoted(out: &mut Vec<u8>, text: &[u8]) -> Result<(), Fault>
     ensures value { Adds result out.old.items out.new.items (quoted text.now) }
-    ensures err { IfErr result (λ e. e ≡ Memory) }
+    ensures err { OnlyMemory result }
 {
     out.push(b'"')?;
     push_all_escaped(out, text)?;
@@ -62,7 +62,7 @@ pub fn push_quoted(out: &mut Vec<u8>, text: &[u8]) -> Result<(), Fault>
 /// Adds a number.
 pub(crate) fn push_decimal(out: &mut Vec<u8>, number: u64) -> Result<(), Fault>
     ensures value { Adds result out.old.items out.new.items (decimal number) }
-    ensures err { IfErr result (λ e. e ≡ Memory) }
+    ensures err { OnlyMemory result }
 {
     let mut buffer = Buffer::new();
     Ok(out.extend_from_slice(buffer.format(number).as_bytes())?)
@@ -71,7 +71,7 @@ pub(crate) fn push_decimal(out: &mut Vec<u8>, number: u64) -> Result<(), Fault>
 /// Adds a number, after some bytes.
 pub(crate) fn push_number(out: &mut Vec<u8>, before: &[u8], number: u64) -> Result<(), Fault>
     ensures value { Adds result (out.old.items ++ before.now) out.new.items (decimal number) }
-    ensures err { IfErr result (λ e. e ≡ Memory) }
+    ensures err { OnlyMemory result }
 {
     out.extend_from_slice(before)?;
     push_decimal(out, number)
@@ -80,7 +80,7 @@ pub(crate) fn push_number(out: &mut Vec<u8>, before: &[u8], number: u64) -> Resu
 /// Adds a string, after some bytes.
 pub(crate) fn push_string(out: &mut Vec<u8>, before: &[u8], text: &[u8]) -> Result<(), Fault>
     ensures value { Adds result (out.old.items ++ before.now) out.new.items (quoted text.now) }
-    ensures err { IfErr result (λ e. e ≡ Memory) }
+    ensures err { OnlyMemory result }
 {
     out.extend_from_slice(before)?;
     push_quoted(out, text)
@@ -94,7 +94,7 @@ pub(crate) fn push_string_or_null(
 ) -> Result<(), Fault>
     ensures value { Adds result (out.old.items ++ before.now) out.new.items
         (quoted_or_null (option_map (λ t. t.now) text.entry)) }
-    ensures err { IfErr result (λ e. e ≡ Memory) }
+    ensures err { OnlyMemory result }
 {
     out.extend_from_slice(before)?;
     match text {
@@ -106,7 +106,7 @@ pub(crate) fn push_string_or_null(
 /// Adds true or false, after some bytes.
 pub(crate) fn push_truth(out: &mut Vec<u8>, before: &[u8], holds: bool) -> Result<(), Fault>
     ensures value { Adds result (out.old.items ++ before.now) out.new.items (truth holds) }
-    ensures err { IfErr result (λ e. e ≡ Memory) }
+    ensures err { OnlyMemory result }
 {
     let word: &[u8] = if holds { b"true" } else { b"false" };
     out.extend_from_slice(before)?;

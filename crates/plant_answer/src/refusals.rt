@@ -1,6 +1,6 @@
-ghost use Rattle.std.specs.Prelude.{◌≡◌, ◌++◌, Some, IfOk, IfErr};
+ghost use Rattle.std.specs.Prelude.{◌≡◌, ◌++◌, Some, IfOk};
 ghost use Rattle.plant_types.specs.Adding.{Adds};
-ghost use Rattle.plant_types.specs.declared.fault.Fault.TheVariants.{Memory};
+ghost use Rattle.plant_types.specs.Results.{OnlyMemory};
 ghost use Rattle.plant_answer.specs.Names as spec;
 ghost use Rattle.plant_answer.specs.Answers as answers;
 ghost use Rattle.plant_answer.specs.Bodies as bodies;
@@ -103,7 +103,7 @@ pub fn status_of(refused: &Refused) -> StatusCode
 fn push_bad_file(out: &mut Vec<u8>, fault: &BadFile) -> Result<(), Fault>
     ensures value { Adds result out.old.items out.new.items
         (value_member (Some (bad_file_object fault.now))) }
-    ensures err { IfErr result (λ e. e ≡ Memory) }
+    ensures err { OnlyMemory result }
 {
     push_string(out, b",\"value\":{\"cause\":", file_cause_name(fault.cause))?;
     push_number(out, b",\"line\":", fault.line)?;
@@ -114,7 +114,7 @@ fn push_bad_file(out: &mut Vec<u8>, fault: &BadFile) -> Result<(), Fault>
 fn push_value(out: &mut Vec<u8>, refused: &Refused) -> Result<(), Fault>
     ensures value { Adds result out.old.items out.new.items
         (value_member (refusal_value refused.now)) }
-    ensures err { IfErr result (λ e. e ≡ Memory) }
+    ensures err { OnlyMemory result }
 {
     match refused {
         Refused::RoleLacking(role) => push_string(out, b",\"value\":", role_name(*role)),
@@ -135,7 +135,7 @@ fn push_value(out: &mut Vec<u8>, refused: &Refused) -> Result<(), Fault>
 #[tactic(auto, unfolding(crate::specs::Bodies::refusal_body))]
 pub fn refusal_body(alloc: Global, refused: &Refused) -> Result<Vec<u8>, Fault>
     ensures value { IfOk result (λ out. out.items ≡ bodies.refusal_body refused.now) }
-    ensures err { IfErr result (λ e. e ≡ Memory) }
+    ensures err { OnlyMemory result }
 {
     let mut out = Vec::with_capacity(alloc, BODY_ROOM)?;
     push_string(&mut out, b"{\"name\":", name_of(refused))?;

@@ -1,5 +1,5 @@
-ghost use Rattle.std.specs.Prelude.{◌≡◌, IfOk, IfErr};
-ghost use Rattle.plant_types.specs.declared.fault.Fault.TheVariants.{Memory};
+ghost use Rattle.std.specs.Prelude.{◌≡◌, IfOk};
+ghost use Rattle.plant_types.specs.Results.{OnlyMemory};
 ghost use Rattle.plant_answer.specs.Response as spec;
 ghost use Rattle.plant_answer.specs.Answers.{text_of, reply_media, reply_body};
 
@@ -34,7 +34,7 @@ fn media_of(reply: &Reply) -> Media
 
 fn reply_body(alloc: Global, reply: &Reply) -> Result<Vec<u8>, Fault>
     ensures value { IfOk result (λ out. out.items ≡ reply_body reply.now) }
-    ensures err { IfErr result (λ e. e ≡ Memory) }
+    ensures err { OnlyMemory result }
 {
     match reply {
         Reply::Done => Ok(Vec::from_slice(alloc, b"{\"done\":true}")?),
@@ -60,7 +60,7 @@ fn reply_body(alloc: Global, reply: &Reply) -> Result<Vec<u8>, Fault>
 /// The bytes of an answer. A reply has status 200, a refusal 403 or 409, a fault 503.
 pub fn render(alloc: Global, answer: &Answer) -> Result<Vec<u8>, Fault>
     ensures value { IfOk result (λ text. text.items ≡ text_of answer.now) }
-    ensures err { IfErr result (λ e. e ≡ Memory) }
+    ensures err { OnlyMemory result }
 {
     match answer {
         Answer::Reply(reply) => {

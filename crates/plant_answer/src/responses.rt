@@ -1,7 +1,7 @@
-ghost use Rattle.std.specs.Prelude.{◌≡◌, ◌++◌, IfOk, IfErr, codes, unwrap_or};
+ghost use Rattle.std.specs.Prelude.{◌≡◌, ◌++◌, IfOk, codes, unwrap_or};
 ghost use Rattle.http.specs.StatusCode.{reason_phrase};
 ghost use Rattle.plant_types.specs.Adding.{Adds};
-ghost use Rattle.plant_types.specs.declared.fault.Fault.TheVariants.{Memory};
+ghost use Rattle.plant_types.specs.Results.{OnlyMemory};
 ghost use Rattle.plant_answer.specs.Response as spec;
 ghost use Rattle.plant_answer.specs.Response.{status_line, media_type};
 
@@ -43,7 +43,7 @@ fn phrase(status: StatusCode) -> &'static str
 #[tactic(auto, unfolding(crate::specs::Response::status_line))]
 fn push_status(out: &mut Vec<u8>, status: StatusCode) -> Result<(), Fault>
     ensures value { Adds result out.old.items out.new.items (status_line status) }
-    ensures err { IfErr result (λ e. e ≡ Memory) }
+    ensures err { OnlyMemory result }
 {
     let mut buffer = Buffer::new();
     out.extend_from_slice(buffer.format(status.as_u16()).as_bytes())?;
@@ -63,7 +63,7 @@ pub fn response(
     body: &[u8],
 ) -> Result<Vec<u8>, Fault>
     ensures value { IfOk result (λ out. out.items ≡ spec.response status media body.now) }
-    ensures err { IfErr result (λ e. e ≡ Memory) }
+    ensures err { OnlyMemory result }
 {
     let mut buffer = Buffer::new();
     let mut out = Vec::with_capacity(alloc, body.len().saturating_add(HEAD_ROOM))?;

@@ -110,11 +110,11 @@ abbrev pub Fails : {A : Type 0} → BodyError → Result A Unfit → Type 0
 Fails Memory given = Unit {0}
 Fails (Because unfit) given = given ≡ Err unfit
 
-abbrev pub Gives : {A : Type 0} → Result A BodyError → Result A Unfit → Type 0
-Gives (Ok x) given = given ≡ Ok x
-Gives (Err e) given = Fails e given
+abbrev pub ReadsAs : {A : Type 0} → Result A BodyError → Result A Unfit → Type 0
+ReadsAs (Ok x) given = given ≡ Ok x
+ReadsAs (Err e) given = Fails e given
 
 -- the same, where the returned value is seen by a view
-abbrev pub GivesBy : {A B : Type 0} → (A → B) → Result A BodyError → Result B Unfit → Type 0
-GivesBy view (Ok x) given = given ≡ Ok (view x)
-GivesBy view (Err e) given = Fails e given
+abbrev pub ReadsAsSeen : {A B : Type 0} → (A → B) → Result A BodyError → Result B Unfit → Type 0
+ReadsAsSeen view (Ok x) given = given ≡ Ok (view x)
+ReadsAsSeen view (Err e) given = Fails e given

@@ -1,6 +1,6 @@
 ghost use Rattle.std.specs.Prelude.{◌≡◌, map};
 ghost use Rattle.serde_json.specs.View.{view};
-ghost use Rattle.plant_body.specs.Members.{Gives};
+ghost use Rattle.plant_body.specs.Members.{ReadsAs};
 ghost use Rattle.plant_body.specs.Bodies.{matrix_from, opening_in, granting_in, withdrawal_in, registration_in, timed_shelving_in, reason_in, read_by};
 
 use crate::lists::{numbers_in, rows_in};
@@ -56,7 +56,7 @@ pub(crate) fn matrix_from(
     limits: &[u64],
     rows: &[Vec<Cell>],
 ) -> Result<Matrix, BodyError>
-    ensures { Gives result (matrix_from limits.now (map (λ row. row.items) rows.now)) }
+    ensures { ReadsAs result (matrix_from limits.now (map (λ row. row.items) rows.now)) }
 {
     match Matrix::new(alloc, limits, rows)? {
         Ok(matrix) => Ok(matrix),
@@ -66,7 +66,7 @@ pub(crate) fn matrix_from(
 
 #[tactic(auto, unfolding(crate::specs::Bodies::opening_in))]
 fn opening_in(alloc: Global, value: &Value) -> Result<Opening, BodyError>
-    ensures { Gives result (opening_in (view value.now)) }
+    ensures { ReadsAs result (opening_in (view value.now)) }
 {
     let steward = text_in::<PersonBytes>(alloc, value, "steward")?;
     let limits = numbers_in(alloc, value, "bands")?;
@@ -82,7 +82,7 @@ fn opening_in(alloc: Global, value: &Value) -> Result<Opening, BodyError>
 
 #[tactic(auto, unfolding(crate::specs::Bodies::granting_in))]
 fn granting_in(alloc: Global, value: &Value) -> Result<Granting, BodyError>
-    ensures { Gives result (granting_in (view value.now)) }
+    ensures { ReadsAs result (granting_in (view value.now)) }
 {
     let person = text_in::<PersonBytes>(alloc, value, "person")?;
     let role = role_in(value, "role")?;
@@ -93,7 +93,7 @@ fn granting_in(alloc: Global, value: &Value) -> Result<Granting, BodyError>
 
 #[tactic(auto, unfolding(crate::specs::Bodies::withdrawal_in))]
 fn withdrawal_in(alloc: Global, value: &Value) -> Result<Withdrawal, BodyError>
-    ensures { Gives result (withdrawal_in (view value.now)) }
+    ensures { ReadsAs result (withdrawal_in (view value.now)) }
 {
     let person = text_in::<PersonBytes>(alloc, value, "person")?;
     let role = role_in(value, "role")?;
@@ -102,7 +102,7 @@ fn withdrawal_in(alloc: Global, value: &Value) -> Result<Withdrawal, BodyError>
 
 #[tactic(auto, unfolding(crate::specs::Bodies::registration_in))]
 fn registration_in(alloc: Global, value: &Value) -> Result<Registration, BodyError>
-    ensures { Gives result (registration_in (view value.now)) }
+    ensures { ReadsAs result (registration_in (view value.now)) }
 {
     let tag = text_in::<TagBytes>(alloc, value, "tag")?;
     let latching = truth_in(value, "latching")?;
@@ -112,7 +112,7 @@ fn registration_in(alloc: Global, value: &Value) -> Result<Registration, BodyErr
 
 #[tactic(auto, unfolding(crate::specs::Bodies::timed_shelving_in))]
 fn timed_shelving_in(alloc: Global, value: &Value) -> Result<TimedShelving, BodyError>
-    ensures { Gives result (timed_shelving_in (view value.now)) }
+    ensures { ReadsAs result (timed_shelving_in (view value.now)) }
 {
     let seconds = seconds_in(value, "seconds")?;
     let words = text_in::<WordsBytes>(alloc, value, "words")?;
@@ -122,7 +122,7 @@ fn timed_shelving_in(alloc: Global, value: &Value) -> Result<TimedShelving, Body
 /// The body of the opening of a unit: `steward`, `bands`, `cells`, and maybe `quota` (default 2000).
 /// A table that is not a matrix is reported only if all else is right.
 pub fn read_opening(alloc: Global, bytes: &[u8]) -> Result<Opening, BodyError>
-    ensures { Gives result (read_by opening_in bytes.now) }
+    ensures { ReadsAs result (read_by opening_in bytes.now) }
 {
     let value = value_in(alloc, bytes)?;
     opening_in(alloc, &value)
@@ -130,7 +130,7 @@ pub fn read_opening(alloc: Global, bytes: &[u8]) -> Result<Opening, BodyError>
 
 /// The body of a grant: `person`, `role`, and maybe `end`, which is null or a moment; a steward has no end.
 pub fn read_granting(alloc: Global, bytes: &[u8]) -> Result<Granting, BodyError>
-    ensures { Gives result (read_by granting_in bytes.now) }
+    ensures { ReadsAs result (read_by granting_in bytes.now) }
 {
     let value = value_in(alloc, bytes)?;
     granting_in(alloc, &value)
@@ -138,7 +138,7 @@ pub fn read_granting(alloc: Global, bytes: &[u8]) -> Result<Granting, BodyError>
 
 /// The body of a withdrawal: `person`, `role`.
 pub fn read_withdrawal(alloc: Global, bytes: &[u8]) -> Result<Withdrawal, BodyError>
-    ensures { Gives result (read_by withdrawal_in bytes.now) }
+    ensures { ReadsAs result (read_by withdrawal_in bytes.now) }
 {
     let value = value_in(alloc, bytes)?;
     withdrawal_in(alloc, &value)
@@ -146,7 +146,7 @@ pub fn read_withdrawal(alloc: Global, bytes: &[u8]) -> Result<Withdrawal, BodyEr
 
 /// The body of a registration: `tag`, `latching`, `max` in seconds.
 pub fn read_registration(alloc: Global, bytes: &[u8]) -> Result<Registration, BodyError>
-    ensures { Gives result (read_by registration_in bytes.now) }
+    ensures { ReadsAs result (read_by registration_in bytes.now) }
 {
     let value = value_in(alloc, bytes)?;
     registration_in(alloc, &value)
@@ -154,7 +154,7 @@ pub fn read_registration(alloc: Global, bytes: &[u8]) -> Result<Registration, Bo
 
 /// The body of a timed shelving: `seconds`, `words`.
 pub fn read_timed_shelving(alloc: Global, bytes: &[u8]) -> Result<TimedShelving, BodyError>
-    ensures { Gives result (read_by timed_shelving_in bytes.now) }
+    ensures { ReadsAs result (read_by timed_shelving_in bytes.now) }
 {
     let value = value_in(alloc, bytes)?;
     timed_shelving_in(alloc, &value)
@@ -162,7 +162,7 @@ pub fn read_timed_shelving(alloc: Global, bytes: &[u8]) -> Result<TimedShelving,
 
 /// The body of a one-shot shelving or of a removal from service: `words`.
 pub fn read_reason(alloc: Global, bytes: &[u8]) -> Result<Words, BodyError>
-    ensures { Gives result (read_by reason_in bytes.now) }
+    ensures { ReadsAs result (read_by reason_in bytes.now) }
 {
     let value = value_in(alloc, bytes)?;
     text_in::<WordsBytes>(alloc, &value, "words")

@@ -1,7 +1,7 @@
 ghost use Rattle.std.specs.Prelude.{◌≡◌, map};
 ghost use Rattle.std.specs.Option.{option_map};
 ghost use Rattle.serde_json.specs.View.{view, items_view};
-ghost use Rattle.plant_body.specs.Members.{Gives, GivesBy, or_body, number_of};
+ghost use Rattle.plant_body.specs.Members.{ReadsAs, ReadsAsSeen, or_body, number_of};
 ghost use Rattle.plant_body.specs.Lists as spec;
 ghost use Rattle.plant_body.specs.Lists.{all_of, cell_of, row_of, numbers_at, rows_at};
 
@@ -37,7 +37,7 @@ fn cell_of(value: &Value) -> Option<Cell>
 }
 
 fn all_numbers(alloc: Global, items: &[Value]) -> Result<Vec<u64>, BodyError>
-    ensures { GivesBy (λ v. v.items) result (or_body (all_of number_of (items_view items.now))) }
+    ensures { ReadsAsSeen (λ v. v.items) result (or_body (all_of number_of (items_view items.now))) }
 {
     let mut numbers = Vec::new(alloc);
     for item in items {
@@ -50,7 +50,7 @@ fn all_numbers(alloc: Global, items: &[Value]) -> Result<Vec<u64>, BodyError>
 }
 
 fn all_cells(alloc: Global, items: &[Value]) -> Result<Vec<Cell>, BodyError>
-    ensures { GivesBy (λ v. v.items) result (or_body (all_of cell_of (items_view items.now))) }
+    ensures { ReadsAsSeen (λ v. v.items) result (or_body (all_of cell_of (items_view items.now))) }
 {
     let mut cells = Vec::new(alloc);
     for item in items {
@@ -63,7 +63,7 @@ fn all_cells(alloc: Global, items: &[Value]) -> Result<Vec<Cell>, BodyError>
 }
 
 fn row_of(alloc: Global, value: &Value) -> Result<Vec<Cell>, BodyError>
-    ensures { GivesBy (λ v. v.items) result (or_body (row_of (view value.now))) }
+    ensures { ReadsAsSeen (λ v. v.items) result (or_body (row_of (view value.now))) }
 {
     match value.as_array() {
         Some(items) => all_cells(alloc, items),
@@ -72,7 +72,7 @@ fn row_of(alloc: Global, value: &Value) -> Result<Vec<Cell>, BodyError>
 }
 
 fn all_rows(alloc: Global, items: &[Value]) -> Result<Vec<Vec<Cell>>, BodyError>
-    ensures { GivesBy (λ v. map (λ row. row.items) v.items) result
+    ensures { ReadsAsSeen (λ v. map (λ row. row.items) v.items) result
         (or_body (all_of row_of (items_view items.now))) }
 {
     let mut rows = Vec::new(alloc);
@@ -87,7 +87,7 @@ fn all_rows(alloc: Global, items: &[Value]) -> Result<Vec<Vec<Cell>>, BodyError>
 
 /// A member that is a list of numbers.
 pub(crate) fn numbers_in(alloc: Global, value: &Value, name: &str) -> Result<Vec<u64>, BodyError>
-    ensures { GivesBy (λ v. v.items) result (or_body (numbers_at name.now (view value.now))) }
+    ensures { ReadsAsSeen (λ v. v.items) result (or_body (numbers_at name.now (view value.now))) }
 {
     match value.get(name).and_then(Value::as_array) {
         Some(items) => all_numbers(alloc, items),
@@ -97,7 +97,7 @@ pub(crate) fn numbers_in(alloc: Global, value: &Value, name: &str) -> Result<Vec
 
 /// A member that is a list of lists of cells.
 pub(crate) fn rows_in(alloc: Global, value: &Value, name: &str) -> Result<Vec<Vec<Cell>>, BodyError>
-    ensures { GivesBy (λ v. map (λ row. row.items) v.items) result
+    ensures { ReadsAsSeen (λ v. map (λ row. row.items) v.items) result
         (or_body (rows_at name.now (view value.now))) }
 {
     match value.get(name).and_then(Value::as_array) {

@@ -1,6 +1,6 @@
 ghost use Rattle.std.specs.Prelude.{◌≡◌, option_map};
 ghost use Rattle.serde_json.specs.View.{view};
-ghost use Rattle.plant_body.specs.Members.{Gives, GivesBy, or_body, value_of, number_of, number_at, string_at, truth_at, text_at, seconds_at, base_at, severity_at, role_at, quota_at, end_at, tenure_of};
+ghost use Rattle.plant_body.specs.Members.{ReadsAs, ReadsAsSeen, or_body, value_of, number_of, number_at, string_at, truth_at, text_at, seconds_at, base_at, severity_at, role_at, quota_at, end_at, tenure_of};
 ghost use Rattle.plant_body.specs.Members as spec;
 
 use plant_ration::MatrixFault;
@@ -64,7 +64,7 @@ const BAD: BodyError = BodyError::Because(Unfit::Body);
 
 /// The JSON value that the bytes are.
 pub(crate) fn value_in(alloc: Global, bytes: &[u8]) -> Result<Value, BodyError>
-    ensures { GivesBy view result (or_body (value_of bytes.now)) }
+    ensures { ReadsAsSeen view result (or_body (value_of bytes.now)) }
 {
     match Value::from_slice(alloc, bytes) {
         Ok(value) => Ok(value),
@@ -97,7 +97,7 @@ pub(crate) fn string_in<'v>(value: &'v Value, name: &str) -> Option<&'v str>
 }
 
 pub(crate) fn truth_in(value: &Value, name: &str) -> Result<bool, BodyError>
-    ensures { Gives result (or_body (truth_at name.now (view value.now))) }
+    ensures { ReadsAs result (or_body (truth_at name.now (view value.now))) }
 {
     match value.get(name).and_then(Value::as_bool) {
         Some(truth) => Ok(truth),
@@ -110,7 +110,7 @@ pub(crate) fn text_in<C: Alphabet>(
     value: &Value,
     name: &str,
 ) -> Result<Text<C>, BodyError>
-    ensures { Gives result (or_body (text_at C.admits C.longest name.now (view value.now))) }
+    ensures { ReadsAs result (or_body (text_at C.admits C.longest name.now (view value.now))) }
 {
     let Some(string) = string_in(value, name) else {
         return Err(BAD);
@@ -122,7 +122,7 @@ pub(crate) fn text_in<C: Alphabet>(
 }
 
 pub(crate) fn seconds_in(value: &Value, name: &str) -> Result<Seconds, BodyError>
-    ensures { Gives result (or_body (seconds_at name.now (view value.now))) }
+    ensures { ReadsAs result (or_body (seconds_at name.now (view value.now))) }
 {
     match number_in(value, name).and_then(Seconds::new) {
         Some(seconds) => Ok(seconds),
@@ -132,7 +132,7 @@ pub(crate) fn seconds_in(value: &Value, name: &str) -> Result<Seconds, BodyError
 
 /// The revision that a proposal is drawn up for: 0 to 20,000.
 pub(crate) fn base_in(value: &Value, name: &str) -> Result<u32, BodyError>
-    ensures { Gives result (or_body (base_at name.now (view value.now))) }
+    ensures { ReadsAs result (or_body (base_at name.now (view value.now))) }
 {
     match number_in(value, name) {
         Some(base) if base <= MAX_CHANGES => Ok(base as u32),
@@ -142,7 +142,7 @@ pub(crate) fn base_in(value: &Value, name: &str) -> Result<u32, BodyError>
 
 /// The severity of a consequence: 1 to 5.
 pub(crate) fn severity_in(value: &Value, name: &str) -> Result<u8, BodyError>
-    ensures { Gives result (or_body (severity_at name.now (view value.now))) }
+    ensures { ReadsAs result (or_body (severity_at name.now (view value.now))) }
 {
     match number_in(value, name) {
         Some(severity) if severity >= 1 && severity <= 5 => Ok(severity as u8),
@@ -171,7 +171,7 @@ fn role_of(name: &str) -> Option<Role>
 }
 
 pub(crate) fn role_in(value: &Value, name: &str) -> Result<Role, BodyError>
-    ensures { Gives result (or_body (role_at name.now (view value.now))) }
+    ensures { ReadsAs result (or_body (role_at name.now (view value.now))) }
 {
     match string_in(value, name).and_then(role_of) {
         Some(role) => Ok(role),
@@ -181,7 +181,7 @@ pub(crate) fn role_in(value: &Value, name: &str) -> Result<Role, BodyError>
 
 /// The quota: the greatest one where the member isn't there.
 pub(crate) fn quota_in(value: &Value, name: &str) -> Result<Quota, BodyError>
-    ensures { Gives result (or_body (quota_at name.now (view value.now))) }
+    ensures { ReadsAs result (or_body (quota_at name.now (view value.now))) }
 {
     let given = match value.get(name) {
         Some(quota) => number_of(quota),
@@ -195,7 +195,7 @@ pub(crate) fn quota_in(value: &Value, name: &str) -> Result<Quota, BodyError>
 
 /// The end: none where the member isn't there or is null.
 pub(crate) fn end_in(value: &Value, name: &str) -> Result<Option<Moment>, BodyError>
-    ensures { Gives result (or_body (end_at name.now (view value.now))) }
+    ensures { ReadsAs result (or_body (end_at name.now (view value.now))) }
 {
     let Some(end) = value.get(name) else {
         return Ok(None);
@@ -213,7 +213,7 @@ pub(crate) fn end_in(value: &Value, name: &str) -> Result<Option<Moment>, BodyEr
 }
 
 pub(crate) fn tenure_of(role: Role, until: Option<Moment>) -> Result<Tenure, BodyError>
-    ensures { Gives result (or_body (tenure_of role until)) }
+    ensures { ReadsAs result (or_body (tenure_of role until)) }
 {
     match Tenure::new(role, until) {
         Some(tenure) => Ok(tenure),

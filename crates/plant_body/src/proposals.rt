@@ -1,6 +1,6 @@
 ghost use Rattle.std.specs.Prelude.{◌≡◌};
 ghost use Rattle.serde_json.specs.View.{view};
-ghost use Rattle.plant_body.specs.Members.{Gives};
+ghost use Rattle.plant_body.specs.Members.{ReadsAs};
 ghost use Rattle.plant_body.specs.Bodies.{read_by};
 ghost use Rattle.plant_body.specs.Proposals.{sheet_in, record_in, matrix_in, limit_in, change_in, proposal_in};
 
@@ -18,7 +18,7 @@ const BAD: BodyError = BodyError::Because(Unfit::Body);
 
 #[tactic(auto, unfolding(crate::specs::Proposals::sheet_in))]
 fn sheet_in(alloc: Global, value: &Value) -> Result<Sheet, BodyError>
-    ensures { Gives result (sheet_in (view value.now)) }
+    ensures { ReadsAs result (sheet_in (view value.now)) }
 {
     let cause = text_in::<WordsBytes>(alloc, value, "cause")?;
     let consequence = text_in::<WordsBytes>(alloc, value, "consequence")?;
@@ -36,7 +36,7 @@ fn sheet_in(alloc: Global, value: &Value) -> Result<Sheet, BodyError>
 
 #[tactic(auto, unfolding(crate::specs::Proposals::record_in))]
 fn record_in(alloc: Global, value: &Value) -> Result<ChangeKind, BodyError>
-    ensures { Gives result (record_in (view value.now)) }
+    ensures { ReadsAs result (record_in (view value.now)) }
 {
     let tag = text_in::<TagBytes>(alloc, value, "tag")?;
     let sheet = sheet_in(alloc, value)?;
@@ -45,7 +45,7 @@ fn record_in(alloc: Global, value: &Value) -> Result<ChangeKind, BodyError>
 
 #[tactic(auto, unfolding(crate::specs::Proposals::matrix_in))]
 fn matrix_in(alloc: Global, value: &Value) -> Result<ChangeKind, BodyError>
-    ensures { Gives result (matrix_in (view value.now)) }
+    ensures { ReadsAs result (matrix_in (view value.now)) }
 {
     let limits = numbers_in(alloc, value, "bands")?;
     let rows = rows_in(alloc, value, "cells")?;
@@ -55,7 +55,7 @@ fn matrix_in(alloc: Global, value: &Value) -> Result<ChangeKind, BodyError>
 
 #[tactic(auto, unfolding(crate::specs::Proposals::limit_in))]
 fn limit_in(alloc: Global, value: &Value) -> Result<ChangeKind, BodyError>
-    ensures { Gives result (limit_in (view value.now)) }
+    ensures { ReadsAs result (limit_in (view value.now)) }
 {
     let tag = text_in::<TagBytes>(alloc, value, "tag")?;
     let max = seconds_in(value, "max")?;
@@ -63,7 +63,7 @@ fn limit_in(alloc: Global, value: &Value) -> Result<ChangeKind, BodyError>
 }
 
 fn change_in(alloc: Global, kind: &str, value: &Value) -> Result<ChangeKind, BodyError>
-    ensures { Gives result (change_in kind.now (view value.now)) }
+    ensures { ReadsAs result (change_in kind.now (view value.now)) }
 {
     if kind == "record" {
         record_in(alloc, value)
@@ -78,7 +78,7 @@ fn change_in(alloc: Global, kind: &str, value: &Value) -> Result<ChangeKind, Bod
 
 #[tactic(auto, unfolding(crate::specs::Proposals::proposal_in))]
 fn proposal_in(alloc: Global, value: &Value) -> Result<Proposal, BodyError>
-    ensures { Gives result (proposal_in (view value.now)) }
+    ensures { ReadsAs result (proposal_in (view value.now)) }
 {
     let Some(name) = string_in(value, "kind") else {
         return Err(BAD);
@@ -92,7 +92,7 @@ fn proposal_in(alloc: Global, value: &Value) -> Result<Proposal, BodyError>
 /// `action`, `severity` from 1 to 5 and `response` in seconds, for `"matrix"` `bands` and `cells`, for `"limit"`
 /// `tag` and `max` in seconds. A table that is not a matrix is reported only if all else is right.
 pub fn read_proposal(alloc: Global, bytes: &[u8]) -> Result<Proposal, BodyError>
-    ensures { Gives result (read_by proposal_in bytes.now) }
+    ensures { ReadsAs result (read_by proposal_in bytes.now) }
 {
     let value = value_in(alloc, bytes)?;
     proposal_in(alloc, &value)

@@ -9,6 +9,10 @@ use Rattle.plant_model.specs.declared.rows.UnitPart.{UnitPart}
 use Rattle.plant_types.specs.Names.{Name}
 use Rattle.plant_types.specs.declared.fault.Fault.{Fault}
 
+-- if the keeper's premise holds as a call ends, it held as it began
+abbrev pub WasHonest : {B : Type 0} → (B → Type 0) → B → B → Type 0
+WasHonest is_honest before after = is_honest after → is_honest before
+
 -- if the call succeeds, and the keeper's premise holds as it ends, it gives this of what the books hold
 abbrev pub Finds : {B A E : Type 0} → (B → Content → Type 0) → (B → Type 0) → B → B → Result A E → (Content → A) → Type 0
 Finds represents is_honest before after said what = (m : Content) → represents before m → is_honest after → IfOk said (λ x. x ≡ what m)

@@ -1,6 +1,5 @@
 pub mod Contents
 pub mod Counting
-pub mod Results
 pub mod Books
 pub mod Asking
 pub mod Listed

@@ -1,6 +1,6 @@
 ghost use Rattle.std.specs.Prelude.{◌≡◌, ℕ};
 ghost use Rattle.std.specs.FinMap as fin;
-ghost use Rattle.plant_books.specs.Books.{CountsBy, Finds, FindsPart, Keeps, KeepsOnErr, Makes};
+ghost use Rattle.plant_books.specs.Books.{CountsBy, Finds, FindsPart, Keeps, KeepsOnErr, Makes, WasHonest};
 ghost use Rattle.plant_books.specs.Contents.{Content, codes_held, events_in, mine_shelves, mine_units, rows_but_events};
 
 use plant_alarm::Event;
@@ -43,7 +43,7 @@ pub trait Books {
         ensures found { Finds represents is_honest self.old self.new result
             (λ m. fin.contains_key m.units unit.now) }
         ensures same { Keeps represents self.old self.new }
-        ensures honest { is_honest self.new → is_honest self.old }
+        ensures honest { WasHonest is_honest self.old self.new }
         ensures count { CountsBy stores self.old self.new result };
 
     /// All rows of the unit, none where it was never opened.
@@ -51,7 +51,7 @@ pub trait Books {
         ensures found { Finds represents is_honest self.old self.new result
             (λ m. fin.get m.units unit.now) }
         ensures same { Keeps represents self.old self.new }
-        ensures honest { is_honest self.new → is_honest self.old }
+        ensures honest { WasHonest is_honest self.old self.new }
         ensures count { CountsBy stores self.old self.new result };
 
     /// All rows of the unit but its events, none where it was never opened.
@@ -59,7 +59,7 @@ pub trait Books {
         ensures found { Finds represents is_honest self.old self.new result
             (λ m. rows_but_events m unit.now) }
         ensures same { Keeps represents self.old self.new }
-        ensures honest { is_honest self.new → is_honest self.old }
+        ensures honest { WasHonest is_honest self.old self.new }
         ensures count { CountsBy stores self.old self.new result };
 
     /// All events of the unit, none where it was never opened.
@@ -67,14 +67,14 @@ pub trait Books {
         ensures found { Finds represents is_honest self.old self.new result
             (λ m. events_in m unit.now) }
         ensures same { Keeps represents self.old self.new }
-        ensures honest { is_honest self.new → is_honest self.old }
+        ensures honest { WasHonest is_honest self.old self.new }
         ensures count { CountsBy stores self.old self.new result };
 
     /// The rows of the unit that the call looks at, none where the unit was never opened or the call names none.
     fn part(&mut self, call: &Call) -> Result<Option<UnitPart>, Fault>
         ensures found { FindsPart represents is_honest self.old self.new call.now result }
         ensures same { Keeps represents self.old self.new }
-        ensures honest { is_honest self.new → is_honest self.old }
+        ensures honest { WasHonest is_honest self.old self.new }
         ensures count { CountsBy stores self.old self.new result };
 
     /// The codes of the units in which the person holds a role at the moment, rising, each once.
@@ -82,7 +82,7 @@ pub trait Books {
         ensures found { Finds represents is_honest self.old self.new result
             (λ m. codes_held m now person.now) }
         ensures same { Keeps represents self.old self.new }
-        ensures honest { is_honest self.new → is_honest self.old }
+        ensures honest { WasHonest is_honest self.old self.new }
         ensures count { CountsBy stores self.old self.new result };
 
     /// The units in which the person holds a role at the moment, rising, each once with its roles by number.
@@ -90,7 +90,7 @@ pub trait Books {
         ensures found { Finds represents is_honest self.old self.new result
             (λ m. mine_units m now person.now) }
         ensures same { Keeps represents self.old self.new }
-        ensures honest { is_honest self.new → is_honest self.old }
+        ensures honest { WasHonest is_honest self.old self.new }
         ensures count { CountsBy stores self.old self.new result };
 
     /// Every shelf of the units in which the person holds a role at the moment, by unit and tag, each once. Shelves whose
@@ -99,13 +99,13 @@ pub trait Books {
         ensures found { Finds represents is_honest self.old self.new result
             (λ m. mine_shelves m now person.now) }
         ensures same { Keeps represents self.old self.new }
-        ensures honest { is_honest self.new → is_honest self.old }
+        ensures honest { WasHonest is_honest self.old self.new }
         ensures count { CountsBy stores self.old self.new result };
 
     /// Makes the changes to this unit's rows in their order: all of them, or none.
     fn apply(&mut self, unit: &UnitCode, changes: &Changes) -> Result<(), Fault>
         ensures made { Makes represents self.old self.new unit.now changes.now result }
         ensures unchanged { KeepsOnErr represents self.old self.new result }
-        ensures honest { is_honest self.new → is_honest self.old }
+        ensures honest { WasHonest is_honest self.old self.new }
         ensures count { CountsBy stores self.old self.new result };
 }

@@ -1,13 +1,12 @@
-ghost use Rattle.std.specs.Prelude.{◌≡◌, ◌∷◌, [], IfErr, IfOk, OnOk};
+ghost use Rattle.std.specs.Prelude.{◌≡◌, ◌∷◌, [], IfOk, OnOk};
 ghost use Rattle.plant_model.specs.RowChanges.{changed_by, removed};
 ghost use Rattle.plant_model.specs.RowFacts.{pair_of, shelf_tag};
 ghost use Rattle.plant_books.specs.Changing.{MakesChange, PutsRow, puts_event, whole};
 ghost use Rattle.plant_books.specs.Found.{without_tag};
 ghost use Rattle.plant_books.specs.Order.{AreInOrder, EventsRise, TagsRise};
-ghost use Rattle.plant_books.specs.Results.{Gives};
+ghost use Rattle.plant_types.specs.Results.{Gives, OnlyMemory};
 ghost use Rattle.plant_types.specs.Roles.{pair_cmp};
 ghost use Rattle.plant_types.specs.KeyedRows.{remove_row};
-ghost use Rattle.plant_types.specs.declared.fault.Fault.TheVariants.{Memory};
 
 use crate::found::remove;
 use crate::keyed::{put, put_sorted};
@@ -28,7 +27,7 @@ pub struct Changing {
 /// The table of the one row.
 fn one_row(alloc: Global, row: UnitRow) -> Result<List<UnitRow>, Fault>
     ensures value { IfOk result (λ rows. rows ≡ row ∷ []) }
-    ensures memory { IfErr result (λ e. e ≡ Memory) }
+    ensures memory { OnlyMemory result }
 {
     let mut rows = List::new(alloc);
     rows.push(row)?;
@@ -40,7 +39,7 @@ fn one_row(alloc: Global, row: UnitRow) -> Result<List<UnitRow>, Fault>
 fn put_row(alloc: Global, changing: &mut Changing, row: Row) -> Result<(), Fault>
     ensures ok { PutsRow row changing.old changing.new result }
     ensures events { OnOk result (changing.new.rows.events ≡ changing.old.rows.events) }
-    ensures memory { IfErr result (λ e. e ≡ Memory) }
+    ensures memory { OnlyMemory result }
 {
     let rows = &mut changing.rows;
     match row {
@@ -97,7 +96,7 @@ fn without(rows: UnitRows, key: &Key) -> UnitRows
 fn after_change(alloc: Global, mut changing: Changing, change: &RowEdit) -> Result<Changing, Fault>
     ensures value { MakesChange change.now changing result }
     ensures events { IfOk result (λ after. after.rows.events ≡ changing.rows.events) }
-    ensures memory { IfErr result (λ e. e ≡ Memory) }
+    ensures memory { OnlyMemory result }
 {
     match change {
         RowEdit::Put(row) => {
@@ -114,7 +113,7 @@ fn after_change(alloc: Global, mut changing: Changing, change: &RowEdit) -> Resu
 /// The rows with the events that wait beside them.
 fn settled(alloc: Global, changing: Changing) -> Result<UnitRows, Fault>
     ensures value { EventsRise changing.rows.events → Gives result (whole changing) }
-    ensures memory { IfErr result (λ e. e ≡ Memory) }
+    ensures memory { OnlyMemory result }
 {
     let Changing { mut rows, fresh } = changing;
     put_events(alloc, &mut rows.events, fresh.as_slice())?;
@@ -136,7 +135,7 @@ pub fn after_changes(
     changes: &List<RowEdit>,
 ) -> Result<UnitRows, Fault>
     ensures value { AreInOrder rows → IfOk result (λ after. after ≡ changed_by changes.now rows) }
-    ensures memory { IfErr result (λ e. e ≡ Memory) }
+    ensures memory { OnlyMemory result }
 {
     let mut after = Changing {
         rows,

@@ -1,13 +1,12 @@
 //! Rows found by their tags, in a table that stands in the order of the tags, and changes by their numbers.
 
-ghost use Rattle.std.specs.Prelude.{◌≡◌, ◌≤◌, IfErr, IfOk, length, option_copied};
+ghost use Rattle.std.specs.Prelude.{◌≡◌, ◌≤◌, IfOk, length, option_copied};
 ghost use Rattle.std.specs.Option.{option_to_list};
 ghost use Rattle.plant_books.specs.Found.{IsPlaceOfNumber, IsPlaceOfTag, change_by_number, changes_in, row_by_tag, rows_wanted, without_tag};
 ghost use Rattle.plant_books.specs.Order.{ChangesRise, TagsRise};
-ghost use Rattle.plant_books.specs.Results.{Gives};
 ghost use Rattle.plant_model.specs.RowFacts.{alarm_tag, record_tag, shelf_tag};
 ghost use Rattle.plant_types.specs.Names.{Name};
-ghost use Rattle.plant_types.specs.declared.fault.Fault.TheVariants.{Memory};
+ghost use Rattle.plant_types.specs.Results.{Gives, OnlyMemory};
 
 use crate::asking::Wanted;
 use plant_model::{AlarmRow, ChangeEntry, RecordEntry, ShelfRow};
@@ -80,7 +79,7 @@ pub fn remove<T: Tagged>(rows: &mut List<T>, tag: &Tag)
 /// A table of a copy of the row, if there is one.
 fn one_copy<T: Tagged + Duplicate>(alloc: Global, row: Option<&T>) -> Result<List<T>, Fault>
     ensures value { IfOk result (λ rows. rows ≡ option_to_list (option_copied row.entry)) }
-    ensures memory { IfErr result (λ e. e ≡ Memory) }
+    ensures memory { OnlyMemory result }
 {
     let mut rows = List::new(alloc);
     if let Some(row) = row {
@@ -96,7 +95,7 @@ pub fn rows_wanted<T: Tagged + Duplicate>(
     wanted: &Wanted<'_>,
 ) -> Result<List<T>, Fault>
     ensures value { TagsRise T.key rows.now → Gives result (rows_wanted T.key wanted.now rows.now) }
-    ensures memory { IfErr result (λ e. e ≡ Memory) }
+    ensures memory { OnlyMemory result }
 {
     match wanted {
         Wanted::Nothing => Ok(List::new(alloc)),
@@ -130,7 +129,7 @@ pub fn changes_of(
     numbers: &BTreeSet<u32>,
 ) -> Result<List<ChangeEntry>, Fault>
     ensures value { ChangesRise changes.now → Gives result (changes_in numbers.now changes.now) }
-    ensures memory { IfErr result (λ e. e ≡ Memory) }
+    ensures memory { OnlyMemory result }
 {
     let mut found = List::new(alloc);
     for number in numbers {

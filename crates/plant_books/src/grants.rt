@@ -1,11 +1,11 @@
-ghost use Rattle.std.specs.Prelude.{◌≡◌, IfErr, IfOk, Some, option_copied};
+ghost use Rattle.std.specs.Prelude.{◌≡◌, IfOk, Some, option_copied};
 ghost use Rattle.plant_books.specs.Contents as contents;
 ghost use Rattle.plant_books.specs.Contents.{is_held_in, roles_in};
 ghost use Rattle.plant_model.specs.Grants as grants;
 ghost use Rattle.plant_model.specs.RowFacts.{held_by, holds_by, pair_of};
+ghost use Rattle.plant_types.specs.Results.{OnlyMemory};
 ghost use Rattle.plant_types.specs.Roles.{pair_cmp, same_pair};
 ghost use Rattle.plant_types.specs.KeyedRows.{row_at};
-ghost use Rattle.plant_types.specs.declared.fault.Fault.TheVariants.{Memory};
 
 use plant_model::{GrantRow, UnitRows};
 use plant_types::{Fault, List, Moment, Person, Role};
@@ -87,7 +87,7 @@ pub fn roles_held(
     now: Moment,
 ) -> Result<List<Role>, Fault>
     ensures value { IfOk result (λ roles. roles ≡ roles_in now person.now rows.now) }
-    ensures memory { IfErr result (λ e. e ≡ Memory) }
+    ensures memory { OnlyMemory result }
 {
     let mut roles = List::new(alloc);
     for grant in rows.grants.as_slice() {

@@ -1,6 +1,6 @@
-ghost use Rattle.std.specs.Prelude.{◌≡◌, IfErr, OnErr, OnOk};
+ghost use Rattle.std.specs.Prelude.{◌≡◌, OnErr, OnOk};
 ghost use Rattle.plant_books.specs.Keyed.{IfSorted, IsPlaceFor, Puts};
-ghost use Rattle.plant_types.specs.declared.fault.Fault.TheVariants.{Memory};
+ghost use Rattle.plant_types.specs.Results.{OnlyMemory};
 
 use plant_types::{Fault, List};
 use std::cmp::Ordering;
@@ -35,7 +35,7 @@ fn place_of<T: Keyed>(rows: &[T], row: &T) -> Result<usize, usize>
 pub fn put<T: Keyed>(rows: &mut List<T>, row: T) -> Result<(), Fault>
     ensures ok { OnOk result (Puts T.order row rows.old rows.new) }
     ensures err { OnErr result (rows.new ≡ rows.old) }
-    ensures memory { IfErr result (λ e. e ≡ Memory) }
+    ensures memory { OnlyMemory result }
 {
     match place_of(rows.as_slice(), &row) {
         Ok(place) => {
@@ -62,7 +62,7 @@ fn sorted_place<T: Keyed>(rows: &[T], row: &T) -> Result<usize, usize>
 pub fn put_sorted<T: Keyed>(rows: &mut List<T>, row: T) -> Result<(), Fault>
     ensures ok { IfSorted T.order rows.old (OnOk result (Puts T.order row rows.old rows.new)) }
     ensures err { OnErr result (rows.new ≡ rows.old) }
-    ensures memory { IfErr result (λ e. e ≡ Memory) }
+    ensures memory { OnlyMemory result }
 {
     match sorted_place(rows.as_slice(), &row) {
         Ok(place) => {

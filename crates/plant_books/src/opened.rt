@@ -1,15 +1,14 @@
-ghost use Rattle.std.specs.Prelude.{◌≡◌, IfErr, IfOk, IfSome, OnErr, OnOk, is_some, option_copied, option_map, unwrap_or};
+ghost use Rattle.std.specs.Prelude.{◌≡◌, IfOk, IfSome, OnErr, OnOk, is_some, option_copied, option_map, unwrap_or};
 ghost use Rattle.plant_books.specs.Contents as contents;
 ghost use Rattle.plant_books.specs.Contents.{AddsShelves, without_events};
 ghost use Rattle.plant_books.specs.Listed.{AllInOrder, listed_after, listed_codes, listed_shelves, listed_units, rows_at};
 ghost use Rattle.plant_books.specs.Order.{AreInOrder, TagsRise};
-ghost use Rattle.plant_books.specs.Results.{Gives};
 ghost use Rattle.plant_model.specs.Parts.{part_of as the_part};
 ghost use Rattle.plant_model.specs.RowChanges.{no_rows};
 ghost use Rattle.plant_model.specs.RowFacts.{alarm_tag, unit_read};
 ghost use Rattle.plant_types.specs.Names.{name_cmp};
 ghost use Rattle.plant_types.specs.KeyedRows.{row_at};
-ghost use Rattle.plant_types.specs.declared.fault.Fault.TheVariants.{Memory};
+ghost use Rattle.plant_types.specs.Results.{Gives, OnlyMemory};
 
 use crate::books::{MineRow, MineUnit};
 use crate::changes::after_changes;
@@ -65,7 +64,7 @@ pub fn copy_of(
     unit: &UnitCode,
 ) -> Result<Option<UnitRows>, Fault>
     ensures value { IfOk result (λ rows. rows ≡ rows_at units.now unit.now) }
-    ensures memory { IfErr result (λ e. e ≡ Memory) }
+    ensures memory { OnlyMemory result }
 {
     match rows_of(units, unit) {
         None => Ok(None),
@@ -80,7 +79,7 @@ pub fn copy_but_events(
     unit: &UnitCode,
 ) -> Result<Option<UnitRows>, Fault>
     ensures value { Gives result (option_map without_events (rows_at units.now unit.now)) }
-    ensures memory { IfErr result (λ e. e ≡ Memory) }
+    ensures memory { OnlyMemory result }
 {
     match rows_of(units, unit) {
         None => Ok(None),
@@ -95,7 +94,7 @@ pub fn events_of(
     unit: &UnitCode,
 ) -> Result<List<Event>, Fault>
     ensures value { Gives result (unwrap_or (rows_at units.now unit.now) no_rows).events }
-    ensures memory { IfErr result (λ e. e ≡ Memory) }
+    ensures memory { OnlyMemory result }
 {
     match rows_of(units, unit) {
         None => Ok(List::new(alloc)),
@@ -112,7 +111,7 @@ pub fn part_at(
 ) -> Result<Option<UnitPart>, Fault>
     ensures value { IfSome (rows_at units.now unit.now) AreInOrder
         → Gives result (option_map (the_part call.now) (rows_at units.now unit.now)) }
-    ensures memory { IfErr result (λ e. e ≡ Memory) }
+    ensures memory { OnlyMemory result }
 {
     match rows_of(units, unit) {
         None => Ok(None),
@@ -138,7 +137,7 @@ pub fn codes_held(
     now: Moment,
 ) -> Result<List<UnitCode>, Fault>
     ensures value { Gives result (listed_codes units.now now person.now) }
-    ensures memory { IfErr result (λ e. e ≡ Memory) }
+    ensures memory { OnlyMemory result }
 {
     let mut codes = List::new(alloc);
     for opened in units.as_slice() {
@@ -157,7 +156,7 @@ pub fn units_held(
     now: Moment,
 ) -> Result<List<MineUnit>, Fault>
     ensures value { Gives result (listed_units units.now now person.now) }
-    ensures memory { IfErr result (λ e. e ≡ Memory) }
+    ensures memory { OnlyMemory result }
 {
     let mut mine = List::new(alloc);
     for opened in units.as_slice() {
@@ -207,7 +206,7 @@ pub fn push_shelves(
     rows: &UnitRows,
 ) -> Result<(), Fault>
     ensures pushed { AreInOrder rows.now → AddsShelves unit.now rows.now mine.old mine.new result }
-    ensures memory { IfErr result (λ e. e ≡ Memory) }
+    ensures memory { OnlyMemory result }
 {
     let alarms = rows.alarms.as_slice();
     for shelf in rows.shelves.as_slice() {
@@ -228,7 +227,7 @@ pub fn shelves_held(
     now: Moment,
 ) -> Result<List<MineRow>, Fault>
     ensures value { AllInOrder units.now → Gives result (listed_shelves units.now now person.now) }
-    ensures memory { IfErr result (λ e. e ≡ Memory) }
+    ensures memory { OnlyMemory result }
 {
     let mut mine = List::new(alloc);
     for opened in units.as_slice() {
@@ -250,7 +249,7 @@ pub fn change_unit(
     ensures made { AllInOrder units.old
         → OnOk result (units.new ≡ listed_after units.old unit.now changes.now) }
     ensures unchanged { OnErr result (units.new ≡ units.old) }
-    ensures memory { IfErr result (λ e. e ≡ Memory) }
+    ensures memory { OnlyMemory result }
 {
     let rows = copy_of(alloc, units, unit)?.unwrap_or(UnitRows::none(alloc));
     let opened = OpenedUnit {

@@ -1,13 +1,12 @@
-ghost use Rattle.std.specs.Prelude.{◌≡◌, IfErr, IfOk, false, filter, option_copied, true};
+ghost use Rattle.std.specs.Prelude.{◌≡◌, IfOk, false, filter, option_copied, true};
 ghost use Rattle.plant_books.specs.Asking.{AreSources, GivesNumbers, IsApprovedBy, TakesNoMatrix, bands_by, cells_by, changes_by, events_wanted, grants_by, is_shelving as is_shelving_by, is_wanted, rows_by, selection_by};
 ghost use Rattle.plant_books.specs.Contents.{without_events};
 ghost use Rattle.plant_books.specs.Order.{AreInOrder, ChangesRise, EventsRise};
-ghost use Rattle.plant_books.specs.Results.{Gives};
 ghost use Rattle.plant_model.specs.Parts.{counted_for, is_crowded as is_crowded_in, part_of as the_part, part_of_holder as holders_part, selected};
 ghost use Rattle.plant_model.specs.RowChanges.{no_rows};
 ghost use Rattle.plant_model.specs.RowFacts.{last_number as last_number_of, unit_read};
 ghost use Rattle.plant_types.specs.Names.{same_name};
-ghost use Rattle.plant_types.specs.declared.fault.Fault.TheVariants.{Memory};
+ghost use Rattle.plant_types.specs.Results.{Gives, OnlyMemory};
 
 use crate::asking::{
     Scope, Wanted, WantedEvents, is_crowded, is_number, is_shelving, number_approved, scope_of,
@@ -29,7 +28,7 @@ use std::collections::BTreeSet;
 /// A copy of the rows of a unit but its events.
 pub fn rows_but_events(alloc: Global, rows: &UnitRows) -> Result<UnitRows, Fault>
     ensures value { IfOk result (λ copy. copy ≡ without_events rows.now) }
-    ensures memory { IfErr result (λ e. e ≡ Memory) }
+    ensures memory { OnlyMemory result }
 {
     Ok(UnitRows {
         units: rows.units.duplicate(alloc)?,
@@ -52,7 +51,7 @@ fn grants_asked(
     scope: Scope<'_>,
 ) -> Result<List<GrantRow>, Fault>
     ensures value { Gives result (grants_by person.now rows.now scope.entry) }
-    ensures memory { IfErr result (λ e. e ≡ Memory) }
+    ensures memory { OnlyMemory result }
 {
     let all = wants_all_grants(scope);
     let mut asked = List::new(alloc);
@@ -71,7 +70,7 @@ pub fn events_asked(
     wanted: WantedEvents<'_>,
 ) -> Result<List<Event>, Fault>
     ensures value { EventsRise events.now → Gives result (events_wanted wanted.entry events.now) }
-    ensures memory { IfErr result (λ e. e ≡ Memory) }
+    ensures memory { OnlyMemory result }
 {
     match wanted {
         WantedEvents::Nothing => Ok(List::new(alloc)),
@@ -108,7 +107,7 @@ fn wants_some_matrix(scope: Scope<'_>) -> bool
 /// The limits of the matrices that the scope takes in.
 fn bands_asked(alloc: Global, rows: &UnitRows, scope: Scope<'_>) -> Result<List<BandRow>, Fault>
     ensures value { Gives result (bands_by rows.now scope.entry) }
-    ensures memory { IfErr result (λ e. e ≡ Memory) }
+    ensures memory { OnlyMemory result }
 {
     let mut asked = List::new(alloc);
     if !wants_some_matrix(scope) {
@@ -125,7 +124,7 @@ fn bands_asked(alloc: Global, rows: &UnitRows, scope: Scope<'_>) -> Result<List<
 /// The cells of the matrices that the scope takes in.
 fn cells_asked(alloc: Global, rows: &UnitRows, scope: Scope<'_>) -> Result<List<CellRow>, Fault>
     ensures value { Gives result (cells_by rows.now scope.entry) }
-    ensures memory { IfErr result (λ e. e ≡ Memory) }
+    ensures memory { OnlyMemory result }
 {
     let mut asked = List::new(alloc);
     if !wants_some_matrix(scope) {
@@ -146,7 +145,7 @@ fn sources(
     wanted: &Wanted<'_>,
 ) -> Result<BTreeSet<u32>, Fault>
     ensures value { IfOk result (λ numbers. AreSources numbers (is_wanted wanted.now) records.now) }
-    ensures memory { IfErr result (λ e. e ≡ Memory) }
+    ensures memory { OnlyMemory result }
 {
     let mut numbers = BTreeSet::new(alloc);
     for record in records {
@@ -164,7 +163,7 @@ fn numbers_asked(
     scope: Scope<'_>,
 ) -> Result<BTreeSet<u32>, Fault>
     ensures value { GivesNumbers scope.entry records.now result }
-    ensures memory { IfErr result (λ e. e ≡ Memory) }
+    ensures memory { OnlyMemory result }
 {
     let mut numbers = if wants_sources(scope) {
         sources(alloc, records, &wanted_records(scope))?
@@ -184,7 +183,7 @@ fn changes_asked(
     scope: Scope<'_>,
 ) -> Result<List<ChangeEntry>, Fault>
     ensures value { ChangesRise rows.now.changes → Gives result (changes_by rows.now scope.entry) }
-    ensures memory { IfErr result (λ e. e ≡ Memory) }
+    ensures memory { OnlyMemory result }
 {
     let numbers = numbers_asked(alloc, rows.records.as_slice(), scope)?;
     changes_of(alloc, rows.changes.as_slice(), &numbers)
@@ -198,7 +197,7 @@ fn rows_asked(
     scope: Scope<'_>,
 ) -> Result<UnitRows, Fault>
     ensures value { AreInOrder rows.now → Gives result (rows_by person.now rows.now scope.entry) }
-    ensures memory { IfErr result (λ e. e ≡ Memory) }
+    ensures memory { OnlyMemory result }
 {
     Ok(UnitRows {
         units: rows.units.duplicate(alloc)?,
@@ -266,7 +265,7 @@ fn count_asked(rows: &UnitRows, call: &Call) -> u64
 /// The part of a caller who holds a role.
 fn part_of_holder(alloc: Global, rows: &UnitRows, call: &Call) -> Result<UnitPart, Fault>
     ensures value { AreInOrder rows.now → Gives result (holders_part call.now rows.now) }
-    ensures memory { IfErr result (λ e. e ≡ Memory) }
+    ensures memory { OnlyMemory result }
 {
     Ok(UnitPart {
         rows: rows_asked(alloc, rows, &call.person, scope_in(rows, &call.request))?,
@@ -281,7 +280,7 @@ fn own_grants(
     person: &Person,
 ) -> Result<List<GrantRow>, Fault>
     ensures value { Gives result (filter (λ g. same_name person.now g.person) grants.now) }
-    ensures memory { IfErr result (λ e. e ≡ Memory) }
+    ensures memory { OnlyMemory result }
 {
     let mut own = List::new(alloc);
     for grant in grants.as_slice() {
@@ -317,7 +316,7 @@ pub fn part_of_grants(alloc: Global, units: List<UnitRow>, grants: List<GrantRow
 /// caller's grants alone.
 pub fn part_of(alloc: Global, rows: &UnitRows, call: &Call) -> Result<UnitPart, Fault>
     ensures value { AreInOrder rows.now → Gives result (the_part call.now rows.now) }
-    ensures memory { IfErr result (λ e. e ≡ Memory) }
+    ensures memory { OnlyMemory result }
 {
     if holds_some_by(rows.grants.as_slice(), &call.person, call.moment) {
         return part_of_holder(alloc, rows, call);

@@ -35,6 +35,6 @@ abbrev pub Fails : {A : Type 0} → CallError → Result A Cause → Type 0
 Fails Memory given = Unit {0}
 Fails (Because cause) given = given ≡ Err cause
 
-abbrev pub Gives : {A : Type 0} → Result A CallError → Result A Cause → Type 0
-Gives (Ok x) given = given ≡ Ok x
-Gives (Err e) given = Fails e given
+abbrev pub ReadsAs : {A : Type 0} → Result A CallError → Result A Cause → Type 0
+ReadsAs (Ok x) given = given ≡ Ok x
+ReadsAs (Err e) given = Fails e given

@@ -1,5 +1,5 @@
 ghost use Rattle.std.specs.Prelude.{◌≡◌};
-ghost use Rattle.plant_call.specs.Causes.{Gives};
+ghost use Rattle.plant_call.specs.Causes.{ReadsAs};
 ghost use Rattle.plant_call.specs.Path.{until_slash, after_slash, after_slashes, segment, unit_in, tag_in, moment_at, begin_in, until_in, is_change_number, change_number_of, number_in};
 
 use crate::causes::{CallError, Cause};
@@ -32,7 +32,7 @@ fn segment(path: &[u8], n: usize) -> &[u8]
 
 /// The unit that the path names.
 pub(crate) fn unit_in(alloc: Global, path: &[u8]) -> Result<UnitCode, CallError>
-    ensures { Gives result (unit_in path.now) }
+    ensures { ReadsAs result (unit_in path.now) }
 {
     match UnitCode::read(alloc, segment(path, 2))? {
         Some(unit) => Ok(unit),
@@ -42,7 +42,7 @@ pub(crate) fn unit_in(alloc: Global, path: &[u8]) -> Result<UnitCode, CallError>
 
 /// The tag that the path names.
 pub(crate) fn tag_in(alloc: Global, path: &[u8]) -> Result<Tag, CallError>
-    ensures { Gives result (tag_in path.now) }
+    ensures { ReadsAs result (tag_in path.now) }
 {
     match Tag::read(alloc, segment(path, 4))? {
         Some(tag) => Ok(tag),
@@ -51,7 +51,7 @@ pub(crate) fn tag_in(alloc: Global, path: &[u8]) -> Result<Tag, CallError>
 }
 
 fn moment_at(path: &[u8], n: usize) -> Result<Moment, CallError>
-    ensures { Gives result (moment_at n path.now) }
+    ensures { ReadsAs result (moment_at n path.now) }
 {
     match Moment::read(segment(path, n)) {
         Some(moment) => Ok(moment),
@@ -61,14 +61,14 @@ fn moment_at(path: &[u8], n: usize) -> Result<Moment, CallError>
 
 /// The moment with which the range begins that the path names.
 pub(crate) fn begin_in(path: &[u8]) -> Result<Moment, CallError>
-    ensures { Gives result (begin_in path.now) }
+    ensures { ReadsAs result (begin_in path.now) }
 {
     moment_at(path, 4)
 }
 
 /// The moment before which the range ends that the path names.
 pub(crate) fn until_in(path: &[u8]) -> Result<Moment, CallError>
-    ensures { Gives result (until_in path.now) }
+    ensures { ReadsAs result (until_in path.now) }
 {
     moment_at(path, 5)
 }
@@ -92,7 +92,7 @@ fn change_number_of(text: &[u8]) -> Option<u32>
 
 /// The number of a change that the path names.
 pub(crate) fn number_in(path: &[u8]) -> Result<u32, CallError>
-    ensures { Gives result (number_in path.now) }
+    ensures { ReadsAs result (number_in path.now) }
 {
     match change_number_of(segment(path, 4)) {
         Some(number) => Ok(number),

@@ -7,7 +7,7 @@ ghost use Rattle.plant_model.specs.declared.kinds.CallKind.TheVariants as kind;
 ghost use Rattle.plant_body.specs.declared.members.Unfit.{Unfit};
 ghost use Rattle.plant_body.specs.Members as body;
 ghost use Rattle.plant_call.specs.declared.causes.Cause.TheVariants.{NoRoute};
-ghost use Rattle.plant_call.specs.Causes.{Gives, of_body};
+ghost use Rattle.plant_call.specs.Causes.{ReadsAs, of_body};
 ghost use Rattle.plant_call.specs.Reading.{person_said, moment_said, request_in, call_in};
 ghost use Rattle.std.specs.Prelude.{Result};
 
@@ -28,7 +28,7 @@ use std::alloc::Global;
 
 /// What a body gives, with the error of a call.
 fn of_body<T>(read: Result<T, BodyError>) -> Result<T, CallError>
-    ensures { (given : Result T Unfit) → body.Gives read given → Gives result (of_body given) }
+    ensures { (given : Result T Unfit) → body.ReadsAs read given → ReadsAs result (of_body given) }
 {
     match read {
         Ok(value) => Ok(value),
@@ -38,7 +38,7 @@ fn of_body<T>(read: Result<T, BodyError>) -> Result<T, CallError>
 
 fn person_in(alloc: Global, front: &[u8], headers: &[HeaderSpan]) -> Result<Person, CallError>
     requires { All (IsHeaderWithin (length front.now)) headers.now }
-    ensures { Gives result (person_said
+    ensures { ReadsAs result (person_said
         (values_named (codes "x-person") (map (header_bytes front.now) headers.now))) }
 {
     let Lookup::Once(text) = field(front, headers, b"x-person") else {
@@ -52,7 +52,7 @@ fn person_in(alloc: Global, front: &[u8], headers: &[HeaderSpan]) -> Result<Pers
 
 fn moment_in(front: &[u8], headers: &[HeaderSpan]) -> Result<Moment, CallError>
     requires { All (IsHeaderWithin (length front.now)) headers.now }
-    ensures { Gives result (moment_said
+    ensures { ReadsAs result (moment_said
         (values_named (codes "x-moment") (map (header_bytes front.now) headers.now))) }
 {
     let Lookup::Once(text) = field(front, headers, b"x-moment") else {
@@ -66,7 +66,7 @@ fn moment_in(front: &[u8], headers: &[HeaderSpan]) -> Result<Moment, CallError>
 
 #[tactic(auto, unfolding(crate::specs::Reading::request_in))]
 fn open_unit(alloc: Global, path: &[u8], body: &[u8]) -> Result<Request, CallError>
-    ensures { Gives result (request_in kind.OpenUnit path.now body.now) }
+    ensures { ReadsAs result (request_in kind.OpenUnit path.now body.now) }
 {
     let unit = unit_in(alloc, path)?;
     let Opening {
@@ -84,7 +84,7 @@ fn open_unit(alloc: Global, path: &[u8], body: &[u8]) -> Result<Request, CallErr
 
 #[tactic(auto, unfolding(crate::specs::Reading::request_in))]
 fn grant(alloc: Global, path: &[u8], body: &[u8]) -> Result<Request, CallError>
-    ensures { Gives result (request_in kind.Grant path.now body.now) }
+    ensures { ReadsAs result (request_in kind.Grant path.now body.now) }
 {
     let unit = unit_in(alloc, path)?;
     let Granting { person, tenure } = of_body(read_granting(alloc, body))?;
@@ -97,7 +97,7 @@ fn grant(alloc: Global, path: &[u8], body: &[u8]) -> Result<Request, CallError>
 
 #[tactic(auto, unfolding(crate::specs::Reading::request_in))]
 fn withdraw(alloc: Global, path: &[u8], body: &[u8]) -> Result<Request, CallError>
-    ensures { Gives result (request_in kind.Withdraw path.now body.now) }
+    ensures { ReadsAs result (request_in kind.Withdraw path.now body.now) }
 {
     let unit = unit_in(alloc, path)?;
     let Withdrawal { person, role } = of_body(read_withdrawal(alloc, body))?;
@@ -106,7 +106,7 @@ fn withdraw(alloc: Global, path: &[u8], body: &[u8]) -> Result<Request, CallErro
 
 #[tactic(auto, unfolding(crate::specs::Reading::request_in))]
 fn register(alloc: Global, path: &[u8], body: &[u8]) -> Result<Request, CallError>
-    ensures { Gives result (request_in kind.Register path.now body.now) }
+    ensures { ReadsAs result (request_in kind.Register path.now body.now) }
 {
     let unit = unit_in(alloc, path)?;
     let Registration { tag, latching, max } = of_body(read_registration(alloc, body))?;
@@ -121,7 +121,7 @@ fn register(alloc: Global, path: &[u8], body: &[u8]) -> Result<Request, CallErro
 /// The body is a file. One with a fault is a call as well; the office reports the fault.
 #[tactic(auto, unfolding(crate::specs::Reading::request_in))]
 fn import(alloc: Global, path: &[u8], body: &[u8]) -> Result<Request, CallError>
-    ensures { Gives result (request_in kind.Import path.now body.now) }
+    ensures { ReadsAs result (request_in kind.Import path.now body.now) }
 {
     let unit = unit_in(alloc, path)?;
     let file = read_file(alloc, body)?;
@@ -130,7 +130,7 @@ fn import(alloc: Global, path: &[u8], body: &[u8]) -> Result<Request, CallError>
 
 #[tactic(auto, unfolding(crate::specs::Reading::request_in))]
 fn timed_shelve(alloc: Global, path: &[u8], body: &[u8]) -> Result<Request, CallError>
-    ensures { Gives result (request_in kind.TimedShelve path.now body.now) }
+    ensures { ReadsAs result (request_in kind.TimedShelve path.now body.now) }
 {
     let unit = unit_in(alloc, path)?;
     let tag = tag_in(alloc, path)?;
@@ -145,7 +145,7 @@ fn timed_shelve(alloc: Global, path: &[u8], body: &[u8]) -> Result<Request, Call
 
 #[tactic(auto, unfolding(crate::specs::Reading::request_in))]
 fn one_shot_shelve(alloc: Global, path: &[u8], body: &[u8]) -> Result<Request, CallError>
-    ensures { Gives result (request_in kind.OneShotShelve path.now body.now) }
+    ensures { ReadsAs result (request_in kind.OneShotShelve path.now body.now) }
 {
     let unit = unit_in(alloc, path)?;
     let tag = tag_in(alloc, path)?;
@@ -155,7 +155,7 @@ fn one_shot_shelve(alloc: Global, path: &[u8], body: &[u8]) -> Result<Request, C
 
 #[tactic(auto, unfolding(crate::specs::Reading::request_in))]
 fn remove_from_service(alloc: Global, path: &[u8], body: &[u8]) -> Result<Request, CallError>
-    ensures { Gives result (request_in kind.RemoveFromService path.now body.now) }
+    ensures { ReadsAs result (request_in kind.RemoveFromService path.now body.now) }
 {
     let unit = unit_in(alloc, path)?;
     let tag = tag_in(alloc, path)?;
@@ -165,7 +165,7 @@ fn remove_from_service(alloc: Global, path: &[u8], body: &[u8]) -> Result<Reques
 
 #[tactic(auto, unfolding(crate::specs::Reading::request_in))]
 fn propose(alloc: Global, path: &[u8], body: &[u8]) -> Result<Request, CallError>
-    ensures { Gives result (request_in kind.Propose path.now body.now) }
+    ensures { ReadsAs result (request_in kind.Propose path.now body.now) }
 {
     let unit = unit_in(alloc, path)?;
     let proposal = of_body(read_proposal(alloc, body))?;
@@ -174,7 +174,7 @@ fn propose(alloc: Global, path: &[u8], body: &[u8]) -> Result<Request, CallError
 
 #[tactic(auto, unfolding(crate::specs::Reading::request_in))]
 fn request_in(alloc: Global, kind: CallKind, path: &[u8], body: &[u8]) -> Result<Request, CallError>
-    ensures { Gives result (request_in kind path.now body.now) }
+    ensures { ReadsAs result (request_in kind path.now body.now) }
 {
     match kind {
         CallKind::OpenUnit => open_unit(alloc, path, body),
@@ -238,7 +238,7 @@ fn request_in(alloc: Global, kind: CallKind, path: &[u8], body: &[u8]) -> Result
 }
 
 fn route_in(routes: &Routes, method: &[u8], target: &[u8]) -> Result<CallKind, CallError>
-    ensures { Gives result (ok_or (route_of method.now target.now) NoRoute) }
+    ensures { ReadsAs result (ok_or (route_of method.now target.now) NoRoute) }
 {
     match routes.of(method, target) {
         Some(kind) => Ok(kind),
@@ -258,7 +258,7 @@ pub(crate) fn call_in(
     body: &[u8],
 ) -> Result<Call, CallError>
     requires { All (IsHeaderWithin (length front.now)) headers.now }
-    ensures { Gives result (call_in method.now target.now
+    ensures { ReadsAs result (call_in method.now target.now
         (map (header_bytes front.now) headers.now) body.now) }
 {
     let kind = route_in(routes, method, target)?;

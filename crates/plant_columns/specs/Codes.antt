@@ -1,9 +1,10 @@
 -- Typed values as the values of columns, and back. A column that holds a value outside its set is read as some value of
 -- it here: the reading code answers a fault there.
 use Rattle.sqlite.specs.Values.{or_null}
+use Rattle.sqlite_value.specs.Order.{Row, column}
 use Rattle.sqlite_value.specs.declared.value.Value.{Value}
 use Rattle.sqlite_value.specs.declared.value.Value.TheVariants.{Int, Text}
-use Rattle.std.specs.Prelude.{Bool, List, None, Option, Some, if◌then◌else◌, pos, ℕ, ◌==◌}
+use Rattle.std.specs.Prelude.{Bool, IfOk, List, None, Option, Result, Some, if◌then◌else◌, pos, ℕ, ◌==◌, ◌≡◌}
 use Rattle.plant_alarm.specs.declared.event.EventKind.{EventKind}
 use Rattle.plant_alarm.specs.declared.event.EventKind.TheVariants.{Ack, Act, Reset, Rtn, Sup, Unsup}
 use Rattle.plant_alarm.specs.declared.summary.AlarmState.{AlarmState}
@@ -17,6 +18,10 @@ use Rattle.plant_ration.specs.declared.change.ChangeState.TheVariants.{Approved,
 use Rattle.plant_types.specs.declared.role.Role.{Role}
 use Rattle.plant_types.specs.declared.role.Role.TheVariants.{Approver, Engineer, Maintainer, Operator, Steward, Viewer}
 use Rattle.plant_types.specs.Roles.{role_no}
+
+-- what a column is read as, if it is read, is what it has
+abbrev pub ReadsColumn : {A E : Type 0} → (A → Value) → Row → ℕ → Result A E → Type 0
+ReadsColumn coded row at said = IfOk said (λ x. column row at ≡ coded x)
 
 -- a number, and a number or a text that may be missing
 abbrev pub number : ℕ → Value

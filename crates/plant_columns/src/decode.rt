@@ -5,6 +5,7 @@ ghost use Rattle.sqlite_value.specs.Order.{column, Row as SqlRow};
 ghost use Rattle.sqlite_value.specs.declared.value.Value.TheVariants.{Text as TextValue};
 ghost use Rattle.plant_columns.specs.Causes.{IsNoMemory, MemoryIsOfText};
 ghost use Rattle.plant_columns.specs.Codes as codes;
+ghost use Rattle.plant_columns.specs.Codes.{ReadsColumn};
 ghost use Rattle.plant_columns.specs.Shown.{columns};
 ghost use Rattle.plant_types.specs.Text.{is_text};
 ghost use Rattle.plant_columns.specs.Tables.{unit_shape, grant_shape, alarm_shape, shelf_shape, band_shape, cell_shape, event_shape, record_shape, change_shape};
@@ -32,7 +33,7 @@ fn text_of<C: Alphabet>(alloc: Global, bytes: &[u8], at: usize) -> Result<Text<C
 }
 
 pub fn text<C: Alphabet>(alloc: Global, row: &Row, at: usize) -> Result<Text<C>, Error>
-    ensures value { IfOk result (λ t. column row.now at ≡ TextValue t) }
+    ensures value { ReadsColumn TextValue row.now at result }
     ensures cause { IfErr result (MemoryIsOfText C.admits C.longest (column row.now at)) }
 {
     match row.get_ref(at)? {
@@ -42,7 +43,7 @@ pub fn text<C: Alphabet>(alloc: Global, row: &Row, at: usize) -> Result<Text<C>,
 }
 
 fn open_text<C: Alphabet>(alloc: Global, row: &Row, at: usize) -> Result<Option<Text<C>>, Error>
-    ensures value { IfOk result (λ t. column row.now at ≡ codes.open_text t) }
+    ensures value { ReadsColumn codes.open_text row.now at result }
     ensures cause { IfErr result (MemoryIsOfText C.admits C.longest (column row.now at)) }
 {
     if let ValueRef::Null = row.get_ref(at)? {
@@ -52,7 +53,7 @@ fn open_text<C: Alphabet>(alloc: Global, row: &Row, at: usize) -> Result<Option<
 }
 
 pub fn wide(row: &Row, at: usize) -> Result<u64, Error>
-    ensures value { IfOk result (λ n. column row.now at ≡ codes.number n) }
+    ensures value { ReadsColumn codes.number row.now at result }
     ensures cause { IfErr result IsNoMemory }
 {
     match row.get_ref(at)? {
@@ -65,7 +66,7 @@ pub fn wide(row: &Row, at: usize) -> Result<u64, Error>
 }
 
 pub fn number(row: &Row, at: usize) -> Result<u32, Error>
-    ensures value { IfOk result (λ n. column row.now at ≡ codes.number n) }
+    ensures value { ReadsColumn codes.number row.now at result }
     ensures cause { IfErr result IsNoMemory }
 {
     match u32::try_from(wide(row, at)?) {
@@ -75,7 +76,7 @@ pub fn number(row: &Row, at: usize) -> Result<u32, Error>
 }
 
 fn small(row: &Row, at: usize) -> Result<u8, Error>
-    ensures value { IfOk result (λ n. column row.now at ≡ codes.number n) }
+    ensures value { ReadsColumn codes.number row.now at result }
     ensures cause { IfErr result IsNoMemory }
 {
     match u8::try_from(number(row, at)?) {
@@ -95,14 +96,14 @@ fn moment_of(seconds: u64, at: usize) -> Result<Moment, Error>
 }
 
 pub fn moment(row: &Row, at: usize) -> Result<Moment, Error>
-    ensures value { IfOk result (λ m. column row.now at ≡ codes.number m) }
+    ensures value { ReadsColumn codes.number row.now at result }
     ensures cause { IfErr result IsNoMemory }
 {
     moment_of(wide(row, at)?, at)
 }
 
 pub fn open_moment(row: &Row, at: usize) -> Result<Option<Moment>, Error>
-    ensures value { IfOk result (λ m. column row.now at ≡ codes.open_number m) }
+    ensures value { ReadsColumn codes.open_number row.now at result }
     ensures cause { IfErr result IsNoMemory }
 {
     match row.get_ref(at)? {
@@ -112,7 +113,7 @@ pub fn open_moment(row: &Row, at: usize) -> Result<Option<Moment>, Error>
 }
 
 fn seconds(row: &Row, at: usize) -> Result<Seconds, Error>
-    ensures value { IfOk result (λ n. column row.now at ≡ codes.number n) }
+    ensures value { ReadsColumn codes.number row.now at result }
     ensures cause { IfErr result IsNoMemory }
 {
     match Seconds::new(wide(row, at)?) {
@@ -122,7 +123,7 @@ fn seconds(row: &Row, at: usize) -> Result<Seconds, Error>
 }
 
 fn open_small(row: &Row, at: usize) -> Result<Option<u8>, Error>
-    ensures value { IfOk result (λ n. column row.now at ≡ codes.open_number n) }
+    ensures value { ReadsColumn codes.open_number row.now at result }
     ensures cause { IfErr result IsNoMemory }
 {
     if let ValueRef::Null = row.get_ref(at)? {
@@ -132,7 +133,7 @@ fn open_small(row: &Row, at: usize) -> Result<Option<u8>, Error>
 }
 
 fn open_seconds(row: &Row, at: usize) -> Result<Option<Seconds>, Error>
-    ensures value { IfOk result (λ n. column row.now at ≡ codes.open_number n) }
+    ensures value { ReadsColumn codes.open_number row.now at result }
     ensures cause { IfErr result IsNoMemory }
 {
     if let ValueRef::Null = row.get_ref(at)? {
@@ -142,7 +143,7 @@ fn open_seconds(row: &Row, at: usize) -> Result<Option<Seconds>, Error>
 }
 
 fn quota(row: &Row, at: usize) -> Result<Quota, Error>
-    ensures value { IfOk result (λ n. column row.now at ≡ codes.number n) }
+    ensures value { ReadsColumn codes.number row.now at result }
     ensures cause { IfErr result IsNoMemory }
 {
     match Quota::new(wide(row, at)?) {
@@ -152,7 +153,7 @@ fn quota(row: &Row, at: usize) -> Result<Quota, Error>
 }
 
 pub fn flag(row: &Row, at: usize) -> Result<bool, Error>
-    ensures value { IfOk result (λ b. column row.now at ≡ codes.flag b) }
+    ensures value { ReadsColumn codes.flag row.now at result }
     ensures cause { IfErr result IsNoMemory }
 {
     match number(row, at)? {
@@ -163,7 +164,7 @@ pub fn flag(row: &Row, at: usize) -> Result<bool, Error>
 }
 
 pub fn role(row: &Row, at: usize) -> Result<Role, Error>
-    ensures value { IfOk result (λ r. column row.now at ≡ codes.role r) }
+    ensures value { ReadsColumn codes.role row.now at result }
     ensures cause { IfErr result IsNoMemory }
 {
     match number(row, at)? {
@@ -178,7 +179,7 @@ pub fn role(row: &Row, at: usize) -> Result<Role, Error>
 }
 
 fn state(row: &Row, at: usize) -> Result<AlarmState, Error>
-    ensures value { IfOk result (λ s. column row.now at ≡ codes.alarm_state s) }
+    ensures value { ReadsColumn codes.alarm_state row.now at result }
     ensures cause { IfErr result IsNoMemory }
 {
     match number(row, at)? {
@@ -193,7 +194,7 @@ fn state(row: &Row, at: usize) -> Result<AlarmState, Error>
 }
 
 fn event_number(row: &Row, at: usize) -> Result<Number, Error>
-    ensures value { IfOk result (λ n. column row.now at ≡ codes.number n) }
+    ensures value { ReadsColumn codes.number row.now at result }
     ensures cause { IfErr result IsNoMemory }
 {
     match Number::new(wide(row, at)?) {
@@ -203,7 +204,7 @@ fn event_number(row: &Row, at: usize) -> Result<Number, Error>
 }
 
 fn kind(row: &Row, at: usize) -> Result<EventKind, Error>
-    ensures value { IfOk result (λ k. column row.now at ≡ codes.kind k) }
+    ensures value { ReadsColumn codes.kind row.now at result }
     ensures cause { IfErr result IsNoMemory }
 {
     match number(row, at)? {
@@ -218,7 +219,7 @@ fn kind(row: &Row, at: usize) -> Result<EventKind, Error>
 }
 
 fn topic(row: &Row, at: usize) -> Result<ChangeTopic, Error>
-    ensures value { IfOk result (λ t. column row.now at ≡ codes.topic t) }
+    ensures value { ReadsColumn codes.topic row.now at result }
     ensures cause { IfErr result IsNoMemory }
 {
     match number(row, at)? {
@@ -230,7 +231,7 @@ fn topic(row: &Row, at: usize) -> Result<ChangeTopic, Error>
 }
 
 fn change_state(row: &Row, at: usize) -> Result<ChangeState, Error>
-    ensures value { IfOk result (λ s. column row.now at ≡ codes.change_state s) }
+    ensures value { ReadsColumn codes.change_state row.now at result }
     ensures cause { IfErr result IsNoMemory }
 {
     match number(row, at)? {
@@ -243,7 +244,7 @@ fn change_state(row: &Row, at: usize) -> Result<ChangeState, Error>
 }
 
 fn cell(row: &Row, at: usize) -> Result<Cell, Error>
-    ensures value { IfOk result (λ c. column row.now at ≡ codes.cell c) }
+    ensures value { ReadsColumn codes.cell row.now at result }
     ensures cause { IfErr result IsNoMemory }
 {
     match number(row, at)? {

@@ -10,14 +10,14 @@ use Rattle.plant_wire.specs.Causes.{cause_text}
 use Rattle.plant_wire.specs.Marks.{answers_of, calls_of, last_marks, last_text, out_of}
 use Rattle.plant_wire.specs.Ran.{Ran}
 use Rattle.plant_wire.specs.Session.{IsCutShort, IsSession}
-use Rattle.plant_wire.specs.Step.{Serves, ServesBroken, ServesPart}
+use Rattle.plant_wire.specs.Step.{AnswersFront, ServesBroken, ServesPart}
 use Rattle.plant_wire.specs.declared.reads.End.{End}
 use Rattle.plant_wire.specs.declared.reads.End.TheVariants.{BrokenInput, Closed, Fault, ReadFailed, WriteFailed}
 use Rattle.plant_connections.specs.Connections.{IsConnection, Tells, line_of}
 
 module _ {o o' : Option (List ℕ)} {ran : List Call → List Answer → Type 0} where
   -- the same over a writer that held nothing before, whose bytes are known
-  whole : {bytes rest : List ℕ} → (s : Serves bytes o o' ran rest) → Serves bytes (Some []) (Some (out_of s.marks)) ran rest
+  whole : {bytes rest : List ℕ} → (s : AnswersFront bytes o o' ran rest) → AnswersFront bytes (Some []) (Some (out_of s.marks)) ran rest
   whole s = record { marks = s.marks; parses = s.parses; writes = refl; served = s.served }
 
   broken : {bytes : List ℕ} → (s : ServesBroken bytes o o' ran) → ServesBroken bytes (Some []) (Some (out_of s.marks ++ cause_text s.cause)) ran

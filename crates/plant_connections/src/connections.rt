@@ -1,5 +1,6 @@
 ghost use Rattle.std.specs.Prelude.{◌≡◌, ◌+◌, ℕ, List, length, take, IfOk, OnOk, OnErr};
 ghost use Rattle.std.specs.Io.KnownBytes.{Appends};
+ghost use Rattle.plant_books.specs.Books.{WasHonest};
 ghost use Rattle.plant_wire.specs.declared.reads.End.{End};
 ghost use Rattle.plant_model.specs.declared.call.Call.{Call};
 ghost use Rattle.plant_model.specs.declared.reply.Answer.{Answer};
@@ -42,7 +43,7 @@ fn serve_next<L: Listener, B: Books>(
     office: &mut Office<B>,
 ) -> Result<End, Failed>
     ensures does { IfOk result (IsConnection (RanFrom B.Books office.old.books office.new.books)) }
-    ensures honest { OnOk result (B.is_honest office.new.books → B.is_honest office.old.books) }
+    ensures honest { OnOk result (WasHonest B.is_honest office.old.books office.new.books) }
     ensures counted { OnOk result (L.accepted listener.new ≡ L.accepted listener.old + 1) }
     ensures ok { OnOk result (L.failures listener.new ≡ L.failures listener.old) }
     ensures unmade { OnErr result (office.new ≡ office.old) }
@@ -92,7 +93,7 @@ pub fn serve_connections<L: Listener, B: Books, W: Write>(
         × StopsAfter n (L.failures listener.old) (L.failures listener.new) (length ends) result }
     ensures ran { (calls : List Call) × (answers : List Answer)
         × RanFrom B.Books office.old.books office.new.books calls answers }
-    ensures honest { B.is_honest office.new.books → B.is_honest office.old.books }
+    ensures honest { WasHonest B.is_honest office.old.books office.new.books }
 {
     'connections: for count in 0..n {
         let end = serve_next(alloc, listener, office)?;

@@ -1,6 +1,6 @@
-ghost use Rattle.std.specs.Prelude.{◌≡◌, ◌+◌, ◌*◌, ◌≤◌, IfOk, IfErr, IfSome, OnOk, ◌++◌};
+ghost use Rattle.std.specs.Prelude.{◌≡◌, ◌+◌, ◌*◌, ◌≤◌, IfOk, IfSome, OnOk, ◌++◌};
 ghost use Rattle.std.specs.Option.{option_to_list};
-ghost use Rattle.plant_types.specs.declared.fault.Fault.TheVariants.{Memory};
+ghost use Rattle.plant_types.specs.Results.{OnlyMemory};
 ghost use Rattle.plant_floods.specs.Floods as floods_of;
 ghost use Rattle.plant_floods.specs.Pass as pass;
 ghost use Rattle.plant_floods.specs.Pass.{next_runs};
@@ -12,7 +12,7 @@ use std::alloc::Global;
 /// The floods among periods of ten minutes, in order of time. The counts are the activations of each period.
 pub fn floods(alloc: Global, counts: &[u32]) -> Result<Vec<Run>, Fault>
     ensures value { IfOk result (λ runs. runs.items ≡ floods_of.floods counts.now) }
-    ensures err { IfErr result (λ e. e ≡ Memory) }
+    ensures err { OnlyMemory result }
 {
     let mut runs = Vec::new(alloc);
     let mut current = None;
@@ -28,7 +28,7 @@ pub fn floods(alloc: Global, counts: &[u32]) -> Result<Vec<Run>, Fault>
 /// Adds the run, if there is one.
 fn push_some(runs: &mut Vec<Run>, current: Option<Run>) -> Result<(), Fault>
     ensures value { OnOk result (runs.new.items ≡ runs.old.items ++ option_to_list current) }
-    ensures err { IfErr result (λ e. e ≡ Memory) }
+    ensures err { OnlyMemory result }
 {
     if let Some(run) = current {
         runs.push(run)?;
@@ -39,7 +39,7 @@ fn push_some(runs: &mut Vec<Run>, current: Option<Run>) -> Result<(), Fault>
 /// Closes the open run where none goes on.
 fn close(runs: &mut Vec<Run>, current: Option<Run>, next: &Option<Run>) -> Result<(), Fault>
     ensures value { OnOk result (runs.new.items ≡ next_runs runs.old.items current next.now) }
-    ensures err { IfErr result (λ e. e ≡ Memory) }
+    ensures err { OnlyMemory result }
 {
     if next.is_none() {
         push_some(runs, current)?;

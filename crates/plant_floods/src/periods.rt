@@ -1,9 +1,9 @@
 //! The activations of all alarms, from their events in rising number.
 
-ghost use Rattle.std.specs.Prelude.{◌≡◌, ◌≤◌, ◌<◌, ◌+◌, ◌-◌, ◌*◌, ◌/◌, ◌++◌, ◌∷◌, [], ℕ, List, IfErr, IfOk, OnOk, count_by, if◌then◌else◌, length, map, nat_le, slice_index};
+ghost use Rattle.std.specs.Prelude.{◌≡◌, ◌≤◌, ◌<◌, ◌+◌, ◌-◌, ◌*◌, ◌/◌, ◌++◌, ◌∷◌, [], ℕ, List, IfOk, OnOk, count_by, if◌then◌else◌, length, map, nat_le, slice_index};
 ghost use Rattle.std.specs.List.{range_with_len};
 ghost use Rattle.plant_types.specs.Options.{when};
-ghost use Rattle.plant_types.specs.declared.fault.Fault.TheVariants.{Memory};
+ghost use Rattle.plant_types.specs.Results.{OnlyMemory};
 ghost use Rattle.plant_alarm.specs.declared.event.Event.{Event as TheEvent};
 ghost use Rattle.plant_floods.specs.Activations.{AreActive, activations_of_all, is_activation_of, is_in_period};
 ghost use Rattle.plant_floods.specs.Activations as activations;
@@ -20,7 +20,7 @@ fn is_activation(alloc: Global, active: &mut BTreeSet<Tag>, event: &Event) -> Re
         → IfOk result (λ b. b ≡ is_activation_of before event.now) }
     ensures active { (before : List TheEvent) → AreActive active.old before
         → OnOk result (AreActive active.new (before ++ event.now ∷ [])) }
-    ensures err { IfErr result (λ e. e ≡ Memory) }
+    ensures err { OnlyMemory result }
 {
     match event.kind {
         EventKind::Act => {
@@ -43,7 +43,7 @@ fn is_activation(alloc: Global, active: &mut BTreeSet<Tag>, event: &Event) -> Re
 pub fn activations(alloc: Global, events: &[Event]) -> Result<List<Moment>, Fault>
     ensures value { IfOk result (λ moments. moments
         ≡ map (λ e. e.moment) (activations_of_all events.now)) }
-    ensures err { IfErr result (λ e. e ≡ Memory) }
+    ensures err { OnlyMemory result }
 {
     let mut active = BTreeSet::new(alloc);
     let mut moments = List::new(alloc);
@@ -88,7 +88,7 @@ fn counts_from(
     ensures value { length moments.now ≤ 4294967295 → IfOk result (λ counts. counts.items
         ≡ map (λ i. count_by (λ m. is_in_period (start + 600 * i) m) moments.now)
         (range_with_len 0 periods)) }
-    ensures err { IfErr result (λ e. e ≡ Memory) }
+    ensures err { OnlyMemory result }
 {
     let mut counts = vec![in alloc; 0u32; periods as usize]?;
     for moment in moments {
@@ -107,7 +107,7 @@ pub fn period_counts(
 ) -> Result<Vec<u32>, Fault>
     ensures value { length events.now ≤ 4294967295
         → IfOk result (λ counts. counts.items ≡ activations.period_counts events.now begin until) }
-    ensures err { IfErr result (λ e. e ≡ Memory) }
+    ensures err { OnlyMemory result }
 {
     let moments = activations(alloc, events)?;
     let start = begin.seconds();

@@ -1,6 +1,6 @@
-ghost use Rattle.std.specs.Prelude.{◌≡◌, ◌≤◌, IfErr, length};
+ghost use Rattle.std.specs.Prelude.{◌≡◌, ◌≤◌, length};
 ghost use Rattle.plant_head.specs.declared.heading.TheConstants.{FIELD_ROOM};
-ghost use Rattle.plant_types.specs.declared.fault.Fault.TheVariants.{Memory};
+ghost use Rattle.plant_types.specs.Results.{OnlyMemory};
 ghost use Rattle.plant_head.specs.Head.{front, IsHeading};
 
 use httparse::Status;
@@ -22,7 +22,7 @@ pub struct FieldRoom {
 impl FieldRoom {
     /// Empty room.
     pub fn new(alloc: Global) -> Result<FieldRoom, Fault>
-        ensures { IfErr result (λ e. e ≡ Memory) }
+        ensures { OnlyMemory result }
     {
         Ok(FieldRoom {
             spans: vec![in alloc; EMPTY_HEADER_SPAN; FIELD_ROOM]?,

@@ -21,7 +21,7 @@ use Rattle.std.proofs.lemmas.List.Folds.{list_any-append}
 use Rattle.plant_import.specs.declared.bad_file.Cause.TheVariants.{TagUnknown, MomentAhead, SequenceClash, MomentOutOfOrder}
 use Rattle.plant_import.specs.declared.relation.Relation.{Relation}
 use Rattle.plant_import.specs.declared.relation.Relation.TheVariants.{New, Known, Clash, OutOfOrder}
-use Rattle.plant_import.specs.Relation.{RelatesSo, IsRelated, IsJudged, joined}
+use Rattle.plant_import.specs.Relation.{RelatesSo, IsRelated, JudgesRow, joined}
 use Rattle.plant_import.specs.Merging.{IsRising, same_event, clashes, out_of_order, merge_fault, first_fault, is_new, fresh, merged_or, merge}
 
 or_else-assoc : {A : Type 0} (a b c : Option A) → or_else (or_else a b) c ≡ or_else a (or_else b c)
@@ -142,20 +142,20 @@ clash_first kept fresh e h = list_any-append (clashes e) kept fresh ∙ ap (λ b
 clash_second : (kept fresh : List Event) (e : Event) → list_any (clashes e) fresh ≡ true → list_any (clashes e) (kept ++ fresh) ≡ true
 clash_second kept fresh e h = list_any-append (clashes e) kept fresh ∙ ap (λ b. list_any (clashes e) kept || b) h ∙ or_true (list_any (clashes e) kept)
 
-pub judged_unknown : (tags : List Name) (now : ℕ) (kept fresh : List Event) (e : Event) → list_any (same_name e.tag) tags ≡ false → IsJudged tags now kept fresh e (Err TagUnknown)
+pub judged_unknown : (tags : List Name) (now : ℕ) (kept fresh : List Event) (e : Event) → list_any (same_name e.tag) tags ≡ false → JudgesRow tags now kept fresh e (Err TagUnknown)
 judged_unknown tags now kept fresh e tag = unknown_tag tags now (kept ++ fresh) e tag
 
-pub judged_ahead : (tags : List Name) (now : ℕ) (kept fresh : List Event) (e : Event) → list_any (same_name e.tag) tags ≡ true → now < e.moment → IsJudged tags now kept fresh e (Err MomentAhead)
+pub judged_ahead : (tags : List Name) (now : ℕ) (kept fresh : List Event) (e : Event) → list_any (same_name e.tag) tags ≡ true → now < e.moment → JudgesRow tags now kept fresh e (Err MomentAhead)
 judged_ahead tags now kept fresh e tag lt = ahead tags now (kept ++ fresh) e tag lt
 
 module _ (tags : List Name) (now : ℕ) (kept fresh : List Event) (e : Event) (tag : list_any (same_name e.tag) tags ≡ true) (le : e.moment ≤ now) where
   abbrev others : List Event
   others = kept ++ fresh
 
-  seen_so : (same : Bool) → RelatesSo others e same false false → IsJudged tags now kept fresh e (Ok (not same))
+  seen_so : (same : Bool) → RelatesSo others e same false false → JudgesRow tags now kept fresh e (Ok (not same))
   seen_so same is = (in_order tags now others e same tag le is, ap not is.same_is)
 
-  pub judged_so : (k f : Relation) → IsRelated kept e k → IsRelated fresh e f → IsJudged tags now kept fresh e (joined k f)
+  pub judged_so : (k f : Relation) → IsRelated kept e k → IsRelated fresh e f → JudgesRow tags now kept fresh e (joined k f)
   judged_so Clash f h g = clash tags now others e tag le (clash_first kept fresh e h)
   judged_so New Clash h g = clash tags now others e tag le (clash_second kept fresh e g)
   judged_so Known Clash h g = clash tags now others e tag le (clash_second kept fresh e g)
@@ -234,7 +234,7 @@ was_new : (b : Bool) → not b ≡ true → b ≡ false
 was_new true e = cc
 was_new false e = refl
 
-pub so_new : (tags : List Name) (now : ℕ) (kept rows new rising : List Event) (repeated : ℕ) (e : Event) → MergedSo tags now kept rows new rising repeated → IsJudged tags now kept rising e (Ok true)
+pub so_new : (tags : List Name) (now : ℕ) (kept rows new rising : List Event) (repeated : ℕ) (e : Event) → MergedSo tags now kept rows new rising repeated → JudgesRow tags now kept rising e (Ok true)
     → MergedSo tags now kept (rows ++ e ∷ []) (new ++ e ∷ []) (put_in e rising) repeated
 so_new tags now kept rows new rising repeated e h j =
     let numbers = same_by_number e (kept ++ rising) (no_clash tags now (kept ++ rising) e j.0) in
@@ -245,7 +245,7 @@ so_new tags now kept rows new rising repeated e h j =
       alike = alike_new kept rising rows e other h.alike;
     }
 
-pub so_known : (tags : List Name) (now : ℕ) (kept rows new rising : List Event) (repeated : ℕ) (e : Event) → MergedSo tags now kept rows new rising repeated → IsJudged tags now kept rising e (Ok false)
+pub so_known : (tags : List Name) (now : ℕ) (kept rows new rising : List Event) (repeated : ℕ) (e : Event) → MergedSo tags now kept rows new rising repeated → JudgesRow tags now kept rising e (Ok false)
     → MergedSo tags now kept (rows ++ e ∷ []) new rising (repeated + 1)
 so_known tags now kept rows new rising repeated e h j =
     record {
@@ -259,17 +259,17 @@ at_place : (file : List Event) (i : ℕ) (e d : Event) → i < length file → e
 at_place file i e d lt is = take_more file i d lt ∙ ap (λ x. take i file ++ x ∷ []) (sym is)
 
 pub so_new_at : (tags : List Name) (now : ℕ) (kept file new rising : List Event) (repeated i : ℕ) (e : Event) → i < length file → e ≡ get_or file i e → MergedSo tags now kept (take i file) new rising repeated
-    → IsJudged tags now kept rising e (Ok true) → MergedSo tags now kept (take (i + 1) file) (new ++ e ∷ []) (put_in e rising) repeated
+    → JudgesRow tags now kept rising e (Ok true) → MergedSo tags now kept (take (i + 1) file) (new ++ e ∷ []) (put_in e rising) repeated
 so_new_at tags now kept file new rising repeated i e lt is h j =
     subst (λ (l : List Event). MergedSo tags now kept l (new ++ e ∷ []) (put_in e rising) repeated) (sym (at_place file i e e lt is)) (so_new tags now kept (take i file) new rising repeated e h j)
 
 pub so_known_at : (tags : List Name) (now : ℕ) (kept file new rising : List Event) (repeated i : ℕ) (e : Event) → i < length file → e ≡ get_or file i e → MergedSo tags now kept (take i file) new rising repeated
-    → IsJudged tags now kept rising e (Ok false) → MergedSo tags now kept (take (i + 1) file) new rising (repeated + 1)
+    → JudgesRow tags now kept rising e (Ok false) → MergedSo tags now kept (take (i + 1) file) new rising (repeated + 1)
 so_known_at tags now kept file new rising repeated i e lt is h j =
     subst (λ (l : List Event). MergedSo tags now kept l new rising (repeated + 1)) (sym (at_place file i e e lt is)) (so_known tags now kept (take i file) new rising repeated e h j)
 
 pub so_fault_at : (tags : List Name) (now : ℕ) (kept file new rising : List Event) (repeated i : ℕ) (e : Event) (cause : Cause) → i < length file → e ≡ get_or file i e → MergedSo tags now kept (take i file) new rising repeated
-    → IsJudged tags now kept rising e (Err cause) → merge kept file tags now ≡ Err (bad (i + 2) cause)
+    → JudgesRow tags now kept rising e (Err cause) → merge kept file tags now ≡ Err (bad (i + 2) cause)
 so_fault_at tags now kept file new rising repeated i e cause lt is h j =
     let fault : merge_fault tags now (kept ++ take i file) e ≡ Some cause = sym (fault_alike tags now kept rising (take i file) e h.alike) ∙ j in
     let cut : file ≡ take i file ++ e ∷ drop (i + 1) file =

@@ -1,12 +1,12 @@
-ghost use Rattle.std.specs.Prelude.{◌≡◌, ◌+◌, ◌++◌, ◌∷◌, [], IfOk, IfErr, List, OnOk, length};
+ghost use Rattle.std.specs.Prelude.{◌≡◌, ◌+◌, ◌++◌, ◌∷◌, [], IfOk, List, OnOk, length};
 ghost use Rattle.plant_alarm.specs.declared.event.Event.{Event as TheEvent};
 ghost use Rattle.plant_types.specs.Names.{Name};
-ghost use Rattle.plant_types.specs.declared.fault.Fault.TheVariants.{Memory};
+ghost use Rattle.plant_types.specs.Results.{OnlyMemory};
 ghost use Rattle.plant_import.specs.Merging as merging;
 ghost use Rattle.plant_import.specs.Merging.{IsRising};
 ghost use Rattle.plant_import.specs.Numbers.{AreByNumber, with_event};
 ghost use Rattle.plant_import.specs.Relation as relation;
-ghost use Rattle.plant_import.specs.Relation.{AreKnown, IsJudged};
+ghost use Rattle.plant_import.specs.Relation.{AreKnown, JudgesRow};
 
 use crate::numbers::put;
 use crate::relation::{Relation, nearest_among, nearest_by_number, relation_of};
@@ -39,7 +39,7 @@ pub fn merge(
         → IfOk result (λ merged. merged ≡ merging.merge kept.now file.now tags.now now) }
     ensures counted { IfOk result
         (λ merged. IfOk merged (λ m. m.repeated + length m.fresh ≡ length file.now)) }
-    ensures err { IfErr result (λ e. e ≡ Memory) }
+    ensures err { OnlyMemory result }
 {
     let known = known_tags(alloc, tags)?;
     let mut fresh = List::new(alloc);
@@ -67,7 +67,7 @@ pub fn merge(
 /// The set of the tags.
 fn known_tags(alloc: Global, tags: &[Tag]) -> Result<BTreeSet<Tag>, Fault>
     ensures value { IfOk result (λ known. AreKnown known tags.now) }
-    ensures err { IfErr result (λ e. e ≡ Memory) }
+    ensures err { OnlyMemory result }
 {
     let mut known = BTreeSet::new(alloc);
     for tag in tags {
@@ -86,7 +86,7 @@ fn add(
     ensures fresh { OnOk result (fresh.new ≡ fresh.old ++ event.now ∷ []) }
     ensures rising { (es : List TheEvent) → AreByNumber rising.old es
         → OnOk result (AreByNumber rising.new (with_event event.now es)) }
-    ensures err { IfErr result (λ e. e ≡ Memory) }
+    ensures err { OnlyMemory result }
 {
     fresh.push(event.copy(alloc)?)?;
     put(rising, event.copy(alloc)?)
@@ -102,7 +102,7 @@ fn judged(
 ) -> Result<bool, Cause>
     ensures { (tags : List Name) → AreKnown known.now tags → IsRising kept.now
         → (seen : List TheEvent) → AreByNumber fresh.now seen → IsRising seen
-        → IsJudged tags now kept.now seen event.now result }
+        → JudgesRow tags now kept.now seen event.now result }
 {
     if !known.contains(&event.tag) {
         return Err(Cause::TagUnknown);

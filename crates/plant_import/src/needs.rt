@@ -1,8 +1,8 @@
 //! The kept events that an import needs.
 
-ghost use Rattle.std.specs.Prelude.{◌≡◌, ◌≤◌, IfErr, IfOk, List, filter, length};
+ghost use Rattle.std.specs.Prelude.{◌≡◌, ◌≤◌, IfOk, List, filter, length};
 ghost use Rattle.plant_alarm.specs.declared.event.Event.{Event as TheEvent};
-ghost use Rattle.plant_types.specs.declared.fault.Fault.TheVariants.{Memory};
+ghost use Rattle.plant_types.specs.Results.{OnlyMemory};
 ghost use Rattle.plant_import.specs.Numbers.{AreNumbered};
 ghost use Rattle.plant_import.specs.Needed as needs;
 ghost use Rattle.plant_import.specs.Reached.{AreReached};
@@ -38,7 +38,7 @@ fn from_last_before<'a>(kept: &'a [Event], rows: &[Event]) -> &'a [Event]
 /// The last number of each alarm among events in rising number.
 fn last_numbers(alloc: Global, events: &[Event]) -> Result<BTreeMap<Tag, Number>, Fault>
     ensures value { AreNumbered events.now → IfOk result (λ lasts. AreReached lasts events.now) }
-    ensures err { IfErr result (λ e. e ≡ Memory) }
+    ensures err { OnlyMemory result }
 {
     let mut lasts = BTreeMap::new(alloc);
     for event in events {
@@ -70,7 +70,7 @@ fn is_late(lasts: &BTreeMap<Tag, Number>, events: &[Event], row: &Event) -> bool
 pub fn has_late(alloc: Global, kept: &[Event], rows: &[Event]) -> Result<bool, Fault>
     ensures value { AreNumbered kept.now
         → IfOk result (λ late. late ≡ needs.has_late kept.now rows.now) }
-    ensures err { IfErr result (λ e. e ≡ Memory) }
+    ensures err { OnlyMemory result }
 {
     let near = from_last_before(kept, rows);
     let lasts = last_numbers(alloc, near)?;
@@ -87,7 +87,7 @@ pub fn has_late(alloc: Global, kept: &[Event], rows: &[Event]) -> Result<bool, F
 pub fn needed<'a>(alloc: Global, kept: &'a [Event], rows: &[Event]) -> Result<&'a [Event], Fault>
     ensures value { AreNumbered kept.now
         → IfOk result (λ some. some.now ≡ needs.needed kept.now rows.now) }
-    ensures err { IfErr result (λ e. e ≡ Memory) }
+    ensures err { OnlyMemory result }
 {
     if has_late(alloc, kept, rows)? {
         return Ok(kept);

@@ -1,9 +1,9 @@
 //! Events by their numbers: how many of a file are new, and all events with those of a file.
 
-ghost use Rattle.std.specs.Prelude.{◌≡◌, ◌++◌, [], IfErr, IfOk, List, OnOk, false, length, option_map, slice_get, unwrap_or};
+ghost use Rattle.std.specs.Prelude.{◌≡◌, ◌++◌, [], IfOk, List, OnOk, false, length, option_map, slice_get, unwrap_or};
 ghost use Rattle.std.specs.List.{list_all, list_any};
 ghost use Rattle.plant_alarm.specs.declared.event.Event.{Event as TheEvent};
-ghost use Rattle.plant_types.specs.declared.fault.Fault.TheVariants.{Memory};
+ghost use Rattle.plant_types.specs.Results.{OnlyMemory};
 ghost use Rattle.plant_import.specs.Merging.{IsRising};
 ghost use Rattle.plant_import.specs.Needed.{is_before_all};
 ghost use Rattle.plant_import.specs.Numbers as numbers;
@@ -37,7 +37,7 @@ pub fn has_number(events: &[Event], number: Number) -> bool
 pub fn count_new(alloc: Global, kept: &[Event], file: &[Event]) -> Result<usize, Fault>
     ensures value { IsRising kept.now
         → IfOk result (λ count. count ≡ length (new_numbers kept.now file.now)) }
-    ensures err { IfErr result (λ e. e ≡ Memory) }
+    ensures err { OnlyMemory result }
 {
     let mut numbers = BTreeSet::new(alloc);
     for i in (0..file.len()).rev() {
@@ -53,7 +53,7 @@ pub fn count_new(alloc: Global, kept: &[Event], file: &[Event]) -> Result<usize,
 pub fn put(events: &mut BTreeMap<Number, Event>, event: Event) -> Result<(), Fault>
     ensures value { (es : List TheEvent) → AreByNumber events.old es
         → OnOk result (AreByNumber events.new (with_event event es)) }
-    ensures err { IfErr result (λ e. e ≡ Memory) }
+    ensures err { OnlyMemory result }
 {
     events.insert(event.seq, event)?;
     Ok(())
@@ -62,7 +62,7 @@ pub fn put(events: &mut BTreeMap<Number, Event>, event: Event) -> Result<(), Fau
 /// The events by their numbers. Of two with the same number the last counts.
 fn by_number(alloc: Global, events: &[Event]) -> Result<BTreeMap<Number, Event>, Fault>
     ensures value { IfOk result (λ rising. AreByNumber rising (with_events [] events.now)) }
-    ensures err { IfErr result (λ e. e ≡ Memory) }
+    ensures err { OnlyMemory result }
 {
     let mut rising = BTreeMap::new(alloc);
     for event in events {
@@ -74,7 +74,7 @@ fn by_number(alloc: Global, events: &[Event]) -> Result<BTreeMap<Number, Event>,
 /// The events in rising number. Of two with the same number the last counts.
 fn in_rising_number(alloc: Global, events: &[Event]) -> Result<List<Event>, Fault>
     ensures value { IfOk result (λ rising. rising ≡ with_events [] events.now) }
-    ensures err { IfErr result (λ e. e ≡ Memory) }
+    ensures err { OnlyMemory result }
 {
     let mut rising = List::new(alloc);
     for event in by_number(alloc, events)?.into_values() {
@@ -86,7 +86,7 @@ fn in_rising_number(alloc: Global, events: &[Event]) -> Result<List<Event>, Faul
 /// Adds copies of the events.
 fn push_all(alloc: Global, all: &mut List<Event>, events: &[Event]) -> Result<(), Fault>
     ensures value { OnOk result (all.new ≡ all.old ++ events.now) }
-    ensures err { IfErr result (λ e. e ≡ Memory) }
+    ensures err { OnlyMemory result }
 {
     for event in events {
         all.push(event.copy(alloc)?)?;
@@ -109,7 +109,7 @@ fn without_first(events: &[Event], number: Number) -> &[Event]
 fn joined(alloc: Global, kept: &[Event], more: &[Event]) -> Result<List<Event>, Fault>
     ensures value { AreNumbered kept.now → AreNumbered more.now
         → IfOk result (λ all. all ≡ with_events kept.now more.now) }
-    ensures err { IfErr result (λ e. e ≡ Memory) }
+    ensures err { OnlyMemory result }
 {
     let mut all = List::new(alloc);
     let mut rest = kept;
@@ -126,7 +126,7 @@ fn joined(alloc: Global, kept: &[Event], more: &[Event]) -> Result<List<Event>, 
 /// The kept events and more of them, in any order, in rising number. The kept events are in rising number.
 pub fn events_after(alloc: Global, kept: &[Event], more: &[Event]) -> Result<List<Event>, Fault>
     ensures value { IsRising kept.now → IfOk result (λ all. all ≡ with_events kept.now more.now) }
-    ensures err { IfErr result (λ e. e ≡ Memory) }
+    ensures err { OnlyMemory result }
 {
     let rising = in_rising_number(alloc, more)?;
     joined(alloc, kept, rising.as_slice())
@@ -150,7 +150,7 @@ fn come_after(events: &[Event], others: &[Event]) -> bool
 /// all others, else that of going over the kept events once.
 pub fn put_events(alloc: Global, kept: &mut List<Event>, more: &[Event]) -> Result<(), Fault>
     ensures value { AreNumbered kept.old → OnOk result (kept.new ≡ with_events kept.old more.now) }
-    ensures err { IfErr result (λ e. e ≡ Memory) }
+    ensures err { OnlyMemory result }
 {
     let rising = in_rising_number(alloc, more)?;
     if come_after(rising.as_slice(), kept.as_slice()) {

@@ -1,8 +1,8 @@
-ghost use Rattle.std.specs.Prelude.{◌≡◌, ◌∷◌, [], IfOk, IfErr, List, ℕ};
+ghost use Rattle.std.specs.Prelude.{◌≡◌, ◌∷◌, [], IfOk, List, ℕ};
 ghost use Rattle.std.specs.List.{list_all};
 ghost use Rattle.std.specs.Str.{is_utf8};
 ghost use Rattle.csv.specs.Records.{fields_of};
-ghost use Rattle.plant_types.specs.declared.fault.Fault.TheVariants.{Memory};
+ghost use Rattle.plant_types.specs.Results.{OnlyMemory};
 ghost use Rattle.plant_import.specs.Reading as reading;
 ghost use Rattle.plant_import.specs.Reading.{row_read, file_read};
 ghost use Rattle.plant_import.specs.Records.{HasRead, AreRowsRead};
@@ -25,7 +25,7 @@ pub type FileRead = Result<List<Event>, BadFile>;
 /// `seq,moment,tag,event`, and at most 10,000 rows follow. Blank lines count for nothing.
 pub fn read_file(alloc: Global, bytes: &[u8]) -> Result<FileRead, Fault>
     ensures value { IfOk result (λ read. read ≡ file_read bytes.now) }
-    ensures err { IfErr result (λ e. e ≡ Memory) }
+    ensures err { OnlyMemory result }
 {
     let no_header = BadFile {
         line: 1,
@@ -56,7 +56,7 @@ fn is_header(row: &ByteRecord) -> bool
 fn read_rows(alloc: Global, mut reader: Reader<&[u8]>) -> Result<FileRead, Fault>
     ensures value { IfOk result (λ read. (text : List ℕ) → (header : List (List ℕ))
         → HasRead reader.entry text (header ∷ []) → AreRowsRead text header read) }
-    ensures err { IfErr result (λ e. e ≡ Memory) }
+    ensures err { OnlyMemory result }
 {
     let mut events = List::new(alloc);
     let mut row = ByteRecord::new(alloc);
@@ -79,7 +79,7 @@ fn read_rows(alloc: Global, mut reader: Reader<&[u8]>) -> Result<FileRead, Fault
 /// The event of the row at a place from 1, or its first fault.
 fn read_row(alloc: Global, place: u64, row: &ByteRecord) -> Result<Result<Event, Cause>, Fault>
     ensures value { IfOk result (λ read. read ≡ row_read place (fields_of row.now)) }
-    ensures err { IfErr result (λ e. e ≡ Memory) }
+    ensures err { OnlyMemory result }
 {
     if row.len() != 4 {
         return Ok(Err(Cause::FieldCount));

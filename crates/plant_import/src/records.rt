@@ -1,6 +1,6 @@
-ghost use Rattle.std.specs.Prelude.{◌≡◌, [], IfOk, IfErr, List, ℕ};
+ghost use Rattle.std.specs.Prelude.{◌≡◌, [], IfOk, List, ℕ};
 ghost use Rattle.csv.specs.Records.{fields_of};
-ghost use Rattle.plant_types.specs.declared.fault.Fault.TheVariants.{Memory};
+ghost use Rattle.plant_types.specs.Results.{OnlyMemory};
 ghost use Rattle.plant_import.specs.Fields as fields;
 ghost use Rattle.plant_import.specs.Records.{HasRead, ReadsOne};
 
@@ -23,7 +23,7 @@ pub fn next_record(reader: &mut Reader<&[u8]>, row: &mut ByteRecord) -> Result<b
     ensures value { IfOk result (λ found. (text : List ℕ) → (rows : List (List (List ℕ)))
         → HasRead reader.old text rows
         → ReadsOne reader.new text rows found (fields_of row.new)) }
-    ensures err { IfErr result (λ e. e ≡ Memory) }
+    ensures err { OnlyMemory result }
 {
     let Ok(found) = reader.read_byte_record(row) else {
         return Err(Fault::Memory);

@@ -1,6 +1,6 @@
 //! An office over files that are closed and opened again.
 
-ghost use Rattle.std.specs.Prelude.{◌≡◌, false};
+ghost use Rattle.plant_store.specs.Reading.{HasNoTransaction};
 
 use plant_examples::{BASE, Exchanges, LOOKED_AT, SHELVED};
 use plant_office::Books;
@@ -55,7 +55,7 @@ fn shelved<D: Disk + Drop>(
     rt: &(impl Abort + AllocGlobal),
     conn: Connection<FileStore<D>>,
 ) -> Tables<FileStore<D>>
-    requires { conn.in_transaction ≡ false }
+    requires { HasNoTransaction conn }
 {
     let root = root(rt.alloc()).expect(rt, "a person");
     let books = Tables::create(rt.alloc(), conn, root)
@@ -79,7 +79,7 @@ fn finds_the_shelf_again<D: Disk + Drop>(
     rt: &(impl Abort + AllocGlobal),
     conn: Connection<FileStore<D>>,
 )
-    requires { conn.in_transaction ≡ false }
+    requires { HasNoTransaction conn }
 {
     let books = reopened(rt, shelved(rt, conn));
     let books = after_all_at_hand(rt, books, &[LOOKED_AT, GOES_ON], "again");

@@ -1,9 +1,9 @@
 ghost use Rattle.std.specs.Map.{lookup, lookup_entry};
-ghost use Rattle.std.specs.Prelude.{◌≡◌, ◌≤◌, ◌+◌, [], flat_map, IfErr, IfOk, IfSome, Some, option_copied};
+ghost use Rattle.std.specs.Prelude.{◌≡◌, ◌≤◌, ◌+◌, [], flat_map, IfOk, IfSome, Some, option_copied};
 ghost use Rattle.plant_mirror.specs.Copies as copies;
 ghost use Rattle.plant_mirror.specs.Copies.{AreCopies, There, DiffersAt, StayCopies, StayCopiesWith};
 ghost use Rattle.plant_types.specs.Names.{same_name};
-ghost use Rattle.plant_types.specs.declared.fault.Fault.TheVariants.{Memory};
+ghost use Rattle.plant_types.specs.Results.{OnlyMemory};
 
 use crate::at_hand::AtHand;
 use lru::LruCache;
@@ -26,7 +26,7 @@ impl Copies {
     /// No copy, and room for so many rows.
     pub fn new(alloc: Global, limit: u128) -> Result<Copies, Fault>
         ensures none { IfOk result (λ c. c.units.entries ≡ []) }
-        ensures memory { IfErr result (λ e. e ≡ Memory) }
+        ensures memory { OnlyMemory result }
     {
         Ok(Copies {
             units: LruCache::unbounded(alloc)?,
@@ -69,7 +69,7 @@ impl Copies {
         ensures found { (there : There) → AreCopies there self.now.units.entries
             → IfOk result (λ found. IfSome found (λ mine. mine
             ≡ flat_map (λ u. copies.shelves_there u (there u)) units.now)) }
-        ensures memory { IfErr result (λ e. e ≡ Memory) }
+        ensures memory { OnlyMemory result }
     {
         let mut mine = List::new(alloc);
         for unit in units {

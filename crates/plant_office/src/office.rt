@@ -1,4 +1,6 @@
-ghost use Rattle.std.specs.Prelude.{◌≡◌, ◌<◌, ◌^◌, ◌-◌, ◌+◌, ◌≤◌, ℕ, Some, None, true, false, IsTrue, IfOk, IfErr, OnOk, OnErr, List, [], ◌∷◌, ◌++◌, filter_map, map, max, fold, length, vec_len, vec_capacity};
+ghost use Rattle.std.specs.Prelude.{◌≡◌, ◌<◌, ◌^◌, ◌-◌, ◌+◌, ◌≤◌, ℕ, Some, None, true, false, IsTrue, IfOk, OnOk, OnErr, List, [], ◌∷◌, ◌++◌, filter_map, map, max, fold, length, vec_len, vec_capacity};
+ghost use Rattle.plant_books.specs.Books.{WasHonest};
+ghost use Rattle.plant_types.specs.Results.{OnlyMemory};
 ghost use Rattle.plant_types.specs.declared.fault.Fault.TheVariants.{Memory};
 ghost use Rattle.plant_model.specs.declared.call.Request.TheVariants.{MyShelves, MyUnits};
 ghost use Rattle.plant_model.specs.Legality.{has_matrix, is_matrix_kind};
@@ -66,7 +68,7 @@ impl<B: Books> Office<B> {
 
     fn lines(&self, units: List<MineUnit>) -> Result<List<UnitLine>, Fault>
         ensures value { IfOk result (λ lines. lines ≡ map line_of_mine units) }
-        ensures err { IfErr result (λ e. e ≡ Memory) }
+        ensures err { OnlyMemory result }
     {
         let mut lines = List::new(self.alloc);
         for mine in units.into_vec() {
@@ -182,7 +184,7 @@ impl<B: Books> Office<B> {
             → view call.now.moment call.now.person w ≡ view call.now.moment call.now.person v
             → B.is_honest self.new.books
             → IfSaid result (λ a. IsIsolated v call.now a (B.represents self.new.books)) }
-        ensures honest { B.is_honest self.new.books → B.is_honest self.old.books }
+        ensures honest { WasHonest B.is_honest self.old.books self.new.books }
         ensures unchanged { (m : Content) → B.represents self.old.books m
             → IfSaid result (λ a. changes_history a call.now ≡ false
             → B.represents self.new.books m) }
@@ -201,12 +203,12 @@ impl<B: Books> Office<B> {
             → B.is_honest self.new.books
             → IfOk result (λ answers.
             IsRun w calls.now answers.items (B.represents self.new.books)) }
-        ensures honest { B.is_honest self.new.books → B.is_honest self.old.books }
+        ensures honest { WasHonest B.is_honest self.old.books self.new.books }
         ensures count { B.stores self.old.books + length calls.now < 2 ^ 64
             → IfOk result (λ answers. B.stores self.new.books
             ≡ B.stores self.old.books + stores_in answers.items) }
         ensures fault { OnErr result (self.new ≡ self.old) }
-        ensures memory { IfErr result (λ e. e ≡ Memory) }
+        ensures memory { OnlyMemory result }
     {
         let mut answers = Vec::with_capacity(self.alloc, calls.len())?;
         for call in calls {
@@ -253,7 +255,7 @@ fn latest(now: Moment, units: &[MineUnit]) -> Moment
 /// The line of a shelf with its unit; none where its time has passed.
 fn mine_line(alloc: Global, mine: &MineRow, now: Moment) -> Result<Option<MineLine>, Fault>
     ensures value { IfOk result (λ line. line ≡ line_of_shelf now mine.now) }
-    ensures err { IfErr result (λ e. e ≡ Memory) }
+    ensures err { OnlyMemory result }
 {
     let Some(line) = shelf_line(alloc, &mine.shelf, mine.last_return, now)? else {
         return Ok(None);
@@ -267,7 +269,7 @@ fn mine_line(alloc: Global, mine: &MineRow, now: Moment) -> Result<Option<MineLi
 /// The lines of the shelves that hold at the moment.
 fn shelf_lines(alloc: Global, shelves: &[MineRow], now: Moment) -> Result<List<MineLine>, Fault>
     ensures value { IfOk result (λ lines. lines ≡ filter_map (line_of_shelf now) shelves.now) }
-    ensures err { IfErr result (λ e. e ≡ Memory) }
+    ensures err { OnlyMemory result }
 {
     let mut lines = List::new(alloc);
     for mine in shelves {

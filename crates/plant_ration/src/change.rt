@@ -1,5 +1,5 @@
-ghost use Rattle.std.specs.Prelude.{◌≡◌, IfErr, IfOk};
-ghost use Rattle.plant_types.specs.declared.fault.Fault.TheVariants.{Memory};
+ghost use Rattle.std.specs.Prelude.{◌≡◌, IfOk};
+ghost use Rattle.plant_types.specs.Results.{OnlyMemory};
 
 use crate::Matrix;
 use plant_types::{Fault, Seconds, Tag, Words};
@@ -25,7 +25,7 @@ impl Sheet {
     /// The same sheet again.
     pub fn copy(&self, alloc: Global) -> Result<Sheet, Fault>
         ensures value { IfOk result (λ sheet. sheet ≡ self.now) }
-        ensures memory { IfErr result (λ e. e ≡ Memory) }
+        ensures memory { OnlyMemory result }
     {
         Ok(Sheet {
             cause: self.cause.copy(alloc)?,
@@ -52,7 +52,7 @@ impl ChangeKind {
     /// The same change again.
     pub fn copy(&self, alloc: Global) -> Result<ChangeKind, Fault>
         ensures value { IfOk result (λ kind. kind ≡ self.now) }
-        ensures memory { IfErr result (λ e. e ≡ Memory) }
+        ensures memory { OnlyMemory result }
     {
         match self {
             ChangeKind::Rationale(tag, sheet) => Ok(ChangeKind::Rationale(
@@ -78,7 +78,7 @@ impl Proposal {
     /// The same proposal again.
     pub fn copy(&self, alloc: Global) -> Result<Proposal, Fault>
         ensures value { IfOk result (λ proposal. proposal ≡ self.now) }
-        ensures memory { IfErr result (λ e. e ≡ Memory) }
+        ensures memory { OnlyMemory result }
     {
         Ok(Proposal {
             kind: self.kind.copy(alloc)?,

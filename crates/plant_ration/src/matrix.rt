@@ -1,6 +1,6 @@
-ghost use Rattle.std.specs.Prelude.{◌≡◌, ◌↔◌, IfOk, IfErr, IsSome, Ok, Err, map, IsTrue};
+ghost use Rattle.std.specs.Prelude.{◌≡◌, ◌↔◌, IfOk, IsSome, Ok, Err, map, IsTrue};
 ghost use Rattle.std.specs.List.Sorted.{IsStrictlyIncreasing};
-ghost use Rattle.plant_types.specs.declared.fault.Fault.TheVariants.{Memory};
+ghost use Rattle.plant_types.specs.Results.{OnlyMemory};
 ghost use Rattle.plant_ration.specs.declared.cell.MatrixFault.{MatrixFault};
 ghost use Rattle.plant_ration.specs.Matrix.{matrix_of, priority_of, is_row, is_matrix, IsOrdered};
 
@@ -41,7 +41,7 @@ impl Matrix {
     ) -> Result<Result<Matrix, MatrixFault>, Fault>
         ensures value { IfOk result (λ made. made
             ≡ matrix_of limits.now (map (λ row. row.items) cells.now)) }
-        ensures err { IfErr result (λ e. e ≡ Memory) }
+        ensures err { OnlyMemory result }
 
         // A fault is answered without memory.
         ensures faulty { (fault : MatrixFault)
@@ -98,7 +98,7 @@ impl Matrix {
     /// The same matrix again.
     pub fn copy(&self, alloc: Global) -> Result<Matrix, Fault>
         ensures value { IfOk result (λ matrix. matrix ≡ self.now) }
-        ensures memory { IfErr result (λ e. e ≡ Memory) }
+        ensures memory { OnlyMemory result }
     {
         Ok(Matrix {
             limits: self.limits.to_vec(alloc)?,

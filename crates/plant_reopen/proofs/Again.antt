@@ -12,7 +12,7 @@ use Rattle.sqlite.specs.Closing.{IsCopied}
 use Rattle.sqlite.proofs.Callers.{finds_again}
 use Rattle.plant_books.specs.Contents.{Content}
 use Rattle.plant_store.specs.Changes.{IsHonest}
-use Rattle.plant_store.specs.Keeping.{Keeps, KeepsIn}
+use Rattle.plant_store.specs.Keeping.{Represents, HasContent}
 use Rattle.plant_store.proofs.public.Contents.{keeps_same}
 use Rattle.plant_store.proofs.public.Databases.{same_database}
 
@@ -27,5 +27,5 @@ module _ {D : Type 0} {g : disk.Ghosts D} (old new : Held (FileStore D g)) (file
       ∙ finds_again old new files copied found
       ∙ sym (ap (λ (d : Database). d.trees) (settled was_told.1))
 
-  pub kept_again : (m : Content) → Keeps (file_state old) m → KeepsIn (file_state new) m
+  pub kept_again : (m : Content) → Represents (file_state old) m → HasContent (file_state new) m
   kept_again m keeps = keeps_same (file_state old) (file_state new) m (keeps was_told) (same_database (file_state old).now (file_state new).now (live was_told.1).0 (opened.1 up).0 same_trees)

@@ -1,10 +1,11 @@
 //! Books that are kept in files: closed and opened again, they hold what they held.
 #![tactic(auto)]
 
-ghost use Rattle.std.specs.Prelude.{◌≡◌, false, IfSome};
+ghost use Rattle.std.specs.Prelude.{◌≡◌, IfSome};
 ghost use Rattle.sqlite.specs.Files.{file_state};
 ghost use Rattle.plant_books.specs.Contents.{Content};
-ghost use Rattle.plant_store.specs.Keeping.{Keeps};
+ghost use Rattle.plant_store.specs.Keeping.{Represents};
+ghost use Rattle.plant_store.specs.Reading.{HasNoTransaction};
 
 use plant_store::Tables;
 use plant_types::Person;
@@ -18,10 +19,10 @@ fn reopen_files<D: Disk + Drop>(
     conn: Connection<FileStore<D>>,
     options: Options,
 ) -> Option<Connection<FileStore<D>>>
-    requires { conn.in_transaction ≡ false }
-    ensures mode { IfSome result (λ again. again.in_transaction ≡ false) }
-    ensures kept { (m : Content) → Keeps (file_state conn) m
-        → IfSome result (λ again. Keeps (file_state again) m) }
+    requires { HasNoTransaction conn }
+    ensures mode { IfSome result (λ again. HasNoTransaction again) }
+    ensures kept { (m : Content) → Represents (file_state conn) m
+        → IfSome result (λ again. Represents (file_state again) m) }
 {
     let _live = conn.schema();
     let _settled = conn.is_autocommit();
@@ -47,9 +48,9 @@ pub fn reopen<D: Disk + Drop>(
     options: Options,
 ) -> Option<Tables<FileStore<D>>>
     ensures fresh { IfSome result (λ again. (again.0.1 ≡ admin) × (again.1 ≡ 0)) }
-    ensures kept { (m : Content) → tables.0.1 ≡ m.admin → Keeps (file_state tables.0.0) m
+    ensures kept { (m : Content) → tables.0.1 ≡ m.admin → Represents (file_state tables.0.0) m
         → m.admin ≡ admin
-        → IfSome result (λ again. (again.0.1 ≡ m.admin) × Keeps (file_state again.0.0) m) }
+        → IfSome result (λ again. (again.0.1 ≡ m.admin) × Represents (file_state again.0.0) m) }
 {
     let conn = reopen_files(alloc, tables.close(), options)?;
     match Tables::open(alloc, conn, admin) {

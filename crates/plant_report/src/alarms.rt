@@ -1,6 +1,6 @@
-ghost use Rattle.std.specs.Prelude.{◌≡◌, ◌++◌, IfOk, IfErr};
+ghost use Rattle.std.specs.Prelude.{◌≡◌, ◌++◌, IfOk};
 ghost use Rattle.plant_types.specs.Adding.{Adds};
-ghost use Rattle.plant_types.specs.declared.fault.Fault.TheVariants.{Memory};
+ghost use Rattle.plant_types.specs.Results.{OnlyMemory};
 ghost use Rattle.plant_report.specs.Columns.{line as line_of};
 ghost use Rattle.plant_report.specs.Texts as texts;
 ghost use Rattle.plant_report.specs.Texts.{alarm_columns, standing_columns};
@@ -23,7 +23,7 @@ pub fn standing_text(
     lines: &[StandingLine],
 ) -> Result<Vec<u8>, Fault>
     ensures value { IfOk result (λ text. text.items ≡ texts.standing_text unit.now at lines.now) }
-    ensures err { IfErr result (λ e. e ≡ Memory) }
+    ensures err { OnlyMemory result }
 {
     let mut text = Vec::with_capacity(alloc, room_for(lines.len()))?;
     push_heading(&mut text, b"STANDING", unit.as_bytes(), at, lines.len())?;
@@ -36,7 +36,7 @@ pub fn standing_text(
 fn push_standing(text: &mut Vec<u8>, line: &StandingLine) -> Result<(), Fault>
     ensures value { Adds result text.old.items text.new.items
         (line_of (standing_columns line.now)) }
-    ensures err { IfErr result (λ e. e ≡ Memory) }
+    ensures err { OnlyMemory result }
 {
     push_left(text, 24, line.tag.as_bytes())?;
     push_left(text, 14, state_name(line.state))?;
@@ -57,7 +57,7 @@ pub fn alarm_text(
     lines: &[AlarmLine],
 ) -> Result<Vec<u8>, Fault>
     ensures value { IfOk result (λ text. text.items ≡ texts.alarm_text unit.now at lines.now) }
-    ensures err { IfErr result (λ e. e ≡ Memory) }
+    ensures err { OnlyMemory result }
 {
     let mut text = Vec::with_capacity(alloc, room_for(lines.len()))?;
     push_heading(&mut text, b"ALARMS", unit.as_bytes(), at, lines.len())?;
@@ -69,7 +69,7 @@ pub fn alarm_text(
 
 fn push_alarm(text: &mut Vec<u8>, line: &AlarmLine) -> Result<(), Fault>
     ensures value { Adds result text.old.items text.new.items (line_of (alarm_columns line.now)) }
-    ensures err { IfErr result (λ e. e ≡ Memory) }
+    ensures err { OnlyMemory result }
 {
     let mut buffer = Buffer::new();
     push_left(text, 24, line.tag.as_bytes())?;

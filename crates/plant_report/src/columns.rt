@@ -1,6 +1,6 @@
-ghost use Rattle.std.specs.Prelude.{◌≡◌, [], ◌∷◌, ◌++◌, IfErr, ◌-◌, ◌≤◌, length, replicate};
+ghost use Rattle.std.specs.Prelude.{◌≡◌, [], ◌∷◌, ◌++◌, ◌-◌, ◌≤◌, length, replicate};
 ghost use Rattle.plant_types.specs.Adding.{Adds};
-ghost use Rattle.plant_types.specs.declared.fault.Fault.TheVariants.{Memory};
+ghost use Rattle.plant_types.specs.Results.{OnlyMemory};
 ghost use Rattle.plant_report.specs.declared.columns.TheConstants.{WIDEST};
 ghost use Rattle.plant_report.specs.Columns.{left, right, line as line_of};
 ghost use Rattle.plant_report.specs.Moments.{moment_text};
@@ -17,7 +17,7 @@ const SPACES: [u8; WIDEST] = [b' '; WIDEST];
 /// Adds a column and the space after it.
 pub fn push_column(text: &mut Vec<u8>, column: &[u8]) -> Result<(), Fault>
     ensures value { Adds result text.old.items text.new.items (column.now ++ 32 ∷ []) }
-    ensures err { IfErr result (λ e. e ≡ Memory) }
+    ensures err { OnlyMemory result }
 {
     text.extend_from_slice(column)?;
     Ok(text.push(b' ')?)
@@ -27,7 +27,7 @@ pub fn push_column(text: &mut Vec<u8>, column: &[u8]) -> Result<(), Fault>
 pub fn push_left(text: &mut Vec<u8>, width: usize, column: &[u8]) -> Result<(), Fault>
     requires { width ≤ WIDEST }
     ensures value { Adds result text.old.items text.new.items (left width column.now ++ 32 ∷ []) }
-    ensures err { IfErr result (λ e. e ≡ Memory) }
+    ensures err { OnlyMemory result }
 {
     text.extend_from_slice(column)?;
     push_padding(text, width, column)?;
@@ -38,7 +38,7 @@ pub fn push_left(text: &mut Vec<u8>, width: usize, column: &[u8]) -> Result<(), 
 pub fn push_right(text: &mut Vec<u8>, width: usize, column: &[u8]) -> Result<(), Fault>
     requires { width ≤ WIDEST }
     ensures value { Adds result text.old.items text.new.items (right width column.now ++ 32 ∷ []) }
-    ensures err { IfErr result (λ e. e ≡ Memory) }
+    ensures err { OnlyMemory result }
 {
     push_padding(text, width, column)?;
     push_column(text, column)
@@ -47,7 +47,7 @@ pub fn push_right(text: &mut Vec<u8>, width: usize, column: &[u8]) -> Result<(),
 /// Adds a moment and the space after it.
 pub fn push_moment(text: &mut Vec<u8>, moment: Moment) -> Result<(), Fault>
     ensures value { Adds result text.old.items text.new.items (moment_text moment ++ 32 ∷ []) }
-    ensures err { IfErr result (λ e. e ≡ Memory) }
+    ensures err { OnlyMemory result }
 {
     push_column(text, &moments::write(moment))
 }
@@ -55,7 +55,7 @@ pub fn push_moment(text: &mut Vec<u8>, moment: Moment) -> Result<(), Fault>
 /// Adds the last column, and ends the line.
 pub fn push_last(text: &mut Vec<u8>, column: &[u8]) -> Result<(), Fault>
     ensures value { Adds result text.old.items text.new.items (line_of (column.now ∷ [])) }
-    ensures err { IfErr result (λ e. e ≡ Memory) }
+    ensures err { OnlyMemory result }
 {
     text.extend_from_slice(column)?;
     Ok(text.push(b'\n')?)
@@ -66,7 +66,7 @@ pub fn push_last_right(text: &mut Vec<u8>, width: usize, column: &[u8]) -> Resul
     requires { width ≤ WIDEST }
     ensures value { Adds result text.old.items text.new.items
         (line_of (right width column.now ∷ [])) }
-    ensures err { IfErr result (λ e. e ≡ Memory) }
+    ensures err { OnlyMemory result }
 {
     push_padding(text, width, column)?;
     push_last(text, column)
@@ -77,7 +77,7 @@ fn push_padding(text: &mut Vec<u8>, width: usize, column: &[u8]) -> Result<(), F
     requires { width ≤ WIDEST }
     ensures value { Adds result text.old.items text.new.items
         (replicate (width - length column.now) 32) }
-    ensures err { IfErr result (λ e. e ≡ Memory) }
+    ensures err { OnlyMemory result }
 {
     push_spaces(text, width.saturating_sub(column.len()))
 }
@@ -85,7 +85,7 @@ fn push_padding(text: &mut Vec<u8>, width: usize, column: &[u8]) -> Result<(), F
 fn push_spaces(text: &mut Vec<u8>, count: usize) -> Result<(), Fault>
     requires { count ≤ WIDEST }
     ensures value { Adds result text.old.items text.new.items (replicate count 32) }
-    ensures err { IfErr result (λ e. e ≡ Memory) }
+    ensures err { OnlyMemory result }
 {
     Ok(text.extend_from_slice(&SPACES[..count])?)
 }

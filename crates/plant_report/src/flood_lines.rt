@@ -1,6 +1,6 @@
-ghost use Rattle.std.specs.Prelude.{◌≡◌, ◌++◌, IfOk, IfErr};
+ghost use Rattle.std.specs.Prelude.{◌≡◌, ◌++◌, IfOk};
 ghost use Rattle.plant_types.specs.Adding.{Adds};
-ghost use Rattle.plant_types.specs.declared.fault.Fault.TheVariants.{Memory};
+ghost use Rattle.plant_types.specs.Results.{OnlyMemory};
 ghost use Rattle.plant_report.specs.Columns.{line as line_of};
 ghost use Rattle.plant_report.specs.Texts as texts;
 ghost use Rattle.plant_report.specs.Texts.{flood_columns, flood_heading};
@@ -23,7 +23,7 @@ pub fn flood_text(
 ) -> Result<Vec<u8>, Fault>
     ensures value { IfOk result (λ text. text.items
         ≡ texts.flood_text unit.now begin until lines.now) }
-    ensures err { IfErr result (λ e. e ≡ Memory) }
+    ensures err { OnlyMemory result }
 {
     let mut text = Vec::with_capacity(alloc, room_for(lines.len()))?;
     push_flood_heading(&mut text, unit, begin, until, lines.len())?;
@@ -42,7 +42,7 @@ fn push_flood_heading(
 ) -> Result<(), Fault>
     ensures value { Adds result text.old.items text.new.items
         (flood_heading unit.now begin until count) }
-    ensures err { IfErr result (λ e. e ≡ Memory) }
+    ensures err { OnlyMemory result }
 {
     let mut buffer = Buffer::new();
     push_column(text, b"FLOODS")?;
@@ -57,7 +57,7 @@ fn push_flood_heading(
 
 fn push_flood(text: &mut Vec<u8>, line: &FloodLine) -> Result<(), Fault>
     ensures value { Adds result text.old.items text.new.items (line_of (flood_columns line.now)) }
-    ensures err { IfErr result (λ e. e ≡ Memory) }
+    ensures err { OnlyMemory result }
 {
     let mut total = Buffer::new();
     let mut peak = Buffer::new();

@@ -1,6 +1,6 @@
-ghost use Rattle.std.specs.Prelude.{◌≡◌, ◌++◌, IfOk, IfErr};
+ghost use Rattle.std.specs.Prelude.{◌≡◌, ◌++◌, IfOk};
 ghost use Rattle.plant_types.specs.Adding.{Adds};
-ghost use Rattle.plant_types.specs.declared.fault.Fault.TheVariants.{Memory};
+ghost use Rattle.plant_types.specs.Results.{OnlyMemory};
 ghost use Rattle.plant_report.specs.Columns.{line as line_of};
 ghost use Rattle.plant_report.specs.Texts as texts;
 ghost use Rattle.plant_report.specs.Texts.{shelf_columns, mine_columns};
@@ -21,7 +21,7 @@ pub fn shelf_text(
     lines: &[ShelfLine],
 ) -> Result<Vec<u8>, Fault>
     ensures value { IfOk result (λ text. text.items ≡ texts.shelf_text unit.now at lines.now) }
-    ensures err { IfErr result (λ e. e ≡ Memory) }
+    ensures err { OnlyMemory result }
 {
     let mut text = Vec::with_capacity(alloc, room_for(lines.len()))?;
     push_heading(&mut text, b"SHELVES", unit.as_bytes(), at, lines.len())?;
@@ -41,7 +41,7 @@ pub fn mine_text(
     lines: &[MineLine],
 ) -> Result<Vec<u8>, Fault>
     ensures value { IfOk result (λ text. text.items ≡ texts.mine_text person.now at lines.now) }
-    ensures err { IfErr result (λ e. e ≡ Memory) }
+    ensures err { OnlyMemory result }
 {
     let mut text = Vec::with_capacity(alloc, room_for(lines.len()))?;
     push_heading(&mut text, b"MINE", person.as_bytes(), at, lines.len())?;
@@ -53,7 +53,7 @@ pub fn mine_text(
 
 fn push_mine(text: &mut Vec<u8>, line: &MineLine) -> Result<(), Fault>
     ensures value { Adds result text.old.items text.new.items (line_of (mine_columns line.now)) }
-    ensures err { IfErr result (λ e. e ≡ Memory) }
+    ensures err { OnlyMemory result }
 {
     push_left(text, 8, line.unit.as_bytes())?;
     push_shelf(text, &line.line)
@@ -61,7 +61,7 @@ fn push_mine(text: &mut Vec<u8>, line: &MineLine) -> Result<(), Fault>
 
 fn push_shelf(text: &mut Vec<u8>, line: &ShelfLine) -> Result<(), Fault>
     ensures value { Adds result text.old.items text.new.items (line_of (shelf_columns line.now)) }
-    ensures err { IfErr result (λ e. e ≡ Memory) }
+    ensures err { OnlyMemory result }
 {
     let mut buffer = Buffer::new();
     push_left(text, 24, line.tag.as_bytes())?;

@@ -1,6 +1,6 @@
-ghost use Rattle.std.specs.Prelude.{◌≡◌, IfOk, IfErr, OnOk, IsTrue};
+ghost use Rattle.std.specs.Prelude.{◌≡◌, IfOk, OnOk, IsTrue};
 ghost use Rattle.std.specs.List.{list_all};
-ghost use Rattle.plant_types.specs.declared.fault.Fault.TheVariants.{Memory};
+ghost use Rattle.plant_types.specs.Results.{OnlyMemory};
 ghost use Rattle.plant_route.specs.Routes.{insert, unit_posts, alarm_posts, service_posts, change_posts, alarm_gets, unit_gets, own_gets, post_rows, get_rows, with_routes, route_in, route_of, is_path_byte, is_path};
 
 use matchit::Router;
@@ -11,7 +11,7 @@ use std::alloc::Global;
 /// Adds a route. A router without room for it is short of memory.
 fn add(router: &mut Router<CallKind>, path: &str, kind: CallKind) -> Result<(), Fault>
     ensures ok { OnOk result (router.new ≡ insert router.old path.now kind) }
-    ensures err { IfErr result (λ e. e ≡ Memory) }
+    ensures err { OnlyMemory result }
 {
     match router.insert(path, kind) {
         Ok(()) => Ok(()),
@@ -22,7 +22,7 @@ fn add(router: &mut Router<CallKind>, path: &str, kind: CallKind) -> Result<(), 
 #[tactic(auto, unfolding(crate::specs::Routes::unit_posts))]
 fn add_unit_posts(router: &mut Router<CallKind>) -> Result<(), Fault>
     ensures ok { OnOk result (router.new ≡ with_routes unit_posts router.old) }
-    ensures err { IfErr result (λ e. e ≡ Memory) }
+    ensures err { OnlyMemory result }
 {
     add(router, "/units/{unit}", CallKind::OpenUnit)?;
     add(router, "/units/{unit}/grants", CallKind::Grant)?;
@@ -35,7 +35,7 @@ fn add_unit_posts(router: &mut Router<CallKind>) -> Result<(), Fault>
 #[tactic(auto, unfolding(crate::specs::Routes::alarm_posts))]
 fn add_alarm_posts(router: &mut Router<CallKind>) -> Result<(), Fault>
     ensures ok { OnOk result (router.new ≡ with_routes alarm_posts router.old) }
-    ensures err { IfErr result (λ e. e ≡ Memory) }
+    ensures err { OnlyMemory result }
 {
     add(
         router,
@@ -58,7 +58,7 @@ fn add_alarm_posts(router: &mut Router<CallKind>) -> Result<(), Fault>
 #[tactic(auto, unfolding(crate::specs::Routes::service_posts))]
 fn add_service_posts(router: &mut Router<CallKind>) -> Result<(), Fault>
     ensures ok { OnOk result (router.new ≡ with_routes service_posts router.old) }
-    ensures err { IfErr result (λ e. e ≡ Memory) }
+    ensures err { OnlyMemory result }
 {
     add(
         router,
@@ -76,7 +76,7 @@ fn add_service_posts(router: &mut Router<CallKind>) -> Result<(), Fault>
 #[tactic(auto, unfolding(crate::specs::Routes::change_posts))]
 fn add_change_posts(router: &mut Router<CallKind>) -> Result<(), Fault>
     ensures ok { OnOk result (router.new ≡ with_routes change_posts router.old) }
-    ensures err { IfErr result (λ e. e ≡ Memory) }
+    ensures err { OnlyMemory result }
 {
     add(router, "/units/{unit}/changes", CallKind::Propose)?;
     add(
@@ -96,7 +96,7 @@ fn add_change_posts(router: &mut Router<CallKind>) -> Result<(), Fault>
 #[tactic(auto, unfolding(crate::specs::Routes::alarm_gets))]
 fn add_alarm_gets(router: &mut Router<CallKind>) -> Result<(), Fault>
     ensures ok { OnOk result (router.new ≡ with_routes alarm_gets router.old) }
-    ensures err { IfErr result (λ e. e ≡ Memory) }
+    ensures err { OnlyMemory result }
 {
     add(router, "/units/{unit}/alarms/{tag}", CallKind::Status)?;
     add(
@@ -111,7 +111,7 @@ fn add_alarm_gets(router: &mut Router<CallKind>) -> Result<(), Fault>
 #[tactic(auto, unfolding(crate::specs::Routes::unit_gets))]
 fn add_unit_gets(router: &mut Router<CallKind>) -> Result<(), Fault>
     ensures ok { OnOk result (router.new ≡ with_routes unit_gets router.old) }
-    ensures err { IfErr result (λ e. e ≡ Memory) }
+    ensures err { OnlyMemory result }
 {
     add(router, "/units/{unit}/alarms", CallKind::Alarms)?;
     add(router, "/units/{unit}/shelves", CallKind::Shelves)?;
@@ -127,7 +127,7 @@ fn add_unit_gets(router: &mut Router<CallKind>) -> Result<(), Fault>
 #[tactic(auto, unfolding(crate::specs::Routes::own_gets))]
 fn add_own_gets(router: &mut Router<CallKind>) -> Result<(), Fault>
     ensures ok { OnOk result (router.new ≡ with_routes own_gets router.old) }
-    ensures err { IfErr result (λ e. e ≡ Memory) }
+    ensures err { OnlyMemory result }
 {
     add(router, "/units", CallKind::MyUnits)?;
     add(router, "/shelves", CallKind::MyShelves)?;
@@ -137,7 +137,7 @@ fn add_own_gets(router: &mut Router<CallKind>) -> Result<(), Fault>
 #[tactic(auto, unfolding(crate::specs::Routes::post_rows))]
 fn post_routes(alloc: Global) -> Result<Router<CallKind>, Fault>
     ensures ok { IfOk result (λ router. router ≡ post_rows) }
-    ensures err { IfErr result (λ e. e ≡ Memory) }
+    ensures err { OnlyMemory result }
 {
     let mut router = Router::new(alloc);
     add_unit_posts(&mut router)?;
@@ -150,7 +150,7 @@ fn post_routes(alloc: Global) -> Result<Router<CallKind>, Fault>
 #[tactic(auto, unfolding(crate::specs::Routes::get_rows))]
 fn get_routes(alloc: Global) -> Result<Router<CallKind>, Fault>
     ensures ok { IfOk result (λ router. router ≡ get_rows) }
-    ensures err { IfErr result (λ e. e ≡ Memory) }
+    ensures err { OnlyMemory result }
 {
     let mut router = Router::new(alloc);
     add_alarm_gets(&mut router)?;
@@ -171,7 +171,7 @@ pub struct Routes {
 impl Routes {
     /// All routes.
     pub fn new(alloc: Global) -> Result<Routes, Fault>
-        ensures { IfErr result (λ e. e ≡ Memory) }
+        ensures { OnlyMemory result }
     {
         Ok(Routes {
             post: post_routes(alloc)?,

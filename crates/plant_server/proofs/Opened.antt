@@ -8,7 +8,7 @@ use Rattle.plant_books.specs.Contents.{Content}
 use Rattle.plant_server.specs.Files.{HoldBooks, HoldDatabase}
 use Rattle.plant_store.proofs.public.Databases.{same_database}
 use Rattle.plant_store.specs.Changes.{IsHonest}
-use Rattle.plant_store.specs.Keeping.{HaveRows, Keeps}
+use Rattle.plant_store.specs.Keeping.{HaveRows, Represents}
 
 module _ (files : Image) (s : State) (opened : HasCleanDisk s → Opens s × IsLive s) (found : HasCleanDisk s → FindsIn files s) where
   pub same_now : IsHonest s → (db : Database) → HoldDatabase files db → s.now ≡ db
@@ -17,5 +17,5 @@ module _ (files : Image) (s : State) (opened : HasCleanDisk s → Opens s × IsL
       same_database db s.now held.listed (it.1 tells.1).0
       (ap (λ (d : Database). d.trees) it.0.clean ∙ (found tells.0).holds db.trees held.trees)
 
-  pub kept : (m : Content) → HoldBooks files m → Keeps s m
+  pub kept : (m : Content) → HoldBooks files m → Represents s m
   kept m held tells = subst (HaveRows m) (sym (same_now tells held.db held.database)) held.rows

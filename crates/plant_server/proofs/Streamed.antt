@@ -4,12 +4,12 @@ use Rattle.plant_model.specs.declared.call.Call.{Call}
 use Rattle.plant_model.specs.declared.reply.Answer.{Answer}
 use Rattle.plant_server.specs.Statuses.{IsStreamed, Whatever}
 use Rattle.plant_wire.specs.Session.{EndsAs, IsCutShort}
-use Rattle.plant_wire.specs.Step.{Serves, ServesBroken, ServesPart}
+use Rattle.plant_wire.specs.Step.{AnswersFront, ServesBroken, ServesPart}
 use Rattle.plant_wire.specs.declared.reads.End.{End}
 use Rattle.plant_wire.specs.declared.reads.End.TheVariants.{BrokenInput, Closed, Fault, ReadFailed, WriteFailed}
 
 module _ (o o' : Option (List ℕ)) (ran : List Call → List Answer → Type 0) where
-  whole : {bytes rest : List ℕ} → Serves bytes o o' ran rest → Serves bytes o o' Whatever rest
+  whole : {bytes rest : List ℕ} → AnswersFront bytes o o' ran rest → AnswersFront bytes o o' Whatever rest
   whole s = record { marks = s.marks; parses = s.parses; writes = s.writes; served = tt }
 
   broken : {bytes : List ℕ} → ServesBroken bytes o o' ran → ServesBroken bytes o o' Whatever

@@ -56,9 +56,9 @@ abbrev pub IsOfPort : ℕ → Type 0
 IsOfPort n = (result : Result (Unit {0}) Failed) × (n ≡ served result)
 
 -- over books: one session ended, or the connections of a port were served
-abbrev pub IsServed : Option Service → Option (List ℕ) → Option (List ℕ) → Option (List ℕ) → Option (List ℕ) → ℕ → Type 0
-IsServed None r r' o o' n = IsStreamed r r' o o' Whatever n
-IsServed (Some service) r r' o o' n = IsOfPort n
+abbrev pub HasServed : Option Service → Option (List ℕ) → Option (List ℕ) → Option (List ℕ) → Option (List ℕ) → ℕ → Type 0
+HasServed None r r' o o' n = IsStreamed r r' o o' Whatever n
+HasServed (Some service) r r' o o' n = IsOfPort n
 
 -- an older file was to be migrated
 abbrev pub IsOfMigration : ℕ → Type 0
@@ -66,7 +66,7 @@ IsOfMigration n = (outcome : Result (Unit {0}) StoreFault) × (n ≡ status_of_m
 
 -- what a line's words ask for was done, or no books were opened for it; a migration reads no request
 abbrev pub IsFollowed : Task → Option (List ℕ) → Option (List ℕ) → Option (List ℕ) → Option (List ℕ) → ℕ → Type 0
-IsFollowed (Serve db service) r r' o o' n = (n ≡ unready) ⊎ IsServed service r r' o o' n
+IsFollowed (Serve db service) r r' o o' n = (n ≡ unready) ⊎ HasServed service r r' o o' n
 IsFollowed (Migrate old new) r r' o o' n = (r' ≡ r) × IsOfMigration n
 
 -- a status of the program: that of a session, of a port or of a migration, that no books were opened, or that the words

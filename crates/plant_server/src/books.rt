@@ -2,7 +2,7 @@ ghost use Rattle.std.specs.Prelude.{◌≡◌, ◌≢◌, IfErr, IfOk};
 ghost use Rattle.sqlite.specs.Held.{state};
 ghost use Rattle.sqlite.specs.Steps.{over_memory};
 ghost use Rattle.plant_books.specs.Contents.{no_units};
-ghost use Rattle.plant_store.specs.Keeping.{Keeps};
+ghost use Rattle.plant_store.specs.Keeping.{Represents};
 
 use plant_store::{StoreFault, Tables};
 use plant_types::{Fault, Person};
@@ -12,7 +12,7 @@ use std::alloc::Global;
 /// New books in memory.
 pub fn in_memory(alloc: Global, admin: Person) -> Result<Tables<MemStore>, StoreFault>
     ensures own { IfOk result (λ books. (books.0.1 ≡ admin) × (books.1 ≡ 0)) }
-    ensures new { IfOk result (λ books. Keeps (state over_memory books.0.0) (no_units admin)) }
+    ensures new { IfOk result (λ books. Represents (state over_memory books.0.0) (no_units admin)) }
     ensures made { IfErr result (λ e. e ≢ StoreFault.NotThisStore) }
 {
     let Ok(conn) = Connection::open_in_memory(alloc) else {

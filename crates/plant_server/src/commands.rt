@@ -1,6 +1,7 @@
 ghost use Rattle.std.specs.Prelude.{◌≡◌, ◌⊎◌, IfErr, IfOk};
+ghost use Rattle.plant_books.specs.Books.{WasHonest};
 ghost use Rattle.plant_server.specs.Statuses as statuses;
-ghost use Rattle.plant_server.specs.Statuses.{IsFollowed, IsOfMigration, IsOfPort, IsServed, IsStreamed, Whatever};
+ghost use Rattle.plant_server.specs.Statuses.{IsFollowed, IsOfMigration, IsOfPort, HasServed, IsStreamed, Whatever};
 ghost use Rattle.plant_connections.specs.Connections.{RanFrom};
 
 use crate::books::in_memory;
@@ -82,7 +83,7 @@ fn serve_streams<B: Books, I: Inlet, O: Outlet, E: Write>(
         (RanFrom B.Books office.old.books office.new.books) result }
     ensures streamed { IsStreamed (I.remaining inlet.old) (I.remaining inlet.new)
         (O.written outlet.old) (O.written outlet.new) Whatever result }
-    ensures honest { B.is_honest office.new.books → B.is_honest office.old.books }
+    ensures honest { WasHonest B.is_honest office.old.books office.new.books }
 {
     let end = session(alloc, inlet, outlet, office);
     ended(errors, end)
@@ -133,7 +134,7 @@ fn serve_office<B: Books, I: Inlet, O: Outlet + Write, E: Write>(
     outlet: &mut O,
     errors: &mut E,
 ) -> u8
-    ensures { IsServed service (I.remaining inlet.old) (I.remaining inlet.new)
+    ensures { HasServed service (I.remaining inlet.old) (I.remaining inlet.new)
         (O.written outlet.old) (O.written outlet.new) result }
 {
     match service {
@@ -152,7 +153,7 @@ fn serve_books<S: Alter + Drop, I: Inlet, O: Outlet + Write, E: Write>(
     outlet: &mut O,
     errors: &mut E,
 ) -> (u8, Tables<S>)
-    ensures { IsServed service (I.remaining inlet.old) (I.remaining inlet.new)
+    ensures { HasServed service (I.remaining inlet.old) (I.remaining inlet.new)
         (O.written outlet.old) (O.written outlet.new) result.0 }
 {
     let alloc = rt.alloc();
@@ -180,7 +181,7 @@ fn serve_opened<S: Alter + Drop, I: Inlet, O: Outlet + Write, E: Write>(
     outlet: &mut O,
     errors: &mut E,
 ) -> (u8, Option<Tables<S>>)
-    ensures served { IfOk opened (λ _. IsServed service
+    ensures served { IfOk opened (λ _. HasServed service
         (I.remaining inlet.old) (I.remaining inlet.new)
         (O.written outlet.old) (O.written outlet.new) result.0) }
     ensures unready { IfErr opened (λ _. result.0 ≡ statuses.unready) }
@@ -205,7 +206,7 @@ fn serve<I: Inlet, O: Outlet + Write, E: Write>(
     errors: &mut E,
 ) -> u8
     ensures { (result ≡ statuses.unready)
-        ⊎ IsServed service (I.remaining inlet.old) (I.remaining inlet.new)
+        ⊎ HasServed service (I.remaining inlet.old) (I.remaining inlet.new)
         (O.written outlet.old) (O.written outlet.new) result }
 {
     match db {

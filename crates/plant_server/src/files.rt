@@ -13,8 +13,9 @@ ghost use Rattle.plant_books.specs.Contents.{Content};
 ghost use Rattle.plant_server.specs.Files as files;
 ghost use Rattle.plant_server.specs.Files.{HoldBooks, HoldDatabase};
 ghost use Rattle.plant_store.specs.Changes.{IsHonest};
-ghost use Rattle.plant_store.specs.Keeping.{Keeps};
+ghost use Rattle.plant_store.specs.Keeping.{Represents};
 ghost use Rattle.plant_store.specs.Opening.{IsThisOffice};
+ghost use Rattle.plant_store.specs.Reading.{HasNoTransaction};
 
 use plant_store::{StoreFault, Tables};
 use plant_types::{Fault, Person};
@@ -43,7 +44,7 @@ pub fn connect<S: Start>(
     path: &str,
     start: S,
 ) -> Result<Connection<FileStore<FileFrom<S>>>, StoreFault>
-    ensures mode { IfOk result (λ conn. conn.in_transaction ≡ false) }
+    ensures mode { IfOk result (λ conn. HasNoTransaction conn) }
     ensures opened { IfOk result (λ conn. HasCleanDisk (file_state conn) → IsOpened conn) }
     ensures found { IfOk result (λ conn. HasCleanDisk (file_state conn)
         → FindsIn (image_at S.Start) (file_state conn)) }
@@ -68,7 +69,7 @@ fn open_file<S: Start>(
 ) -> Result<Tables<FileStore<FileFrom<S>>>, StoreFault>
     ensures own { IfOk result (λ books. (books.0.1 ≡ admin) × (books.1 ≡ 0)) }
     ensures kept { (m : Content) → HoldBooks (image_at S.Start) m
-        → IfOk result (λ books. Keeps (file_state books.0.0) m) }
+        → IfOk result (λ books. Represents (file_state books.0.0) m) }
     ensures office { (db : Database) → HoldDatabase (image_at S.Start) db
         → IfOk result (λ books. IsHonest (file_state books.0.0) → IsThisOffice admin db) }
 {
@@ -166,7 +167,7 @@ pub fn in_file<S: Start>(
 ) -> Result<Tables<FileStore<FileFrom<S>>>, StoreFault>
     ensures own { IfOk result (λ books. (books.0.1 ≡ admin) × (books.1 ≡ 0)) }
     ensures kept { (m : Content) → HoldBooks (image_at S.Start) m
-        → IfOk result (λ books. Keeps (file_state books.0.0) m) }
+        → IfOk result (λ books. Represents (file_state books.0.0) m) }
     ensures office { (db : Database) → HoldDatabase (image_at S.Start) db
         → IfOk result (λ books. IsHonest (file_state books.0.0) → IsThisOffice admin db) }
 {

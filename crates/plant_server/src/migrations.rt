@@ -1,6 +1,7 @@
 //! The migration of a file of the older schema: its tables are copied to a new file.
 
-ghost use Rattle.std.specs.Prelude.{◌≡◌, false};
+ghost use Rattle.std.specs.Prelude.{false};
+ghost use Rattle.plant_store.specs.Reading.{HasNoTransaction};
 
 use crate::files::{
     NewNames, STORE, beside, connect, fault_of, is_there, length_of, new_names, put_in_place,
@@ -55,8 +56,8 @@ fn copy_tables<N: Alter + Drop>(
     new: Connection<N>,
     admin: Person,
 ) -> (Connection<FileStore<File>>, Result<Tables<N>, StoreFault>)
-    requires older { old.in_transaction ≡ false }
-    requires newer { new.in_transaction ≡ false }
+    requires older { HasNoTransaction old }
+    requires newer { HasNoTransaction new }
 {
     match migrate(alloc, old, new, admin) {
         Ok((old, books)) => (old, Ok(books)),
@@ -74,7 +75,7 @@ fn copy_to_file(
     Connection<FileStore<File>>,
     Result<Tables<FileStore<File>>, StoreFault>,
 )
-    requires { old.in_transaction ≡ false }
+    requires { HasNoTransaction old }
 {
     match connect(rt, path, Unknown) {
         Ok(conn) => copy_tables(rt.alloc(), old, conn, admin),
@@ -94,7 +95,7 @@ fn make_new(
     Connection<FileStore<File>>,
     Result<Tables<FileStore<File>>, StoreFault>,
 )
-    requires { old.in_transaction ≡ false }
+    requires { HasNoTransaction old }
 {
     if let Err(fault) = clear(rt, old_path, new) {
         return (old, Err(fault));

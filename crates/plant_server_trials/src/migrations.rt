@@ -1,6 +1,7 @@
 //! Stores of schema 1 that are migrated: the office over the new store, and the program's command over files.
 
-ghost use Rattle.std.specs.Prelude.{◌≡◌, false};
+ghost use Rattle.std.specs.Prelude.{false};
+ghost use Rattle.plant_store.specs.Reading.{HasNoTransaction};
 
 use crate::commands::{Written, is_text, said, said_to};
 use plant_examples::{Exchanges, LOOKED_AT, push_all};
@@ -65,7 +66,7 @@ fn run<S: Alter>(stop: &impl Abort, conn: &mut Connection<S>, statements: &str) 
 
 /// A store of schema 1 in memory.
 fn older(rt: &(impl Abort + AllocGlobal)) -> Connection<MemStore>
-    ensures { result.in_transaction ≡ false }
+    ensures { HasNoTransaction result }
 {
     let mut conn = Connection::open_in_memory(rt.alloc()).expect(rt, "a database");
     run(rt, &mut conn, SCHEMA);

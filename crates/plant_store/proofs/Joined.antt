@@ -29,7 +29,7 @@ use Rattle.plant_columns.proofs.public.Keys.{equal_is, by_columns_total}
 use Rattle.plant_columns.proofs.public.Kept.{all-sort, no_ties-out, sort-filter}
 use Rattle.plant_columns.proofs.public.Joins.{joins, meets, met}
 use Rattle.plant_columns.proofs.public.Shapes.{named}
-use Rattle.plant_store.specs.Keeping.{KeepsIn, has_any}
+use Rattle.plant_store.specs.Keeping.{HasContent, has_any}
 use Rattle.plant_store.specs.Mine.{is_named, last_in, line_at, line_cells, lines_of}
 use Rattle.plant_columns.specs.Tables.{books_schema, grant_shape, rows_seen, unit_shape}
 use Rattle.plant_columns.specs.Tables.Kept.{UnitKept, GrantKept}
@@ -104,7 +104,7 @@ pub any_sorted : {B : Type 0} (f : Row → B) (cmp : Row → Row → Ordering) (
 any_sorted f cmp [] r h = absurd h
 any_sorted f cmp (x ∷ xs) r h = any_inserted f cmp x (sort_by cmp xs)
 
-module _ (s : State) (m : Content) (k : KeepsIn s m) where
+module _ (s : State) (m : Content) (k : HasContent s m) where
   -- a unit with a grant was opened
   with_unit : (q : Name) → has_any (rows_seen q s.now.trees GrantKept) ≡ true → has_any (rows_seen q s.now.trees UnitKept) ≡ true
   with_unit q any = go (get m.units q) refl

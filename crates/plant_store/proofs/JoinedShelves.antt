@@ -38,7 +38,7 @@ use Rattle.plant_columns.proofs.public.Keys.{by_columns_total, equal_is}
 use Rattle.plant_columns.proofs.public.Kept.{all-sort, sort-filter}
 use Rattle.plant_columns.proofs.public.Shapes.{named, shown_kept, some_kept}
 use Rattle.plant_types.specs.Names.{Name, name_cmp, same_name}
-use Rattle.plant_store.specs.Keeping.{KeepsIn, has_any}
+use Rattle.plant_store.specs.Keeping.{HasContent, has_any}
 use Rattle.plant_store.specs.Shelves.{all_shelves, is_again, line_with, lines_beside, shelf_line_cells, shelf_lines, shelves_under, unit_shelf}
 use Rattle.plant_store.specs.Texts.{mine_shelves_text}
 use Rattle.plant_store.specs.declared.shelves.UnitShelf.{UnitShelf}
@@ -108,7 +108,7 @@ inside p g u v h k less =
 named_same : (a b : Name) → is_eq (value_cmp (Text a) (Text b)) ≡ same_name b a
 named_same a b = ap is_eq (value_cmp-Text a b) ∙ (eq_by_cmp_equiv nat_list_cmp_total).symm a b
 
-module _ (s : State) (m : Content) (k : KeepsIn s m) where
+module _ (s : State) (m : Content) (k : HasContent s m) where
   abbrev seen_shelf : Row → UnitShelf
   seen_shelf r = unit_shelf (bytes (column r 1)) (shelf_shape.read r)
 

@@ -32,7 +32,7 @@ use Rattle.plant_columns.proofs.public.Kept.{all-kept, all-sort, no_ties-out, so
 use Rattle.plant_columns.proofs.public.Joins.{strict-sort}
 use Rattle.plant_columns.proofs.public.Shapes.{named}
 use Rattle.plant_store.specs.declared.mine.Line.{Line}
-use Rattle.plant_store.specs.Keeping.{KeepsIn, has_any}
+use Rattle.plant_store.specs.Keeping.{HasContent, has_any}
 use Rattle.plant_store.specs.Mine.{is_named, last_in, line_at, lines_of, runs_of, standing_lines}
 use Rattle.plant_columns.specs.Tables.{grant_shape, rows_seen}
 use Rattle.plant_columns.specs.Tables.Kept.{UnitKept, GrantKept}
@@ -73,7 +73,7 @@ any_role t p (g ∷ gs) = go (is_held_by t p g) (any_role t p gs)
     go true more = refl
     go false more = more
 
-module _ (s : State) (m : Content) (k : KeepsIn s m) (t : ℕ) (p : Name) where
+module _ (s : State) (m : Content) (k : HasContent s m) (t : ℕ) (p : Name) where
   unit_at : (q : Name) → Option MineUnit
   unit_at q = mine_unit t p q (get m.units q)
 

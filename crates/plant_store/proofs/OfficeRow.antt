@@ -24,7 +24,7 @@ use Rattle.plant_store.proofs.public.Contents.{keeps_same}
 use Rattle.plant_store.proofs.OfficeMeaning.{is_refused, is_understood, query}
 use Rattle.plant_store.proofs.ThreeColumns.{IsColumn}
 use Rattle.plant_store.specs.Changes.{IsHonest}
-use Rattle.plant_store.specs.Keeping.{Keeps, KeepsIn}
+use Rattle.plant_store.specs.Keeping.{Represents, HasContent}
 use Rattle.plant_store.specs.Opening.{IsOffice, IsThisOffice, has_office, is_office, office_cells, office_in, office_shown, place_named}
 use Rattle.plant_store.specs.Texts.{office_row_text}
 use Rattle.plant_columns.proofs.public.Laws.{reads, shows}
@@ -145,9 +145,9 @@ module _ (n : ℕ) (admin : Name) (old new : State) (t : Table) (is_there : offi
 
 -- ---- the books of this office
 
-pub keeps_asked : (old new : State) (m : Content) → Keeps old m → (IsHonest new → IsHonest old) → (IsHonest new → AreBooks old.now → new.now ≡ old.now) → Keeps new m
+pub keeps_asked : (old new : State) (m : Content) → Represents old m → (IsHonest new → IsHonest old) → (IsHonest new → AreBooks old.now → new.now ≡ old.now) → Represents new m
 keeps_asked old new m keeps honest same now = let k = keeps (honest now) in keeps_same old new m k (same now k.books)
 
-pub is_this_office : (s : State) (m : Content) → KeepsIn s m → IsThisOffice m.admin s.now
+pub is_this_office : (s : State) (m : Content) → HasContent s m → IsThisOffice m.admin s.now
 unfolding same_name
 is_this_office s m k = record { table = office_table; is_there = rw k.books.same_schema; has_columns = refl; row = ap (map (office_shown office_table)) k.office }

@@ -29,7 +29,7 @@ use Rattle.plant_books.proofs.public.EventLaws.{none_asked}
 use Rattle.plant_books.specs.Asking.{is_wanted, looks_at_events}
 use Rattle.plant_books.specs.declared.asking.Wanted.{Wanted}
 use Rattle.plant_books.specs.declared.asking.Wanted.TheVariants.{Every, Nothing, One}
-use Rattle.plant_store.specs.Keeping.{KeepsIn, has_any}
+use Rattle.plant_store.specs.Keeping.{HasContent, has_any}
 use Rattle.plant_columns.specs.Tables.{rows_seen}
 use Rattle.plant_columns.specs.Tables.Kept.{UnitKept, GrantKept, AlarmKept, ShelfKept, BandKept, CellKept, EventKept, RecordKept, ChangeKept}
 use Rattle.plant_store.specs.Wanted.{alarms_with, events_with, records_with, shelves_with}
@@ -74,7 +74,7 @@ counts_events (Import u file) counts = refl
 counts_events (Floods u begin until) counts = refl
 counts_events _ counts = absurd (let no = counts (record no_rows { events = some_event ∷ [] }) in omega (arith, no))
 
-module _ (s : State) (m : Content) (u : Name) (k : KeepsIn s m) where
+module _ (s : State) (m : Content) (u : Name) (k : HasContent s m) where
   seen_grants : (c : Call) (chosen : Selection) (all : Bool) → ((p : Pair) → chosen.pair p ≡ all) → filter (λ g. same_name c.person g.person || all) (rows_seen u s.now.trees GrantKept) ≡ (rows_selected c.person chosen (rows_in m u)).grants
   seen_grants c chosen all h = filter_same (λ g. same_name c.person g.person || all) (λ g. same_name c.person g.person || chosen.pair (pair_of g)) (λ g. ap (λ b. same_name c.person g.person || b) (sym (h (pair_of g)))) (rows_seen u s.now.trees GrantKept)
       ∙ ap (filter (λ g. same_name c.person g.person || chosen.pair (pair_of g))) (k.seen u GrantKept)

@@ -20,8 +20,8 @@ pub record HaveRows (m : Content) (db : Database) : Type 0 where
   pub opened : (u : Name) → contains_key m.units u ≡ has_any (rows_in m u).units
 
 -- what a connection shows has them
-abbrev pub KeepsIn : State → Content → Type 0
-KeepsIn s m = HaveRows m s.now
+abbrev pub HasContent : State → Content → Type 0
+HasContent s m = HaveRows m s.now
 
-abbrev pub Keeps : State → Content → Type 0
-Keeps s m = IsHonest s → KeepsIn s m
+abbrev pub Represents : State → Content → Type 0
+Represents s m = IsHonest s → HasContent s m

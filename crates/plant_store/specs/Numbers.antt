@@ -23,5 +23,5 @@ abbrev pub is_source_of : List RecordEntry → ℕ → Bool
 is_source_of records k = list_any (λ r. same_number k r.change_no) records
 
 -- numbers that passed a test are those that pass it or this one
-abbrev pub Adds : List ℕ → (ℕ → Bool) → List ℕ → Type 0
-Adds before passes after = (p : ℕ → Bool) → AreNumbers before p → AreNumbers after (λ k. p k || passes k)
+abbrev pub AddsNumbers : List ℕ → (ℕ → Bool) → List ℕ → Type 0
+AddsNumbers before passes after = (p : ℕ → Bool) → AreNumbers before p → AreNumbers after (λ k. p k || passes k)

@@ -6,7 +6,7 @@ use Rattle.plant_books.specs.Contents.{Content}
 use Rattle.plant_store.specs.declared.tables.StoreFault.{StoreFault}
 use Rattle.plant_store.specs.declared.tables.StoreFault.TheVariants.{NotThisStore}
 use Rattle.plant_store.specs.Changes.{IsHonest}
-use Rattle.plant_store.specs.Keeping.{Keeps}
+use Rattle.plant_store.specs.Keeping.{Represents}
 use Rattle.plant_store.specs.OldTables.{AreOldBooks}
 use Rattle.plant_store.specs.Opening.{IsOffice, has_office}
 use Rattle.plant_types.specs.Names.{Name}
@@ -33,12 +33,12 @@ IsAnothers g before after schema admin fault = fault ≡ NotThisStore → IsHone
 
 -- every content that was kept before is kept after
 abbrev pub KeepsAll : {S : Type 0} → Ghosts S → Held S → Held S → Type 0
-KeepsAll g before after = (m : Content) → Keeps (state g before) m → Keeps (state g after) m
+KeepsAll g before after = (m : Content) → Represents (state g before) m → Represents (state g after) m
 
 -- after a success the connection in the result keeps every content that was kept before
 abbrev pub KeepsIfOk : {S A E : Type 0} → Ghosts S → Held S → Result A E → (A → Held S) → Type 0
-KeepsIfOk g before said conn_of = (m : Content) → Keeps (state g before) m → IfOk said (λ taken. Keeps (state g (conn_of taken)) m)
+KeepsIfOk g before said conn_of = (m : Content) → Represents (state g before) m → IfOk said (λ taken. Represents (state g (conn_of taken)) m)
 
 -- after a refusal the connection in the error keeps every content that was kept before
 abbrev pub KeepsIfErr : {S A E : Type 0} → Ghosts S → Held S → Result A E → (E → Held S) → Type 0
-KeepsIfErr g before said conn_of = (m : Content) → Keeps (state g before) m → IfErr said (λ refused. Keeps (state g (conn_of refused)) m)
+KeepsIfErr g before said conn_of = (m : Content) → Represents (state g before) m → IfErr said (λ refused. Represents (state g (conn_of refused)) m)

@@ -10,14 +10,14 @@ use Rattle.sqlite.proofs.Callers.{IsPlain}
 use Rattle.sqlite_trees.specs.declared.store.Store.{Ghosts}
 use Rattle.sqlite_value.specs.declared.value.ValueRef.{ValueRef}
 use Rattle.sqlite_value.specs.Order.{Row as Line}
-use Rattle.std.specs.Prelude.{IfOk, List, Result, filter, map, ℕ, ◌≡◌}
+use Rattle.std.specs.Prelude.{IfOk, List, Result, false, filter, map, ℕ, ◌≡◌}
 use Rattle.plant_books.specs.Contents.{Content}
 use Rattle.plant_columns.specs.Shown.{columns}
 use Rattle.plant_columns.specs.Tables.{AreBooks}
 use Rattle.plant_model.specs.Histories.{same_number}
 use Rattle.plant_store.specs.declared.old_rows.CodeLine.{CodeLine}
 use Rattle.plant_store.specs.Changes.{IsHonest}
-use Rattle.plant_store.specs.Keeping.{KeepsIn}
+use Rattle.plant_store.specs.Keeping.{HasContent}
 use Rattle.plant_store.specs.OldTables.{AreOldBooks}
 use Rattle.plant_store.specs.OnlyReads.{OnlyReads, OnlyReadsOld}
 use Rattle.plant_store.specs.Upgrading.{old_codes}
@@ -31,9 +31,13 @@ ReadsBooks g before after = OnlyReads (state g before) (state g after)
 abbrev pub ReadsOldBooks : {S : Type 0} → Ghosts S → Held S → Held S → Type 0
 ReadsOldBooks g before after = OnlyReadsOld (state g before) (state g after)
 
--- if the disk is honest and the store open after it, they were before
-abbrev pub WasHonest : {S : Type 0} → Ghosts S → Held S → Held S → Type 0
-WasHonest g before after = IsHonest (state g after) → IsHonest (state g before)
+-- no transaction is begun
+abbrev pub HasNoTransaction : {S : Type 0} → Held S → Type 0
+HasNoTransaction conn = conn.in_transaction ≡ false
+
+-- the disk is honest and the store open
+abbrev pub IsHonestIn : {S : Type 0} → Ghosts S → Held S → Type 0
+IsHonestIn g conn = IsHonest (state g conn)
 
 -- on an honest disk a plain query leaves the database as it was, whatever its schema is
 abbrev pub SameIfPlain : {S : Type 0} → Ghosts S → Held S → Held S → List ℕ → Type 0
@@ -79,6 +83,6 @@ LoadsOldCodes g before after said =
     → IfOk said (λ lines. map (λ l. l.unit) lines ≡ old_codes (state g before).now.trees)
 
 -- on an honest disk the result is this of every content that the books hold
-abbrev pub Finds : {S A E : Type 0} → Ghosts S → Held S → Held S → Result A E → (Content → A) → Type 0
-Finds g before after said what =
-    IsHonest (state g after) → (m : Content) → KeepsIn (state g before) m → IfOk said (λ found. found ≡ what m)
+abbrev pub ReadsContent : {S A E : Type 0} → Ghosts S → Held S → Held S → Result A E → (Content → A) → Type 0
+ReadsContent g before after said what =
+    IsHonest (state g after) → (m : Content) → HasContent (state g before) m → IfOk said (λ found. found ≡ what m)

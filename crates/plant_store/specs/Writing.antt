@@ -54,8 +54,8 @@ Updates g before after unit change said =
     → IfOk said (λ count. Applies unit (changes_written count change) (state g before.conn.now).now (state g after.conn.now).now)
 
 -- after a success on a clean disk a database that was such before is such now
-abbrev pub Makes : {S V E : Type 0} → Ghosts S → Transaction S → Transaction S → (Database → Type 0) → (Database → Type 0) → Result V E → Type 0
-Makes g before after Was Is said =
+abbrev pub LeadsTo : {S V E : Type 0} → Ghosts S → Transaction S → Transaction S → (Database → Type 0) → (Database → Type 0) → Result V E → Type 0
+LeadsTo g before after Was Is said =
     HasCleanDisk (state g after.conn.now) → IsTrue before.conn.now.in_transaction → Was (state g before.conn.now).now
     → OnOk said (Is (state g after.conn.now).now)
 

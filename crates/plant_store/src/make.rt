@@ -1,12 +1,13 @@
 //! The tables of new books.
 
-ghost use Rattle.std.specs.Prelude.{◌≡◌, false, OnOk};
+ghost use Rattle.std.specs.Prelude.{OnOk};
 ghost use Rattle.sqlite.specs.Held.{state};
+ghost use Rattle.plant_books.specs.Books.{WasHonest};
 ghost use Rattle.plant_store.specs.Changes.{IsHonest};
 ghost use Rattle.plant_store.specs.Making.{AreEmpty, AreNew};
 ghost use Rattle.plant_columns.specs.Tables.{no_schema, grants_schema, shelves_schema, events_schema, changes_schema};
-ghost use Rattle.plant_store.specs.Reading.{WasHonest};
-ghost use Rattle.plant_store.specs.Writing.{IsBlank, Makes, SameOnErr, SameReference, StaysOpen};
+ghost use Rattle.plant_store.specs.Reading.{HasNoTransaction, IsHonestIn};
+ghost use Rattle.plant_store.specs.Writing.{IsBlank, LeadsTo, SameOnErr, SameReference, StaysOpen};
 
 use crate::write::run;
 use plant_columns::encode::single;
@@ -16,7 +17,7 @@ use sqlite::{Alter, Connection, Error, Transaction};
 /// Makes the tables of the office, of units and of grants.
 fn make_grants<S: Alter>(tx: &mut Transaction<'_, S>) -> Result<(), Error>
     ensures same_reference { SameReference tx.old tx.new }
-    ensures made { Makes S.Store tx.old tx.new
+    ensures made { LeadsTo S.Store tx.old tx.new
         (AreEmpty no_schema) (AreEmpty grants_schema) result }
     ensures stays { StaysOpen S.Store tx.old tx.new result }
 {
@@ -41,7 +42,7 @@ fn make_grants<S: Alter>(tx: &mut Transaction<'_, S>) -> Result<(), Error>
 /// Makes the tables of alarms and of shelves.
 fn make_shelves<S: Alter>(tx: &mut Transaction<'_, S>) -> Result<(), Error>
     ensures same_reference { SameReference tx.old tx.new }
-    ensures made { Makes S.Store tx.old tx.new
+    ensures made { LeadsTo S.Store tx.old tx.new
         (AreEmpty grants_schema) (AreEmpty shelves_schema) result }
     ensures stays { StaysOpen S.Store tx.old tx.new result }
 {
@@ -61,7 +62,7 @@ fn make_shelves<S: Alter>(tx: &mut Transaction<'_, S>) -> Result<(), Error>
 /// Makes the tables of matrices and of events.
 fn make_events<S: Alter>(tx: &mut Transaction<'_, S>) -> Result<(), Error>
     ensures same_reference { SameReference tx.old tx.new }
-    ensures made { Makes S.Store tx.old tx.new
+    ensures made { LeadsTo S.Store tx.old tx.new
         (AreEmpty shelves_schema) (AreEmpty events_schema) result }
     ensures stays { StaysOpen S.Store tx.old tx.new result }
 {
@@ -86,7 +87,7 @@ fn make_events<S: Alter>(tx: &mut Transaction<'_, S>) -> Result<(), Error>
 /// Makes the tables of records and of changes.
 fn make_changes<S: Alter>(tx: &mut Transaction<'_, S>) -> Result<(), Error>
     ensures same_reference { SameReference tx.old tx.new }
-    ensures made { Makes S.Store tx.old tx.new
+    ensures made { LeadsTo S.Store tx.old tx.new
         (AreEmpty events_schema) (AreEmpty changes_schema) result }
     ensures stays { StaysOpen S.Store tx.old tx.new result }
 {
@@ -106,7 +107,8 @@ fn make_changes<S: Alter>(tx: &mut Transaction<'_, S>) -> Result<(), Error>
 /// Makes the index of grants by persons, and the office's row.
 fn make_office<S: Alter>(tx: &mut Transaction<'_, S>, admin: &Person) -> Result<(), Error>
     ensures same_reference { SameReference tx.old tx.new }
-    ensures made { Makes S.Store tx.old tx.new (AreEmpty changes_schema) (AreNew admin.now) result }
+    ensures made { LeadsTo S.Store tx.old tx.new
+        (AreEmpty changes_schema) (AreNew admin.now) result }
     ensures stays { StaysOpen S.Store tx.old tx.new result }
 {
     run(
@@ -125,7 +127,7 @@ fn make_office<S: Alter>(tx: &mut Transaction<'_, S>, admin: &Person) -> Result<
 /// Makes all tables, within a transaction.
 pub fn make_tables<S: Alter>(tx: &mut Transaction<'_, S>, admin: &Person) -> Result<(), Error>
     ensures same_reference { SameReference tx.old tx.new }
-    ensures made { Makes S.Store tx.old tx.new IsBlank (AreNew admin.now) result }
+    ensures made { LeadsTo S.Store tx.old tx.new IsBlank (AreNew admin.now) result }
     ensures stays { StaysOpen S.Store tx.old tx.new result }
 {
     make_grants(tx)?;
@@ -138,12 +140,12 @@ pub fn make_tables<S: Alter>(tx: &mut Transaction<'_, S>, admin: &Person) -> Res
 
 /// Makes all tables in a database that has none: all of them, or nothing.
 pub fn make_all<S: Alter>(conn: &mut Connection<S>, admin: &Person) -> Result<(), Error>
-    requires { conn.old.in_transaction ≡ false }
-    ensures mode { conn.new.in_transaction ≡ false }
+    requires { HasNoTransaction conn.old }
+    ensures mode { HasNoTransaction conn.new }
     ensures made { IsHonest (state S.Store conn.new) → IsBlank (state S.Store conn.old).now
         → OnOk result (AreNew admin.now (state S.Store conn.new).now) }
     ensures unchanged { SameOnErr S.Store conn.old conn.new result }
-    ensures honest { WasHonest S.Store conn.old conn.new }
+    ensures honest { WasHonest (IsHonestIn S.Store) conn.old conn.new }
 {
     let _settled = conn.is_autocommit();
     let mut tx = conn.transaction();

@@ -8,12 +8,12 @@ ghost use Rattle.plant_columns.specs.Tables.{no_schema};
 ghost use Rattle.plant_model.specs.declared.rows.RowEdit.TheVariants.{Put};
 ghost use Rattle.plant_types.specs.declared.fault.Fault.TheVariants.{Store};
 ghost use Rattle.plant_store.specs.Changes.{IsHonest};
-ghost use Rattle.plant_store.specs.Keeping.{HaveRows, Keeps};
+ghost use Rattle.plant_store.specs.Keeping.{HaveRows, Represents};
 ghost use Rattle.plant_store.specs.OldTables.{old_schema_no};
 ghost use Rattle.plant_store.specs.Opening.{IsOffice};
 ghost use Rattle.plant_store.specs.Upgrading.{HaveOldRows, all_kinds};
 ghost use Rattle.plant_store.specs.Opened.{HasNoOffice, HasOldBooks, IsAnothers, WasOffice};
-ghost use Rattle.plant_store.specs.Reading.{ReadsOldBooks};
+ghost use Rattle.plant_store.specs.Reading.{HasNoTransaction, ReadsOldBooks};
 ghost use Rattle.plant_store.specs.TakingOver.{Takes, TakesTable, TakesTables, TakesUnits};
 ghost use Rattle.plant_store.specs.Writing.{IsBlank, SameDatabase, SameOnErr, SameReference, StaysOpen, Writes};
 ghost use Rattle.plant_store.specs.declared.tables.StoreFault.TheVariants.{NotThisStore};
@@ -78,8 +78,8 @@ fn take_rows<T: OldRow, O: Alter, N: Alter>(
     tx: &mut Transaction<'_, N>,
     unit: &UnitCode,
 ) -> Result<(), Error>
-    requires reading { from.old.in_transaction ≡ false }
-    ensures mode { from.new.in_transaction ≡ false }
+    requires reading { HasNoTransaction from.old }
+    ensures mode { HasNoTransaction from.new }
     ensures reads { ReadsOldBooks O.Store from.old from.new }
     ensures same_reference { SameReference tx.old tx.new }
     ensures made { Takes O.Store from.old from.new N.Store tx.old tx.new unit.now
@@ -98,8 +98,8 @@ fn take_table<O: Alter, N: Alter>(
     unit: &UnitCode,
     kind: &TableKind,
 ) -> Result<(), Error>
-    requires reading { from.old.in_transaction ≡ false }
-    ensures mode { from.new.in_transaction ≡ false }
+    requires reading { HasNoTransaction from.old }
+    ensures mode { HasNoTransaction from.new }
     ensures reads { ReadsOldBooks O.Store from.old from.new }
     ensures same_reference { SameReference tx.old tx.new }
     ensures made { TakesTable O.Store from.old from.new N.Store tx.old tx.new unit.now
@@ -127,8 +127,8 @@ fn take_tables<O: Alter, N: Alter>(
     unit: &UnitCode,
     kinds: &[TableKind],
 ) -> Result<(), Error>
-    requires reading { from.old.in_transaction ≡ false }
-    ensures mode { from.new.in_transaction ≡ false }
+    requires reading { HasNoTransaction from.old }
+    ensures mode { HasNoTransaction from.new }
     ensures reads { ReadsOldBooks O.Store from.old from.new }
     ensures same_reference { SameReference tx.old tx.new }
     ensures made { TakesTables O.Store from.old from.new N.Store tx.old tx.new unit.now
@@ -148,8 +148,8 @@ fn take_unit<O: Alter, N: Alter>(
     tx: &mut Transaction<'_, N>,
     unit: &UnitCode,
 ) -> Result<(), Error>
-    requires reading { from.old.in_transaction ≡ false }
-    ensures mode { from.new.in_transaction ≡ false }
+    requires reading { HasNoTransaction from.old }
+    ensures mode { HasNoTransaction from.new }
     ensures reads { ReadsOldBooks O.Store from.old from.new }
     ensures same_reference { SameReference tx.old tx.new }
     ensures made { TakesTables O.Store from.old from.new N.Store tx.old tx.new unit.now
@@ -182,8 +182,8 @@ fn take_units<O: Alter, N: Alter>(
     tx: &mut Transaction<'_, N>,
     lines: &[CodeLine],
 ) -> Result<(), Error>
-    requires reading { from.old.in_transaction ≡ false }
-    ensures mode { from.new.in_transaction ≡ false }
+    requires reading { HasNoTransaction from.old }
+    ensures mode { HasNoTransaction from.new }
     ensures reads { ReadsOldBooks O.Store from.old from.new }
     ensures same_reference { SameReference tx.old tx.new }
     ensures made { TakesUnits O.Store from.old from.new N.Store tx.old tx.new lines.now result }
@@ -202,8 +202,8 @@ fn fill<O: Alter, N: Alter>(
     tx: &mut Transaction<'_, N>,
     admin: &Person,
 ) -> Result<(), Error>
-    requires reading { from.old.in_transaction ≡ false }
-    ensures mode { from.new.in_transaction ≡ false }
+    requires reading { HasNoTransaction from.old }
+    ensures mode { HasNoTransaction from.new }
     ensures reads { ReadsOldBooks O.Store from.old from.new }
     ensures same_reference { SameReference tx.old tx.new }
     ensures made { IsHonest (state O.Store from.new) → HasCleanDisk (state N.Store tx.new.conn.now)
@@ -224,11 +224,11 @@ fn take_over<O: Alter, N: Alter>(
     into: &mut Connection<N>,
     admin: &Person,
 ) -> Result<(), Error>
-    requires reading { from.old.in_transaction ≡ false }
-    requires writing { into.old.in_transaction ≡ false }
-    ensures mode { from.new.in_transaction ≡ false }
+    requires reading { HasNoTransaction from.old }
+    requires writing { HasNoTransaction into.old }
+    ensures mode { HasNoTransaction from.new }
     ensures reads { ReadsOldBooks O.Store from.old from.new }
-    ensures outside { into.new.in_transaction ≡ false }
+    ensures outside { HasNoTransaction into.new }
     ensures taken { IsHonest (state O.Store from.new) → IsHonest (state N.Store into.new)
         → IsBlank (state N.Store into.old).now
         → (m : Content) → m.admin ≡ admin.now → HaveOldRows m (state O.Store from.old).now
@@ -249,14 +249,14 @@ fn take_into_blank<O: Alter, N: Alter>(
     into: &mut Connection<N>,
     admin: &Person,
 ) -> Result<(), Fault>
-    requires reading { from.old.in_transaction ≡ false }
-    requires writing { into.old.in_transaction ≡ false }
-    ensures mode { from.new.in_transaction ≡ false }
+    requires reading { HasNoTransaction from.old }
+    requires writing { HasNoTransaction into.old }
+    ensures mode { HasNoTransaction from.new }
     ensures reads { ReadsOldBooks O.Store from.old from.new }
-    ensures outside { into.new.in_transaction ≡ false }
+    ensures outside { HasNoTransaction into.new }
     ensures taken { IsHonest (state O.Store from.new) → (m : Content) → m.admin ≡ admin.now
         → HaveOldRows m (state O.Store from.old).now
-        → OnOk result (Keeps (state N.Store into.new) m) }
+        → OnOk result (Represents (state N.Store into.new) m) }
     ensures blank { OnOk result ((state N.Store into.old).now.schema ≡ no_schema) }
     ensures full { (state N.Store into.old).now.schema ≢ no_schema → result ≡ Err Store }
     ensures unchanged { SameOnErr N.Store into.old into.new result }
@@ -282,13 +282,13 @@ pub fn migrate<O: Alter, N: Alter>(
     mut new: Connection<N>,
     admin: Person,
 ) -> Result<(Connection<O>, Tables<N>), MigrateRefused<O, N>>
-    requires reading { old.in_transaction ≡ false }
-    requires writing { new.in_transaction ≡ false }
+    requires reading { HasNoTransaction old }
+    requires writing { HasNoTransaction new }
     ensures taken { (m : Content) → m.admin ≡ admin
         → IfOk result (λ r. IsHonest (state O.Store r.0) → HaveOldRows m (state O.Store old).now
-        → Keeps (state N.Store r.1.0.0) m) }
+        → Represents (state N.Store r.1.0.0) m) }
     ensures fresh { IfOk result (λ r. (r.1.0.1 ≡ admin)
-        × ((r.1.1 ≡ 0) × (r.0.in_transaction ≡ false))) }
+        × ((r.1.1 ≡ 0) × HasNoTransaction r.0)) }
     ensures office { IfOk result (λ r. WasOffice O.Store old r.0 old_schema_no admin) }
     ensures blank { IfOk result (λ r. (state N.Store new).now.schema ≡ no_schema) }
     ensures other { IfErr result (λ e. IsAnothers O.Store old e.old old_schema_no admin e.fault) }
@@ -299,7 +299,7 @@ pub fn migrate<O: Alter, N: Alter>(
     ensures unread { HasOldBooks O.Store old → IfErr result (λ e. SameDatabase O.Store old e.old) }
     ensures unchanged { IfErr result (λ e. SameDatabase N.Store new e.new) }
     ensures back { IfErr result (λ e. (e.admin ≡ admin)
-        × ((e.old.in_transaction ≡ false) × (e.new.in_transaction ≡ false))) }
+        × (HasNoTransaction e.old × HasNoTransaction e.new)) }
 {
     let fault = match is_office_of(&mut old, OLD_SCHEMA, &admin) {
         Ok(true) => match take_into_blank(alloc, &mut old, &mut new, &admin) {

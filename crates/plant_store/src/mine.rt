@@ -1,11 +1,11 @@
 //! The units in which a person holds roles.
 
-ghost use Rattle.std.specs.Prelude.{◌≡◌, [], ◌∷◌, ◌++◌, false, map, IfOk, OnOk};
+ghost use Rattle.std.specs.Prelude.{◌≡◌, [], ◌∷◌, ◌++◌, map, IfOk, OnOk};
 ghost use Rattle.sqlite.specs.Held.{state};
 ghost use Rattle.plant_books.specs.Contents.{codes_held, mine_units as units_held};
 ghost use Rattle.plant_model.specs.Grants.{is_before};
 ghost use Rattle.plant_store.specs.Mine.{JoinsLine, line_cells, lines_of, runs_of, standing_lines, started};
-ghost use Rattle.plant_store.specs.Reading.{Finds, ReadsBooks};
+ghost use Rattle.plant_store.specs.Reading.{HasNoTransaction, ReadsBooks, ReadsContent};
 
 use crate::read::ask;
 use plant_books::MineUnit;
@@ -127,9 +127,9 @@ fn lines<S: Alter>(
     conn: &mut Connection<S>,
     person: &Person,
 ) -> Result<List<Line>, Error>
-    requires { conn.old.in_transaction ≡ false }
-    ensures mode { conn.new.in_transaction ≡ false }
-    ensures found { Finds S.Store conn.old conn.new result
+    requires { HasNoTransaction conn.old }
+    ensures mode { HasNoTransaction conn.new }
+    ensures found { ReadsContent S.Store conn.old conn.new result
         (λ _. lines_of person.now (state S.Store conn.old).now.trees) }
     ensures reads { ReadsBooks S.Store conn.old conn.new }
 {
@@ -148,9 +148,10 @@ pub fn mine_units<S: Alter>(
     person: &Person,
     now: Moment,
 ) -> Result<List<MineUnit>, Error>
-    requires { conn.old.in_transaction ≡ false }
-    ensures mode { conn.new.in_transaction ≡ false }
-    ensures found { Finds S.Store conn.old conn.new result (λ m. units_held m now person.now) }
+    requires { HasNoTransaction conn.old }
+    ensures mode { HasNoTransaction conn.new }
+    ensures found { ReadsContent S.Store conn.old conn.new result
+        (λ m. units_held m now person.now) }
     ensures reads { ReadsBooks S.Store conn.old conn.new }
 {
     let lines = lines(alloc, conn, person)?;
@@ -178,9 +179,10 @@ pub fn held<S: Alter>(
     person: &Person,
     now: Moment,
 ) -> Result<List<UnitCode>, Error>
-    requires { conn.old.in_transaction ≡ false }
-    ensures mode { conn.new.in_transaction ≡ false }
-    ensures found { Finds S.Store conn.old conn.new result (λ m. codes_held m now person.now) }
+    requires { HasNoTransaction conn.old }
+    ensures mode { HasNoTransaction conn.new }
+    ensures found { ReadsContent S.Store conn.old conn.new result
+        (λ m. codes_held m now person.now) }
     ensures reads { ReadsBooks S.Store conn.old conn.new }
 {
     let units = mine_units(alloc, conn, person, now)?;

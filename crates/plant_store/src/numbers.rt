@@ -1,13 +1,13 @@
 //! The numbers of the matrices and of the changes that a scope takes in, and the rows that a unit has of numbers.
 
-ghost use Rattle.std.specs.Prelude.{◌≡◌, ◌++◌, false, filter, insert, IfOk, MatchOption, OnOk};
+ghost use Rattle.std.specs.Prelude.{◌≡◌, ◌++◌, filter, insert, IfOk, MatchOption, OnOk};
 ghost use Rattle.plant_books.specs.Asking.{is_number, selection_by};
 ghost use Rattle.plant_model.specs.Histories.{same_number};
 ghost use Rattle.plant_model.specs.declared.rows.UnitRows.{UnitRows as Rows};
 ghost use Rattle.plant_store.specs.Mine.{own_row};
-ghost use Rattle.plant_store.specs.Numbers.{Adds, AreNumbers, is_source_of, with_number};
+ghost use Rattle.plant_store.specs.Numbers.{AddsNumbers, AreNumbers, is_source_of, with_number};
 ghost use Rattle.plant_store.specs.Parts.{LoadsBands, LoadsCells, LoadsChanges, LoadsEach};
-ghost use Rattle.plant_store.specs.Reading.{ReadsBooks};
+ghost use Rattle.plant_store.specs.Reading.{HasNoTransaction, ReadsBooks};
 
 use crate::read::rows_of_number;
 use crate::stored::Numbered;
@@ -35,7 +35,7 @@ fn place_of(numbers: &[u32], number: u32) -> Option<usize>
 
 /// Puts a number where it belongs, once.
 fn put(numbers: &mut List<u32>, number: u32) -> Result<(), Error>
-    ensures { OnOk result (Adds numbers.old (same_number number) numbers.new) }
+    ensures { OnOk result (AddsNumbers numbers.old (same_number number) numbers.new) }
 {
     let Some(place) = place_of(numbers.as_slice(), number) else {
         return Ok(());
@@ -48,7 +48,7 @@ fn put(numbers: &mut List<u32>, number: u32) -> Result<(), Error>
 
 /// Puts a number where it belongs, where there is one.
 fn put_some(numbers: &mut List<u32>, number: Option<u32>) -> Result<(), Error>
-    ensures { OnOk result (Adds numbers.old (is_number number) numbers.new) }
+    ensures { OnOk result (AddsNumbers numbers.old (is_number number) numbers.new) }
 {
     match number {
         Some(number) => put(numbers, number),
@@ -81,7 +81,7 @@ fn matrix_numbers(alloc: Global, units: &[UnitRow], scope: Scope<'_>) -> Result<
 
 /// Puts the numbers of the changes that the records came from.
 fn put_sources(numbers: &mut List<u32>, records: &[RecordEntry]) -> Result<(), Error>
-    ensures { OnOk result (Adds numbers.old (is_source_of records.now) numbers.new) }
+    ensures { OnOk result (AddsNumbers numbers.old (is_source_of records.now) numbers.new) }
 {
     for record in records {
         put(numbers, record.change_no)?;
@@ -125,8 +125,8 @@ fn rows_numbered<T: Numbered, S: Alter>(
     unit: &UnitCode,
     numbers: &[u32],
 ) -> Result<List<T>, Error>
-    requires { conn.old.in_transaction ≡ false }
-    ensures mode { conn.new.in_transaction ≡ false }
+    requires { HasNoTransaction conn.old }
+    ensures mode { HasNoTransaction conn.new }
     ensures rows { LoadsEach S.Store conn.old conn.new T.seen unit.now T.number numbers.now result }
     ensures reads { ReadsBooks S.Store conn.old conn.new }
 {
@@ -146,8 +146,8 @@ pub fn some_bands<S: Alter>(
     units: &List<UnitRow>,
     scope: Scope<'_>,
 ) -> Result<List<BandRow>, Error>
-    requires { conn.old.in_transaction ≡ false }
-    ensures mode { conn.new.in_transaction ≡ false }
+    requires { HasNoTransaction conn.old }
+    ensures mode { HasNoTransaction conn.new }
     ensures rows { LoadsBands S.Store conn.old conn.new unit.now units.now scope.entry result }
     ensures reads { ReadsBooks S.Store conn.old conn.new }
 {
@@ -163,8 +163,8 @@ pub fn some_cells<S: Alter>(
     units: &List<UnitRow>,
     scope: Scope<'_>,
 ) -> Result<List<CellRow>, Error>
-    requires { conn.old.in_transaction ≡ false }
-    ensures mode { conn.new.in_transaction ≡ false }
+    requires { HasNoTransaction conn.old }
+    ensures mode { HasNoTransaction conn.new }
     ensures rows { LoadsCells S.Store conn.old conn.new unit.now units.now scope.entry result }
     ensures reads { ReadsBooks S.Store conn.old conn.new }
 {
@@ -180,8 +180,8 @@ pub fn some_changes<S: Alter>(
     records: &List<RecordEntry>,
     scope: Scope<'_>,
 ) -> Result<List<ChangeEntry>, Error>
-    requires { conn.old.in_transaction ≡ false }
-    ensures mode { conn.new.in_transaction ≡ false }
+    requires { HasNoTransaction conn.old }
+    ensures mode { HasNoTransaction conn.new }
     ensures rows { LoadsChanges S.Store conn.old conn.new unit.now records.now scope.entry result }
     ensures reads { ReadsBooks S.Store conn.old conn.new }
 {

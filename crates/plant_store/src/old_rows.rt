@@ -1,6 +1,6 @@
 //! The rows of a store of schema 1: how each table is read, and what its rows become.
 
-ghost use Rattle.std.specs.Prelude.{◌≡◌, ◌∷◌, [], false, List};
+ghost use Rattle.std.specs.Prelude.{◌∷◌, [], List};
 ghost use Rattle.sqlite.specs.Tree.{Trees};
 ghost use Rattle.sqlite_value.specs.declared.value.Value.TheVariants.{Text as TextValue};
 ghost use Rattle.plant_columns.specs.Tables.Kept.{AlarmKept, BandKept, CellKept, ChangeKept, EventKept, GrantKept, RecordKept, ShelfKept, UnitKept};
@@ -11,7 +11,7 @@ ghost use Rattle.plant_store.specs.OldTables.{old_grant_shape, old_rows, old_uni
 ghost use Rattle.plant_store.specs.Statements.{ReadsOldUnit};
 ghost use Rattle.plant_store.specs.Upgrading.{upgraded_grant, upgraded_unit};
 ghost use Rattle.plant_types.specs.Names.{Name};
-ghost use Rattle.plant_store.specs.Reading.{LoadsOld, LoadsOldCodes, ReadsOldBooks};
+ghost use Rattle.plant_store.specs.Reading.{HasNoTransaction, LoadsOld, LoadsOldCodes, ReadsOldBooks};
 ghost use Rattle.plant_store.specs.Writing.{SameReference, StaysOpen, Writes};
 
 use crate::read::read_rows;
@@ -254,8 +254,8 @@ pub fn old_codes_of<S: Alter>(
     alloc: Global,
     conn: &mut Connection<S>,
 ) -> Result<List<CodeLine>, Error>
-    requires { conn.old.in_transaction ≡ false }
-    ensures mode { conn.new.in_transaction ≡ false }
+    requires { HasNoTransaction conn.old }
+    ensures mode { HasNoTransaction conn.new }
     ensures rows { LoadsOldCodes S.Store conn.old conn.new result }
     ensures reads { ReadsOldBooks S.Store conn.old conn.new }
 {
@@ -268,8 +268,8 @@ pub fn old_rows_of<T: OldRow, S: Alter>(
     conn: &mut Connection<S>,
     unit: &UnitCode,
 ) -> Result<List<T>, Error>
-    requires { conn.old.in_transaction ≡ false }
-    ensures mode { conn.new.in_transaction ≡ false }
+    requires { HasNoTransaction conn.old }
+    ensures mode { HasNoTransaction conn.new }
     ensures rows { LoadsOld S.Store conn.old conn.new (T.had unit.now) result }
     ensures reads { ReadsOldBooks S.Store conn.old conn.new }
 {

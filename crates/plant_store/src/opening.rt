@@ -10,7 +10,7 @@ ghost use Rattle.plant_store.specs.Opening as opening;
 ghost use Rattle.plant_store.specs.Opening.{IsOffice, office_cells};
 ghost use Rattle.plant_columns.specs.Shown.{columns};
 ghost use Rattle.plant_store.specs.Opened.{FindsOffice, HasNoOffice};
-ghost use Rattle.plant_store.specs.Reading.{ReadsBooks, ReadsOldBooks};
+ghost use Rattle.plant_store.specs.Reading.{HasNoTransaction, ReadsBooks, ReadsOldBooks};
 
 use crate::read::ask;
 use plant_types::Person;
@@ -84,8 +84,8 @@ fn has_its_row<S: Alter>(
     schema: u32,
     admin: &Person,
 ) -> Result<bool, Error>
-    requires { conn.old.in_transaction ≡ false }
-    ensures mode { conn.new.in_transaction ≡ false }
+    requires { HasNoTransaction conn.old }
+    ensures mode { HasNoTransaction conn.new }
     ensures row { IsHonest (state S.Store conn.new)
         → opening.has_office (state S.Store conn.old).now.schema ≡ true
         → IfOk result (λ is. IsTrue is ↔ IsOffice schema admin.now (state S.Store conn.old).now) }
@@ -102,8 +102,8 @@ pub fn is_office_of<S: Alter>(
     schema: u32,
     admin: &Person,
 ) -> Result<bool, Error>
-    requires { conn.old.in_transaction ≡ false }
-    ensures mode { conn.new.in_transaction ≡ false }
+    requires { HasNoTransaction conn.old }
+    ensures mode { HasNoTransaction conn.new }
     ensures row { FindsOffice S.Store conn.old conn.new schema admin.now result }
     ensures missing { HasNoOffice S.Store conn.old → result ≡ Ok false }
     ensures reads { ReadsBooks S.Store conn.old conn.new }

@@ -7,14 +7,14 @@ ghost use Rattle.plant_model.specs.Worlds.{unit_named};
 ghost use Rattle.plant_types.specs.Names.{Name};
 ghost use Rattle.plant_books.specs.Contents.{Content, part_in, rows_in};
 ghost use Rattle.plant_store.specs.Changes.{IsHonest};
-ghost use Rattle.plant_store.specs.Keeping.{KeepsIn};
+ghost use Rattle.plant_store.specs.Keeping.{HasContent};
 ghost use Rattle.plant_columns.specs.Tables.{rows_seen};
 ghost use Rattle.plant_columns.specs.Tables.Kept.{UnitKept};
 ghost use Rattle.plant_model.specs.RowFacts.{event_number};
 ghost use Rattle.plant_types.specs.KeyedRows.{IsInOrder};
 ghost use Rattle.std.specs.Ordering.{nat_cmp};
 ghost use Rattle.plant_store.specs.Parts.{AreAskedBy, LoadsApproved, LoadsCount, LoadsCrowding, LoadsGrants, alarms_seen, events_seen, grants_of, records_seen, shelves_seen};
-ghost use Rattle.plant_store.specs.Reading.{Finds, Loads, ReadsBooks};
+ghost use Rattle.plant_store.specs.Reading.{HasNoTransaction, Loads, ReadsBooks, ReadsContent};
 
 use crate::numbers::{some_bands, some_cells, some_changes};
 use crate::read::{
@@ -44,8 +44,8 @@ pub fn some_grants<S: Alter>(
     own: List<GrantRow>,
     all: bool,
 ) -> Result<List<GrantRow>, Error>
-    requires { conn.old.in_transaction ≡ false }
-    ensures mode { conn.new.in_transaction ≡ false }
+    requires { HasNoTransaction conn.old }
+    ensures mode { HasNoTransaction conn.new }
     ensures rows { LoadsGrants S.Store conn.old conn.new unit.now own all result }
     ensures reads { ReadsBooks S.Store conn.old conn.new }
 {
@@ -63,8 +63,8 @@ pub fn some_alarms<S: Alter>(
     unit: &UnitCode,
     wanted: Wanted<'_>,
 ) -> Result<List<AlarmRow>, Error>
-    requires { conn.old.in_transaction ≡ false }
-    ensures mode { conn.new.in_transaction ≡ false }
+    requires { HasNoTransaction conn.old }
+    ensures mode { HasNoTransaction conn.new }
     ensures rows { Loads S.Store conn.old conn.new (alarms_seen wanted.entry unit.now) result }
     ensures reads { ReadsBooks S.Store conn.old conn.new }
 {
@@ -82,8 +82,8 @@ pub fn some_shelves<S: Alter>(
     unit: &UnitCode,
     wanted: Wanted<'_>,
 ) -> Result<List<ShelfRow>, Error>
-    requires { conn.old.in_transaction ≡ false }
-    ensures mode { conn.new.in_transaction ≡ false }
+    requires { HasNoTransaction conn.old }
+    ensures mode { HasNoTransaction conn.new }
     ensures rows { Loads S.Store conn.old conn.new (shelves_seen wanted.entry unit.now) result }
     ensures reads { ReadsBooks S.Store conn.old conn.new }
 {
@@ -101,8 +101,8 @@ pub fn some_records<S: Alter>(
     unit: &UnitCode,
     wanted: Wanted<'_>,
 ) -> Result<List<RecordEntry>, Error>
-    requires { conn.old.in_transaction ≡ false }
-    ensures mode { conn.new.in_transaction ≡ false }
+    requires { HasNoTransaction conn.old }
+    ensures mode { HasNoTransaction conn.new }
     ensures rows { Loads S.Store conn.old conn.new (records_seen wanted.entry unit.now) result }
     ensures reads { ReadsBooks S.Store conn.old conn.new }
 {
@@ -120,8 +120,8 @@ pub fn some_events<S: Alter>(
     unit: &UnitCode,
     wanted: bool,
 ) -> Result<List<Event>, Error>
-    requires { conn.old.in_transaction ≡ false }
-    ensures mode { conn.new.in_transaction ≡ false }
+    requires { HasNoTransaction conn.old }
+    ensures mode { HasNoTransaction conn.new }
     ensures rows { Loads S.Store conn.old conn.new (events_seen wanted unit.now) result }
     ensures reads { ReadsBooks S.Store conn.old conn.new }
 {
@@ -154,8 +154,8 @@ fn count_for<S: Alter>(
     request: &Request,
     events: &List<Event>,
 ) -> Result<u64, Error>
-    requires { conn.old.in_transaction ≡ false }
-    ensures mode { conn.new.in_transaction ≡ false }
+    requires { HasNoTransaction conn.old }
+    ensures mode { HasNoTransaction conn.new }
     ensures rows { LoadsCount S.Store conn.old conn.new unit.now request.now events.now result }
     ensures reads { ReadsBooks S.Store conn.old conn.new }
 {
@@ -174,8 +174,8 @@ fn crowded_for<S: Alter>(
     units: &List<UnitRow>,
     request: &Request,
 ) -> Result<bool, Error>
-    requires { conn.old.in_transaction ≡ false }
-    ensures mode { conn.new.in_transaction ≡ false }
+    requires { HasNoTransaction conn.old }
+    ensures mode { HasNoTransaction conn.new }
     ensures rows { LoadsCrowding S.Store conn.old conn.new unit.now units.now request.now result }
     ensures reads { ReadsBooks S.Store conn.old conn.new }
 {
@@ -193,8 +193,8 @@ fn approved_for<S: Alter>(
     unit: &UnitCode,
     request: &Request,
 ) -> Result<List<ChangeEntry>, Error>
-    requires { conn.old.in_transaction ≡ false }
-    ensures mode { conn.new.in_transaction ≡ false }
+    requires { HasNoTransaction conn.old }
+    ensures mode { HasNoTransaction conn.new }
     ensures rows { LoadsApproved S.Store conn.old conn.new unit.now request.now result }
     ensures reads { ReadsBooks S.Store conn.old conn.new }
 {
@@ -213,10 +213,10 @@ fn holders_part<S: Alter>(
     units: List<UnitRow>,
     own: List<GrantRow>,
 ) -> Result<UnitPart, Error>
-    requires { conn.old.in_transaction ≡ false }
-    ensures mode { conn.new.in_transaction ≡ false }
+    requires { HasNoTransaction conn.old }
+    ensures mode { HasNoTransaction conn.new }
     ensures found { IsHonest (state S.Store conn.new) → (m : Content)
-        → KeepsIn (state S.Store conn.old) m
+        → HasContent (state S.Store conn.old) m
         → units ≡ rows_seen unit.now (state S.Store conn.old).now.trees UnitKept
         → own ≡ grants_of call.now.person unit.now (state S.Store conn.old).now.trees
         → IfOk result (λ part. part ≡ part_of_holder call.now (rows_in m unit.now)) }
@@ -265,9 +265,10 @@ fn unit_part<S: Alter>(
     unit: &UnitCode,
     call: &Call,
 ) -> Result<Option<UnitPart>, Error>
-    requires { conn.old.in_transaction ≡ false }
-    ensures mode { conn.new.in_transaction ≡ false }
-    ensures found { Finds S.Store conn.old conn.new result (λ m. part_in m call.now unit.now) }
+    requires { HasNoTransaction conn.old }
+    ensures mode { HasNoTransaction conn.new }
+    ensures found { ReadsContent S.Store conn.old conn.new result
+        (λ m. part_in m call.now unit.now) }
     ensures reads { ReadsBooks S.Store conn.old conn.new }
 {
     let units = all_rows(alloc, conn, unit)?;
@@ -288,10 +289,10 @@ pub fn part_of<S: Alter>(
     conn: &mut Connection<S>,
     call: &Call,
 ) -> Result<Option<UnitPart>, Error>
-    requires { conn.old.in_transaction ≡ false }
-    ensures mode { conn.new.in_transaction ≡ false }
+    requires { HasNoTransaction conn.old }
+    ensures mode { HasNoTransaction conn.new }
     ensures found { IsHonest (state S.Store conn.new) → (m : Content)
-        → KeepsIn (state S.Store conn.old) m → (u : Name) → unit_named call.now.request ≡ Some u
+        → HasContent (state S.Store conn.old) m → (u : Name) → unit_named call.now.request ≡ Some u
         → IfOk result (λ part. part ≡ part_in m call.now u) }
     ensures reads { ReadsBooks S.Store conn.old conn.new }
 {

@@ -1,9 +1,9 @@
 //! The statements that read one unit's rows of one table.
 
-ghost use Rattle.std.specs.Prelude.{◌≡◌, false};
+ghost use Rattle.plant_books.specs.Books.{WasHonest};
 ghost use Rattle.plant_columns.specs.Tables.Kept.{AlarmKept, ShelfKept};
 ghost use Rattle.plant_store.specs.Parts.{count_seen, grants_of, last_change_seen};
-ghost use Rattle.plant_store.specs.Reading.{Asks, Decodes, Loads, LoadsNumber, LoadsTag, ReadsBooks, SameIfPlain, WasHonest};
+ghost use Rattle.plant_store.specs.Reading.{Asks, Decodes, HasNoTransaction, IsHonestIn, Loads, LoadsNumber, LoadsTag, ReadsBooks, SameIfPlain};
 
 use crate::stored::{Numbered, Stored, Tagged};
 use plant_columns::decode::{Shown, read_all, wide};
@@ -20,11 +20,11 @@ pub fn ask<S: Alter>(
     sql: &str,
     cells: &[ValueRef<'_>],
 ) -> Result<Vec<Row>, Error>
-    requires { conn.old.in_transaction ≡ false }
-    ensures mode { conn.new.in_transaction ≡ false }
+    requires { HasNoTransaction conn.old }
+    ensures mode { HasNoTransaction conn.new }
     ensures rows { Asks S.Store conn.old conn.new sql.now cells.now result (λ rows. rows.items) }
     ensures same { SameIfPlain S.Store conn.old conn.new sql.now }
-    ensures honest { WasHonest S.Store conn.old conn.new }
+    ensures honest { WasHonest (IsHonestIn S.Store) conn.old conn.new }
 {
     let _settled = conn.is_autocommit();
     conn.query_all(sql, cells)
@@ -37,11 +37,11 @@ pub fn read_rows<T: Shown, S: Alter>(
     sql: &str,
     cells: &[ValueRef<'_>],
 ) -> Result<List<T>, Error>
-    requires { conn.old.in_transaction ≡ false }
-    ensures mode { conn.new.in_transaction ≡ false }
+    requires { HasNoTransaction conn.old }
+    ensures mode { HasNoTransaction conn.new }
     ensures rows { Decodes S.Store conn.old conn.new sql.now cells.now T.width T.cells result }
     ensures same { SameIfPlain S.Store conn.old conn.new sql.now }
-    ensures honest { WasHonest S.Store conn.old conn.new }
+    ensures honest { WasHonest (IsHonestIn S.Store) conn.old conn.new }
 {
     let rows = ask(conn, sql, cells)?;
     read_all(alloc, rows.as_slice())
@@ -53,8 +53,8 @@ pub fn all_rows<T: Stored, S: Alter>(
     conn: &mut Connection<S>,
     unit: &UnitCode,
 ) -> Result<List<T>, Error>
-    requires { conn.old.in_transaction ≡ false }
-    ensures mode { conn.new.in_transaction ≡ false }
+    requires { HasNoTransaction conn.old }
+    ensures mode { HasNoTransaction conn.new }
     ensures rows { Loads S.Store conn.old conn.new (T.seen unit.now) result }
     ensures reads { ReadsBooks S.Store conn.old conn.new }
 {
@@ -68,8 +68,8 @@ pub fn row_of_tag<T: Tagged, S: Alter>(
     unit: &UnitCode,
     tag: &Tag,
 ) -> Result<List<T>, Error>
-    requires { conn.old.in_transaction ≡ false }
-    ensures mode { conn.new.in_transaction ≡ false }
+    requires { HasNoTransaction conn.old }
+    ensures mode { HasNoTransaction conn.new }
     ensures rows { LoadsTag S.Store conn.old conn.new T.seen unit.now T.tag tag.now result }
     ensures reads { ReadsBooks S.Store conn.old conn.new }
 {
@@ -83,8 +83,8 @@ pub fn rows_of_number<T: Numbered, S: Alter>(
     unit: &UnitCode,
     number: u32,
 ) -> Result<List<T>, Error>
-    requires { conn.old.in_transaction ≡ false }
-    ensures mode { conn.new.in_transaction ≡ false }
+    requires { HasNoTransaction conn.old }
+    ensures mode { HasNoTransaction conn.new }
     ensures rows { LoadsNumber S.Store conn.old conn.new T.seen unit.now T.number number result }
     ensures reads { ReadsBooks S.Store conn.old conn.new }
 {
@@ -98,8 +98,8 @@ pub fn own_grants<S: Alter>(
     unit: &UnitCode,
     person: &Person,
 ) -> Result<List<GrantRow>, Error>
-    requires { conn.old.in_transaction ≡ false }
-    ensures mode { conn.new.in_transaction ≡ false }
+    requires { HasNoTransaction conn.old }
+    ensures mode { HasNoTransaction conn.new }
     ensures rows { Loads S.Store conn.old conn.new (grants_of person.now unit.now) result }
     ensures reads { ReadsBooks S.Store conn.old conn.new }
 {
@@ -113,8 +113,8 @@ pub fn own_grants<S: Alter>(
 
 /// How many alarms the unit has.
 pub fn count_of_alarms<S: Alter>(conn: &mut Connection<S>, unit: &UnitCode) -> Result<u64, Error>
-    requires { conn.old.in_transaction ≡ false }
-    ensures mode { conn.new.in_transaction ≡ false }
+    requires { HasNoTransaction conn.old }
+    ensures mode { HasNoTransaction conn.new }
     ensures rows { Loads S.Store conn.old conn.new (count_seen unit.now AlarmKept) result }
     ensures reads { ReadsBooks S.Store conn.old conn.new }
 {
@@ -128,8 +128,8 @@ pub fn count_of_alarms<S: Alter>(conn: &mut Connection<S>, unit: &UnitCode) -> R
 
 /// How many shelves the unit keeps.
 pub fn count_of_shelves<S: Alter>(conn: &mut Connection<S>, unit: &UnitCode) -> Result<u64, Error>
-    requires { conn.old.in_transaction ≡ false }
-    ensures mode { conn.new.in_transaction ≡ false }
+    requires { HasNoTransaction conn.old }
+    ensures mode { HasNoTransaction conn.new }
     ensures rows { Loads S.Store conn.old conn.new (count_seen unit.now ShelfKept) result }
     ensures reads { ReadsBooks S.Store conn.old conn.new }
 {
@@ -143,8 +143,8 @@ pub fn count_of_shelves<S: Alter>(conn: &mut Connection<S>, unit: &UnitCode) -> 
 
 /// The number of the unit's last change, 0 where it has none.
 pub fn last_change_number<S: Alter>(conn: &mut Connection<S>, unit: &UnitCode) -> Result<u64, Error>
-    requires { conn.old.in_transaction ≡ false }
-    ensures mode { conn.new.in_transaction ≡ false }
+    requires { HasNoTransaction conn.old }
+    ensures mode { HasNoTransaction conn.new }
     ensures rows { Loads S.Store conn.old conn.new (last_change_seen unit.now) result }
     ensures reads { ReadsBooks S.Store conn.old conn.new }
 {

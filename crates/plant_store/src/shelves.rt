@@ -3,7 +3,7 @@
 ghost use Rattle.std.specs.Prelude.{◌≡◌, false, map, None, IfOk, OnOk};
 ghost use Rattle.plant_books.specs.Contents.{mine_shelves as shelves_held};
 ghost use Rattle.plant_store.specs.Shelves.{ListsLine, is_again, last_of, merged_after, shelf_line_cells, shelf_lines, shelf_of, standing_shelf_lines, with_return};
-ghost use Rattle.plant_store.specs.Reading.{Finds, ReadsBooks};
+ghost use Rattle.plant_store.specs.Reading.{HasNoTransaction, ReadsBooks, ReadsContent};
 
 use crate::mine::{is_before_end, push};
 use crate::read::{ask, row_of_tag};
@@ -105,9 +105,9 @@ fn lines<S: Alter>(
     conn: &mut Connection<S>,
     person: &Person,
 ) -> Result<List<ShelfLine>, Error>
-    requires { conn.old.in_transaction ≡ false }
-    ensures mode { conn.new.in_transaction ≡ false }
-    ensures found { Finds S.Store conn.old conn.new result (λ m. shelf_lines m person.now) }
+    requires { HasNoTransaction conn.old }
+    ensures mode { HasNoTransaction conn.new }
+    ensures found { ReadsContent S.Store conn.old conn.new result (λ m. shelf_lines m person.now) }
     ensures reads { ReadsBooks S.Store conn.old conn.new }
 {
     let rows = ask(
@@ -124,9 +124,9 @@ fn returned<S: Alter>(
     conn: &mut Connection<S>,
     listed: &UnitShelf,
 ) -> Result<MineRow, Error>
-    requires { conn.old.in_transaction ≡ false }
-    ensures mode { conn.new.in_transaction ≡ false }
-    ensures found { Finds S.Store conn.old conn.new result (λ m. with_return m listed.now) }
+    requires { HasNoTransaction conn.old }
+    ensures mode { HasNoTransaction conn.new }
+    ensures found { ReadsContent S.Store conn.old conn.new result (λ m. with_return m listed.now) }
     ensures reads { ReadsBooks S.Store conn.old conn.new }
 {
     let alarms = row_of_tag(alloc, conn, &listed.unit, &listed.shelf.tag)?;
@@ -143,9 +143,10 @@ fn all_returned<S: Alter>(
     conn: &mut Connection<S>,
     shelves: &[UnitShelf],
 ) -> Result<List<MineRow>, Error>
-    requires { conn.old.in_transaction ≡ false }
-    ensures mode { conn.new.in_transaction ≡ false }
-    ensures found { Finds S.Store conn.old conn.new result (λ m. map (with_return m) shelves.now) }
+    requires { HasNoTransaction conn.old }
+    ensures mode { HasNoTransaction conn.new }
+    ensures found { ReadsContent S.Store conn.old conn.new result
+        (λ m. map (with_return m) shelves.now) }
     ensures reads { ReadsBooks S.Store conn.old conn.new }
 {
     let mut mine = List::new(alloc);
@@ -163,9 +164,10 @@ pub fn mine_shelves<S: Alter>(
     person: &Person,
     now: Moment,
 ) -> Result<List<MineRow>, Error>
-    requires { conn.old.in_transaction ≡ false }
-    ensures mode { conn.new.in_transaction ≡ false }
-    ensures found { Finds S.Store conn.old conn.new result (λ m. shelves_held m now person.now) }
+    requires { HasNoTransaction conn.old }
+    ensures mode { HasNoTransaction conn.new }
+    ensures found { ReadsContent S.Store conn.old conn.new result
+        (λ m. shelves_held m now person.now) }
     ensures reads { ReadsBooks S.Store conn.old conn.new }
 {
     let lines = lines(alloc, conn, person)?;

@@ -2,15 +2,16 @@
 
 ghost use Rattle.std.specs.Prelude.{◌≡◌, ◌≢◌, ◌↔◌, ℕ, false, IsTrue, IsErrAnd, IfOk, IfErr};
 ghost use Rattle.sqlite.specs.Held.{state};
+ghost use Rattle.plant_books.specs.Books.{WasHonest};
 ghost use Rattle.plant_books.specs.Contents.{Content, no_units};
 ghost use Rattle.plant_books.specs.Counting.{CountsFault};
 ghost use Rattle.plant_store.specs.Changes.{IsHonest};
 ghost use Rattle.plant_store.specs.Counting.{Names};
-ghost use Rattle.plant_store.specs.Keeping.{Keeps};
+ghost use Rattle.plant_store.specs.Keeping.{Represents};
 ghost use Rattle.plant_columns.specs.Tables.{no_schema, schema_no};
 ghost use Rattle.plant_types.specs.declared.fault.Fault.TheVariants.{Store};
 ghost use Rattle.plant_store.specs.Opened.{HasNoOffice, IsAnothers, KeepsAll, KeepsIfErr, KeepsIfOk, WasOffice};
-ghost use Rattle.plant_store.specs.Reading.{WasHonest};
+ghost use Rattle.plant_store.specs.Reading.{HasNoTransaction, IsHonestIn};
 ghost use Rattle.plant_store.specs.Writing.{SameDatabase};
 ghost use Rattle.plant_store.specs.declared.tables.StoreFault.TheVariants.{NotThisStore};
 
@@ -97,7 +98,7 @@ impl<S: Alter> Model for Tables<S> {
 
     ghost view = { λ t. ((t.conn, t.admin), t.stores) };
 
-    ghost invariant = { λ t. t.conn.in_transaction ≡ false };
+    ghost invariant = { λ t. HasNoTransaction t.conn };
 }
 
 impl<S: Alter> Tables<S> {
@@ -107,16 +108,16 @@ impl<S: Alter> Tables<S> {
         mut conn: Connection<S>,
         admin: Person,
     ) -> Result<Tables<S>, Unopened<S>>
-        requires { conn.in_transaction ≡ false }
+        requires { HasNoTransaction conn }
         ensures made { IfOk result (λ t. (t.0.1 ≡ admin)
-            × Keeps (state S.Store t.0.0) (no_units admin)) }
+            × Represents (state S.Store t.0.0) (no_units admin)) }
         ensures count { IfOk result (λ t. t.1 ≡ 0) }
         ensures blank { IfOk result (λ t. (state S.Store conn).now.schema ≡ no_schema) }
         ensures refused { (state S.Store conn).now.schema ≢ no_schema
             → IfErr result (λ e. e.fault ≡ StoreFault.Fault Store) }
         ensures fault { IfErr result (λ e. e.fault ≢ StoreFault.NotThisStore) }
         ensures unchanged { IfErr result (λ e. SameDatabase S.Store conn e.conn) }
-        ensures back { IfErr result (λ e. (e.admin ≡ admin) × (e.conn.in_transaction ≡ false)) }
+        ensures back { IfErr result (λ e. (e.admin ≡ admin) × HasNoTransaction e.conn) }
     {
         if !is_blank(conn.schema()) {
             return Err(Unopened {
@@ -147,17 +148,17 @@ impl<S: Alter> Tables<S> {
         mut conn: Connection<S>,
         admin: Person,
     ) -> Result<Tables<S>, Unopened<S>>
-        requires { conn.in_transaction ≡ false }
+        requires { HasNoTransaction conn }
         ensures kept { KeepsIfOk S.Store conn result (λ t. t.0.0) }
         ensures fresh { IfOk result (λ t. (t.0.1 ≡ admin) × (t.1 ≡ 0)) }
-        ensures honest { IfOk result (λ t. WasHonest S.Store conn t.0.0) }
+        ensures honest { IfOk result (λ t. WasHonest (IsHonestIn S.Store) conn t.0.0) }
         ensures office { IfOk result (λ t. WasOffice S.Store conn t.0.0 schema_no admin) }
         ensures other { IfErr result (λ e. IsAnothers S.Store conn e.conn schema_no admin e.fault) }
         ensures missing { HasNoOffice S.Store conn → IsErrAnd result (λ e. e.fault ≡ NotThisStore) }
-        ensures own { (m : Content) → Keeps (state S.Store conn) m → m.admin ≡ admin
+        ensures own { (m : Content) → Represents (state S.Store conn) m → m.admin ≡ admin
             → IfErr result (λ e. IsHonest (state S.Store e.conn) → e.fault ≢ NotThisStore) }
         ensures left { KeepsIfErr S.Store conn result (λ e. e.conn) }
-        ensures back { IfErr result (λ e. (e.admin ≡ admin) × (e.conn.in_transaction ≡ false)) }
+        ensures back { IfErr result (λ e. (e.admin ≡ admin) × HasNoTransaction e.conn) }
     {
         match is_office_of(&mut conn, SCHEMA, &admin) {
             Ok(true) => Ok(Tables {
@@ -181,7 +182,7 @@ impl<S: Alter> Tables<S> {
 
     /// The books in these tables, where they were just made.
     pub(crate) fn of(alloc: Global, conn: Connection<S>, admin: Person) -> Tables<S>
-        requires { conn.in_transaction ≡ false }
+        requires { HasNoTransaction conn }
         ensures same { result.0.0 ≡ conn }
         ensures admin { result.0.1 ≡ admin }
         ensures count { result.1 ≡ 0 }
@@ -197,7 +198,7 @@ impl<S: Alter> Tables<S> {
     /// Hands the connection back.
     pub fn close(self) -> Connection<S>
         ensures same { result ≡ self.0.0 }
-        ensures mode { result.in_transaction ≡ false }
+        ensures mode { HasNoTransaction result }
     {
         let Tables {
             conn,
@@ -222,7 +223,7 @@ impl<S: Alter> Tables<S> {
 impl<S: Alter> Books for Tables<S> {
     ghost is_honest = { λ t. IsHonest (state S.Store t.0.0) };
 
-    ghost represents = { λ t m. (t.0.1 ≡ m.admin) × Keeps (state S.Store t.0.0) m };
+    ghost represents = { λ t m. (t.0.1 ≡ m.admin) × Represents (state S.Store t.0.0) m };
 
     ghost stores = { λ t. t.1 };
 

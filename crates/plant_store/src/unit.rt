@@ -1,10 +1,10 @@
 //! The rows of one unit: all of them, or all but its events, or its events alone.
 
 ghost use Rattle.std.specs.FinMap.{contains_key, get};
-ghost use Rattle.std.specs.Prelude.{◌≡◌, false};
+ghost use Rattle.std.specs.Prelude.{◌≡◌};
 ghost use Rattle.plant_books.specs.Contents.{events_in, rows_but_events as all_but_events};
 ghost use Rattle.plant_store.specs.Keeping.{has_any};
-ghost use Rattle.plant_store.specs.Reading.{Finds, ReadsBooks};
+ghost use Rattle.plant_store.specs.Reading.{HasNoTransaction, ReadsBooks, ReadsContent};
 
 use crate::read::all_rows;
 use plant_alarm::Event;
@@ -26,9 +26,10 @@ pub fn taken<S: Alter>(
     conn: &mut Connection<S>,
     unit: &UnitCode,
 ) -> Result<bool, Error>
-    requires { conn.old.in_transaction ≡ false }
-    ensures mode { conn.new.in_transaction ≡ false }
-    ensures found { Finds S.Store conn.old conn.new result (λ m. contains_key m.units unit.now) }
+    requires { HasNoTransaction conn.old }
+    ensures mode { HasNoTransaction conn.new }
+    ensures found { ReadsContent S.Store conn.old conn.new result
+        (λ m. contains_key m.units unit.now) }
     ensures reads { ReadsBooks S.Store conn.old conn.new }
 {
     let units = all_rows(alloc, conn, unit)?;
@@ -41,9 +42,9 @@ pub fn rows_but_events<S: Alter>(
     conn: &mut Connection<S>,
     unit: &UnitCode,
 ) -> Result<Option<UnitRows>, Error>
-    requires { conn.old.in_transaction ≡ false }
-    ensures mode { conn.new.in_transaction ≡ false }
-    ensures found { Finds S.Store conn.old conn.new result (λ m. all_but_events m unit.now) }
+    requires { HasNoTransaction conn.old }
+    ensures mode { HasNoTransaction conn.new }
+    ensures found { ReadsContent S.Store conn.old conn.new result (λ m. all_but_events m unit.now) }
     ensures reads { ReadsBooks S.Store conn.old conn.new }
 {
     let units = all_rows(alloc, conn, unit)?;
@@ -76,9 +77,9 @@ pub fn events<S: Alter>(
     conn: &mut Connection<S>,
     unit: &UnitCode,
 ) -> Result<List<Event>, Error>
-    requires { conn.old.in_transaction ≡ false }
-    ensures mode { conn.new.in_transaction ≡ false }
-    ensures found { Finds S.Store conn.old conn.new result (λ m. events_in m unit.now) }
+    requires { HasNoTransaction conn.old }
+    ensures mode { HasNoTransaction conn.new }
+    ensures found { ReadsContent S.Store conn.old conn.new result (λ m. events_in m unit.now) }
     ensures reads { ReadsBooks S.Store conn.old conn.new }
 {
     all_rows(alloc, conn, unit)
@@ -90,9 +91,9 @@ pub fn rows_of<S: Alter>(
     conn: &mut Connection<S>,
     unit: &UnitCode,
 ) -> Result<Option<UnitRows>, Error>
-    requires { conn.old.in_transaction ≡ false }
-    ensures mode { conn.new.in_transaction ≡ false }
-    ensures found { Finds S.Store conn.old conn.new result (λ m. get m.units unit.now) }
+    requires { HasNoTransaction conn.old }
+    ensures mode { HasNoTransaction conn.new }
+    ensures found { ReadsContent S.Store conn.old conn.new result (λ m. get m.units unit.now) }
     ensures reads { ReadsBooks S.Store conn.old conn.new }
 {
     match rows_but_events(alloc, conn, unit)? {

@@ -1,9 +1,10 @@
 //! The statements that write, each inside a transaction.
 
-ghost use Rattle.std.specs.Prelude.{◌≡◌, [], ◌∷◌, false, IsTrue};
+ghost use Rattle.std.specs.Prelude.{[], ◌∷◌, IsTrue};
+ghost use Rattle.plant_books.specs.Books.{WasHonest};
 ghost use Rattle.plant_model.specs.declared.rows.RowEdit.TheVariants.{Put, Remove};
 ghost use Rattle.plant_model.specs.declared.rows.Key.TheVariants.{Grant as GrantKey, Shelf as ShelfKey};
-ghost use Rattle.plant_store.specs.Reading.{WasHonest};
+ghost use Rattle.plant_store.specs.Reading.{HasNoTransaction, IsHonestIn};
 ghost use Rattle.plant_store.specs.Writing.{Commits, CommitsNothing, CrashLoses, IsOpenIfOk, RunsCounting, RunsStatement, SameOnErr, SameReference, StaysOpen, Writes, WritesOpen};
 
 use crate::stored::Stored;
@@ -169,11 +170,11 @@ pub fn apply<S: Alter>(
     unit: &UnitCode,
     changes: &[RowEdit],
 ) -> Result<(), Error>
-    requires { conn.old.in_transaction ≡ false }
-    ensures mode { conn.new.in_transaction ≡ false }
+    requires { HasNoTransaction conn.old }
+    ensures mode { HasNoTransaction conn.new }
     ensures made { Commits S.Store conn.old conn.new unit.now changes.now result }
     ensures unchanged { SameOnErr S.Store conn.old conn.new result }
-    ensures honest { WasHonest S.Store conn.old conn.new }
+    ensures honest { WasHonest (IsHonestIn S.Store) conn.old conn.new }
 {
     let _settled = conn.is_autocommit();
     let mut tx = conn.transaction();

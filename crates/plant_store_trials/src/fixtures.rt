@@ -1,6 +1,7 @@
 //! Names, rows and calls built from numbers and bytes, and books that keep them. The test fails if a value is invalid.
 
-ghost use Rattle.std.specs.Prelude.{◌≡◌, false};
+ghost use Rattle.std.specs.Prelude.{false};
+ghost use Rattle.plant_store.specs.Reading.{HasNoTransaction};
 
 use plant_alarm::{AlarmState, Event, EventKind, Number};
 use plant_books::Books;
@@ -49,7 +50,7 @@ pub(crate) fn after(
     mut conn: Connection<MemStore>,
     statements: &str,
 ) -> Connection<MemStore>
-    ensures { result.in_transaction ≡ false }
+    ensures { HasNoTransaction result }
 {
     conn.execute_batch(statements).expect(rt, "statements");
     if conn.is_autocommit() {
@@ -61,7 +62,7 @@ pub(crate) fn after(
 
 /// A database that these statements make.
 pub(crate) fn made_by(rt: &impl Abort, alloc: Global, statements: &str) -> Connection<MemStore>
-    ensures { result.in_transaction ≡ false }
+    ensures { HasNoTransaction result }
 {
     let conn = Connection::open_in_memory(alloc).expect(rt, "a database");
     after(rt, conn, statements)

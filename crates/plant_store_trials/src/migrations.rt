@@ -1,6 +1,7 @@
 //! Stores of schema 1 that are migrated, and what is refused.
 
-ghost use Rattle.std.specs.Prelude.{◌≡◌, false};
+ghost use Rattle.std.specs.Prelude.{false};
+ghost use Rattle.plant_store.specs.Reading.{HasNoTransaction};
 
 use crate::fixtures::{counts, made_by, opened, person, rows};
 use crate::older::{
@@ -61,7 +62,7 @@ fn copied(rt: &impl Abort, alloc: Global, bytes: &[u8]) -> Vec<u8> {
 
 /// A connection over files.
 fn over(rt: &impl Abort, alloc: Global, files: Files<Memory>) -> Connection<FileStore<Memory>>
-    ensures { result.in_transaction ≡ false }
+    ensures { HasNoTransaction result }
 {
     assert!(rt; files.may_be_used());
     let Ok(conn) = Connection::open_files(alloc, files, Options::new(7)) else {
@@ -95,7 +96,7 @@ fn closed_files(rt: &impl Abort, alloc: Global) -> Files<Memory> {
 
 /// A store of schema 1 after its migration.
 fn migrated_store<S: Alter + Drop>(rt: &impl Abort, alloc: Global, old: Connection<S>) -> S
-    requires { old.in_transaction ≡ false }
+    requires { HasNoTransaction old }
 {
     let (old, books) = migrated(rt, alloc, old, blank(rt, alloc));
     drop(books);
@@ -182,7 +183,7 @@ fn refuses_another_person_and_hands_all_back(rt: HostRuntime) {
 
 /// Whether the books in this database are those of `opened`.
 fn are_opened(rt: &impl Abort, alloc: Global, conn: Connection<MemStore>) -> bool
-    requires { conn.in_transaction ≡ false }
+    requires { HasNoTransaction conn }
 {
     let Ok(mut books) = Tables::open(alloc, conn, person(rt, alloc, b"root")) else {
         return false;
@@ -276,7 +277,7 @@ fn passes(
     steps: Option<u64>,
     new_steps: Option<u64>,
 ) -> bool
-    requires { old.in_transaction ≡ false }
+    requires { HasNoTransaction old }
 {
     let mut new = blank(rt, alloc);
     old.set_step_limit(steps);

@@ -1,6 +1,6 @@
 //! Stores of schema 1, made by statements, and how a store shows its rows.
 
-ghost use Rattle.std.specs.Prelude.{◌≡◌, false};
+ghost use Rattle.plant_store.specs.Reading.{HasNoTransaction};
 
 use crate::fixtures::{after, made_by, person};
 use plant_store::{MigrateRefused, Tables, migrate};
@@ -43,14 +43,14 @@ pub(crate) fn run<S: Alter>(rt: &impl Abort, conn: &mut Connection<S>, statement
 
 /// A database without tables.
 pub(crate) fn blank(rt: &impl Abort, alloc: Global) -> Connection<MemStore>
-    ensures { result.in_transaction ≡ false }
+    ensures { HasNoTransaction result }
 {
     made_by(rt, alloc, "")
 }
 
 /// A store of schema 1 of `root`, after these statements.
 pub(crate) fn older(rt: &impl Abort, alloc: Global, statements: &str) -> Connection<MemStore>
-    ensures { result.in_transaction ≡ false }
+    ensures { HasNoTransaction result }
 {
     let conn = after(rt, made_by(rt, alloc, SCHEMA), ROWS);
     after(rt, conn, statements)
@@ -69,7 +69,7 @@ pub(crate) fn with_each(
     statement: &str,
     count: i64,
 ) -> Connection<MemStore>
-    ensures { result.in_transaction ≡ false }
+    ensures { HasNoTransaction result }
 {
     for number in 0..count {
         put(rt, &mut conn, statement, number);
@@ -163,8 +163,8 @@ pub(crate) fn migrated<O: Alter + Drop, N: Alter + Drop>(
     old: Connection<O>,
     new: Connection<N>,
 ) -> (Connection<O>, Tables<N>)
-    requires older { old.in_transaction ≡ false }
-    requires newer { new.in_transaction ≡ false }
+    requires older { HasNoTransaction old }
+    requires newer { HasNoTransaction new }
 {
     match migrate(alloc, old, new, person(rt, alloc, b"root")) {
         Ok(both) => both,
@@ -180,9 +180,9 @@ pub(crate) fn refused(
     new: Connection<MemStore>,
     admin: &[u8],
 ) -> MigrateRefused<MemStore, MemStore>
-    requires older { old.in_transaction ≡ false }
-    requires newer { new.in_transaction ≡ false }
-    ensures { (result.old.in_transaction ≡ false) × (result.new.in_transaction ≡ false) }
+    requires older { HasNoTransaction old }
+    requires newer { HasNoTransaction new }
+    ensures { HasNoTransaction result.old × HasNoTransaction result.new }
 {
     match migrate(alloc, old, new, person(rt, alloc, admin)) {
         Ok(_) => rt.panic("migrated"),

@@ -1,6 +1,7 @@
 //! Which databases are opened, and files that are opened again.
 
-ghost use Rattle.std.specs.Prelude.{◌≡◌, false};
+ghost use Rattle.std.specs.Prelude.{false};
+ghost use Rattle.plant_store.specs.Reading.{HasNoTransaction};
 
 use crate::fixtures::{changes, counts, made_by, opened, person, rows, unit};
 use plant_books::Books;
@@ -126,7 +127,7 @@ fn is_found_again<D: Disk + Drop>(
     alloc: Global,
     conn: Connection<FileStore<D>>,
 ) -> bool
-    requires { conn.in_transaction ≡ false }
+    requires { HasNoTransaction conn }
 {
     let Ok(books) = Tables::create(alloc, conn, person(rt, alloc, b"root")) else {
         rt.panic("no books")

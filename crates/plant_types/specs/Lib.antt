@@ -1,5 +1,6 @@
 pub mod Names
 pub mod Adding
+pub mod Results
 pub mod KeyedRows
 pub mod Options
 pub mod Roles

@@ -1,5 +1,5 @@
-ghost use Rattle.std.specs.Prelude.{◌≡◌, IfOk, IfErr};
-ghost use Rattle.plant_types.specs.declared.fault.Fault.TheVariants.{Memory};
+ghost use Rattle.std.specs.Prelude.{◌≡◌, IfOk};
+ghost use Rattle.plant_types.specs.Results.{OnlyMemory};
 
 use crate::{Alphabet, Fault, List, Text};
 use std::alloc::Global;
@@ -9,7 +9,7 @@ pub trait Duplicate: Drop {
     /// The same value again.
     fn duplicate(&self, alloc: Global) -> Result<Self, Fault>
         ensures value { IfOk result (λ x. x ≡ self.now) }
-        ensures err { IfErr result (λ e. e ≡ Memory) };
+        ensures err { OnlyMemory result };
 }
 
 impl<C: Alphabet> Duplicate for Text<C> {
@@ -36,7 +36,7 @@ impl<T: Duplicate> Duplicate for List<T> {
 /// The list of the same values again.
 pub fn duplicated<T: Duplicate>(alloc: Global, rows: &[T]) -> Result<List<T>, Fault>
     ensures value { IfOk result (λ t. t ≡ rows.now) }
-    ensures err { IfErr result (λ e. e ≡ Memory) }
+    ensures err { OnlyMemory result }
 {
     let mut copies = Vec::with_capacity(alloc, rows.len())?;
     for row in rows {

@@ -1,5 +1,5 @@
-ghost use Rattle.std.specs.Prelude.{◌≡◌, ◌↔◌, [], ◌∷◌, ◌++◌, length, insert, remove, slice_get, slice_set, IsTrue, OnOk, OnErr, IfErr};
-ghost use Rattle.plant_types.specs.declared.fault.Fault.TheVariants.{Memory};
+ghost use Rattle.std.specs.Prelude.{◌≡◌, ◌↔◌, [], ◌∷◌, ◌++◌, length, insert, remove, slice_get, slice_set, IsTrue, OnOk, OnErr};
+ghost use Rattle.plant_types.specs.Results.{OnlyMemory};
 
 use crate::Fault;
 use std::alloc::Global;
@@ -68,7 +68,7 @@ impl<T: Drop> List<T> {
     pub fn push(&mut self, row: T) -> Result<(), Fault>
         ensures ok { OnOk result (self.new ≡ self.old ++ row ∷ []) }
         ensures err { OnErr result (self.new ≡ self.old) }
-        ensures memory { IfErr result (λ e. e ≡ Memory) }
+        ensures memory { OnlyMemory result }
     {
         Ok(self.rows.push(row)?)
     }
@@ -78,7 +78,7 @@ impl<T: Drop> List<T> {
     pub fn insert_at(&mut self, place: usize, row: T) -> Result<(), Fault>
         ensures ok { OnOk result (self.new ≡ insert self.old place row) }
         ensures err { OnErr result (self.new ≡ self.old) }
-        ensures memory { IfErr result (λ e. e ≡ Memory) }
+        ensures memory { OnlyMemory result }
     {
         if place < self.rows.len() {
             Ok(self.rows.insert(place, row)?)

@@ -4,11 +4,11 @@ ghost use Rattle.plant_types.specs.Names.{same_name};
 ghost use Rattle.std.specs.Ordering.{nat_cmp};
 ghost use Rattle.std.specs.Cmp;
 ghost use Rattle.std.specs.Hash as fed;
-ghost use Rattle.std.specs.Prelude.{◌≡◌, ℕ, Bool, IfOk, IfErr, IsTrue};
+ghost use Rattle.std.specs.Prelude.{◌≡◌, ℕ, Bool, IfOk, IsTrue};
 ghost use Rattle.std.specs.List.{list_all};
+ghost use Rattle.plant_types.specs.Results.{OnlyMemory};
 ghost use Rattle.plant_types.specs.Text as text;
 ghost use Rattle.plant_types.specs.Text.{is_text, text_of};
-ghost use Rattle.plant_types.specs.declared.fault.Fault.TheVariants.{Memory};
 
 use crate::Fault;
 use smallvec::SmallVec;
@@ -59,7 +59,7 @@ impl<C: Alphabet> Text<C> {
     pub fn read(alloc: Global, bytes: &[u8]) -> Result<Option<Text<C>>, Fault>
         ensures value { IfOk result (λ text. text ≡ text_of C.admits C.longest bytes.now) }
         ensures outside { text_of C.admits C.longest bytes.now ≡ None → result ≡ Ok None }
-        ensures err { IfErr result (λ e. e ≡ Memory) }
+        ensures err { OnlyMemory result }
     {
         if !is_text::<C>(bytes) {
             return Ok(None);
@@ -81,7 +81,7 @@ impl<C: Alphabet> Text<C> {
     /// The same text again.
     pub fn copy(&self, alloc: Global) -> Result<Text<C>, Fault>
         ensures value { IfOk result (λ text. text ≡ self.now) }
-        ensures err { IfErr result (λ e. e ≡ Memory) }
+        ensures err { OnlyMemory result }
     {
         Ok(Text {
             bytes: SmallVec::from_slice(alloc, self.as_bytes())?,

@@ -97,13 +97,13 @@ merge_added f t rows m room is =
     by (Some fault) = refl
 
 -- a file that adds rows has no fault, and there is room for its numbers
-record Adds (f : Facts) (t : ℕ) (rows : List Event) (m : Merged) : Type 0 where
+record AddedBy (f : Facts) (t : ℕ) (rows : List Event) (m : Merged) : Type 0 where
   pub none : first_refusal (file_refusals f t (Ok rows)) ≡ None
   pub few : length (fresh f.events rows) ≤ max_events
   pub is : m ≡ rows_added f.events rows
 
 adds_by : (f : Facts) (t : ℕ) (rows : List Event) (m : Merged) (full : Bool) (fault : Option BadFile) → nat_lt max_events (length f.events + length (new_numbers f.events rows)) ≡ full → first_fault (tags_of f) t 2 f.events rows ≡ fault
-    → addition_or (first_refusal ((full, UnitFull TooManyEvents) ∷ fault_entries fault)) (rows_added f.events rows) ≡ Ok m → Adds f t rows m
+    → addition_or (first_refusal ((full, UnitFull TooManyEvents) ∷ fault_entries fault)) (rows_added f.events rows) ≡ Ok m → AddedBy f t rows m
 adds_by f t rows m true fault ef eo e = cc
 adds_by f t rows m false (Some fault) ef eo e = cc
 adds_by f t rows m false None ef eo e =
@@ -115,7 +115,7 @@ adds_by f t rows m false None ef eo e =
       is = cc;
     }
 
-adds : (f : Facts) (t : ℕ) (rows : List Event) (m : Merged) → addition f t rows ≡ Ok m → Adds f t rows m
+adds : (f : Facts) (t : ℕ) (rows : List Event) (m : Merged) → addition f t rows ≡ Ok m → AddedBy f t rows m
 adds f t rows m e = adds_by f t rows m _ _ refl refl e
 
 not_added : (f : Facts) (t : ℕ) (rows : List Event) (r : Refused) → addition f t rows ≡ Err r → first_refusal (file_refusals f t (Ok rows)) ≡ Some r

@@ -5,7 +5,6 @@ use Rattle.std.specs.Prelude.{Bool, IfOk, List, OnOk, Option, Result, Some, [], 
 use Rattle.plant_alarm.specs.States.{summary}
 use Rattle.plant_alarm.specs.declared.event.Event.{Event}
 use Rattle.plant_alarm.specs.declared.summary.Summary.{Summary}
-use Rattle.plant_books.specs.Results.{Gives}
 use Rattle.plant_import.specs.Merging.{IsRising}
 use Rattle.plant_import.specs.Needed.{needed}
 use Rattle.plant_import.specs.Numbers.{with_events}
@@ -15,6 +14,7 @@ use Rattle.plant_model.specs.declared.rows.AlarmRow.{AlarmRow}
 use Rattle.plant_model.specs.declared.rows.RowEdit.{RowEdit}
 use Rattle.plant_types.specs.KeyedRows.{IsInOrder}
 use Rattle.plant_types.specs.Names.{Name, name_cmp}
+use Rattle.plant_types.specs.Results.{Gives}
 use Rattle.plant_unit.specs.Additions.{AreAdded}
 use Rattle.plant_unit.specs.Summaries.{AreNamed, AreTold, is_named, summaries, summary_of}
 
@@ -23,8 +23,8 @@ abbrev pub AddsAt : ℕ → Event → Bool → List Summary → List Summary →
 AddsAt place event latching before after = (es : List Event) → slice_get before place ≡ Some (summary latching es) → after ≡ slice_set before place (summary latching (es ++ event ∷ []))
 
 -- of alarms in the order of their tags: their summaries, of some events, become those of these events and more
-abbrev pub Adds : List AlarmRow → List Event → List Summary → List Summary → Type 0
-Adds alarms more before after = IsInOrder name_cmp alarm_tag alarms → (es : List Event) → before ≡ summaries alarms es → after ≡ summaries alarms (es ++ more)
+abbrev pub AddsEvents : List AlarmRow → List Event → List Summary → List Summary → Type 0
+AddsEvents alarms more before after = IsInOrder name_cmp alarm_tag alarms → (es : List Event) → before ≡ summaries alarms es → after ≡ summaries alarms (es ++ more)
 
 -- of alarms in the order of their tags: their summaries, of all kept events and the new ones
 abbrev pub GivesAnew : {E : Type 0} → List AlarmRow → List Event → List Event → Result (List Summary) E → Type 0

@@ -1,6 +1,5 @@
 -- The rows that proposals and decisions about changes put.
 use Rattle.std.specs.Prelude.{List, None, Option, Result, map, option_map, true, ℕ, ◌+◌, ◌≡◌}
-use Rattle.plant_books.specs.Results.{Gives}
 use Rattle.plant_model.specs.Facts.{Facts}
 use Rattle.plant_model.specs.RowChanges.{kind_row, rerated}
 use Rattle.plant_model.specs.RowFacts.{record_read}
@@ -17,6 +16,7 @@ use Rattle.plant_model.specs.declared.rows.UnitPart.{UnitPart}
 use Rattle.plant_model.specs.declared.rows.UnitRow.{UnitRow}
 use Rattle.plant_ration.specs.Grid.{Grid}
 use Rattle.plant_ration.specs.declared.change.ChangeState.{ChangeState}
+use Rattle.plant_types.specs.Results.{Gives}
 use Rattle.plant_unit.specs.Additions.{AreKept}
 use Rattle.plant_unit.specs.Judged.{decided_row}
 use Rattle.plant_unit.specs.Readings.{has_its_sheet}

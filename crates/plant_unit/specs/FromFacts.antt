@@ -1,7 +1,6 @@
 -- What a function gives, decides or answers by the facts of a part.
 use Rattle.std.specs.Prelude.{IfOk, List, OnOk, Option, Result, ℕ, ◌++◌, ◌≡◌}
 use Rattle.plant_alarm.specs.declared.event.Event.{Event}
-use Rattle.plant_books.specs.Results.{Gives}
 use Rattle.plant_import.specs.declared.bad_file.BadFile.{BadFile}
 use Rattle.plant_model.specs.Facts.{Facts}
 use Rattle.plant_model.specs.Refusals.{first_refusal, kind_refusals, own_refusals}
@@ -20,6 +19,7 @@ use Rattle.plant_model.specs.declared.rows.Verdict.{Verdict}
 use Rattle.plant_ration.specs.declared.change.ChangeKind.{ChangeKind}
 use Rattle.plant_ration.specs.declared.change.Proposal.{Proposal}
 use Rattle.plant_types.specs.Names.{Name}
+use Rattle.plant_types.specs.Results.{Gives}
 use Rattle.plant_unit.specs.Additions.{AreEventsFor, AreKept}
 use Rattle.plant_unit.specs.Judged.{IsApproved, IsJudgedOwn, decision, one_change, own_answer}
 

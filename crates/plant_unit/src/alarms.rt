@@ -1,10 +1,9 @@
 //! The states of alarms after an import.
 
-ghost use Rattle.std.specs.Prelude.{◌≡◌, ◌++◌, ◌∷◌, [], IfErr, IfOk, OnOk, length, map};
-ghost use Rattle.plant_types.specs.declared.fault.Fault.TheVariants.{Memory};
-ghost use Rattle.plant_books.specs.Results.{Gives};
+ghost use Rattle.std.specs.Prelude.{◌≡◌, ◌++◌, ◌∷◌, [], IfOk, OnOk, length, map};
+ghost use Rattle.plant_types.specs.Results.{Gives, OnlyMemory};
 ghost use Rattle.plant_import.specs.Numbers.{with_events};
-ghost use Rattle.plant_unit.specs.Alarms.{Adds, AddsAt, ForImport, GivesAnew, GivesNamed, GivesOn, PushesNamed, states_after};
+ghost use Rattle.plant_unit.specs.Alarms.{AddsEvents, AddsAt, ForImport, GivesAnew, GivesNamed, GivesOn, PushesNamed, states_after};
 ghost use Rattle.plant_unit.specs.Summaries as states;
 ghost use Rattle.plant_unit.specs.Summaries.{AreNamed};
 
@@ -31,7 +30,7 @@ fn add_at(summaries: &mut List<Summary>, place: usize, event: &Event, latching: 
 /// Brings the summaries of alarms, which stand in the order of their tags, forward by one more event.
 fn add_event(summaries: &mut List<Summary>, alarms: &[AlarmRow], event: &Event)
     ensures length { length summaries.new ≡ length summaries.old }
-    ensures value { Adds alarms.now (event.now ∷ []) summaries.old summaries.new }
+    ensures value { AddsEvents alarms.now (event.now ∷ []) summaries.old summaries.new }
 {
     let place = place_of(alarms, &event.tag);
     if let Some(alarm) = alarms.get(place) {
@@ -44,7 +43,7 @@ fn add_event(summaries: &mut List<Summary>, alarms: &[AlarmRow], event: &Event)
 /// The summaries of alarms without events.
 fn no_summaries(alloc: Global, alarms: &[AlarmRow]) -> Result<List<Summary>, Fault>
     ensures value { IfOk result (λ s. s ≡ states.summaries alarms.now []) }
-    ensures err { IfErr result (λ e. e ≡ Memory) }
+    ensures err { OnlyMemory result }
 {
     let mut summaries = List::new(alloc);
     for alarm in alarms {
@@ -56,7 +55,7 @@ fn no_summaries(alloc: Global, alarms: &[AlarmRow]) -> Result<List<Summary>, Fau
 /// The summaries that the rows of alarms have in their columns.
 fn summaries_in(alloc: Global, alarms: &[AlarmRow]) -> Result<List<Summary>, Fault>
     ensures value { IfOk result (λ s. s ≡ map states.summary_in alarms.now) }
-    ensures err { IfErr result (λ e. e ≡ Memory) }
+    ensures err { OnlyMemory result }
 {
     let mut summaries = List::new(alloc);
     for alarm in alarms {
@@ -73,7 +72,7 @@ fn summaries_in(alloc: Global, alarms: &[AlarmRow]) -> Result<List<Summary>, Fau
 /// Brings the summaries of alarms, which stand in the order of their tags, forward by more events.
 fn add_events(summaries: &mut List<Summary>, alarms: &[AlarmRow], events: &[Event])
     ensures length { length summaries.new ≡ length summaries.old }
-    ensures value { Adds alarms.now events.now summaries.old summaries.new }
+    ensures value { AddsEvents alarms.now events.now summaries.old summaries.new }
 {
     for event in events {
         add_event(summaries, alarms, event);
@@ -89,7 +88,7 @@ fn told_anew(
 ) -> Result<List<Summary>, Fault>
     ensures length { IfOk result (λ s. length s ≡ length alarms.now) }
     ensures value { GivesAnew alarms.now kept.now fresh.now result }
-    ensures err { IfErr result (λ e. e ≡ Memory) }
+    ensures err { OnlyMemory result }
 {
     let mut summaries = no_summaries(alloc, alarms)?;
     add_events(
@@ -104,7 +103,7 @@ fn told_anew(
 fn told_on(alloc: Global, alarms: &[AlarmRow], fresh: &[Event]) -> Result<List<Summary>, Fault>
     ensures length { IfOk result (λ s. length s ≡ length alarms.now) }
     ensures value { GivesOn alarms.now fresh.now result }
-    ensures err { IfErr result (λ e. e ≡ Memory) }
+    ensures err { OnlyMemory result }
 {
     let mut summaries = summaries_in(alloc, alarms)?;
     add_events(
@@ -118,7 +117,7 @@ fn told_on(alloc: Global, alarms: &[AlarmRow], fresh: &[Event]) -> Result<List<S
 /// The alarm's row with the state of a summary.
 fn with_summary(alloc: Global, alarm: &AlarmRow, summary: &Summary) -> Result<AlarmRow, Fault>
     ensures value { IfOk result (λ row. row ≡ states.with_summary alarm.now summary.now) }
-    ensures err { IfErr result (λ e. e ≡ Memory) }
+    ensures err { OnlyMemory result }
 {
     let mut row = alarm.duplicate(alloc)?;
     row.state_no = summary.state;
@@ -131,7 +130,7 @@ fn with_summary(alloc: Global, alarm: &AlarmRow, summary: &Summary) -> Result<Al
 /// The tags of the events.
 fn tags_named(alloc: Global, events: &[Event]) -> Result<BTreeSet<Tag>, Fault>
     ensures value { IfOk result (λ tags. AreNamed tags events.now) }
-    ensures err { IfErr result (λ e. e ≡ Memory) }
+    ensures err { OnlyMemory result }
 {
     let mut tags = BTreeSet::new(alloc);
     for event in events {
@@ -148,7 +147,7 @@ fn alarm_change(
     summary: &Summary,
 ) -> Result<Option<RowEdit>, Fault>
     ensures value { GivesNamed named.now alarm.now summary.now result }
-    ensures err { IfErr result (λ e. e ≡ Memory) }
+    ensures err { OnlyMemory result }
 {
     if !named.contains(&alarm.tag) {
         return Ok(None);
@@ -166,7 +165,7 @@ fn push_named(
 ) -> Result<(), Fault>
     requires { length summaries.now ≡ length alarms.now }
     ensures value { PushesNamed named.now alarms.now summaries.now changes.old changes.new result }
-    ensures err { IfErr result (λ e. e ≡ Memory) }
+    ensures err { OnlyMemory result }
 {
     for (i, alarm) in alarms.iter().enumerate() {
         if let Some(change) = alarm_change(alloc, named, alarm, &summaries[i])? {
@@ -187,7 +186,7 @@ fn summaries_after(
     ensures length { IfOk result (λ s. length s ≡ length alarms.now) }
     ensures value { ForImport alarms.now kept.now rows.now fresh.now
         (λ es. Gives result (states.summaries alarms.now (with_events es fresh.now))) }
-    ensures err { IfErr result (λ e. e ≡ Memory) }
+    ensures err { OnlyMemory result }
 {
     if has_late(alloc, kept, rows)? {
         told_anew(alloc, alarms, kept, fresh)
@@ -207,7 +206,7 @@ pub fn push_alarms(
 ) -> Result<(), Fault>
     ensures value { ForImport alarms.now kept.now rows.now fresh.now
         (λ es. OnOk result (changes.new ≡ changes.old ++ states_after es fresh.now alarms.now)) }
-    ensures err { IfErr result (λ e. e ≡ Memory) }
+    ensures err { OnlyMemory result }
 {
     let summaries = summaries_after(alloc, alarms, kept, rows, fresh)?;
     let named = tags_named(alloc, fresh)?;

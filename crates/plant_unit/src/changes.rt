@@ -1,7 +1,7 @@
 //! The changes of an opening, and which requests change nothing.
 
-ghost use Rattle.std.specs.Prelude.{◌≡◌, [], IfErr, IfOk, true};
-ghost use Rattle.plant_types.specs.declared.fault.Fault.TheVariants.{Memory};
+ghost use Rattle.std.specs.Prelude.{◌≡◌, [], IfOk, true};
+ghost use Rattle.plant_types.specs.Results.{OnlyMemory};
 ghost use Rattle.plant_model.specs.Facts.{facts};
 ghost use Rattle.plant_model.specs.RowChanges.{changes_for};
 ghost use Rattle.plant_model.specs.Verdicts.{is_opening, is_read};
@@ -22,7 +22,7 @@ pub fn is_read(request: &Request) -> bool
 pub fn opening_changes(alloc: Global, call: &Call) -> Result<List<RowEdit>, Fault>
     requires { is_opening call.now.request ≡ true }
     ensures value { IfOk result (λ cs. cs ≡ changes_for (facts []) call.now) }
-    ensures err { IfErr result (λ e. e ≡ Memory) }
+    ensures err { OnlyMemory result }
 {
     let mut changes = List::new(alloc);
     if let Request::OpenUnit {

@@ -1,9 +1,8 @@
 //! Proposing changes, and deciding them.
 
-ghost use Rattle.std.specs.Prelude.{◌≡◌, ◌<◌, ◌+◌, ◌++◌, IfErr, IfOk, None};
-ghost use Rattle.plant_types.specs.declared.fault.Fault.TheVariants.{Memory};
+ghost use Rattle.std.specs.Prelude.{◌≡◌, ◌<◌, ◌+◌, ◌++◌, IfOk, None};
+ghost use Rattle.plant_types.specs.Results.{Gives, OnlyMemory};
 ghost use Rattle.plant_ration.specs.declared.change.ChangeKind.TheVariants.{Limit, Matrix as MatrixKind, Rationale};
-ghost use Rattle.plant_books.specs.Results.{Gives};
 ghost use Rattle.plant_model.specs.Changes.{priority_by};
 ghost use Rattle.plant_model.specs.RowChanges.{in_force};
 ghost use Rattle.plant_model.specs.RowFacts.{facts_in, unit_read};
@@ -44,7 +43,7 @@ fn topic(kind: &ChangeKind) -> ChangeTopic
 /// The row of a change, without what its kind puts there.
 fn bare_entry(alloc: Global, change: &ChangeRow) -> Result<ChangeEntry, Fault>
     ensures value { Gives result (deciding.bare_entry change.now) }
-    ensures err { IfErr result (λ e. e ≡ Memory) }
+    ensures err { OnlyMemory result }
 {
     Ok(ChangeEntry {
         number: change.number,
@@ -68,7 +67,7 @@ fn bare_entry(alloc: Global, change: &ChangeRow) -> Result<ChangeEntry, Fault>
 /// The row of a change.
 fn entry_from(alloc: Global, change: &ChangeRow) -> Result<ChangeEntry, Fault>
     ensures value { IfOk result (λ entry. entry ≡ change_entry change.now) }
-    ensures err { IfErr result (λ e. e ≡ Memory) }
+    ensures err { OnlyMemory result }
 {
     let mut entry = bare_entry(alloc, change)?;
     match &change.kind {
@@ -108,7 +107,7 @@ fn push_proposal(
     proposal: &Proposal,
 ) -> Result<(), Fault>
     ensures value { AddsProposal part.now call.now proposal.now changes.old changes.new result }
-    ensures err { IfErr result (λ e. e ≡ Memory) }
+    ensures err { OnlyMemory result }
 {
     let number = next_number(part);
     let change = ChangeRow {
@@ -136,7 +135,7 @@ fn decided(
     call: &Call,
 ) -> Result<RowEdit, Fault>
     ensures value { Gives result (decided_put state call.now entry.now) }
-    ensures err { IfErr result (λ e. e ≡ Memory) }
+    ensures err { OnlyMemory result }
 {
     let mut row = entry.duplicate(alloc)?;
     row.state_no = state;
@@ -153,7 +152,7 @@ pub fn withdraw_change(
     number: u32,
 ) -> Result<Result<RowEdit, Refused>, Fault>
     ensures value { DecidesFrom part.now call.now (λ u. WithdrawChange u number) result }
-    ensures err { IfErr result (λ e. e ≡ Memory) }
+    ensures err { OnlyMemory result }
 {
     let Some(entry) = entry_of(part.rows.changes.as_slice(), number) else {
         return Ok(Err(Refused::ChangeUnknown));
@@ -172,7 +171,7 @@ pub fn reject(
     number: u32,
 ) -> Result<Result<RowEdit, Refused>, Fault>
     ensures value { DecidesFrom part.now call.now (λ u. Reject u number) result }
-    ensures err { IfErr result (λ e. e ≡ Memory) }
+    ensures err { OnlyMemory result }
 {
     let Some(entry) = entry_of(part.rows.changes.as_slice(), number) else {
         return Ok(Err(Refused::ChangeUnknown));
@@ -206,7 +205,7 @@ fn push_record(
     ensures added { AreKept part.now → IfOk result (λ r. r ≡ None
         → changes.new ≡ changes.old
         ++ in_force (facts_in part.now) change.now.number (Rationale tag.now sheet.now)) }
-    ensures err { IfErr result (λ e. e ≡ Memory) }
+    ensures err { OnlyMemory result }
 {
     let cell_no = match record_priority(alloc, unit, part, change.base, tag, sheet)? {
         Err(refused) => return Ok(Some(refused)),
@@ -229,7 +228,7 @@ fn rerated(
     row: &RecordEntry,
 ) -> Result<Option<RecordEntry>, Fault>
     ensures value { GivesRerated part.now matrix.now row.now result }
-    ensures err { IfErr result (λ e. e ≡ Memory) }
+    ensures err { OnlyMemory result }
 {
     let Some(entry) = source_of(part, row) else {
         return Ok(None);
@@ -253,7 +252,7 @@ fn push_rerated(
     matrix: &Matrix,
 ) -> Result<(), Fault>
     ensures value { AddsFrom part.now result changes.old changes.new (rerated_puts matrix.now) }
-    ensures err { IfErr result (λ e. e ≡ Memory) }
+    ensures err { OnlyMemory result }
 {
     for row in part.rows.records.as_slice() {
         let found = rerated(alloc, part, matrix, row)?;
@@ -279,7 +278,7 @@ fn push_matrix_in_force(
     ensures added { AreKept part.now → IfOk result (λ r. r ≡ None
         → changes.new ≡ changes.old
         ++ in_force (facts_in part.now) change.now.number (MatrixKind matrix.now)) }
-    ensures err { IfErr result (λ e. e ≡ Memory) }
+    ensures err { OnlyMemory result }
 {
     if let Some(refused) = matrix_refusal(unit, part, change.base, matrix) {
         return Ok(Some(refused));
@@ -291,7 +290,7 @@ fn push_matrix_in_force(
 /// The row of an alarm whose limit is changed.
 fn limited(alloc: Global, alarm: &AlarmRow, max: Seconds) -> Result<AlarmRow, Fault>
     ensures value { alarm.now.max_rev < 4294967295 → Gives result (with_limit alarm.now max) }
-    ensures err { IfErr result (λ e. e ≡ Memory) }
+    ensures err { OnlyMemory result }
 {
     let mut row = alarm.duplicate(alloc)?;
     row.max_s = max;
@@ -312,7 +311,7 @@ fn push_limit(
     ensures added { AreKept part.now → IfOk result (λ r. r ≡ None
         → changes.new ≡ changes.old
         ++ in_force (facts_in part.now) change.now.number (Limit tag.now max)) }
-    ensures err { IfErr result (λ e. e ≡ Memory) }
+    ensures err { OnlyMemory result }
 {
     let alarm = alarm_of(part.rows.alarms.as_slice(), tag);
     if let Some(refused) = limit_refusal(alarm, change.base) {
@@ -338,7 +337,7 @@ fn push_in_force(
     ensures added { AreKept part.now → IfOk result (λ r. r ≡ None
         → changes.new ≡ changes.old
         ++ in_force (facts_in part.now) change.now.number change.now.kind) }
-    ensures err { IfErr result (λ e. e ≡ Memory) }
+    ensures err { OnlyMemory result }
 {
     match &change.kind {
         ChangeKind::Rationale(tag, sheet) => {
@@ -380,7 +379,7 @@ fn bring_into_force(
 ) -> Result<Verdict, Fault>
     requires { unit_read part.now.rows ≡ unit.now }
     ensures value { ApprovesFrom part.now call.now change.now entry.now result }
-    ensures err { IfErr result (λ e. e ≡ Memory) }
+    ensures err { OnlyMemory result }
 {
     let mut changes = List::new(alloc);
     changes.push(RowEdit::Put(Row::Unit(approved_row(unit, call.moment, change))))?;
@@ -401,7 +400,7 @@ pub fn approve(
 ) -> Result<Verdict, Fault>
     requires { unit_read part.now.rows ≡ unit.now }
     ensures value { JudgesFrom part.now call.now (λ u. Approve u number) result }
-    ensures err { IfErr result (λ e. e ≡ Memory) }
+    ensures err { OnlyMemory result }
 {
     let Some(entry) = entry_of(part.rows.changes.as_slice(), number) else {
         return Ok(Verdict::Refused(Refused::ChangeUnknown));
@@ -425,7 +424,7 @@ pub fn propose(
 ) -> Result<Verdict, Fault>
     requires { unit_read part.now.rows ≡ unit.now }
     ensures value { JudgesFrom part.now call.now (λ u. Propose u proposal.now) result }
-    ensures err { IfErr result (λ e. e ≡ Memory) }
+    ensures err { OnlyMemory result }
 {
     if let Some(refused) = proposal_refusal(alloc, unit, part, proposal)? {
         return Ok(Verdict::Refused(refused));

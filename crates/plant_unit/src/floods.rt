@@ -1,9 +1,8 @@
 //! The floods of alarms in a range of moments.
 
-ghost use Rattle.std.specs.Prelude.{◌≡◌, ◌+◌, ◌*◌, All, IfErr, IsTrue, map, ℕ};
+ghost use Rattle.std.specs.Prelude.{◌≡◌, ◌+◌, ◌*◌, All, IsTrue, map, ℕ};
 ghost use Rattle.plant_types.specs.Moment.{is_moment};
-ghost use Rattle.plant_types.specs.declared.fault.Fault.TheVariants.{Memory};
-ghost use Rattle.plant_books.specs.Results.{Gives};
+ghost use Rattle.plant_types.specs.Results.{Gives, OnlyMemory};
 ghost use Rattle.plant_model.specs.Events as flood;
 ghost use Rattle.plant_unit.specs.Additions.{AreFew};
 ghost use Rattle.plant_unit.specs.Floods.{EndsBy, IsLineOf};
@@ -46,7 +45,7 @@ fn flood_line(begin: Moment, run: &Run) -> FloodLine
 fn lines_of(alloc: Global, begin: Moment, runs: &[Run]) -> Result<List<FloodLine>, Fault>
     ensures value { (until : ℕ) → IsTrue (is_moment until) → All (EndsBy begin until) runs.now
         → Gives result (map (flood.flood_line begin) runs.now) }
-    ensures err { IfErr result (λ e. e ≡ Memory) }
+    ensures err { OnlyMemory result }
 {
     let mut lines = List::new(alloc);
     for run in runs {
@@ -63,7 +62,7 @@ pub fn flood_lines(
     until: Moment,
 ) -> Result<List<FloodLine>, Fault>
     ensures value { AreFew events.now → Gives result (flood.flood_lines events.now begin until) }
-    ensures err { IfErr result (λ e. e ≡ Memory) }
+    ensures err { OnlyMemory result }
 {
     let counts = period_counts(alloc, events, begin, until)?;
     let runs = floods(alloc, counts.as_slice())?;

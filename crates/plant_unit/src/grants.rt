@@ -1,8 +1,8 @@
 //! Granting roles and withdrawing them.
 
-ghost use Rattle.std.specs.Prelude.{◌≡◌, IfErr};
+ghost use Rattle.std.specs.Prelude.{◌≡◌};
 ghost use Rattle.plant_types.specs.Names.{Name};
-ghost use Rattle.plant_types.specs.declared.fault.Fault.TheVariants.{Memory};
+ghost use Rattle.plant_types.specs.Results.{OnlyMemory};
 ghost use Rattle.plant_model.specs.declared.call.Request.TheVariants.{Grant, Withdraw};
 ghost use Rattle.plant_unit.specs.FromFacts.{DecidesAlways, DecidesAs};
 
@@ -22,7 +22,7 @@ pub fn grant(
     tenure: Tenure,
 ) -> Result<Result<RowEdit, Refused>, Fault>
     ensures value { (p u : Name) → DecidesAs part.now p now (Grant u person.now tenure) result }
-    ensures err { IfErr result (λ e. e ≡ Memory) }
+    ensures err { OnlyMemory result }
 {
     if part.rows.grants.as_slice().len() >= MAX_GRANTS {
         return Ok(Err(Refused::UnitFull(Full::Grants)));
@@ -48,7 +48,7 @@ pub fn withdraw(
     role: Role,
 ) -> Result<Result<RowEdit, Refused>, Fault>
     ensures value { DecidesAlways part.now (λ u. Withdraw u person.now role) result }
-    ensures err { IfErr result (λ e. e ≡ Memory) }
+    ensures err { OnlyMemory result }
 {
     let grants = part.rows.grants.as_slice();
     if !stands(grants, person, role) {

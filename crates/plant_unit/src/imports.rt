@@ -1,7 +1,7 @@
 //! The judgement of an import whose caller may make it.
 
-ghost use Rattle.std.specs.Prelude.{◌≡◌, ◌+◌, ◌++◌, IfErr, IfOk, OnOk, map, nat_lt};
-ghost use Rattle.plant_types.specs.declared.fault.Fault.TheVariants.{Memory};
+ghost use Rattle.std.specs.Prelude.{◌≡◌, ◌+◌, ◌++◌, IfOk, OnOk, map, nat_lt};
+ghost use Rattle.plant_types.specs.Results.{OnlyMemory};
 ghost use Rattle.plant_model.specs.RowFacts.{alarm_tag, unit_read};
 ghost use Rattle.plant_unit.specs.Additions.{AreFew, GivesAddition, GivesImport, event_puts, import_reply};
 ghost use Rattle.plant_unit.specs.FromFacts.{JudgesImport};
@@ -16,7 +16,7 @@ use std::alloc::Global;
 
 fn tags_of(alloc: Global, alarms: &[AlarmRow]) -> Result<List<Tag>, Fault>
     ensures value { IfOk result (λ tags. tags ≡ map alarm_tag alarms.now) }
-    ensures err { IfErr result (λ e. e ≡ Memory) }
+    ensures err { OnlyMemory result }
 {
     let mut tags = List::new(alloc);
     for alarm in alarms {
@@ -41,7 +41,7 @@ fn added(
     rows: &[Event],
 ) -> Result<Result<Merged, Refused>, Fault>
     ensures value { GivesAddition part.now now rows.now result }
-    ensures err { IfErr result (λ e. e ≡ Memory) }
+    ensures err { OnlyMemory result }
 {
     let kept = part.rows.events.as_slice();
     if is_full(part.count, count_new(alloc, kept, rows)?) {
@@ -66,7 +66,7 @@ fn imported(merged: &Merged) -> Reply
 
 fn push_events(alloc: Global, changes: &mut List<RowEdit>, events: &[Event]) -> Result<(), Fault>
     ensures value { OnOk result (changes.new ≡ changes.old ++ event_puts events.now) }
-    ensures err { IfErr result (λ e. e ≡ Memory) }
+    ensures err { OnlyMemory result }
 {
     for event in events {
         changes.push(RowEdit::Put(Row::Event(event.copy(alloc)?)))?;
@@ -85,7 +85,7 @@ fn import_changes(
 ) -> Result<List<RowEdit>, Fault>
     requires { unit_read part.now.rows ≡ unit.now }
     ensures value { GivesImport part.now now rows.now added.now result }
-    ensures err { IfErr result (λ e. e ≡ Memory) }
+    ensures err { OnlyMemory result }
 {
     let mut changes = List::new(alloc);
     let mut row = *unit;
@@ -108,7 +108,7 @@ pub fn judge_import(
 ) -> Result<Verdict, Fault>
     requires { unit_read part.now.rows ≡ unit.now }
     ensures value { JudgesImport part.now call.now file.now result }
-    ensures err { IfErr result (λ e. e ≡ Memory) }
+    ensures err { OnlyMemory result }
 {
     let rows = match file {
         Ok(rows) => rows.as_slice(),

@@ -1,5 +1,5 @@
-ghost use Rattle.std.specs.Prelude.{◌≡◌, List, IfOk, IfErr, option_copied, true, false};
-ghost use Rattle.plant_types.specs.declared.fault.Fault.TheVariants.{Memory};
+ghost use Rattle.std.specs.Prelude.{◌≡◌, List, IfOk, option_copied, true, false};
+ghost use Rattle.plant_types.specs.Results.{OnlyMemory};
 ghost use Rattle.plant_alarm.specs.declared.event.Event.{Event as TheEvent};
 ghost use Rattle.plant_model.specs.RowFacts.{facts_among, facts_in, unit_read};
 ghost use Rattle.plant_model.specs.Verdicts.{is_opening};
@@ -26,7 +26,7 @@ fn judge_own(alloc: Global, unit: &UnitRow, part: &UnitPart, call: &Call) -> Res
     requires plain { is_opening call.now.request ≡ false }
     requires no_import { is_import call.now.request ≡ false }
     ensures value { AreKept part.now → IfOk result (IsJudgedOwn (facts_in part.now) call.now) }
-    ensures err { IfErr result (λ e. e ≡ Memory) }
+    ensures err { OnlyMemory result }
 {
     let now = call.moment;
     match &call.request {
@@ -100,7 +100,7 @@ fn judge_part(alloc: Global, unit: &UnitRow, part: &UnitPart, call: &Call) -> Re
     requires plain { is_opening call.now.request ≡ false }
     ensures value { AreKept part.now → (es : List TheEvent) → AreEventsSeen part.now call.now es
         → IfOk result (IsJudged (facts_among part.now es) call.now) }
-    ensures err { IfErr result (λ e. e ≡ Memory) }
+    ensures err { OnlyMemory result }
 {
     if let Some(refused) = holder_refusal(unit, part, call) {
         return Ok(Verdict::Refused(refused));
@@ -120,7 +120,7 @@ pub fn judge(alloc: Global, part: Option<&UnitPart>, call: &Call) -> Result<Verd
     requires { is_opening call.now.request ≡ false }
     ensures value { (h : List Call) → IsPartOf (option_copied part.entry) h call.now
         → IfOk result (IsVerdictOn h call.now) }
-    ensures err { IfErr result (λ e. e ≡ Memory) }
+    ensures err { OnlyMemory result }
 {
     let Some(part) = part else {
         return Ok(Verdict::Refused(Refused::NotGranted));
@@ -140,7 +140,7 @@ pub fn judge_open(
 ) -> Result<Verdict, Fault>
     requires { is_opening call.now.request ≡ true }
     ensures value { IfOk result (IsOpeningFor administrator.now taken call.now) }
-    ensures err { IfErr result (λ e. e ≡ Memory) }
+    ensures err { OnlyMemory result }
 {
     if call.person != *administrator {
         return Ok(Verdict::Refused(Refused::NotAdministrator));

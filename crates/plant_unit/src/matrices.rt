@@ -1,7 +1,7 @@
 //! The matrices of a unit, read from their rows and put into them.
 
-ghost use Rattle.std.specs.Prelude.{◌≡◌, ◌≤◌, ◌++◌, All, IfErr, IfOk, OnOk, length};
-ghost use Rattle.plant_types.specs.declared.fault.Fault.TheVariants.{Memory};
+ghost use Rattle.std.specs.Prelude.{◌≡◌, ◌≤◌, ◌++◌, All, IfOk, OnOk, length};
+ghost use Rattle.plant_types.specs.Results.{OnlyMemory};
 ghost use Rattle.plant_model.specs.RowChanges.{matrix_changes};
 ghost use Rattle.plant_model.specs.RowFacts.{cells_at};
 ghost use Rattle.plant_unit.specs.MatrixRows.{band_puts, cell_lists, cell_puts, items_of, limits_at, row_puts};
@@ -15,7 +15,7 @@ use std::alloc::Global;
 /// The limits of the matrix of a number.
 fn limits_of(alloc: Global, bands: &[BandRow], number: u32) -> Result<Vec<u64>, Fault>
     ensures value { IfOk result (λ limits. limits.items ≡ limits_at bands.now number) }
-    ensures err { IfErr result (λ e. e ≡ Memory) }
+    ensures err { OnlyMemory result }
 {
     let mut limits = Vec::new(alloc);
     for band in bands {
@@ -29,7 +29,7 @@ fn limits_of(alloc: Global, bands: &[BandRow], number: u32) -> Result<Vec<u64>, 
 /// The cells of a severity in the matrix of a number.
 fn row_of(alloc: Global, cells: &[CellRow], number: u32, severity: u8) -> Result<Vec<Cell>, Fault>
     ensures value { IfOk result (λ row. row.items ≡ cells_at cells.now number severity) }
-    ensures err { IfErr result (λ e. e ≡ Memory) }
+    ensures err { OnlyMemory result }
 {
     let mut row = Vec::new(alloc);
     for cell in cells {
@@ -43,7 +43,7 @@ fn row_of(alloc: Global, cells: &[CellRow], number: u32, severity: u8) -> Result
 /// The rows of the matrix of a number, as far as there are cells.
 fn cells_of(alloc: Global, cells: &[CellRow], number: u32) -> Result<Vec<Vec<Cell>>, Fault>
     ensures value { IfOk result (λ rows. items_of rows.items ≡ cell_lists cells.now number) }
-    ensures err { IfErr result (λ e. e ≡ Memory) }
+    ensures err { OnlyMemory result }
 {
     let mut rows = Vec::new(alloc);
     for place in 0..5u8 {
@@ -58,7 +58,7 @@ fn cells_of(alloc: Global, cells: &[CellRow], number: u32) -> Result<Vec<Vec<Cel
 /// The matrix of a number, where its rows are those of one.
 pub fn matrix_of(alloc: Global, rows: &UnitRows, number: u32) -> Result<Option<Matrix>, Fault>
     ensures value { IfOk result (λ matrix. matrix ≡ matrix_found rows.now number) }
-    ensures err { IfErr result (λ e. e ≡ Memory) }
+    ensures err { OnlyMemory result }
 {
     let limits = limits_of(alloc, rows.bands.as_slice(), number)?;
     let cells = cells_of(alloc, rows.cells.as_slice(), number)?;
@@ -68,7 +68,7 @@ pub fn matrix_of(alloc: Global, rows: &UnitRows, number: u32) -> Result<Option<M
 fn push_bands(changes: &mut List<RowEdit>, number: u32, limits: &[u64]) -> Result<(), Fault>
     requires { length limits.now ≤ 4 }
     ensures value { OnOk result (changes.new ≡ changes.old ++ band_puts number limits.now) }
-    ensures err { IfErr result (λ e. e ≡ Memory) }
+    ensures err { OnlyMemory result }
 {
     for (i, limit) in limits.iter().enumerate() {
         changes.push(RowEdit::Put(Row::Band(BandRow {
@@ -88,7 +88,7 @@ fn push_row(
 ) -> Result<(), Fault>
     requires { length row.now ≤ 5 }
     ensures value { OnOk result (changes.new ≡ changes.old ++ row_puts number (severity, row.now)) }
-    ensures err { IfErr result (λ e. e ≡ Memory) }
+    ensures err { OnlyMemory result }
 {
     for (i, cell) in row.iter().enumerate() {
         changes.push(RowEdit::Put(Row::Cell(CellRow {
@@ -105,7 +105,7 @@ fn push_cells(changes: &mut List<RowEdit>, number: u32, cells: &[Vec<Cell>]) -> 
     requires rows { length cells.now ≤ 5 }
     requires wide { All (λ row. length row.items ≤ 5) cells.now }
     ensures value { OnOk result (changes.new ≡ changes.old ++ cell_puts number cells.now) }
-    ensures err { IfErr result (λ e. e ≡ Memory) }
+    ensures err { OnlyMemory result }
 {
     for (i, row) in cells.iter().enumerate() {
         push_row(changes, number, i as u8 + 1, row)?;
@@ -116,7 +116,7 @@ fn push_cells(changes: &mut List<RowEdit>, number: u32, cells: &[Vec<Cell>]) -> 
 /// Adds the changes that put the rows of a matrix.
 pub fn push_matrix(changes: &mut List<RowEdit>, number: u32, matrix: &Matrix) -> Result<(), Fault>
     ensures value { OnOk result (changes.new ≡ changes.old ++ matrix_changes number matrix.now) }
-    ensures err { IfErr result (λ e. e ≡ Memory) }
+    ensures err { OnlyMemory result }
 {
     let cells = matrix.cells();
     push_bands(changes, number, matrix.limits())?;

@@ -1,7 +1,7 @@
 //! The refusals of calls on changes.
 
-ghost use Rattle.std.specs.Prelude.{◌≡◌, IfErr, option_copied};
-ghost use Rattle.plant_types.specs.declared.fault.Fault.TheVariants.{Memory};
+ghost use Rattle.std.specs.Prelude.{◌≡◌, option_copied};
+ghost use Rattle.plant_types.specs.Results.{OnlyMemory};
 ghost use Rattle.plant_ration.specs.declared.change.ChangeKind.TheVariants.{Matrix as MatrixKind};
 ghost use Rattle.plant_model.specs.Refusals as refusals;
 ghost use Rattle.plant_model.specs.Refusals.{first_refusal, kind_unknown};
@@ -51,7 +51,7 @@ pub fn record_priority(
 ) -> Result<Result<Cell, Refused>, Fault>
     requires { unit_read part.now.rows ≡ unit.now }
     ensures value { GivesFrom part.now result (λ f. record_decision f base tag.now sheet.now) }
-    ensures err { IfErr result (λ e. e ≡ Memory) }
+    ensures err { OnlyMemory result }
 {
     let revision = revision_of(part, tag);
     if base != revision {
@@ -138,7 +138,7 @@ fn kind_refusal(
 ) -> Result<Option<Refused>, Fault>
     requires { unit_read part.now.rows ≡ unit.now }
     ensures value { RefusesFrom part.now base kind.now result }
-    ensures err { IfErr result (λ e. e ≡ Memory) }
+    ensures err { OnlyMemory result }
 {
     match kind {
         ChangeKind::Rationale(tag, sheet) => {
@@ -177,7 +177,7 @@ pub fn proposal_refusal(
 ) -> Result<Option<Refused>, Fault>
     requires { unit_read part.now.rows ≡ unit.now }
     ensures value { RefusesAlways part.now (λ u. Propose u proposal.now) result }
-    ensures err { IfErr result (λ e. e ≡ Memory) }
+    ensures err { OnlyMemory result }
 {
     if part.count >= MAX_CHANGES {
         return Ok(Some(Refused::UnitFull(Full::Changes)));

@@ -1,11 +1,10 @@
 //! Records and changes, read from the rows of a part.
 
-ghost use Rattle.std.specs.Prelude.{◌≡◌, IfErr, IfOk, option_copied, option_map};
+ghost use Rattle.std.specs.Prelude.{◌≡◌, IfOk, option_copied, option_map};
 ghost use Rattle.std.specs.Ordering.{nat_cmp};
 ghost use Rattle.plant_types.specs.Names.{name_cmp};
 ghost use Rattle.plant_types.specs.KeyedRows.{row_at};
-ghost use Rattle.plant_types.specs.declared.fault.Fault.TheVariants.{Memory};
-ghost use Rattle.plant_books.specs.Results.{Gives};
+ghost use Rattle.plant_types.specs.Results.{Gives, OnlyMemory};
 ghost use Rattle.plant_model.specs.RowFacts.{change_number, facts_in, record_from, record_tag};
 ghost use Rattle.plant_model.specs.declared.rows.ChangeTopic.TheVariants.{Limit as LimitTopic, Matrix as MatrixTopic, Record as RecordTopic};
 ghost use Rattle.plant_model.specs.declared.rows.UnitRows.{UnitRows as TheRows};
@@ -66,7 +65,7 @@ pub fn priority_of(part: &UnitPart, tag: &Tag) -> Option<Cell>
 /// The sheet of a change, where all its columns are there.
 fn sheet_of(alloc: Global, entry: &ChangeEntry) -> Result<Option<Sheet>, Fault>
     ensures value { IfOk result (λ sheet. sheet ≡ sheet_found entry.now) }
-    ensures err { IfErr result (λ e. e ≡ Memory) }
+    ensures err { OnlyMemory result }
 {
     let Some(cause) = &entry.cause else {
         return Ok(None);
@@ -96,7 +95,7 @@ pub fn rationale_from(
     entry: &ChangeEntry,
 ) -> Result<Option<RecordRow>, Fault>
     ensures value { Gives result (option_map (record_from row.now) (sheet_found entry.now)) }
-    ensures err { IfErr result (λ e. e ≡ Memory) }
+    ensures err { OnlyMemory result }
 {
     let Some(sheet) = sheet_of(alloc, entry)? else {
         return Ok(None);
@@ -117,7 +116,7 @@ pub fn rationale_from(
 /// The record of an alarm.
 pub fn rationale_of(alloc: Global, part: &UnitPart, tag: &Tag) -> Result<Option<RecordRow>, Fault>
     ensures value { GivesFrom part.now result (λ f. f.rationale tag.now) }
-    ensures err { IfErr result (λ e. e ≡ Memory) }
+    ensures err { OnlyMemory result }
 {
     let Some(row) = record_of(part.rows.records.as_slice(), tag) else {
         return Ok(None);
@@ -130,7 +129,7 @@ pub fn rationale_of(alloc: Global, part: &UnitPart, tag: &Tag) -> Result<Option<
 
 fn record_kind(alloc: Global, entry: &ChangeEntry) -> Result<Option<ChangeKind>, Fault>
     ensures value { (rows : TheRows) → Gives result (kind_found rows entry.now RecordTopic) }
-    ensures err { IfErr result (λ e. e ≡ Memory) }
+    ensures err { OnlyMemory result }
 {
     let Some(tag) = &entry.tag else {
         return Ok(None);
@@ -147,7 +146,7 @@ fn matrix_kind(
     entry: &ChangeEntry,
 ) -> Result<Option<ChangeKind>, Fault>
     ensures value { Gives result (kind_found rows.now entry.now MatrixTopic) }
-    ensures err { IfErr result (λ e. e ≡ Memory) }
+    ensures err { OnlyMemory result }
 {
     match matrix_of(alloc, rows, entry.number)? {
         None => Ok(None),
@@ -157,7 +156,7 @@ fn matrix_kind(
 
 fn limit_kind(alloc: Global, entry: &ChangeEntry) -> Result<Option<ChangeKind>, Fault>
     ensures value { (rows : TheRows) → Gives result (kind_found rows entry.now LimitTopic) }
-    ensures err { IfErr result (λ e. e ≡ Memory) }
+    ensures err { OnlyMemory result }
 {
     let Some(tag) = &entry.tag else {
         return Ok(None);
@@ -171,7 +170,7 @@ fn limit_kind(alloc: Global, entry: &ChangeEntry) -> Result<Option<ChangeKind>, 
 /// What a change is of and to what, where all of it is there.
 fn kind_of(alloc: Global, rows: &UnitRows, entry: &ChangeEntry) -> Result<Option<ChangeKind>, Fault>
     ensures value { Gives result (kind_found rows.now entry.now entry.now.kind_no) }
-    ensures err { IfErr result (λ e. e ≡ Memory) }
+    ensures err { OnlyMemory result }
 {
     match entry.kind_no {
         ChangeTopic::Record => record_kind(alloc, entry),
@@ -187,7 +186,7 @@ pub fn change_from(
     entry: &ChangeEntry,
 ) -> Result<Option<ChangeRow>, Fault>
     ensures value { IfOk result (λ change. change ≡ change_whole rows.now entry.now) }
-    ensures err { IfErr result (λ e. e ≡ Memory) }
+    ensures err { OnlyMemory result }
 {
     let Some(kind) = kind_of(alloc, rows, entry)? else {
         return Ok(None);
@@ -207,7 +206,7 @@ pub fn change_from(
 /// The change of a number.
 pub fn change_of(alloc: Global, part: &UnitPart, number: u32) -> Result<Option<ChangeRow>, Fault>
     ensures value { GivesFrom part.now result (λ f. f.change number) }
-    ensures err { IfErr result (λ e. e ≡ Memory) }
+    ensures err { OnlyMemory result }
 {
     match entry_of(part.rows.changes.as_slice(), number) {
         None => Ok(None),

@@ -1,9 +1,8 @@
 //! The answers to calls that only ask.
 
-ghost use Rattle.std.specs.Prelude.{◌≡◌, ℕ, IfErr};
+ghost use Rattle.std.specs.Prelude.{◌≡◌, ℕ};
 ghost use Rattle.plant_types.specs.Names.{Name};
-ghost use Rattle.plant_types.specs.declared.fault.Fault.TheVariants.{Memory};
-ghost use Rattle.plant_books.specs.Results.{Gives};
+ghost use Rattle.plant_types.specs.Results.{Gives, OnlyMemory};
 ghost use Rattle.plant_model.specs.Facts.{returned};
 ghost use Rattle.plant_model.specs.Replies as replies;
 ghost use Rattle.plant_model.specs.Replies.{shelf_lines};
@@ -32,7 +31,7 @@ pub fn status(
     tag: &Tag,
 ) -> Result<Result<Reply, Refused>, Fault>
     ensures value { (p u : Name) → Answers part.now p now (StatusCall u tag.now) result }
-    ensures err { IfErr result (λ e. e ≡ Memory) }
+    ensures err { OnlyMemory result }
 {
     let Some(alarm) = alarm_of(part.rows.alarms.as_slice(), tag) else {
         return Ok(Err(Refused::AlarmUnknown));
@@ -60,7 +59,7 @@ pub fn shelf_line(
     now: Moment,
 ) -> Result<Option<ShelfLine>, Fault>
     ensures value { Gives result (line_at row.now returned now) }
-    ensures err { IfErr result (λ e. e ≡ Memory) }
+    ensures err { OnlyMemory result }
 {
     let (one_shot, left) = match state_of(Some(row), returned, now) {
         ShelfState::Unshelved => return Ok(None),
@@ -94,14 +93,14 @@ fn line(
     now: Moment,
 ) -> Result<Option<ShelfLine>, Fault>
     ensures value { GivesFrom part.now result (λ f. line_at row.now (returned f row.now.tag) now) }
-    ensures err { IfErr result (λ e. e ≡ Memory) }
+    ensures err { OnlyMemory result }
 {
     shelf_line(alloc, row, returned_at(part, &row.tag), now)
 }
 
 fn lines(alloc: Global, part: &UnitPart, now: Moment) -> Result<List<ShelfLine>, Fault>
     ensures value { GivesFrom part.now result (λ f. shelf_lines f now) }
-    ensures err { IfErr result (λ e. e ≡ Memory) }
+    ensures err { OnlyMemory result }
 {
     let shelves = part.rows.shelves.as_slice();
     let mut lines = List::new(alloc);
@@ -121,7 +120,7 @@ pub fn shelves(
     unit: &UnitCode,
 ) -> Result<Result<Reply, Refused>, Fault>
     ensures value { AreKept part.now → AnswersAnyone part.now now (ShelvesCall unit.now) result }
-    ensures err { IfErr result (λ e. e ≡ Memory) }
+    ensures err { OnlyMemory result }
 {
     Ok(Ok(Reply::Shelves {
         unit: unit.copy(alloc)?,
@@ -144,7 +143,7 @@ fn alarm_line(
     now: Moment,
 ) -> Result<AlarmLine, Fault>
     ensures value { GivesFrom part.now result (λ f. replies.alarm_line f now alarm.now) }
-    ensures err { IfErr result (λ e. e ≡ Memory) }
+    ensures err { OnlyMemory result }
 {
     Ok(AlarmLine {
         tag: alarm.tag.copy(alloc)?,
@@ -165,7 +164,7 @@ fn standing_line(
     now: Moment,
 ) -> Result<Option<StandingLine>, Fault>
     ensures value { GivesFrom part.now result (λ f. replies.standing_line f now alarm.now) }
-    ensures err { IfErr result (λ e. e ≡ Memory) }
+    ensures err { OnlyMemory result }
 {
     let Some(since) = alarm.active_s else {
         return Ok(None);
@@ -184,7 +183,7 @@ fn standing_line(
 
 fn alarm_lines(alloc: Global, part: &UnitPart, now: Moment) -> Result<List<AlarmLine>, Fault>
     ensures value { GivesFrom part.now result (λ f. replies.alarm_lines f now) }
-    ensures err { IfErr result (λ e. e ≡ Memory) }
+    ensures err { OnlyMemory result }
 {
     let alarms = part.rows.alarms.as_slice();
     let mut lines = List::new(alloc);
@@ -196,7 +195,7 @@ fn alarm_lines(alloc: Global, part: &UnitPart, now: Moment) -> Result<List<Alarm
 
 fn standing_lines(alloc: Global, part: &UnitPart, now: Moment) -> Result<List<StandingLine>, Fault>
     ensures value { GivesFrom part.now result (λ f. replies.standing_lines f now) }
-    ensures err { IfErr result (λ e. e ≡ Memory) }
+    ensures err { OnlyMemory result }
 {
     let alarms = part.rows.alarms.as_slice();
     let mut lines = List::new(alloc);
@@ -216,7 +215,7 @@ pub fn alarms(
     unit: &UnitCode,
 ) -> Result<Result<Reply, Refused>, Fault>
     ensures value { AreKept part.now → AnswersAnyone part.now now (AlarmsCall unit.now) result }
-    ensures err { IfErr result (λ e. e ≡ Memory) }
+    ensures err { OnlyMemory result }
 {
     Ok(Ok(Reply::Alarms {
         unit: unit.copy(alloc)?,
@@ -233,7 +232,7 @@ pub fn standing(
     unit: &UnitCode,
 ) -> Result<Result<Reply, Refused>, Fault>
     ensures value { AreKept part.now → AnswersAnyone part.now now (StandingCall unit.now) result }
-    ensures err { IfErr result (λ e. e ≡ Memory) }
+    ensures err { OnlyMemory result }
 {
     Ok(Ok(Reply::Standing {
         unit: unit.copy(alloc)?,
@@ -252,7 +251,7 @@ pub fn floods(
 ) -> Result<Result<Reply, Refused>, Fault>
     ensures value { AreFew part.now.rows.events
         → (t : ℕ) (p : Name) → Answers part.now p t (FloodsCall unit.now begin until) result }
-    ensures err { IfErr result (λ e. e ≡ Memory) }
+    ensures err { OnlyMemory result }
 {
     if !is_aligned(begin, until) {
         return Ok(Err(Refused::RangeNotAligned));
@@ -269,7 +268,7 @@ pub fn floods(
 /// The record of an alarm.
 pub fn record(alloc: Global, part: &UnitPart, tag: &Tag) -> Result<Result<Reply, Refused>, Fault>
     ensures value { AreKept part.now → AnswersAlways part.now (λ u. RecordCall u tag.now) result }
-    ensures err { IfErr result (λ e. e ≡ Memory) }
+    ensures err { OnlyMemory result }
 {
     if alarm_of(part.rows.alarms.as_slice(), tag).is_none() {
         return Ok(Err(Refused::AlarmUnknown));
@@ -283,7 +282,7 @@ pub fn record(alloc: Global, part: &UnitPart, tag: &Tag) -> Result<Result<Reply,
 /// The change of a number.
 pub fn change(alloc: Global, part: &UnitPart, number: u32) -> Result<Result<Reply, Refused>, Fault>
     ensures value { AreKept part.now → AnswersAlways part.now (λ u. ChangeCall u number) result }
-    ensures err { IfErr result (λ e. e ≡ Memory) }
+    ensures err { OnlyMemory result }
 {
     match change_of(alloc, part, number)? {
         None => Ok(Err(Refused::ChangeUnknown)),

@@ -1,8 +1,7 @@
 //! Registering alarms, and taking them out of service and back.
 
-ghost use Rattle.std.specs.Prelude.{◌≡◌, [], IfErr, IfOk, None};
-ghost use Rattle.plant_types.specs.declared.fault.Fault.TheVariants.{Memory};
-ghost use Rattle.plant_books.specs.Results.{Gives};
+ghost use Rattle.std.specs.Prelude.{◌≡◌, [], IfOk, None};
+ghost use Rattle.plant_types.specs.Results.{Gives, OnlyMemory};
 ghost use Rattle.plant_model.specs.RowChanges.{placed_in, taken_out};
 ghost use Rattle.plant_model.specs.Rows.{alarm_as};
 ghost use Rattle.plant_model.specs.declared.call.Request.TheVariants.{PlaceInService, Register, RemoveFromService};
@@ -17,7 +16,7 @@ use std::alloc::Global;
 
 fn new_alarm(alloc: Global, tag: &Tag, latching: bool, max: Seconds) -> Result<AlarmRow, Fault>
     ensures value { IfOk result (λ row. row ≡ alarm_as tag.now max 0 [] None latching) }
-    ensures err { IfErr result (λ e. e ≡ Memory) }
+    ensures err { OnlyMemory result }
 {
     Ok(AlarmRow {
         tag: tag.copy(alloc)?,
@@ -37,7 +36,7 @@ fn new_alarm(alloc: Global, tag: &Tag, latching: bool, max: Seconds) -> Result<A
 /// The alarm's row, out of service.
 fn removed(alloc: Global, alarm: &AlarmRow, call: &Call, words: &Words) -> Result<AlarmRow, Fault>
     ensures value { Gives result (taken_out call.now.person call.now.moment words.now alarm.now) }
-    ensures err { IfErr result (λ e. e ≡ Memory) }
+    ensures err { OnlyMemory result }
 {
     let mut row = alarm.duplicate(alloc)?;
     row.out_s = Some(call.moment);
@@ -49,7 +48,7 @@ fn removed(alloc: Global, alarm: &AlarmRow, call: &Call, words: &Words) -> Resul
 /// The alarm's row, in service.
 fn placed(alloc: Global, alarm: &AlarmRow) -> Result<AlarmRow, Fault>
     ensures value { IfOk result (λ row. row ≡ placed_in alarm.now) }
-    ensures err { IfErr result (λ e. e ≡ Memory) }
+    ensures err { OnlyMemory result }
 {
     let mut row = alarm.duplicate(alloc)?;
     row.out_s = None;
@@ -67,7 +66,7 @@ pub fn register(
     max: Seconds,
 ) -> Result<Result<RowEdit, Refused>, Fault>
     ensures value { DecidesAlways part.now (λ u. Register u tag.now latching max) result }
-    ensures err { IfErr result (λ e. e ≡ Memory) }
+    ensures err { OnlyMemory result }
 {
     if part.count >= MAX_ALARMS {
         return Ok(Err(Refused::UnitFull(Full::Alarms)));
@@ -88,7 +87,7 @@ pub fn remove_from_service(
     words: &Words,
 ) -> Result<Result<RowEdit, Refused>, Fault>
     ensures value { Decides part.now call.now (λ u. RemoveFromService u tag.now words.now) result }
-    ensures err { IfErr result (λ e. e ≡ Memory) }
+    ensures err { OnlyMemory result }
 {
     let Some(alarm) = alarm_of(part.rows.alarms.as_slice(), tag) else {
         return Ok(Err(Refused::AlarmUnknown));
@@ -107,7 +106,7 @@ pub fn place_in_service(
     tag: &Tag,
 ) -> Result<Result<RowEdit, Refused>, Fault>
     ensures value { DecidesAlways part.now (λ u. PlaceInService u tag.now) result }
-    ensures err { IfErr result (λ e. e ≡ Memory) }
+    ensures err { OnlyMemory result }
 {
     let Some(alarm) = alarm_of(part.rows.alarms.as_slice(), tag) else {
         return Ok(Err(Refused::AlarmUnknown));

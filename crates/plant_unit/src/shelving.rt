@@ -1,9 +1,8 @@
 //! Shelving and unshelving an alarm: `plant_alarm` decides, and after it the unit's quota.
 
-ghost use Rattle.std.specs.Prelude.{◌≡◌, IfErr};
+ghost use Rattle.std.specs.Prelude.{◌≡◌};
 ghost use Rattle.plant_types.specs.Names.{Name};
-ghost use Rattle.plant_types.specs.declared.fault.Fault.TheVariants.{Memory};
-ghost use Rattle.plant_books.specs.Results.{Gives};
+ghost use Rattle.plant_types.specs.Results.{Gives, OnlyMemory};
 ghost use Rattle.plant_model.specs.RowFacts.{unit_read};
 ghost use Rattle.plant_model.specs.declared.call.Request.TheVariants.{OneShotShelve, TimedShelve, Unshelve};
 ghost use Rattle.plant_unit.specs.FromFacts.{Decides, DecidesAs, GivesOne};
@@ -36,7 +35,7 @@ fn shelf_change(
     shelf: Shelf,
 ) -> Result<RowEdit, Fault>
     ensures value { Gives result (shelving.shelf_change tag.now person.now words.now shelf) }
-    ensures err { IfErr result (λ e. e ≡ Memory) }
+    ensures err { OnlyMemory result }
 {
     let tag = tag.copy(alloc)?;
     let (one_shot, start_s, until_s) = match shelf {
@@ -66,7 +65,7 @@ fn shelve(
 ) -> Result<Result<RowEdit, Refused>, Fault>
     requires { unit_read part.now.rows ≡ unit.now }
     ensures value { GivesOne result (shelf_decision part.now call.now tag.now words.now shelf) }
-    ensures err { IfErr result (λ e. e ≡ Memory) }
+    ensures err { OnlyMemory result }
 {
     if others_shelved(part, tag, call.moment) as u64 >= unit.quota.get() {
         return Ok(Err(Refused::ShelfQuota(unit.quota)));
@@ -87,7 +86,7 @@ pub fn shelve_for(
     requires { unit_read part.now.rows ≡ unit.now }
     ensures value { Decides part.now call.now
         (λ u. TimedShelve u tag.now seconds words.now) result }
-    ensures err { IfErr result (λ e. e ≡ Memory) }
+    ensures err { OnlyMemory result }
 {
     let Some(alarm) = alarm_of(part.rows.alarms.as_slice(), tag) else {
         return Ok(Err(Refused::AlarmUnknown));
@@ -110,7 +109,7 @@ pub fn shelve_once(
 ) -> Result<Result<RowEdit, Refused>, Fault>
     requires { unit_read part.now.rows ≡ unit.now }
     ensures value { Decides part.now call.now (λ u. OneShotShelve u tag.now words.now) result }
-    ensures err { IfErr result (λ e. e ≡ Memory) }
+    ensures err { OnlyMemory result }
 {
     let Some(alarm) = alarm_of(part.rows.alarms.as_slice(), tag) else {
         return Ok(Err(Refused::AlarmUnknown));
@@ -130,7 +129,7 @@ pub fn end_shelf(
     tag: &Tag,
 ) -> Result<Result<RowEdit, Refused>, Fault>
     ensures value { (p u : Name) → DecidesAs part.now p now (Unshelve u tag.now) result }
-    ensures err { IfErr result (λ e. e ≡ Memory) }
+    ensures err { OnlyMemory result }
 {
     let Some(alarm) = alarm_of(part.rows.alarms.as_slice(), tag) else {
         return Ok(Err(Refused::AlarmUnknown));

@@ -1,6 +1,7 @@
 //! Verdicts, from what was decided about a call.
 
 ghost use Rattle.std.specs.Prelude.{◌≡◌, ◌∷◌, [], IfErr, IfOk, IsOkAnd};
+ghost use Rattle.plant_types.specs.Results.{OnlyMemory};
 ghost use Rattle.plant_types.specs.declared.fault.Fault.TheVariants.{Memory};
 ghost use Rattle.plant_model.specs.declared.rows.RowEdit.TheVariants.{Put};
 ghost use Rattle.plant_model.specs.declared.rows.Row.TheVariants.{Unit as UnitPut};
@@ -13,7 +14,7 @@ use std::alloc::Global;
 /// The change of the unit's own row: its last moment.
 pub fn moved(alloc: Global, unit: &UnitRow, now: Moment) -> Result<List<RowEdit>, Fault>
     ensures value { IfOk result (λ cs. cs ≡ Put (UnitPut (record unit.now { last_s = now })) ∷ []) }
-    ensures err { IfErr result (λ e. e ≡ Memory) }
+    ensures err { OnlyMemory result }
 {
     let mut changes = List::new(alloc);
     changes.push(RowEdit::Put(Row::Unit(UnitRow {
@@ -31,7 +32,7 @@ pub fn done(
     decided: Result<Result<RowEdit, Refused>, Fault>,
 ) -> Result<Verdict, Fault>
     ensures value { IfOk result (IsDone unit.now now decided) }
-    ensures err { IfErr decided (λ e. e ≡ Memory) → IfErr result (λ e. e ≡ Memory) }
+    ensures err { IfErr decided (λ e. e ≡ Memory) → OnlyMemory result }
 {
     match decided? {
         Err(refused) => Ok(Verdict::Refused(refused)),
@@ -49,7 +50,7 @@ pub fn answered(
     answer: Result<Result<Reply, Refused>, Fault>,
 ) -> Result<Verdict, Fault>
     ensures value { IfOk result (λ v. IsOkAnd answer (λ a. v ≡ answered_as a)) }
-    ensures err { IfErr answer (λ e. e ≡ Memory) → IfErr result (λ e. e ≡ Memory) }
+    ensures err { IfErr answer (λ e. e ≡ Memory) → OnlyMemory result }
 {
     match answer? {
         Err(refused) => Ok(Verdict::Refused(refused)),

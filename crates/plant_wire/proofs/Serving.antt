@@ -14,7 +14,7 @@ use Rattle.plant_wire.specs.Causes.{cause_text}
 use Rattle.plant_wire.specs.Marks.{Mark, said, malformed, item_of, mark_text, out_of, calls_of, answers_of, Last, nothing, begun, breaking, last_text, last_marks, IsSaid, IsFaultless}
 use Rattle.plant_wire.specs.declared.step.Stop.{Stop}
 use Rattle.plant_wire.specs.declared.step.Stop.TheVariants.{WriteFailed, Fault}
-use Rattle.plant_wire.specs.Step.{IsPut, IsAnswer, IsStopped, StopsFor, Serves, ServesBroken}
+use Rattle.plant_wire.specs.Step.{IsPut, IsAnswer, IsStopped, StopsFor, AnswersFront, ServesBroken}
 use Rattle.plant_wire.proofs.public.Growing.{Appends-none, Appends-append, drop-add}
 use Rattle.plant_wire.proofs.public.Running.{Joins}
 
@@ -71,7 +71,7 @@ module _ {first second both : List Call → List Answer → Type 0} (joins : Joi
       (subst (λ (y : List Answer). both (calls_of ms ++ calls_of ns) y) (sym (answers-append ms ns))
       (joins.join (calls_of ms) (calls_of ns) (answers_of ms) (answers_of ns) a b))
 
-  pub serves_more : (bytes mid rest : List ℕ) (u v w : Option (List ℕ)) → Serves bytes u v first mid → Serves mid v w second rest → Serves bytes u w both rest
+  pub serves_more : (bytes mid rest : List ℕ) (u v w : Option (List ℕ)) → AnswersFront bytes u v first mid → AnswersFront mid v w second rest → AnswersFront bytes u w both rest
   serves_more bytes mid rest u v w a b = record {
     marks = a.marks ++ b.marks;
     parses = parsed_more bytes mid rest a.marks b.marks a.parses b.parses;
@@ -79,7 +79,7 @@ module _ {first second both : List Call → List Answer → Type 0} (joins : Joi
     served = ran_more a.marks b.marks a.served b.served;
   }
 
-  pub serves_then_broken : (bytes mid : List ℕ) (u v w : Option (List ℕ)) → Serves bytes u v first mid → ServesBroken mid v w second → ServesBroken bytes u w both
+  pub serves_then_broken : (bytes mid : List ℕ) (u v w : Option (List ℕ)) → AnswersFront bytes u v first mid → ServesBroken mid v w second → ServesBroken bytes u w both
   serves_then_broken bytes mid u v w a b =
       let all : Appends u w (out_of a.marks ++ (out_of b.marks ++ cause_text b.cause)) = Appends-append u v w _ _ a.writes b.writes in
       record {
@@ -92,7 +92,7 @@ module _ {first second both : List Call → List Answer → Type 0} (joins : Joi
         served = ran_more a.marks b.marks a.served b.served;
       }
 
-  pub serves_then_part : (bytes mid : List ℕ) (u v w : Option (List ℕ)) (stop : Stop) → Serves bytes u v first mid → IsStopped mid v w second stop
+  pub serves_then_part : (bytes mid : List ℕ) (u v w : Option (List ℕ)) (stop : Stop) → AnswersFront bytes u v first mid → IsStopped mid v w second stop
       → IsStopped bytes u w both stop
   serves_then_part bytes mid u v w stop a (b, why) =
       let all : Appends u w (out_of a.marks ++ (out_of b.marks ++ take b.part (last_text b.last))) = Appends-append u v w _ _ a.writes b.writes in
@@ -112,37 +112,37 @@ module _ {first second both : List Call → List Answer → Type 0} (joins : Joi
 
   -- the same, where the second run begins at a place in the bytes
   pub serves_past : (bytes : List ℕ) (at n : ℕ) (mid : List ℕ) (u v w : Option (List ℕ)) → mid ≡ drop at bytes
-      → Serves bytes u v first (drop at bytes) → Serves mid v w second (drop n mid) → Serves bytes u w both (drop (at + n) bytes)
+      → AnswersFront bytes u v first (drop at bytes) → AnswersFront mid v w second (drop n mid) → AnswersFront bytes u w both (drop (at + n) bytes)
   serves_past bytes at n mid u v w is a b =
-      let more = serves_more bytes (drop at bytes) (drop n mid) u v w a (subst (λ (x : List ℕ). Serves x v w second (drop n mid)) is b) in
-      subst (λ (x : List ℕ). Serves bytes u w both x) (ap (drop n) is ∙ sym (drop-add at n bytes)) more
+      let more = serves_more bytes (drop at bytes) (drop n mid) u v w a (subst (λ (x : List ℕ). AnswersFront x v w second (drop n mid)) is b) in
+      subst (λ (x : List ℕ). AnswersFront bytes u w both x) (ap (drop n) is ∙ sym (drop-add at n bytes)) more
 
   pub broken_from : (bytes : List ℕ) (at : ℕ) (mid : List ℕ) (u v w : Option (List ℕ)) → mid ≡ drop at bytes
-      → Serves bytes u v first (drop at bytes) → ServesBroken mid v w second → ServesBroken bytes u w both
+      → AnswersFront bytes u v first (drop at bytes) → ServesBroken mid v w second → ServesBroken bytes u w both
   broken_from bytes at mid u v w is a b =
       serves_then_broken bytes (drop at bytes) u v w a (subst (λ (x : List ℕ). ServesBroken x v w second) is b)
 
   pub part_from : (bytes : List ℕ) (at : ℕ) (mid : List ℕ) (u v w : Option (List ℕ)) (stop : Stop) → mid ≡ drop at bytes
-      → Serves bytes u v first (drop at bytes) → IsStopped mid v w second stop → IsStopped bytes u w both stop
+      → AnswersFront bytes u v first (drop at bytes) → IsStopped mid v w second stop → IsStopped bytes u w both stop
   part_from bytes at mid u v w stop is a b =
       serves_then_part bytes (drop at bytes) u v w stop a (subst (λ (x : List ℕ). IsStopped x v w second stop) is b)
 
   pub waits_from : (bytes : List ℕ) (at more : ℕ) (mid : List ℕ) (u v w : Option (List ℕ)) → mid ≡ drop at bytes
-      → Serves bytes u v first (drop at bytes) → StandsAtFront mid waits × Serves mid v w second mid × WaitsBelow mid more
-      → StandsAtFront (drop at bytes) waits × Serves bytes u w both (drop at bytes) × WaitsBelow (drop at bytes) more
+      → AnswersFront bytes u v first (drop at bytes) → StandsAtFront mid waits × AnswersFront mid v w second mid × WaitsBelow mid more
+      → StandsAtFront (drop at bytes) waits × AnswersFront bytes u w both (drop at bytes) × WaitsBelow (drop at bytes) more
   waits_from bytes at more mid u v w is a b = (
     subst (λ (x : List ℕ). StandsAtFront x waits) is b.0,
-    serves_more bytes (drop at bytes) (drop at bytes) u v w a (subst (λ (x : List ℕ). Serves x v w second x) is b.1),
+    serves_more bytes (drop at bytes) (drop at bytes) u v w a (subst (λ (x : List ℕ). AnswersFront x v w second x) is b.1),
     subst (λ (x : List ℕ). WaitsBelow x more) is b.2,
   )
 
 module _ {ran : List Call → List Answer → Type 0} where
-  pub serves_none : (bytes : List ℕ) (o : Option (List ℕ)) → ran [] [] → Serves bytes o o ran bytes
+  pub serves_none : (bytes : List ℕ) (o : Option (List ℕ)) → ran [] [] → AnswersFront bytes o o ran bytes
   serves_none bytes o none = record { marks = []; parses = refl; writes = Appends-none o; served = none }
 
   -- one request
   pub serves_one : (bytes : List ℕ) (o o' : Option (List ℕ)) (m : Mark) (n : ℕ) → StandsAtFront bytes (whole (item_of m) n)
-      → Appends o o' (mark_text m) → ran (calls_of (m ∷ [])) (answers_of (m ∷ [])) → Serves bytes o o' ran (drop n bytes)
+      → Appends o o' (mark_text m) → ran (calls_of (m ∷ [])) (answers_of (m ∷ [])) → AnswersFront bytes o o' ran (drop n bytes)
   serves_one bytes o o' m n front writes ran_it = record {
     marks = m ∷ [];
     parses = (n, front, refl);
@@ -173,7 +173,7 @@ module _ {ran : List Call → List Answer → Type 0} where
   )
 
   -- what was answered whole was answered
-  pub serves_part : (bytes rest : List ℕ) (o o' : Option (List ℕ)) → Serves bytes o o' ran rest → IsStopped bytes o o' ran Fault
+  pub serves_part : (bytes rest : List ℕ) (o o' : Option (List ℕ)) → AnswersFront bytes o o' ran rest → IsStopped bytes o o' ran Fault
   serves_part bytes rest o o' a = (
     record {
       marks = a.marks;

@@ -7,7 +7,7 @@ use Rattle.plant_model.specs.declared.reply.Answer.{Answer}
 use Rattle.plant_call.specs.Front.{waits, body_length, item_of as item_from_head, StandsAtFront}
 use Rattle.plant_call.proofs.public.Cuts.{Parses-append}
 use Rattle.plant_wire.specs.Marks.{item_of}
-use Rattle.plant_wire.specs.Step.{IsStopped, Serves, ServesBroken}
+use Rattle.plant_wire.specs.Step.{IsStopped, AnswersFront, ServesBroken}
 use Rattle.plant_wire.specs.declared.step.Stop.{Stop}
 use Rattle.plant_wire.specs.declared.step.Stop.TheVariants.{Fault}
 use Rattle.plant_wire.specs.Session.{IsIdle, IsCutShort}
@@ -23,15 +23,15 @@ some_left buffer (x ∷ seen) b is e none = let n = ap length is in omega arith
 pub record Stands (r r' o o' : Option (List ℕ)) (ran : List Call → List Answer → Type 0) (buffer : List ℕ) : Type 0 where
   pub bytes : List ℕ
   pub bytes_are : Consumes r r' bytes
-  pub serves : Serves bytes o o' ran buffer
+  pub serves : AnswersFront bytes o o' ran buffer
   pub idle : IsIdle buffer
 
 pub stands_start : (r o : Option (List ℕ)) (ran : List Call → List Answer → Type 0) → ran [] [] → Stands r r o o ran []
 stands_start r o ran none = record { bytes = []; bytes_are = Consumes-none r; serves = serves_none [] o none; idle = inl refl }
 
 -- more bytes come
-serves_extend : (bytes more rest : List ℕ) (o o' : Option (List ℕ)) (ran : List Call → List Answer → Type 0) → Serves bytes o o' ran rest
-    → Serves (bytes ++ more) o o' ran (rest ++ more)
+serves_extend : (bytes more rest : List ℕ) (o o' : Option (List ℕ)) (ran : List Call → List Answer → Type 0) → AnswersFront bytes o o' ran rest
+    → AnswersFront (bytes ++ more) o o' ran (rest ++ more)
 serves_extend bytes more rest o o' ran a = record {
   marks = a.marks;
   parses = Parses-append body_length item_from_head bytes more (map item_of a.marks) rest a.parses;
@@ -45,8 +45,8 @@ module _ {r r' o o' : Option (List ℕ)} {ran : List Call → List Answer → Ty
   no_more r'' none = subst (Consumes r r'') (append-nil at.bytes) (Consumes-append r r' r'' at.bytes [] at.bytes_are none)
 
   pub ends_closed : (r'' : Option (List ℕ)) (e : Bool) → IsTrue e → IsAtEnd r'' → Consumes r' r'' [] → buffer ≡ []
-      → (bytes : List ℕ) × Consumes r r'' bytes × (IsTrue e × IsAtEnd r'' × Serves bytes o o' ran [])
-  ends_closed r'' e seen left none is = (at.bytes, no_more r'' none, (seen, left, subst (λ (x : List ℕ). Serves at.bytes o o' ran x) is at.serves))
+      → (bytes : List ℕ) × Consumes r r'' bytes × (IsTrue e × IsAtEnd r'' × AnswersFront bytes o o' ran [])
+  ends_closed r'' e seen left none is = (at.bytes, no_more r'' none, (seen, left, subst (λ (x : List ℕ). AnswersFront at.bytes o o' ran x) is at.serves))
 
   pub ends_cut : (r'' : Option (List ℕ)) (e : Bool) → IsTrue e → IsAtEnd r'' → Consumes r' r'' [] → 0 < length buffer
       → (bytes : List ℕ) × Consumes r r'' bytes × (ServesBroken bytes o o' ran ⊎ IsCutShort bytes r'' e o o' ran)
@@ -58,7 +58,7 @@ module _ {r r' o o' : Option (List ℕ)} {ran : List Call → List Answer → Ty
       waiting (inr front) = front
 
   pub ends_failed : (r'' : Option (List ℕ)) → Consumes r' r'' []
-      → (bytes : List ℕ) × Consumes r r'' bytes × ((rest : List ℕ) × IsIdle rest × Serves bytes o o' ran rest)
+      → (bytes : List ℕ) × Consumes r r'' bytes × ((rest : List ℕ) × IsIdle rest × AnswersFront bytes o o' ran rest)
   ends_failed r'' none = (at.bytes, no_more r'' none, (buffer, at.idle, at.serves))
 
   pub ends_fault : (r'' : Option (List ℕ)) (more : List ℕ) → Consumes r' r'' more
@@ -74,8 +74,8 @@ module _ {r r' o o' : Option (List ℕ)} {ran : List Call → List Answer → Ty
     all_bytes : Consumes r r'' (at.bytes ++ more)
     all_bytes = Consumes-append r r' r'' at.bytes more at.bytes_are came
 
-    before : Serves (at.bytes ++ more) o o' ran buffer'
-    before = subst (λ (x : List ℕ). Serves (at.bytes ++ more) o o' ran x) (sym is) (serves_extend at.bytes more buffer o o' ran at.serves)
+    before : AnswersFront (at.bytes ++ more) o o' ran buffer'
+    before = subst (λ (x : List ℕ). AnswersFront (at.bytes ++ more) o o' ran x) (sym is) (serves_extend at.bytes more buffer o o' ran at.serves)
 
     pub ends_part : (o'' : Option (List ℕ)) (stop : Stop) → IsStopped buffer' o' o'' next stop
         → (bytes : List ℕ) × Consumes r r'' bytes × IsStopped bytes o o'' all stop
@@ -85,15 +85,15 @@ module _ {r r' o o' : Option (List ℕ)} {ran : List Call → List Answer → Ty
         → (bytes : List ℕ) × Consumes r r'' bytes × (ServesBroken bytes o o'' all ⊎ IsCutShort bytes r'' e o o'' all)
     ends_broken e o'' b = (at.bytes ++ more, all_bytes, inl (serves_then_broken joins (at.bytes ++ more) buffer' o o' o'' before b))
 
-    pub ends_drop_fault : (o'' : Option (List ℕ)) (rest : List ℕ) → Serves buffer' o' o'' next rest
+    pub ends_drop_fault : (o'' : Option (List ℕ)) (rest : List ℕ) → AnswersFront buffer' o' o'' next rest
         → (bytes : List ℕ) × Consumes r r'' bytes × IsStopped bytes o o'' all Fault
     ends_drop_fault o'' rest b =
         (at.bytes ++ more, all_bytes, serves_part (at.bytes ++ more) rest o o'' (serves_more joins (at.bytes ++ more) buffer' rest o o' o'' before b))
 
     pub stands_next : (o'' : Option (List ℕ)) (n : ℕ) (rest : List ℕ) → rest ≡ drop n buffer' → StandsAtFront (drop n buffer') waits
-        → Serves buffer' o' o'' next (drop n buffer') → Stands r r'' o o'' all rest
+        → AnswersFront buffer' o' o'' next (drop n buffer') → Stands r r'' o o'' all rest
     stands_next o'' n rest e front b =
-        let b' = subst (λ (x : List ℕ). Serves buffer' o' o'' next x) (sym e) b in
+        let b' = subst (λ (x : List ℕ). AnswersFront buffer' o' o'' next x) (sym e) b in
         record {
           bytes = at.bytes ++ more;
           bytes_are = all_bytes;

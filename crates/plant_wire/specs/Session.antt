@@ -7,7 +7,7 @@ use Rattle.std.specs.Io.KnownBytes.{Consumes, IsAtEnd}
 use Rattle.plant_model.specs.declared.call.Call.{Call}
 use Rattle.plant_model.specs.declared.reply.Answer.{Answer}
 use Rattle.plant_call.specs.Front.{waits, StandsAtFront}
-use Rattle.plant_wire.specs.Step.{Serves, ServesBroken, ServesPart}
+use Rattle.plant_wire.specs.Step.{AnswersFront, ServesBroken, ServesPart}
 use Rattle.plant_wire.specs.Marks.{IsFaultless}
 use Rattle.plant_wire.specs.declared.reads.End.{End}
 use Rattle.plant_wire.specs.declared.reads.End.TheVariants.{Closed, BrokenInput, ReadFailed, WriteFailed, Fault}
@@ -32,15 +32,15 @@ pub record IsCutShort (bytes : List ℕ) (r' : Option (List ℕ)) (ended : Bool)
   pub rest : List ℕ
   pub some : 0 < length rest
   pub waiting : StandsAtFront rest waits
-  pub serves : Serves bytes o o' ran rest
+  pub serves : AnswersFront bytes o o' ran rest
 
 -- Closed: the input ended, and its requests use it up. BrokenInput: they end in a cause that breaks the stream, or the
 -- input ended within a request. ReadFailed: each whole request was answered. WriteFailed, Fault: each but the last
 -- was answered whole; at Fault the last is not an answer by a fault of the office.
 abbrev pub EndsAs : List ℕ → Option (List ℕ) → Bool → Option (List ℕ) → Option (List ℕ) → (List Call → List Answer → Type 0) → End → Type 0
-EndsAs bytes r' ended o o' ran Closed = IsTrue ended × IsAtEnd r' × Serves bytes o o' ran []
+EndsAs bytes r' ended o o' ran Closed = IsTrue ended × IsAtEnd r' × AnswersFront bytes o o' ran []
 EndsAs bytes r' ended o o' ran BrokenInput = ServesBroken bytes o o' ran ⊎ IsCutShort bytes r' ended o o' ran
-EndsAs bytes r' ended o o' ran ReadFailed = (rest : List ℕ) × IsIdle rest × Serves bytes o o' ran rest
+EndsAs bytes r' ended o o' ran ReadFailed = (rest : List ℕ) × IsIdle rest × AnswersFront bytes o o' ran rest
 EndsAs bytes r' ended o o' ran WriteFailed = ServesPart bytes o o' ran
 EndsAs bytes r' ended o o' ran Fault = (s : ServesPart bytes o o' ran) × IsFaultless s.last
 

@@ -39,7 +39,7 @@ IsAnswer o o' ran call (Err stop) =
     (answer : Answer) × (part : ℕ) × Appends o o' (take part (text_of answer)) × ran (call ∷ []) (answer ∷ []) × StopsFor (begun (said call answer)) stop
 
 -- the requests at the front of the bytes were answered, each once and in order, and this is left
-pub record Serves (bytes : List ℕ) (o o' : Option (List ℕ)) (ran : List Call → List Answer → Type 0) (rest : List ℕ) : Type 0 where
+pub record AnswersFront (bytes : List ℕ) (o o' : Option (List ℕ)) (ran : List Call → List Answer → Type 0) (rest : List ℕ) : Type 0 where
   pub marks : List Mark
   pub parses : Parsed bytes (map item_of marks) rest
   pub writes : Appends o o' (out_of marks)
@@ -78,14 +78,14 @@ IsStopped bytes o o' ran stop = (s : ServesPart bytes o o' ran) × StopsFor s.la
 
 -- one request
 abbrev pub IsStep : List ℕ → Option (List ℕ) → Option (List ℕ) → (List Call → List Answer → Type 0) → Result Step Stop → Type 0
-IsStep bytes o o' ran (Ok (Waits n)) = StandsAtFront bytes waits × Serves bytes o o' ran bytes × WaitsBelow bytes n
-IsStep bytes o o' ran (Ok (Took n)) = (0 < n) × (n ≤ length bytes) × Serves bytes o o' ran (drop n bytes)
+IsStep bytes o o' ran (Ok (Waits n)) = StandsAtFront bytes waits × AnswersFront bytes o o' ran bytes × WaitsBelow bytes n
+IsStep bytes o o' ran (Ok (Took n)) = (0 < n) × (n ≤ length bytes) × AnswersFront bytes o o' ran (drop n bytes)
 IsStep bytes o o' ran (Ok Broken) = ServesBroken bytes o o' ran
 IsStep bytes o o' ran (Err stop) = IsStopped bytes o o' ran stop
 
 -- all whole requests at the front
 abbrev pub IsRest : List ℕ → Option (List ℕ) → Option (List ℕ) → (List Call → List Answer → Type 0) → Result Rest Stop → Type 0
 IsRest bytes o o' ran (Ok (left.Waits n more)) =
-    (n ≤ length bytes) × StandsAtFront (drop n bytes) waits × Serves bytes o o' ran (drop n bytes) × WaitsBelow (drop n bytes) more
+    (n ≤ length bytes) × StandsAtFront (drop n bytes) waits × AnswersFront bytes o o' ran (drop n bytes) × WaitsBelow (drop n bytes) more
 IsRest bytes o o' ran (Ok left.Broken) = ServesBroken bytes o o' ran
 IsRest bytes o o' ran (Err stop) = IsStopped bytes o o' ran stop

@@ -1,5 +1,5 @@
-ghost use Rattle.std.specs.Prelude.{◌≡◌, IfOk, IfErr};
-ghost use Rattle.plant_types.specs.declared.fault.Fault.TheVariants.{Memory};
+ghost use Rattle.std.specs.Prelude.{◌≡◌, IfOk};
+ghost use Rattle.plant_types.specs.Results.{OnlyMemory};
 ghost use Rattle.plant_wire.specs.Causes as spec;
 
 use plant_call::Cause;
@@ -43,7 +43,7 @@ pub(crate) fn cause_text(cause: Cause) -> &'static [u8]
 /// The same in memory of its own.
 pub fn render_cause(alloc: Global, cause: Cause) -> Result<Vec<u8>, Fault>
     ensures value { IfOk result (λ text. text.items ≡ spec.cause_text cause) }
-    ensures err { IfErr result (λ e. e ≡ Memory) }
+    ensures err { OnlyMemory result }
 {
     Ok(Vec::from_slice(alloc, cause_text(cause))?)
 }

@@ -1,4 +1,5 @@
 ghost use Rattle.std.specs.Prelude.{◌≡◌, ◌≤◌, length, drop, OnOk};
+ghost use Rattle.plant_books.specs.Books.{WasHonest};
 ghost use Rattle.plant_wire.specs.Limits.{least_room};
 ghost use Rattle.plant_wire.specs.Session.{IsFewReads, IsIdle};
 ghost use Rattle.plant_wire.specs.Over.{IsSessionOn, RanOn, ReadsOn, StopsOn};
@@ -84,7 +85,7 @@ fn run_reads<I: Inlet, O: Outlet, B: Books>(
     requires { least_room ≤ length chunk.old }
     ensures does { IsSessionOn I.Inlet O.Outlet inlet.old inlet.new outlet.old outlet.new
         (RanOn B.Books office.old.books office.new.books) result }
-    ensures honest { B.is_honest office.new.books → B.is_honest office.old.books }
+    ensures honest { WasHonest B.is_honest office.old.books office.new.books }
     ensures stops { StopsOn I.Inlet O.Outlet inlet.old inlet.new outlet.old outlet.new result }
     ensures counted { IsFewReads (I.reads inlet.old) (I.reads inlet.new) }
 {
@@ -129,7 +130,7 @@ pub fn session<I: Inlet, O: Outlet, B: Books>(
 ) -> End
     ensures does { IsSessionOn I.Inlet O.Outlet inlet.old inlet.new outlet.old outlet.new
         (RanOn B.Books office.old.books office.new.books) result }
-    ensures honest { B.is_honest office.new.books → B.is_honest office.old.books }
+    ensures honest { WasHonest B.is_honest office.old.books office.new.books }
     ensures stops { StopsOn I.Inlet O.Outlet inlet.old inlet.new outlet.old outlet.new result }
     ensures counted { IsFewReads (I.reads inlet.old) (I.reads inlet.new) }
 {

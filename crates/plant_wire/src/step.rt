@@ -1,4 +1,5 @@
 ghost use Rattle.std.specs.Prelude.{◌≡◌, IfErr, List, ℕ};
+ghost use Rattle.plant_books.specs.Books.{WasHonest};
 ghost use Rattle.plant_model.specs.declared.reply.Answer.TheVariants as answers;
 ghost use Rattle.plant_answer.specs.Answers.{text_of};
 ghost use Rattle.plant_call.specs.Cut.{IsCutOf, WaitsBelow};
@@ -90,7 +91,7 @@ fn answer_call<O: Outlet, B: Books>(
 ) -> Result<(), Stop>
     ensures does { IsAnswer (O.written outlet.old) (O.written outlet.new)
         (RanOn B.Books office.old.books office.new.books) call.now result }
-    ensures honest { B.is_honest office.new.books → B.is_honest office.old.books }
+    ensures honest { WasHonest B.is_honest office.old.books office.new.books }
     ensures stalls { Stalls (O.failures outlet.old) (O.failures outlet.new) result }
 {
     let answer = office.serve(call);
@@ -111,7 +112,7 @@ fn answer_cut<O: Outlet, B: Books>(
     ensures does { (bytes : List ℕ) → IsCutOf bytes cut.now → WaitsBelow bytes wanted
         → IsStep bytes (O.written outlet.old) (O.written outlet.new)
         (RanOn B.Books office.old.books office.new.books) result }
-    ensures honest { B.is_honest office.new.books → B.is_honest office.old.books }
+    ensures honest { WasHonest B.is_honest office.old.books office.new.books }
     ensures stalls { Stalls (O.failures outlet.old) (O.failures outlet.new) result }
 {
     match cut {
@@ -142,7 +143,7 @@ fn answer_next<O: Outlet, B: Books>(
 ) -> Result<Step, Stop>
     ensures does { IsStep bytes.now (O.written outlet.old) (O.written outlet.new)
         (RanOn B.Books office.old.books office.new.books) result }
-    ensures honest { B.is_honest office.new.books → B.is_honest office.old.books }
+    ensures honest { WasHonest B.is_honest office.old.books office.new.books }
     ensures stalls { Stalls (O.failures outlet.old) (O.failures outlet.new) result }
 {
     let Look { cut, wanted } = look_with(alloc, routes, room, bytes);
@@ -165,7 +166,7 @@ pub(crate) fn answer_all<O: Outlet, B: Books>(
     requires { WaitsBelow bytes.now wanted }
     ensures does { IsRest bytes.now (O.written outlet.old) (O.written outlet.new)
         (RanOn B.Books office.old.books office.new.books) result }
-    ensures honest { B.is_honest office.new.books → B.is_honest office.old.books }
+    ensures honest { WasHonest B.is_honest office.old.books office.new.books }
     ensures stalls { Stalls (O.failures outlet.old) (O.failures outlet.new) result }
 {
     if bytes.len() < wanted {

@@ -16,7 +16,7 @@ use Rattle.plant_types.specs.Names.{Name, name_cmp, same_name}
 use Rattle.plant_types.proofs.public.Orders.{same_names}
 use Rattle.plant_types.proofs.public.KeyedRowLaws.{tied}
 use Rattle.plant_store.specs.Changes.{Applies, IsOfficeOf}
-use Rattle.plant_store.specs.Keeping.{KeepsIn, has_any}
+use Rattle.plant_store.specs.Keeping.{HasContent, has_any}
 use Rattle.plant_store.specs.Making.{AreNew}
 use Rattle.plant_columns.specs.Tables.{AreBooks, AreSeen, Kept, rows_at, rows_seen, shape}
 use Rattle.plant_columns.specs.Shape.{rows_in as rows_of}
@@ -55,7 +55,7 @@ comes_there (Remove (GrantKey p r) ∷ cs) rows h = comes_there cs (changed (Rem
 comes_there (Remove (ShelfKey a) ∷ cs) rows h = comes_there cs (changed (Remove (ShelfKey a)) rows) h
 
 -- the content after changes is what is kept after them
-pub keeps_after : (old new : State) (m : Content) (u : Name) (cs : List RowEdit) → KeepsIn old m → IsKnownTo m u cs → Applies u cs old.now new.now → KeepsIn new (after_changes m u cs)
+pub keeps_after : (old new : State) (m : Content) (u : Name) (cs : List RowEdit) → HasContent old m → IsKnownTo m u cs → Applies u cs old.now new.now → HasContent new (after_changes m u cs)
 keeps_after old new m u cs k known it = record {
   books = it.books;
   office = it.office ∙ k.office;
@@ -84,7 +84,7 @@ keeps_after old new m u cs k known it = record {
     opened q true h = sym (there known)
     opened q false h = k.opened q
 
-pub keeps_same : (old new : State) (m : Content) → KeepsIn old m → new.now ≡ old.now → KeepsIn new m
+pub keeps_same : (old new : State) (m : Content) → HasContent old m → new.now ≡ old.now → HasContent new m
 keeps_same old new m k same = record {
   books = subst AreBooks (sym same) k.books;
   office = subst (IsOfficeOf m.admin) (sym same) k.office;
@@ -102,7 +102,7 @@ no_some : (o : Option UnitRows) → is_some o ≡ false → o ≡ None
 no_some None h = refl
 no_some (Some rows) h = absurd (true≢false h)
 
-module _ (s : State) (m : Content) (u : Name) (k : KeepsIn s m) where
+module _ (s : State) (m : Content) (u : Name) (k : HasContent s m) where
   pub was_opened : contains_key m.units u ≡ has_any (rows_seen u s.now.trees UnitKept)
   was_opened = k.opened u ∙ ap has_any (sym (k.seen u UnitKept))
 
@@ -118,7 +118,7 @@ any_is [] = refl
 any_is (x ∷ xs) = ap Rattle.std.proofs.Common.not (Rattle.std.proofs.Math.Dec.eqb-suc-zero (Rattle.std.proofs.Common.length xs))
 
 -- the nine lists of a unit that was opened are its rows
-pub whole_found : (s : State) (m : Content) (u : Name) → KeepsIn s m → (rows : UnitRows) → AreSeen u s.now rows → has_any rows.units ≡ true → ◌≡◌ {A = Option UnitRows} (Some rows) (get m.units u)
+pub whole_found : (s : State) (m : Content) (u : Name) → HasContent s m → (rows : UnitRows) → AreSeen u s.now rows → has_any rows.units ≡ true → ◌≡◌ {A = Option UnitRows} (Some rows) (get m.units u)
 whole_found s m u k rows seen any =
     let same : rows ≡ rows_in m u = λ i. record {
       units = (sym (seen UnitKept) ∙ k.seen u UnitKept) i;
@@ -133,7 +133,7 @@ whole_found s m u k rows seen any =
     } in
     ap Some same ∙ sym (kept_rows s m u k (ap has_any (seen UnitKept) ∙ any))
 
-pub none_found : (s : State) (m : Content) (u : Name) → KeepsIn s m → (units : List Rattle.plant_model.specs.declared.rows.UnitRow.UnitRow) → units ≡ rows_seen u s.now.trees UnitKept → has_any units ≡ false → ◌≡◌ {A = Option UnitRows} None (get m.units u)
+pub none_found : (s : State) (m : Content) (u : Name) → HasContent s m → (units : List Rattle.plant_model.specs.declared.rows.UnitRow.UnitRow) → units ≡ rows_seen u s.now.trees UnitKept → has_any units ≡ false → ◌≡◌ {A = Option UnitRows} None (get m.units u)
 none_found s m u k units is any = sym (never_opened s m u k (ap has_any (sym is) ∙ any))
 
 -- ---- new books
@@ -149,7 +149,7 @@ nothing_at EventKept = refl
 nothing_at RecordKept = refl
 nothing_at ChangeKept = refl
 
-pub keeps_new : (s : State) (admin : Name) → AreNew admin s.now → KeepsIn s (no_units admin)
+pub keeps_new : (s : State) (admin : Name) → AreNew admin s.now → HasContent s (no_units admin)
 keeps_new s admin it = record {
   books = it.books;
   office = it.office;

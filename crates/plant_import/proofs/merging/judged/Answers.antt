@@ -2,7 +2,7 @@ use Rattle.std.proofs.Common.{◌≡◌, rules, sym, ◌∙◌, subst}
 use Rattle.std.specs.Prelude.{Bool, Result, nat_lt}
 use Rattle.std.proofs.lemmas.Bool.{ltb-true, ltb-false}
 use Rattle.plant_import.specs.declared.bad_file.Cause.{Cause}
-use Rattle.plant_import.specs.Relation.{IsJudged}
+use Rattle.plant_import.specs.Relation.{JudgesRow}
 use Rattle.plant_import.proofs.Merges.{judged_unknown, judged_ahead, judged_so}
 use Rattle.plant_import.proofs.merging.judged.Goals as goal
 
@@ -17,6 +17,6 @@ returns-then-lt c tags are kept seen holds rises =
 pub returns : goal.returns
 returns c tags are kept seen holds rises =
     let less : c.lt.result ≡ nat_lt c.args.now c.args.event.now.moment = search rules in
-    subst (λ (r : Result Bool Cause). IsJudged tags c.args.now c.args.kept.now seen c.args.event.now r) (sym c.joined.ensures)
+    subst (λ (r : Result Bool Cause). JudgesRow tags c.args.now c.args.kept.now seen c.args.event.now r) (sym c.joined.ensures)
     (judged_so tags c.args.now c.args.kept.now seen c.args.event.now (sym (are c.args.event.now.tag) ∙ sym c.contains.ensures ∙ search rules) (ltb-false _ _ (sym less ∙ c.if-lt.false)) c.relation_of.result c.relation_of-2.result
     (c.relation_of.ensures c.args.kept.now kept (c.nearest_among.ensures kept)) (c.relation_of-2.ensures seen rises (c.nearest_by_number.ensures seen holds)))

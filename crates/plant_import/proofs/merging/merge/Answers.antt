@@ -4,7 +4,7 @@ use Rattle.plant_import.specs.declared.bad_file.Cause.{Cause}
 use Rattle.plant_alarm.specs.declared.event.Event.{Event}
 use Rattle.plant_import.specs.Merging.{IsRising}
 use Rattle.plant_import.specs.Numbers.{AreByNumber}
-use Rattle.plant_import.specs.Relation.{IsJudged}
+use Rattle.plant_import.specs.Relation.{JudgesRow}
 use Rattle.plant_import.proofs.ByNumber.{put_in}
 use Rattle.plant_import.proofs.Merges.{so_none, so_new_at, so_known_at, so_fault_at, so_all}
 use Rattle.plant_import.proofs.merging.merge.Goals as goal
@@ -16,13 +16,13 @@ loop-i-init c = record { count = rw c.new-fresh.ensures refl; so = λ rising. ([
 pub returns-in-Err-clause-value : goal.returns-in-Err-clause-value
 returns-in-Err-clause-value c rising =
     let so = c.loop-i.invariant.so rising in
-    let is = subst (λ (r : Result Bool Cause). IsJudged c.args.tags.now c.args.now c.args.kept.now so.0 c.index-file-i.result r) c.in-Err.is (c.judged.ensures c.args.tags.now c.in_ok-known.ensures.value rising so.0 so.1 so.2.rises) in
+    let is = subst (λ (r : Result Bool Cause). JudgesRow c.args.tags.now c.args.now c.args.kept.now so.0 c.index-file-i.result r) c.in-Err.is (c.judged.ensures c.args.tags.now c.in_ok-known.ensures.value rising so.0 so.1 so.2.rises) in
     sym (so_fault_at c.args.tags.now c.args.now c.args.kept.now c.args.file.now c.loop-i.fresh so.0 c.loop-i.repeated c.loop-i.i c.index-file-i.result c.in-Err.cause (omega arith) c.index-file-i.is so.2 is)
 
 pub loop-i-preserved : goal.loop-i-preserved
 loop-i-preserved c =
-    let judged : IsRising c.args.kept.now → (seen : List Event) → AreByNumber c.loop-i.rising seen → IsRising seen → IsJudged c.args.tags.now c.args.now c.args.kept.now seen c.index-file-i.result (Ok c.in-Ok.is_new) =
-    λ rising seen holds rises. subst (λ (r : Result Bool Cause). IsJudged c.args.tags.now c.args.now c.args.kept.now seen c.index-file-i.result r) c.in-Ok.is (c.judged.ensures c.args.tags.now c.in_ok-known.ensures.value rising seen holds rises) in
+    let judged : IsRising c.args.kept.now → (seen : List Event) → AreByNumber c.loop-i.rising seen → IsRising seen → JudgesRow c.args.tags.now c.args.now c.args.kept.now seen c.index-file-i.result (Ok c.in-Ok.is_new) =
+    λ rising seen holds rises. subst (λ (r : Result Bool Cause). JudgesRow c.args.tags.now c.args.now c.args.kept.now seen c.index-file-i.result r) c.in-Ok.is (c.judged.ensures c.args.tags.now c.in_ok-known.ensures.value rising seen holds rises) in
     elim c.if-is_new.branch [
       | then-is_new+in_ok-add w ↦
           let added : w.add.new.fresh ≡ c.loop-i.fresh ++ c.index-file-i.result ∷ [] = search rules in

@@ -2,7 +2,7 @@ use Rattle.std.proofs.Common.{◌≡◌, false, map, take}
 use Rattle.sqlite.specs.Held.{state}
 use Rattle.plant_books.specs.Contents.{Content}
 use Rattle.plant_store.specs.Changes.{IsHonest}
-use Rattle.plant_store.specs.Keeping.{KeepsIn}
+use Rattle.plant_store.specs.Keeping.{HasContent}
 use Rattle.plant_store.specs.OnlyReads.{OnlyReads}
 use Rattle.plant_store.specs.Shelves.{with_return}
 use Rattle.plant_store.proofs.shelves.all_returned.Given as goal
@@ -14,6 +14,6 @@ invariant-loop-shelf g l =
     let now = state g.S.Store l.conn in
     record {
       mode : l.conn.in_transaction ≡ false;
-      found : IsHonest now → (m : Content) → KeepsIn old m → l.mine ≡ map (with_return m) (take l.shelf-index l.shelves);
+      found : IsHonest now → (m : Content) → HasContent old m → l.mine ≡ map (with_return m) (take l.shelf-index l.shelves);
       reads : OnlyReads old now;
     }
