@@ -1,5 +1,4 @@
 ghost use Rattle.std.specs.Prelude.{◌≡◌, ◌++◌, codes, map, option_map, decimal, IfOk};
-ghost use Rattle.std.specs.List.{join_with_byte};
 ghost use Rattle.plant_types.specs.Adding.{Adds};
 ghost use Rattle.plant_types.specs.Results.{OnlyMemory};
 ghost use Rattle.plant_report.specs.Moments.{moment_text};

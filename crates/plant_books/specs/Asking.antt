@@ -2,18 +2,18 @@
 use Rattle.std.specs.BTreeSet.{BTreeSet, contains}
 use Rattle.std.specs.List.{list_any}
 use Rattle.std.specs.Ordering.{nat_cmp}
-use Rattle.std.specs.Prelude.{Bool, IfOk, List, [], None, Option, Result, Some, false, filter, length, option_copied, true, ℕ, ◌&&◌, ◌||◌, ◌≡◌}
+use Rattle.std.specs.Prelude.{Bool, IfOk, List, [], None, Option, Result, Some, false, filter, length, true, ℕ, ◌&&◌, ◌||◌, ◌≡◌}
 use Rattle.plant_alarm.specs.declared.event.Event.{Event}
-use Rattle.plant_books.specs.declared.asking.Scope.{Scope}
-use Rattle.plant_books.specs.declared.asking.Scope.TheVariants.{AllAlarms, AllEvents, AllGrants, AllRecords, AllShelves, Approval, Content, File, NothingElse, OneAlarm, OneChange, OneRecord, Shelving}
+use Rattle.plant_model.specs.Scopes.{number_approved, selection_by}
+use Rattle.plant_model.specs.declared.kinds.Scope.{Scope}
+use Rattle.plant_model.specs.declared.kinds.Scope.TheVariants.{Approval, OneChange}
 use Rattle.plant_books.specs.declared.asking.Wanted.{Wanted}
 use Rattle.plant_books.specs.declared.asking.Wanted.TheVariants.{Every, Nothing, One}
 use Rattle.plant_books.specs.declared.asking.WantedEvents.{WantedEvents}
 use Rattle.plant_books.specs.declared.asking.WantedEvents.TheVariants.{Beside, Every as EveryEvent, Nothing as NoEvents}
 use Rattle.plant_import.specs.Needed.{needed}
 use Rattle.plant_model.specs.Histories.{same_number}
-use Rattle.plant_model.specs.Parts.{Scope as Looked, Selection, all_events, every, is_crowded, is_in_force, is_source, nothing, of_approved, of_content, of_number, of_records, of_shelving, of_tag, of_topic, rows_selected, scope_of, selected}
-use Rattle.plant_model.specs.Parts as looked
+use Rattle.plant_model.specs.Parts.{Selection, is_crowded, is_in_force, is_source, rows_selected}
 use Rattle.plant_model.specs.RowFacts.{change_found, pair_of}
 use Rattle.plant_model.specs.declared.call.Request.{Request}
 use Rattle.plant_model.specs.declared.rows.BandRow.{BandRow}
@@ -24,30 +24,6 @@ use Rattle.plant_model.specs.declared.rows.RecordEntry.{RecordEntry}
 use Rattle.plant_model.specs.declared.rows.UnitRow.{UnitRow}
 use Rattle.plant_model.specs.declared.rows.UnitRows.{UnitRows}
 use Rattle.plant_types.specs.Names.{Name, same_name}
-
--- the rows that a scope takes in of a unit's
-abbrev pub selection_by : UnitRows → Scope → Selection
-selection_by rows NothingElse = nothing
-selection_by rows AllGrants = record nothing { pair = every }
-selection_by rows (OneAlarm tag) = of_tag tag.now
-selection_by rows (Shelving tag crowded) = of_shelving crowded tag.now
-selection_by rows (OneRecord tag) = record nothing { alarm = same_name tag.now; rationale = same_name tag.now; change = is_source rows (same_name tag.now) }
-selection_by rows (OneChange n) = of_number n
-selection_by rows (Approval n change) = of_approved rows n (option_copied change)
-selection_by rows (Content tag) = of_content rows tag.now
-selection_by rows AllRecords = of_records rows
-selection_by rows (File es) = record nothing { alarm = every; events = λ kept. needed kept es.now }
-selection_by rows AllShelves = record nothing { alarm = every; shelf = every }
-selection_by rows AllAlarms = record nothing { alarm = every; shelf = every; rationale = every }
-selection_by rows AllEvents = record nothing { events = all_events }
-
--- what a change is of
-abbrev pub of_change : ChangeEntry → UnitRows → Selection
-of_change c rows = of_topic rows c.tag c.kind_no
-
--- of the rows of any unit the scope takes in these
-abbrev pub Selects : Scope → (UnitRows → Selection) → Type 0
-Selects scope these = (rows : UnitRows) → selection_by rows scope ≡ these rows
 
 -- the rows that a scope takes in of a unit's, for a caller of this name
 abbrev pub rows_by : Name → UnitRows → Scope → UnitRows
@@ -69,22 +45,6 @@ cells_by rows scope = filter (λ r. (selection_by rows scope).matrix r.matrix_no
 abbrev pub changes_by : UnitRows → Scope → List ChangeEntry
 changes_by rows scope = filter (λ r. (selection_by rows scope).change r.number) rows.changes
 
-abbrev pub is_shelving_scope : Looked → Bool
-is_shelving_scope (looked.Shelving a) = true
-is_shelving_scope _ = false
-
--- a request that shelves an alarm
-abbrev pub is_shelving : Request → Bool
-is_shelving q = is_shelving_scope (scope_of q)
-
-abbrev pub number_of_approval : Looked → Option ℕ
-number_of_approval (looked.Approval n) = Some n
-number_of_approval _ = None
-
--- the number of the change that a request approves
-abbrev pub number_approved : Request → Option ℕ
-number_approved q = number_of_approval (scope_of q)
-
 -- a unit with this row of its own and so many shelves is crowded, or not
 abbrev pub IsCrowdedWith : List UnitRow → ℕ → Bool → Type 0
 IsCrowdedWith units shelves crowded = (rows : UnitRows) → rows.units ≡ units → length rows.shelves ≡ shelves → is_crowded rows ≡ crowded
@@ -92,24 +52,6 @@ IsCrowdedWith units shelves crowded = (rows : UnitRows) → rows.units ≡ units
 -- the change that the request approves is this, if it is there
 abbrev pub IsApprovedBy : UnitRows → Request → Option ChangeEntry → Type 0
 IsApprovedBy rows q approved = (n : ℕ) → number_approved q ≡ Some n → change_found rows n ≡ approved
-
--- in a unit of these rows: whether it is crowded, for a shelving, and the change that is approved, for an approval
-pub record IsSeenIn (rows : UnitRows) (q : Request) (crowded : Bool) (approved : Option ChangeEntry) : Type 0 where
-  pub crowding : is_shelving q ≡ true → is_crowded rows ≡ crowded
-  pub found : (n : ℕ) → number_approved q ≡ Some n → change_found rows n ≡ approved
-
--- of the rows of any unit that is seen so, the scope takes in what the request looks at
-abbrev pub IsScopeOf : Request → Bool → Option ChangeEntry → Scope → Type 0
-IsScopeOf q crowded approved scope = (rows : UnitRows) → IsSeenIn rows q crowded approved → selection_by rows scope ≡ selected rows q
-
-abbrev pub has_events : Looked → Bool
-has_events (looked.File es) = true
-has_events looked.AllEvents = true
-has_events _ = false
-
--- a request that looks at events
-abbrev pub looks_at_events : Request → Bool
-looks_at_events q = has_events (scope_of q)
 
 -- the number of the change that a scope takes in with its matrix
 abbrev pub number_named : Scope → Option ℕ

@@ -1,46 +1,16 @@
 //! What a call looks at, and which rows of each table that is.
 
-ghost use Rattle.std.specs.Prelude.{◌≡◌, ◌||◌, option_copied};
+ghost use Rattle.std.specs.Prelude.{◌≡◌, ◌||◌};
 ghost use Rattle.plant_books.specs.Asking as asked;
-ghost use Rattle.plant_books.specs.Asking.{AreEventsWanted, AreWanted, IsCrowdedWith, IsScopeOf, Selects, TakesChanges, TakesMatrix, TakesSources, is_number, is_wanted, of_change, selection_by};
-ghost use Rattle.plant_model.specs.Events.{rows_of_file};
-ghost use Rattle.plant_model.specs.Parts.{scope_of_proposal, selection};
+ghost use Rattle.plant_books.specs.Asking.{AreEventsWanted, AreWanted, IsCrowdedWith, TakesChanges, TakesMatrix, TakesSources, is_number, is_wanted};
+ghost use Rattle.plant_model.specs.Scopes.{of_change, selection_by};
 ghost use Rattle.plant_model.specs.declared.rows.UnitRows.{UnitRows};
 ghost use Rattle.plant_types.specs.Names.{Name, same_name};
 ghost use Rattle.plant_types.specs.Roles.{Pair};
 
 use plant_alarm::Event;
-use plant_import::FileRead;
-use plant_model::{CallKind, ChangeEntry, ChangeTopic, Request, UnitRow};
-use plant_ration::ChangeKind;
+use plant_model::{ChangeEntry, ChangeTopic, Scope, UnitRow};
 use plant_types::{List, Tag};
-
-/// What a call looks at, beside the unit's own row and the caller's grants.
-#[derive(Clone, Copy)]
-pub enum Scope<'a> {
-    NothingElse,
-    AllGrants,
-    /// An alarm with its shelf.
-    OneAlarm(&'a Tag),
-    /// The same for a shelving, and whether it looks at all others too: where the quota may be used up.
-    Shelving(&'a Tag, bool),
-    /// An alarm with its record and the change that it came from.
-    OneRecord(&'a Tag),
-    /// A change with its matrix.
-    OneChange(u32),
-    /// A change that is to be approved, with its row if it is there, and what it is a change of.
-    Approval(u32, Option<&'a ChangeEntry>),
-    /// An alarm with its record, and the matrix in force.
-    Content(&'a Tag),
-    /// All records with the changes that they came from, and the matrix in force.
-    AllRecords,
-    /// All alarms, and the events that these rows of a file are seen beside.
-    File(&'a [Event]),
-    AllShelves,
-    /// All alarms, shelves and records.
-    AllAlarms,
-    AllEvents,
-}
 
 /// Which of a unit's alarms, of its shelves or of its records a call looks at.
 #[derive(Clone, Copy)]
@@ -73,23 +43,6 @@ impl Wanted<'_> {
     }
 }
 
-/// Whether the request shelves an alarm.
-pub fn is_shelving(request: &Request) -> bool
-    ensures { result ≡ asked.is_shelving request.now }
-{
-    matches!(
-        request.kind(),
-        CallKind::TimedShelve | CallKind::OneShotShelve
-    )
-}
-
-/// Whether the request looks at the unit's events.
-pub fn looks_at_events(request: &Request) -> bool
-    ensures { result ≡ asked.looks_at_events request.now }
-{
-    matches!(request.kind(), CallKind::Import | CallKind::Floods)
-}
-
 /// Whether a unit that keeps this many shelves is crowded: its quota may be used up.
 pub fn is_crowded(units: &List<UnitRow>, shelves: u64) -> bool
     ensures { IsCrowdedWith units.now shelves result }
@@ -97,68 +50,6 @@ pub fn is_crowded(units: &List<UnitRow>, shelves: u64) -> bool
     match units.as_slice().first() {
         Some(unit) => unit.quota.get() <= shelves,
         None => true,
-    }
-}
-
-/// The number of the change that the request approves, if it approves one.
-pub fn number_approved(request: &Request) -> Option<u32>
-    ensures { result ≡ asked.number_approved request.now }
-{
-    match request {
-        Request::Approve { number, .. } => Some(*number),
-        _ => None,
-    }
-}
-
-/// The rows of a file, none where it can't be read.
-fn rows_of(file: &FileRead) -> &[Event]
-    ensures { result.now ≡ rows_of_file file.now }
-{
-    match file {
-        Ok(rows) => rows.as_slice(),
-        Err(_) => &[],
-    }
-}
-
-/// What a proposal of a change of this kind looks at.
-fn scope_of_kind(kind: &ChangeKind) -> Scope<'_>
-    ensures { Selects result (λ rows. selection rows (scope_of_proposal kind.now)) }
-{
-    match kind {
-        ChangeKind::Rationale(tag, _) | ChangeKind::Limit(tag, _) => Scope::Content(tag),
-        ChangeKind::Matrix(_) => Scope::AllRecords,
-    }
-}
-
-/// What the request looks at in a unit that is crowded or not, and in which this is the change that it approves.
-pub fn scope_of<'a>(
-    request: &'a Request,
-    crowded: bool,
-    approved: Option<&'a ChangeEntry>,
-) -> Scope<'a>
-    ensures { IsScopeOf request.now crowded (option_copied approved.entry) result }
-{
-    match request {
-        Request::Grant { .. } | Request::Withdraw { .. } => Scope::AllGrants,
-        Request::Register { tag, .. }
-        | Request::Unshelve { tag, .. }
-        | Request::RemoveFromService { tag, .. }
-        | Request::PlaceInService { tag, .. }
-        | Request::Status { tag, .. } => Scope::OneAlarm(tag),
-        Request::TimedShelve { tag, .. } | Request::OneShotShelve { tag, .. } => {
-            Scope::Shelving(tag, crowded)
-        }
-        Request::Import { file, .. } => Scope::File(rows_of(file)),
-        Request::Propose { proposal, .. } => scope_of_kind(&proposal.kind),
-        Request::Approve { number, .. } => Scope::Approval(*number, approved),
-        Request::WithdrawChange { number, .. }
-        | Request::Reject { number, .. }
-        | Request::ChangeOf { number, .. } => Scope::OneChange(*number),
-        Request::RecordOf { tag, .. } => Scope::OneRecord(tag),
-        Request::Shelves { .. } => Scope::AllShelves,
-        Request::Alarms { .. } | Request::Standing { .. } => Scope::AllAlarms,
-        Request::Floods { .. } => Scope::AllEvents,
-        Request::OpenUnit { .. } | Request::MyUnits | Request::MyShelves => Scope::NothingElse,
     }
 }
 

@@ -13,9 +13,8 @@ mod plain;
 mod rows;
 
 pub use asking::{
-    Scope, Wanted, WantedEvents, is_crowded, is_number, is_shelving, looks_at_events,
-    number_approved, scope_of, wanted_alarms, wanted_change, wanted_events, wanted_records,
-    wanted_shelves, wants_all_grants, wants_matrix, wants_sources,
+    Wanted, WantedEvents, is_crowded, is_number, wanted_alarms, wanted_change, wanted_events,
+    wanted_records, wanted_shelves, wants_all_grants, wants_matrix, wants_sources,
 };
 pub use books::{Books, MineRow, MineUnit};
 pub use changes::{after_changes, puts_event};

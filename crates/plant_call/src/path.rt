@@ -1,6 +1,6 @@
 ghost use Rattle.std.specs.Prelude.{◌≡◌};
 ghost use Rattle.plant_call.specs.Causes.{ReadsAs};
-ghost use Rattle.plant_call.specs.Path.{until_slash, after_slash, after_slashes, segment, unit_in, tag_in, moment_at, begin_in, until_in, is_change_number, change_number_of, number_in};
+ghost use Rattle.plant_call.specs.Path.{until_slash, after_slash, segment, unit_in, tag_in, moment_at, begin_in, until_in, is_change_number, change_number_of, number_in};
 
 use crate::causes::{CallError, Cause};
 use crate::lengths::{capped_value, is_numeral};

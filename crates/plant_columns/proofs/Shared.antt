@@ -1,5 +1,5 @@
 -- A table that all units share, seen by one unit. The unit is the first column of its key.
-use Rattle.std.proofs.Common.{◌≡◌, ◌≢◌, ℕ, Bool, true, false, not, ◌&&◌, List, [], ◌∷◌, ◌++◌, map, filter, refl, sym, ap, ◌∙◌, subst, Ordering, Less, Equal, Greater, is_eq, true≢false, nat_cmp}
+use Rattle.std.proofs.Common.{◌≡◌, ◌≢◌, ℕ, Bool, true, false, ◌&&◌, List, [], ◌∷◌, ◌++◌, map, filter, refl, sym, ap, ◌∙◌, subst, Ordering, Less, Equal, Greater, is_eq, true≢false}
 use Rattle.std.specs.List.{AllByRecursion}
 use Rattle.std.specs.FinMap.{slice_cmp-IsAntisymmetric, nat_cmp-IsAntisymmetric}
 use Rattle.std.proofs.lemmas.Bool.{false_from_ne_true}
@@ -12,13 +12,13 @@ use Rattle.plant_columns.specs.Kept.{taken_out, by_columns, kept, is_of}
 use Rattle.std.specs.Cmp.{IsTotalOrder}
 use Rattle.sqlite_value.specs.Order.{bytes}
 use Rattle.sqlite_trees.specs.Tree.{IsAscending}
-use Rattle.std.proofs.Common.{Less, T}
+use Rattle.std.proofs.Common.{Less}
 use Rattle.plant_types.specs.KeyedRows.{put_row, remove_row, IsInOrder}
 use Rattle.plant_columns.proofs.public.Bridge.{put_is, IsInOrder-rising}
 use Rattle.plant_columns.proofs.public.Joins.{strict-sort}
 use Rattle.plant_columns.specs.Tidy.{AreRows, IsTidy}
 use Rattle.plant_columns.proofs.public.Keys.{by_columns_total, then_tied}
-use Rattle.plant_columns.proofs.public.Kept.{kept-put, kept-put_other, kept-out, kept-out_other, no_ties-out, no_ties-put, all-kept, read-put, read-out}
+use Rattle.plant_columns.proofs.public.Kept.{kept-put, kept-put_other, kept-out, kept-out_other, no_ties-out, no_ties-put, read-put, read-out}
 
 equal_when : (o : Ordering) → is_eq o ≡ true → o ≡ Equal
 equal_when Less h = absurd (true≢false (sym h))

@@ -8,9 +8,8 @@ use Rattle.std.proofs.Math.ListN.{replicate}
 use Rattle.std.proofs.Common.{add-zero}
 use Rattle.std.proofs.lemmas.List.{length-map, map-append, take_more}
 use Rattle.std.specs.List.{list_any, range_with_len}
-use Rattle.std.specs.Prelude.{Bool, Err, List, Ok, Result, Some, count_by, filter, fold, map, not, option_map, unwrap_or, ℕ, ◌||◌}
+use Rattle.std.specs.Prelude.{Bool, Err, List, Ok, Result, Some, count_by, fold, map, option_map, unwrap_or, ℕ, ◌||◌}
 use Rattle.plant_alarm.specs.declared.event.Event.{Event}
-use Rattle.plant_alarm.specs.declared.event.EventKind.TheVariants.{Rtn}
 use Rattle.plant_alarm.proofs.public.Push.{last_that-push, passing-push}
 use Rattle.plant_alarm.specs.States.{is_act, is_active, is_rtn, last_that, passing}
 use Rattle.plant_floods.specs.Activations.{AreActive, activations_of_all, is_activation_of, is_in_period, of_alarm, period_counts}

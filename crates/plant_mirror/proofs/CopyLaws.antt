@@ -10,7 +10,6 @@ use Rattle.std.specs.Cmp.{eq_by_cmp_equiv}
 use Rattle.lru.specs.LruCache.{LruCache, last_entry, promoted, put_entries}
 use Rattle.plant_books.proofs.public.EventLaws.{changed_without, part_without, strangers_part_without}
 use Rattle.plant_books.proofs.public.OrderLaws.{changed_in_order}
-use Rattle.plant_books.specs.Asking.{looks_at_events}
 use Rattle.plant_books.specs.Changing.{puts_event}
 use Rattle.plant_books.specs.Contents.{Content, after_changes, is_held_by, is_held_in, mine_row, rows_in, shelves_mine, without_events}
 use Rattle.plant_books.specs.Order.{AreInOrder}
@@ -21,6 +20,7 @@ use Rattle.plant_model.proofs.public.WorldLaws.{same_of}
 use Rattle.plant_model.specs.Parts.{part_of}
 use Rattle.plant_model.specs.RowChanges.{changed_by, no_rows}
 use Rattle.plant_model.specs.RowFacts.{holds_by}
+use Rattle.plant_model.specs.Scopes.{looks_at_events}
 use Rattle.plant_model.specs.declared.call.Call.{Call}
 use Rattle.plant_model.specs.declared.rows.RowEdit.{RowEdit}
 use Rattle.plant_model.specs.declared.rows.UnitRows.{UnitRows}

@@ -10,10 +10,8 @@ ghost use Rattle.plant_types.specs.Names.{same_name};
 use crate::at_hand::AtHand;
 use crate::copies::Copies;
 use plant_alarm::Event;
-use plant_books::{
-    Books, MineRow, MineUnit, are_in_order, looks_at_events, part_of, rows_but_events,
-};
-use plant_model::{Call, Changes, UnitPart, UnitRows};
+use plant_books::{Books, MineRow, MineUnit, are_in_order, part_of, rows_but_events};
+use plant_model::{Call, Changes, UnitPart, UnitRows, looks_at_events};
 use plant_types::{Duplicate, Fault, List, Moment, Person, UnitCode};
 use std::alloc::Global;
 

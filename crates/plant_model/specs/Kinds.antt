@@ -1,4 +1,6 @@
 -- The kinds of calls, and what all calls of one kind have in common: one line a kind in each table.
+use Rattle.plant_alarm.specs.declared.event.Event.{Event}
+use Rattle.plant_model.specs.Events.{rows_of_file}
 use Rattle.plant_model.specs.declared.call.Request.{Request}
 use Rattle.plant_model.specs.declared.call.Request.TheVariants as request
 use Rattle.plant_model.specs.declared.kinds.CallKind.{CallKind}
@@ -7,10 +9,12 @@ use Rattle.plant_model.specs.declared.kinds.Counted.{Counted}
 use Rattle.plant_model.specs.declared.kinds.Counted.TheVariants as count
 use Rattle.plant_model.specs.declared.kinds.Effect.{Effect}
 use Rattle.plant_model.specs.declared.kinds.Effect.TheVariants.{Changes, Opens, Reads}
+use Rattle.plant_ration.specs.declared.change.ChangeKind.{ChangeKind}
+use Rattle.plant_ration.specs.declared.change.ChangeKind.TheVariants.{Limit, Matrix, Rationale}
 use Rattle.plant_types.specs.Names.{Name}
 use Rattle.plant_types.specs.declared.role.Role.{Role}
 use Rattle.plant_types.specs.declared.role.Role.TheVariants.{Approver, Engineer, Maintainer, Operator, Steward}
-use Rattle.std.specs.Prelude.{Bool, None, Option, Some, false, true}
+use Rattle.std.specs.Prelude.{Bool, List, None, Option, Some, false, true, ℕ}
 
 abbrev pub kind_of : Request → CallKind
 kind_of (request.OpenUnit u s m q) = kind.OpenUnit
@@ -159,3 +163,60 @@ is_read r = is_reads (effect_of (kind_of r))
 
 abbrev pub role_needed : Request → Option Role
 role_needed r = role_of (kind_of r)
+
+-- what a call looks at, beside the unit's own row and the caller's grants
+pub data Scope : Type 0 where
+  -- nothing else
+  NothingElse : Scope
+  AllGrants : Scope
+  -- an alarm with its shelf
+  OneAlarm : Name → Scope
+  -- an alarm with its shelf, and all others where the quota may be used up
+  Shelving : Name → Scope
+  -- an alarm with its record and the change that it came from
+  OneRecord : Name → Scope
+  -- a change with its matrix
+  OneChange : ℕ → Scope
+  -- a change with its matrix, and what it is a change of
+  Approval : ℕ → Scope
+  -- an alarm with its record, and the matrix in force
+  Content : Name → Scope
+  -- all records with the changes that they came from, and the matrix in force
+  AllRecords : Scope
+  -- all alarms, and the events that a file's rows are seen beside
+  File : List Event → Scope
+  -- all alarms and shelves
+  AllShelves : Scope
+  -- all alarms, shelves and records
+  AllAlarms : Scope
+  AllEvents : Scope
+
+abbrev pub scope_of_proposal : ChangeKind → Scope
+scope_of_proposal (Rationale a s) = Content a
+scope_of_proposal (Matrix m) = AllRecords
+scope_of_proposal (Limit a max) = Content a
+
+abbrev pub scope_of : Request → Scope
+scope_of (request.OpenUnit u s m q) = NothingElse
+scope_of (request.Grant u p t) = AllGrants
+scope_of (request.Withdraw u p r) = AllGrants
+scope_of (request.Register u a l m) = OneAlarm a
+scope_of (request.Import u file) = File (rows_of_file file)
+scope_of (request.TimedShelve u a d w) = Shelving a
+scope_of (request.OneShotShelve u a w) = Shelving a
+scope_of (request.Unshelve u a) = OneAlarm a
+scope_of (request.RemoveFromService u a w) = OneAlarm a
+scope_of (request.PlaceInService u a) = OneAlarm a
+scope_of (request.Propose u x) = scope_of_proposal x.kind
+scope_of (request.WithdrawChange u n) = OneChange n
+scope_of (request.Approve u n) = Approval n
+scope_of (request.Reject u n) = OneChange n
+scope_of (request.Status u a) = OneAlarm a
+scope_of (request.RecordOf u a) = OneRecord a
+scope_of (request.ChangeOf u n) = OneChange n
+scope_of (request.Shelves u) = AllShelves
+scope_of (request.Alarms u) = AllAlarms
+scope_of (request.Standing u) = AllAlarms
+scope_of (request.Floods u begin until) = AllEvents
+scope_of request.MyUnits = NothingElse
+scope_of request.MyShelves = NothingElse

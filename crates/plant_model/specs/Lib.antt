@@ -15,6 +15,7 @@ pub mod Verdicts
 pub mod Legality
 pub mod RowFacts
 pub mod Parts
+pub mod Scopes
 pub mod RowChanges
 pub mod Worlds
 pub mod Views

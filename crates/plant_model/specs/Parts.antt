@@ -1,9 +1,8 @@
 -- The part of a unit's rows that a call looks at: the unit's row, the caller's grants, and what its request selects.
 use Rattle.plant_alarm.specs.declared.event.Event.{Event}
 use Rattle.plant_import.specs.Needed.{needed}
-use Rattle.plant_model.specs.Events.{rows_of_file}
 use Rattle.plant_model.specs.Histories.{same_number}
-use Rattle.plant_model.specs.Kinds.{count_of, kind_of}
+use Rattle.plant_model.specs.Kinds.{AllAlarms, AllEvents, AllGrants, AllRecords, AllShelves, Approval, Content, File, NothingElse, OneAlarm, OneChange, OneRecord, Scope, Shelving, count_of, kind_of, scope_of}
 use Rattle.plant_model.specs.declared.kinds.Counted.{Counted}
 use Rattle.plant_model.specs.declared.kinds.Counted.TheVariants.{Alarms as AlarmsCounted, Changes as ChangesCounted, Events as EventsCounted, Nothing}
 use Rattle.plant_model.specs.RowChanges.{no_rows}
@@ -11,11 +10,8 @@ use Rattle.plant_model.specs.RowFacts.{change_found, holds_by, last_number, unit
 use Rattle.plant_model.specs.declared.rows.ChangeEntry.{ChangeEntry}
 use Rattle.plant_model.specs.declared.rows.ChangeTopic.{ChangeTopic}
 use Rattle.plant_model.specs.declared.rows.ChangeTopic.TheVariants.{Limit as LimitTopic, Matrix as MatrixTopic, Record as RecordTopic}
-use Rattle.plant_model.specs.declared.call.Request.TheVariants.{Alarms, Approve, ChangeOf, Floods, Grant, Import, MyShelves, MyUnits, OneShotShelve, OpenUnit, PlaceInService, Propose, RecordOf, Register, Reject, RemoveFromService, Shelves, Standing, Status, TimedShelve, Unshelve, Withdraw, WithdrawChange}
-use Rattle.plant_ration.specs.declared.change.ChangeKind.{ChangeKind}
-use Rattle.plant_ration.specs.declared.change.ChangeKind.TheVariants.{Limit, Matrix, Rationale}
 use Rattle.std.specs.List.{list_any}
-use Rattle.std.specs.Prelude.{max, ◌&&◌}
+use Rattle.std.specs.Prelude.{◌&&◌}
 use Rattle.plant_model.specs.RowFacts.{pair_of}
 use Rattle.plant_model.specs.declared.call.Call.{Call}
 use Rattle.plant_model.specs.declared.call.Request.{Request}
@@ -24,63 +20,6 @@ use Rattle.plant_model.specs.declared.rows.UnitRows.{UnitRows}
 use Rattle.plant_types.specs.Names.{Name, same_name}
 use Rattle.plant_types.specs.Roles.{Pair}
 use Rattle.std.specs.Prelude.{Bool, List, None, Option, Some, [], false, filter, if◌then◌else◌, length, nat_le, true, ℕ, ◌||◌}
-
--- what a call looks at, beside the unit's own row and the caller's grants
-pub data Scope : Type 0 where
-  -- nothing else
-  NothingElse : Scope
-  AllGrants : Scope
-  -- an alarm with its shelf
-  OneAlarm : Name → Scope
-  -- an alarm with its shelf, and all others where the quota may be used up
-  Shelving : Name → Scope
-  -- an alarm with its record and the change that it came from
-  OneRecord : Name → Scope
-  -- a change with its matrix
-  OneChange : ℕ → Scope
-  -- a change with its matrix, and what it is a change of
-  Approval : ℕ → Scope
-  -- an alarm with its record, and the matrix in force
-  Content : Name → Scope
-  -- all records with the changes that they came from, and the matrix in force
-  AllRecords : Scope
-  -- all alarms, and the events that a file's rows are seen beside
-  File : List Event → Scope
-  -- all alarms and shelves
-  AllShelves : Scope
-  -- all alarms, shelves and records
-  AllAlarms : Scope
-  AllEvents : Scope
-
-abbrev pub scope_of_proposal : ChangeKind → Scope
-scope_of_proposal (Rationale a s) = Content a
-scope_of_proposal (Matrix m) = AllRecords
-scope_of_proposal (Limit a max) = Content a
-
-abbrev pub scope_of : Request → Scope
-scope_of (OpenUnit u s m q) = NothingElse
-scope_of (Grant u p t) = AllGrants
-scope_of (Withdraw u p r) = AllGrants
-scope_of (Register u a l m) = OneAlarm a
-scope_of (Import u file) = File (rows_of_file file)
-scope_of (TimedShelve u a d w) = Shelving a
-scope_of (OneShotShelve u a w) = Shelving a
-scope_of (Unshelve u a) = OneAlarm a
-scope_of (RemoveFromService u a w) = OneAlarm a
-scope_of (PlaceInService u a) = OneAlarm a
-scope_of (Propose u x) = scope_of_proposal x.kind
-scope_of (WithdrawChange u n) = OneChange n
-scope_of (Approve u n) = Approval n
-scope_of (Reject u n) = OneChange n
-scope_of (Status u a) = OneAlarm a
-scope_of (RecordOf u a) = OneRecord a
-scope_of (ChangeOf u n) = OneChange n
-scope_of (Shelves u) = AllShelves
-scope_of (Alarms u) = AllAlarms
-scope_of (Standing u) = AllAlarms
-scope_of (Floods u begin until) = AllEvents
-scope_of MyUnits = NothingElse
-scope_of MyShelves = NothingElse
 
 -- the rows of a scope, beside the unit's own row and the caller's grants: by pair, tag, number of a matrix, number of a change
 pub record Selection : Type 0 where

@@ -15,7 +15,6 @@ use Rattle.plant_ration.specs.declared.change.ChangeState.{ChangeState}
 use Rattle.plant_ration.specs.declared.change.ChangeState.TheVariants.{Proposed}
 use Rattle.plant_types.specs.Limits.{max_alarms, max_changes, max_events, max_grants}
 use Rattle.plant_types.specs.Names.{same_name}
-use Rattle.plant_types.specs.declared.role.Role.TheVariants.{Approver}
 use Rattle.std.specs.Prelude.{false, max}
 use Rattle.plant_alarm.specs.Shelves.{is_one_shot, is_timed, is_unshelved}
 use Rattle.plant_alarm.specs.declared.event.Event.{Event}
@@ -35,7 +34,7 @@ use Rattle.plant_model.specs.declared.reply.Refused.TheVariants.{AlarmTaken, Ala
 use Rattle.plant_types.specs.Names.{Name}
 use Rattle.plant_types.specs.Roles.{all_roles, same_role}
 use Rattle.plant_types.specs.declared.role.Role.{Role}
-use Rattle.plant_types.specs.declared.role.Role.TheVariants.{Engineer, Maintainer, Operator, Steward}
+use Rattle.plant_types.specs.declared.role.Role.TheVariants.{Steward}
 use Rattle.std.specs.List.{list_any}
 use Rattle.std.specs.Prelude.{Bool, Err, List, None, Ok, Option, Result, Some, [], if◌then◌else◌, is_none, is_some, length, map, nat_le, nat_lt, not, true, ℕ, ◌&&◌, ◌++◌, ◌+◌, ◌∷◌}
 

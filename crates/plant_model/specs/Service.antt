@@ -1,5 +1,5 @@
 -- Out of service (ISA-18.2, IEC 62682): the third kind of suppression, beside shelving and suppression by design.
-use Rattle.std.specs.Prelude.{List, None, Option, Some, ℕ}
+use Rattle.std.specs.Prelude.{List, None, Option, ℕ}
 use Rattle.plant_model.specs.declared.call.Call.{Call}
 use Rattle.plant_model.specs.declared.call.Request.TheVariants.{PlaceInService, RemoveFromService}
 use Rattle.plant_model.specs.declared.call.Request.{Request}

@@ -6,7 +6,7 @@ use Rattle.plant_model.specs.declared.call.Call.{Call}
 pub use Rattle.plant_model.specs.Kinds.{is_opening, is_read}
 use Rattle.plant_model.specs.declared.reply.Refused.{Refused}
 use Rattle.plant_model.specs.declared.reply.Reply.{Reply}
-use Rattle.std.specs.Prelude.{Bool, Err, List, None, Ok, Option, Result, Some, false, if◌then◌else◌, is_ok, not, true, ◌&&◌, ◌∷◌}
+use Rattle.std.specs.Prelude.{Bool, Err, List, None, Ok, Option, Result, Some, if◌then◌else◌, is_ok, not, ◌&&◌, ◌∷◌}
 
 abbrev pub refused_or : Option Refused → Reply → Result Reply Refused
 refused_or None reply = Ok reply

@@ -10,7 +10,9 @@ mod reply;
 mod rows;
 
 pub use call::{Call, Request};
-pub use kinds::{CallKind, Counted, Effect};
+pub use kinds::{
+    CallKind, Counted, Effect, Scope, is_shelving, looks_at_events, number_approved, scope_of,
+};
 pub use reply::{
     AlarmLine, Answer, ChangeRow, FloodLine, Full, MineLine, RecordRow, Refused, Reply, ShelfLine,
     StandingLine, StatusRow, UnitLine,

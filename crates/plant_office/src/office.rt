@@ -1,13 +1,12 @@
-ghost use Rattle.std.specs.Prelude.{◌≡◌, ◌<◌, ◌^◌, ◌-◌, ◌+◌, ◌≤◌, ℕ, Some, None, true, false, IsTrue, IfOk, OnOk, OnErr, List, [], ◌∷◌, ◌++◌, filter_map, map, max, fold, length, vec_len, vec_capacity};
+ghost use Rattle.std.specs.Prelude.{◌≡◌, ◌<◌, ◌^◌, ◌-◌, ◌+◌, ◌≤◌, Some, None, true, false, IfOk, OnErr, List, [], ◌∷◌, ◌++◌, filter_map, map, max, fold, length, vec_len, vec_capacity};
 ghost use Rattle.plant_books.specs.Books.{WasHonest};
 ghost use Rattle.plant_types.specs.Results.{OnlyMemory};
-ghost use Rattle.plant_types.specs.declared.fault.Fault.TheVariants.{Memory};
 ghost use Rattle.plant_model.specs.declared.call.Request.TheVariants.{MyShelves, MyUnits};
 ghost use Rattle.plant_model.specs.Legality.{has_matrix, is_matrix_kind};
 ghost use Rattle.plant_model.specs.Verdicts.{changes_history, is_opening};
 ghost use Rattle.plant_model.specs.Views.{view};
 ghost use Rattle.plant_model.specs.Worlds.{World, IsLegalWorld, unit_named};
-ghost use Rattle.plant_books.specs.Contents.{Content, no_units};
+ghost use Rattle.plant_books.specs.Contents.{Content};
 ghost use Rattle.plant_books.specs.declared.books.MineUnit.{MineUnit};
 ghost use Rattle.plant_office.specs.Answers.{CountsAnswer, IfSaid, OnFault, answer_as};
 ghost use Rattle.plant_office.specs.Runs.{IsRun, stores_in};

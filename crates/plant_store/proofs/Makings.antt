@@ -1,9 +1,9 @@
 -- The statements that make the tables.
 use Rattle.std.proofs.Common.{◌≡◌, ◌≢◌, ℕ, pos, List, [], ◌∷◌, ◌++◌, Ok, None, refl, sym, ap, ◌∙◌, subst, arith, false}
 use Rattle.std.specs.List.{AllByRecursion}
-use Rattle.sqlite.specs.Change.{created, indexed, next_tree, KeepsRows}
+use Rattle.sqlite.specs.Change.{created, next_tree, KeepsRows}
 use Rattle.sqlite.specs.Command.TheVariants.{CreateTable, Insert}
-use Rattle.sqlite.specs.Compile.{index_defined_by, table_defined_by}
+use Rattle.sqlite.specs.Compile.{table_defined_by}
 use Rattle.sqlite.specs.Does.{Does, Tally, lacks_sequence}
 use Rattle.sqlite.specs.Edit.{edit_of, edited}
 use Rattle.sqlite.specs.Effect.{Database}

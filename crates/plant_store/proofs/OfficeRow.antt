@@ -7,11 +7,11 @@ use Rattle.std.proofs.lemmas.Iterator.Adapters.{position_from-zero}
 use Rattle.std.proofs.lemmas.List.Sorted.{IsPermutation-map, IsPermutation-sym}
 use Rattle.std.proofs.lemmas.Option.{slice_get-get_or}
 use Rattle.sqlite.specs.Kind.TheVariants.{Integer}
-use Rattle.sqlite.specs.Query.{Output, inner, end}
+use Rattle.sqlite.specs.Query.{Output}
 use Rattle.sqlite.specs.Schema.{Schema}
 use Rattle.sqlite.specs.State.{State, Shown}
 use Rattle.sqlite.specs.Table.{Table}
-use Rattle.sqlite.specs.Term.{Term, col}
+use Rattle.sqlite.specs.Term.{col}
 use Rattle.sqlite.proofs.Callers.{IsPlain, command_of, one_permutation, reads_as}
 use Rattle.sqlite_schema.specs.Names.{column_named, place_of, same_name, table_named}
 use Rattle.sqlite_typing.specs.Types.{accepts_program}

@@ -1,5 +1,5 @@
 -- The statements that read one unit's rows of one table.
-use Rattle.std.proofs.Common.{◌≡◌, ℕ, Bool, true, false, ◌&&◌, List, [], ◌∷◌, map, filter, Option, None, Some, Ok, Err, Result, IfOk, refl, sym, ap, ap₂, ◌∙◌, subst, is_eq}
+use Rattle.std.proofs.Common.{◌≡◌, ℕ, Bool, true, false, ◌&&◌, List, [], ◌∷◌, map, filter, Ok, Err, Result, IfOk, refl, sym, ap, ap₂, ◌∙◌, is_eq}
 use Rattle.std.specs.Cmp.{eq_by_cmp_equiv}
 use Rattle.std.specs.Cmp.Lexicographic.{nat_list_cmp_total}
 use Rattle.std.proofs.lemmas.Cmp.{nat_cmp_total}

@@ -5,6 +5,7 @@ use Rattle.sqlite.specs.State.{State}
 use Rattle.sqlite_keyed.proofs.ListLemmas.{filter_same}
 use Rattle.plant_books.specs.Contents.{Content, part_in, rows_in}
 use Rattle.plant_alarm.specs.declared.event.Event.{Event}
+use Rattle.plant_model.specs.Scopes.{looks_at_events}
 use Rattle.plant_model.specs.declared.call.Call.{Call}
 use Rattle.plant_model.specs.declared.rows.AlarmRow.{AlarmRow}
 use Rattle.plant_model.specs.declared.rows.BandRow.{BandRow}
@@ -26,7 +27,7 @@ use Rattle.std.specs.Ordering.{nat_cmp}
 use Rattle.plant_types.specs.Names.{Name, same_name}
 use Rattle.plant_types.specs.Roles.{Pair}
 use Rattle.plant_books.proofs.public.EventLaws.{none_asked}
-use Rattle.plant_books.specs.Asking.{is_wanted, looks_at_events}
+use Rattle.plant_books.specs.Asking.{is_wanted}
 use Rattle.plant_books.specs.declared.asking.Wanted.{Wanted}
 use Rattle.plant_books.specs.declared.asking.Wanted.TheVariants.{Every, Nothing, One}
 use Rattle.plant_store.specs.Keeping.{HasContent, has_any}

@@ -20,11 +20,11 @@ use Rattle.sqlite_resolve.specs.declared.scope.Found.TheVariants as found
 use Rattle.sqlite_resolve.specs.declared.select.Clauses.{Clauses}
 use Rattle.sqlite_resolve.specs.declared.state.Carried.{Carried}
 use Rattle.sqlite_resolve.specs.declared.state.State.{State}
-use Rattle.sqlite_resolve.specs.Lowering.{Checked, Lowering, and_then, fresh, nothing, max_budget}
+use Rattle.sqlite_resolve.specs.Lowering.{Lowering, fresh, nothing, max_budget}
 use Rattle.sqlite_resolve.specs.Scope.{Name, Context, column_in, hit, only, in_level, find, declared, column_at, term_of, column}
 use Rattle.sqlite_resolve.specs.Body as body
 use Rattle.sqlite_resolve.specs.Expr.{node, opened, lower_to, lower}
-use Rattle.sqlite_resolve.specs.Select.{parts, named, outermost, assembled, inside, ungrouped, paging, constant_or}
+use Rattle.sqlite_resolve.specs.Select.{parts, named, outermost, assembled, ungrouped, paging, constant_or}
 use Rattle.sqlite_resolve.specs.Terms.{number}
 use Rattle.sqlite_resolve.specs.Program as program
 use Rattle.sqlite_resolve.specs.Program.{query_to, query}

@@ -6,11 +6,11 @@ use Rattle.sqlite_trees.specs.declared.store.Store.{Ghosts}
 use Rattle.std.specs.List.{flat_map}
 use Rattle.std.specs.Prelude.{Bool, IfOk, List, Result, Some, filter, length, true, ℕ, ◌||◌, ◌≡◌}
 use Rattle.plant_alarm.specs.declared.event.Event.{Event}
-use Rattle.plant_books.specs.Asking.{is_shelving, looks_at_events, number_approved, selection_by}
-use Rattle.plant_books.specs.declared.asking.Scope.{Scope}
+use Rattle.plant_model.specs.declared.kinds.Scope.{Scope}
 use Rattle.plant_books.specs.declared.asking.Wanted.{Wanted}
 use Rattle.plant_columns.specs.Tables.{AreBooks, Kept, rows_seen}
 use Rattle.plant_columns.specs.Tables.Kept.{AlarmKept, BandKept, CellKept, ChangeKept, EventKept, GrantKept, RecordKept, ShelfKept}
+use Rattle.plant_model.specs.Scopes.{is_shelving, looks_at_events, number_approved, selection_by}
 use Rattle.plant_model.specs.declared.call.Request.{Request}
 use Rattle.plant_model.specs.declared.rows.AlarmRow.{AlarmRow}
 use Rattle.plant_model.specs.declared.rows.BandRow.{BandRow}

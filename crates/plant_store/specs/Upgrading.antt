@@ -5,7 +5,7 @@ use Rattle.sqlite.specs.Tree.{Trees}
 use Rattle.sqlite_value.specs.Order.{bytes, column}
 use Rattle.std.specs.FinMap.{contains_key}
 use Rattle.std.specs.List.{flat_map, list_any}
-use Rattle.std.specs.Prelude.{Bool, List, None, [], false, map, true, ℕ, ◌∷◌, ◌≡◌}
+use Rattle.std.specs.Prelude.{Bool, List, None, [], false, map, true, ◌∷◌, ◌≡◌}
 use Rattle.plant_books.specs.Contents.{Content, rows_in}
 use Rattle.plant_columns.specs.Tables.{AreBooks, AreSeen}
 use Rattle.plant_columns.specs.Tables.Kept.{AlarmKept, BandKept, CellKept, ChangeKept, EventKept, GrantKept, RecordKept, ShelfKept, UnitKept}

@@ -1,8 +1,9 @@
 //! The numbers of the matrices and of the changes that a scope takes in, and the rows that a unit has of numbers.
 
 ghost use Rattle.std.specs.Prelude.{◌≡◌, ◌++◌, filter, insert, IfOk, MatchOption, OnOk};
-ghost use Rattle.plant_books.specs.Asking.{is_number, selection_by};
+ghost use Rattle.plant_books.specs.Asking.{is_number};
 ghost use Rattle.plant_model.specs.Histories.{same_number};
+ghost use Rattle.plant_model.specs.Scopes.{selection_by};
 ghost use Rattle.plant_model.specs.declared.rows.UnitRows.{UnitRows as Rows};
 ghost use Rattle.plant_store.specs.Mine.{own_row};
 ghost use Rattle.plant_store.specs.Numbers.{AddsNumbers, AreNumbers, is_source_of, with_number};
@@ -11,8 +12,8 @@ ghost use Rattle.plant_store.specs.Reading.{HasNoTransaction, ReadsBooks};
 
 use crate::read::rows_of_number;
 use crate::stored::Numbered;
-use plant_books::{Scope, wanted_change, wants_matrix, wants_sources};
-use plant_model::{BandRow, CellRow, ChangeEntry, RecordEntry, UnitRow};
+use plant_books::{wanted_change, wants_matrix, wants_sources};
+use plant_model::{BandRow, CellRow, ChangeEntry, RecordEntry, Scope, UnitRow};
 use plant_types::{List, UnitCode};
 use sqlite::{Alter, Connection, Error, ErrorCode};
 use std::alloc::Global;

@@ -1,13 +1,8 @@
 -- The summaries of alarms in the order of their tags, with one more event.
 use Rattle.std.proofs.Common.{ap, arith, cond, get_or, refl, set, subst, sym, ◌∙◌}
-use Rattle.std.proofs.lemmas.Bool.{ltb-false, ltb-true}
-use Rattle.std.proofs.lemmas.Option.{slice_get-get_or, slice_get_past}
-use Rattle.std.specs.FinMap.Entries.{below_all}
-use Rattle.std.specs.List.Sorted.{IsPartitionPoint, IsPartitionedBy}
-use Rattle.std.specs.Ordering.{is_eq, is_lt, ordering_reverse}
-use Rattle.std.specs.Prelude.{Bool, List, None, Option, Some, T, [], false, length, map, nat_lt, option_map, slice_get, suc, true, zero, ℕ, ◌&&◌, ◌++◌, ◌<◌, ◌∷◌, ◌≡◌, ◌≤◌}
-use Rattle.std.specs.declared.cmp.Ordering.{Ordering}
-use Rattle.std.specs.declared.cmp.Ordering.TheVariants.{Equal, Greater, Less}
+use Rattle.std.specs.Ordering.{is_eq, is_lt}
+use Rattle.std.specs.Prelude.{List, None, Option, Some, [], false, length, option_map, slice_get, suc, true, zero, ℕ, ◌&&◌, ◌++◌, ◌<◌, ◌∷◌, ◌≡◌, ◌≤◌}
+use Rattle.std.specs.declared.cmp.Ordering.TheVariants.{Less}
 use Rattle.plant_alarm.specs.States.{summary}
 use Rattle.plant_alarm.specs.declared.event.Event.{Event}
 use Rattle.plant_alarm.specs.declared.summary.Summary.{Summary}
@@ -15,7 +10,7 @@ use Rattle.plant_floods.specs.Activations.{of_alarm}
 use Rattle.plant_model.specs.RowChanges.{with_state}
 use Rattle.plant_model.specs.RowFacts.{alarm_tag}
 use Rattle.plant_model.specs.declared.rows.AlarmRow.{AlarmRow}
-use Rattle.plant_types.proofs.public.Orders.{name_total, same_names}
+use Rattle.plant_types.proofs.public.Orders.{same_names}
 use Rattle.plant_types.proofs.public.KeyedRowLaws.{tied}
 use Rattle.plant_types.specs.Names.{Name, name_cmp, same_name}
 use Rattle.plant_types.specs.KeyedRows.{IsInOrder}

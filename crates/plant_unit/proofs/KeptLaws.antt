@@ -5,6 +5,7 @@ use Rattle.plant_model.proofs.public.FactLaws.{alarm_in, change_entry_in, not_tr
 use Rattle.plant_model.proofs.public.HistoryLaws.{alarm_of, alarms_told, change_with, changes_told, number_of_change, numbers_of_changes, record_with, records_told, shelves_told, tag_of_record, tags_of_alarms, tags_of_records, tags_of_shelves}
 use Rattle.plant_model.proofs.public.PartLaws.{matrix_there, own_holds}
 use Rattle.plant_alarm.specs.States.{summary}
+use Rattle.plant_model.specs.Kinds.{AllEvents, AllRecords, Approval, File, OneChange, OneRecord, Scope, scope_of}
 use Rattle.plant_types.specs.Limits.{max_changes, max_events}
 use Rattle.plant_unit.specs.Summaries.{summary_in, summary_of}
 use Rattle.plant_model.proofs.public.PartLists.{or_later, or_true}
@@ -17,12 +18,12 @@ use Rattle.plant_model.specs.Events.{events}
 use Rattle.plant_model.specs.Histories.{same_number}
 use Rattle.plant_model.specs.Legality.{IsLegal}
 use Rattle.plant_model.specs.Matrices.{matrix_numbered}
-use Rattle.plant_model.specs.Parts.{AllEvents, AllRecords, Approval, File, OneChange, OneRecord, Scope, Selection, counted_for, every, is_source, none, of_approved, of_topic, part_of, part_of_holder, part_of_stranger, rows_selected, scope_of, selected, selection}
-use Rattle.plant_model.specs.RowFacts.{alarm_tag, cells_at, change_found, change_number, change_read, has_cells, holds_by, matrix_read, record_found, record_tag, shelf_tag, unit_read}
+use Rattle.plant_model.specs.Parts.{Selection, counted_for, every, is_source, none, of_approved, of_topic, part_of, part_of_holder, part_of_stranger, rows_selected, selected, selection}
+use Rattle.plant_model.specs.RowFacts.{alarm_tag, cells_at, change_found, change_number, change_read, has_cells, holds_by, matrix_read, record_found, record_tag, shelf_tag}
 use Rattle.plant_model.specs.Rows.{alarm_row, alarm_rows, cell_rows, change_entry, change_rows, changes_of, max_of_kind, record_entry, record_rows, records_of, rows_of, shelf_rows, sheet_of_kind, tag_of_kind, topic}
 use Rattle.plant_model.specs.declared.call.Call.{Call}
 use Rattle.plant_model.specs.declared.call.Request.{Request}
-use Rattle.plant_model.specs.declared.call.Request.TheVariants.{Alarms, Approve, ChangeOf, Floods, MyShelves, MyUnits, Grant, Import, OneShotShelve, OpenUnit, PlaceInService, Propose, RecordOf, Register, Reject, RemoveFromService, Shelves, Standing, Status, TimedShelve, Unshelve, Withdraw, WithdrawChange}
+use Rattle.plant_model.specs.declared.call.Request.TheVariants.{Floods, Import, Propose, Register}
 use Rattle.plant_model.specs.declared.reply.RecordRow.{RecordRow}
 use Rattle.plant_model.specs.declared.rows.AlarmRow.{AlarmRow}
 use Rattle.plant_model.specs.declared.rows.CellRow.{CellRow}
@@ -52,7 +53,6 @@ use Rattle.std.specs.declared.cmp.Ordering.{Ordering}
 use Rattle.std.specs.Prelude.{Bool, List, None, Option, Some, T, [], false, filter, filter_map, if◌then◌else◌, is_some, length, map, max, option_map, true, unwrap_or, ℕ, ◌&&◌, ◌<◌, ◌==◌, ◌||◌, ◌∷◌, ◌≡◌, ◌≤◌}
 use Rattle.plant_import.specs.Merging.{IsRising}
 use Rattle.plant_import.proofs.public.NeededLaws.{needed_few, needed_rises}
-use Rattle.plant_model.specs.Events.{rows_of_file}
 use Rattle.plant_model.proofs.public.EventLaws.{events_rise}
 
 -- Tests of rows that pass a wider one

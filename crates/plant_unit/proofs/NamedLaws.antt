@@ -1,13 +1,13 @@
 -- The tags that events name, and states that go on from those in the alarms' rows.
-use Rattle.std.proofs.Common.{List, ap, append_assoc, arith, cond, false, get_or, length, refl, subst, suc, sym, take, true, ◌++◌, ◌+◌, ◌<◌, ◌≤◌, ◌∙◌, ◌∷◌, ◌≡◌, []}
+use Rattle.std.proofs.Common.{List, ap, append_assoc, arith, cond, false, get_or, length, refl, subst, sym, take, true, ◌++◌, ◌+◌, ◌<◌, ◌≤◌, ◌∙◌, ◌∷◌, ◌≡◌, []}
 use Rattle.std.proofs.lemmas.List.{take_all, take_more}
 use Rattle.std.proofs.lemmas.List.Folds.{list_any-append}
 use Rattle.std.specs.BTreeMap.{is_at}
-use Rattle.std.specs.BTreeSet.{BTreeSet, UpdatesBy, btree_set_len, contains}
+use Rattle.std.specs.BTreeSet.{BTreeSet, UpdatesBy, btree_set_len}
 use Rattle.std.specs.Cmp.{eq_by_cmp_equiv}
 use Rattle.std.specs.Cmp.Lexicographic.{nat_list_cmp_total}
 use Rattle.std.specs.List.{list_any}
-use Rattle.std.specs.Prelude.{Bool, None, filter, if◌then◌else◌, map, ℕ, ◌||◌}
+use Rattle.std.specs.Prelude.{Bool, if◌then◌else◌, ℕ, ◌||◌}
 use Rattle.plant_alarm.specs.States.{summary}
 use Rattle.plant_alarm.specs.declared.event.Event.{Event}
 use Rattle.plant_alarm.specs.declared.summary.Summary.{Summary}
@@ -22,7 +22,7 @@ use Rattle.std.specs.Ordering.{nat_cmp}
 use Rattle.plant_model.specs.declared.rows.AlarmRow.{AlarmRow}
 use Rattle.plant_types.specs.Names.{Name, name_cmp, same_name}
 use Rattle.plant_unit.specs.Additions.{AreAdded}
-use Rattle.plant_unit.specs.Summaries.{AreNamed, summaries, summary_of}
+use Rattle.plant_unit.specs.Summaries.{AreNamed, summaries}
 
 or_swap : (a b : Bool) → cond a true b ≡ (b || (a || false))
 or_swap true true = refl

@@ -1,4 +1,4 @@
-ghost use Rattle.std.specs.Prelude.{◌≡◌, ◌<◌, ◌-◌, ◌^◌, if◌then◌else◌, None, Some, IsSome, length, false, true};
+ghost use Rattle.std.specs.Prelude.{◌≡◌, ◌<◌, ◌-◌, ◌^◌, if◌then◌else◌, None, Some, IsSome, false, true};
 ghost use Rattle.std.specs.Option.{is_some};
 
 use crate::streams::{Failed, Inlet, Outlet};

@@ -1,6 +1,6 @@
 //! Sessions over readers and writers of std.
 
-ghost use Rattle.std.specs.Prelude.{◌≤◌, length};
+ghost use Rattle.std.specs.Prelude.{◌≤◌};
 
 use crate::exchanges::{NO_ROUTE, NOT_GRANTED, NOTHING, STATUS};
 use crate::streams::{joined, portion, run};

@@ -4,12 +4,13 @@ use Rattle.std.proofs.lemmas.List.Sums.{fold-append}
 use Rattle.std.specs.Ordering.{nat_cmp}
 use Rattle.std.specs.Prelude.{◌++◌, ◌||◌}
 use Rattle.plant_import.specs.Numbers.{event_number, with_events}
+use Rattle.plant_model.specs.Kinds.{AllAlarms, AllEvents, AllGrants, AllRecords, AllShelves, Approval, Content, File, NothingElse, OneAlarm, OneChange, OneRecord, Scope, Shelving, scope_of}
+use Rattle.plant_model.specs.Scopes.{has_events, looks_at_events}
 use Rattle.plant_types.specs.KeyedRows.{put_row}
 use Rattle.plant_alarm.specs.declared.event.Event.{Event}
-use Rattle.plant_books.specs.Asking.{has_events, looks_at_events}
 use Rattle.plant_books.specs.Changing.{is_event_put, puts_event}
 use Rattle.plant_books.specs.Contents.{without_events}
-use Rattle.plant_model.specs.Parts.{AllAlarms, AllEvents, AllGrants, AllRecords, AllShelves, Approval, Content, File, NothingElse, OneAlarm, OneChange, OneRecord, Scope, Selection, Shelving, counted_for, of_approved, of_topic, part_of, part_of_holder, part_of_stranger, rows_selected, scope_of, selected, selection, with_number}
+use Rattle.plant_model.specs.Parts.{Selection, counted_for, of_approved, of_topic, part_of, part_of_holder, part_of_stranger, rows_selected, selected, selection, with_number}
 use Rattle.plant_model.specs.RowChanges.{changed, changed_by}
 use Rattle.plant_model.specs.RowFacts.{change_found, holds_by}
 use Rattle.plant_model.specs.declared.call.Call.{Call}

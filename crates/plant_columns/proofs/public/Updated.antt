@@ -1,5 +1,5 @@
 -- What an UPDATE of the one row of a key does.
-use Rattle.std.proofs.Common.{◌≡◌, ◌≢◌, ◌⊎◌, inl, inr, ℕ, ℤ, Bool, true, false, not, ◌&&◌, cond, List, [], ◌∷◌, ◌++◌, append-nil, map, filter, slice_get, None, Some, Option, Ok, refl, sym, ap, ap₂, subst, ◌∙◌, true≢false, is_eq, is_gt, Ordering, Less, Equal, Greater, IsPermutation}
+use Rattle.std.proofs.Common.{◌≡◌, ◌≢◌, ◌⊎◌, inl, inr, ℕ, Bool, true, false, not, ◌&&◌, cond, List, [], ◌∷◌, ◌++◌, append-nil, map, filter, slice_get, None, Some, Ok, refl, sym, ap, ap₂, subst, ◌∙◌, true≢false, is_eq, Ordering, Less, Equal, Greater, IsPermutation}
 use Rattle.std.proofs.lemmas.List.{length-map}
 use Rattle.std.proofs.lemmas.List.Sorted.{length_permutation}
 use Rattle.std.specs.Cmp.{IsTotalOrder}

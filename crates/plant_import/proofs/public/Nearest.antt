@@ -1,12 +1,11 @@
 -- An event next to those of smaller and those of greater numbers.
 use Rattle.std.proofs.Common.{◌≡◌, ℕ, ◌+◌, ◌<◌, ◌≤◌, refl, sym, ap, ◌∙◌, subst, arith, List, [], ◌∷◌, ◌++◌, length, take, drop, ◌⊎◌, inl, inr, Bool, true, false, ◌&&◌, ◌||◌, not, Option, Some, None}
-use Rattle.std.specs.Prelude.{nat_lt, ◌==◌, if◌then◌else◌, slice_get, insert, MatchOption}
+use Rattle.std.specs.Prelude.{nat_lt, ◌==◌, if◌then◌else◌, slice_get, MatchOption}
 use Rattle.std.specs.List.{list_any}
 use Rattle.std.specs.List.Sorted.{IsPartitionPoint}
 use Rattle.std.proofs.lemmas.List.{take-append-drop, length-take-le, length-drop, get_or-take, get_or-drop}
-use Rattle.std.proofs.lemmas.Bool.{le-ltb, lt-ltb, ltb-false, ne_eqb, eqb-true, eq-eqb, false≢true, cases_lt}
+use Rattle.std.proofs.lemmas.Bool.{le-ltb, lt-ltb, ne_eqb, eqb-true, eq-eqb, false≢true, cases_lt}
 use Rattle.std.proofs.lemmas.List.Folds.{list_any-append}
-use Rattle.std.proofs.Math.Seq.{take-append_seam, drop-append_seam}
 use Rattle.plant_types.specs.Names.{name_cmp}
 use Rattle.plant_types.proofs.public.Orders.{same_names}
 use Rattle.plant_types.proofs.public.KeyedRowLaws.{tied}
@@ -15,7 +14,7 @@ use Rattle.plant_alarm.specs.declared.event.EventKind.{EventKind}
 use Rattle.plant_alarm.specs.declared.event.EventKind.TheVariants.{Act, Rtn, Ack, Reset, Sup, Unsup}
 use Rattle.plant_import.specs.Merging.{IsRising, same_event, clashes, out_of_order, kind_no}
 use Rattle.plant_import.specs.Relation.{RelatesSo}
-use Rattle.plant_import.proofs.public.Risings.{Each, each_of, each_weaker, each_both, each_append, each_back, Before, Rising, rising_of, is_rising, rising_front, rising_back, any_none, any_same, each_not, any_there}
+use Rattle.plant_import.proofs.public.Risings.{Each, each_of, each_weaker, each_append, each_back, Before, Rising, rising_of, is_rising, rising_front, rising_back, any_none, any_same, any_there}
 
 -- events that are the same
 kind_of_no : ℕ → EventKind

@@ -3,14 +3,13 @@ use Rattle.plant_alarm.specs.Shelves.{is_one_shot, is_timed, is_unshelved, shelf
 use Rattle.plant_alarm.specs.declared.event.Event.{Event}
 use Rattle.plant_alarm.specs.declared.shelf.ShelfState.{ShelfState}
 use Rattle.plant_model.proofs.public.PartLists.{cells_within, filter-true, itself_number, limits_within, map-same, or_later, or_true, passes_number, row_at-filter, row_at-key, source_found, then-same}
-use Rattle.plant_model.specs.Events.{flood_lines, rows_of_file}
 use Rattle.plant_model.specs.Facts.{Facts, others_shelved}
 use Rattle.plant_model.specs.Grants.{is_before}
 use Rattle.plant_model.specs.Histories.{same_number}
 use Rattle.plant_model.specs.Changes.{no_matrix}
 use Rattle.plant_model.specs.Parts.{Selection, every, is_crowded, is_source, of_approved, of_content, of_number, of_records, of_topic, part_of, part_of_holder, part_of_stranger, rows_selected, selected, with_number}
 use Rattle.plant_model.specs.Refusals.{first_refusal, holds_some, is_open, kind_refusals, lacks_role, of_change, own_refusals, refusals_of_holder, role_needed}
-use Rattle.plant_model.specs.Replies.{change_reply, import_reply, record_reply, reply, status_reply}
+use Rattle.plant_model.specs.Replies.{change_reply, record_reply, reply, status_reply}
 use Rattle.plant_model.specs.RowChanges.{approval_changes, approved_row, changes_for, decision_change, for_change, in_force, placed_in, taken_out}
 use Rattle.plant_model.specs.RowFacts.{alarm_tag, change_found, change_number, change_read, facts_among, facts_from, facts_of, has_cells, held_by, holds_by, kind_read, last_number, matrix_read, pair_of, record_found, record_from, record_read, record_tag, sheet_read, shelf_tag, unit_read}
 use Rattle.plant_model.specs.Shelves.{shelf_left, shelf_row_as}
@@ -22,7 +21,6 @@ use Rattle.plant_model.specs.declared.reply.ChangeRow.{ChangeRow}
 use Rattle.plant_model.specs.declared.reply.Full.TheVariants.{Alarms as TooManyAlarms}
 use Rattle.plant_model.specs.declared.reply.RecordRow.{RecordRow}
 use Rattle.plant_model.specs.declared.reply.Refused.TheVariants.{AlarmTaken, AlarmUnknown, AlreadyOutOfService, ConditionAlreadyShelved, ConditionNotShelved, MomentBehind, NotGranted, NotOutOfService, NotProposed, RecordUnknown, RoleLacking, SamePerson, ShelfQuota, ShelvingTimeOutOfRange, UnitFull}
-use Rattle.plant_model.specs.declared.reply.Reply.TheVariants.{Floods as FloodsOf}
 use Rattle.plant_model.specs.declared.rows.AlarmRow.{AlarmRow}
 use Rattle.plant_model.specs.declared.rows.RowEdit.{RowEdit}
 use Rattle.plant_model.specs.declared.rows.RowEdit.TheVariants.{Put}

@@ -102,11 +102,7 @@ more_alarms h legal p t (Register u a l max) may le =
     let few = few_before h p t u a l max may in
     let long = length-put (alarm_as a max 0 [] None l) (alarm_rows h) in
     subst (λ rows. length rows ≤ max_alarms) put (omega (arith, few, long))
-more_alarms h legal p t (RemoveFromService u a w) may le = subst (λ n. n ≤ max_alarms) (as_many_alarms h (record { person = p; moment = t; request = RemoveFromService u a w }) (λ b. refl) refl) le
-more_alarms h legal p t (PlaceInService u a) may le = subst (λ n. n ≤ max_alarms) (as_many_alarms h (record { person = p; moment = t; request = PlaceInService u a }) (λ b. refl) refl) le
-more_alarms h legal p t (Import u file) may le = subst (λ n. n ≤ max_alarms) (as_many_alarms h (record { person = p; moment = t; request = Import u file }) (λ b. refl) refl) le
-more_alarms h legal p t (Approve u n) may le = subst (λ n. n ≤ max_alarms) (as_many_alarms h (record { person = p; moment = t; request = Approve u n }) (λ b. refl) refl) le
-more_alarms h legal p t _ may le = le
+more_alarms h legal p t q may le = subst (λ n. n ≤ max_alarms) (as_many_alarms h (record { person = p; moment = t; request = q }) (λ b. refl) refl) le
 
 no_alarms : (p : Name) (t : ℕ) (q : Request) → is_opening q ≡ true → length (alarm_rows (record { person = p; moment = t; request = q } ∷ [])) ≤ max_alarms
 no_alarms p t (OpenUnit u s m n) e = omega arith

@@ -4,10 +4,11 @@ use Rattle.std.specs.Ordering.{nat_cmp}
 use Rattle.std.specs.Prelude.{◌&&◌, ◌||◌}
 use Rattle.plant_model.specs.Parts.{is_source}
 use Rattle.plant_books.proofs.ChangesFound.{left_out, taken, with_named, without_named}
-use Rattle.plant_books.specs.Asking.{is_number, is_wanted, selection_by}
+use Rattle.plant_books.specs.Asking.{is_number, is_wanted}
 use Rattle.plant_books.specs.Asking as asked
 use Rattle.plant_books.proofs.parts.numbers_asked.Goals as goal
 use Rattle.plant_books.proofs.parts.numbers_asked.Goals.{else-wants_sources, in-Some+in_ok-insert, in_default, then-wants_sources+in_ok-numbers}
+use Rattle.plant_model.specs.Scopes.{selection_by}
 
 pub returns-clause-value : goal.returns-clause-value
 returns-clause-value c rows same n =

@@ -6,7 +6,6 @@ use Rattle.plant_model.specs.RowFacts.{alarm_tag, change_number, event_number, r
 use Rattle.plant_types.proofs.public.Orders.{name_total}
 use Rattle.plant_types.specs.Names.{name_cmp}
 use Rattle.plant_books.proofs.rows.are_in_order.Goals as goal
-use Rattle.plant_books.proofs.rows.are_in_order.Goals.{then-alarms, else-alarms, then-shelves, else-shelves, then-events, else-events}
 
 pub returns-then-records : goal.returns-then-records
 returns-then-records c is =

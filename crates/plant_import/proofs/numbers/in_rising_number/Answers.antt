@@ -1,4 +1,4 @@
-use Rattle.std.proofs.Common.{ap, append_assoc, sym, ◌++◌, ◌∙◌, []}
+use Rattle.std.proofs.Common.{ap, sym, ◌++◌, ◌∙◌, []}
 use Rattle.std.specs.Prelude.{map}
 use Rattle.std.proofs.lemmas.List.{append-nil}
 use Rattle.plant_import.specs.Numbers.{with_events}

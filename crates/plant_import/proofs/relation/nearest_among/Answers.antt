@@ -1,4 +1,4 @@
-use Rattle.std.proofs.Common.{List, ap, ◌-◌, ◌∙◌, length}
+use Rattle.std.proofs.Common.{ap, ◌-◌, ◌∙◌, length}
 use Rattle.std.specs.Prelude.{slice_get}
 use Rattle.plant_import.proofs.ByNumber.{below_is, from_is}
 use Rattle.plant_import.proofs.public.Nearest.{parts}

@@ -2,7 +2,7 @@ use Rattle.std.proofs.Common.{ap, false, refl, rules, sym, true, Some, None, ◌
 use Rattle.std.specs.List.{list_any}
 use Rattle.std.specs.Option.{option_copied}
 use Rattle.std.specs.Prelude.{nat_lt}
-use Rattle.std.proofs.lemmas.Bool.{eqb-false, eqb-true}
+use Rattle.std.proofs.lemmas.Bool.{eqb-false}
 use Rattle.plant_import.specs.Relation.{below, from}
 use Rattle.plant_import.proofs.ByNumber.{halves}
 use Rattle.plant_import.proofs.public.Nearest.{above_rising, below_rising, higher, stands_apart, stands_clash, related_known}

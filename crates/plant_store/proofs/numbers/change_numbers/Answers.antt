@@ -1,7 +1,8 @@
 use Rattle.std.proofs.Common.{ℕ, Bool, List, ap, sym, subst, ◌∙◌, ◌&&◌, ◌||◌, false}
 use Rattle.std.specs.List.{list_any}
-use Rattle.plant_books.specs.Asking.{is_number, number_named, selection_by}
+use Rattle.plant_books.specs.Asking.{is_number, number_named}
 use Rattle.plant_model.specs.Histories.{same_number}
+use Rattle.plant_model.specs.Scopes.{selection_by}
 use Rattle.plant_model.specs.declared.rows.RecordEntry.{RecordEntry}
 use Rattle.plant_store.specs.Numbers.{AreNumbers}
 use Rattle.plant_store.proofs.NumberLaws.{any_passing, looked_at, no_numbers, not_looked_at, numbers_as}

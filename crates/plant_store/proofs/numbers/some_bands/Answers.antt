@@ -2,7 +2,7 @@ use Rattle.std.proofs.Common.{sym, ◌∙◌}
 use Rattle.sqlite.specs.Held.{state}
 use Rattle.plant_columns.specs.Tables.{rows_seen}
 use Rattle.plant_columns.specs.Tables.Kept.{BandKept}
-use Rattle.plant_books.specs.Asking.{selection_by}
+use Rattle.plant_model.specs.Scopes.{selection_by}
 use Rattle.plant_model.specs.declared.rows.BandRow.{BandRow}
 use Rattle.plant_store.proofs.NumberLaws.{bands_climb, in_turn}
 use Rattle.plant_store.proofs.Queries.{if_ok}

@@ -3,6 +3,7 @@ use Rattle.sqlite.specs.Effect.{Database}
 use Rattle.sqlite.specs.Held.{state}
 use Rattle.plant_books.specs.Contents.{rows_in}
 use Rattle.plant_model.specs.Parts.{selected}
+use Rattle.plant_model.specs.Scopes.{IsSeenIn, selection_by}
 use Rattle.plant_model.specs.declared.rows.BandRow.{BandRow}
 use Rattle.plant_model.specs.declared.rows.CellRow.{CellRow}
 use Rattle.plant_model.specs.declared.rows.ChangeEntry.{ChangeEntry}
@@ -13,7 +14,6 @@ use Rattle.plant_columns.specs.Tables.{AreBooks, rows_seen}
 use Rattle.plant_columns.specs.Tables.Kept.{UnitKept, GrantKept, AlarmKept, ShelfKept, BandKept, CellKept, EventKept, RecordKept, ChangeKept}
 use Rattle.plant_store.specs.Wanted.{alarms_with, events_with, records_with, shelves_with}
 use Rattle.std.specs.List.{slice_get}
-use Rattle.plant_books.specs.Asking.{IsSeenIn, selection_by}
 use Rattle.plant_model.specs.Histories.{same_number}
 use Rattle.plant_store.proofs.Selected.{approved_found, part_found, read_in_order, records_asked}
 use Rattle.plant_columns.proofs.public.ShapeLaws.{good}

@@ -1,4 +1,4 @@
-use Rattle.std.proofs.Common.{◌≡◌, List, Some, ap, refl, sym, ◌∙◌, subst, true, rules}
+use Rattle.std.proofs.Common.{◌≡◌, List, Some, ap, refl, sym, ◌∙◌, subst, rules}
 use Rattle.std.specs.FinMap.{get}
 use Rattle.std.specs.Prelude.{option_map}
 use Rattle.sqlite.specs.Effect.{Database}

@@ -1,4 +1,4 @@
-use Rattle.std.proofs.Common.{IfOk, List, ap, subst, sym, ◌≡◌}
+use Rattle.std.proofs.Common.{IfOk, List, subst, sym, ◌≡◌}
 use Rattle.plant_alarm.specs.declared.event.Event.{Event}
 use Rattle.plant_import.specs.Merging.{IsRising}
 use Rattle.plant_import.specs.Numbers.{with_events}

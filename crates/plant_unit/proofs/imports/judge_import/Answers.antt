@@ -3,7 +3,7 @@ use Rattle.std.specs.Prelude.{Ok}
 use Rattle.plant_model.specs.RowFacts.{facts_among}
 use Rattle.plant_model.specs.declared.call.Request.TheVariants.{Import}
 use Rattle.plant_model.specs.declared.call.Request.{Request}
-use Rattle.plant_unit.proofs.ImportsJudged.{file_refused, import_added, import_judged, import_refused}
+use Rattle.plant_unit.proofs.ImportsJudged.{import_added, import_judged, import_refused}
 use Rattle.plant_unit.specs.Additions.{AreAdded, AreEventsFor, AreEventsOf, addition}
 use Rattle.plant_unit.proofs.imports.judge_import.Goals as goal
 

@@ -1,4 +1,4 @@
-use Rattle.std.proofs.Common.{None, ap, false, rules, sym, true, ◌∙◌, ◌≡◌}
+use Rattle.std.proofs.Common.{None, false, rules, sym, ◌∙◌, ◌≡◌}
 use Rattle.plant_model.specs.Refusals.{holds_some}
 use Rattle.plant_model.specs.RowFacts.{facts_among, facts_in}
 use Rattle.plant_unit.proofs.ImportsJudged.{holder_holds, own_result, refused_judged}

@@ -1,0 +1,71 @@
+-- What a request looks at in a unit, as the code says it, and the rows that it takes in.
+use Rattle.std.specs.Prelude.{Bool, None, Option, Some, false, option_copied, true, ℕ, ◌≡◌}
+use Rattle.plant_import.specs.Needed.{needed}
+use Rattle.plant_model.specs.Kinds as looked
+use Rattle.plant_model.specs.Kinds.{Scope as Looked, scope_of}
+use Rattle.plant_model.specs.Parts.{Selection, all_events, every, is_crowded, is_source, nothing, of_approved, of_content, of_number, of_records, of_shelving, of_tag, of_topic, selected}
+use Rattle.plant_model.specs.RowFacts.{change_found}
+use Rattle.plant_model.specs.declared.call.Request.{Request}
+use Rattle.plant_model.specs.declared.kinds.Scope.{Scope}
+use Rattle.plant_model.specs.declared.kinds.Scope.TheVariants.{AllAlarms, AllEvents, AllGrants, AllRecords, AllShelves, Approval, Content, File, NothingElse, OneAlarm, OneChange, OneRecord, Shelving}
+use Rattle.plant_model.specs.declared.rows.ChangeEntry.{ChangeEntry}
+use Rattle.plant_model.specs.declared.rows.UnitRows.{UnitRows}
+use Rattle.plant_types.specs.Names.{same_name}
+
+-- the rows that a scope takes in of a unit's
+abbrev pub selection_by : UnitRows → Scope → Selection
+selection_by rows NothingElse = nothing
+selection_by rows AllGrants = record nothing { pair = every }
+selection_by rows (OneAlarm tag) = of_tag tag.now
+selection_by rows (Shelving tag crowded) = of_shelving crowded tag.now
+selection_by rows (OneRecord tag) = record nothing { alarm = same_name tag.now; rationale = same_name tag.now; change = is_source rows (same_name tag.now) }
+selection_by rows (OneChange n) = of_number n
+selection_by rows (Approval n change) = of_approved rows n (option_copied change)
+selection_by rows (Content tag) = of_content rows tag.now
+selection_by rows AllRecords = of_records rows
+selection_by rows (File es) = record nothing { alarm = every; events = λ kept. needed kept es.now }
+selection_by rows AllShelves = record nothing { alarm = every; shelf = every }
+selection_by rows AllAlarms = record nothing { alarm = every; shelf = every; rationale = every }
+selection_by rows AllEvents = record nothing { events = all_events }
+
+-- what a change is of
+abbrev pub of_change : ChangeEntry → UnitRows → Selection
+of_change c rows = of_topic rows c.tag c.kind_no
+
+-- of the rows of any unit the scope takes in these
+abbrev pub Selects : Scope → (UnitRows → Selection) → Type 0
+Selects scope these = (rows : UnitRows) → selection_by rows scope ≡ these rows
+
+abbrev pub is_shelving_scope : Looked → Bool
+is_shelving_scope (looked.Shelving a) = true
+is_shelving_scope _ = false
+
+-- a request that shelves an alarm
+abbrev pub is_shelving : Request → Bool
+is_shelving q = is_shelving_scope (scope_of q)
+
+abbrev pub number_of_approval : Looked → Option ℕ
+number_of_approval (looked.Approval n) = Some n
+number_of_approval _ = None
+
+-- the number of the change that a request approves
+abbrev pub number_approved : Request → Option ℕ
+number_approved q = number_of_approval (scope_of q)
+
+-- in a unit of these rows: whether it is crowded, for a shelving, and the change that is approved, for an approval
+pub record IsSeenIn (rows : UnitRows) (q : Request) (crowded : Bool) (approved : Option ChangeEntry) : Type 0 where
+  pub crowding : is_shelving q ≡ true → is_crowded rows ≡ crowded
+  pub found : (n : ℕ) → number_approved q ≡ Some n → change_found rows n ≡ approved
+
+-- of the rows of any unit that is seen so, the scope takes in what the request looks at
+abbrev pub IsScopeOf : Request → Bool → Option ChangeEntry → Scope → Type 0
+IsScopeOf q crowded approved scope = (rows : UnitRows) → IsSeenIn rows q crowded approved → selection_by rows scope ≡ selected rows q
+
+abbrev pub has_events : Looked → Bool
+has_events (looked.File es) = true
+has_events looked.AllEvents = true
+has_events _ = false
+
+-- a request that looks at events
+abbrev pub looks_at_events : Request → Bool
+looks_at_events q = has_events (scope_of q)
