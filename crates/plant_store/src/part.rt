@@ -24,13 +24,13 @@ use crate::read::{
 use crate::unit::has_row;
 use plant_alarm::Event;
 use plant_books::{
-    Scope, Wanted, WantedEvents, events_asked, holds_some_by, is_crowded, is_shelving,
-    looks_at_events, number_approved, part_of_grants, scope_of, wanted_alarms, wanted_events,
-    wanted_records, wanted_shelves, wants_all_grants,
+    Scope, Wanted, WantedEvents, events_asked, is_crowded, is_shelving, looks_at_events,
+    number_approved, part_of_grants, scope_of, wanted_alarms, wanted_events, wanted_records,
+    wanted_shelves, wants_all_grants,
 };
 use plant_model::{
     AlarmRow, Call, ChangeEntry, Counted, GrantRow, RecordEntry, Request, ShelfRow, UnitPart,
-    UnitRow, UnitRows,
+    UnitRow, UnitRows, holds_some_by,
 };
 use plant_types::{List, UnitCode};
 use sqlite::{Alter, Connection, Error, ErrorCode};
