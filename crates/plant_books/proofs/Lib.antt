@@ -1,4 +1,5 @@
 pub mod public
 mod ListedLaws
 mod PassingLaws
-mod ChangesFound
+mod RowsWithout
+mod ChangesAmong

@@ -14,7 +14,7 @@ use Rattle.plant_model.specs.declared.rows.UnitRows.{UnitRows}
 use Rattle.plant_types.specs.declared.fault.Fault.{Fault}
 use Rattle.plant_books.specs.Contents.{Content, after_changes, no_units, part_in, rows_in, with_rows}
 use Rattle.plant_books.specs.Listed.{AllInOrder, IsListed, rows_at, unit_cmp}
-use Rattle.plant_books.specs.Order.{AreInOrder}
+use Rattle.plant_model.specs.Order.{AreInOrder}
 use Rattle.plant_books.proofs.public.OrderLaws.{changed_in_order, or_none_in_order, put_all_in_order, rows_in_order}
 use Rattle.plant_model.proofs.public.Base.{lt}
 use Rattle.plant_model.specs.Parts.{part_of}

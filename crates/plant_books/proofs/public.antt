@@ -1,4 +1,3 @@
 pub mod KeyedLaws
-pub mod RowsFound
 pub mod OrderLaws
 pub mod EventLaws

@@ -1,7 +1,7 @@
 -- A unit's rows while they change, with the events that wait to be put among them.
 use Rattle.std.specs.List.{list_any}
 use Rattle.std.specs.Prelude.{Bool, IfOk, List, OnOk, Result, false, true, ◌≡◌}
-use Rattle.plant_books.specs.Order.{AreInOrder}
+use Rattle.plant_model.specs.Order.{AreInOrder}
 use Rattle.plant_books.specs.declared.changes.Changing.{Changing}
 use Rattle.plant_import.specs.Numbers.{with_events}
 use Rattle.plant_model.specs.RowChanges.{changed, put}

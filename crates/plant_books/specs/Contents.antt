@@ -1,12 +1,11 @@
 -- What books contain: the administrator's name, and the rows of each opened unit.
 use Rattle.std.specs.FinMap.{FinMap, contains_key, empty, get, insert, keys}
 use Rattle.std.specs.List.{flat_map, list_any}
-use Rattle.std.specs.Prelude.{Bool, List, None, OnOk, Option, Result, Some, [], false, filter, filter_map, if◌then◌else◌, map, option_and_then, option_map, true, unwrap_or, ℕ, ◌++◌, ◌≡◌, ◌⊎◌}
+use Rattle.std.specs.Prelude.{Bool, List, None, OnOk, Option, Result, Some, [], false, filter, filter_map, if◌then◌else◌, map, option_map, true, unwrap_or, ℕ, ◌++◌, ◌≡◌, ◌⊎◌}
 use Rattle.plant_alarm.specs.declared.event.Event.{Event}
 use Rattle.plant_books.specs.declared.books.MineRow.{MineRow}
 use Rattle.plant_books.specs.declared.books.MineUnit.{MineUnit}
 use Rattle.plant_model.specs.declared.call.Call.{Call}
-use Rattle.plant_model.specs.declared.rows.AlarmRow.{AlarmRow}
 use Rattle.plant_model.specs.declared.rows.RowEdit.{RowEdit}
 use Rattle.plant_model.specs.declared.rows.GrantRow.{GrantRow}
 use Rattle.plant_model.specs.declared.rows.ShelfRow.{ShelfRow}
@@ -16,10 +15,9 @@ use Rattle.plant_types.specs.declared.role.Role.{Role}
 use Rattle.plant_model.specs.Grants.{is_before}
 use Rattle.plant_model.specs.Parts.{part_of}
 use Rattle.plant_model.specs.RowChanges.{changed_by, no_rows, puts_unit}
-use Rattle.plant_model.specs.RowFacts.{alarm_tag, unit_read}
+use Rattle.plant_model.specs.RowFacts.{last_return, unit_read}
 use Rattle.plant_types.specs.Names.{Name, name_cmp, same_name}
 use Rattle.plant_types.specs.Options.{when}
-use Rattle.plant_types.specs.KeyedRows.{row_at}
 
 pub record Content : Type 0 where
   pub admin : Name
@@ -82,10 +80,6 @@ mine_unit t p u (Some rows) = when (is_held_in t p (Some rows)) (mine_as t p u r
 -- the units in which the person holds a role at the moment, rising
 abbrev pub mine_units : Content → ℕ → Name → List MineUnit
 mine_units m t p = filter_map (λ u. mine_unit t p u (get m.units u)) (keys m.units)
-
--- when the alarm of a tag last returned to normal
-abbrev pub last_return : List AlarmRow → Name → Option ℕ
-last_return alarms a = option_and_then (λ r. r.return_s) (row_at name_cmp alarm_tag a alarms)
 
 abbrev pub mine_row : Name → UnitRows → ShelfRow → MineRow
 mine_row u rows s = record { unit = u; shelf = s; last_return = last_return rows.alarms s.tag }

@@ -4,6 +4,5 @@ pub mod Books
 pub mod Asking
 pub mod Listed
 pub mod Changing
-pub mod Order
 pub mod Found
 pub mod Keyed

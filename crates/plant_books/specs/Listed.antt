@@ -5,7 +5,7 @@ use Rattle.std.specs.Prelude.{List, Option, Some, filter_map, flat_map, map, opt
 use Rattle.std.specs.declared.cmp.Ordering.{Ordering}
 use Rattle.plant_books.specs.declared.opened.OpenedUnit.{OpenedUnit}
 use Rattle.plant_books.specs.Contents.{Content, is_held_in, mine_unit, shelves_mine}
-use Rattle.plant_books.specs.Order.{AreInOrder}
+use Rattle.plant_model.specs.Order.{AreInOrder}
 use Rattle.plant_books.specs.declared.books.MineRow.{MineRow}
 use Rattle.plant_books.specs.declared.books.MineUnit.{MineUnit}
 use Rattle.plant_model.specs.RowChanges.{changed_by, no_rows}

@@ -3,7 +3,7 @@ ghost use Rattle.plant_model.specs.RowChanges.{changed_by, removed};
 ghost use Rattle.plant_model.specs.RowFacts.{pair_of, shelf_tag};
 ghost use Rattle.plant_books.specs.Changing.{MakesChange, PutsRow, puts_event, whole};
 ghost use Rattle.plant_books.specs.Found.{without_tag};
-ghost use Rattle.plant_books.specs.Order.{AreInOrder, EventsRise, TagsRise};
+ghost use Rattle.plant_model.specs.Order.{AreInOrder, EventsRise, TagsRise};
 ghost use Rattle.plant_types.specs.Results.{Gives, OnlyMemory};
 ghost use Rattle.plant_types.specs.Roles.{pair_cmp};
 ghost use Rattle.plant_types.specs.KeyedRows.{remove_row};

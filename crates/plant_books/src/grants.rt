@@ -1,66 +1,11 @@
-ghost use Rattle.std.specs.Prelude.{◌≡◌, IfOk, Some, option_copied};
+ghost use Rattle.std.specs.Prelude.{◌≡◌, IfOk, Some};
 ghost use Rattle.plant_books.specs.Contents as contents;
 ghost use Rattle.plant_books.specs.Contents.{is_held_in, roles_in};
-ghost use Rattle.plant_model.specs.Grants as grants;
-ghost use Rattle.plant_model.specs.RowFacts.{held_by, holds_by, pair_of};
 ghost use Rattle.plant_types.specs.Results.{OnlyMemory};
-ghost use Rattle.plant_types.specs.Roles.{pair_cmp, same_pair};
-ghost use Rattle.plant_types.specs.KeyedRows.{row_at};
 
-use plant_model::{GrantRow, UnitRows};
+use plant_model::{GrantRow, UnitRows, is_before};
 use plant_types::{Fault, List, Moment, Person, Role};
 use std::alloc::Global;
-
-/// Whether the moment lies before the end. Without an end it does.
-pub fn is_before(now: Moment, end: Option<Moment>) -> bool
-    ensures { result ≡ grants.is_before now end }
-{
-    match end {
-        Some(end) => now.seconds() < end.seconds(),
-        None => true,
-    }
-}
-
-/// Whether the row is the grant of the pair.
-pub fn is_pair(row: &GrantRow, person: &Person, role: Role) -> bool
-    ensures { result ≡ same_pair (person.now, role) (pair_of row.now) }
-{
-    *person == row.person && role.is(row.role_no)
-}
-
-fn grant_of<'a>(grants: &'a [GrantRow], person: &Person, role: Role) -> Option<&'a GrantRow>
-    ensures { option_copied result ≡ row_at pair_cmp pair_of (person.now, role) grants.now }
-{
-    grants.iter().find(|row| is_pair(row, person, role))
-}
-
-/// Whether the pair is held at the moment by these grants.
-pub fn is_held_by(grants: &[GrantRow], person: &Person, role: Role, now: Moment) -> bool
-    ensures { result ≡ held_by grants.now now (person.now, role) }
-{
-    match grant_of(grants, person, role) {
-        Some(row) => is_before(now, row.end_s),
-        None => false,
-    }
-}
-
-const ROLES: [Role; 6] = [
-    Role::Viewer,
-    Role::Operator,
-    Role::Maintainer,
-    Role::Engineer,
-    Role::Approver,
-    Role::Steward,
-];
-
-/// Whether the person holds some role at the moment by these grants.
-pub fn holds_some_by(grants: &[GrantRow], person: &Person, now: Moment) -> bool
-    ensures { result ≡ holds_by grants.now now person.now }
-{
-    ROLES
-        .iter()
-        .any(|role| is_held_by(grants, person, *role, now))
-}
 
 /// Whether it is a grant of the person whose end is not yet there.
 fn is_of_holder(grant: &GrantRow, person: &Person, now: Moment) -> bool

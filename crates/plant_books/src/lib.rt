@@ -18,9 +18,7 @@ pub use asking::{
 };
 pub use books::{Books, MineRow, MineUnit};
 pub use changes::{after_changes, puts_event};
-pub use found::{Tagged, change_at, place_of, row_of};
-pub use grants::{holds_some_by, is_before, is_held_by, is_pair};
-pub use opened::{alarm_of, last_return, push_shelves};
+pub use opened::push_shelves;
 pub use parts::{events_asked, part_of, part_of_grants, rows_but_events};
 pub use plain::Plain;
 pub use rows::are_in_order;

@@ -1,23 +1,20 @@
-ghost use Rattle.std.specs.Prelude.{◌≡◌, IfOk, IfSome, OnErr, OnOk, is_some, option_copied, option_map, unwrap_or};
-ghost use Rattle.plant_books.specs.Contents as contents;
+ghost use Rattle.std.specs.Prelude.{◌≡◌, IfOk, IfSome, OnErr, OnOk, is_some, option_map, unwrap_or};
 ghost use Rattle.plant_books.specs.Contents.{AddsShelves, without_events};
 ghost use Rattle.plant_books.specs.Listed.{AllInOrder, listed_after, listed_codes, listed_shelves, listed_units, rows_at};
-ghost use Rattle.plant_books.specs.Order.{AreInOrder, TagsRise};
+ghost use Rattle.plant_model.specs.Order.{AreInOrder, TagsRise};
 ghost use Rattle.plant_model.specs.Parts.{part_of as the_part};
 ghost use Rattle.plant_model.specs.RowChanges.{no_rows};
+ghost use Rattle.plant_model.specs.RowFacts as facts;
 ghost use Rattle.plant_model.specs.RowFacts.{alarm_tag, unit_read};
-ghost use Rattle.plant_types.specs.Names.{name_cmp};
-ghost use Rattle.plant_types.specs.KeyedRows.{row_at};
 ghost use Rattle.plant_types.specs.Results.{Gives, OnlyMemory};
 
 use crate::books::{MineRow, MineUnit};
 use crate::changes::after_changes;
-use crate::found::row_of;
 use crate::grants::{holds_role, roles_held};
 use crate::keyed::{Keyed, put};
 use crate::parts::{part_of, rows_but_events};
 use plant_alarm::Event;
-use plant_model::{AlarmRow, Call, RowEdit, UnitPart, UnitRows};
+use plant_model::{AlarmRow, Call, RowEdit, UnitPart, UnitRows, row_of};
 use plant_types::{Duplicate, Fault, List, Moment, Person, Tag, UnitCode};
 use std::alloc::Global;
 use std::cmp::Ordering;
@@ -171,26 +168,9 @@ pub fn units_held(
     Ok(mine)
 }
 
-/// The alarm of the tag.
-pub fn alarm_of<'a>(alarms: &'a [AlarmRow], tag: &Tag) -> Option<&'a AlarmRow>
-    ensures { option_copied result ≡ row_at name_cmp alarm_tag tag.now alarms.now }
-{
-    alarms.iter().find(|row| *tag == row.tag)
-}
-
-/// When the alarm of the tag last returned to normal.
-pub fn last_return(alarms: &[AlarmRow], tag: &Tag) -> Option<Moment>
-    ensures { result ≡ contents.last_return alarms.now tag.now }
-{
-    match alarm_of(alarms, tag) {
-        Some(alarm) => alarm.return_s,
-        None => None,
-    }
-}
-
 /// When the alarm of the tag last returned to normal, of alarms in the order of their tags.
 fn return_of(alarms: &[AlarmRow], tag: &Tag) -> Option<Moment>
-    ensures { TagsRise alarm_tag alarms.now → result ≡ contents.last_return alarms.now tag.now }
+    ensures { TagsRise alarm_tag alarms.now → result ≡ facts.last_return alarms.now tag.now }
 {
     match row_of(alarms, tag) {
         Some(alarm) => alarm.return_s,

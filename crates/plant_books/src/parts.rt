@@ -1,7 +1,7 @@
 ghost use Rattle.std.specs.Prelude.{◌≡◌, IfOk, false, filter, option_copied, true};
 ghost use Rattle.plant_books.specs.Asking.{AreSources, GivesNumbers, IsApprovedBy, TakesNoMatrix, bands_by, cells_by, changes_by, events_wanted, grants_by, is_wanted, rows_by};
 ghost use Rattle.plant_books.specs.Contents.{without_events};
-ghost use Rattle.plant_books.specs.Order.{AreInOrder, ChangesRise, EventsRise};
+ghost use Rattle.plant_model.specs.Order.{AreInOrder, ChangesRise, EventsRise};
 ghost use Rattle.plant_model.specs.Parts.{counted_for, is_crowded as is_crowded_in, part_of as the_part, part_of_holder as holders_part, selected};
 ghost use Rattle.plant_model.specs.RowChanges.{no_rows};
 ghost use Rattle.plant_model.specs.RowFacts.{last_number as last_number_of, unit_read};
@@ -13,13 +13,12 @@ use crate::asking::{
     Wanted, WantedEvents, is_crowded, is_number, wanted_alarms, wanted_change, wanted_events,
     wanted_records, wanted_shelves, wants_all_grants, wants_matrix, wants_sources,
 };
-use crate::found::{change_at, changes_of, rows_wanted};
-use crate::grants::holds_some_by;
+use crate::found::{changes_of, rows_wanted};
 use plant_alarm::Event;
 use plant_import::needed;
 use plant_model::{
     BandRow, Call, CellRow, ChangeEntry, Counted, GrantRow, RecordEntry, Request, Scope, UnitPart,
-    UnitRow, UnitRows, is_shelving, number_approved, scope_of,
+    UnitRow, UnitRows, change_at, holds_some_by, is_shelving, number_approved, scope_of,
 };
 use plant_types::{Duplicate, Fault, List, Person, duplicated};
 use std::alloc::Global;

@@ -12,7 +12,7 @@ use Rattle.plant_books.proofs.public.EventLaws.{changed_without, part_without, s
 use Rattle.plant_books.proofs.public.OrderLaws.{changed_in_order}
 use Rattle.plant_books.specs.Changing.{puts_event}
 use Rattle.plant_books.specs.Contents.{Content, after_changes, is_held_by, is_held_in, mine_row, rows_in, shelves_mine, without_events}
-use Rattle.plant_books.specs.Order.{AreInOrder}
+use Rattle.plant_model.specs.Order.{AreInOrder}
 use Rattle.plant_books.specs.declared.books.MineRow.{MineRow}
 use Rattle.plant_mirror.specs.Copies.{AreCopies, Copy, IsCopy, There, row_count, rows_of_all, seen, shelves_there}
 use Rattle.plant_mirror.specs.declared.at_hand.AtHand.{AtHand}

@@ -2,7 +2,7 @@
 use Rattle.std.specs.FinMap.{get}
 use Rattle.std.specs.Prelude.{Bool, List, None, Option, Some, [], false, length, map, option_map, true, ℕ, ◌+◌, ◌∷◌, ◌≡◌}
 use Rattle.plant_books.specs.Contents.{Content, mine_row, without_events}
-use Rattle.plant_books.specs.Order.{AreInOrder}
+use Rattle.plant_model.specs.Order.{AreInOrder}
 use Rattle.plant_books.specs.declared.books.MineRow.{MineRow}
 use Rattle.plant_mirror.specs.declared.at_hand.AtHand.{AtHand}
 use Rattle.plant_model.specs.declared.rows.UnitRows.{UnitRows}

@@ -8,8 +8,8 @@ ghost use Rattle.plant_model.specs.Parts.{part_of};
 ghost use Rattle.plant_model.specs.declared.rows.UnitRows.{UnitRows as TheRows};
 ghost use Rattle.plant_types.specs.Names.{Name};
 
-use plant_books::{after_changes, holds_some_by, puts_event};
-use plant_model::{Call, RowEdit, UnitRows, looks_at_events};
+use plant_books::{after_changes, puts_event};
+use plant_model::{Call, RowEdit, UnitRows, holds_some_by, looks_at_events};
 use plant_types::List;
 use std::alloc::Global;
 

@@ -16,3 +16,5 @@ pub mod LegalLaws
 pub mod EndLaws
 pub mod QuotaLaws
 pub mod Base
+pub mod RowsFound
+pub mod ChangesFound

@@ -14,6 +14,8 @@ pub mod Replies
 pub mod Verdicts
 pub mod Legality
 pub mod RowFacts
+pub mod Order
+pub mod Found
 pub mod Parts
 pub mod Scopes
 pub mod RowChanges

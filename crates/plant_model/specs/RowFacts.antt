@@ -105,6 +105,10 @@ unit_read rows = unwrap_or (slice_get rows.units 0) no_unit
 abbrev pub last_number : List ChangeEntry → ℕ
 last_number changes = unwrap_or (option_map change_number (slice_get changes (length changes - 1))) 0
 
+-- when the alarm of a tag last returned to normal
+abbrev pub last_return : List AlarmRow → Name → Option ℕ
+last_return alarms a = option_and_then (λ r. r.return_s) (row_at name_cmp alarm_tag a alarms)
+
 -- the pair is held at the moment by these grants, and the person holds some role by them
 abbrev pub held_by : List GrantRow → ℕ → Pair → Bool
 held_by grants t k = unwrap_or (option_map (λ g. is_before t g.end_s) (row_at pair_cmp pair_of k grants)) false

@@ -1,15 +1,20 @@
 //! The calls on a unit, the answers to them, and the rows that they leave: the types that the layers above share,
-//! and in `specs/` the definitions of what a unit and the whole office answer.
+//! the rows of a tag or a number and the grants held at a moment, and in `specs/` the definitions of what a unit
+//! and the whole office answer.
 #![tactic(auto)]
 
 mod call;
 mod copies;
+mod found;
+mod held;
 mod kinds;
 pub mod laws;
 mod reply;
 mod rows;
 
 pub use call::{Call, Request};
+pub use found::{Tagged, alarm_of, change_at, last_return, place_of, row_of};
+pub use held::{holds_some_by, is_before, is_held_by, is_pair};
 pub use kinds::{
     CallKind, Counted, Effect, Scope, is_shelving, looks_at_events, number_approved, scope_of,
 };

@@ -27,7 +27,7 @@ use Rattle.plant_model.specs.declared.rows.Verdict.TheVariants.{Accepted as IsAc
 use Rattle.plant_model.specs.declared.rows.Verdict.{Verdict}
 use Rattle.plant_types.specs.declared.fault.Fault.{Fault}
 use Rattle.plant_alarm.specs.Shelves.{shelf_state}
-use Rattle.plant_books.specs.Contents.{Content, IsKnownTo, after_changes, last_return, mine_row, mine_shelves, mine_unit, mine_units, part_in, rows_in, shelves_mine, with_rows}
+use Rattle.plant_books.specs.Contents.{Content, IsKnownTo, after_changes, mine_row, mine_shelves, mine_unit, mine_units, part_in, rows_in, shelves_mine, with_rows}
 use Rattle.plant_books.specs.Counting.{Counts, CountsFault}
 use Rattle.plant_books.specs.declared.books.Books.{Ghosts}
 use Rattle.plant_model.proofs.public.Base.{lt}
@@ -42,6 +42,7 @@ use Rattle.plant_model.specs.Legality.{has_matrix}
 use Rattle.plant_model.specs.Parts.{part_of}
 use Rattle.plant_model.specs.Replies.{line_of, reply, shelf_lines}
 use Rattle.plant_model.specs.RowChanges.{changed_by, no_rows}
+use Rattle.plant_model.specs.RowFacts.{last_return}
 use Rattle.plant_model.specs.Rows.{alarm_rows, rows_of, shelf_rows}
 use Rattle.plant_model.specs.Shelves.{shelf_left}
 use Rattle.plant_model.specs.Verdicts.{changes_history, is_opening, is_read, verdict}

@@ -8,10 +8,10 @@ use Rattle.std.specs.Prelude.{option_and_then, unwrap_or, ◌-◌}
 use Rattle.sqlite_keyed.proofs.ListLemmas.{filter-map}
 use Rattle.sqlite_trees.specs.Tree.{IsAscending}
 use Rattle.plant_books.specs.declared.books.MineRow.{MineRow}
-use Rattle.plant_books.specs.Contents.{Content, is_held_by, is_held_in, last_return, mine_row, mine_shelves, rows_in, shelves_mine}
+use Rattle.plant_books.specs.Contents.{Content, is_held_by, is_held_in, mine_row, mine_shelves, rows_in, shelves_mine}
 use Rattle.plant_model.specs.Grants.{is_before}
 use Rattle.plant_model.specs.RowChanges.{no_rows}
-use Rattle.plant_model.specs.RowFacts.{alarm_tag}
+use Rattle.plant_model.specs.RowFacts.{alarm_tag, last_return}
 use Rattle.plant_model.specs.declared.rows.AlarmRow.{AlarmRow}
 use Rattle.plant_model.specs.declared.rows.GrantRow.{GrantRow}
 use Rattle.plant_model.specs.declared.rows.ShelfRow.{ShelfRow}

@@ -24,12 +24,12 @@ use crate::read::{
 use crate::unit::has_row;
 use plant_alarm::Event;
 use plant_books::{
-    Wanted, WantedEvents, events_asked, holds_some_by, is_crowded, part_of_grants, wanted_alarms,
-    wanted_events, wanted_records, wanted_shelves, wants_all_grants,
+    Wanted, WantedEvents, events_asked, is_crowded, part_of_grants, wanted_alarms, wanted_events,
+    wanted_records, wanted_shelves, wants_all_grants,
 };
 use plant_model::{
     AlarmRow, Call, ChangeEntry, Counted, GrantRow, RecordEntry, Request, Scope, ShelfRow, UnitPart,
-    UnitRow, UnitRows, is_shelving, looks_at_events, number_approved, scope_of,
+    UnitRow, UnitRows, holds_some_by, is_shelving, looks_at_events, number_approved, scope_of,
 };
 use plant_types::{List, UnitCode};
 use sqlite::{Alter, Connection, Error, ErrorCode};

@@ -7,10 +7,10 @@ ghost use Rattle.plant_store.specs.Reading.{HasNoTransaction, ReadsBooks, ReadsC
 
 use crate::mine::{is_before_end, push};
 use crate::read::{ask, row_of_tag};
-use plant_books::{MineRow, last_return};
+use plant_books::MineRow;
 use plant_columns::decode::{Shown, flag, moment, open_moment, read_all, text, wide};
 use plant_columns::encode::single;
-use plant_model::ShelfRow;
+use plant_model::{ShelfRow, last_return};
 use plant_types::{Duplicate, List, Moment, Person, UnitCode};
 use sqlite::{Alter, Connection, Error, ErrorCode, Row};
 use std::alloc::Global;

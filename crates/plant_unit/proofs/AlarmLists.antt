@@ -14,7 +14,7 @@ use Rattle.plant_types.proofs.public.Orders.{same_names}
 use Rattle.plant_types.proofs.public.KeyedRowLaws.{tied}
 use Rattle.plant_types.specs.Names.{Name, name_cmp, same_name}
 use Rattle.plant_types.specs.KeyedRows.{IsInOrder}
-use Rattle.plant_books.proofs.public.RowsFound.{After as TagsAfter, Ordered as TagsOrdered, Parts as TagsParts, after_more, greater, later, lesser, ordered, turned, back}
+use Rattle.plant_model.proofs.public.RowsFound.{After as TagsAfter, Ordered as TagsOrdered, Parts as TagsParts, after_more, greater, later, lesser, ordered, turned, back}
 use Rattle.plant_unit.specs.Summaries.{summaries, summary_of, with_summary}
 
 abbrev After : Name → List AlarmRow → Type 0

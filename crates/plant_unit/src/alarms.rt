@@ -8,9 +8,8 @@ ghost use Rattle.plant_unit.specs.Summaries as states;
 ghost use Rattle.plant_unit.specs.Summaries.{AreNamed};
 
 use plant_alarm::{Event, Summary};
-use plant_books::place_of;
 use plant_import::{events_after, has_late};
-use plant_model::{AlarmRow, Row, RowEdit};
+use plant_model::{AlarmRow, Row, RowEdit, place_of};
 use plant_types::{Duplicate, Fault, List, Tag};
 use std::alloc::Global;
 use std::collections::BTreeSet;

@@ -21,10 +21,9 @@ use crate::proposals::{
 };
 use crate::reading::{change_from, entry_of, source_of};
 use crate::verdicts::moved;
-use plant_books::alarm_of;
 use plant_model::{
     AlarmRow, Call, ChangeEntry, ChangeRow, ChangeTopic, RecordEntry, Refused, Reply, Row, RowEdit,
-    UnitPart, UnitRow, Verdict,
+    UnitPart, UnitRow, Verdict, alarm_of,
 };
 use plant_ration::{Cell, ChangeKind, ChangeState, Matrix, Proposal, Sheet};
 use plant_types::{Duplicate, Fault, List, Moment, Seconds, Tag};

@@ -13,8 +13,7 @@ ghost use Rattle.plant_model.specs.RowFacts.{facts_in, pair_of, shelf_tag};
 ghost use Rattle.plant_unit.specs.Shelving as shelving;
 
 use plant_alarm::{Shelf, ShelfState, shelf_at};
-use plant_books::{holds_some_by, is_held_by, is_pair, last_return};
-use plant_model::{GrantRow, ShelfRow, UnitPart};
+use plant_model::{GrantRow, ShelfRow, UnitPart, holds_some_by, is_held_by, is_pair, last_return};
 use plant_types::{Moment, Person, Role, Tag};
 
 /// Whether the pair stands.

@@ -7,8 +7,7 @@ ghost use Rattle.plant_model.specs.declared.call.Request.TheVariants.{Grant, Wit
 ghost use Rattle.plant_unit.specs.FromFacts.{DecidesAlways, DecidesAs};
 
 use crate::facts::{is_held, stands, stewards};
-use plant_books::is_before;
-use plant_model::{Full, GrantRow, Key, Refused, Row, RowEdit, UnitPart};
+use plant_model::{Full, GrantRow, Key, Refused, Row, RowEdit, UnitPart, is_before};
 use plant_types::limits::MAX_GRANTS;
 use plant_types::{Fault, Moment, Person, Role, Tenure};
 use std::alloc::Global;

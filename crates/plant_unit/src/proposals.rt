@@ -14,8 +14,7 @@ ghost use Rattle.plant_unit.specs.Readings as readings;
 
 use crate::matrices::matrix_of;
 use crate::reading::{revision_of, source_of};
-use plant_books::alarm_of;
-use plant_model::{AlarmRow, ChangeEntry, Full, RecordEntry, Refused, UnitPart, UnitRow};
+use plant_model::{AlarmRow, ChangeEntry, Full, RecordEntry, Refused, UnitPart, UnitRow, alarm_of};
 use plant_ration::{Cell, ChangeKind, ChangeState, Matrix, Proposal, Sheet};
 use plant_types::limits::MAX_CHANGES;
 use plant_types::{Fault, Person, Seconds, Tag};

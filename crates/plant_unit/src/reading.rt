@@ -13,9 +13,9 @@ ghost use Rattle.plant_unit.specs.FromFacts.{GivesFrom};
 ghost use Rattle.plant_unit.specs.Readings.{change_whole, kind_found, sheet_found, source_found};
 
 use crate::matrices::matrix_of;
-use plant_books::{change_at, row_of};
 use plant_model::{
-    ChangeEntry, ChangeRow, ChangeTopic, RecordEntry, RecordRow, UnitPart, UnitRows,
+    ChangeEntry, ChangeRow, ChangeTopic, RecordEntry, RecordRow, UnitPart, UnitRows, change_at,
+    row_of,
 };
 use plant_ration::{Cell, ChangeKind, Sheet};
 use plant_types::{Duplicate, Fault, Tag};

@@ -16,9 +16,9 @@ use crate::facts::{state_now, state_of};
 use crate::floods::{flood_lines, is_aligned};
 use crate::reading::{change_of, priority_of, rationale_of};
 use plant_alarm::ShelfState;
-use plant_books::{alarm_of, row_of};
 use plant_model::{
     AlarmLine, AlarmRow, Refused, Reply, ShelfLine, ShelfRow, StandingLine, StatusRow, UnitPart,
+    alarm_of, row_of,
 };
 use plant_types::{Fault, List, Moment, Tag, UnitCode};
 use std::alloc::Global;

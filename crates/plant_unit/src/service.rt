@@ -8,8 +8,7 @@ ghost use Rattle.plant_model.specs.declared.call.Request.TheVariants.{PlaceInSer
 ghost use Rattle.plant_unit.specs.FromFacts.{Decides, DecidesAlways};
 
 use plant_alarm::AlarmState;
-use plant_books::alarm_of;
-use plant_model::{AlarmRow, Call, Full, Refused, Row, RowEdit, UnitPart};
+use plant_model::{AlarmRow, Call, Full, Refused, Row, RowEdit, UnitPart, alarm_of};
 use plant_types::limits::MAX_ALARMS;
 use plant_types::{Duplicate, Fault, Seconds, Tag, Words};
 use std::alloc::Global;

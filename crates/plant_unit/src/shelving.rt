@@ -11,8 +11,7 @@ ghost use Rattle.plant_unit.specs.Shelving.{shelf_decision};
 
 use crate::facts::{others_shelved, shelf_left, shelf_of};
 use plant_alarm::{Shelf, ShelfRefused, one_shot, timed, unshelve};
-use plant_books::alarm_of;
-use plant_model::{Call, Key, Refused, Row, RowEdit, ShelfRow, UnitPart, UnitRow};
+use plant_model::{Call, Key, Refused, Row, RowEdit, ShelfRow, UnitPart, UnitRow, alarm_of};
 use plant_types::{Fault, Moment, Person, Seconds, Tag, Words};
 use std::alloc::Global;
 

@@ -9,7 +9,7 @@ use Rattle.std.specs.Ordering.{is_eq, is_lt, ordering_reverse}
 use Rattle.std.specs.Prelude.{T, insert, map, ◌≤◌}
 use Rattle.std.specs.declared.cmp.Ordering.{Ordering}
 use Rattle.std.specs.declared.cmp.Ordering.TheVariants.{Equal, Greater, Less}
-use Rattle.plant_books.proofs.public.RowsFound.{first, less, lesser, second}
+use Rattle.plant_model.proofs.public.RowsFound.{first, less, lesser, second}
 use Rattle.plant_types.specs.KeyedRows.{IsInOrder, put_row}
 
 module _ {X : Type 0} (o : X → X → Ordering) where

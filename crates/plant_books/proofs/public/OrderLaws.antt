@@ -8,9 +8,9 @@ use Rattle.std.specs.Ordering.{is_eq, is_lt, nat_cmp}
 use Rattle.std.specs.Prelude.{Err, IfSome, Ok, OnOk, Option, Result, filter, option_map, unwrap_or}
 use Rattle.std.specs.declared.cmp.Ordering.{Ordering}
 use Rattle.std.specs.declared.cmp.Ordering.TheVariants.{Equal, Greater, Less}
-use Rattle.plant_books.proofs.public.RowsFound.{After, Ordered, less, lesser, second}
+use Rattle.plant_model.proofs.public.RowsFound.{After, Ordered, less, lesser, second}
 use Rattle.plant_books.specs.Listed.{AllInOrder, rows_at, unit_cmp}
-use Rattle.plant_books.specs.Order.{AreInOrder}
+use Rattle.plant_model.specs.Order.{AreInOrder}
 use Rattle.plant_books.specs.declared.opened.OpenedUnit.{OpenedUnit}
 use Rattle.plant_model.specs.RowChanges.{changed, changed_by, no_rows, put, removed}
 use Rattle.plant_model.specs.RowFacts.{alarm_tag, change_number, event_number, record_tag, shelf_tag}

@@ -2,7 +2,7 @@ use Rattle.std.proofs.lemmas.Grind.{common_steps}
 use Rattle.std.proofs.Common.{ap, arith, drop, subst, sym, ◌+◌, ◌∙◌, ◌∷◌, ◌≡◌}
 use Rattle.plant_books.proofs.public.OrderLaws.{one_in_order}
 use Rattle.plant_books.specs.Changing.{whole}
-use Rattle.plant_books.specs.Order.{AreInOrder}
+use Rattle.plant_model.specs.Order.{AreInOrder}
 use Rattle.plant_model.specs.RowChanges.{changed, changed_by}
 use Rattle.plant_books.proofs.changes.after_changes.Goals as goal
 

@@ -1,6 +1,6 @@
 use Rattle.std.proofs.Common.{◌≡◌, drop}
 use Rattle.plant_books.specs.Changing.{whole}
-use Rattle.plant_books.specs.Order.{AreInOrder}
+use Rattle.plant_model.specs.Order.{AreInOrder}
 use Rattle.plant_model.specs.RowChanges.{changed_by}
 use Rattle.plant_books.proofs.changes.after_changes.Given as goal
 

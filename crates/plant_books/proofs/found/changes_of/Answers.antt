@@ -1,7 +1,7 @@
 use Rattle.std.proofs.Common.{None, Some, [], ap, append_assoc, refl, sym, ◌++◌, ◌∙◌, ◌∷◌, ◌≡◌}
 use Rattle.std.proofs.lemmas.List.{append-nil}
 use Rattle.std.specs.Prelude.{option_copied}
-use Rattle.plant_books.proofs.ChangesFound.{goes_on, those_none}
+use Rattle.plant_books.proofs.ChangesAmong.{goes_on, those_none}
 use Rattle.plant_books.proofs.found.changes_of.Goals as goal
 
 pub loop-number-init : goal.loop-number-init

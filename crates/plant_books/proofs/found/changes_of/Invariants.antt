@@ -3,7 +3,7 @@ use Rattle.std.specs.Ordering.{nat_cmp}
 use Rattle.std.specs.Prelude.{filter}
 use Rattle.plant_model.specs.RowFacts.{change_number}
 use Rattle.plant_types.specs.KeyedRows.{IsInOrder}
-use Rattle.plant_books.proofs.ChangesFound.{among}
+use Rattle.plant_books.proofs.ChangesAmong.{among}
 use Rattle.plant_books.proofs.found.changes_of.Given as goal
 
 abbrev pub invariant-loop-number : goal.invariant-loop-number

@@ -1,6 +1,7 @@
 use Rattle.std.proofs.Common.{None, Some, false, rules, slice_get, subst, sym, true, ◌∙◌, ◌≡◌}
 use Rattle.plant_types.specs.Names.{same_name}
-use Rattle.plant_books.proofs.public.RowsFound.{IsOther, get_none, get_some, none_goes, one_goes, ordered}
+use Rattle.plant_books.proofs.RowsWithout.{IsOther, none_goes, one_goes}
+use Rattle.plant_model.proofs.public.RowsFound.{get_none, get_some, ordered}
 use Rattle.plant_books.proofs.found.remove.Goals as goal
 
 pub returns-then-eq : goal.returns-then-eq

@@ -3,7 +3,7 @@ use Rattle.std.specs.Option.{option_to_list}
 use Rattle.std.specs.Prelude.{IfOk, option_copied}
 use Rattle.plant_books.proofs.public.OrderLaws.{one_passes}
 use Rattle.plant_books.proofs.PassingLaws.{none_passes, passing_as, passing_every}
-use Rattle.plant_books.proofs.public.RowsFound.{ordered}
+use Rattle.plant_model.proofs.public.RowsFound.{ordered}
 use Rattle.plant_books.specs.Asking.{is_wanted}
 use Rattle.plant_types.specs.Names.{name_cmp}
 use Rattle.plant_types.specs.KeyedRows.{row_at}

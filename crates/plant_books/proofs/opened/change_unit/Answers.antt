@@ -1,7 +1,7 @@
 use Rattle.std.proofs.Common.{ap, subst, sym, ◌∙◌, ◌≡◌}
 use Rattle.std.specs.Prelude.{OnOk, unwrap_or}
 use Rattle.plant_books.specs.Listed.{rows_at, unit_cmp}
-use Rattle.plant_books.specs.Order.{AreInOrder}
+use Rattle.plant_model.specs.Order.{AreInOrder}
 use Rattle.plant_books.specs.declared.opened.OpenedUnit.{OpenedUnit}
 use Rattle.plant_books.proofs.public.OrderLaws.{or_none_in_order, rows_in_order}
 use Rattle.plant_model.specs.RowChanges.{changed_by, no_rows}

@@ -3,7 +3,7 @@ use Rattle.std.specs.BTreeSet.{contains}
 use Rattle.std.specs.Ordering.{nat_cmp}
 use Rattle.std.specs.Prelude.{◌&&◌, ◌||◌}
 use Rattle.plant_model.specs.Parts.{is_source}
-use Rattle.plant_books.proofs.ChangesFound.{left_out, taken, with_named, without_named}
+use Rattle.plant_books.proofs.ChangesAmong.{left_out, taken, with_named, without_named}
 use Rattle.plant_books.specs.Asking.{is_number, is_wanted}
 use Rattle.plant_books.specs.Asking as asked
 use Rattle.plant_books.proofs.parts.numbers_asked.Goals as goal

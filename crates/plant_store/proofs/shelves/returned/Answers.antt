@@ -1,5 +1,6 @@
 use Rattle.std.proofs.Common.{◌≡◌, ◌∙◌, ap, filter, List}
-use Rattle.plant_books.specs.Contents.{last_return, rows_in}
+use Rattle.plant_books.specs.Contents.{rows_in}
+use Rattle.plant_model.specs.RowFacts.{last_return}
 use Rattle.plant_columns.specs.Tables.Kept.{AlarmKept}
 use Rattle.plant_model.specs.declared.rows.AlarmRow.{AlarmRow}
 use Rattle.plant_types.specs.Names.{same_name}

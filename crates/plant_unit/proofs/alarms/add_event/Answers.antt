@@ -1,6 +1,6 @@
 use Rattle.std.proofs.Common.{rules}
 use Rattle.plant_unit.proofs.AlarmLists.{added_none, added_other, added_own}
-use Rattle.plant_books.proofs.public.RowsFound.{get_none, get_some}
+use Rattle.plant_model.proofs.public.RowsFound.{get_none, get_some}
 use Rattle.plant_unit.proofs.alarms.add_event.Goals as goal
 
 pub returns-then-eq-clause-value : goal.returns-then-eq-clause-value

@@ -2,8 +2,8 @@ use Rattle.std.proofs.Common.{rules}
 use Rattle.std.proofs.lemmas.List.Sorted.{IsPartitionPoint-from_clause}
 use Rattle.std.specs.Ordering.{is_lt}
 use Rattle.plant_types.specs.Names.{name_cmp}
-use Rattle.plant_books.proofs.public.RowsFound.{parted}
-use Rattle.plant_books.proofs.found.place_of.Goals as goal
+use Rattle.plant_model.proofs.public.RowsFound.{parted}
+use Rattle.plant_model.proofs.found.place_of.Goals as goal
 
 pub returns : goal.returns
 returns g c order =

@@ -1,18 +1,17 @@
 -- Rows in the order of their tags, and the one of a tag among them.
-use Rattle.std.proofs.Common.{ap, arith, get_or, refl, subst, sym, ◌∙◌}
+use Rattle.std.proofs.Common.{ap, arith, get_or, refl, sym, ◌∙◌}
 use Rattle.std.proofs.lemmas.Bool.{ltb-false, ltb-true}
 use Rattle.std.proofs.lemmas.Option.{slice_get-get_or, slice_get_past}
 use Rattle.std.specs.FinMap.Entries.{below_all}
 use Rattle.std.specs.List.Sorted.{IsPartitionPoint, IsPartitionedBy}
 use Rattle.std.specs.Ordering.{is_eq, is_lt, ordering_reverse}
-use Rattle.std.specs.Prelude.{Bool, IfSome, List, None, Option, Some, T, [], cond, false, length, map, nat_lt, not, option_and_then, remove, slice_get, suc, true, zero, ℕ, ◌&&◌, ◌<◌, ◌∷◌, ◌≡◌, ◌≤◌}
+use Rattle.std.specs.Prelude.{Bool, List, None, Option, Some, T, [], cond, false, length, map, nat_lt, option_and_then, slice_get, suc, true, zero, ℕ, ◌&&◌, ◌<◌, ◌∷◌, ◌≡◌, ◌≤◌}
 use Rattle.std.specs.declared.cmp.Ordering.{Ordering}
 use Rattle.std.specs.declared.cmp.Ordering.TheVariants.{Equal, Greater, Less}
-use Rattle.plant_types.proofs.public.Orders.{name_total, same_names}
-use Rattle.plant_types.proofs.public.KeyedRowLaws.{tied}
+use Rattle.plant_types.proofs.public.Orders.{name_total}
 use Rattle.plant_types.specs.Names.{Name, name_cmp, same_name}
 use Rattle.plant_types.specs.Options.{when}
-use Rattle.plant_types.specs.KeyedRows.{IsInOrder, remove_row, row_at}
+use Rattle.plant_types.specs.KeyedRows.{IsInOrder, row_at}
 
 pub first : (a b : Bool) → T (a && b) → T a
 first true b p = tt
@@ -122,41 +121,3 @@ module _ {X : Type 0} (key : X → Name) where
 
   pub other_found : (rows : List X) (t : Name) (p : ℕ) → Ordered rows → Parts t rows p → (r : X) → slice_get rows p ≡ Some r → same_name (key r) t ≡ false → None ≡ row_at name_cmp key t rows
   other_found rows t p order h r there same = ap (λ b. when b r) (sym same) ∙ ap (at_place t) (sym there) ∙ row_found rows t p order h
-
-  -- ---- the rows without that of a tag
-
-  all_stay : (t : Name) (rows : List X) → After t rows → rows ≡ remove_row name_cmp key t rows
-  all_stay t [] h = refl
-  all_stay t (r ∷ rows) h = ap (λ xs. r ∷ xs) (all_stay t rows h.1) ∙ sym (ap (λ o. cond (not (is_eq o)) (r ∷ remove_row name_cmp key t rows) (remove_row name_cmp key t rows)) h.0)
-
-  stays : (t : Name) (x : X) (rows : List X) (o : Ordering) → name_cmp t (key x) ≡ o → is_eq o ≡ false → x ∷ remove_row name_cmp key t rows ≡ remove_row name_cmp key t (x ∷ rows)
-  stays t x rows o is other = sym (ap (λ v. cond (not (is_eq v)) (x ∷ remove_row name_cmp key t rows) (remove_row name_cmp key t rows)) is ∙ ap (λ b. cond (not b) (x ∷ remove_row name_cmp key t rows) (remove_row name_cmp key t rows)) other)
-
-  goes : (t : Name) (x : X) (rows : List X) → name_cmp t (key x) ≡ Equal → remove_row name_cmp key t rows ≡ remove_row name_cmp key t (x ∷ rows)
-  goes t x rows is = sym (ap (λ v. cond (not (is_eq v)) (x ∷ remove_row name_cmp key t rows) (remove_row name_cmp key t rows)) is)
-
-  -- the row at the place of a tag is not of that tag
-  abbrev pub IsOther : Name → Option X → Type 0
-  IsOther t o = IfSome o (λ r. same_name (key r) t ≡ false)
-
-  pub none_goes : (rows : List X) (t : Name) (p : ℕ) → Ordered rows → Parts t rows p → IsOther t (slice_get rows p) → rows ≡ remove_row name_cmp key t rows
-  none_goes [] t p order h other = refl
-  none_goes (x ∷ rows) t zero order h other = by (name_cmp t (key x)) refl where
-    by : (o : Ordering) → name_cmp t (key x) ≡ o → x ∷ rows ≡ remove_row name_cmp key t (x ∷ rows)
-    by Less e = all_stay t (x ∷ rows) (e, after_more t (key x) rows e order.0)
-    by Equal e = absurd (let it : true ≡ false = sym (ap is_eq (name_total.antisymm (key x) t ∙ ap ordering_reverse e)) ∙ other in cc)
-    by Greater e = absurd (let low : is_lt (name_cmp (key x) t) ≡ false = h.1 0 x (omega arith) (omega arith) in let it : true ≡ false = ap is_lt (sym (back t (key x) e)) ∙ low in cc)
-  none_goes (x ∷ rows) t (suc p) order h other =
-      let low : name_cmp (key x) t ≡ Less = lesser (name_cmp (key x) t) (h.0 0 x (omega arith) (omega arith)) in
-      ap (λ xs. x ∷ xs) (none_goes rows t p order.1 (later t x rows p h) other) ∙ stays t x rows Greater (turned (key x) t low) refl
-
-  pub one_goes : (rows : List X) (t : Name) (p : ℕ) → Ordered rows → Parts t rows p → (r : X) → slice_get rows p ≡ Some r → same_name (key r) t ≡ true → remove rows p ≡ remove_row name_cmp key t rows
-  one_goes [] t p order h r there same = absurd (let it : None ≡ Some r = there in cc)
-  one_goes (x ∷ rows) t zero order h r there same =
-      let first_is : x ≡ r = cc in
-      let tied_to : name_cmp (key x) t ≡ Equal = tied (name_cmp (key x) t) true (ap (λ y. same_name (key y) t) first_is ∙ same) refl in
-      let back_to : name_cmp t (key x) ≡ Equal = name_total.antisymm t (key x) ∙ ap ordering_reverse tied_to in
-      all_stay t rows (subst (λ (n : Name). After n rows) (same_names (key x) t tied_to) order.0) ∙ goes t x rows back_to
-  one_goes (x ∷ rows) t (suc p) order h r there same =
-      let low : name_cmp (key x) t ≡ Less = lesser (name_cmp (key x) t) (h.0 0 x (omega arith) (omega arith)) in
-      ap (λ xs. x ∷ xs) (one_goes rows t p order.1 (later t x rows p h) r there same) ∙ stays t x rows Greater (turned (key x) t low) refl

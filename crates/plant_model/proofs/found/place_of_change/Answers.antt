@@ -5,7 +5,7 @@ use Rattle.std.proofs.lemmas.List.Sorted.{IsPartitionPoint-from_clause}
 use Rattle.plant_import.proofs.public.Placed.{parted}
 use Rattle.plant_model.specs.RowFacts.{change_number}
 use Rattle.plant_model.specs.declared.rows.ChangeEntry.{ChangeEntry}
-use Rattle.plant_books.proofs.found.place_of_change.Goals as goal
+use Rattle.plant_model.proofs.found.place_of_change.Goals as goal
 
 pub returns-clause-place : goal.returns-clause-place
 returns-clause-place c order =

@@ -1,10 +1,10 @@
 use Rattle.std.proofs.Common.{None, Some, ap, rules, slice_get, sym, ◌∙◌, ◌≡◌}
 use Rattle.plant_import.proofs.public.Placed.{rises_of}
 use Rattle.plant_model.specs.RowFacts.{change_number}
-use Rattle.plant_books.proofs.ChangesFound.{at_place, found, one_at, other_at}
-use Rattle.plant_books.proofs.public.RowsFound.{get_none, get_some}
-use Rattle.plant_books.proofs.found.change_at.Goals as goal
-use Rattle.plant_books.proofs.found.change_at.Goals.{in_default-via-in-Some+else-change-number, in_default-via-in_default}
+use Rattle.plant_model.proofs.public.ChangesFound.{at_place, found, one_at, other_at}
+use Rattle.plant_model.proofs.public.RowsFound.{get_none, get_some}
+use Rattle.plant_model.proofs.found.change_at.Goals as goal
+use Rattle.plant_model.proofs.found.change_at.Goals.{in_default-via-in-Some+else-change-number, in_default-via-in_default}
 
 pub returns-in-Some : goal.returns-in-Some
 returns-in-Some c order =

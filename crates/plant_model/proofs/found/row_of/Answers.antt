@@ -1,8 +1,8 @@
 use Rattle.std.proofs.Common.{None, Some, false, rules, slice_get, sym, true, ◌≡◌}
 use Rattle.plant_types.specs.Names.{same_name}
-use Rattle.plant_books.proofs.public.RowsFound.{get_none, get_some, none_found, one_found, ordered, other_found}
-use Rattle.plant_books.proofs.found.row_of.Goals as goal
-use Rattle.plant_books.proofs.found.row_of.Goals.{in_default-via-in-Some+else-eq, in_default-via-in_default}
+use Rattle.plant_model.proofs.public.RowsFound.{get_none, get_some, none_found, one_found, ordered, other_found}
+use Rattle.plant_model.proofs.found.row_of.Goals as goal
+use Rattle.plant_model.proofs.found.row_of.Goals.{in_default-via-in-Some+else-eq, in_default-via-in_default}
 
 pub returns-in-Some : goal.returns-in-Some
 returns-in-Some g c order =
