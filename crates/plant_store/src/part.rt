@@ -28,8 +28,9 @@ use plant_books::{
     wanted_records, wanted_shelves, wants_all_grants,
 };
 use plant_model::{
-    AlarmRow, Call, ChangeEntry, Counted, GrantRow, RecordEntry, Request, Scope, ShelfRow, UnitPart,
-    UnitRow, UnitRows, holds_some_by, is_shelving, looks_at_events, number_approved, scope_of,
+    AlarmRow, Call, ChangeEntry, Counted, GrantRow, RecordEntry, Request, Scope, ShelfRow,
+    UnitPart, UnitRow, UnitRows, holds_some_by, is_shelving, looks_at_events, number_approved,
+    scope_of,
 };
 use plant_types::{List, UnitCode};
 use sqlite::{Alter, Connection, Error, ErrorCode};

@@ -1,7 +1,6 @@
 -- A quota of 2,000 refuses nothing in a legal history: there are at most 2,000 alarms, and each shelf is of one of them.
 use Rattle.plant_import.proofs.public.Placed.{there}
 use Rattle.plant_model.proofs.public.Base.{x}
-use Rattle.plant_model.specs.declared.call.Request.TheVariants.{Approve}
 use Rattle.plant_alarm.specs.Shelves.{is_one_shot, is_timed, is_unshelved, shelf_state}
 use Rattle.plant_model.proofs.public.ChangeLaws.{register_turns}
 use Rattle.plant_model.proofs.public.EventLaws.{unspoken}
@@ -23,7 +22,7 @@ use Rattle.plant_model.specs.Shelves.{said_of_shelf, shelf, shelf_left}
 use Rattle.plant_model.specs.Verdicts.{is_opening, refused_or, verdict}
 use Rattle.plant_model.specs.declared.call.Call.{Call}
 use Rattle.plant_model.specs.declared.call.Request.{Request}
-use Rattle.plant_model.specs.declared.call.Request.TheVariants.{Import, OneShotShelve, OpenUnit, PlaceInService, Register, RemoveFromService, TimedShelve, Unshelve}
+use Rattle.plant_model.specs.declared.call.Request.TheVariants.{OneShotShelve, OpenUnit, Register, TimedShelve, Unshelve}
 use Rattle.plant_model.specs.declared.reply.Full.TheVariants.{Alarms as TooManyAlarms}
 use Rattle.plant_model.specs.declared.reply.Refused.{Refused}
 use Rattle.plant_model.specs.declared.reply.Refused.TheVariants.{AlarmTaken, AlarmUnknown, ConditionAlreadyShelved, MomentBehind, NotGranted, RoleLacking, ShelvingTimeOutOfRange, UnitFull}
