@@ -4,7 +4,7 @@ use Rattle.sqlite.specs.Values.{or_null}
 use Rattle.sqlite_value.specs.Order.{Row, column}
 use Rattle.sqlite_value.specs.declared.value.Value.{Value}
 use Rattle.sqlite_value.specs.declared.value.Value.TheVariants.{Int, Text}
-use Rattle.std.specs.Prelude.{Bool, IfOk, List, None, Option, Result, Some, if◌then◌else◌, pos, ℕ, ◌==◌, ◌≡◌}
+use Rattle.std.specs.Prelude.{Bool, IfOk, List, None, Option, Result, Some, [], find, if◌then◌else◌, pos, unwrap_or, ℕ, ◌==◌, ◌∷◌, ◌≡◌}
 use Rattle.plant_alarm.specs.declared.event.EventKind.{EventKind}
 use Rattle.plant_alarm.specs.declared.event.EventKind.TheVariants.{Ack, Act, Reset, Rtn, Sup, Unsup}
 use Rattle.plant_alarm.specs.declared.summary.AlarmState.{AlarmState}
@@ -16,8 +16,8 @@ use Rattle.plant_ration.specs.declared.cell.Cell.TheVariants.{N, P1, P2, P3, P4}
 use Rattle.plant_ration.specs.declared.change.ChangeState.{ChangeState}
 use Rattle.plant_ration.specs.declared.change.ChangeState.TheVariants.{Approved, Proposed, Rejected, Withdrawn}
 use Rattle.plant_types.specs.declared.role.Role.{Role}
-use Rattle.plant_types.specs.declared.role.Role.TheVariants.{Approver, Engineer, Maintainer, Operator, Steward, Viewer}
-use Rattle.plant_types.specs.Roles.{role_no}
+use Rattle.plant_types.specs.declared.role.Role.TheVariants.{Viewer}
+use Rattle.plant_types.specs.Roles.{all_roles, role_no}
 
 -- what a column is read as, if it is read, is what it has
 abbrev pub ReadsColumn : {A E : Type 0} → (A → Value) → Row → ℕ → Result A E → Type 0
@@ -52,17 +52,16 @@ flag b = number (if b then 1 else 0)
 abbrev pub flag_in : Value → Bool
 flag_in v = number_in v == 1
 
+-- of these values the one of a number, or else this one
+abbrev pub numbered : {A : Type 0} → (A → ℕ) → List A → A → ℕ → A
+numbered code all other n = unwrap_or (find (λ x. code x == n) all) other
+
 -- the roles, 1 to 6
 abbrev pub role : Role → Value
 role r = number (role_no r)
 
 abbrev pub role_numbered : ℕ → Role
-role_numbered n =
-    if n == 1 then Viewer
-    else (if n == 2 then Operator
-    else (if n == 3 then Maintainer
-    else (if n == 4 then Engineer
-    else (if n == 5 then Approver else Steward))))
+role_numbered n = numbered role_no all_roles Viewer n
 
 abbrev pub role_in : Value → Role
 role_in v = role_numbered (number_in v)
@@ -79,13 +78,11 @@ state_no LatchedAck = 6
 abbrev pub alarm_state : AlarmState → Value
 alarm_state s = number (state_no s)
 
+abbrev pub all_states : List AlarmState
+all_states = Normal ∷ Unacknowledged ∷ Acknowledged ∷ ReturnedUnack ∷ LatchedUnack ∷ LatchedAck ∷ []
+
 abbrev pub state_numbered : ℕ → AlarmState
-state_numbered n =
-    if n == 1 then Normal
-    else (if n == 2 then Unacknowledged
-    else (if n == 3 then Acknowledged
-    else (if n == 4 then ReturnedUnack
-    else (if n == 5 then LatchedUnack else LatchedAck))))
+state_numbered n = numbered state_no all_states Normal n
 
 abbrev pub state_in : Value → AlarmState
 state_in v = state_numbered (number_in v)
@@ -102,13 +99,11 @@ kind_no Unsup = 6
 abbrev pub kind : EventKind → Value
 kind k = number (kind_no k)
 
+abbrev pub all_kinds : List EventKind
+all_kinds = Act ∷ Rtn ∷ Ack ∷ Reset ∷ Sup ∷ Unsup ∷ []
+
 abbrev pub kind_numbered : ℕ → EventKind
-kind_numbered n =
-    if n == 1 then Act
-    else (if n == 2 then Rtn
-    else (if n == 3 then Ack
-    else (if n == 4 then Reset
-    else (if n == 5 then Sup else Unsup))))
+kind_numbered n = numbered kind_no all_kinds Act n
 
 abbrev pub kind_in : Value → EventKind
 kind_in v = kind_numbered (number_in v)
@@ -122,10 +117,11 @@ topic_no LimitTopic = 3
 abbrev pub topic : ChangeTopic → Value
 topic t = number (topic_no t)
 
+abbrev pub all_topics : List ChangeTopic
+all_topics = RecordTopic ∷ MatrixTopic ∷ LimitTopic ∷ []
+
 abbrev pub topic_numbered : ℕ → ChangeTopic
-topic_numbered n =
-    if n == 1 then RecordTopic
-    else (if n == 2 then MatrixTopic else LimitTopic)
+topic_numbered n = numbered topic_no all_topics RecordTopic n
 
 abbrev pub topic_in : Value → ChangeTopic
 topic_in v = topic_numbered (number_in v)
@@ -140,11 +136,11 @@ decision_no Withdrawn = 4
 abbrev pub change_state : ChangeState → Value
 change_state s = number (decision_no s)
 
+abbrev pub all_decisions : List ChangeState
+all_decisions = Proposed ∷ Approved ∷ Rejected ∷ Withdrawn ∷ []
+
 abbrev pub decision_numbered : ℕ → ChangeState
-decision_numbered n =
-    if n == 1 then Proposed
-    else (if n == 2 then Approved
-    else (if n == 3 then Rejected else Withdrawn))
+decision_numbered n = numbered decision_no all_decisions Proposed n
 
 abbrev pub change_state_in : Value → ChangeState
 change_state_in v = decision_numbered (number_in v)
@@ -160,12 +156,11 @@ cell_no P4 = 4
 abbrev pub cell : Cell → Value
 cell c = number (cell_no c)
 
+abbrev pub all_cells : List Cell
+all_cells = N ∷ P1 ∷ P2 ∷ P3 ∷ P4 ∷ []
+
 abbrev pub cell_numbered : ℕ → Cell
-cell_numbered n =
-    if n == 1 then P1
-    else (if n == 2 then P2
-    else (if n == 3 then P3
-    else (if n == 4 then P4 else N)))
+cell_numbered n = numbered cell_no all_cells N n
 
 abbrev pub cell_in : Value → Cell
 cell_in v = cell_numbered (number_in v)

@@ -10,11 +10,11 @@ ghost use Rattle.plant_columns.specs.Shown.{columns};
 ghost use Rattle.plant_types.specs.Text.{is_text};
 ghost use Rattle.plant_columns.specs.Tables.{unit_shape, grant_shape, alarm_shape, shelf_shape, band_shape, cell_shape, event_shape, record_shape, change_shape};
 
-use plant_alarm::{AlarmState, Event, EventKind, Number};
+use crate::codes::{CELLS, Coded, DECISIONS, KINDS, ROLES, STATES, TOPICS};
+use plant_alarm::{Event, Number};
 use plant_model::{
-    AlarmRow, BandRow, CellRow, ChangeEntry, ChangeTopic, GrantRow, RecordEntry, ShelfRow, UnitRow,
+    AlarmRow, BandRow, CellRow, ChangeEntry, GrantRow, RecordEntry, ShelfRow, UnitRow,
 };
-use plant_ration::{Cell, ChangeState};
 use plant_types::{Alphabet, List, Moment, Quota, Role, Seconds, Text};
 use sqlite::types::{Type, ValueRef};
 use sqlite::{Error, ErrorCode, Row};
@@ -163,34 +163,23 @@ pub fn flag(row: &Row, at: usize) -> Result<bool, Error>
     }
 }
 
+/// The value, of these, that the column has by its number.
+fn coded<T: Coded>(all: &[T], row: &Row, at: usize) -> Result<T, Error>
+    ensures value { ReadsColumn (λ x. codes.number (T.no x)) row.now at result }
+    ensures cause { IfErr result IsNoMemory }
+{
+    let found = number(row, at)?;
+    match all.iter().find(|value| value.number() == found) {
+        Some(value) => Ok(*value),
+        None => Err(Error::IntegralValueOutOfRange(at)),
+    }
+}
+
 pub fn role(row: &Row, at: usize) -> Result<Role, Error>
     ensures value { ReadsColumn codes.role row.now at result }
     ensures cause { IfErr result IsNoMemory }
 {
-    match number(row, at)? {
-        1 => Ok(Role::Viewer),
-        2 => Ok(Role::Operator),
-        3 => Ok(Role::Maintainer),
-        4 => Ok(Role::Engineer),
-        5 => Ok(Role::Approver),
-        6 => Ok(Role::Steward),
-        _ => Err(Error::IntegralValueOutOfRange(at)),
-    }
-}
-
-fn state(row: &Row, at: usize) -> Result<AlarmState, Error>
-    ensures value { ReadsColumn codes.alarm_state row.now at result }
-    ensures cause { IfErr result IsNoMemory }
-{
-    match number(row, at)? {
-        1 => Ok(AlarmState::Normal),
-        2 => Ok(AlarmState::Unacknowledged),
-        3 => Ok(AlarmState::Acknowledged),
-        4 => Ok(AlarmState::ReturnedUnack),
-        5 => Ok(AlarmState::LatchedUnack),
-        6 => Ok(AlarmState::LatchedAck),
-        _ => Err(Error::IntegralValueOutOfRange(at)),
-    }
+    coded(&ROLES, row, at)
 }
 
 fn event_number(row: &Row, at: usize) -> Result<Number, Error>
@@ -200,60 +189,6 @@ fn event_number(row: &Row, at: usize) -> Result<Number, Error>
     match Number::new(wide(row, at)?) {
         Some(number) => Ok(number),
         None => Err(Error::IntegralValueOutOfRange(at)),
-    }
-}
-
-fn kind(row: &Row, at: usize) -> Result<EventKind, Error>
-    ensures value { ReadsColumn codes.kind row.now at result }
-    ensures cause { IfErr result IsNoMemory }
-{
-    match number(row, at)? {
-        1 => Ok(EventKind::Act),
-        2 => Ok(EventKind::Rtn),
-        3 => Ok(EventKind::Ack),
-        4 => Ok(EventKind::Reset),
-        5 => Ok(EventKind::Sup),
-        6 => Ok(EventKind::Unsup),
-        _ => Err(Error::IntegralValueOutOfRange(at)),
-    }
-}
-
-fn topic(row: &Row, at: usize) -> Result<ChangeTopic, Error>
-    ensures value { ReadsColumn codes.topic row.now at result }
-    ensures cause { IfErr result IsNoMemory }
-{
-    match number(row, at)? {
-        1 => Ok(ChangeTopic::Record),
-        2 => Ok(ChangeTopic::Matrix),
-        3 => Ok(ChangeTopic::Limit),
-        _ => Err(Error::IntegralValueOutOfRange(at)),
-    }
-}
-
-fn change_state(row: &Row, at: usize) -> Result<ChangeState, Error>
-    ensures value { ReadsColumn codes.change_state row.now at result }
-    ensures cause { IfErr result IsNoMemory }
-{
-    match number(row, at)? {
-        1 => Ok(ChangeState::Proposed),
-        2 => Ok(ChangeState::Approved),
-        3 => Ok(ChangeState::Rejected),
-        4 => Ok(ChangeState::Withdrawn),
-        _ => Err(Error::IntegralValueOutOfRange(at)),
-    }
-}
-
-fn cell(row: &Row, at: usize) -> Result<Cell, Error>
-    ensures value { ReadsColumn codes.cell row.now at result }
-    ensures cause { IfErr result IsNoMemory }
-{
-    match number(row, at)? {
-        0 => Ok(Cell::N),
-        1 => Ok(Cell::P1),
-        2 => Ok(Cell::P2),
-        3 => Ok(Cell::P3),
-        4 => Ok(Cell::P4),
-        _ => Err(Error::IntegralValueOutOfRange(at)),
     }
 }
 
@@ -309,7 +244,7 @@ impl Shown for AlarmRow {
             latching: flag(row, 1)?,
             max_s: seconds(row, 2)?,
             max_rev: number(row, 3)?,
-            state_no: state(row, 4)?,
+            state_no: coded(&STATES, row, 4)?,
             suppressed: flag(row, 5)?,
             active_s: open_moment(row, 6)?,
             return_s: open_moment(row, 7)?,
@@ -361,7 +296,7 @@ impl Shown for CellRow {
             matrix_no: number(row, 0)?,
             severity: small(row, 1)?,
             band_no: small(row, 2)?,
-            cell_no: cell(row, 3)?,
+            cell_no: coded(&CELLS, row, 3)?,
         })
     }
 }
@@ -376,7 +311,7 @@ impl Shown for Event {
             seq: event_number(row, 0)?,
             moment: moment(row, 1)?,
             tag: text(alloc, row, 2)?,
-            kind: kind(row, 3)?,
+            kind: coded(&KINDS, row, 3)?,
         })
     }
 }
@@ -391,7 +326,7 @@ impl Shown for RecordEntry {
             tag: text(alloc, row, 0)?,
             change_no: number(row, 1)?,
             rev: number(row, 2)?,
-            cell_no: cell(row, 3)?,
+            cell_no: coded(&CELLS, row, 3)?,
         })
     }
 }
@@ -406,7 +341,7 @@ impl Shown for ChangeEntry {
             number: number(row, 0)?,
             proposer: text(alloc, row, 1)?,
             proposed_s: moment(row, 2)?,
-            kind_no: topic(row, 3)?,
+            kind_no: coded(&TOPICS, row, 3)?,
             tag: open_text(alloc, row, 4)?,
             base: number(row, 5)?,
             cause: open_text(alloc, row, 6)?,
@@ -415,7 +350,7 @@ impl Shown for ChangeEntry {
             severity: open_small(row, 9)?,
             response_s: open_seconds(row, 10)?,
             max_s: open_seconds(row, 11)?,
-            state_no: change_state(row, 12)?,
+            state_no: coded(&DECISIONS, row, 12)?,
             decider: open_text(alloc, row, 13)?,
             decided_s: open_moment(row, 14)?,
         })

@@ -7,11 +7,11 @@ ghost use Rattle.sqlite_value.specs.declared.value.Value.TheVariants.{Text as Te
 ghost use Rattle.plant_columns.specs.Codes as codes;
 ghost use Rattle.plant_columns.specs.Tables.{unit_shape, grant_shape, alarm_shape, shelf_shape, band_shape, cell_shape, event_shape, record_shape, change_shape};
 
-use plant_alarm::{AlarmState, Event, EventKind, Number};
+use crate::codes::Coded;
+use plant_alarm::{Event, Number};
 use plant_model::{
-    AlarmRow, BandRow, CellRow, ChangeEntry, ChangeTopic, GrantRow, RecordEntry, ShelfRow, UnitRow,
+    AlarmRow, BandRow, CellRow, ChangeEntry, GrantRow, RecordEntry, ShelfRow, UnitRow,
 };
-use plant_ration::{Cell, ChangeState};
 use plant_types::{Alphabet, Moment, Person, Quota, Role, Seconds, Text, UnitCode};
 use sqlite::Error;
 use sqlite::types::ValueRef;
@@ -53,75 +53,16 @@ fn flag(flag: bool) -> ValueRef<'static>
     number(if flag { 1 } else { 0 })
 }
 
-fn role(role: Role) -> ValueRef<'static>
-    ensures { bound_value (owned result) ≡ codes.role role }
+fn coded<T: Coded>(value: T) -> ValueRef<'static>
+    ensures { bound_value (owned result) ≡ codes.number (T.no value) }
 {
-    number(u32::from(role.number()))
-}
-
-fn state(state: AlarmState) -> ValueRef<'static>
-    ensures { bound_value (owned result) ≡ codes.alarm_state state }
-{
-    number(match state {
-        AlarmState::Normal => 1,
-        AlarmState::Unacknowledged => 2,
-        AlarmState::Acknowledged => 3,
-        AlarmState::ReturnedUnack => 4,
-        AlarmState::LatchedUnack => 5,
-        AlarmState::LatchedAck => 6,
-    })
+    number(value.number())
 }
 
 fn event_number(number: Number) -> ValueRef<'static>
     ensures { bound_value (owned result) ≡ codes.number number }
 {
     ValueRef::Int(number.get() as i64)
-}
-
-fn kind(kind: EventKind) -> ValueRef<'static>
-    ensures { bound_value (owned result) ≡ codes.kind kind }
-{
-    number(match kind {
-        EventKind::Act => 1,
-        EventKind::Rtn => 2,
-        EventKind::Ack => 3,
-        EventKind::Reset => 4,
-        EventKind::Sup => 5,
-        EventKind::Unsup => 6,
-    })
-}
-
-fn topic(topic: ChangeTopic) -> ValueRef<'static>
-    ensures { bound_value (owned result) ≡ codes.topic topic }
-{
-    number(match topic {
-        ChangeTopic::Record => 1,
-        ChangeTopic::Matrix => 2,
-        ChangeTopic::Limit => 3,
-    })
-}
-
-fn change_state(state: ChangeState) -> ValueRef<'static>
-    ensures { bound_value (owned result) ≡ codes.change_state state }
-{
-    number(match state {
-        ChangeState::Proposed => 1,
-        ChangeState::Approved => 2,
-        ChangeState::Rejected => 3,
-        ChangeState::Withdrawn => 4,
-    })
-}
-
-fn cell(cell: Cell) -> ValueRef<'static>
-    ensures { bound_value (owned result) ≡ codes.cell cell }
-{
-    number(match cell {
-        Cell::N => 0,
-        Cell::P1 => 1,
-        Cell::P2 => 2,
-        Cell::P3 => 3,
-        Cell::P4 => 4,
-    })
 }
 
 fn seconds(seconds: Seconds) -> ValueRef<'static>
@@ -192,7 +133,7 @@ pub fn grant_cells<'a>(unit: &'a UnitCode, row: &'a GrantRow) -> [ValueRef<'a>; 
     [
         text(unit),
         text(&row.person),
-        role(row.role_no),
+        coded(row.role_no),
         open_moment(row.end_s),
     ]
 }
@@ -207,7 +148,7 @@ pub fn alarm_cells<'a>(unit: &'a UnitCode, row: &'a AlarmRow) -> [ValueRef<'a>; 
         flag(row.latching),
         seconds(row.max_s),
         number(row.max_rev),
-        state(row.state_no),
+        coded(row.state_no),
         flag(row.suppressed),
         open_moment(row.active_s),
         open_moment(row.return_s),
@@ -263,7 +204,7 @@ pub fn cell_cells<'a>(unit: &'a UnitCode, row: &CellRow) -> [ValueRef<'a>; 5]
         number(row.matrix_no),
         number(u32::from(row.severity)),
         number(u32::from(row.band_no)),
-        cell(row.cell_no),
+        coded(row.cell_no),
     ]
 }
 
@@ -276,7 +217,7 @@ pub fn event_cells<'a>(unit: &'a UnitCode, event: &'a Event) -> [ValueRef<'a>; 5
         event_number(event.seq),
         moment(event.moment),
         text(&event.tag),
-        kind(event.kind),
+        coded(event.kind),
     ]
 }
 
@@ -289,7 +230,7 @@ pub fn record_cells<'a>(unit: &'a UnitCode, entry: &'a RecordEntry) -> [ValueRef
         text(&entry.tag),
         number(entry.change_no),
         number(entry.rev),
-        cell(entry.cell_no),
+        coded(entry.cell_no),
     ]
 }
 
@@ -302,7 +243,7 @@ pub fn change_cells<'a>(unit: &'a UnitCode, change: &'a ChangeEntry) -> [ValueRe
         number(change.number),
         text(&change.proposer),
         moment(change.proposed_s),
-        topic(change.kind_no),
+        coded(change.kind_no),
         open_text(&change.tag),
         number(change.base),
         open_text(&change.cause),
@@ -311,7 +252,7 @@ pub fn change_cells<'a>(unit: &'a UnitCode, change: &'a ChangeEntry) -> [ValueRe
         open_small(change.severity),
         open_seconds(change.response_s),
         open_seconds(change.max_s),
-        change_state(change.state_no),
+        coded(change.state_no),
         open_text(&change.decider),
         open_moment(change.decided_s),
     ]
@@ -321,7 +262,7 @@ pub fn change_cells<'a>(unit: &'a UnitCode, change: &'a ChangeEntry) -> [ValueRe
 pub fn grant_key<'a>(unit: &'a UnitCode, person: &'a Person, held: Role) -> [ValueRef<'a>; 3]
     ensures { bound result ≡ TextValue unit.now ∷ TextValue person.now ∷ codes.role held ∷ [] }
 {
-    [text(unit), text(person), role(held)]
+    [text(unit), text(person), coded(held)]
 }
 
 /// A unit's code and a second name.

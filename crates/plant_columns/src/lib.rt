@@ -4,5 +4,6 @@
 //! function in `encode` and one more `Shown` in `decode`.
 #![tactic(auto)]
 
+pub mod codes;
 pub mod decode;
 pub mod encode;
