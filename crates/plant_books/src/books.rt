@@ -102,8 +102,15 @@ pub trait Books {
         ensures honest { WasHonest is_honest self.old self.new }
         ensures count { CountsBy stores self.old self.new result };
 
-    /// Makes the changes to this unit's rows in their order: all of them, or none.
-    fn apply(&mut self, unit: &UnitCode, changes: &Changes) -> Result<(), Fault>
+    /// Makes the changes to this unit's rows in their order: all of them, or none. Where the caller has seen the unit's
+    /// rows of the keys that are put, a row whose key is not among them may be put as a new one, which spares a search; if
+    /// there is one nevertheless, that is a fault of the store.
+    fn apply(
+        &mut self,
+        unit: &UnitCode,
+        changes: &Changes,
+        seen: Option<&UnitRows>,
+    ) -> Result<(), Fault>
         ensures made { Makes represents self.old self.new unit.now changes.now result }
         ensures unchanged { KeepsOnErr represents self.old self.new result }
         ensures honest { WasHonest is_honest self.old self.new }

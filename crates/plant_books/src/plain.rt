@@ -80,7 +80,12 @@ impl Books for Plain {
         shelves_held(self.alloc, &self.units, person, now)
     }
 
-    fn apply(&mut self, unit: &UnitCode, changes: &Changes) -> Result<(), Fault> {
+    fn apply(
+        &mut self,
+        unit: &UnitCode,
+        changes: &Changes,
+        _seen: Option<&UnitRows>,
+    ) -> Result<(), Fault> {
         change_unit(self.alloc, &mut self.units, unit, changes)
     }
 }

@@ -90,10 +90,10 @@ fn apply_through_faults(
     changes: &List<RowEdit>,
 ) -> Result<(), Fault> {
     let before = books.rows(unit)?;
-    if books.apply(unit, changes).is_err() {
+    if books.apply(unit, changes, None).is_err() {
         let _ = rt.eprintln("refused while rows are changed");
         assert!(rt; has_kept(books, unit, &before)?);
-        books.apply(unit, changes)?;
+        books.apply(unit, changes, None)?;
     }
     Ok(())
 }

@@ -287,7 +287,7 @@ pub(crate) fn put(
     changes: &List<RowEdit>,
 ) {
     let unit = code(rt, alloc, unit).expect(rt, "memory");
-    books.apply(&unit, changes).expect(rt, "memory");
+    books.apply(&unit, changes, None).expect(rt, "memory");
 }
 
 /// The rows of a unit that was opened.

@@ -102,7 +102,7 @@ fn put(rt: &(impl Abort + AllocGlobal), books: &mut impl Books, changes: &List<R
     let unit = UnitCode::read(rt.alloc(), b"U1")
         .expect(rt, "memory")
         .expect(rt, "a unit");
-    books.apply(&unit, changes).expect(rt, "changes");
+    books.apply(&unit, changes, None).expect(rt, "changes");
 }
 
 /// The base office with 500 pairs, 2,000 alarms and 20,000 changes.

@@ -230,8 +230,13 @@ impl<B: Books> Books for Mirror<B> {
         self.books.mine_shelves(person, now)
     }
 
-    fn apply(&mut self, unit: &UnitCode, changes: &Changes) -> Result<(), Fault> {
-        if let Err(fault) = self.books.apply(unit, changes) {
+    fn apply(
+        &mut self,
+        unit: &UnitCode,
+        changes: &Changes,
+        seen: Option<&UnitRows>,
+    ) -> Result<(), Fault> {
+        if let Err(fault) = self.books.apply(unit, changes, seen) {
             // Books that have shut are to be asked, and to say so.
             self.copies.clear();
             return Err(fault);

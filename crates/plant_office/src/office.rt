@@ -15,11 +15,21 @@ ghost use Rattle.plant_office.specs.Serves.{Serves};
 ghost use Rattle.plant_office.specs.Lines.{line_of_mine, line_of_shelf};
 
 use plant_books::{Books, MineRow, MineUnit};
-use plant_model::{Answer, Call, MineLine, Refused, Reply, Request, UnitLine, Verdict};
+use plant_model::{
+    Answer, Call, MineLine, Refused, Reply, Request, UnitLine, UnitPart, UnitRows, Verdict,
+};
 use plant_ration::ChangeKind;
 use plant_types::{Fault, List, Moment, UnitCode};
 use plant_unit::{is_read, judge, judge_open, shelf_line};
 use std::alloc::Global;
+
+/// The rows of a part of a unit, where there is one.
+fn rows_in(part: &Option<UnitPart>) -> Option<&UnitRows> {
+    match part {
+        Some(part) => Some(&part.rows),
+        None => None,
+    }
+}
 
 /// Whether a request's matrix is one needs no test: every matrix is.
 fn note_matrix(request: &Request)
@@ -130,7 +140,7 @@ impl<B: Books> Office<B> {
                 if is_read(&call.request) {
                     return Ok(Ok(reply));
                 }
-                self.books.apply(unit, &changes)?;
+                self.books.apply(unit, &changes, rows_in(&part))?;
                 Ok(Ok(reply))
             }
         }
@@ -150,7 +160,7 @@ impl<B: Books> Office<B> {
         match judge_open(self.alloc, self.books.administrator(), taken, call)? {
             Verdict::Refused(refused) => Ok(Err(refused)),
             Verdict::Accepted(reply, changes) => {
-                self.books.apply(unit, &changes)?;
+                self.books.apply(unit, &changes, None)?;
                 Ok(Ok(reply))
             }
         }

@@ -158,9 +158,14 @@ impl<B: Books> Books for Counting<B> {
         self.books.mine_shelves(person, now)
     }
 
-    fn apply(&mut self, unit: &UnitCode, changes: &Changes) -> Result<(), Fault> {
+    fn apply(
+        &mut self,
+        unit: &UnitCode,
+        changes: &Changes,
+        seen: Option<&UnitRows>,
+    ) -> Result<(), Fault> {
         self.count_change();
-        self.books.apply(unit, changes)
+        self.books.apply(unit, changes, seen)
     }
 }
 

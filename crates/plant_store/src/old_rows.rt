@@ -143,7 +143,7 @@ impl OldRow for OldUnitRow {
             matrix_rev: self.matrix_rev,
             quota: Quota::new(MAX_QUOTA).unwrap(),
         };
-        put(tx, unit, &row)
+        put(tx, unit, &row, None)
     }
 }
 
@@ -170,7 +170,7 @@ impl OldRow for OldGrantRow {
             role_no: self.role_no,
             end_s: None,
         };
-        put(tx, unit, &row)
+        put(tx, unit, &row, None)
     }
 }
 
@@ -189,7 +189,7 @@ impl<T: Unchanged> OldRow for T {
         tx: &mut Transaction<'_, N>,
         unit: &UnitCode,
     ) -> Result<(), Error> {
-        put(tx, unit, self)
+        put(tx, unit, self, None)
     }
 }
 

@@ -21,7 +21,8 @@ use plant_columns::encode::{
     shelf_cells, unit_cells, wide,
 };
 use plant_model::{
-    AlarmRow, BandRow, CellRow, ChangeEntry, GrantRow, RecordEntry, ShelfRow, UnitRow,
+    AlarmRow, BandRow, CellRow, ChangeEntry, GrantRow, RecordEntry, ShelfRow, UnitRow, UnitRows,
+    change_at, is_pair, row_of,
 };
 use plant_types::UnitCode;
 use sqlite::{Alter, Error, Transaction};
@@ -40,6 +41,11 @@ pub trait Stored: Shown {
     fn select() -> &'static str
         ensures reads { ReadsUnit Self.width Self.cells seen result.now }
         ensures text { result.now ≡ select_text };
+
+    /// Whether the key is that of one of these rows of the unit. True where that is not known.
+    fn has_key_in(&self, _rows: &UnitRows) -> bool {
+        true
+    }
 
     /// Updates the row with the same key, and returns how many rows were written. Rows of some tables never change: 0.
     fn update<S: Alter>(&self, tx: &mut Transaction<'_, S>, unit: &UnitCode) -> Result<usize, Error>
@@ -118,6 +124,13 @@ impl Stored for GrantRow {
         "SELECT person, role_no, end_s FROM grants WHERE unit = ?1 ORDER BY unit, person, role_no"
     }
 
+    fn has_key_in(&self, rows: &UnitRows) -> bool {
+        rows.grants
+            .as_slice()
+            .iter()
+            .any(|row| is_pair(row, &self.person, self.role_no))
+    }
+
     fn update<S: Alter>(
         &self,
         tx: &mut Transaction<'_, S>,
@@ -148,6 +161,10 @@ impl Stored for AlarmRow {
 
     fn select() -> &'static str {
         "SELECT tag, latching, max_s, max_rev, state_no, suppressed, active_s, return_s, out_s, out_by, out_words FROM alarms WHERE unit = ?1 ORDER BY unit, tag"
+    }
+
+    fn has_key_in(&self, rows: &UnitRows) -> bool {
+        row_of(rows.alarms.as_slice(), &self.tag).is_some()
     }
 
     fn update<S: Alter>(
@@ -188,6 +205,10 @@ impl Stored for ShelfRow {
 
     fn select() -> &'static str {
         "SELECT tag, one_shot, start_s, until_s, person, words FROM shelves WHERE unit = ?1 ORDER BY unit, tag"
+    }
+
+    fn has_key_in(&self, rows: &UnitRows) -> bool {
+        row_of(rows.shelves.as_slice(), &self.tag).is_some()
     }
 
     fn update<S: Alter>(
@@ -309,6 +330,10 @@ impl Stored for RecordEntry {
         "SELECT tag, change_no, rev, cell_no FROM records WHERE unit = ?1 ORDER BY unit, tag"
     }
 
+    fn has_key_in(&self, rows: &UnitRows) -> bool {
+        row_of(rows.records.as_slice(), &self.tag).is_some()
+    }
+
     fn update<S: Alter>(
         &self,
         tx: &mut Transaction<'_, S>,
@@ -347,6 +372,10 @@ impl Stored for ChangeEntry {
 
     fn select() -> &'static str {
         "SELECT number, proposer, proposed_s, kind_no, tag, base, cause, consequence, remedy, severity, response_s, max_s, state_no, decider, decided_s FROM changes WHERE unit = ?1 ORDER BY unit, number"
+    }
+
+    fn has_key_in(&self, rows: &UnitRows) -> bool {
+        change_at(rows.changes.as_slice(), self.number).is_some()
     }
 
     fn update<S: Alter>(

@@ -319,8 +319,13 @@ impl<S: Alter> Books for Tables<S> {
         }
     }
 
-    fn apply(&mut self, unit: &UnitCode, changes: &Changes) -> Result<(), Fault> {
-        match write::apply(&mut self.conn, unit, changes.as_slice()) {
+    fn apply(
+        &mut self,
+        unit: &UnitCode,
+        changes: &Changes,
+        seen: Option<&UnitRows>,
+    ) -> Result<(), Fault> {
+        match write::apply(&mut self.conn, unit, changes.as_slice(), seen) {
             Ok(()) => Ok(()),
             Err(error) => {
                 let fault = fault_of(&error);

@@ -5,11 +5,11 @@ ghost use Rattle.plant_books.specs.Books.{WasHonest};
 ghost use Rattle.plant_model.specs.declared.rows.RowEdit.TheVariants.{Put, Remove};
 ghost use Rattle.plant_model.specs.declared.rows.Key.TheVariants.{Grant as GrantKey, Shelf as ShelfKey};
 ghost use Rattle.plant_store.specs.Reading.{HasNoTransaction, IsHonestIn};
-ghost use Rattle.plant_store.specs.Writing.{Commits, CommitsNothing, CrashLoses, IsOpenIfOk, RunsCounting, RunsStatement, SameOnErr, SameReference, StaysOpen, Writes, WritesOpen};
+ghost use Rattle.plant_store.specs.Writing.{Commits, CommitsNothing, CrashLoses, IsOpenIfOk, RunsCounting, RunsStatement, SameOnErr, SameReference, StaysOpen, Updates, Writes, WritesOpen};
 
 use crate::stored::Stored;
 use plant_columns::encode::{grant_key, pair};
-use plant_model::{Key, Row, RowEdit};
+use plant_model::{Key, Row, RowEdit, UnitRows};
 use plant_types::{Person, Role, Tag, UnitCode};
 use sqlite::types::ValueRef;
 use sqlite::{Alter, Connection, Error, Transaction};
@@ -41,17 +41,37 @@ pub fn run_counting<S: Alter>(
     tx.execute(sql, cells)
 }
 
-/// Puts a row: over the one of its key, or as a new one. In a table whose rows do not change it fails if there is one.
+/// Updates the row with the same key, and returns how many rows were written: none where the rows that were seen of the
+/// unit have none of this key.
+fn put_over<T: Stored, S: Alter>(
+    tx: &mut Transaction<'_, S>,
+    unit: &UnitCode,
+    row: &T,
+    seen: Option<&UnitRows>,
+) -> Result<usize, Error>
+    ensures same_reference { SameReference tx.old tx.new }
+    ensures made { Updates S.Store tx.old tx.new unit.now (Put (T.as_row row.now)) result }
+    ensures stays { StaysOpen S.Store tx.old tx.new result }
+{
+    match seen {
+        Some(rows) if !row.has_key_in(rows) => Ok(0),
+        _ => row.update(tx, unit),
+    }
+}
+
+/// Puts a row: over the one of its key, or as a new one. In a table whose rows do not change it fails if there is one, and so
+/// it does where the rows that were seen of the unit have none of its key.
 pub fn put<T: Stored, S: Alter>(
     tx: &mut Transaction<'_, S>,
     unit: &UnitCode,
     row: &T,
+    seen: Option<&UnitRows>,
 ) -> Result<(), Error>
     ensures same_reference { SameReference tx.old tx.new }
     ensures made { Writes S.Store tx.old tx.new unit.now (Put (T.as_row row.now) ∷ []) result }
     ensures stays { StaysOpen S.Store tx.old tx.new result }
 {
-    let written = row.update(tx, unit)?;
+    let written = put_over(tx, unit, row, seen)?;
     if written != 0 {
         return Ok(());
     }
@@ -95,21 +115,26 @@ fn remove_shelf<S: Alter>(
 }
 
 /// Puts a row of one of the tables.
-fn put_row<S: Alter>(tx: &mut Transaction<'_, S>, unit: &UnitCode, row: &Row) -> Result<(), Error>
+fn put_row<S: Alter>(
+    tx: &mut Transaction<'_, S>,
+    unit: &UnitCode,
+    row: &Row,
+    seen: Option<&UnitRows>,
+) -> Result<(), Error>
     ensures same_reference { SameReference tx.old tx.new }
     ensures made { Writes S.Store tx.old tx.new unit.now (Put row.now ∷ []) result }
     ensures stays { StaysOpen S.Store tx.old tx.new result }
 {
     match row {
-        Row::Unit(row) => put(tx, unit, row),
-        Row::Grant(row) => put(tx, unit, row),
-        Row::Alarm(row) => put(tx, unit, row),
-        Row::Shelf(row) => put(tx, unit, row),
-        Row::Band(row) => put(tx, unit, row),
-        Row::Cell(row) => put(tx, unit, row),
-        Row::Event(event) => put(tx, unit, event),
-        Row::Record(row) => put(tx, unit, row),
-        Row::Change(row) => put(tx, unit, row),
+        Row::Unit(row) => put(tx, unit, row, seen),
+        Row::Grant(row) => put(tx, unit, row, seen),
+        Row::Alarm(row) => put(tx, unit, row, seen),
+        Row::Shelf(row) => put(tx, unit, row, seen),
+        Row::Band(row) => put(tx, unit, row, seen),
+        Row::Cell(row) => put(tx, unit, row, seen),
+        Row::Event(event) => put(tx, unit, event, seen),
+        Row::Record(row) => put(tx, unit, row, seen),
+        Row::Change(row) => put(tx, unit, row, seen),
     }
 }
 
@@ -134,13 +159,14 @@ fn change_one<S: Alter>(
     tx: &mut Transaction<'_, S>,
     unit: &UnitCode,
     change: &RowEdit,
+    seen: Option<&UnitRows>,
 ) -> Result<(), Error>
     ensures same_reference { SameReference tx.old tx.new }
     ensures made { Writes S.Store tx.old tx.new unit.now (change.now ∷ []) result }
     ensures stays { StaysOpen S.Store tx.old tx.new result }
 {
     match change {
-        RowEdit::Put(row) => put_row(tx, unit, row),
+        RowEdit::Put(row) => put_row(tx, unit, row, seen),
         RowEdit::Remove(key) => remove_row(tx, unit, key),
     }
 }
@@ -150,6 +176,7 @@ fn change_all<S: Alter>(
     tx: &mut Transaction<'_, S>,
     unit: &UnitCode,
     changes: &[RowEdit],
+    seen: Option<&UnitRows>,
 ) -> Result<(), Error>
     requires { IsTrue tx.old.conn.now.in_transaction }
     ensures same_reference { SameReference tx.old tx.new }
@@ -159,7 +186,7 @@ fn change_all<S: Alter>(
     ensures survives { CrashLoses S.Store tx.old tx.new }
 {
     for change in changes {
-        change_one(tx, unit, change)?;
+        change_one(tx, unit, change, seen)?;
     }
     Ok(())
 }
@@ -169,6 +196,7 @@ pub fn apply<S: Alter>(
     conn: &mut Connection<S>,
     unit: &UnitCode,
     changes: &[RowEdit],
+    seen: Option<&UnitRows>,
 ) -> Result<(), Error>
     requires { HasNoTransaction conn.old }
     ensures mode { HasNoTransaction conn.new }
@@ -178,7 +206,7 @@ pub fn apply<S: Alter>(
 {
     let _settled = conn.is_autocommit();
     let mut tx = conn.transaction();
-    change_all(&mut tx, unit, changes)?;
+    change_all(&mut tx, unit, changes, seen)?;
     tx.commit()?;
     Ok(())
 }

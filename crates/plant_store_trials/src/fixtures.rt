@@ -323,7 +323,7 @@ pub(crate) fn put<B: Books>(
     changes: &List<RowEdit>,
 ) {
     let unit = unit(rt, alloc, code);
-    books.apply(&unit, changes).expect(rt, "changes");
+    books.apply(&unit, changes, None).expect(rt, "changes");
 }
 
 /// Books with one unit.

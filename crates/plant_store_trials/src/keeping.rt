@@ -173,7 +173,7 @@ fn changes_nothing_where_it_is_interrupted(rt: HostRuntime) {
     assert!(rt; matches!(books.taken(&unit).err(), Some(Fault::Store)));
     books.set_steps(None);
     let wide = too_wide(&rt, alloc);
-    assert!(rt; matches!(books.apply(&unit, &wide).err(), Some(Fault::Store)));
+    assert!(rt; matches!(books.apply(&unit, &wide, None).err(), Some(Fault::Store)));
     let rows = rows(&rt, alloc, &mut books);
     assert!(rt; is_last(&rows, 80));
     drop(rows);

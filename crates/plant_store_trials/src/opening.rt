@@ -108,7 +108,7 @@ fn with_unit<D: Disk + Drop>(
 ) -> Tables<FileStore<D>> {
     let unit = unit(rt, alloc, b"U1");
     books
-        .apply(&unit, &changes(rt, alloc))
+        .apply(&unit, &changes(rt, alloc), None)
         .expect(rt, "changes");
     books
 }

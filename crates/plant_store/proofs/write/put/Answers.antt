@@ -9,7 +9,7 @@ use Rattle.plant_store.proofs.write.put.Goals as goal
 pub returns-then-written-ne0-clause-made : goal.returns-then-written-ne0-clause-made
 returns-then-written-ne0-clause-made g c clean inside books =
     let old = state g.S.Store c.args.tx.now.conn.now in
-    let new = state g.S.Store c.update.new.tx.conn.now in
+    let new = state g.S.Store c.put_over.new.tx.conn.now in
     one_put c.args.unit.now (Put (g.T.Stored.as_row c.args.row.now)) old.now new.now c.in_ok-written.written (search rules) (c.in_ok-written.ensures.made clean inside books)
 
 pub returns-clause-made : goal.returns-clause-made
@@ -17,7 +17,7 @@ returns-clause-made g c clean inside books =
     let u = c.args.unit.now in
     let change = Put (g.T.Stored.as_row c.args.row.now) in
     let old = state g.S.Store c.args.tx.now.conn.now in
-    let between = state g.S.Store c.update.new.tx.conn.now in
+    let between = state g.S.Store c.put_over.new.tx.conn.now in
     let new = state g.S.Store c.insert.new.tx.conn.now in
     let before : HasCleanDisk between = omega (arith, c.insert.ensures.stays.survives.clean) in
     let first = none_put u change old.now between.now c.in_ok-written.written (search rules) (c.in_ok-written.ensures.made before inside books) in
