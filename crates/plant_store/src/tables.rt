@@ -88,9 +88,10 @@ pub struct Tables<S: Alter> {
 }
 
 impl<S: Alter> Model for Tables<S> {
-    ghost use Rattle.std.specs.Prelude.{◌≡◌, ℕ, List, false};
+    ghost use Rattle.std.specs.Prelude.{ℕ, List};
     ghost use Rattle.std.specs.Coded.{coded×, coded_ℕ, coded_list};
     ghost use Rattle.sqlite.specs.Held.{Held, held_code};
+    ghost use Rattle.plant_store.specs.Reading.{HasNoTransaction};
 
     ghost Value = { (Held S × List ℕ) × ℕ };
 
