@@ -3,3 +3,4 @@ mod ListedLaws
 mod PassingLaws
 mod RowsWithout
 mod ChangesAmong
+mod ShelvedLaws

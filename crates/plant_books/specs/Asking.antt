@@ -9,18 +9,22 @@ use Rattle.plant_model.specs.declared.kinds.Scope.{Scope}
 use Rattle.plant_model.specs.declared.kinds.Scope.TheVariants.{Approval, OneChange}
 use Rattle.plant_books.specs.declared.asking.Wanted.{Wanted}
 use Rattle.plant_books.specs.declared.asking.Wanted.TheVariants.{Every, Nothing, One}
+use Rattle.plant_books.specs.declared.asking.WantedAlarms.{WantedAlarms}
+use Rattle.plant_books.specs.declared.asking.WantedAlarms.TheVariants.{Shelved, Those}
 use Rattle.plant_books.specs.declared.asking.WantedEvents.{WantedEvents}
 use Rattle.plant_books.specs.declared.asking.WantedEvents.TheVariants.{Beside, Every as EveryEvent, Nothing as NoEvents}
 use Rattle.plant_import.specs.Needed.{needed}
 use Rattle.plant_model.specs.Histories.{same_number}
-use Rattle.plant_model.specs.Parts.{Selection, is_crowded, is_in_force, is_source, rows_selected}
+use Rattle.plant_model.specs.Parts.{Selection, has_shelf, is_crowded, is_in_force, is_source, rows_selected}
 use Rattle.plant_model.specs.RowFacts.{change_found, pair_of}
 use Rattle.plant_model.specs.declared.call.Request.{Request}
+use Rattle.plant_model.specs.declared.rows.AlarmRow.{AlarmRow}
 use Rattle.plant_model.specs.declared.rows.BandRow.{BandRow}
 use Rattle.plant_model.specs.declared.rows.CellRow.{CellRow}
 use Rattle.plant_model.specs.declared.rows.ChangeEntry.{ChangeEntry}
 use Rattle.plant_model.specs.declared.rows.GrantRow.{GrantRow}
 use Rattle.plant_model.specs.declared.rows.RecordEntry.{RecordEntry}
+use Rattle.plant_model.specs.declared.rows.ShelfRow.{ShelfRow}
 use Rattle.plant_model.specs.declared.rows.UnitRow.{UnitRow}
 use Rattle.plant_model.specs.declared.rows.UnitRows.{UnitRows}
 use Rattle.plant_types.specs.Names.{Name, same_name}
@@ -68,6 +72,24 @@ is_wanted Every a = true
 -- of the rows of any unit the tags that pass are those that are wanted
 abbrev pub AreWanted : (UnitRows → Name → Bool) → Wanted → Type 0
 AreWanted passes wanted = (rows : UnitRows) (a : Name) → passes rows a ≡ is_wanted wanted a
+
+-- the tag is among those of the alarms that are wanted, in a unit with these shelves
+abbrev pub is_alarm_wanted : List ShelfRow → WantedAlarms → Name → Bool
+is_alarm_wanted shelves (Those wanted) a = is_wanted wanted a
+is_alarm_wanted shelves Shelved a = has_shelf shelves a
+
+-- the alarms that a scope takes in are those that are wanted
+abbrev pub AreAlarmsWanted : Scope → WantedAlarms → Type 0
+AreAlarmsWanted scope wanted = (rows : UnitRows) (a : Name) → (selection_by rows scope).alarm a ≡ is_alarm_wanted rows.shelves wanted a
+
+-- where shelves decide which alarms are wanted, all shelves are selected too
+abbrev pub HasTheirShelves : Selection → WantedAlarms → Type 0
+HasTheirShelves chosen (Those wanted) = Unit {0}
+HasTheirShelves chosen Shelved = (a : Name) → chosen.shelf a ≡ true
+
+-- the alarms that are wanted, of all
+abbrev pub alarms_wanted : WantedAlarms → List ShelfRow → List AlarmRow → List AlarmRow
+alarms_wanted wanted shelves alarms = filter (λ r. is_alarm_wanted shelves wanted r.tag) alarms
 
 -- the events that are wanted, of all
 abbrev pub events_wanted : WantedEvents → List Event → List Event

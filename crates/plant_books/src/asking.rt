@@ -2,7 +2,7 @@
 
 ghost use Rattle.std.specs.Prelude.{◌≡◌, ◌||◌};
 ghost use Rattle.plant_books.specs.Asking as asked;
-ghost use Rattle.plant_books.specs.Asking.{AreEventsWanted, AreWanted, IsCrowdedWith, TakesChanges, TakesMatrix, TakesSources, is_number, is_wanted};
+ghost use Rattle.plant_books.specs.Asking.{AreAlarmsWanted, AreEventsWanted, AreWanted, HasTheirShelves, IsCrowdedWith, TakesChanges, TakesMatrix, TakesSources, is_number, is_wanted};
 ghost use Rattle.plant_model.specs.Scopes.{of_change, selection_by};
 ghost use Rattle.plant_model.specs.declared.rows.UnitRows.{UnitRows};
 ghost use Rattle.plant_types.specs.Names.{Name, same_name};
@@ -12,13 +12,21 @@ use plant_alarm::Event;
 use plant_model::{ChangeEntry, ChangeTopic, Scope, UnitRow};
 use plant_types::{List, Tag};
 
-/// Which of a unit's alarms, of its shelves or of its records a call looks at.
+/// Rows of tags: of a unit's shelves or of its records those that a call looks at.
 #[derive(Clone, Copy)]
 pub enum Wanted<'a> {
     Nothing,
     /// That of the tag.
     One(&'a Tag),
     Every,
+}
+
+/// Which of a unit's alarms a call looks at.
+#[derive(Clone, Copy)]
+pub enum WantedAlarms<'a> {
+    Those(Wanted<'a>),
+    /// Those that have a shelf.
+    Shelved,
 }
 
 /// Which of a unit's events a call looks at.
@@ -104,20 +112,24 @@ fn changes_sources(change: &ChangeEntry) -> bool
 }
 
 /// The alarms that the scope takes in.
-pub fn wanted_alarms<'a>(scope: Scope<'a>) -> Wanted<'a>
-    ensures { AreWanted (λ rows. (selection_by rows scope.entry).alarm) result }
+pub fn wanted_alarms<'a>(scope: Scope<'a>) -> WantedAlarms<'a>
+    ensures alarms { AreAlarmsWanted scope.entry result }
+    ensures shelves { (rows : UnitRows) → HasTheirShelves (selection_by rows scope.entry) result }
 {
     match scope {
-        Scope::OneAlarm(tag) | Scope::OneRecord(tag) | Scope::Content(tag) => Wanted::One(tag),
-        Scope::Shelving(tag, crowded) => wanted_in(tag, crowded),
-        Scope::Approval(_, Some(change)) => alarms_changed(change),
-        Scope::File(_) | Scope::AllShelves | Scope::AllAlarms => Wanted::Every,
+        Scope::OneAlarm(tag) | Scope::OneRecord(tag) | Scope::Content(tag) => {
+            WantedAlarms::Those(Wanted::One(tag))
+        }
+        Scope::Shelving(tag, crowded) => WantedAlarms::Those(wanted_in(tag, crowded)),
+        Scope::Approval(_, Some(change)) => WantedAlarms::Those(alarms_changed(change)),
+        Scope::AllShelves => WantedAlarms::Shelved,
+        Scope::File(_) | Scope::AllAlarms => WantedAlarms::Those(Wanted::Every),
         Scope::NothingElse
         | Scope::AllGrants
         | Scope::OneChange(_)
         | Scope::Approval(_, None)
         | Scope::AllRecords
-        | Scope::AllEvents => Wanted::Nothing,
+        | Scope::AllEvents => WantedAlarms::Those(Wanted::Nothing),
     }
 }
 

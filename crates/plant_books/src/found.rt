@@ -1,13 +1,14 @@
-//! Copies of the rows whose tags are wanted and of the changes of several numbers, and rows without that of a tag.
+//! Copies of the rows whose tags are wanted, of the alarms that have a shelf and of the changes of several numbers, and rows without that of a tag.
 
 ghost use Rattle.std.specs.Prelude.{◌≡◌, IfOk, option_copied};
 ghost use Rattle.std.specs.Option.{option_to_list};
-ghost use Rattle.plant_books.specs.Found.{changes_in, rows_wanted, without_tag};
+ghost use Rattle.plant_books.specs.Found.{changes_in, rows_wanted, shelved, without_tag};
 ghost use Rattle.plant_model.specs.Order.{ChangesRise, TagsRise};
+ghost use Rattle.plant_model.specs.RowFacts.{alarm_tag, shelf_tag};
 ghost use Rattle.plant_types.specs.Results.{Gives, OnlyMemory};
 
 use crate::asking::Wanted;
-use plant_model::{ChangeEntry, Tagged, change_at, place_of, row_of};
+use plant_model::{AlarmRow, ChangeEntry, ShelfRow, Tagged, change_at, place_of, row_of};
 use plant_types::{Duplicate, Fault, List, Tag};
 use std::alloc::Global;
 use std::collections::BTreeSet;
@@ -50,6 +51,25 @@ pub fn rows_wanted<T: Tagged + Duplicate>(
         Wanted::One(tag) => one_copy(alloc, row_of(rows.as_slice(), tag)),
         Wanted::Every => rows.duplicate(alloc),
     }
+}
+
+/// Copies of the alarms that have one of these shelves.
+pub fn shelved_alarms(
+    alloc: Global,
+    alarms: &[AlarmRow],
+    shelves: &[ShelfRow],
+) -> Result<List<AlarmRow>, Fault>
+    ensures value { TagsRise alarm_tag alarms.now → TagsRise shelf_tag shelves.now
+        → Gives result (shelved shelves.now alarms.now) }
+    ensures memory { OnlyMemory result }
+{
+    let mut found = List::new(alloc);
+    for shelf in shelves {
+        if let Some(alarm) = row_of(alarms, &shelf.tag) {
+            found.push(alarm.duplicate(alloc)?)?;
+        }
+    }
+    Ok(found)
 }
 
 /// Copies of the changes of these numbers, of changes in rising number.

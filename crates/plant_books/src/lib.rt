@@ -13,11 +13,12 @@ mod plain;
 mod rows;
 
 pub use asking::{
-    Wanted, WantedEvents, is_crowded, is_number, wanted_alarms, wanted_change, wanted_events,
-    wanted_records, wanted_shelves, wants_all_grants, wants_matrix, wants_sources,
+    Wanted, WantedAlarms, WantedEvents, is_crowded, is_number, wanted_alarms, wanted_change,
+    wanted_events, wanted_records, wanted_shelves, wants_all_grants, wants_matrix, wants_sources,
 };
 pub use books::{Books, MineRow, MineUnit};
 pub use changes::{after_changes, puts_event};
+pub use found::shelved_alarms;
 pub use opened::push_shelves;
 pub use parts::{events_asked, part_of, part_of_grants, rows_but_events};
 pub use plain::Plain;

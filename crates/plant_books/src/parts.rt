@@ -1,24 +1,25 @@
 ghost use Rattle.std.specs.Prelude.{◌≡◌, IfOk, false, filter, option_copied, true};
-ghost use Rattle.plant_books.specs.Asking.{AreSources, GivesNumbers, IsApprovedBy, TakesNoMatrix, bands_by, cells_by, changes_by, events_wanted, grants_by, is_wanted, rows_by};
+ghost use Rattle.plant_books.specs.Asking.{alarms_wanted, AreSources, GivesNumbers, IsApprovedBy, TakesNoMatrix, bands_by, cells_by, changes_by, events_wanted, grants_by, is_wanted, rows_by};
 ghost use Rattle.plant_books.specs.Contents.{without_events};
-ghost use Rattle.plant_model.specs.Order.{AreInOrder, ChangesRise, EventsRise};
+ghost use Rattle.plant_model.specs.Order.{AreInOrder, ChangesRise, EventsRise, TagsRise};
 ghost use Rattle.plant_model.specs.Parts.{counted_for, is_crowded as is_crowded_in, part_of as the_part, part_of_holder as holders_part, selected};
 ghost use Rattle.plant_model.specs.RowChanges.{no_rows};
-ghost use Rattle.plant_model.specs.RowFacts.{last_number as last_number_of, unit_read};
+ghost use Rattle.plant_model.specs.RowFacts.{alarm_tag, last_number as last_number_of, shelf_tag, unit_read};
 ghost use Rattle.plant_model.specs.Scopes.{is_shelving as is_shelving_by, selection_by};
 ghost use Rattle.plant_types.specs.Names.{same_name};
 ghost use Rattle.plant_types.specs.Results.{Gives, OnlyMemory};
 
 use crate::asking::{
-    Wanted, WantedEvents, is_crowded, is_number, wanted_alarms, wanted_change, wanted_events,
-    wanted_records, wanted_shelves, wants_all_grants, wants_matrix, wants_sources,
+    Wanted, WantedAlarms, WantedEvents, is_crowded, is_number, wanted_alarms, wanted_change,
+    wanted_events, wanted_records, wanted_shelves, wants_all_grants, wants_matrix, wants_sources,
 };
-use crate::found::{changes_of, rows_wanted};
+use crate::found::{changes_of, rows_wanted, shelved_alarms};
 use plant_alarm::Event;
 use plant_import::needed;
 use plant_model::{
-    BandRow, Call, CellRow, ChangeEntry, Counted, GrantRow, RecordEntry, Request, Scope, UnitPart,
-    UnitRow, UnitRows, change_at, holds_some_by, is_shelving, number_approved, scope_of,
+    AlarmRow, BandRow, Call, CellRow, ChangeEntry, Counted, GrantRow, RecordEntry, Request, Scope,
+    ShelfRow, UnitPart, UnitRow, UnitRows, change_at, holds_some_by, is_shelving, number_approved,
+    scope_of,
 };
 use plant_types::{Duplicate, Fault, List, Person, duplicated};
 use std::alloc::Global;
@@ -60,6 +61,23 @@ fn grants_asked(
         }
     }
     Ok(asked)
+}
+
+/// The alarms that are wanted, of all of a unit with these shelves, both in the order of their tags.
+fn alarms_asked(
+    alloc: Global,
+    alarms: &List<AlarmRow>,
+    shelves: &List<ShelfRow>,
+    wanted: WantedAlarms<'_>,
+) -> Result<List<AlarmRow>, Fault>
+    ensures value { TagsRise alarm_tag alarms.now → TagsRise shelf_tag shelves.now
+        → Gives result (alarms_wanted wanted.entry shelves.now alarms.now) }
+    ensures memory { OnlyMemory result }
+{
+    match wanted {
+        WantedAlarms::Those(tags) => rows_wanted(alloc, alarms, &tags),
+        WantedAlarms::Shelved => shelved_alarms(alloc, alarms.as_slice(), shelves.as_slice()),
+    }
 }
 
 /// The events that are wanted, of all in rising number.
@@ -201,7 +219,7 @@ fn rows_asked(
     Ok(UnitRows {
         units: rows.units.duplicate(alloc)?,
         grants: grants_asked(alloc, rows, person, scope)?,
-        alarms: rows_wanted(alloc, &rows.alarms, &wanted_alarms(scope))?,
+        alarms: alarms_asked(alloc, &rows.alarms, &rows.shelves, wanted_alarms(scope))?,
         shelves: rows_wanted(alloc, &rows.shelves, &wanted_shelves(scope))?,
         events: events_asked(alloc, &rows.events, wanted_events(scope))?,
         bands: bands_asked(alloc, rows, scope)?,

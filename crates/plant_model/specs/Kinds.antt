@@ -185,7 +185,7 @@ pub data Scope : Type 0 where
   AllRecords : Scope
   -- all alarms, and the events that a file's rows are seen beside
   File : List Event → Scope
-  -- all alarms and shelves
+  -- all shelves with their alarms
   AllShelves : Scope
   -- all alarms, shelves and records
   AllAlarms : Scope

@@ -15,6 +15,7 @@ use Rattle.std.specs.Prelude.{◌&&◌}
 use Rattle.plant_model.specs.RowFacts.{pair_of}
 use Rattle.plant_model.specs.declared.call.Call.{Call}
 use Rattle.plant_model.specs.declared.call.Request.{Request}
+use Rattle.plant_model.specs.declared.rows.ShelfRow.{ShelfRow}
 use Rattle.plant_model.specs.declared.rows.UnitPart.{UnitPart}
 use Rattle.plant_model.specs.declared.rows.UnitRows.{UnitRows}
 use Rattle.plant_types.specs.Names.{Name, same_name}
@@ -88,6 +89,10 @@ of_approved rows n (Some c) = with_number n (of_topic rows c.tag c.kind_no)
 abbrev pub is_crowded : UnitRows → Bool
 is_crowded rows = nat_le (unit_read rows).quota (length rows.shelves)
 
+-- one of the shelves is of the tag
+abbrev pub has_shelf : List ShelfRow → Name → Bool
+has_shelf shelves a = list_any (λ s. same_name a s.tag) shelves
+
 -- for a shelving the alarm and the shelf of its tag, and those of all others where the quota may be used up
 abbrev pub of_shelving : Bool → Name → Selection
 of_shelving crowded a = record nothing { alarm = λ b. crowded || same_name a b; shelf = λ b. crowded || same_name a b }
@@ -103,7 +108,7 @@ selection rows (Approval n) = of_approved rows n (change_found rows n)
 selection rows (Content a) = of_content rows a
 selection rows AllRecords = of_records rows
 selection rows (File es) = record nothing { alarm = every; events = λ kept. needed kept es }
-selection rows AllShelves = record nothing { alarm = every; shelf = every }
+selection rows AllShelves = record nothing { alarm = has_shelf rows.shelves; shelf = every }
 selection rows AllAlarms = record nothing { alarm = every; shelf = every; rationale = every }
 selection rows AllEvents = record nothing { events = all_events }
 

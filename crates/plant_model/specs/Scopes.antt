@@ -3,7 +3,7 @@ use Rattle.std.specs.Prelude.{Bool, None, Option, Some, false, option_copied, tr
 use Rattle.plant_import.specs.Needed.{needed}
 use Rattle.plant_model.specs.Kinds as looked
 use Rattle.plant_model.specs.Kinds.{Scope as Looked, scope_of}
-use Rattle.plant_model.specs.Parts.{Selection, all_events, every, is_crowded, is_source, nothing, of_approved, of_content, of_number, of_records, of_shelving, of_tag, of_topic, selected}
+use Rattle.plant_model.specs.Parts.{Selection, all_events, every, has_shelf, is_crowded, is_source, nothing, of_approved, of_content, of_number, of_records, of_shelving, of_tag, of_topic, selected}
 use Rattle.plant_model.specs.RowFacts.{change_found}
 use Rattle.plant_model.specs.declared.call.Request.{Request}
 use Rattle.plant_model.specs.declared.kinds.Scope.{Scope}
@@ -24,7 +24,7 @@ selection_by rows (Approval n change) = of_approved rows n (option_copied change
 selection_by rows (Content tag) = of_content rows tag.now
 selection_by rows AllRecords = of_records rows
 selection_by rows (File es) = record nothing { alarm = every; events = λ kept. needed kept es.now }
-selection_by rows AllShelves = record nothing { alarm = every; shelf = every }
+selection_by rows AllShelves = record nothing { alarm = has_shelf rows.shelves; shelf = every }
 selection_by rows AllAlarms = record nothing { alarm = every; shelf = every; rationale = every }
 selection_by rows AllEvents = record nothing { events = all_events }
 

@@ -81,6 +81,7 @@ pub enum Scope<'a> {
     AllRecords,
     /// All alarms, and the events that these rows of a file are seen beside.
     File(&'a [Event]),
+    /// All shelves with their alarms.
     AllShelves,
     /// All alarms, shelves and records.
     AllAlarms,

@@ -23,7 +23,7 @@ use plant_types::{Fault, List, Moment, UnitCode};
 use plant_unit::{is_read, judge, judge_open, shelf_line};
 use std::alloc::Global;
 
-/// The rows of a part of a unit, where there is one.
+/// The rows that the call looked at, if it looked at a unit.
 fn rows_in(part: &Option<UnitPart>) -> Option<&UnitRows> {
     match part {
         Some(part) => Some(&part.rows),

@@ -3,6 +3,7 @@ pub mod Changes
 pub mod Statements
 pub mod Keeping
 pub mod Wanted
+pub mod Keys
 pub mod Numbers
 pub mod Making
 pub mod Mine

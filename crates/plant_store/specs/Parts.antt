@@ -8,6 +8,7 @@ use Rattle.std.specs.Prelude.{Bool, IfOk, List, Result, Some, filter, length, tr
 use Rattle.plant_alarm.specs.declared.event.Event.{Event}
 use Rattle.plant_model.specs.declared.kinds.Scope.{Scope}
 use Rattle.plant_books.specs.declared.asking.Wanted.{Wanted}
+use Rattle.plant_books.specs.declared.asking.WantedAlarms.{WantedAlarms}
 use Rattle.plant_columns.specs.Tables.{AreBooks, Kept, rows_seen}
 use Rattle.plant_columns.specs.Tables.Kept.{AlarmKept, BandKept, CellKept, ChangeKept, EventKept, GrantKept, RecordKept, ShelfKept}
 use Rattle.plant_model.specs.Scopes.{is_shelving, looks_at_events, number_approved, selection_by}
@@ -42,8 +43,8 @@ count_seen unit i trees = length (rows_seen unit trees i)
 abbrev pub last_change_seen : Name → Trees → ℕ
 last_change_seen unit trees = last_number (rows_seen unit trees ChangeKept)
 
--- the alarms, shelves, records and events of a unit that are wanted
-abbrev pub alarms_seen : Wanted → Name → Trees → List AlarmRow
+-- the alarms, shelves, records and events of a unit that are read for those that are wanted
+abbrev pub alarms_seen : WantedAlarms → Name → Trees → List AlarmRow
 alarms_seen wanted unit trees = alarms_with wanted (rows_seen unit trees AlarmKept)
 
 abbrev pub shelves_seen : Wanted → Name → Trees → List ShelfRow

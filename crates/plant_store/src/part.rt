@@ -10,10 +10,12 @@ ghost use Rattle.plant_store.specs.Changes.{IsHonest};
 ghost use Rattle.plant_store.specs.Keeping.{HasContent};
 ghost use Rattle.plant_columns.specs.Tables.{rows_seen};
 ghost use Rattle.plant_columns.specs.Tables.Kept.{UnitKept};
-ghost use Rattle.plant_model.specs.RowFacts.{event_number};
+ghost use Rattle.plant_model.specs.Order.{TagsRise};
+ghost use Rattle.plant_model.specs.RowFacts.{alarm_tag, event_number, shelf_tag};
 ghost use Rattle.plant_types.specs.KeyedRows.{IsInOrder};
 ghost use Rattle.std.specs.Ordering.{nat_cmp};
 ghost use Rattle.plant_store.specs.Parts.{AreAskedBy, LoadsApproved, LoadsCount, LoadsCrowding, LoadsGrants, alarms_seen, events_seen, grants_of, records_seen, shelves_seen};
+ghost use Rattle.plant_store.specs.Wanted.{alarms_left};
 ghost use Rattle.plant_store.specs.Reading.{HasNoTransaction, Loads, ReadsBooks, ReadsContent};
 
 use crate::numbers::{some_bands, some_cells, some_changes};
@@ -24,8 +26,8 @@ use crate::read::{
 use crate::unit::has_row;
 use plant_alarm::Event;
 use plant_books::{
-    Wanted, WantedEvents, events_asked, is_crowded, part_of_grants, wanted_alarms, wanted_events,
-    wanted_records, wanted_shelves, wants_all_grants,
+    Wanted, WantedAlarms, WantedEvents, events_asked, is_crowded, part_of_grants, shelved_alarms,
+    wanted_alarms, wanted_events, wanted_records, wanted_shelves, wants_all_grants,
 };
 use plant_model::{
     AlarmRow, Call, ChangeEntry, Counted, GrantRow, RecordEntry, Request, Scope, ShelfRow,
@@ -56,12 +58,12 @@ pub fn some_grants<S: Alter>(
     }
 }
 
-/// The unit's alarms that are wanted.
+/// The unit's alarms that are wanted, or all where shelves decide which are.
 pub fn some_alarms<S: Alter>(
     alloc: Global,
     conn: &mut Connection<S>,
     unit: &UnitCode,
-    wanted: Wanted<'_>,
+    wanted: WantedAlarms<'_>,
 ) -> Result<List<AlarmRow>, Error>
     requires { HasNoTransaction conn.old }
     ensures mode { HasNoTransaction conn.new }
@@ -69,9 +71,30 @@ pub fn some_alarms<S: Alter>(
     ensures reads { ReadsBooks S.Store conn.old conn.new }
 {
     match wanted {
-        Wanted::Nothing => Ok(List::new(alloc)),
-        Wanted::One(tag) => row_of_tag::<AlarmRow, S>(alloc, conn, unit, tag),
-        Wanted::Every => all_rows(alloc, conn, unit),
+        WantedAlarms::Those(Wanted::Nothing) => Ok(List::new(alloc)),
+        WantedAlarms::Those(Wanted::One(tag)) => row_of_tag::<AlarmRow, S>(alloc, conn, unit, tag),
+        WantedAlarms::Those(Wanted::Every) | WantedAlarms::Shelved => all_rows(alloc, conn, unit),
+    }
+}
+
+/// Of the alarms that were read those that are wanted beside these shelves, both in the order of their tags.
+fn alarms_for(
+    alloc: Global,
+    read: List<AlarmRow>,
+    shelves: &List<ShelfRow>,
+    wanted: WantedAlarms<'_>,
+) -> Result<List<AlarmRow>, Error>
+    ensures { TagsRise alarm_tag read → TagsRise shelf_tag shelves.now
+        → IfOk result (λ alarms. alarms ≡ alarms_left wanted.entry shelves.now read) }
+{
+    match wanted {
+        WantedAlarms::Those(_) => Ok(read),
+        WantedAlarms::Shelved => {
+            match shelved_alarms(alloc, read.as_slice(), shelves.as_slice()) {
+                Ok(shelved) => Ok(shelved),
+                Err(_) => Err(Error::SqliteFailure(ErrorCode::OutOfMemory)),
+            }
+        }
     }
 }
 
@@ -229,9 +252,10 @@ fn holders_part<S: Alter>(
     let all = wants_all_grants(scope);
     let grants = some_grants(alloc, conn, unit, own, all)?;
     let tags = wanted_alarms(scope);
-    let alarms = some_alarms(alloc, conn, unit, tags)?;
+    let read = some_alarms(alloc, conn, unit, tags)?;
     let shelved = wanted_shelves(scope);
     let shelves = some_shelves(alloc, conn, unit, shelved)?;
+    let alarms = alarms_for(alloc, read, &shelves, tags)?;
     let looks = looks_at_events(request);
     let all_events = some_events(alloc, conn, unit, looks)?;
     let recorded = wanted_records(scope);

@@ -1,13 +1,15 @@
 //! The tables, each described once: the statements that read its rows and that put one.
 
-ghost use Rattle.std.specs.Prelude.{◌≡◌, ◌∷◌, [], ℕ, List};
+ghost use Rattle.std.specs.Prelude.{◌≡◌, ◌∷◌, [], ℕ, List, true};
 ghost use Rattle.sqlite.specs.Tree.{Trees};
 ghost use Rattle.plant_columns.specs.Tables.{rows_seen};
 ghost use Rattle.plant_columns.specs.Tables.Kept.{AlarmKept, BandKept, CellKept, ChangeKept, EventKept, GrantKept, RecordKept, ShelfKept, UnitKept};
+ghost use Rattle.plant_model.specs.Order.{AreInOrder};
 ghost use Rattle.plant_model.specs.RowFacts.{change_number};
 ghost use Rattle.plant_model.specs.declared.rows.RowEdit.TheVariants.{Put};
 ghost use Rattle.plant_model.specs.declared.rows.Row.{Row as AnyRow};
 ghost use Rattle.plant_model.specs.declared.rows.Row.TheVariants.{Alarm as AlarmPut, Band as BandPut, Cell as CellPut, Change as ChangePut, Event as EventPut, Grant as GrantPut, Record as RecordPut, Shelf as ShelfPut, Unit as UnitPut};
+ghost use Rattle.plant_store.specs.Keys.{has_key};
 ghost use Rattle.plant_store.specs.Statements.{ReadsNumber, ReadsTag, ReadsUnit};
 ghost use Rattle.plant_store.specs.Texts.{alarms_of_text, bands_of_text, cells_of_text, changes_of_text, events_of_text, grants_of_text, records_of_text, shelves_of_text, units_of_text};
 ghost use Rattle.plant_types.specs.Names.{Name};
@@ -42,8 +44,10 @@ pub trait Stored: Shown {
         ensures reads { ReadsUnit Self.width Self.cells seen result.now }
         ensures text { result.now ≡ select_text };
 
-    /// Whether the key is that of one of these rows of the unit. True where that is not known.
-    fn has_key_in(&self, _rows: &UnitRows) -> bool {
+    /// Whether the key may be that of one of these rows of the unit: false only where it is none of theirs.
+    fn has_key_in(&self, _rows: &UnitRows) -> bool
+        ensures { AreInOrder _rows.now → has_key (as_row self.now) _rows.now ≡ true → result ≡ true }
+    {
         true
     }
 

@@ -106,7 +106,7 @@ pub(crate) fn push_grant(
     push(rt, list, Row::Grant(row));
 }
 
-fn push_alarm(rt: &impl Abort, alloc: Global, list: &mut List<RowEdit>, name: &[u8]) {
+pub(crate) fn push_alarm(rt: &impl Abort, alloc: Global, list: &mut List<RowEdit>, name: &[u8]) {
     let row = AlarmRow {
         tag: tag(rt, alloc, name),
         latching: true,

@@ -1,8 +1,8 @@
 //! Rows are kept by their keys, unit by unit, and none changes where a call is interrupted.
 
 use crate::fixtures::{
-    at, changes, counts, event, is_last, opened, person, push_band, push_grant, push_own,
-    push_shelf, put, rows, tag, unit,
+    at, changes, counts, event, is_last, opened, person, push_alarm, push_band, push_grant,
+    push_own, push_shelf, put, rows, tag, unit,
 };
 use plant_alarm::{Event, EventKind};
 use plant_books::{Books, MineRow, MineUnit};
@@ -176,5 +176,49 @@ fn changes_nothing_where_it_is_interrupted(rt: HostRuntime) {
     assert!(rt; matches!(books.apply(&unit, &wide, None).err(), Some(Fault::Store)));
     let rows = rows(&rt, alloc, &mut books);
     assert!(rt; is_last(&rows, 80));
+    drop(rows);
+}
+
+/// A later moment, and an alarm that is there already.
+fn kept_alarm(rt: &impl Abort, alloc: Global) -> List<RowEdit> {
+    let mut list = List::new(alloc);
+    push_own(rt, &mut list, 95);
+    push_alarm(rt, alloc, &mut list, b"PT-101");
+    list
+}
+
+#[test]
+fn puts_over_rows_that_were_seen(rt: HostRuntime) {
+    let alloc = rt.alloc();
+    let mut books = opened(&rt, alloc);
+    let unit = unit(&rt, alloc, b"U1");
+    let seen = rows(&rt, alloc, &mut books);
+    books
+        .apply(&unit, &kept_alarm(&rt, alloc), Some(&seen))
+        .expect(&rt, "changes");
+    drop(seen);
+    let rows = rows(&rt, alloc, &mut books);
+    assert!(rt; is_last(&rows, 95));
+    assert!(rt; counts(&rows) == [1, 3, 2, 1, 2, 2, 3, 2, 4]);
+    drop(rows);
+}
+
+#[test]
+fn changes_nothing_over_a_row_that_was_not_seen(rt: HostRuntime) {
+    let alloc = rt.alloc();
+    let mut books = opened(&rt, alloc);
+    let unit = unit(&rt, alloc, b"U1");
+    let none = UnitRows::none(alloc);
+    let list = kept_alarm(&rt, alloc);
+    assert!(rt;
+        matches!(
+            books.apply(&unit, &list, Some(&none)).err(),
+            Some(Fault::Store)
+        )
+    );
+    drop(none);
+    let rows = rows(&rt, alloc, &mut books);
+    assert!(rt; is_last(&rows, 80));
+    assert!(rt; counts(&rows) == [1, 3, 2, 1, 2, 2, 3, 2, 4]);
     drop(rows);
 }

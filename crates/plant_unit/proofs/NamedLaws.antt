@@ -3,7 +3,7 @@ use Rattle.std.proofs.Common.{List, ap, append_assoc, arith, cond, false, get_or
 use Rattle.std.proofs.lemmas.List.{take_all, take_more}
 use Rattle.std.proofs.lemmas.List.Folds.{list_any-append}
 use Rattle.std.specs.BTreeMap.{is_at}
-use Rattle.std.specs.BTreeSet.{BTreeSet, UpdatesBy, btree_set_len}
+use Rattle.std.specs.BTreeSet.{BTreeSet, UpdatesBy, btree_set_len, contains}
 use Rattle.std.specs.Cmp.{eq_by_cmp_equiv}
 use Rattle.std.specs.Cmp.Lexicographic.{nat_list_cmp_total}
 use Rattle.std.specs.List.{list_any}
@@ -17,6 +17,8 @@ use Rattle.plant_import.proofs.public.NeededLaws.{needed_late, needed_rises}
 use Rattle.plant_import.proofs.public.Risings.{in_number_order}
 use Rattle.plant_import.specs.Needed.{from_last_before, has_late, needed}
 use Rattle.plant_import.specs.Numbers.{event_number, with_events}
+use Rattle.plant_types.proofs.public.KeyedRowLaws.{tied}
+use Rattle.plant_types.proofs.public.Orders.{same_names}
 use Rattle.plant_types.specs.KeyedRows.{IsInOrder}
 use Rattle.std.specs.Ordering.{nat_cmp}
 use Rattle.plant_model.specs.declared.rows.AlarmRow.{AlarmRow}
@@ -42,6 +44,18 @@ named_more s n events i e k lt is own new are a =
     new.0 a
     ∙ (λ j. cond ((ap (λ x. same_name x a) own ∙ (eq_by_cmp_equiv nat_list_cmp_total).symm e.tag a) j) true (are a j))
     ∙ or_swap (same_name a e.tag) (list_any (λ x. same_name a x.tag) (take i events))
+    ∙ sym (ap (list_any (λ x. same_name a x.tag)) (take_more events i e lt ∙ ap (λ x. take i events ++ x ∷ []) (sym is)) ∙ list_any-append (λ x. same_name a x.tag) (take i events) (e ∷ []))
+
+covered : (x b : Bool) → (b ≡ true → x ≡ true) → x ≡ (x || (b || false))
+covered true b h = refl
+covered false true h = let no : false ≡ true = h refl in cc
+covered false false h = refl
+
+-- a tag that the set has already
+pub named_before : (s : BTreeSet Name) (events : List Event) (i : ℕ) (e : Event) → i < length events → e ≡ get_or events i e → contains name_cmp s e.tag ≡ true → AreNamed s (take i events) → AreNamed s (take (i + 1) events)
+named_before s events i e lt is has are a =
+    are a
+    ∙ covered (list_any (λ x. same_name a x.tag) (take i events)) (same_name a e.tag) (λ same. sym (are a) ∙ ap (contains name_cmp s) (same_names a e.tag (tied _ true same refl)) ∙ has)
     ∙ sym (ap (list_any (λ x. same_name a x.tag)) (take_more events i e lt ∙ ap (λ x. take i events ++ x ∷ []) (sym is)) ∙ list_any-append (λ x. same_name a x.tag) (take i events) (e ∷ []))
 
 pub named_all : (s : BTreeSet Name) (events : List Event) (i : ℕ) → length events ≤ i → AreNamed s (take i events) → AreNamed s events

@@ -133,7 +133,9 @@ fn tags_named(alloc: Global, events: &[Event]) -> Result<BTreeSet<Tag>, Fault>
 {
     let mut tags = BTreeSet::new(alloc);
     for event in events {
-        tags.insert(event.tag.copy(alloc)?)?;
+        if !tags.contains(&event.tag) {
+            tags.insert(event.tag.copy(alloc)?)?;
+        }
     }
     Ok(tags)
 }

@@ -2,16 +2,16 @@
 use Rattle.plant_alarm.specs.Shelves.{is_one_shot, is_timed, is_unshelved, shelf_state}
 use Rattle.plant_alarm.specs.declared.event.Event.{Event}
 use Rattle.plant_alarm.specs.declared.shelf.ShelfState.{ShelfState}
-use Rattle.plant_model.proofs.public.PartLists.{cells_within, filter-true, itself_number, limits_within, map-same, or_later, or_true, passes_number, row_at-filter, row_at-key, source_found, then-same}
+use Rattle.plant_model.proofs.public.PartLists.{cells_within, filter-true, itself_name, itself_number, limits_within, map-same, or_later, or_true, passes_name, passes_number, row_at-filter, row_at-key, source_found, then-same}
 use Rattle.plant_model.specs.Facts.{Facts, others_shelved}
 use Rattle.plant_model.specs.Grants.{is_before}
 use Rattle.plant_model.specs.Histories.{same_number}
 use Rattle.plant_model.specs.Changes.{no_matrix}
-use Rattle.plant_model.specs.Parts.{Selection, every, is_crowded, is_source, of_approved, of_content, of_number, of_records, of_topic, part_of, part_of_holder, part_of_stranger, rows_selected, selected, with_number}
+use Rattle.plant_model.specs.Parts.{Selection, every, has_shelf, is_crowded, is_source, of_approved, of_content, of_number, of_records, of_topic, part_of, part_of_holder, part_of_stranger, rows_selected, selected, with_number}
 use Rattle.plant_model.specs.Refusals.{first_refusal, holds_some, is_open, kind_refusals, lacks_role, of_change, own_refusals, refusals_of_holder, role_needed}
-use Rattle.plant_model.specs.Replies.{change_reply, record_reply, reply, status_reply}
+use Rattle.plant_model.specs.Replies.{change_reply, line_of, record_reply, reply, status_reply}
 use Rattle.plant_model.specs.RowChanges.{approval_changes, approved_row, changes_for, decision_change, for_change, in_force, placed_in, taken_out}
-use Rattle.plant_model.specs.RowFacts.{alarm_tag, change_found, change_number, change_read, facts_among, facts_from, facts_of, has_cells, held_by, holds_by, kind_read, last_number, matrix_read, pair_of, record_found, record_from, record_read, record_tag, sheet_read, shelf_tag, unit_read}
+use Rattle.plant_model.specs.RowFacts.{alarm_tag, change_found, change_number, change_read, facts_among, facts_from, facts_of, has_cells, held_by, holds_by, kind_read, last_number, last_return, matrix_read, pair_of, record_found, record_from, record_read, record_tag, sheet_read, shelf_tag, unit_read}
 use Rattle.plant_model.specs.Shelves.{shelf_left, shelf_row_as}
 use Rattle.plant_model.specs.Verdicts.{refused_or, verdict_of}
 use Rattle.plant_model.specs.declared.call.Call.{Call}
@@ -20,6 +20,8 @@ use Rattle.plant_model.specs.declared.call.Request.TheVariants.{Alarms, Approve,
 use Rattle.plant_model.specs.declared.reply.ChangeRow.{ChangeRow}
 use Rattle.plant_model.specs.declared.reply.Full.TheVariants.{Alarms as TooManyAlarms}
 use Rattle.plant_model.specs.declared.reply.RecordRow.{RecordRow}
+use Rattle.plant_model.specs.declared.reply.Reply.TheVariants.{Shelves as ShelvesOf}
+use Rattle.plant_model.specs.declared.reply.ShelfLine.{ShelfLine}
 use Rattle.plant_model.specs.declared.reply.Refused.TheVariants.{AlarmTaken, AlarmUnknown, AlreadyOutOfService, ConditionAlreadyShelved, ConditionNotShelved, MomentBehind, NotGranted, NotOutOfService, NotProposed, RecordUnknown, RoleLacking, SamePerson, ShelfQuota, ShelvingTimeOutOfRange, UnitFull}
 use Rattle.plant_model.specs.declared.rows.AlarmRow.{AlarmRow}
 use Rattle.plant_model.specs.declared.rows.RowEdit.{RowEdit}
@@ -186,12 +188,27 @@ module _ (rows : UnitRows) (p : Name) (t : ℕ) where
       ap (option_and_then (record_read (within s))) (entry_there a)
       ∙ then-same (record_read (within s)) (record_read rows) (record_found rows a) (λ r e. record_there s r (chosen r.change_no (source_found a rows.records r e)))
 
+  -- the line of a shelf whose alarm is selected, and those of shelves that all have their alarms selected
+  abbrev line_by : List AlarmRow → ShelfRow → Option ShelfLine
+  line_by alarms s = line_of s (shelf_state (shelf_left (Some s)) (last_return alarms s.tag) t)
+
+  abbrev passing : (Name → Bool) → List AlarmRow
+  passing test = filter (λ r. test r.tag) rows.alarms
+
+  line_there : (test : Name → Bool) (s : ShelfRow) → test s.tag ≡ true → line_by (passing test) s ≡ line_by rows.alarms s
+  line_there test s holds =
+      ap (λ o. line_of s (shelf_state (shelf_left (Some s)) (option_and_then (λ (r : AlarmRow). r.return_s) o) t))
+      (row_at-filter name_cmp alarm_tag s.tag (λ r. test r.tag) (λ r e. passes_name test s.tag r.tag holds e) rows.alarms)
+
+  lines_there : (test : Name → Bool) (shelves : List ShelfRow) → ((a : Name) → has_shelf shelves a ≡ true → test a ≡ true) → filter_map (line_by (passing test)) shelves ≡ filter_map (line_by rows.alarms) shelves
+  lines_there test [] chosen = refl
+  lines_there test (s ∷ shelves) chosen =
+      ap (λ o. cons_option o (filter_map (line_by (passing test)) shelves)) (line_there test s (chosen s.tag (or_true _ _ (itself_name s.tag))))
+      ∙ ap (cons_option (line_by rows.alarms s)) (lines_there test shelves (λ a e. chosen a (or_later _ _ e)))
+
   -- the facts of these grants, alarms, shelves and records among the rows
   abbrev with_grants : List GrantRow → Facts
   with_grants grants = facts_of (record rows { grants = grants })
-
-  abbrev with_shelves : List AlarmRow → List ShelfRow → Facts
-  with_shelves alarms shelves = facts_of (record rows { alarms = alarms; shelves = shelves })
 
   abbrev with_alarms : List AlarmRow → Facts
   with_alarms alarms = facts_of (record rows { alarms = alarms })
@@ -333,7 +350,8 @@ module _ (rows : UnitRows) (p : Name) (t : ℕ) where
   reply_same (Status u a) = λ i. status_reply (alarm_there a i) (state_now (alarm_there a i) (shelf_there a i))
   reply_same (RecordOf u a) = ap record_reply (rationale_there a (selected rows (RecordOf u a)) (λ n e. e))
   reply_same (ChangeOf u n) = ap change_reply (numbered_there n)
-  reply_same (Shelves u) = λ i. reply (with_shelves (filter-true rows.alarms i) (filter-true rows.shelves i)) t (Shelves u)
+  reply_same (Shelves u) = ap (λ lines. ShelvesOf u t lines)
+      (ap (filter_map (line_by (passing (has_shelf rows.shelves)))) (filter-true rows.shelves) ∙ lines_there (has_shelf rows.shelves) rows.shelves (λ a e. e))
   reply_same (Alarms u) = λ i. reply (with_records (filter-true rows.alarms i) (filter-true rows.shelves i) (filter-true rows.records i)) t (Alarms u)
   reply_same (Standing u) = λ i. reply (with_records (filter-true rows.alarms i) (filter-true rows.shelves i) (filter-true rows.records i)) t (Standing u)
   reply_same _ = refl

@@ -5,7 +5,8 @@ use Rattle.plant_model.specs.RowFacts.{cells_at, record_tag}
 use Rattle.plant_model.specs.declared.rows.BandRow.{BandRow}
 use Rattle.plant_model.specs.declared.rows.CellRow.{CellRow}
 use Rattle.plant_model.specs.declared.rows.RecordEntry.{RecordEntry}
-use Rattle.plant_types.proofs.public.Orders.{number_total}
+use Rattle.plant_types.proofs.public.KeyedRowLaws.{tied}
+use Rattle.plant_types.proofs.public.Orders.{name_total, number_total, same_names}
 use Rattle.plant_types.specs.Names.{Name, name_cmp, same_name}
 use Rattle.plant_types.specs.KeyedRows.{row_at}
 use Rattle.std.proofs.Common.{ap, cond, refl, sym, ◌∙◌}
@@ -69,6 +70,13 @@ itself_number n = (eq_by_cmp_equiv number_total).refl n
 -- a test of numbers holds of a number that is the same
 pub passes_number : (test : ℕ → Bool) (n m : ℕ) → test n ≡ true → same_number n m ≡ true → test m ≡ true
 passes_number test n m holds same = ap test (sym (same_number_of n m same)) ∙ holds
+
+pub itself_name : (a : Name) → same_name a a ≡ true
+itself_name a = (eq_by_cmp_equiv name_total).refl a
+
+-- and a test of names of a name that is the same
+pub passes_name : (test : Name → Bool) (a b : Name) → test a ≡ true → same_name a b ≡ true → test b ≡ true
+passes_name test a b holds same = ap test (sym (same_names a b (tied _ true same refl))) ∙ holds
 
 -- Matrices: the limits and cells of a number that passes
 pub limits_within : (test : ℕ → Bool) (n : ℕ) → test n ≡ true → (bands : List BandRow) → filter (λ (b : BandRow). same_number n b.matrix_no) (filter (λ (b : BandRow). test b.matrix_no) bands) ≡ filter (λ (b : BandRow). same_number n b.matrix_no) bands

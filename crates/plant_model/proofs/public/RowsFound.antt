@@ -93,7 +93,7 @@ module _ {X : Type 0} (key : X → Name) where
   pub later : (t : Name) (r : X) (rows : List X) (p : ℕ) → Parts t (r ∷ rows) (suc p) → Parts t rows p
   later t r rows p h = (λ k d low high. h.0 (suc k) d (omega arith) (omega arith), λ k d low high. h.1 (suc k) d (omega arith) (omega arith))
 
-  none_after : (t : Name) (rows : List X) → After t rows → row_at name_cmp key t rows ≡ None
+  pub none_after : (t : Name) (rows : List X) → After t rows → row_at name_cmp key t rows ≡ None
   none_after t [] h = refl
   none_after t (r ∷ rows) h = ap (λ o. cond (is_eq o) (Some r) (row_at name_cmp key t rows)) h.0 ∙ none_after t rows h.1
 

@@ -12,14 +12,15 @@ use Rattle.plant_model.specs.declared.rows.RecordEntry.{RecordEntry}
 use Rattle.plant_types.specs.Names.{same_name}
 use Rattle.plant_columns.specs.Tables.{AreBooks, rows_seen}
 use Rattle.plant_columns.specs.Tables.Kept.{UnitKept, GrantKept, AlarmKept, ShelfKept, BandKept, CellKept, EventKept, RecordKept, ChangeKept}
-use Rattle.plant_store.specs.Wanted.{alarms_with, events_with, records_with, shelves_with}
+use Rattle.plant_store.specs.Wanted.{alarms_left, alarms_with, events_with, records_with, shelves_with}
 use Rattle.std.specs.List.{slice_get}
 use Rattle.plant_model.specs.Histories.{same_number}
-use Rattle.plant_store.proofs.Selected.{approved_found, part_found, read_in_order, records_asked}
+use Rattle.plant_store.proofs.Selected.{alarms_in_order, approved_found, part_found, read_in_order, records_asked, shelves_in_order}
 use Rattle.plant_columns.proofs.public.ShapeLaws.{good}
-use Rattle.plant_columns.specs.Tables.{event_shape}
+use Rattle.plant_columns.specs.Tables.{alarm_shape, event_shape, shelf_shape}
 use Rattle.plant_columns.proofs.public.Shapes.{rises}
-use Rattle.plant_model.specs.RowFacts.{event_number}
+use Rattle.plant_model.specs.Order.{TagsRise}
+use Rattle.plant_model.specs.RowFacts.{alarm_tag, event_number, shelf_tag}
 use Rattle.plant_types.specs.KeyedRows.{IsInOrder}
 use Rattle.std.specs.Ordering.{nat_cmp}
 use Rattle.plant_store.proofs.part.holders_part.Goals as goal
@@ -79,15 +80,23 @@ returns-clause-found g c honest m k units own =
     let records : c.in_ok-records.records ≡ filter (λ (r : RecordEntry). chosen.rationale r.tag) all.records =
     records_asked old m u k chosen c.wanted_records-recorded.result (c.wanted_records-recorded.ensures all) c.in_ok-records.records
     (c.in_ok-records.ensures.rows t7.0 b6 ∙ ap (λ (d : Database). records_with c.wanted_records-recorded.result (rows_seen u d.trees RecordKept)) e6) in
+    let alarms_read : c.in_ok-read.read ≡ alarms_with c.wanted_alarms-tags.result (rows_seen u old.now.trees AlarmKept) =
+    c.in_ok-read.ensures.rows t4.0 b3 ∙ ap (λ (d : Database). alarms_with c.wanted_alarms-tags.result (rows_seen u d.trees AlarmKept)) e3 in
+    let shelves_read : c.in_ok-shelves.shelves ≡ shelves_with c.wanted_shelves-shelved.result (rows_seen u old.now.trees ShelfKept) =
+    c.in_ok-shelves.ensures.rows t5.0 b4 ∙ ap (λ (d : Database). shelves_with c.wanted_shelves-shelved.result (rows_seen u d.trees ShelfKept)) e4 in
+    let alarms_rise : TagsRise alarm_tag c.in_ok-read.read =
+    subst (TagsRise alarm_tag) (sym alarms_read) (alarms_in_order c.wanted_alarms-tags.result (rows_seen u old.now.trees AlarmKept) (rises alarm_shape (good AlarmKept) u (old.now.trees 5) (k.books.tidy AlarmKept))) in
+    let shelves_rise : TagsRise shelf_tag c.in_ok-shelves.shelves =
+    subst (TagsRise shelf_tag) (sym shelves_read) (shelves_in_order c.wanted_shelves-shelved.result (rows_seen u old.now.trees ShelfKept) (rises shelf_shape (good ShelfKept) u (old.now.trees 7) (k.books.tidy ShelfKept))) in
     let all_read : c.in_ok-all_events.all_events ≡ events_with c.looks_at_events-looks.result (rows_seen u old.now.trees EventKept) = c.in_ok-all_events.ensures.rows t6.0 b5 ∙ ap (λ (d : Database). events_with c.looks_at_events-looks.result (rows_seen u d.trees EventKept)) e5 in
     let in_order : IsInOrder nat_cmp event_number c.in_ok-all_events.all_events = subst (IsInOrder nat_cmp event_number) (sym all_read) (read_in_order c.looks_at_events-looks.result (rows_seen u old.now.trees EventKept) (rises event_shape (good EventKept) u (old.now.trees 13) (k.books.tidy EventKept))) in
     part_found old m u k call chosen is c.args.units units
     c.wants_all_grants-all.result (c.wants_all_grants-all.ensures all)
     c.in_ok-grants.grants (c.in_ok-grants.ensures.rows t3.0 b2 call.person (own ∙ ap (λ (d : Database). filter (λ (g : GrantRow). same_name call.person g.person) (rows_seen u d.trees GrantKept)) (sym e2)) ∙ ap (λ (d : Database). filter (λ (g : GrantRow). same_name call.person g.person || c.wants_all_grants-all.result) (rows_seen u d.trees GrantKept)) e2)
-    c.wanted_alarms-tags.result (c.wanted_alarms-tags.ensures all)
-    c.in_ok-alarms.alarms (c.in_ok-alarms.ensures.rows t4.0 b3 ∙ ap (λ (d : Database). alarms_with c.wanted_alarms-tags.result (rows_seen u d.trees AlarmKept)) e3)
+    c.wanted_alarms-tags.result (c.wanted_alarms-tags.ensures.alarms all) (c.wanted_alarms-tags.ensures.shelves all)
     c.wanted_shelves-shelved.result (c.wanted_shelves-shelved.ensures all)
-    c.in_ok-shelves.shelves (c.in_ok-shelves.ensures.rows t5.0 b4 ∙ ap (λ (d : Database). shelves_with c.wanted_shelves-shelved.result (rows_seen u d.trees ShelfKept)) e4)
+    c.in_ok-shelves.shelves shelves_read
+    c.in_ok-alarms.alarms (c.in_ok-alarms.ensures alarms_rise shelves_rise ∙ ap (alarms_left c.wanted_alarms-tags.result c.in_ok-shelves.shelves) alarms_read)
     c.looks_at_events-looks.result c.looks_at_events-looks.ensures
     c.in_ok-all_events.all_events all_read
     c.in_ok-events.events (c.in_ok-events.ensures in_order all)

@@ -1,0 +1,27 @@
+use Rattle.std.proofs.Common.{None, Some, [], ap, drop, sym, ◌+◌, ◌++◌, ◌∙◌, ◌∷◌}
+use Rattle.std.proofs.lemmas.List.{append-nil}
+use Rattle.std.specs.Prelude.{option_copied}
+use Rattle.plant_books.specs.Found.{shelved}
+use Rattle.plant_books.proofs.ShelvedLaws.{all_shelved, next_shelved}
+use Rattle.plant_books.proofs.found.shelved_alarms.Goals.{in-Some+in_ok-duplicate+in_ok-push, in_default}
+use Rattle.plant_books.proofs.found.shelved_alarms.Goals as goal
+
+pub loop-shelf-preserved : goal.loop-shelf-preserved
+loop-shelf-preserved c alarms_rise shelves_rise =
+    let alarms = c.args.alarms.now in
+    let shelves = c.args.shelves.now in
+    let i = c.loop-shelf.shelf-index in
+    let so_far = c.loop-shelf.found in
+    let so = c.loop-shelf.invariant alarms_rise shelves_rise in
+    elim c.match-row_of.branch [
+      | in-Some+in_ok-duplicate+in_ok-push w ↦
+          ap (λ l. l ++ shelved (drop (i + 1) shelves) alarms) (w.found-is ∙ w.in_ok-push.ensures.ok ∙ ap (λ x. so_far ++ x ∷ []) w.in_ok-duplicate.ensures.value)
+          ∙ next_shelved shelves alarms i c.shelf-item.result (Some w.in-Some.alarm.now) so_far alarms_rise shelves_rise c.loop-shelf-test.true c.shelf-item.is (sym (ap option_copied w.in-Some.is) ∙ c.row_of.ensures alarms_rise) so
+      | in_default w ↦
+          ap (λ l. l ++ shelved (drop (i + 1) shelves) alarms) (w.found-is ∙ sym (append-nil so_far))
+          ∙ next_shelved shelves alarms i c.shelf-item.result None so_far alarms_rise shelves_rise c.loop-shelf-test.true c.shelf-item.is (sym (ap option_copied w.in_default.is) ∙ c.row_of.ensures alarms_rise) so
+    ]
+
+pub returns-clause-value : goal.returns-clause-value
+returns-clause-value c alarms_rise shelves_rise =
+    all_shelved c.args.shelves.now c.args.alarms.now c.loop-shelf.shelf-index c.loop-shelf.found c.loop-shelf-test.false (c.loop-shelf.invariant alarms_rise shelves_rise)
