@@ -1,6 +1,7 @@
 //! Which grants are held at a moment.
 
 ghost use Rattle.std.specs.Prelude.{◌≡◌, option_copied};
+ghost use Rattle.std.specs.List.{list_any};
 ghost use Rattle.plant_model.specs.Grants as grants;
 ghost use Rattle.plant_model.specs.RowFacts.{held_by, holds_by, pair_of};
 ghost use Rattle.plant_types.specs.Roles.{pair_cmp, same_pair};
@@ -24,6 +25,13 @@ pub fn is_pair(row: &GrantRow, person: &Person, role: Role) -> bool
     ensures { result ≡ same_pair (person.now, role) (pair_of row.now) }
 {
     *person == row.person && role.is(row.role_no)
+}
+
+/// Whether the pair stands: one of the grants is of it, whether or not it has ended.
+pub fn stands(grants: &[GrantRow], person: &Person, role: Role) -> bool
+    ensures { result ≡ list_any (λ g. same_pair (person.now, role) (pair_of g)) grants.now }
+{
+    grants.iter().any(|row| is_pair(row, person, role))
 }
 
 fn grant_of<'a>(grants: &'a [GrantRow], person: &Person, role: Role) -> Option<&'a GrantRow>

@@ -1,7 +1,7 @@
 -- Whether rows of a unit have one with the key of another.
 use Rattle.std.specs.List.{list_any}
 use Rattle.std.specs.Ordering.{eq_by_cmp}
-use Rattle.std.specs.Prelude.{Bool, [], false, true, ◌∷◌}
+use Rattle.std.specs.Prelude.{Bool}
 use Rattle.plant_model.specs.Histories.{same_number}
 use Rattle.plant_model.specs.Matrices.{band_cmp, cell_cmp}
 use Rattle.plant_model.specs.RowFacts.{band_key, cell_key, pair_of}

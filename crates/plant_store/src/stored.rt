@@ -24,7 +24,7 @@ use plant_columns::encode::{
 };
 use plant_model::{
     AlarmRow, BandRow, CellRow, ChangeEntry, GrantRow, RecordEntry, ShelfRow, UnitRow, UnitRows,
-    change_at, is_pair, row_of,
+    change_at, row_of, stands,
 };
 use plant_types::UnitCode;
 use sqlite::{Alter, Error, Transaction};
@@ -129,10 +129,7 @@ impl Stored for GrantRow {
     }
 
     fn has_key_in(&self, rows: &UnitRows) -> bool {
-        rows.grants
-            .as_slice()
-            .iter()
-            .any(|row| is_pair(row, &self.person, self.role_no))
+        stands(rows.grants.as_slice(), &self.person, self.role_no)
     }
 
     fn update<S: Alter>(

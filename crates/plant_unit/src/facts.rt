@@ -1,27 +1,18 @@
 //! The facts that a verdict looks at, read from the rows of a part.
 
 ghost use Rattle.std.specs.Prelude.{◌≡◌, count_by, option_copied};
-ghost use Rattle.std.specs.List.{list_any};
 ghost use Rattle.plant_types.specs.Names.{name_cmp};
 ghost use Rattle.plant_types.specs.KeyedRows.{row_at};
-ghost use Rattle.plant_types.specs.Roles.{same_pair};
 ghost use Rattle.plant_alarm.specs.Shelves.{is_unshelved, shelf_state};
 ghost use Rattle.plant_model.specs.Shelves as shelves;
 ghost use Rattle.plant_model.specs.Facts.{is_steward_row, others_shelved, shelf_now};
 ghost use Rattle.plant_model.specs.Refusals.{holds_some};
-ghost use Rattle.plant_model.specs.RowFacts.{facts_in, pair_of, shelf_tag};
+ghost use Rattle.plant_model.specs.RowFacts.{facts_in, shelf_tag};
 ghost use Rattle.plant_unit.specs.Shelving as shelving;
 
 use plant_alarm::{Shelf, ShelfState, shelf_at};
-use plant_model::{GrantRow, ShelfRow, UnitPart, holds_some_by, is_held_by, is_pair, last_return};
+use plant_model::{GrantRow, ShelfRow, UnitPart, holds_some_by, is_held_by, last_return};
 use plant_types::{Moment, Person, Role, Tag};
-
-/// Whether the pair stands.
-pub fn stands(grants: &[GrantRow], person: &Person, role: Role) -> bool
-    ensures { result ≡ list_any (λ g. same_pair (person.now, role) (pair_of g)) grants.now }
-{
-    grants.iter().any(|row| is_pair(row, person, role))
-}
 
 /// Whether the pair is held at the moment.
 pub fn is_held(part: &UnitPart, person: &Person, role: Role, now: Moment) -> bool

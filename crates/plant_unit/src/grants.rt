@@ -6,8 +6,8 @@ ghost use Rattle.plant_types.specs.Results.{OnlyMemory};
 ghost use Rattle.plant_model.specs.declared.call.Request.TheVariants.{Grant, Withdraw};
 ghost use Rattle.plant_unit.specs.FromFacts.{DecidesAlways, DecidesAs};
 
-use crate::facts::{is_held, stands, stewards};
-use plant_model::{Full, GrantRow, Key, Refused, Row, RowEdit, UnitPart, is_before};
+use crate::facts::{is_held, stewards};
+use plant_model::{Full, GrantRow, Key, Refused, Row, RowEdit, UnitPart, is_before, stands};
 use plant_types::limits::MAX_GRANTS;
 use plant_types::{Fault, Moment, Person, Role, Tenure};
 use std::alloc::Global;
