@@ -4,7 +4,7 @@ use Rattle.std.proofs.lemmas.Bool.{lt-ltb, ltb-true}
 use Rattle.std.proofs.lemmas.List.{append-nil}
 use Rattle.std.specs.List.{list_all}
 use Rattle.std.specs.Ordering.{nat_cmp}
-use Rattle.std.specs.Prelude.{Bool, Option, Some, nat_lt, slice_get, ℕ, ◌&&◌, ◌-◌, ◌<◌, ◌≡◌, ◌≤◌}
+use Rattle.std.specs.Prelude.{Bool, Option, Some, nat_lt, slice_get, ℕ, ◌&&◌, ◌-◌, ◌<◌, ◌≡◌}
 use Rattle.plant_alarm.specs.declared.event.Event.{Event}
 use Rattle.plant_import.proofs.public.Counted.{order_puts, put_twice}
 use Rattle.plant_import.proofs.public.Placed.{AllAbove, AllBelow, EachBehind, Rises, puts_after, rises_of}

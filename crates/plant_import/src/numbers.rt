@@ -1,6 +1,6 @@
 //! Events by their numbers: how many of a file are new, and all events with those of a file.
 
-ghost use Rattle.std.specs.Prelude.{◌≡◌, ◌++◌, [], IfOk, List, OnOk, false, length, option_map, slice_get, unwrap_or};
+ghost use Rattle.std.specs.Prelude.{◌≡◌, ◌↔◌, ◌++◌, [], IfOk, IsTrue, List, OnOk, false, length, option_map, slice_get, unwrap_or};
 ghost use Rattle.std.specs.List.{list_all, list_any};
 ghost use Rattle.plant_alarm.specs.declared.event.Event.{Event as TheEvent};
 ghost use Rattle.plant_types.specs.Results.{OnlyMemory};
@@ -11,7 +11,7 @@ ghost use Rattle.plant_import.specs.Numbers.{AreByNumber, new_numbers, with_even
 
 use crate::relation::place_of;
 use plant_alarm::{Event, Number};
-use plant_types::{Fault, List};
+use plant_types::{Fault, List, duplicated};
 use std::alloc::Global;
 use std::collections::{BTreeMap, BTreeSet};
 
@@ -71,11 +71,21 @@ fn by_number(alloc: Global, events: &[Event]) -> Result<BTreeMap<Number, Event>,
     Ok(rising)
 }
 
-/// The events in rising number. Of two with the same number the last counts.
+/// Whether the numbers of the events rise.
+fn rise(events: &[Event]) -> bool
+    ensures { IsTrue result ↔ AreNumbered events.now }
+{
+    events.is_sorted_by(|event, next| event.seq < next.seq)
+}
+
+/// The events in rising number. Of two with the same number the last counts. No tree is made where the numbers rise already.
 fn in_rising_number(alloc: Global, events: &[Event]) -> Result<List<Event>, Fault>
     ensures value { IfOk result (λ rising. rising ≡ with_events [] events.now) }
     ensures err { OnlyMemory result }
 {
+    if rise(events) {
+        return duplicated(alloc, events);
+    }
     let mut rising = List::new(alloc);
     for event in by_number(alloc, events)?.into_values() {
         rising.push(event)?;

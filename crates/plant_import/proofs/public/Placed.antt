@@ -1,11 +1,11 @@
 -- Rows in the order of their numbers: the place of a number among them, and rows put among them.
-use Rattle.std.proofs.lemmas.Bool.{false≢true}
+use Rattle.std.proofs.lemmas.Bool.{false≢true, ltb-false, ltb-true}
 use Rattle.std.proofs.Common.{ap, append_assoc, arith, drop, get_or, nat_lt, refl, set, subst, sym, take, ◌∙◌}
 use Rattle.std.specs.Cmp.{nat_cmp_is, ranked}
 use Rattle.std.specs.FinMap.Entries.{below_all, by_order}
-use Rattle.std.specs.List.{insert, list_any}
+use Rattle.std.specs.List.{IsAllAdjacentAnswer, insert, list_any}
 use Rattle.std.specs.Ordering.{eq_by_cmp, is_eq, is_lt, nat_cmp}
-use Rattle.std.specs.Prelude.{Bool, List, T, [], false, fold, if◌then◌else◌, length, map, option_map, slice_get, suc, true, unwrap_or, zero, ℕ, ◌&&◌, ◌++◌, ◌+◌, ◌<◌, ◌∷◌, ◌≡◌, ◌≤◌, ◌||◌}
+use Rattle.std.specs.Prelude.{Bool, IsTrue, List, T, [], false, fold, if◌then◌else◌, length, map, option_map, slice_get, suc, true, unwrap_or, zero, ℕ, ◌&&◌, ◌++◌, ◌+◌, ◌<◌, ◌∷◌, ◌≡◌, ◌≤◌, ◌||◌, ◌↔◌}
 use Rattle.std.specs.declared.cmp.Ordering.TheVariants.{Equal, Greater, Less}
 use Rattle.std.specs.List.Sorted.{IsNonDecreasingBy, IsPartitionPoint, IsPartitionedBy}
 use Rattle.std.proofs.lemmas.List.Sorted.{IsPartitionedBy-ltb}
@@ -191,6 +191,44 @@ module _ {X : Type 0} (key : X → ℕ) where
   behind_end r xs [] h k = tt
   behind_end r xs (s ∷ rs) h k = (below_end (key s) xs r (below_higher (key r) (key s) xs (omega (arith, k.0)) h) k.0, behind_end r xs rs h k.1)
 
+  -- rising rows that are put one by one are those rows
+  pub puts_none : (rs : List X) → Rises rs → puts [] rs ≡ rs
+  puts_none [] h = refl
+  puts_none (r ∷ rs) h = puts_after rs (r ∷ []) [] (behind_end r [] rs tt h.0) ∙ ap (λ l. r ∷ l) (puts_none rs h.1)
+
+  -- rows of which each is above the one before it rise, and no others
+  pub neighbours_rise : (rows : List X) → ((k : ℕ) (d : X) → k + 1 < length rows → key (get_or rows k d) < key (get_or rows (k + 1) d)) → Rises rows
+  neighbours_rise [] h = tt
+  neighbours_rise (x ∷ []) h = (tt, tt)
+  neighbours_rise (x ∷ y ∷ rows) h =
+      let rest : Rises (y ∷ rows) = neighbours_rise (y ∷ rows) (λ k d within. subst (λ n. key (get_or (y ∷ rows) k d) < key (get_or (x ∷ y ∷ rows) n d)) (one_more k) (h (suc k) d (omega (arith, within)))) in
+      let lt : key x < key y = h 0 x (omega arith) in
+      ((lt, higher (key x) (key y) rows (omega (arith, lt)) rest.0), rest)
+    where
+      one_more : (k : ℕ) → suc k + 1 ≡ suc (k + 1)
+      one_more k = omega arith
+
+  pub rise_neighbours : (rows : List X) → Rises rows → (k : ℕ) (d : X) → k + 1 < length rows → key (get_or rows k d) < key (get_or rows (k + 1) d)
+  rise_neighbours [] h k d within = absurd (omega (arith, within))
+  rise_neighbours (x ∷ xs) h zero d within = above_at (key x) xs h.0 0 d (omega (arith, within))
+  rise_neighbours (x ∷ xs) h (suc k) d within =
+      subst (λ n. key (get_or xs k d) < key (get_or (x ∷ xs) n d)) (one_less k) (rise_neighbours xs h.1 k d (omega (arith, within)))
+    where
+      one_less : (k : ℕ) → suc (k + 1) ≡ suc k + 1
+      one_less k = omega arith
+
+  -- what looking at neighbours tells
+  pub rise_is_told : (rows : List X) (b : Bool) → IsAllAdjacentAnswer (λ x y b. b ≡ nat_lt (key x) (key y)) rows b → IsTrue b ↔ IsInOrder nat_cmp key rows
+  rise_is_told rows true h = (λ _. in_order_of rows (neighbours_rise rows (λ k d within. ltb-true _ _ (sym (h k d within)))), λ _. refl)
+  rise_is_told [] false h = absurd (omega (arith, h.1))
+  rise_is_told (x ∷ xs) false h = (
+    λ f. cc f,
+    λ order.
+        let up = rise_neighbours (x ∷ xs) (rises_of (x ∷ xs) order) h.0 x h.1 in
+        let le = ltb-false _ _ (sym (h.2 x)) in
+        absurd (omega (arith, up, le)),
+  )
+
   -- the rows without the first, where it has a number
   abbrev pub without_first : ℕ → List X → List X
   without_first n xs = if is_at xs 0 n then drop 1 xs else xs
@@ -251,15 +289,6 @@ module _ {X : Type 0} (key : X → ℕ) where
       ap (puts rest) here ∙ ap (λ l. puts l (r ∷ drop (i + 1) more)) parted_so.whole ∙ puts_first r (take p rest) (drop p rest) (drop (i + 1) more) parted_so.low parted_so.high tail.0 in
       ap (λ l. l ++ puts (without_first (key r) above) (drop (i + 1) more)) (append_assoc all below (r ∷ [])) ∙ append_assoc all (below ++ r ∷ []) (puts (without_first (key r) above) (drop (i + 1) more))
       ∙ (λ j. all ++ ((eb j ++ r ∷ []) ++ puts (without_first (key r) (ea j)) (drop (i + 1) more))) ∙ ap (λ l. all ++ l) (sym step) ∙ so
-
-  -- the same where the rows are seen through two slices
-  pub put_new_at : (r : X) (xs ys zs : List X) (p : ℕ) (b : Bool) → IsInOrder nat_cmp key xs → ys ≡ xs → zs ≡ xs → (IsInOrder nat_cmp key ys → Parts (key r) ys p) → p ≤ length ys → b ≡ is_at zs p (key r) → b ≡ false → put r xs ≡ insert xs p r
-  put_new_at r xs ys zs p b order ey ez parts le eb absent =
-      put_new r xs p (subst (λ (l : List X). Parts (key r) l p) ey (parts (subst (λ (l : List X). IsInOrder nat_cmp key l) (sym ey) order))) (subst (λ (l : List X). p ≤ length l) ey le) (ap (λ l. is_at l p (key r)) (sym ez) ∙ sym eb ∙ absent)
-
-  pub put_there_at : (r : X) (xs ys zs : List X) (p : ℕ) (b : Bool) → IsInOrder nat_cmp key xs → ys ≡ xs → zs ≡ xs → (IsInOrder nat_cmp key ys → Parts (key r) ys p) → b ≡ is_at zs p (key r) → b ≡ true → put r xs ≡ set xs p r
-  put_there_at r xs ys zs p b order ey ez parts eb ties =
-      put_there r xs p (subst (λ (l : List X). Parts (key r) l p) ey (parts (subst (λ (l : List X). IsInOrder nat_cmp key l) (sym ey) order))) (ap (λ l. is_at l p (key r)) (sym ez) ∙ sym eb ∙ ties)
 
   pub rises_left : (n : ℕ) (rest above left : List X) (p : ℕ) → Rises rest → above ≡ drop p rest → left ≡ without_first n above → Rises left
   rises_left n rest above left p rises ea el =

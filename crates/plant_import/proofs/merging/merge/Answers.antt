@@ -1,4 +1,4 @@
-use Rattle.std.proofs.Common.{List, Ok, [], ap, arith, false, length, length-append, refl, rules, subst, sym, true, ◌++◌, ◌∙◌, ◌∷◌, ◌≡◌}
+use Rattle.std.proofs.Common.{List, Ok, [], ap, arith, length, length-append, refl, rules, subst, sym, ◌++◌, ◌∷◌, ◌≡◌}
 use Rattle.std.specs.Prelude.{Bool, Result}
 use Rattle.plant_import.specs.declared.bad_file.Cause.{Cause}
 use Rattle.plant_alarm.specs.declared.event.Event.{Event}
