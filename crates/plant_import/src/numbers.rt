@@ -104,6 +104,17 @@ fn push_all(alloc: Global, all: &mut List<Event>, events: &[Event]) -> Result<()
     Ok(())
 }
 
+/// Adds the events themselves, without copies.
+fn append(all: &mut List<Event>, events: List<Event>) -> Result<(), Fault>
+    ensures value { OnOk result (all.new ≡ all.old ++ events) }
+    ensures err { OnlyMemory result }
+{
+    for event in events.into_vec() {
+        all.push(event)?;
+    }
+    Ok(())
+}
+
 /// The events without the first, where it has this number.
 fn without_first(events: &[Event], number: Number) -> &[Event]
     ensures { result.now ≡ numbers.behind_number number events.now }
@@ -139,6 +150,9 @@ pub fn events_after(alloc: Global, kept: &[Event], more: &[Event]) -> Result<Lis
     ensures err { OnlyMemory result }
 {
     let rising = in_rising_number(alloc, more)?;
+    if kept.is_empty() {
+        return Ok(rising);
+    }
     joined(alloc, kept, rising.as_slice())
 }
 
@@ -164,7 +178,7 @@ pub fn put_events(alloc: Global, kept: &mut List<Event>, more: &[Event]) -> Resu
 {
     let rising = in_rising_number(alloc, more)?;
     if come_after(rising.as_slice(), kept.as_slice()) {
-        return push_all(alloc, kept, rising.as_slice());
+        return append(kept, rising);
     }
     *kept = joined(alloc, kept.as_slice(), rising.as_slice())?;
     Ok(())

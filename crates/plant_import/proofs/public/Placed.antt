@@ -1,9 +1,9 @@
 -- Rows in the order of their numbers: the place of a number among them, and rows put among them.
-use Rattle.std.proofs.lemmas.Bool.{false≢true, ltb-false, ltb-true}
-use Rattle.std.proofs.Common.{ap, append_assoc, arith, drop, get_or, nat_lt, refl, set, subst, sym, take, ◌∙◌}
+use Rattle.std.proofs.lemmas.Bool.{ltb-false, ltb-true}
+use Rattle.std.proofs.Common.{ap, append_assoc, arith, drop, get_or, nat_lt, refl, subst, sym, take, ◌∙◌}
 use Rattle.std.specs.Cmp.{nat_cmp_is, ranked}
 use Rattle.std.specs.FinMap.Entries.{below_all, by_order}
-use Rattle.std.specs.List.{IsAllAdjacentAnswer, insert, list_any}
+use Rattle.std.specs.List.{IsAllAdjacentAnswer, list_any}
 use Rattle.std.specs.Ordering.{eq_by_cmp, is_eq, is_lt, nat_cmp}
 use Rattle.std.specs.Prelude.{Bool, IsTrue, List, T, [], false, fold, if◌then◌else◌, length, map, option_map, slice_get, suc, true, unwrap_or, zero, ℕ, ◌&&◌, ◌++◌, ◌+◌, ◌<◌, ◌∷◌, ◌≡◌, ◌≤◌, ◌||◌, ◌↔◌}
 use Rattle.std.specs.declared.cmp.Ordering.TheVariants.{Equal, Greater, Less}
@@ -127,20 +127,6 @@ module _ {X : Type 0} (key : X → ℕ) where
   -- whether the row at a place, if there is one, has a number
   abbrev pub is_at : List X → ℕ → ℕ → Bool
   is_at xs p n = unwrap_or (option_map (λ x. eq_by_cmp nat_cmp n (key x)) (slice_get xs p)) false
-
-  -- a row of a number that isn't there is put at the place of its number, and another over the row that is there
-  pub put_new : (r : X) (xs : List X) (p : ℕ) → Parts (key r) xs p → p ≤ length xs → is_at xs p (key r) ≡ false → put r xs ≡ insert xs p r
-  put_new r [] zero h le absent = refl
-  put_new r [] (suc p) h le absent = absurd (omega arith)
-  put_new r (x ∷ xs) zero h le absent = put_before r x xs (above_it (key r) (key x) (h.1 0 x (omega arith) (omega arith)) absent)
-  put_new r (x ∷ xs) (suc p) h le absent =
-      put_behind r x xs (h.0 0 x (omega arith) (omega arith)) ∙ ap (λ l. x ∷ l) (put_new r xs p (later (key r) x xs p h) (omega arith) absent)
-
-  pub put_there : (r : X) (xs : List X) (p : ℕ) → Parts (key r) xs p → is_at xs p (key r) ≡ true → put r xs ≡ set xs p r
-  put_there r [] p h ties = absurd (false≢true ties)
-  put_there r (x ∷ xs) zero h ties = put_over r x xs (same_it (key r) (key x) ties)
-  put_there r (x ∷ xs) (suc p) h ties =
-      put_behind r x xs (h.0 0 x (omega arith) (omega arith)) ∙ ap (λ l. x ∷ l) (put_there r xs p (later (key r) x xs p h) ties)
 
   -- a number is there exactly where it is at its place
   none_above : (n : ℕ) (xs : List X) → AllAbove n xs → list_any (λ x. eq_by_cmp nat_cmp n (key x)) xs ≡ false
