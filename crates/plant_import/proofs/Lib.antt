@@ -9,3 +9,4 @@ pub mod public
 mod Appended
 mod ByNumber
 mod Examples
+mod CountedRising

@@ -33,12 +33,39 @@ pub fn has_number(events: &[Event], number: Number) -> bool
     is_at(events, place_of(events, number), number)
 }
 
+/// Whether the numbers of the events rise.
+fn rise(events: &[Event]) -> bool
+    ensures { IsTrue result ↔ AreNumbered events.now }
+{
+    events.is_sorted_by(|event, next| event.seq < next.seq)
+}
+
+/// How many numbers a file in rising number has that no kept event has. The kept events are in rising number too.
+fn count_rising(kept: &[Event], file: &[Event]) -> usize
+    ensures { AreNumbered kept.now → AreNumbered file.now
+        → result ≡ length (new_numbers kept.now file.now) }
+{
+    if come_after(file, kept) {
+        return file.len();
+    }
+    let mut count = 0;
+    for event in file {
+        if !has_number(kept, event.seq) {
+            count += 1;
+        }
+    }
+    count
+}
+
 /// How many numbers the file has that no kept event has, each counted once. The kept events are in rising number.
 pub fn count_new(alloc: Global, kept: &[Event], file: &[Event]) -> Result<usize, Fault>
     ensures value { IsRising kept.now
         → IfOk result (λ count. count ≡ length (new_numbers kept.now file.now)) }
     ensures err { OnlyMemory result }
 {
+    if rise(file) {
+        return Ok(count_rising(kept, file));
+    }
     let mut numbers = BTreeSet::new(alloc);
     for i in (0..file.len()).rev() {
         let number = file[i].seq;
@@ -69,13 +96,6 @@ fn by_number(alloc: Global, events: &[Event]) -> Result<BTreeMap<Number, Event>,
         put(&mut rising, event.copy(alloc)?)?;
     }
     Ok(rising)
-}
-
-/// Whether the numbers of the events rise.
-fn rise(events: &[Event]) -> bool
-    ensures { IsTrue result ↔ AreNumbered events.now }
-{
-    events.is_sorted_by(|event, next| event.seq < next.seq)
 }
 
 /// The events in rising number. Of two with the same number the last counts. No tree is made where the numbers rise already.

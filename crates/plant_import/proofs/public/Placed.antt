@@ -5,12 +5,12 @@ use Rattle.std.specs.Cmp.{nat_cmp_is, ranked}
 use Rattle.std.specs.FinMap.Entries.{below_all, by_order}
 use Rattle.std.specs.List.{IsAllAdjacentAnswer, list_any}
 use Rattle.std.specs.Ordering.{eq_by_cmp, is_eq, is_lt, nat_cmp}
-use Rattle.std.specs.Prelude.{Bool, IsTrue, List, T, [], false, fold, if◌then◌else◌, length, map, option_map, slice_get, suc, true, unwrap_or, zero, ℕ, ◌&&◌, ◌++◌, ◌+◌, ◌<◌, ◌∷◌, ◌≡◌, ◌≤◌, ◌||◌, ◌↔◌}
+use Rattle.std.specs.Prelude.{Bool, IsTrue, List, T, [], false, filter, fold, if◌then◌else◌, length, map, option_map, slice_get, suc, true, unwrap_or, zero, ℕ, ◌&&◌, ◌++◌, ◌+◌, ◌<◌, ◌∷◌, ◌≡◌, ◌≤◌, ◌||◌, ◌↔◌}
 use Rattle.std.specs.declared.cmp.Ordering.TheVariants.{Equal, Greater, Less}
 use Rattle.std.specs.List.Sorted.{IsNonDecreasingBy, IsPartitionPoint, IsPartitionedBy}
 use Rattle.std.proofs.lemmas.List.Sorted.{IsPartitionedBy-ltb}
 use Rattle.std.proofs.lemmas.List.{drop_more}
-use Rattle.plant_types.specs.KeyedRows.{IsInOrder, put_row}
+use Rattle.plant_types.specs.KeyedRows.{IsInOrder, in_order, put_row}
 
 both : (a b : Bool) → T a → T b → T (a && b)
 both true b p q = q
@@ -279,3 +279,30 @@ module _ {X : Type 0} (key : X → ℕ) where
   pub rises_left : (n : ℕ) (rest above left : List X) (p : ℕ) → Rises rest → above ≡ drop p rest → left ≡ without_first n above → Rises left
   rises_left n rest above left p rises ea el =
       subst (λ (l : List X). Rises l) (sym el) (rises_without n above (subst (λ (l : List X). Rises l) (sym ea) (rises_drop p rest rises)))
+
+-- rising numbers are in order
+put_lowest : (n : ℕ) (ns : List ℕ) → AllAbove (λ m. m) n ns → put_row nat_cmp (λ m. m) n ns ≡ n ∷ ns
+put_lowest n [] h = refl
+put_lowest n (m ∷ ms) h = put_before (λ k. k) n m ms h.0
+
+pub in_order_same : (ns : List ℕ) → Rises (λ m. m) ns → in_order nat_cmp ns ≡ ns
+in_order_same [] h = refl
+in_order_same (n ∷ ns) h = ap (put_row nat_cmp (λ m. m) n) (in_order_same ns h.1) ∙ put_lowest n ns h.0
+
+-- the keys of some of rising rows rise
+module _ {X : Type 0} (key : X → ℕ) (p : X → Bool) where
+  keys_above : (n : ℕ) (xs : List X) → AllAbove key n xs → AllAbove (λ m. m) n (map key (filter p xs))
+  keys_above n [] h = tt
+  keys_above n (x ∷ xs) h =
+      elim (p x) as (λ b. AllAbove (λ m. m) n (map key (if b then x ∷ filter p xs else filter p xs))) [
+        | true ↦ (h.0, keys_above n xs h.1)
+        | false ↦ keys_above n xs h.1
+      ]
+
+  pub keys_rise : (xs : List X) → Rises key xs → Rises (λ m. m) (map key (filter p xs))
+  keys_rise [] h = tt
+  keys_rise (x ∷ xs) h =
+      elim (p x) as (λ b. Rises (λ m. m) (map key (if b then x ∷ filter p xs else filter p xs))) [
+        | true ↦ (keys_above (key x) xs h.0, keys_rise xs h.1)
+        | false ↦ keys_rise xs h.1
+      ]
