@@ -10,3 +10,4 @@ mod Appended
 mod ByNumber
 mod Examples
 mod CountedRising
+mod BelowAll

@@ -34,7 +34,7 @@ pub fn has_number(events: &[Event], number: Number) -> bool
 }
 
 /// Whether the numbers of the events rise.
-fn rise(events: &[Event]) -> bool
+pub fn rise(events: &[Event]) -> bool
     ensures { IsTrue result ↔ AreNumbered events.now }
 {
     events.is_sorted_by(|event, next| event.seq < next.seq)

@@ -173,7 +173,7 @@ module _ {X : Type 0} (key : X → ℕ) where
   below_end n [] r h lt = (lt, tt)
   below_end n (x ∷ xs) r h lt = (h.0, below_end n xs r h.1 lt)
 
-  behind_end : (r : X) (xs rs : List X) → AllBelow (key r) xs → AllAbove (key r) rs → EachBehind (xs ++ r ∷ []) rs
+  pub behind_end : (r : X) (xs rs : List X) → AllBelow (key r) xs → AllAbove (key r) rs → EachBehind (xs ++ r ∷ []) rs
   behind_end r xs [] h k = tt
   behind_end r xs (s ∷ rs) h k = (below_end (key s) xs r (below_higher (key r) (key s) xs (omega (arith, k.0)) h) k.0, behind_end r xs rs h k.1)
 
