@@ -4,7 +4,7 @@ use Rattle.std.proofs.lemmas.Bool.{lt-ltb, ltb-true}
 use Rattle.std.proofs.lemmas.List.{append-nil}
 use Rattle.std.specs.List.{list_all}
 use Rattle.std.specs.Ordering.{nat_cmp}
-use Rattle.std.specs.Prelude.{Bool, Option, Some, nat_lt, slice_get, ℕ, ◌&&◌, ◌-◌, ◌<◌, ◌≡◌, ◌≤◌}
+use Rattle.std.specs.Prelude.{Bool, Option, Some, nat_lt, slice_get, ℕ, ◌&&◌, ◌-◌, ◌<◌, ◌≡◌}
 use Rattle.plant_alarm.specs.declared.event.Event.{Event}
 use Rattle.plant_import.proofs.public.Counted.{order_puts, put_twice}
 use Rattle.plant_import.proofs.public.Placed.{AllAbove, AllBelow, EachBehind, Rises, puts_after, rises_of}
@@ -83,7 +83,7 @@ below_first f fs (k ∷ ks) h =
     let rest = below_first f fs ks here.1 in
     ((ltb-true k.seq f.seq parts.0, rest.0), ap (λ b. b && list_all (is_before_all fs) ks) parts.1 ∙ rest.1)
 
-behind : (fs ks : List Event) → list_all (is_before_all fs) ks ≡ true → EachBehind event_number ks fs
+pub behind : (fs ks : List Event) → list_all (is_before_all fs) ks ≡ true → EachBehind event_number ks fs
 behind [] ks h = tt
 behind (f ∷ fs) ks h = let parts = below_first f fs ks h in (parts.0, behind fs ks parts.1)
 

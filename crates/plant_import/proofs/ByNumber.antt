@@ -8,7 +8,7 @@ use Rattle.std.specs.Cmp.{ranked}
 use Rattle.std.specs.List.{list_any}
 use Rattle.std.specs.FinMap.Entries.{by_order}
 use Rattle.std.specs.Ordering.{is_eq, is_le, match_ordering, nat_cmp}
-use Rattle.std.specs.Prelude.{Bool, Some, None, false, if◌then◌else◌, length, map, nat_lt, not, slice_get, true, ℕ, ◌+◌, ◌-◌, ◌<◌, ◌≡◌, ◌≤◌, ◌&&◌, ◌||◌, suc}
+use Rattle.std.specs.Prelude.{Bool, Some, None, false, if◌then◌else◌, length, map, nat_lt, not, slice_get, true, ℕ, ◌-◌, ◌<◌, ◌≡◌, ◌≤◌, ◌&&◌, ◌||◌, suc}
 use Rattle.std.specs.declared.cmp.Ordering.TheVariants.{Equal, Greater, Less}
 use Rattle.std.specs.declared.ops.Bound.TheVariants.{Excluded, Included, Unbounded}
 use Rattle.plant_alarm.specs.declared.event.Event.{Event}

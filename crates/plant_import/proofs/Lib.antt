@@ -9,3 +9,5 @@ pub mod public
 mod Appended
 mod ByNumber
 mod Examples
+mod CountedRising
+mod BelowAll

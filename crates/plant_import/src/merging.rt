@@ -1,15 +1,17 @@
-ghost use Rattle.std.specs.Prelude.{◌≡◌, ◌+◌, ◌++◌, ◌∷◌, [], IfOk, List, OnOk, length};
+ghost use Rattle.std.specs.Prelude.{◌≡◌, ◌+◌, ◌++◌, ◌∷◌, [], IfOk, IsTrue, List, MatchOption, None, OnOk, Some, length, nat_lt, ℕ};
+ghost use Rattle.std.specs.BTreeMap.{BTreeMap as TheMap};
+ghost use Rattle.std.specs.List.{list_all};
 ghost use Rattle.plant_alarm.specs.declared.event.Event.{Event as TheEvent};
 ghost use Rattle.plant_types.specs.Names.{Name};
 ghost use Rattle.plant_types.specs.Results.{OnlyMemory};
 ghost use Rattle.plant_import.specs.Merging as merging;
 ghost use Rattle.plant_import.specs.Merging.{IsRising};
-ghost use Rattle.plant_import.specs.Numbers.{AreByNumber, with_event};
+ghost use Rattle.plant_import.specs.Numbers.{AreByNumber, AreNumbered, with_event};
 ghost use Rattle.plant_import.specs.Relation as relation;
-ghost use Rattle.plant_import.specs.Relation.{AreKnown, JudgesRow};
+ghost use Rattle.plant_import.specs.Relation.{AreKnown, AreNearest, JudgesRow};
 
-use crate::numbers::put;
-use crate::relation::{Relation, nearest_among, nearest_by_number, relation_of};
+use crate::numbers::{put, rise};
+use crate::relation::{Nearest, Relation, nearest_among, nearest_by_number, relation_of};
 use crate::{BadFile, Cause};
 use plant_alarm::{Event, Number};
 use plant_types::{Fault, List, Moment, Tag};
@@ -43,10 +45,11 @@ pub fn merge(
 {
     let known = known_tags(alloc, tags)?;
     let mut fresh = List::new(alloc);
-    let mut rising = BTreeMap::new(alloc);
+    let mut rising = tree_for(alloc, file);
     let mut repeated = 0;
     for (i, event) in file.iter().enumerate() {
-        let is_new = match judged(kept, &rising, event, &known, now) {
+        let nearest = nearest_new(fresh.as_slice(), &rising, event.seq);
+        let is_new = match judged(kept, nearest, event, &known, now) {
             Ok(is_new) => is_new,
             Err(cause) => {
                 return Ok(Err(BadFile {
@@ -76,32 +79,68 @@ fn known_tags(alloc: Global, tags: &[Tag]) -> Result<BTreeSet<Tag>, Fault>
     Ok(known)
 }
 
-/// Adds a new row to those in the file's order and to those by their numbers.
+/// An empty tree for the new rows of a file, or none where the file's numbers rise.
+fn tree_for(alloc: Global, file: &[Event]) -> Option<BTreeMap<Number, Event>>
+    ensures { MatchOption result (AreNumbered file.now) (λ m. AreByNumber m []) }
+{
+    if rise(file) {
+        None
+    } else {
+        Some(BTreeMap::new(alloc))
+    }
+}
+
+/// The nearest to a row's number of the new rows before it. Where no tree has these, all are below it.
+fn nearest_new<'a>(
+    fresh: &'a [Event],
+    rising: &'a Option<BTreeMap<Number, Event>>,
+    seq: Number,
+) -> Nearest<'a>
+    ensures by_number { (m : TheMap ℕ TheEvent) (es : List TheEvent)
+        → rising.now ≡ Some m → AreByNumber m es → AreNearest es seq result }
+    ensures below { rising.now ≡ None → IsTrue (list_all (λ e. nat_lt e.seq seq) fresh.now)
+        → AreNearest fresh.now seq result }
+{
+    match rising {
+        Some(rising) => nearest_by_number(rising, seq),
+        None => Nearest {
+            below: fresh.last(),
+            from: None,
+        },
+    }
+}
+
+/// Adds a new row to those in the file's order and, where there is a tree, to those by their numbers.
 fn add(
     alloc: Global,
     fresh: &mut List<Event>,
-    rising: &mut BTreeMap<Number, Event>,
+    rising: &mut Option<BTreeMap<Number, Event>>,
     event: &Event,
 ) -> Result<(), Fault>
     ensures fresh { OnOk result (fresh.new ≡ fresh.old ++ event.now ∷ []) }
-    ensures rising { (es : List TheEvent) → AreByNumber rising.old es
-        → OnOk result (AreByNumber rising.new (with_event event.now es)) }
+    ensures none { rising.old ≡ None → OnOk result (rising.new ≡ None) }
+    ensures rising { (m : TheMap ℕ TheEvent) (es : List TheEvent)
+        → rising.old ≡ Some m → AreByNumber m es
+        → OnOk result (MatchOption rising.new ⊥ (λ m. AreByNumber m (with_event event.now es))) }
     ensures err { OnlyMemory result }
 {
     fresh.push(event.copy(alloc)?)?;
-    put(rising, event.copy(alloc)?)
+    if let Some(rising) = rising {
+        put(rising, event.copy(alloc)?)?;
+    }
+    Ok(())
 }
 
-/// Whether a row is new beside the kept events and the earlier rows that were new, or its first fault.
+/// Whether a row is new beside the kept events and the earlier rows that were new, of which these are the nearest, or its first fault.
 fn judged(
     kept: &[Event],
-    fresh: &BTreeMap<Number, Event>,
+    nearest: Nearest<'_>,
     event: &Event,
     known: &BTreeSet<Tag>,
     now: Moment,
 ) -> Result<bool, Cause>
     ensures { (tags : List Name) → AreKnown known.now tags → IsRising kept.now
-        → (seen : List TheEvent) → AreByNumber fresh.now seen → IsRising seen
+        → (seen : List TheEvent) → IsRising seen → AreNearest seen event.now.seq nearest.entry
         → JudgesRow tags now kept.now seen event.now result }
 {
     if !known.contains(&event.tag) {
@@ -112,7 +151,7 @@ fn judged(
     }
     joined(
         relation_of(nearest_among(kept, event.seq), event),
-        relation_of(nearest_by_number(fresh, event.seq), event),
+        relation_of(nearest, event),
     )
 }
 

@@ -1,6 +1,6 @@
 //! Events by their numbers: how many of a file are new, and all events with those of a file.
 
-ghost use Rattle.std.specs.Prelude.{◌≡◌, ◌++◌, [], IfOk, List, OnOk, false, length, option_map, slice_get, unwrap_or};
+ghost use Rattle.std.specs.Prelude.{◌≡◌, ◌↔◌, ◌++◌, [], IfOk, IsTrue, List, OnOk, false, length, option_map, slice_get, unwrap_or};
 ghost use Rattle.std.specs.List.{list_all, list_any};
 ghost use Rattle.plant_alarm.specs.declared.event.Event.{Event as TheEvent};
 ghost use Rattle.plant_types.specs.Results.{OnlyMemory};
@@ -11,7 +11,7 @@ ghost use Rattle.plant_import.specs.Numbers.{AreByNumber, new_numbers, with_even
 
 use crate::relation::place_of;
 use plant_alarm::{Event, Number};
-use plant_types::{Fault, List};
+use plant_types::{Fault, List, duplicated};
 use std::alloc::Global;
 use std::collections::{BTreeMap, BTreeSet};
 
@@ -33,12 +33,39 @@ pub fn has_number(events: &[Event], number: Number) -> bool
     is_at(events, place_of(events, number), number)
 }
 
+/// Whether the numbers of the events rise.
+pub fn rise(events: &[Event]) -> bool
+    ensures { IsTrue result ↔ AreNumbered events.now }
+{
+    events.is_sorted_by(|event, next| event.seq < next.seq)
+}
+
+/// How many numbers a file in rising number has that no kept event has. The kept events are in rising number too.
+fn count_rising(kept: &[Event], file: &[Event]) -> usize
+    ensures { AreNumbered kept.now → AreNumbered file.now
+        → result ≡ length (new_numbers kept.now file.now) }
+{
+    if come_after(file, kept) {
+        return file.len();
+    }
+    let mut count = 0;
+    for event in file {
+        if !has_number(kept, event.seq) {
+            count += 1;
+        }
+    }
+    count
+}
+
 /// How many numbers the file has that no kept event has, each counted once. The kept events are in rising number.
 pub fn count_new(alloc: Global, kept: &[Event], file: &[Event]) -> Result<usize, Fault>
     ensures value { IsRising kept.now
         → IfOk result (λ count. count ≡ length (new_numbers kept.now file.now)) }
     ensures err { OnlyMemory result }
 {
+    if rise(file) {
+        return Ok(count_rising(kept, file));
+    }
     let mut numbers = BTreeSet::new(alloc);
     for i in (0..file.len()).rev() {
         let number = file[i].seq;
@@ -71,11 +98,14 @@ fn by_number(alloc: Global, events: &[Event]) -> Result<BTreeMap<Number, Event>,
     Ok(rising)
 }
 
-/// The events in rising number. Of two with the same number the last counts.
+/// The events in rising number. Of two with the same number the last counts. No tree is made where the numbers rise already.
 fn in_rising_number(alloc: Global, events: &[Event]) -> Result<List<Event>, Fault>
     ensures value { IfOk result (λ rising. rising ≡ with_events [] events.now) }
     ensures err { OnlyMemory result }
 {
+    if rise(events) {
+        return duplicated(alloc, events);
+    }
     let mut rising = List::new(alloc);
     for event in by_number(alloc, events)?.into_values() {
         rising.push(event)?;
@@ -90,6 +120,17 @@ fn push_all(alloc: Global, all: &mut List<Event>, events: &[Event]) -> Result<()
 {
     for event in events {
         all.push(event.copy(alloc)?)?;
+    }
+    Ok(())
+}
+
+/// Adds the events themselves, without copies.
+fn append(all: &mut List<Event>, events: List<Event>) -> Result<(), Fault>
+    ensures value { OnOk result (all.new ≡ all.old ++ events) }
+    ensures err { OnlyMemory result }
+{
+    for event in events.into_vec() {
+        all.push(event)?;
     }
     Ok(())
 }
@@ -129,6 +170,9 @@ pub fn events_after(alloc: Global, kept: &[Event], more: &[Event]) -> Result<Lis
     ensures err { OnlyMemory result }
 {
     let rising = in_rising_number(alloc, more)?;
+    if kept.is_empty() {
+        return Ok(rising);
+    }
     joined(alloc, kept, rising.as_slice())
 }
 
@@ -154,7 +198,7 @@ pub fn put_events(alloc: Global, kept: &mut List<Event>, more: &[Event]) -> Resu
 {
     let rising = in_rising_number(alloc, more)?;
     if come_after(rising.as_slice(), kept.as_slice()) {
-        return push_all(alloc, kept, rising.as_slice());
+        return append(kept, rising);
     }
     *kept = joined(alloc, kept.as_slice(), rising.as_slice())?;
     Ok(())

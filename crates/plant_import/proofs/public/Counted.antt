@@ -1,5 +1,5 @@
 -- New numbers, each counted once, and events put twice.
-use Rattle.std.proofs.Common.{ap, arith, cond, drop, get_or, refl, subst, sym, take, ◌∙◌}
+use Rattle.std.proofs.Common.{ap, arith, cond, drop, get_or, refl, subst, sym, ◌∙◌}
 use Rattle.std.specs.BTreeSet.{insert_key}
 use Rattle.std.specs.Cmp.{eq_by_cmp_equiv, nat_cmp_total, ranked, unsigned_tied}
 use Rattle.std.specs.FinMap.Entries.{by_order}
@@ -7,8 +7,7 @@ use Rattle.std.specs.List.{list_any}
 use Rattle.std.specs.Ordering.{eq_by_cmp, match_ordering, nat_cmp}
 use Rattle.std.specs.declared.cmp.Ordering.TheVariants.{Equal, Greater, Less}
 use Rattle.std.specs.Prelude.{Bool, Err, IfOk, List, None, Ok, Option, Result, Some, [], nat_lt, false, filter, if◌then◌else◌, length, not, option_map, suc, true, ℕ, ◌&&◌, ◌++◌, ◌+◌, ◌-◌, ◌<◌, ◌==◌, ◌∷◌, ◌≡◌, ◌≤◌, ◌||◌}
-use Rattle.std.proofs.lemmas.List.{drop_more, take_more}
-use Rattle.std.proofs.lemmas.List.Sums.{fold-append}
+use Rattle.std.proofs.lemmas.List.{drop_more}
 use Rattle.std.proofs.lemmas.List.Folds.{list_any-append}
 use Rattle.plant_alarm.specs.declared.event.Event.{Event}
 use Rattle.plant_import.specs.Fields.{first_cause}
@@ -302,11 +301,6 @@ count_put kept rows numbers new i d b some le is so put eb f =
 pub count_known : (kept rows : List Event) (numbers : List ℕ) (i : ℕ) (d : Event) (b : Bool) → 0 < i → i ≤ length rows → d ≡ get_or rows (i - 1) d → numbers ≡ new_numbers kept (drop i rows)
     → b ≡ list_any (has_number d.seq) kept → b ≡ true → numbers ≡ new_numbers kept (drop (i - 1) rows)
 count_known kept rows numbers i d b some le is so eb t = so ∙ sym (ap (new_numbers kept) (last_drop rows i d some le is) ∙ new_same kept (drop i rows) d (sym eb ∙ t))
-
-pub with_more : (events : List Event) (i : ℕ) (d e : Event) → i < length events → d ≡ get_or events i d → e ≡ d → put_row nat_cmp event_number e (with_events [] (take i events)) ≡ with_events [] (take (i + 1) events)
-with_more events i d e lt is copy =
-    ap (λ x. put_row nat_cmp event_number x (with_events [] (take i events))) (copy ∙ is)
-    ∙ sym (ap (with_events []) (take_more events i d lt) ∙ fold-append (λ es e. put_row nat_cmp event_number e es) [] (take i events) (get_or events i d ∷ []))
 
 pub joined_twice : {E : Type 0} (kept more rising seen : List Event) (r : Result (List Event) E) → IsInOrder nat_cmp event_number kept → rising ≡ with_events [] more → seen ≡ rising
     → (IsInOrder nat_cmp event_number kept → IsInOrder nat_cmp event_number seen → IfOk r (λ all. all ≡ with_events kept seen)) → IfOk r (λ all. all ≡ with_events kept more)

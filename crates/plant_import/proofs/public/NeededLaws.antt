@@ -20,8 +20,7 @@ use Rattle.plant_types.specs.Options.{or_else}
 use Rattle.plant_types.specs.KeyedRows.{IsInOrder, in_order}
 use Rattle.std.specs.Ordering.{nat_cmp}
 use Rattle.std.specs.Prelude.{Ok, Result, Some, unwrap_or}
-use Rattle.std.specs.BTreeMap.{BTreeMap, IsEmpty, Updates, get, is_at}
-use Rattle.std.specs.Map.{lookup}
+use Rattle.std.specs.BTreeMap.{BTreeMap, Updates, get}
 use Rattle.std.specs.Cmp.{eq_by_cmp_equiv}
 use Rattle.std.specs.Cmp.Lexicographic.{nat_list_cmp_total}
 use Rattle.std.proofs.lemmas.List.{drop_more, take-append-drop, take_all, take_more}
@@ -357,9 +356,6 @@ lt_last a n es e h = by (nat_lt n e.seq) refl where
       let le = ltb-false n e.seq f in
       ap (λ b. b || false) (any_none (λ k. same_name a k.tag && nat_lt n k.seq) es (each_weaker (λ k. k.seq < e.seq) (λ k. (same_name a k.tag && nat_lt n k.seq) ≡ false) (λ k lt. ap (λ b. same_name a k.tag && b) (le-ltb n k.seq (omega (arith, lt, le))) ∙ and_false _) es h))
 
-pub reached_none : (m : BTreeMap Name ℕ) → IsEmpty m → AreReached m []
-reached_none m none a n = ap (λ es. unwrap_or (option_map (nat_lt n) (lookup (is_at (name_cmp a)) es)) false) none
-
 reached_more : (old new : BTreeMap Name ℕ) (es : List Event) (e : Event) (t : Name) → t ≡ e.tag → Each (λ k. k.seq < e.seq) es → Updates name_cmp old new t (Some e.seq) → AreReached old es → AreReached new (es ++ e ∷ [])
 reached_more old new es e t own h put are a n =
     ap (λ o. unwrap_or (option_map (nat_lt n) o) false) (put.0 a)
@@ -384,9 +380,6 @@ pub reached_next : (events : List Event) (i : ℕ) (e : Event) (t : Name) (old n
 reached_next events i e t old new h lt is own put are =
     let low : Each (λ k. k.seq < e.seq) (take i events) = subst (λ (x : Event). Each (λ k. k.seq < x.seq) (take i events)) (sym is) (lower_at events i e (rises_of event_number events h) lt) in
     subst (AreReached new) (sym (take_more events i e lt ∙ ap (λ x. take i events ++ x ∷ []) (sym is))) (reached_more old new (take i events) e t own low put are)
-
-pub reached_all : (events : List Event) (i : ℕ) (m : BTreeMap Name ℕ) → length events ≤ i → AreReached m (take i events) → AreReached m events
-reached_all events i m le are = subst (AreReached m) (take_all i events le) are
 
 -- the rows up to a place, none of them late
 pub none_late_more : (near rows : List Event) (i : ℕ) (e : Event) (b : Bool) → i < length rows → e ≡ get_or rows i e → has_late near (take i rows) ≡ false → b ≡ is_late near e → b ≡ false → has_late near (take (i + 1) rows) ≡ false

@@ -1,16 +1,16 @@
 -- Rows in the order of their numbers: the place of a number among them, and rows put among them.
-use Rattle.std.proofs.lemmas.Bool.{false≢true}
-use Rattle.std.proofs.Common.{ap, append_assoc, arith, drop, get_or, nat_lt, refl, set, subst, sym, take, ◌∙◌}
+use Rattle.std.proofs.lemmas.Bool.{ltb-false, ltb-true}
+use Rattle.std.proofs.Common.{ap, append_assoc, arith, drop, get_or, nat_lt, refl, subst, sym, take, ◌∙◌}
 use Rattle.std.specs.Cmp.{nat_cmp_is, ranked}
 use Rattle.std.specs.FinMap.Entries.{below_all, by_order}
-use Rattle.std.specs.List.{insert, list_any}
+use Rattle.std.specs.List.{IsAllAdjacentAnswer, list_any}
 use Rattle.std.specs.Ordering.{eq_by_cmp, is_eq, is_lt, nat_cmp}
-use Rattle.std.specs.Prelude.{Bool, List, T, [], false, fold, if◌then◌else◌, length, map, option_map, slice_get, suc, true, unwrap_or, zero, ℕ, ◌&&◌, ◌++◌, ◌+◌, ◌<◌, ◌∷◌, ◌≡◌, ◌≤◌, ◌||◌}
+use Rattle.std.specs.Prelude.{Bool, IsTrue, List, T, [], false, filter, fold, if◌then◌else◌, length, map, option_map, slice_get, suc, true, unwrap_or, zero, ℕ, ◌&&◌, ◌++◌, ◌+◌, ◌<◌, ◌∷◌, ◌≡◌, ◌≤◌, ◌||◌, ◌↔◌}
 use Rattle.std.specs.declared.cmp.Ordering.TheVariants.{Equal, Greater, Less}
 use Rattle.std.specs.List.Sorted.{IsNonDecreasingBy, IsPartitionPoint, IsPartitionedBy}
 use Rattle.std.proofs.lemmas.List.Sorted.{IsPartitionedBy-ltb}
 use Rattle.std.proofs.lemmas.List.{drop_more}
-use Rattle.plant_types.specs.KeyedRows.{IsInOrder, put_row}
+use Rattle.plant_types.specs.KeyedRows.{IsInOrder, in_order, put_row}
 
 both : (a b : Bool) → T a → T b → T (a && b)
 both true b p q = q
@@ -128,20 +128,6 @@ module _ {X : Type 0} (key : X → ℕ) where
   abbrev pub is_at : List X → ℕ → ℕ → Bool
   is_at xs p n = unwrap_or (option_map (λ x. eq_by_cmp nat_cmp n (key x)) (slice_get xs p)) false
 
-  -- a row of a number that isn't there is put at the place of its number, and another over the row that is there
-  pub put_new : (r : X) (xs : List X) (p : ℕ) → Parts (key r) xs p → p ≤ length xs → is_at xs p (key r) ≡ false → put r xs ≡ insert xs p r
-  put_new r [] zero h le absent = refl
-  put_new r [] (suc p) h le absent = absurd (omega arith)
-  put_new r (x ∷ xs) zero h le absent = put_before r x xs (above_it (key r) (key x) (h.1 0 x (omega arith) (omega arith)) absent)
-  put_new r (x ∷ xs) (suc p) h le absent =
-      put_behind r x xs (h.0 0 x (omega arith) (omega arith)) ∙ ap (λ l. x ∷ l) (put_new r xs p (later (key r) x xs p h) (omega arith) absent)
-
-  pub put_there : (r : X) (xs : List X) (p : ℕ) → Parts (key r) xs p → is_at xs p (key r) ≡ true → put r xs ≡ set xs p r
-  put_there r [] p h ties = absurd (false≢true ties)
-  put_there r (x ∷ xs) zero h ties = put_over r x xs (same_it (key r) (key x) ties)
-  put_there r (x ∷ xs) (suc p) h ties =
-      put_behind r x xs (h.0 0 x (omega arith) (omega arith)) ∙ ap (λ l. x ∷ l) (put_there r xs p (later (key r) x xs p h) ties)
-
   -- a number is there exactly where it is at its place
   none_above : (n : ℕ) (xs : List X) → AllAbove n xs → list_any (λ x. eq_by_cmp nat_cmp n (key x)) xs ≡ false
   none_above n [] h = refl
@@ -187,9 +173,47 @@ module _ {X : Type 0} (key : X → ℕ) where
   below_end n [] r h lt = (lt, tt)
   below_end n (x ∷ xs) r h lt = (h.0, below_end n xs r h.1 lt)
 
-  behind_end : (r : X) (xs rs : List X) → AllBelow (key r) xs → AllAbove (key r) rs → EachBehind (xs ++ r ∷ []) rs
+  pub behind_end : (r : X) (xs rs : List X) → AllBelow (key r) xs → AllAbove (key r) rs → EachBehind (xs ++ r ∷ []) rs
   behind_end r xs [] h k = tt
   behind_end r xs (s ∷ rs) h k = (below_end (key s) xs r (below_higher (key r) (key s) xs (omega (arith, k.0)) h) k.0, behind_end r xs rs h k.1)
+
+  -- rising rows that are put one by one are those rows
+  pub puts_none : (rs : List X) → Rises rs → puts [] rs ≡ rs
+  puts_none [] h = refl
+  puts_none (r ∷ rs) h = puts_after rs (r ∷ []) [] (behind_end r [] rs tt h.0) ∙ ap (λ l. r ∷ l) (puts_none rs h.1)
+
+  -- rows of which each is above the one before it rise, and no others
+  pub neighbours_rise : (rows : List X) → ((k : ℕ) (d : X) → k + 1 < length rows → key (get_or rows k d) < key (get_or rows (k + 1) d)) → Rises rows
+  neighbours_rise [] h = tt
+  neighbours_rise (x ∷ []) h = (tt, tt)
+  neighbours_rise (x ∷ y ∷ rows) h =
+      let rest : Rises (y ∷ rows) = neighbours_rise (y ∷ rows) (λ k d within. subst (λ n. key (get_or (y ∷ rows) k d) < key (get_or (x ∷ y ∷ rows) n d)) (one_more k) (h (suc k) d (omega (arith, within)))) in
+      let lt : key x < key y = h 0 x (omega arith) in
+      ((lt, higher (key x) (key y) rows (omega (arith, lt)) rest.0), rest)
+    where
+      one_more : (k : ℕ) → suc k + 1 ≡ suc (k + 1)
+      one_more k = omega arith
+
+  pub rise_neighbours : (rows : List X) → Rises rows → (k : ℕ) (d : X) → k + 1 < length rows → key (get_or rows k d) < key (get_or rows (k + 1) d)
+  rise_neighbours [] h k d within = absurd (omega (arith, within))
+  rise_neighbours (x ∷ xs) h zero d within = above_at (key x) xs h.0 0 d (omega (arith, within))
+  rise_neighbours (x ∷ xs) h (suc k) d within =
+      subst (λ n. key (get_or xs k d) < key (get_or (x ∷ xs) n d)) (one_less k) (rise_neighbours xs h.1 k d (omega (arith, within)))
+    where
+      one_less : (k : ℕ) → suc (k + 1) ≡ suc k + 1
+      one_less k = omega arith
+
+  -- what looking at neighbours tells
+  pub rise_is_told : (rows : List X) (b : Bool) → IsAllAdjacentAnswer (λ x y b. b ≡ nat_lt (key x) (key y)) rows b → IsTrue b ↔ IsInOrder nat_cmp key rows
+  rise_is_told rows true h = (λ _. in_order_of rows (neighbours_rise rows (λ k d within. ltb-true _ _ (sym (h k d within)))), λ _. refl)
+  rise_is_told [] false h = absurd (omega (arith, h.1))
+  rise_is_told (x ∷ xs) false h = (
+    λ f. cc f,
+    λ order.
+        let up = rise_neighbours (x ∷ xs) (rises_of (x ∷ xs) order) h.0 x h.1 in
+        let le = ltb-false _ _ (sym (h.2 x)) in
+        absurd (omega (arith, up, le)),
+  )
 
   -- the rows without the first, where it has a number
   abbrev pub without_first : ℕ → List X → List X
@@ -252,15 +276,33 @@ module _ {X : Type 0} (key : X → ℕ) where
       ap (λ l. l ++ puts (without_first (key r) above) (drop (i + 1) more)) (append_assoc all below (r ∷ [])) ∙ append_assoc all (below ++ r ∷ []) (puts (without_first (key r) above) (drop (i + 1) more))
       ∙ (λ j. all ++ ((eb j ++ r ∷ []) ++ puts (without_first (key r) (ea j)) (drop (i + 1) more))) ∙ ap (λ l. all ++ l) (sym step) ∙ so
 
-  -- the same where the rows are seen through two slices
-  pub put_new_at : (r : X) (xs ys zs : List X) (p : ℕ) (b : Bool) → IsInOrder nat_cmp key xs → ys ≡ xs → zs ≡ xs → (IsInOrder nat_cmp key ys → Parts (key r) ys p) → p ≤ length ys → b ≡ is_at zs p (key r) → b ≡ false → put r xs ≡ insert xs p r
-  put_new_at r xs ys zs p b order ey ez parts le eb absent =
-      put_new r xs p (subst (λ (l : List X). Parts (key r) l p) ey (parts (subst (λ (l : List X). IsInOrder nat_cmp key l) (sym ey) order))) (subst (λ (l : List X). p ≤ length l) ey le) (ap (λ l. is_at l p (key r)) (sym ez) ∙ sym eb ∙ absent)
-
-  pub put_there_at : (r : X) (xs ys zs : List X) (p : ℕ) (b : Bool) → IsInOrder nat_cmp key xs → ys ≡ xs → zs ≡ xs → (IsInOrder nat_cmp key ys → Parts (key r) ys p) → b ≡ is_at zs p (key r) → b ≡ true → put r xs ≡ set xs p r
-  put_there_at r xs ys zs p b order ey ez parts eb ties =
-      put_there r xs p (subst (λ (l : List X). Parts (key r) l p) ey (parts (subst (λ (l : List X). IsInOrder nat_cmp key l) (sym ey) order))) (ap (λ l. is_at l p (key r)) (sym ez) ∙ sym eb ∙ ties)
-
   pub rises_left : (n : ℕ) (rest above left : List X) (p : ℕ) → Rises rest → above ≡ drop p rest → left ≡ without_first n above → Rises left
   rises_left n rest above left p rises ea el =
       subst (λ (l : List X). Rises l) (sym el) (rises_without n above (subst (λ (l : List X). Rises l) (sym ea) (rises_drop p rest rises)))
+
+-- rising numbers are in order
+put_lowest : (n : ℕ) (ns : List ℕ) → AllAbove (λ m. m) n ns → put_row nat_cmp (λ m. m) n ns ≡ n ∷ ns
+put_lowest n [] h = refl
+put_lowest n (m ∷ ms) h = put_before (λ k. k) n m ms h.0
+
+pub in_order_same : (ns : List ℕ) → Rises (λ m. m) ns → in_order nat_cmp ns ≡ ns
+in_order_same [] h = refl
+in_order_same (n ∷ ns) h = ap (put_row nat_cmp (λ m. m) n) (in_order_same ns h.1) ∙ put_lowest n ns h.0
+
+-- the keys of some of rising rows rise
+module _ {X : Type 0} (key : X → ℕ) (p : X → Bool) where
+  keys_above : (n : ℕ) (xs : List X) → AllAbove key n xs → AllAbove (λ m. m) n (map key (filter p xs))
+  keys_above n [] h = tt
+  keys_above n (x ∷ xs) h =
+      elim (p x) as (λ b. AllAbove (λ m. m) n (map key (if b then x ∷ filter p xs else filter p xs))) [
+        | true ↦ (h.0, keys_above n xs h.1)
+        | false ↦ keys_above n xs h.1
+      ]
+
+  pub keys_rise : (xs : List X) → Rises key xs → Rises (λ m. m) (map key (filter p xs))
+  keys_rise [] h = tt
+  keys_rise (x ∷ xs) h =
+      elim (p x) as (λ b. Rises (λ m. m) (map key (if b then x ∷ filter p xs else filter p xs))) [
+        | true ↦ (keys_above (key x) xs h.0, keys_rise xs h.1)
+        | false ↦ keys_rise xs h.1
+      ]

@@ -88,10 +88,6 @@ pub each_not : (p : Event → Bool) (xs : List Event) → list_any p xs ≡ fals
 each_not p [] e = tt
 each_not p (x ∷ xs) e = let both = or_false (p x) (list_any p xs) e in (both.0, each_not p xs both.1)
 
-or_right : (a b : Bool) → b ≡ true → (a || b) ≡ true
-or_right true b e = refl
-or_right false b e = e
-
 or_true : (a : Bool) → (a || true) ≡ true
 or_true true = refl
 or_true false = refl

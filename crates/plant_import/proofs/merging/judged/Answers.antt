@@ -7,16 +7,16 @@ use Rattle.plant_import.proofs.Merges.{judged_unknown, judged_ahead, judged_so}
 use Rattle.plant_import.proofs.merging.judged.Goals as goal
 
 pub returns-then-not-contains : goal.returns-then-not-contains
-returns-then-not-contains c tags are kept seen holds rises = judged_unknown tags c.args.now c.args.kept.now seen c.args.event.now (sym (are c.args.event.now.tag) ∙ sym c.contains.ensures ∙ search rules)
+returns-then-not-contains c tags are kept seen rises near = judged_unknown tags c.args.now c.args.kept.now seen c.args.event.now (sym (are c.args.event.now.tag) ∙ sym c.contains.ensures ∙ search rules)
 
 pub returns-then-lt : goal.returns-then-lt
-returns-then-lt c tags are kept seen holds rises =
+returns-then-lt c tags are kept seen rises near =
     let less : c.lt.result ≡ nat_lt c.args.now c.args.event.now.moment = search rules in
     judged_ahead tags c.args.now c.args.kept.now seen c.args.event.now (sym (are c.args.event.now.tag) ∙ sym c.contains.ensures ∙ search rules) (ltb-true _ _ (sym less ∙ c.if-lt.true))
 
 pub returns : goal.returns
-returns c tags are kept seen holds rises =
+returns c tags are kept seen rises near =
     let less : c.lt.result ≡ nat_lt c.args.now c.args.event.now.moment = search rules in
     subst (λ (r : Result Bool Cause). JudgesRow tags c.args.now c.args.kept.now seen c.args.event.now r) (sym c.joined.ensures)
     (judged_so tags c.args.now c.args.kept.now seen c.args.event.now (sym (are c.args.event.now.tag) ∙ sym c.contains.ensures ∙ search rules) (ltb-false _ _ (sym less ∙ c.if-lt.false)) c.relation_of.result c.relation_of-2.result
-    (c.relation_of.ensures c.args.kept.now kept (c.nearest_among.ensures kept)) (c.relation_of-2.ensures seen rises (c.nearest_by_number.ensures seen holds)))
+    (c.relation_of.ensures c.args.kept.now kept (c.nearest_among.ensures kept)) (c.relation_of-2.ensures seen rises near))

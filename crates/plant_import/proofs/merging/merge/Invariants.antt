@@ -1,7 +1,7 @@
-use Rattle.std.proofs.Common.{List, ◌≡◌, ◌+◌, length, take}
+use Rattle.std.proofs.Common.{List, ◌≡◌, ◌+◌, drop, length, take}
 use Rattle.plant_alarm.specs.declared.event.Event.{Event}
 use Rattle.plant_import.specs.Merging.{IsRising}
-use Rattle.plant_import.specs.Numbers.{AreByNumber}
+use Rattle.plant_import.proofs.BelowAll.{StandSo}
 use Rattle.plant_import.proofs.Merges.{MergedSo}
 use Rattle.plant_import.proofs.merging.merge.Given as goal
 
@@ -9,5 +9,5 @@ abbrev pub invariant-loop-i : goal.invariant-loop-i
 invariant-loop-i l =
     record {
       count : l.repeated + length l.fresh ≡ l.i;
-      so : IsRising l.kept → (seen : List Event) × AreByNumber l.rising seen × MergedSo l.tags l.now l.kept (take l.i l.file) l.fresh seen l.repeated;
+      so : IsRising l.kept → (seen : List Event) × StandSo l.rising l.fresh (drop l.i l.file) seen × MergedSo l.tags l.now l.kept (take l.i l.file) l.fresh seen l.repeated;
     }

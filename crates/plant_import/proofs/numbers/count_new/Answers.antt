@@ -1,9 +1,12 @@
-use Rattle.std.proofs.Common.{ap, arith, rules, sym, ◌∙◌}
+use Rattle.std.proofs.Common.{ap, arith, refl, rules, sym, ◌∙◌}
 use Rattle.std.specs.List.{list_any}
 use Rattle.plant_import.specs.Numbers.{has_number}
 use Rattle.plant_import.proofs.public.Counted.{count_known, count_put}
 use Rattle.plant_import.proofs.public.Risings.{in_number_order}
 use Rattle.plant_import.proofs.numbers.count_new.Goals as goal
+
+pub returns-then-rise-clause-value : goal.returns-then-rise-clause-value
+returns-then-rise-clause-value c rising = c.count_rising.ensures (in_number_order c.args.kept.now rising) (c.if-rise.ensures.0 refl)
 
 pub loop-i-preserved-in_ok-insert : goal.loop-i-preserved-in_ok-insert
 loop-i-preserved-in_ok-insert c rising =

@@ -1,9 +1,16 @@
-use Rattle.std.proofs.Common.{ap, sym, ◌++◌, ◌∙◌, []}
-use Rattle.std.specs.Prelude.{map}
+use Rattle.std.proofs.Common.{List, ap, refl, subst, sym, ◌++◌, ◌∙◌, ◌≡◌, []}
+use Rattle.std.specs.Prelude.{IfOk, map}
 use Rattle.std.proofs.lemmas.List.{append-nil}
-use Rattle.plant_import.specs.Numbers.{with_events}
+use Rattle.plant_alarm.specs.declared.event.Event.{Event}
+use Rattle.plant_import.specs.Numbers.{event_number, with_events}
 use Rattle.plant_import.proofs.ByNumber.{values_are}
+use Rattle.plant_import.proofs.public.Placed.{puts_none, rises_of}
 use Rattle.plant_import.proofs.numbers.in_rising_number.Goals as goal
+
+pub returns-then-rise-clause-value : goal.returns-then-rise-clause-value
+returns-then-rise-clause-value c =
+    let events = c.args.events.now in
+    subst (λ (l : List Event). IfOk c.duplicated.result (λ rising. rising ≡ l)) (sym (puts_none event_number events (rises_of event_number events (c.if-rise.ensures.0 refl)))) c.duplicated.ensures.value
 
 pub returns-clause-value : goal.returns-clause-value
 returns-clause-value c =

@@ -18,8 +18,8 @@ returns-then-come_after-clause-value c order =
     let low : IsInOrder nat_cmp event_number c.as_slice-2.result.now = subst (λ (l : List Event). IsInOrder nat_cmp event_number l) (sym c.as_slice-2.ensures) order in
     let high : IsInOrder nat_cmp event_number c.as_slice.result.now = subst (λ (l : List Event). IsInOrder nat_cmp event_number l) (sym fresh) (sorted more) in
     let after : list_all (is_before_all (with_events [] more)) kept ≡ true = sym (c.if-come_after.ensures low high ∙ (λ i. list_all (is_before_all (fresh i)) (c.as_slice-2.ensures i))) in
-    let all : kept ++ c.as_slice-then-come_after.result.now ≡ with_events kept more = ap (λ l. kept ++ l) (c.as_slice-then-come_after.ensures ∙ c.in_ok-rising.ensures.value) ∙ appended kept more order after in
-    subst (λ (l : List Event). OnOk c.push_all.result (c.push_all.new.all ≡ l)) all c.push_all.ensures.value
+    let all : kept ++ c.in_ok-rising.rising ≡ with_events kept more = ap (λ l. kept ++ l) c.in_ok-rising.ensures.value ∙ appended kept more order after in
+    subst (λ (l : List Event). OnOk c.append.result (c.append.new.all ≡ l)) all c.append.ensures.value
 
 pub returns-clause-value : goal.returns-clause-value
 returns-clause-value c order =

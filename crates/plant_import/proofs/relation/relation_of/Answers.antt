@@ -1,4 +1,4 @@
-use Rattle.std.proofs.Common.{ap, false, refl, rules, sym, true, Some, None, ◌<◌, ◌∙◌, ◌≡◌}
+use Rattle.std.proofs.Common.{ap, false, refl, rules, sym, true, Some, None, ◌<◌, ◌∙◌}
 use Rattle.std.specs.List.{list_any}
 use Rattle.std.specs.Option.{option_copied}
 use Rattle.std.specs.Prelude.{nat_lt}

@@ -1,0 +1,12 @@
+use Rattle.std.proofs.Common.{length, take, ◌≡◌, ◌≤◌}
+use Rattle.std.specs.Prelude.{filter}
+use Rattle.plant_import.specs.Numbers.{AreNumbered}
+use Rattle.plant_import.proofs.CountedRising.{is_other}
+use Rattle.plant_import.proofs.numbers.count_rising.Given as goal
+
+abbrev pub invariant-loop-event : goal.invariant-loop-event
+invariant-loop-event l =
+    record {
+      new : AreNumbered l.kept → l.count ≡ length (filter (is_other l.kept) (take l.event-index l.file));
+      few : l.count ≤ l.event-index;
+    }
