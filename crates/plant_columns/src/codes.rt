@@ -1,8 +1,8 @@
 //! The numbers of roles, states, kinds, topics and cells: one table each, by which columns are written and read.
 
-ghost use Rattle.std.specs.Prelude.{◌≡◌, ℕ};
-ghost use Rattle.plant_columns.specs.Codes.{cell_no, decision_no, kind_no, state_no, topic_no};
-ghost use Rattle.plant_types.specs.Roles.{role_no};
+ghost use Rattle.std.specs.Prelude.{◌≡◌, List, ℕ};
+ghost use Rattle.plant_columns.specs.Codes.{all_cells, all_decisions, all_kinds, all_states, all_topics, cell_no, decision_no, kind_no, state_no, topic_no};
+ghost use Rattle.plant_types.specs.Roles.{all_roles, role_no};
 
 use plant_alarm::{AlarmState, EventKind};
 use plant_model::ChangeTopic;
@@ -10,16 +10,22 @@ use plant_ration::{Cell, ChangeState};
 use plant_types::Role;
 
 /// A value that a column has by its number.
-pub trait Coded: Clone + Copy {
+pub trait Coded: Clone + Copy + 'static {
     ghost no: { Self → ℕ };
+
+    ghost every: { List Self };
 
     /// Its number.
     fn number(&self) -> u32
         ensures { result ≡ no self.now };
+
+    /// All values.
+    fn all() -> &'static [Self]
+        ensures { result.now ≡ every };
 }
 
 /// The roles.
-pub const ROLES: [Role; 6] = [
+const ROLES: [Role; 6] = [
     Role::Viewer,
     Role::Operator,
     Role::Maintainer,
@@ -31,13 +37,19 @@ pub const ROLES: [Role; 6] = [
 impl Coded for Role {
     ghost no = { role_no };
 
+    ghost every = { all_roles };
+
     fn number(&self) -> u32 {
         u32::from((*self).number())
+    }
+
+    fn all() -> &'static [Role] {
+        &ROLES
     }
 }
 
 /// The states of an alarm.
-pub const STATES: [AlarmState; 6] = [
+const STATES: [AlarmState; 6] = [
     AlarmState::Normal,
     AlarmState::Unacknowledged,
     AlarmState::Acknowledged,
@@ -49,6 +61,8 @@ pub const STATES: [AlarmState; 6] = [
 impl Coded for AlarmState {
     ghost no = { state_no };
 
+    ghost every = { all_states };
+
     fn number(&self) -> u32 {
         match self {
             AlarmState::Normal => 1,
@@ -59,10 +73,14 @@ impl Coded for AlarmState {
             AlarmState::LatchedAck => 6,
         }
     }
+
+    fn all() -> &'static [AlarmState] {
+        &STATES
+    }
 }
 
 /// The kinds of an event.
-pub const KINDS: [EventKind; 6] = [
+const KINDS: [EventKind; 6] = [
     EventKind::Act,
     EventKind::Rtn,
     EventKind::Ack,
@@ -74,6 +92,8 @@ pub const KINDS: [EventKind; 6] = [
 impl Coded for EventKind {
     ghost no = { kind_no };
 
+    ghost every = { all_kinds };
+
     fn number(&self) -> u32 {
         match self {
             EventKind::Act => 1,
@@ -84,13 +104,19 @@ impl Coded for EventKind {
             EventKind::Unsup => 6,
         }
     }
+
+    fn all() -> &'static [EventKind] {
+        &KINDS
+    }
 }
 
 /// What changes are of.
-pub const TOPICS: [ChangeTopic; 3] = [ChangeTopic::Record, ChangeTopic::Matrix, ChangeTopic::Limit];
+const TOPICS: [ChangeTopic; 3] = [ChangeTopic::Record, ChangeTopic::Matrix, ChangeTopic::Limit];
 
 impl Coded for ChangeTopic {
     ghost no = { topic_no };
+
+    ghost every = { all_topics };
 
     fn number(&self) -> u32 {
         match self {
@@ -99,10 +125,14 @@ impl Coded for ChangeTopic {
             ChangeTopic::Limit => 3,
         }
     }
+
+    fn all() -> &'static [ChangeTopic] {
+        &TOPICS
+    }
 }
 
 /// The states of a change.
-pub const DECISIONS: [ChangeState; 4] = [
+const DECISIONS: [ChangeState; 4] = [
     ChangeState::Proposed,
     ChangeState::Approved,
     ChangeState::Rejected,
@@ -112,6 +142,8 @@ pub const DECISIONS: [ChangeState; 4] = [
 impl Coded for ChangeState {
     ghost no = { decision_no };
 
+    ghost every = { all_decisions };
+
     fn number(&self) -> u32 {
         match self {
             ChangeState::Proposed => 1,
@@ -120,13 +152,19 @@ impl Coded for ChangeState {
             ChangeState::Withdrawn => 4,
         }
     }
+
+    fn all() -> &'static [ChangeState] {
+        &DECISIONS
+    }
 }
 
 /// The cells of a matrix.
-pub const CELLS: [Cell; 5] = [Cell::N, Cell::P1, Cell::P2, Cell::P3, Cell::P4];
+const CELLS: [Cell; 5] = [Cell::N, Cell::P1, Cell::P2, Cell::P3, Cell::P4];
 
 impl Coded for Cell {
     ghost no = { cell_no };
+
+    ghost every = { all_cells };
 
     fn number(&self) -> u32 {
         match self {
@@ -136,5 +174,9 @@ impl Coded for Cell {
             Cell::P3 => 3,
             Cell::P4 => 4,
         }
+    }
+
+    fn all() -> &'static [Cell] {
+        &CELLS
     }
 }

@@ -10,7 +10,7 @@ ghost use Rattle.plant_columns.specs.Shown.{columns};
 ghost use Rattle.plant_types.specs.Text.{is_text};
 ghost use Rattle.plant_columns.specs.Tables.{unit_shape, grant_shape, alarm_shape, shelf_shape, band_shape, cell_shape, event_shape, record_shape, change_shape};
 
-use crate::codes::{CELLS, Coded, DECISIONS, KINDS, ROLES, STATES, TOPICS};
+use crate::codes::Coded;
 use plant_alarm::{Event, Number};
 use plant_model::{
     AlarmRow, BandRow, CellRow, ChangeEntry, GrantRow, RecordEntry, ShelfRow, UnitRow,
@@ -163,13 +163,13 @@ pub fn flag(row: &Row, at: usize) -> Result<bool, Error>
     }
 }
 
-/// The value, of these, that the column has by its number.
-fn coded<T: Coded>(all: &[T], row: &Row, at: usize) -> Result<T, Error>
+/// The value that the column has by its number.
+fn coded<T: Coded>(row: &Row, at: usize) -> Result<T, Error>
     ensures value { ReadsColumn (λ x. codes.number (T.no x)) row.now at result }
     ensures cause { IfErr result IsNoMemory }
 {
     let found = number(row, at)?;
-    match all.iter().find(|value| value.number() == found) {
+    match T::all().iter().find(|value| value.number() == found) {
         Some(value) => Ok(*value),
         None => Err(Error::IntegralValueOutOfRange(at)),
     }
@@ -179,7 +179,7 @@ pub fn role(row: &Row, at: usize) -> Result<Role, Error>
     ensures value { ReadsColumn codes.role row.now at result }
     ensures cause { IfErr result IsNoMemory }
 {
-    coded(&ROLES, row, at)
+    coded(row, at)
 }
 
 fn event_number(row: &Row, at: usize) -> Result<Number, Error>
@@ -244,7 +244,7 @@ impl Shown for AlarmRow {
             latching: flag(row, 1)?,
             max_s: seconds(row, 2)?,
             max_rev: number(row, 3)?,
-            state_no: coded(&STATES, row, 4)?,
+            state_no: coded(row, 4)?,
             suppressed: flag(row, 5)?,
             active_s: open_moment(row, 6)?,
             return_s: open_moment(row, 7)?,
@@ -296,7 +296,7 @@ impl Shown for CellRow {
             matrix_no: number(row, 0)?,
             severity: small(row, 1)?,
             band_no: small(row, 2)?,
-            cell_no: coded(&CELLS, row, 3)?,
+            cell_no: coded(row, 3)?,
         })
     }
 }
@@ -311,7 +311,7 @@ impl Shown for Event {
             seq: event_number(row, 0)?,
             moment: moment(row, 1)?,
             tag: text(alloc, row, 2)?,
-            kind: coded(&KINDS, row, 3)?,
+            kind: coded(row, 3)?,
         })
     }
 }
@@ -326,7 +326,7 @@ impl Shown for RecordEntry {
             tag: text(alloc, row, 0)?,
             change_no: number(row, 1)?,
             rev: number(row, 2)?,
-            cell_no: coded(&CELLS, row, 3)?,
+            cell_no: coded(row, 3)?,
         })
     }
 }
@@ -341,7 +341,7 @@ impl Shown for ChangeEntry {
             number: number(row, 0)?,
             proposer: text(alloc, row, 1)?,
             proposed_s: moment(row, 2)?,
-            kind_no: coded(&TOPICS, row, 3)?,
+            kind_no: coded(row, 3)?,
             tag: open_text(alloc, row, 4)?,
             base: number(row, 5)?,
             cause: open_text(alloc, row, 6)?,
@@ -350,7 +350,7 @@ impl Shown for ChangeEntry {
             severity: open_small(row, 9)?,
             response_s: open_seconds(row, 10)?,
             max_s: open_seconds(row, 11)?,
-            state_no: coded(&DECISIONS, row, 12)?,
+            state_no: coded(row, 12)?,
             decider: open_text(alloc, row, 13)?,
             decided_s: open_moment(row, 14)?,
         })
