@@ -12,11 +12,11 @@ use plant_alarm::Event;
 use plant_model::{ChangeEntry, ChangeTopic, Scope, UnitRow};
 use plant_types::{List, Tag};
 
-/// Rows of tags: of a unit's shelves or of its records those that a call looks at.
+/// Which rows a call looks at of a table with one row for each tag: shelves, records or alarms.
 #[derive(Clone, Copy)]
 pub enum Wanted<'a> {
     Nothing,
-    /// That of the tag.
+    /// The row of this tag.
     One(&'a Tag),
     Every,
 }
@@ -68,7 +68,7 @@ pub fn wants_all_grants(scope: Scope<'_>) -> bool
     matches!(scope, Scope::AllGrants)
 }
 
-/// That of the tag, or every one in a crowded unit.
+/// The row of the tag, or every row in a crowded unit.
 fn wanted_in(tag: &Tag, crowded: bool) -> Wanted<'_>
     ensures { (a : Name) → is_wanted result a ≡ (crowded || same_name tag.now a) }
 {

@@ -1,4 +1,5 @@
-//! Copies of the rows whose tags are wanted, of the alarms that have a shelf and of the changes of several numbers, and rows without that of a tag.
+//! Copies of the rows whose tags are wanted, of the alarms that have a shelf and of the changes of several numbers, and
+//! rows without that of a tag.
 
 ghost use Rattle.std.specs.Prelude.{◌≡◌, IfOk, option_copied};
 ghost use Rattle.std.specs.Option.{option_to_list};

@@ -73,8 +73,8 @@ fn empty_lists(rt: &(impl Abort + AllocGlobal)) -> Plain {
     lists(rt.alloc()).expect(rt, "lists")
 }
 
-/// Both answers are the same bytes. An answer is then dropped by its own name: at the end of a scope the prover goes through every kind
-/// of answer.
+/// Both answers are the same bytes. An answer is then dropped by its own name: at the end of a scope the prover
+/// goes through every kind of answer.
 fn is_alike(rt: &(impl Abort + AllocGlobal), ours: &Answer, theirs: &Answer) {
     alike(rt.alloc(), ours, theirs).expect(rt, "an answer");
 }

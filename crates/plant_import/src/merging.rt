@@ -131,7 +131,8 @@ fn add(
     Ok(())
 }
 
-/// Whether a row is new beside the kept events and the earlier rows that were new, of which these are the nearest, or its first fault.
+/// Whether a row is new beside the kept events and the earlier rows that were new, of which these are the nearest,
+/// or its first fault.
 fn judged(
     kept: &[Event],
     nearest: Nearest<'_>,

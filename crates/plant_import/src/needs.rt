@@ -82,8 +82,8 @@ pub fn has_late(alloc: Global, kept: &[Event], rows: &[Event]) -> Result<bool, F
     Ok(false)
 }
 
-/// The kept events, in rising number, that a file of these rows is seen beside: all, where a row comes late, else those from the last
-/// before every row on.
+/// The kept events, in rising number, that a file of these rows is seen beside: all, where a row comes late, else
+/// those from the last before every row on.
 pub fn needed<'a>(alloc: Global, kept: &'a [Event], rows: &[Event]) -> Result<&'a [Event], Fault>
     ensures value { AreNumbered kept.now
         → IfOk result (λ some. some.now ≡ needs.needed kept.now rows.now) }

@@ -98,7 +98,7 @@ fn by_number(alloc: Global, events: &[Event]) -> Result<BTreeMap<Number, Event>,
     Ok(rising)
 }
 
-/// The events in rising number. Of two with the same number the last counts. No tree is made where the numbers rise already.
+/// The events in rising number; of two with the same number the last. Events that rise already are copied as they stand.
 fn in_rising_number(alloc: Global, events: &[Event]) -> Result<List<Event>, Fault>
     ensures value { IfOk result (λ rising. rising ≡ with_events [] events.now) }
     ensures err { OnlyMemory result }
@@ -190,8 +190,8 @@ fn come_after(events: &[Event], others: &[Event]) -> bool
     last.seq < first.seq
 }
 
-/// Puts events, in any order, among the kept ones, which are in rising number. Its time is that of the new events where they come after
-/// all others, else that of going over the kept events once.
+/// Puts events, in any order, among the kept ones, which are in rising number. Its time is that of the new events
+/// where they come after all others, else that of going over the kept events once.
 pub fn put_events(alloc: Global, kept: &mut List<Event>, more: &[Event]) -> Result<(), Fault>
     ensures value { AreNumbered kept.old → OnOk result (kept.new ≡ with_events kept.old more.now) }
     ensures err { OnlyMemory result }

@@ -191,7 +191,8 @@ fn answered_on<D: Disk + Drop>(
     Some(answered_at_hand(rt, books, wanted, calls))
 }
 
-/// How many offices answer a fault, where each sync of the log fails in turn until all calls are answered. To make the books takes nine.
+/// How many offices answer a fault, where each sync of the log fails in turn until all calls are answered. To make
+/// the books takes nine.
 fn faults(rt: &(impl Abort + AllocGlobal), wanted: &Exchanges, calls: &[Call]) -> u32 {
     let mut faults = 0u32;
     for syncs in 9..1000u64 {

@@ -215,7 +215,7 @@ const ABOUT: &str =
 /// What each exit status means.
 const STATUSES: &str = "Exit statuses:
   0  all requests answered, all connections served, OLD copied, help or version
-  2  the command line is wrong, or NAME is not a person's name
+  2  the command line is wrong, NAME is not a person's name, or --migrate without --db
   3  the books were not opened, or OLD was not copied
   4  without a port: the input ended within a request, or its bytes are not requests
   5  without a port: a read failed, or a million were made

@@ -7,7 +7,8 @@ use Rattle.plant_mirror.specs.Copies.{IsMirrored}
 use Rattle.plant_mirror.specs.declared.mirror.Mirror.{Mirror}
 use Rattle.plant_types.specs.declared.fault.Fault.{Fault}
 
--- a question changes nothing: books and copies hold the same content, the keeper's premise held before, and answers Store are counted
+-- a question changes nothing: books and copies hold the same content, the keeper's premise held before, and answers
+-- Store are counted
 pub record Leaves {B A : Type 0} (books : Ghosts B) (said : Result A Fault) (before after : Mirror B) : Type 0 where
   pub same : (m : Content) → IsMirrored (books.represents before.books) (books.is_honest before.books) before.copies.units.entries m
       → IsMirrored (books.represents after.books) (books.is_honest after.books) after.copies.units.entries m

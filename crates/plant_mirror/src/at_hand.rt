@@ -58,8 +58,8 @@ impl AtHand {
         !self.has_events && puts_event(changes)
     }
 
-    /// What is at hand after the changes. It is nothing where an event is put among events that are not at hand, or where
-    /// memory is wanted.
+    /// What is at hand after the changes. None where an event is put among events that are not at hand, or where memory
+    /// runs out.
     pub fn after(self, alloc: Global, changes: &List<RowEdit>) -> Option<AtHand>
         ensures { (m : Content) (u : Name) → IsCopy (fin.get m.units) (u, self)
             → IfSome result (λ after.

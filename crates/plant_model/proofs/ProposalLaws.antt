@@ -1,5 +1,5 @@
--- In a legal history only what was proposed is decided, each limit that was proposed is of a registered alarm, and there are as many rows
--- of changes as proposals.
+-- In a legal history only what was proposed is decided, each limit that was proposed is of a registered alarm, and
+-- there are as many rows of changes as proposals.
 use Rattle.plant_import.proofs.public.Placed.{there}
 use Rattle.plant_model.proofs.public.Base.{base, x}
 use Rattle.plant_model.proofs.public.FactLaws.{draft_bound, none_counted, same_number_of}

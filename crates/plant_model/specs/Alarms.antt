@@ -13,7 +13,8 @@ abbrev pub said_of_limit : Name → List Call → Request → Option ℕ
 said_of_limit a before (Register u b latching max) = when (same_name a b) max
 said_of_limit a before r = approved_limit a before r
 
--- MaxTimeShelved in force: that of the last approved change, else that of the registration. None for an alarm that was never registered
+-- MaxTimeShelved in force: that of the last approved change, else that of the registration. None for an alarm that
+-- was never registered
 abbrev pub limit : List Call → Name → Option ℕ
 limit h a = latest (λ c before. said_of_limit a before c.request) h
 

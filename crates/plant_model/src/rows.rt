@@ -116,7 +116,7 @@ pub struct UnitRows {
     pub changes: List<ChangeEntry>,
 }
 
-/// The rows that one call looks at, and the number of the unit's alarms or of its changes where the call needs it.
+/// The rows that one call looks at, and how many alarms, changes or events the unit has, whichever the call needs.
 #[derive(Drop)]
 pub struct UnitPart {
     pub rows: UnitRows,

@@ -31,7 +31,7 @@ fn rows_in(part: &Option<UnitPart>) -> Option<&UnitRows> {
     }
 }
 
-/// Whether a request's matrix is one needs no test: every matrix is.
+/// Tells the prover that the matrix of a request is one, as each value of its type is.
 fn note_matrix(request: &Request)
     ensures { has_matrix request.now ≡ true }
 {
@@ -44,7 +44,7 @@ fn note_matrix(request: &Request)
     }
 }
 
-/// Nor does that of a proposal.
+/// The same of a proposal's matrix.
 fn note_proposed(kind: &ChangeKind)
     ensures { is_matrix_kind kind.now ≡ true }
 {

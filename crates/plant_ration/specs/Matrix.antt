@@ -1,4 +1,5 @@
--- Rationalisation, after ISA-18.2 and IEC 62682: the priority comes from the severity of the consequence and the time to respond. Which tables are such matrices is this office's own rule.
+-- Rationalisation, after ISA-18.2 and IEC 62682: the priority comes from the severity of the consequence and the time to
+-- respond. Which tables are such matrices is this office's own rule.
 use Rattle.std.specs.Prelude.{ℕ, ◌+◌, ◌-◌, ◌≤◌, ◌≡◌, Bool, true, ◌&&◌, not, nat_lt, nat_le, ◌==◌, if◌then◌else◌, List, [], ◌∷◌, length, Option, Some, None, Result, Ok, Err, option_and_then, unwrap_or, slice_get, position}
 use Rattle.std.specs.List.{list_all, zip}
 use Rattle.plant_types.specs.Numbers.{is_seconds}

@@ -1,4 +1,4 @@
-//! The printed texts of a unit's rows, and floods of alarms.
+//! The texts printed of a unit's alarms, shelves and floods of alarms.
 #![tactic(auto)]
 
 mod alarms;

@@ -1,4 +1,4 @@
--- Which error of the database is want of memory.
+-- Which error of the database says that memory ran out.
 use Rattle.sqlite.specs.declared.error.Error.{Error}
 use Rattle.sqlite.specs.declared.error.Error.TheVariants.{SqliteFailure}
 use Rattle.sqlite.specs.declared.error.ErrorCode.TheVariants.{OutOfMemory}

@@ -1,4 +1,5 @@
--- The shelves of units, each beside its unit's code: beside a person's grants in the unit, then each once, and then with the moment at which its alarm last returned to normal.
+-- The shelves of units, each beside its unit's code: beside a person's grants in the unit, then each once, and then with
+-- the moment at which its alarm last returned to normal.
 use Rattle.sqlite_value.specs.declared.value.Value.TheVariants.{Text}
 use Rattle.sqlite_value.specs.Order.{Row}
 use Rattle.std.specs.FinMap.{keys}

@@ -1,4 +1,5 @@
--- A plant's rows taken over from schema 1: each unit may shelve as many alarms as a unit can have, no grant ends, and all else stays.
+-- A plant's rows taken over from schema 1: each unit may shelve as many alarms as a unit can have, no grant ends, and
+-- all else stays.
 use Rattle.plant_types.specs.Limits.{max_quota}
 use Rattle.sqlite.specs.Effect.{Database}
 use Rattle.sqlite.specs.Tree.{Trees}

@@ -242,7 +242,7 @@ fn take_over<O: Alter, N: Alter>(
     Ok(())
 }
 
-/// The same, where the new database has no table.
+/// Copies all rows as above into a database that has no table; a fault of the store where it has one.
 fn take_into_blank<O: Alter, N: Alter>(
     alloc: Global,
     from: &mut Connection<O>,
@@ -270,8 +270,8 @@ fn take_into_blank<O: Alter, N: Alter>(
     }
 }
 
-/// Takes a plant's store of schema 1 over into a database that has no table: all its rows, with the greatest quota for
-/// each unit and no end for any grant. The old store is only read; the new one is written in one transaction.
+/// Copies a plant's store of schema 1 into a database that has no table: all its rows, with the greatest quota for each
+/// unit and no end for any grant. The old store is only read; the new one is written in one transaction.
 ///
 /// Refused as `NotThisStore` where the old database is no store of schema 1 with this administrator; the new one is not
 /// looked at then. A fault of the store where the new database has a table, where a row of the old store cannot be read

@@ -78,7 +78,8 @@ fn is_office_row(rows: &[Row], schema: u32, admin: &Person) -> bool
     }
 }
 
-/// Whether the office's table has one row, of this schema's number and this person's name, where the table is there with its columns.
+/// Whether the office's table, where it is there with its columns, has one row, with this schema's number and this
+/// person's name.
 fn has_its_row<S: Alter>(
     conn: &mut Connection<S>,
     schema: u32,

@@ -142,8 +142,8 @@ impl<S: Alter> Tables<S> {
         }
     }
 
-    /// Takes a database that `create` made for this administrator and that was kept since. A database without the
-    /// office's table, or whose row there is another's, is not this store.
+    /// Opens a database that `create` made for this administrator and that was kept since. One without the office's
+    /// table, or with another administrator in it, is refused as `NotThisStore`.
     pub fn open(
         alloc: Global,
         mut conn: Connection<S>,

@@ -71,8 +71,8 @@ fn over(rt: &impl Abort, alloc: Global, files: Files<Memory>) -> Connection<File
     conn
 }
 
-/// A store of schema 1. This function and `migrated_store` are over any store: each that hands a store over files on takes the prover
-/// twenty seconds.
+/// A store of schema 1. This function and `migrated_store` are over any store: each that hands a store over files
+/// on takes the prover twenty seconds.
 fn older_store<S: Alter + Drop>(rt: &impl Abort, mut conn: Connection<S>) -> S {
     run(rt, &mut conn, SCHEMA);
     run(rt, &mut conn, ROWS);

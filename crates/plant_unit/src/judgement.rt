@@ -20,7 +20,7 @@ use plant_model::{Call, Refused, Reply, Request, UnitPart, UnitRow, Verdict};
 use plant_types::{Fault, Person};
 use std::alloc::Global;
 
-/// What is answered to a call that is no import, whose caller may make it.
+/// The verdict on a call that is no import, from a caller who may make it.
 fn judge_own(alloc: Global, unit: &UnitRow, part: &UnitPart, call: &Call) -> Result<Verdict, Fault>
     requires row { unit_read part.now.rows ≡ unit.now }
     requires plain { is_opening call.now.request ≡ false }
@@ -111,8 +111,8 @@ fn judge_part(alloc: Global, unit: &UnitRow, part: &UnitPart, call: &Call) -> Re
     }
 }
 
-/// What a unit answers to a call, from the part of its rows that the call looks at; none is a code that was never
-/// opened. Asked of a call on a unit that is no opening.
+/// What a unit answers to a call, from the part of its rows that the call looks at: `None` for a unit that was never
+/// opened. `judge_open` judges the call that opens it.
 ///
 /// For every legal history of whose rows the part is: the verdict of that history, and changes that turn its rows into
 /// those of the history followed by the call (none for a refusal or a read).

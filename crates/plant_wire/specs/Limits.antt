@@ -1,6 +1,6 @@
 -- The limits of a session.
 use Rattle.std.specs.Prelude.{ℕ}
 
--- each is offered room for so many bytes at least
+-- each read is offered room for at least so many bytes
 abbrev pub least_room : ℕ
 least_room = 4096

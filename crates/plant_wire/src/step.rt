@@ -20,7 +20,8 @@ use plant_route::Routes;
 use plant_types::Fault;
 use std::alloc::Global;
 
-/// What stood at the front. What waits still does with fewer bytes than these.
+/// What the bytes at the front were: a request that is not whole and cannot be with fewer bytes than these (`Waits`), one
+/// of so many bytes that was answered (`Took`), or none at all (`Broken`).
 #[derive(Clone, Copy, Debug)]
 pub(crate) enum Step {
     Waits(usize),
@@ -53,7 +54,7 @@ fn put_text<O: Outlet>(outlet: &mut O, text: &[u8]) -> Result<(), Stop>
     }
 }
 
-/// The answer to a malformed request takes no memory, so only a failed write can stop it.
+/// Writes the answer to a malformed request. It takes no memory, so only a failed write can stop it.
 fn put_cause<O: Outlet>(outlet: &mut O, cause: Cause) -> Result<(), Stop>
     ensures does { IsPut (O.written outlet.old) (O.written outlet.new)
         (spec.cause_text cause) result }
@@ -63,7 +64,7 @@ fn put_cause<O: Outlet>(outlet: &mut O, cause: Cause) -> Result<(), Stop>
     put_text(outlet, cause_text(cause))
 }
 
-/// Nor does the answer to a call that got a fault.
+/// Writes the answer to a call that got a fault, without memory too.
 fn put_fault<O: Outlet>(outlet: &mut O, fault: &Fault) -> Result<(), Stop>
     ensures does { IsPut (O.written outlet.old) (O.written outlet.new)
         (text_of (answers.Fault fault.now)) result }

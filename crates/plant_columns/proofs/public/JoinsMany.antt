@@ -1,4 +1,5 @@
--- An inner join of two shared tables in which one row meets many: in the order of the first one's key, and then of columns of the second that tell apart the rows that one row meets.
+-- An inner join of two shared tables in which one row meets many: in the order of the first one's key, and then of columns
+-- of the second that tell apart the rows that one row meets.
 use Rattle.std.proofs.Common.{◌≡◌, ℕ, Bool, true, false, cond, List, [], ◌∷◌, ◌++◌, map, flat_map, refl, ap, ◌∙◌, subst, Less, IsPermutation}
 use Rattle.std.specs.List.{AllByRecursion}
 use Rattle.std.specs.Ordering.{ordering_then}
@@ -38,7 +39,8 @@ module _ {A B : Type 0} (t : A → Bool) (out : A → B) (S : A → A → Type 0
       go false e more = more
 
 module _ (first second : ℕ) (tests project : List Term) (order : List (Term × Key)) (key then_by : List ℕ) (params : Row) where
-  -- the answer is each row of the first table in the order of its key, beside each row of the second that it meets, in the order of that one's key
+  -- the answer is each row of the first table in the order of its key, beside each row of the second that it meets, in the
+  -- order of that one's key
   pub joins_many : ((g h u v : Row) → output_cmp (plain_query (inner first (inner second end)) tests project order) (pair_shown first second tests project order key params g u) (pair_shown first second tests project order key params h v)
       ≡ ordering_then (by_columns key g h) (by_columns then_by u v))
       → (others : List ℕ) → ((g u v : Row) → meets first second tests project order key params g u ≡ true → meets first second tests project order key params g v ≡ true → by_columns others u v ≡ Less → by_columns then_by u v ≡ Less)

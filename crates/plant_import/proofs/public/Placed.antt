@@ -203,7 +203,7 @@ module _ {X : Type 0} (key : X → ℕ) where
       one_less : (k : ℕ) → suc (k + 1) ≡ suc k + 1
       one_less k = omega arith
 
-  -- what looking at neighbours tells
+  -- the answer of is_sorted_by says whether the numbers rise
   pub rise_is_told : (rows : List X) (b : Bool) → IsAllAdjacentAnswer (λ x y b. b ≡ nat_lt (key x) (key y)) rows b → IsTrue b ↔ IsInOrder nat_cmp key rows
   rise_is_told rows true h = (λ _. in_order_of rows (neighbours_rise rows (λ k d within. ltb-true _ _ (sym (h k d within)))), λ _. refl)
   rise_is_told [] false h = absurd (omega (arith, h.1))
