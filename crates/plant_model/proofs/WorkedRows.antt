@@ -1,4 +1,5 @@
 -- Worked examples: the rows that calls leave, and that the part which a call looks at gives its verdict and its changes.
+use Rattle.plant_model.specs.Calls.{changes_for}
 use Rattle.std.proofs.Common.{refl}
 use Rattle.std.specs.Prelude.{List, Some, [], codes, true, ◌∷◌, ◌≡◌}
 use Rattle.plant_model.specs.declared.call.Call.{Call}
@@ -9,7 +10,7 @@ use Rattle.plant_model.proofs.public.Base.{amy, ann, at, base, bob, call, eve, g
 use Rattle.plant_model.specs.Facts.{facts}
 use Rattle.plant_model.specs.Parts.{part_of}
 use Rattle.plant_model.specs.Refusals.{holds_some}
-use Rattle.plant_model.specs.RowChanges.{changed_by, changes_for, no_rows}
+use Rattle.plant_model.specs.RowChanges.{changed_by, no_rows}
 use Rattle.plant_model.specs.RowFacts.{facts_in}
 use Rattle.plant_model.specs.Rows.{rows_of}
 use Rattle.plant_model.specs.Verdicts.{verdict, verdict_of}

@@ -1,22 +1,18 @@
 -- The replies to accepted calls.
 use Rattle.plant_model.specs.Shelves.{shelf}
-use Rattle.plant_model.specs.declared.call.Request.TheVariants.{Alarms, Approve, ChangeOf, Floods, Grant, Import, MyShelves, MyUnits, OneShotShelve, OpenUnit, PlaceInService, Propose, RecordOf, Register, Reject, RemoveFromService, Shelves, Standing, Status, TimedShelve, Unshelve, Withdraw, WithdrawChange}
 use Rattle.plant_model.specs.declared.reply.ChangeRow.{ChangeRow}
 use Rattle.plant_model.specs.declared.reply.RecordRow.{RecordRow}
-use Rattle.plant_model.specs.declared.reply.Reply.TheVariants.{ChangeOf as ChangeReply, Number, RecordOf as RecordReply}
-use Rattle.std.specs.Prelude.{◌+◌}
+use Rattle.plant_model.specs.declared.reply.Reply.TheVariants.{ChangeOf as ChangeReply, RecordOf as RecordReply}
 use Rattle.plant_alarm.specs.Shelves.{is_unshelved, shelf_state}
 use Rattle.plant_alarm.specs.declared.event.Event.{Event}
 use Rattle.plant_alarm.specs.declared.shelf.ShelfState.{ShelfState}
 use Rattle.plant_alarm.specs.declared.shelf.ShelfState.TheVariants.{OneShotShelved, TimedShelved, Unshelved}
 use Rattle.plant_import.specs.Merging.{fresh}
-use Rattle.plant_model.specs.Events.{flood_lines, rows_of_file}
-use Rattle.plant_model.specs.Facts.{Facts, returned, shelf_now}
+use Rattle.plant_model.specs.Facts.{Facts, returned}
 use Rattle.plant_model.specs.Shelves.{shelf_left}
-use Rattle.plant_model.specs.declared.call.Request.{Request}
 use Rattle.plant_model.specs.declared.reply.AlarmLine.{AlarmLine}
 use Rattle.plant_model.specs.declared.reply.Reply.{Reply}
-use Rattle.plant_model.specs.declared.reply.Reply.TheVariants.{Alarms as AlarmsOf, Done, Floods as FloodsOf, Imported, Shelves as ShelvesOf, Standing as StandingOf, Status as StatusOf}
+use Rattle.plant_model.specs.declared.reply.Reply.TheVariants.{Done, Imported, Status as StatusOf}
 use Rattle.plant_model.specs.declared.reply.ShelfLine.{ShelfLine}
 use Rattle.plant_model.specs.declared.reply.StandingLine.{StandingLine}
 use Rattle.plant_model.specs.declared.reply.StatusRow.{StatusRow}
@@ -88,28 +84,3 @@ change_reply (Some c) = ChangeReply c
 -- the rows of a file that are new, and those that are repeated
 abbrev pub import_reply : List Event → List Event → Reply
 import_reply kept rows = Imported (length (fresh kept rows)) (length rows - length (fresh kept rows))
-
-abbrev pub reply : Facts → ℕ → Request → Reply
-reply f t (Import u file) = import_reply f.events (rows_of_file file)
-reply f t (Propose u x) = Number (f.change_count + 1)
-reply f t (RecordOf u a) = record_reply (f.rationale a)
-reply f t (ChangeOf u n) = change_reply (f.change n)
-reply f t (Status u a) = status_reply (f.alarm a) (shelf_now f a t)
-reply f t (Shelves u) = ShelvesOf u t (shelf_lines f t)
-reply f t (Alarms u) = AlarmsOf u t (alarm_lines f t)
-reply f t (Standing u) = StandingOf u t (standing_lines f t)
-reply f t (Floods u begin until) = FloodsOf u begin until (flood_lines f.events begin until)
-reply f t (OpenUnit u s m q) = Done
-reply f t (Grant u q r) = Done
-reply f t (Withdraw u q r) = Done
-reply f t (Register u a l m) = Done
-reply f t (TimedShelve u a d w) = Done
-reply f t (OneShotShelve u a w) = Done
-reply f t (Unshelve u a) = Done
-reply f t (RemoveFromService u a w) = Done
-reply f t (PlaceInService u a) = Done
-reply f t (WithdrawChange u n) = Done
-reply f t (Approve u n) = Done
-reply f t (Reject u n) = Done
-reply f t MyUnits = Done
-reply f t MyShelves = Done

@@ -1,8 +1,7 @@
 -- Changes of a unit's rows.
-use Rattle.plant_model.specs.Changes.{change_as, priority_by}
+use Rattle.plant_model.specs.Changes.{priority_by}
 use Rattle.plant_model.specs.RowFacts.{change_number, record_tag}
 use Rattle.plant_model.specs.Rows.{change_entry}
-use Rattle.plant_model.specs.declared.call.Request.TheVariants.{Alarms, Approve, ChangeOf, Floods, Grant, Import, MyShelves, MyUnits, OneShotShelve, OpenUnit, PlaceInService, Propose, RecordOf, Register, Reject, RemoveFromService, Shelves, Standing, Status, TimedShelve, Unshelve, Withdraw, WithdrawChange}
 use Rattle.plant_model.specs.declared.reply.ChangeRow.{ChangeRow}
 use Rattle.plant_model.specs.declared.reply.RecordRow.{RecordRow}
 use Rattle.plant_model.specs.declared.rows.RecordEntry.{RecordEntry}
@@ -10,21 +9,16 @@ use Rattle.plant_model.specs.declared.rows.Row.TheVariants.{Change as ChangePut,
 use Rattle.plant_ration.specs.declared.change.ChangeKind.{ChangeKind}
 use Rattle.plant_ration.specs.declared.change.ChangeKind.TheVariants.{Limit, Matrix, Rationale}
 use Rattle.plant_ration.specs.declared.change.ChangeState.{ChangeState}
-use Rattle.plant_ration.specs.declared.change.ChangeState.TheVariants.{Approved, Rejected, Withdrawn}
+use Rattle.plant_ration.specs.declared.change.ChangeState.TheVariants.{Approved}
 use Rattle.std.specs.Prelude.{Option}
 use Rattle.plant_import.specs.Numbers.{with_events}
 use Rattle.plant_alarm.specs.States.{active_since, is_suppressed, last_return, state_of}
 use Rattle.plant_alarm.specs.declared.event.Event.{Event}
 use Rattle.plant_floods.specs.Activations.{of_alarm}
 use Rattle.plant_import.specs.Merging.{fresh}
-use Rattle.plant_model.specs.Events.{rows_of_file}
-use Rattle.plant_model.specs.Facts.{Facts, limit_of}
+use Rattle.plant_model.specs.Facts.{Facts}
 use Rattle.plant_model.specs.Matrices.{band_at, band_cmp, band_places, cell_cmp, cell_of, cell_places}
 use Rattle.plant_model.specs.RowFacts.{alarm_tag, band_key, cell_key, event_number, pair_of, shelf_tag}
-use Rattle.plant_model.specs.Rows.{alarm_as, grant_as}
-use Rattle.plant_model.specs.Shelves.{shelf_row_as}
-use Rattle.plant_model.specs.declared.call.Call.{Call}
-use Rattle.plant_model.specs.declared.call.Request.{Request}
 use Rattle.plant_model.specs.declared.rows.AlarmRow.{AlarmRow}
 use Rattle.plant_model.specs.declared.rows.RowEdit.{RowEdit}
 use Rattle.plant_model.specs.declared.rows.RowEdit.TheVariants.{Put, Remove}
@@ -38,7 +32,6 @@ use Rattle.plant_ration.specs.Grid.{Grid}
 use Rattle.plant_types.specs.Names.{Name, name_cmp, same_name}
 use Rattle.plant_types.specs.Roles.{pair_cmp}
 use Rattle.plant_types.specs.KeyedRows.{put_row, remove_row}
-use Rattle.plant_types.specs.declared.role.Role.TheVariants.{Steward}
 use Rattle.std.specs.List.{list_any}
 use Rattle.std.specs.Option.{option_to_list}
 use Rattle.std.specs.Ordering.{nat_cmp}
@@ -148,32 +141,6 @@ abbrev pub for_change : Option ChangeRow → (ChangeRow → List RowEdit) → Li
 for_change None changes = []
 for_change (Some c) changes = changes c
 
--- the changes that an accepted call makes beside that of the unit's row
-abbrev pub own_changes : Facts → Name → ℕ → Request → List RowEdit
-own_changes f p t (OpenUnit u s m q) = Put (GrantPut (grant_as (s, Steward) None)) ∷ matrix_changes 0 m
-own_changes f p t (Grant u q r) = Put (GrantPut (grant_as (q, r.0) r.1)) ∷ []
-own_changes f p t (Withdraw u q r) = Remove (GrantKey q r) ∷ []
-own_changes f p t (Register u a l max) = Put (AlarmPut (alarm_as a max 0 [] None l)) ∷ []
-own_changes f p t (Import u file) = import_changes f (rows_of_file file)
-own_changes f p t (TimedShelve u a d w) = Put (ShelfPut (shelf_row_as false t (t + d) p w a)) ∷ []
-own_changes f p t (OneShotShelve u a w) = Put (ShelfPut (shelf_row_as true t (t + limit_of f a) p w a)) ∷ []
-own_changes f p t (Unshelve u a) = Remove (ShelfKey a) ∷ []
-own_changes f p t (RemoveFromService u a w) = with_alarm f a (taken_out p t w)
-own_changes f p t (PlaceInService u a) = with_alarm f a placed_in
-own_changes f p t (Propose u x) = Put (ChangePut (change_entry (change_as (f.change_count + 1) None (record { proposer = p; proposed = t; kind = x.kind; base = x.base })))) ∷ kind_changes (f.change_count + 1) x.kind
-own_changes f p t (WithdrawChange u n) = for_change (f.change n) (λ c. decision_change Withdrawn p t c ∷ [])
-own_changes f p t (Approve u n) = for_change (f.change n) (approval_changes f p t)
-own_changes f p t (Reject u n) = for_change (f.change n) (λ c. decision_change Rejected p t c ∷ [])
-own_changes f p t (Status u a) = []
-own_changes f p t (RecordOf u a) = []
-own_changes f p t (ChangeOf u n) = []
-own_changes f p t (Shelves u) = []
-own_changes f p t (Alarms u) = []
-own_changes f p t (Standing u) = []
-own_changes f p t (Floods u begin until) = []
-own_changes f p t MyUnits = []
-own_changes f p t MyShelves = []
-
 -- the unit's row after the call: its last moment, and the matrix in force
 abbrev pub kind_row : ℕ → UnitRow → ℕ → ChangeKind → UnitRow
 kind_row t r n (Matrix m) = record { last_s = t; matrix_no = n; matrix_rev = r.matrix_rev + 1; quota = r.quota }
@@ -182,11 +149,3 @@ kind_row t r n _ = record r { last_s = t }
 abbrev pub approved_row : ℕ → UnitRow → Option ChangeRow → UnitRow
 approved_row t r None = record r { last_s = t }
 approved_row t r (Some c) = kind_row t r c.number c.kind
-
-abbrev pub unit_after : Facts → ℕ → Request → UnitRow
-unit_after f t (OpenUnit u s m q) = record { last_s = t; matrix_no = 0; matrix_rev = 0; quota = q }
-unit_after f t (Approve u n) = approved_row t f.unit (f.change n)
-unit_after f t _ = record f.unit { last_s = t }
-
-abbrev pub changes_for : Facts → Call → List RowEdit
-changes_for f c = Put (UnitPut (unit_after f c.moment c.request)) ∷ own_changes f c.person c.moment c.request

@@ -1,12 +1,22 @@
 -- What a unit answers to a call: the first refusal whose condition holds, else the reply.
+use Rattle.plant_model.specs.Calls.{own_refusals, reply}
 use Rattle.plant_model.specs.Facts.{Facts, facts}
-use Rattle.plant_model.specs.Refusals.{first_refusal, refusals}
-use Rattle.plant_model.specs.Replies.{reply}
+use Rattle.plant_model.specs.Kinds.{role_needed}
+use Rattle.plant_model.specs.Refusals.{first_refusal, holds_some, lacks_role}
 use Rattle.plant_model.specs.declared.call.Call.{Call}
 pub use Rattle.plant_model.specs.Kinds.{is_opening, is_read}
 use Rattle.plant_model.specs.declared.reply.Refused.{Refused}
+use Rattle.plant_model.specs.declared.reply.Refused.TheVariants.{MomentBehind, NotGranted}
 use Rattle.plant_model.specs.declared.reply.Reply.{Reply}
-use Rattle.std.specs.Prelude.{Bool, Err, List, None, Ok, Option, Result, Some, if◌then◌else◌, is_ok, not, ◌&&◌, ◌∷◌}
+use Rattle.std.specs.Prelude.{Bool, Err, List, None, Ok, Option, Result, Some, if◌then◌else◌, is_ok, nat_lt, not, ◌&&◌, ◌++◌, ◌∷◌}
+
+-- the refusals of a call by a person who holds some role in the unit
+abbrev pub refusals_of_holder : Facts → Call → List (Bool × Refused)
+refusals_of_holder f c = lacks_role f c.moment c.person (role_needed c.request) ++ (nat_lt c.moment f.unit.last_s, MomentBehind f.unit.last_s) ∷ own_refusals f c.person c.moment c.request
+
+-- the refusals of a call on a unit
+abbrev pub refusals : Facts → Call → List (Bool × Refused)
+refusals f c = (not (holds_some f c.moment c.person), NotGranted) ∷ refusals_of_holder f c
 
 abbrev pub refused_or : Option Refused → Reply → Result Reply Refused
 refused_or None reply = Ok reply

@@ -1,4 +1,5 @@
 -- Books that hold the rows of a world, and what a call does to them.
+use Rattle.plant_model.specs.Calls.{reply}
 use Rattle.std.proofs.Common.{true≢false, ap, arith, inl, inr, refl, subst, sym, ◌++◌, ◌∙◌}
 use Rattle.std.proofs.lemmas.Bool.Decides.{nat_tests}
 use Rattle.std.proofs.lemmas.List.Elements.{filter_map-append}
@@ -40,7 +41,7 @@ use Rattle.plant_model.specs.Grants.{held, holds_any, roles_held}
 use Rattle.plant_model.specs.Histories.{last_moment}
 use Rattle.plant_model.specs.Legality.{has_matrix}
 use Rattle.plant_model.specs.Parts.{part_of}
-use Rattle.plant_model.specs.Replies.{line_of, reply, shelf_lines}
+use Rattle.plant_model.specs.Replies.{line_of, shelf_lines}
 use Rattle.plant_model.specs.RowChanges.{changed_by, no_rows}
 use Rattle.plant_model.specs.RowFacts.{last_return}
 use Rattle.plant_model.specs.Rows.{alarm_rows, rows_of, shelf_rows}

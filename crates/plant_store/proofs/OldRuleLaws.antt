@@ -1,4 +1,5 @@
 -- Histories of schema 1 are histories of today: a quota of 2,000 refuses nothing, and without ends what stands is held.
+use Rattle.plant_model.specs.Calls.{own_refusals, reply}
 use Rattle.plant_types.specs.Limits.{max_grants, max_quota}
 use Rattle.std.proofs.Common.{◌≡◌, Bool, true, false, List, [], ◌∷◌, ◌++◌, Option, None, Some, refl, sym, ap, ap₂, ◌∙◌, subst, true≢false, not, arith, ◌<◌, ℕ, nat_cmp, Ordering, Less, Equal, Greater, is_eq}
 use Rattle.std.specs.Cmp.{ranks}
@@ -13,10 +14,10 @@ use Rattle.plant_model.specs.Grants.{held, stands}
 use Rattle.plant_model.specs.Histories.{latest, same_number}
 use Rattle.plant_model.specs.Laws.{has_no_end}
 use Rattle.plant_model.specs.Legality.{IsLegal}
-use Rattle.plant_model.specs.Refusals.{first_refusal, holds_some, lacks_role, own_refusals, refusals, role_needed}
-use Rattle.plant_model.specs.Replies.{reply}
+use Rattle.plant_model.specs.Kinds.{role_needed}
+use Rattle.plant_model.specs.Refusals.{first_refusal, holds_some, lacks_role}
 use Rattle.plant_model.specs.Rows.{alarm_row}
-use Rattle.plant_model.specs.Verdicts.{changes_history, is_opening, refused_or, verdict}
+use Rattle.plant_model.specs.Verdicts.{changes_history, is_opening, refusals, refused_or, verdict}
 use Rattle.plant_model.specs.declared.call.Call.{Call}
 use Rattle.plant_model.specs.declared.call.Request.{Request}
 use Rattle.plant_model.specs.declared.call.Request.TheVariants.{Grant, OneShotShelve, OpenUnit, TimedShelve}

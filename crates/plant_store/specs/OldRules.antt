@@ -1,10 +1,11 @@
 -- The rules of schema 1: no quota limits the shelved alarms, no grant has an end, and a role is held as long as its grant stands.
+use Rattle.plant_model.specs.Calls.{own_refusals, reply}
 use Rattle.plant_alarm.specs.Shelves.{is_one_shot, is_timed}
 use Rattle.plant_model.specs.Facts.{Facts, facts, limit_of, shelf_now}
 use Rattle.plant_model.specs.Histories.{same_number}
 use Rattle.plant_model.specs.Legality.{IsLegal, has_matrix}
-use Rattle.plant_model.specs.Refusals.{first_refusal, own_refusals, role_needed, unknown}
-use Rattle.plant_model.specs.Replies.{reply}
+use Rattle.plant_model.specs.Kinds.{role_needed}
+use Rattle.plant_model.specs.Refusals.{first_refusal, unknown}
 use Rattle.plant_model.specs.Verdicts.{changes_history, is_opening, refused_or, verdict}
 use Rattle.plant_model.specs.declared.call.Call.{Call}
 use Rattle.plant_model.specs.declared.call.Request.{Request}

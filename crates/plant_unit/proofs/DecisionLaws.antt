@@ -1,9 +1,10 @@
 -- Calls on changes: what a decision makes.
+use Rattle.plant_model.specs.Calls.{changes_for, own_refusals}
 use Rattle.std.proofs.Common.{ap, refl, subst, sym, ◌∙◌}
 use Rattle.std.specs.Prelude.{Bool, Err, IfOk, List, None, Ok, Option, Result, Some, [], false, if◌then◌else◌, is_ok, option_map, true, ℕ, ◌&&◌, ◌∷◌, ◌≡◌}
 use Rattle.plant_model.specs.Facts.{Facts}
-use Rattle.plant_model.specs.Refusals.{first_refusal, kind_refusals, of_change, own_refusals}
-use Rattle.plant_model.specs.RowChanges.{approval_changes, approved_row, changes_for, decision_change, for_change, in_force, kind_row}
+use Rattle.plant_model.specs.Refusals.{first_refusal, kind_refusals, of_change}
+use Rattle.plant_model.specs.RowChanges.{approval_changes, approved_row, decision_change, for_change, in_force, kind_row}
 use Rattle.plant_model.specs.RowFacts.{change_found, change_number, change_read}
 use Rattle.plant_model.specs.Rows.{change_entry}
 use Rattle.plant_model.specs.Verdicts.{refused_or}

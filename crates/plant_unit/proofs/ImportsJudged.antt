@@ -1,4 +1,5 @@
 -- The judgement of an import.
+use Rattle.plant_model.specs.Calls.{changes_for, own_refusals, reply, unit_after}
 use Rattle.plant_types.specs.Limits.{max_events}
 use Rattle.std.proofs.Common.{ap, append_assoc, arith, refl, subst, sym, ◌∙◌}
 use Rattle.std.proofs.lemmas.Bool.{ltb-false}
@@ -12,10 +13,10 @@ use Rattle.plant_import.specs.Numbers.{new_numbers, with_events}
 use Rattle.plant_import.specs.declared.bad_file.BadFile.{BadFile}
 use Rattle.plant_import.specs.declared.merging.Merged.{Merged}
 use Rattle.plant_model.specs.Facts.{Facts}
-use Rattle.plant_model.specs.Refusals.{fault_entries, file_refusals, first_refusal, holds_some, lacks_role, own_refusals, refusals, role_needed, tags_of}
-use Rattle.plant_model.specs.Replies.{reply}
-use Rattle.plant_model.specs.RowChanges.{changes_for, import_changes, state_put, unit_after}
-use Rattle.plant_model.specs.Verdicts.{changes_history, is_read, refused_or, verdict_of}
+use Rattle.plant_model.specs.Kinds.{role_needed}
+use Rattle.plant_model.specs.Refusals.{fault_entries, file_refusals, first_refusal, holds_some, lacks_role, tags_of}
+use Rattle.plant_model.specs.RowChanges.{import_changes, state_put}
+use Rattle.plant_model.specs.Verdicts.{changes_history, is_read, refusals, refused_or, verdict_of}
 use Rattle.plant_model.specs.declared.call.Call.{Call}
 use Rattle.plant_model.specs.declared.call.Request.TheVariants.{Import}
 use Rattle.plant_model.specs.declared.call.Request.{Request}

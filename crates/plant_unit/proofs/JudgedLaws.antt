@@ -1,4 +1,5 @@
 -- From the facts of a part to the history whose rows it is of.
+use Rattle.plant_model.specs.Calls.{changes_for}
 use Rattle.std.proofs.Common.{ap, refl, subst, sym, ◌∙◌}
 use Rattle.std.specs.List.{slice_get}
 use Rattle.std.specs.Prelude.{Bool, Err, IfOk, List, None, Ok, Option, Result, Some, [], false, if◌then◌else◌, true, ℕ, ◌∷◌, ◌≡◌}
@@ -26,7 +27,7 @@ use Rattle.plant_unit.specs.Additions.{AreEventsFor, AreKept}
 use Rattle.plant_model.specs.Facts.{Facts, facts}
 use Rattle.plant_model.specs.Legality.{IsLegal}
 use Rattle.plant_model.specs.Parts.{none, part_of, part_of_holder, part_of_stranger}
-use Rattle.plant_model.specs.RowChanges.{changed_by, changes_for, no_rows, puts_unit}
+use Rattle.plant_model.specs.RowChanges.{changed_by, no_rows, puts_unit}
 use Rattle.plant_model.specs.RowFacts.{facts_among, facts_in, holds_by}
 use Rattle.plant_model.specs.declared.rows.UnitRows.{UnitRows}
 use Rattle.plant_model.specs.Rows.{rows_of, unit_row}

@@ -1,10 +1,9 @@
 -- Verdicts, from what was decided about a call.
+use Rattle.plant_model.specs.Calls.{changes_for, own_changes, own_refusals, reply, unit_after}
 use Rattle.std.proofs.Common.{ap, refl, subst, sym, ◌∙◌}
 use Rattle.std.specs.Prelude.{Bool, Err, IfOk, IsOkAnd, List, None, Ok, Option, Result, Some, [], false, if◌then◌else◌, is_ok, not, true, ◌&&◌, ◌∷◌, ◌≡◌}
 use Rattle.plant_model.specs.Facts.{Facts}
-use Rattle.plant_model.specs.Refusals.{first_refusal, own_refusals}
-use Rattle.plant_model.specs.Replies.{reply}
-use Rattle.plant_model.specs.RowChanges.{changes_for, own_changes, unit_after}
+use Rattle.plant_model.specs.Refusals.{first_refusal}
 use Rattle.plant_model.specs.Verdicts.{changes_history, is_read, refused_or}
 use Rattle.plant_model.specs.declared.call.Call.{Call}
 use Rattle.plant_model.specs.declared.call.Request.{Request}

@@ -1,4 +1,5 @@
 -- What a file adds to a unit, or why it is refused.
+use Rattle.plant_model.specs.Calls.{unit_after}
 use Rattle.plant_alarm.specs.declared.event.Event.{Event}
 use Rattle.plant_import.specs.Merging.{IsRising, first_fault, fresh}
 use Rattle.plant_import.specs.Needed.{needed}
@@ -15,7 +16,7 @@ use Rattle.plant_unit.specs.Summaries.{AreTold}
 use Rattle.plant_import.specs.declared.merging.Merged.{Merged}
 use Rattle.plant_model.specs.Facts.{Facts, limit_revision_of}
 use Rattle.plant_model.specs.Refusals.{file_refusals, first_refusal}
-use Rattle.plant_model.specs.RowChanges.{import_changes, unit_after}
+use Rattle.plant_model.specs.RowChanges.{import_changes}
 use Rattle.plant_model.specs.RowFacts.{alarm_tag, change_found, change_number, change_read, facts_among, facts_in, record_tag, shelf_tag, unit_read}
 use Rattle.plant_model.specs.Rows.{change_entry}
 use Rattle.plant_model.specs.declared.reply.Refused.{Refused}

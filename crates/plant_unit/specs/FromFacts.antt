@@ -1,10 +1,10 @@
 -- What a function gives, decides or answers by the facts of a part.
+use Rattle.plant_model.specs.Calls.{own_changes, own_refusals}
 use Rattle.std.specs.Prelude.{IfOk, List, OnOk, Option, Result, ℕ, ◌++◌, ◌≡◌}
 use Rattle.plant_alarm.specs.declared.event.Event.{Event}
 use Rattle.plant_import.specs.declared.bad_file.BadFile.{BadFile}
 use Rattle.plant_model.specs.Facts.{Facts}
-use Rattle.plant_model.specs.Refusals.{first_refusal, kind_refusals, own_refusals}
-use Rattle.plant_model.specs.RowChanges.{own_changes}
+use Rattle.plant_model.specs.Refusals.{first_refusal, kind_refusals}
 use Rattle.plant_model.specs.RowFacts.{facts_among, facts_in}
 use Rattle.plant_model.specs.declared.call.Call.{Call}
 use Rattle.plant_model.specs.declared.call.Request.{Request}

@@ -1,4 +1,5 @@
 -- What a judgement says.
+use Rattle.plant_model.specs.Calls.{changes_for, own_changes, own_refusals, reply}
 use Rattle.std.specs.Prelude.{Bool, Err, IsOkAnd, List, None, Ok, Option, Result, Some, [], false, if◌then◌else◌, is_ok, nat_lt, not, true, ℕ, ◌++◌, ◌∷◌, ◌≡◌}
 use Rattle.plant_model.specs.Changes.{priority_by}
 use Rattle.plant_model.specs.declared.call.Call.{Call}
@@ -26,10 +27,10 @@ use Rattle.plant_model.specs.declared.rows.Verdict.TheVariants.{Accepted as IsAc
 use Rattle.plant_model.specs.Facts.{Facts}
 use Rattle.plant_model.specs.Legality.{IsLegal}
 use Rattle.plant_model.specs.Parts.{part_of}
-use Rattle.plant_model.specs.Refusals.{base_changed, first_refusal, has_row, holds_some, is_not_needed, kind_refusals, lacks_role, of_change, own_refusals, role_needed}
-use Rattle.plant_model.specs.Replies.{reply}
+use Rattle.plant_model.specs.Kinds.{role_needed}
+use Rattle.plant_model.specs.Refusals.{base_changed, first_refusal, has_row, holds_some, is_not_needed, kind_refusals, lacks_role, of_change}
 use Rattle.plant_model.specs.declared.reply.Refused.TheVariants.{MomentBehind, NotAnAlarm, NotGranted, NotProposer, OutsideMatrix, SamePerson}
-use Rattle.plant_model.specs.RowChanges.{changed_by, changes_for, in_force, kind_row, no_rows, own_changes, puts_unit}
+use Rattle.plant_model.specs.RowChanges.{changed_by, in_force, kind_row, no_rows, puts_unit}
 use Rattle.plant_model.specs.RowFacts.{change_read, facts_in}
 use Rattle.plant_model.specs.Rows.{rows_of}
 use Rattle.plant_model.specs.Verdicts.{after, changes_history, refused_or, verdict, verdict_of}

@@ -1,32 +1,48 @@
 -- What the acceptance of a call says, and that an accepted call's changes turn the rows of the history.
+use Rattle.std.specs.Option.{option_to_list}
+use Rattle.plant_types.specs.declared.role.Role.{Role}
+use Rattle.plant_types.specs.Roles.{Pair, same_pair}
+use Rattle.plant_types.specs.Options.{or_else, when}
+use Rattle.plant_types.proofs.public.Orders.{same_names}
+use Rattle.plant_model.specs.declared.rows.UnitRows.{UnitRows}
+use Rattle.plant_model.specs.declared.rows.ShelfRow.{ShelfRow}
+use Rattle.plant_model.specs.declared.rows.Row.TheVariants.{Alarm as AlarmPut, Shelf as ShelfPut, Unit as UnitPut}
+use Rattle.plant_model.specs.declared.rows.RowEdit.TheVariants.{Put}
+use Rattle.plant_model.specs.declared.rows.AlarmRow.{AlarmRow}
+use Rattle.plant_model.specs.Shelves.{shelf, shelf_row_as}
+use Rattle.plant_model.specs.Service.{Outage, outage, said_of_service}
+use Rattle.plant_model.specs.RowChanges.{changed_by, placed_in, taken_out}
+use Rattle.plant_model.specs.Events.{events_of}
+use Rattle.plant_model.proofs.public.HistoryLaws.{alarm_of, alarms_told, grants_told, pairs_of, shelves_told, tags_of_alarms, tags_of_shelves}
+use Rattle.plant_types.proofs.public.KeyedRowLaws.{put-rows, remove-rows, tied}
 use Rattle.plant_model.proofs.public.Base.{base, x}
 use Rattle.plant_model.proofs.DecisionLaws.{approve_limit_turns, approve_matrix_turns, approve_sheet_turns, propose_limit_turns, propose_matrix_turns, propose_sheet_turns, reject_turns, withdraw_change_turns}
 use Rattle.plant_model.proofs.ProposalLaws.{accepted_change, drafted, limit_there, next_undecided}
-use Rattle.plant_model.specs.Changes.{draft, sheet}
+use Rattle.plant_model.specs.Changes.{draft, limit_revision, sheet}
 use Rattle.plant_model.specs.Refusals.{kind_refusals}
 use Rattle.plant_model.specs.declared.call.Request.TheVariants.{Approve, Propose, Reject, WithdrawChange}
 use Rattle.plant_model.specs.declared.reply.Refused.TheVariants.{NotProposer, SamePerson}
 use Rattle.plant_ration.specs.declared.change.ChangeKind.{ChangeKind}
 use Rattle.plant_ration.specs.declared.change.ChangeKind.TheVariants.{Limit, Matrix, Rationale}
 use Rattle.plant_ration.specs.declared.change.Proposal.{Proposal}
-use Rattle.plant_types.specs.Names.{same_name}
+use Rattle.plant_types.specs.Names.{name_cmp, same_name}
 use Rattle.plant_types.specs.declared.role.Role.TheVariants.{Approver, Engineer}
-use Rattle.std.specs.Prelude.{Some}
+use Rattle.std.specs.Prelude.{Bool, None, Option, Some, cond, map, option_map, unwrap_or, ◌+◌}
 use Rattle.plant_alarm.specs.Shelves.{is_one_shot}
 use Rattle.plant_alarm.specs.declared.event.Event.{Event}
 use Rattle.plant_import.specs.declared.bad_file.BadFile.{BadFile}
 use Rattle.plant_model.proofs.public.Base.{plain}
-use Rattle.plant_model.proofs.public.ChangeLaws.{Turns, grant_turns, one_shot_turns, place_turns, register_turns, remove_turns, timed_turns, unshelve_turns, withdraw_turns}
+use Rattle.plant_model.proofs.public.ChangeLaws.{Turns, now_stands, register_turns, said_anew, with_request}
 use Rattle.plant_model.proofs.public.EventLaws.{import_accepted, legal_kept, unspoken}
 use Rattle.plant_model.proofs.public.ImportLaws.{import_turns}
 use Rattle.plant_model.proofs.public.ServiceLaws.{both_true, known_alarm, registered, registered_anew}
-use Rattle.plant_model.specs.Alarms.{latching}
-use Rattle.plant_model.specs.Facts.{facts, is_out, shelf_now}
+use Rattle.plant_model.specs.Alarms.{latching, limit}
+use Rattle.plant_model.specs.Facts.{facts, is_out, limit_of, shelf_now}
 use Rattle.plant_model.specs.Grants.{held}
-use Rattle.plant_model.specs.Histories.{last_moment}
+use Rattle.plant_model.specs.Histories.{Begins, Over, Said, last_moment, latest, still, what_stands}
 use Rattle.plant_model.specs.Legality.{IsLegal}
 use Rattle.plant_model.specs.Refusals.{holds_some, over_quota}
-use Rattle.plant_model.specs.Rows.{alarm_row}
+use Rattle.plant_model.specs.Rows.{alarm_as, alarm_row, grant_as, grant_row, rows_of, unit_row}
 use Rattle.plant_model.specs.Verdicts.{changes_history, is_opening, verdict}
 use Rattle.plant_model.specs.declared.call.Call.{Call}
 use Rattle.plant_model.specs.declared.call.Request.{Request}
@@ -35,8 +51,90 @@ use Rattle.plant_model.specs.declared.reply.Refused.TheVariants.{AlreadyOutOfSer
 use Rattle.plant_model.specs.declared.reply.Reply.TheVariants.{Done}
 use Rattle.plant_types.specs.Names.{Name}
 use Rattle.plant_types.specs.declared.role.Role.TheVariants.{Maintainer, Operator}
-use Rattle.std.proofs.Common.{refl}
+use Rattle.std.proofs.Common.{ap, refl, ◌∙◌}
 use Rattle.std.specs.Prelude.{Err, List, Ok, Result, [], false, is_ok, max, nat_lt, not, true, ℕ, ◌∷◌, ◌≡◌}
+
+-- pairs
+no_more_stands : (k x : Pair) (rest : Option (Said (Option ℕ))) → option_map (grant_as k) (still (or_else (when (same_pair k x) Over) rest)) ≡ cond (same_pair k x) None (option_map (grant_as k) (still rest))
+no_more_stands k x rest =
+    elim (same_pair k x) as (λ b. option_map (grant_as k) (still (or_else (when b Over) rest)) ≡ cond b None (option_map (grant_as k) (still rest))) [ true ↦ refl | false ↦ refl ]
+
+-- shelves
+now_shelved : (a b : Name) (row : Name → ShelfRow) (rest : Option (Said ShelfRow)) → still (or_else (when (same_name a b) (Begins (row a))) rest) ≡ cond (same_name a b) (Some (row b)) (still rest)
+now_shelved a b row rest =
+    elim (same_name a b) as (λ t. same_name a b ≡ t → still (or_else (when t (Begins (row a))) rest) ≡ cond t (Some (row b)) (still rest)) [
+      | true ↦ λ e. ap (λ y. Some (row y)) (same_names a b (tied _ _ e refl))
+      | false ↦ λ e. refl
+    ] refl
+
+now_unshelved : (a b : Name) (rest : Option (Said ShelfRow)) → still (or_else (when (same_name a b) Over) rest) ≡ cond (same_name a b) None (still rest)
+now_unshelved a b rest =
+    elim (same_name a b) as (λ t. still (or_else (when t Over) rest) ≡ cond t None (still rest)) [ true ↦ refl | false ↦ refl ]
+
+still_when : {A : Type 0} (b : Bool) (v : Said A) (rest : Option (Said A)) → still (or_else (when b v) rest) ≡ cond b (what_stands v) (still rest)
+still_when true v rest = refl
+still_when false v rest = refl
+
+module _ (h : List Call) (p : Name) (t : ℕ) where
+  grant_turns : (u q : Name) (r : Role × Option ℕ) → Turns h p t (Grant u q r)
+  grant_turns u q r = λ i. record (rows_of (with_request h p t (Grant u q r))) {
+    grants = put-rows (grant_row h) (grant_row (with_request h p t (Grant u q r))) (pairs_of h) (pairs_of (with_request h p t (Grant u q r))) (grant_as (q, r.0) r.1) (grants_told h) (grants_told (with_request h p t (Grant u q r))) (λ k. now_stands k (q, r.0) r.1 _) i;
+  }
+
+  withdraw_turns : (u q : Name) (r : Role) → Turns h p t (Withdraw u q r)
+  withdraw_turns u q r = λ i. record (rows_of (with_request h p t (Withdraw u q r))) {
+    grants = remove-rows (grant_row h) (grant_row (with_request h p t (Withdraw u q r))) (pairs_of h) (pairs_of (with_request h p t (Withdraw u q r))) (q, r) (grants_told h) (grants_told (with_request h p t (Withdraw u q r))) (λ k. no_more_stands k (q, r) _) i;
+  }
+
+  timed_turns : (u a : Name) (d : ℕ) (w : Name) → Turns h p t (TimedShelve u a d w)
+  timed_turns u a d w = λ i. record (rows_of (with_request h p t (TimedShelve u a d w))) {
+    shelves = put-rows (shelf h) (shelf (with_request h p t (TimedShelve u a d w))) (tags_of_shelves h) (tags_of_shelves (with_request h p t (TimedShelve u a d w))) (shelf_row_as false t (t + d) p w a) (shelves_told h) (shelves_told (with_request h p t (TimedShelve u a d w))) (λ b. now_shelved b a (shelf_row_as false t (t + d) p w) _) i;
+  }
+
+  unshelve_turns : (u a : Name) → Turns h p t (Unshelve u a)
+  unshelve_turns u a = λ i. record (rows_of (with_request h p t (Unshelve u a))) {
+    shelves = remove-rows (shelf h) (shelf (with_request h p t (Unshelve u a))) (tags_of_shelves h) (tags_of_shelves (with_request h p t (Unshelve u a))) a (shelves_told h) (shelves_told (with_request h p t (Unshelve u a))) (λ b. now_unshelved b a _) i;
+  }
+
+  -- the limit in the alarm's row is the limit in force
+  limit_known : (a : Name) (l : Bool) → latching h a ≡ Some l → limit_of (facts h) a ≡ unwrap_or (limit h a) 0
+  limit_known a l known = ap (λ o. unwrap_or (option_map (λ (r : AlarmRow). r.max_s) (option_map (alarm_of h a) o)) 0) known
+
+  one_shot_turns : (u a : Name) (w : Name) (l : Bool) → latching h a ≡ Some l → Turns h p t (OneShotShelve u a w)
+  one_shot_turns u a w l known = ap (λ max. changed_by (Put (UnitPut (unit_row (with_request h p t (OneShotShelve u a w)))) ∷ Put (ShelfPut (shelf_row_as true t (t + max) p w a)) ∷ []) (rows_of h)) (limit_known a l known)
+      ∙ (λ i. record (rows_of (with_request h p t (OneShotShelve u a w))) {
+        shelves = put-rows (shelf h) (shelf (with_request h p t (OneShotShelve u a w))) (tags_of_shelves h) (tags_of_shelves (with_request h p t (OneShotShelve u a w))) (shelf_row_as true t (t + unwrap_or (limit h a) 0) p w a) (shelves_told h) (shelves_told (with_request h p t (OneShotShelve u a w))) (λ b. now_shelved b a (shelf_row_as true t (t + unwrap_or (limit h a) 0) p w) _) i;
+      })
+
+  -- Service
+  abbrev row_by_outage : (a : Name) → Option Outage → Bool → AlarmRow
+  row_by_outage a out = alarm_as a (unwrap_or (limit h a) 0) (limit_revision h a) (events_of h a) out
+
+  outage_anew : (a k : Name) (l : Bool) (v : Said Outage) → latching h a ≡ Some l → option_map (row_by_outage k (still (or_else (when (same_name k a) v) (latest (λ c before. said_of_service k c.person c.moment c.request) h)))) (latching h k) ≡ cond (same_name k a) (Some (row_by_outage a (what_stands v) l)) (alarm_row h k)
+  outage_anew a k l v known =
+      ap (λ o. option_map (row_by_outage k o) (latching h k)) (still_when (same_name k a) v _)
+      ∙ said_anew name_cmp same_names row_by_outage (outage h) (latching h) a l (what_stands v) known k
+
+  alarm_put : (q : Request) → (AlarmRow → AlarmRow) → Option AlarmRow → UnitRows
+  alarm_put q g o = changed_by (Put (UnitPut (unit_row (with_request h p t q))) ∷ map (λ r. Put (AlarmPut (g r))) (option_to_list o)) (rows_of h)
+
+  remove_turns : (u a w : Name) (l : Bool) → latching h a ≡ Some l → Turns h p t (RemoveFromService u a w)
+  unfolding alarm_put
+  remove_turns u a w l known =
+      let c = with_request h p t (RemoveFromService u a w) in
+      ap (λ o. alarm_put (RemoveFromService u a w) (taken_out p t w) (option_map (alarm_of h a) o)) known
+      ∙ (λ i. record (rows_of c) {
+        alarms = put-rows (alarm_row h) (alarm_row c) (tags_of_alarms h) (tags_of_alarms c) (row_by_outage a (Some (record { from = t; person = p; words = w })) l) (alarms_told h) (alarms_told c) (λ k. outage_anew a k l (Begins (record { from = t; person = p; words = w })) known) i;
+      })
+
+  place_turns : (u a : Name) (l : Bool) → latching h a ≡ Some l → Turns h p t (PlaceInService u a)
+  unfolding alarm_put
+  place_turns u a l known =
+      let c = with_request h p t (PlaceInService u a) in
+      ap (λ o. alarm_put (PlaceInService u a) placed_in (option_map (alarm_of h a) o)) known
+      ∙ (λ i. record (rows_of c) {
+        alarms = put-rows (alarm_row h) (alarm_row c) (tags_of_alarms h) (tags_of_alarms c) (row_by_outage a None l) (alarms_told h) (alarms_told c) (λ k. outage_anew a k l Over known) i;
+      })
 
 module _ (h : List Call) (p : Name) (t : ℕ) where
   abbrev pub made_by : Request → Call

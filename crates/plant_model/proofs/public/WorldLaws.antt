@@ -1,4 +1,5 @@
 -- What a call does to a world, and to what a person sees of it.
+use Rattle.plant_model.specs.Calls.{reply}
 use Rattle.plant_model.specs.Histories.{Over, Said as SaidOf, still}
 use Rattle.std.proofs.Common.{◌≡◌, ◌⊎◌, inl, inr, ℕ, List, [], ◌∷◌, Some, None, refl, sym, ap, subst, ◌∙◌, Bool, true, false, cond, T}
 use Rattle.std.specs.Prelude.{◌&&◌, ◌||◌, not, if◌then◌else◌, Option, Result, Ok, Err, is_some, unwrap_or, option_map, map}
@@ -19,9 +20,8 @@ use Rattle.plant_types.specs.Options.{when, or_else}
 use Rattle.plant_types.specs.Roles.{Pair, same_pair, all_roles}
 use Rattle.plant_model.specs.Grants.{said_of_pair, is_before, held, holds_any}
 use Rattle.plant_model.specs.Facts.{facts}
-use Rattle.plant_model.specs.Refusals.{holds_some, first_refusal, refusals_of_holder}
-use Rattle.plant_model.specs.Replies.{reply}
-use Rattle.plant_model.specs.Verdicts.{verdict, refused_or, changes_history, is_opening}
+use Rattle.plant_model.specs.Refusals.{holds_some, first_refusal}
+use Rattle.plant_model.specs.Verdicts.{changes_history, is_opening, refusals_of_holder, refused_or, verdict}
 use Rattle.plant_model.specs.Worlds.{World, history, unit_named, unit_seen, units_held, opening, unit_answer, by_admin, is_taken, answer_at, answer, answer_of_units, with_call, next_at, next}
 use Rattle.plant_model.specs.Views.{codes_seen, view, grants_to}
 use Rattle.plant_model.specs.Laws.{UnseenCallsChangeNothing, CodesAreTheAdministrators, EqualViewsEqualAnswers, CallsToSeenUnits}
