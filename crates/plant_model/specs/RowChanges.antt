@@ -99,6 +99,10 @@ taken_out p t words r = record r { out_s = Some t; out_by = Some p; out_words = 
 abbrev pub placed_in : AlarmRow → AlarmRow
 placed_in r = record r { out_s = None; out_by = None; out_words = None }
 
+-- the new rows of a file, in rising number
+abbrev pub new_events : List Event → List Event → List Event
+new_events kept rows = with_events [] (fresh kept rows)
+
 -- all events with the new ones of a file
 abbrev pub all_events : List Event → List Event → List Event
 all_events kept rows = with_events kept (fresh kept rows)
@@ -115,7 +119,7 @@ state_put es r = Put (AlarmPut (with_state (of_alarm r.tag es) r))
 
 abbrev pub import_changes : Facts → List Event → List RowEdit
 import_changes f rows =
-    map (λ e. Put (EventPut e)) (fresh f.events rows)
+    map (λ e. Put (EventPut e)) (new_events f.events rows)
     ++ map (state_put (all_events f.events rows)) (filter (is_touched f.events rows) f.alarms)
 
 -- a change that is decided

@@ -6,7 +6,7 @@ use Rattle.std.proofs.lemmas.List.Elements.{filter_map-append}
 use Rattle.std.specs.FinMap.Entries.{find as found}
 use Rattle.std.specs.FinMap.{contains_key, get, get-insert, keys}
 use Rattle.std.specs.List.{cons_option, flat_map}
-use Rattle.std.specs.Prelude.{Bool, Err, IfOk, IsErrAnd, List, None, Ok, OnErr, Option, Result, Some, [], cond, false, filter_map, fold, if◌then◌else◌, is_ok, is_some, map, max, nat_lt, not, option_and_then, option_map, true, unwrap_or, ℕ, ◌<◌, ◌∷◌, ◌≡◌, ◌≤◌}
+use Rattle.std.specs.Prelude.{Bool, Err, IfOk, IfSome, IsErrAnd, List, None, Ok, OnErr, Option, Result, Some, [], cond, false, filter_map, fold, if◌then◌else◌, is_ok, is_some, map, max, nat_lt, not, option_and_then, option_map, true, unwrap_or, ℕ, ◌<◌, ◌∷◌, ◌≡◌, ◌≤◌}
 use Rattle.plant_books.specs.declared.books.MineRow.{MineRow}
 use Rattle.plant_books.specs.declared.books.MineUnit.{MineUnit}
 use Rattle.plant_model.specs.declared.call.Call.{Call}
@@ -40,7 +40,7 @@ use Rattle.plant_model.specs.Facts.{facts, returned}
 use Rattle.plant_model.specs.Grants.{held, holds_any, roles_held}
 use Rattle.plant_model.specs.Histories.{last_moment}
 use Rattle.plant_model.specs.Legality.{has_matrix}
-use Rattle.plant_model.specs.Parts.{part_of}
+use Rattle.plant_model.specs.Parts.{holds_by, part_of, part_of_holder, part_of_stranger}
 use Rattle.plant_model.specs.Replies.{line_of, shelf_lines}
 use Rattle.plant_model.specs.RowChanges.{changed_by, no_rows}
 use Rattle.plant_model.specs.RowFacts.{last_return}
@@ -217,8 +217,25 @@ pub leaves : (w : World) (c : Call) (a : Said) (b : Content) (left : Content →
 leaves w c a b left legal matrix s h = record { answered = s.answered; after = s.after; left_it = subst left (sym s.left_it) h; holds = s.holds; legal = next_legal w c legal matrix }
 
 -- the changes of an accepted call put the unit's own row
-pub known_call : (b : Content) (w : World) (c : Call) (u : Name) (reply : Reply) (cs : List RowEdit) → is_read c.request ≡ false → IsVerdictOn (history w u) c (IsAccepted reply cs) → IsKnownTo b u cs
-known_call b w c u reply cs read v = inr (v.puts (ap (λ x. changes_history x c) (sym v.answer) ∙ ap not read))
+-- a unit that accepts a change is there, so any changes may be made to its rows
+pub known_call : (b : Content) (w : World) (c : Call) (u : Name) (reply : Reply) (cs left : List RowEdit) → Holds b w → is_read c.request ≡ false → IsVerdictOn (history w u) c (IsAccepted reply cs) → IsKnownTo b u left
+known_call b w c u reply cs left h read v =
+    let accepted : changes_history (verdict (history w u) c) c ≡ true = ap (λ x. changes_history x c) (sym v.answer) ∙ ap not read in
+    inl (held_taken b w u h ∙ ap is_some (there_of_accepted w c u accepted))
+
+-- each part of a unit's rows has its own row
+units_in_part : (c : Call) (rows : UnitRows) → rows.units ≡ (part_of c rows).rows.units
+units_in_part c rows =
+    elim (holds_by rows.grants c.moment c.person) as (λ b. rows.units ≡ (if b then part_of_holder c rows else part_of_stranger c rows).rows.units) [ true ↦ refl | false ↦ refl ]
+
+units_in_some_part : (c : Call) (o : Option UnitRows) → IfSome (option_map (part_of c) o) (λ p. (unwrap_or o no_rows).units ≡ p.rows.units)
+units_in_some_part c None = tt
+units_in_some_part c (Some rows) = units_in_part c rows
+
+-- changes that come to the same in all rows with the unit's row that was seen come to the same in the books
+pub same_changes : (b : Content) (c : Call) (u : Name) (part : Option UnitPart) (cs left : List RowEdit) → part ≡ part_in b c u → ((rows : UnitRows) → IfSome part (λ p. rows.units ≡ p.rows.units) → changed_by left rows ≡ changed_by cs rows) → after_changes b u left ≡ after_changes b u cs
+same_changes b c u part cs left found same =
+    ap (with_rows b u) (same (rows_in b u) (subst (λ o. IfSome o (λ p. (rows_in b u).units ≡ p.rows.units)) (sym found) (units_in_some_part c (get b.units u))))
 
 pub known_opening : (b : Content) (w : World) (c : Call) (u : Name) (reply : Reply) (cs : List RowEdit) → IsOpening (by_admin w c) (is_taken w u) c (IsAccepted reply cs) → IsKnownTo b u cs
 known_opening b w c u reply cs v = inr (v.puts (ap is_ok (sym v.answer)))

@@ -1,9 +1,11 @@
-ghost use Rattle.std.specs.Prelude.{◌≡◌, ◌<◌, ◌^◌, ◌-◌, ◌+◌, ◌≤◌, Some, None, true, false, IfOk, OnErr, List, [], ◌∷◌, ◌++◌, filter_map, map, max, fold, length, vec_len, vec_capacity};
+ghost use Rattle.std.specs.Prelude.{◌≡◌, ◌<◌, ◌^◌, ◌-◌, ◌+◌, ◌≤◌, Some, None, true, false, IfOk, IfSome, IsTrue, OnErr, List, [], ◌∷◌, ◌++◌, filter_map, map, max, fold, length, vec_len, vec_capacity};
 ghost use Rattle.plant_books.specs.Books.{WasHonest};
 ghost use Rattle.plant_types.specs.Results.{OnlyMemory};
 ghost use Rattle.plant_model.specs.declared.call.Request.TheVariants.{MyShelves, MyUnits};
+ghost use Rattle.plant_model.specs.declared.rows.UnitRows.{UnitRows};
 ghost use Rattle.plant_model.specs.Legality.{has_matrix, is_matrix_kind};
 ghost use Rattle.plant_model.specs.Verdicts.{changes_history, is_opening};
+ghost use Rattle.plant_model.specs.RowChanges.{changed, changed_by};
 ghost use Rattle.plant_model.specs.Views.{view};
 ghost use Rattle.plant_model.specs.Worlds.{World, IsLegalWorld, unit_named};
 ghost use Rattle.plant_books.specs.Contents.{Content};
@@ -16,7 +18,8 @@ ghost use Rattle.plant_office.specs.Lines.{line_of_mine, line_of_shelf};
 
 use plant_books::{Books, MineRow, MineUnit};
 use plant_model::{
-    Answer, Call, MineLine, Refused, Reply, Request, UnitLine, UnitPart, UnitRows, Verdict,
+    Answer, Call, MineLine, Refused, Reply, Request, Row, RowEdit, UnitLine, UnitPart, UnitRow,
+    UnitRows, Verdict,
 };
 use plant_ration::ChangeKind;
 use plant_types::{Fault, List, Moment, UnitCode};
@@ -28,6 +31,30 @@ fn rows_in(part: &Option<UnitPart>) -> Option<&UnitRows> {
     match part {
         Some(part) => Some(&part.rows),
         None => None,
+    }
+}
+
+/// Whether a change puts the unit's own row as it stands among these, which are all its rows of that kind.
+fn puts_the_same(units: &[UnitRow], change: &RowEdit) -> bool
+    ensures { (rows : UnitRows) → rows.units ≡ units.now → IsTrue result
+        → changed change.now rows ≡ rows }
+{
+    match (units, change) {
+        ([unit], RowEdit::Put(Row::Unit(row))) => *unit == *row,
+        _ => false,
+    }
+}
+
+/// Leaves the unit's own row out of the changes where it stays as it was seen: at the moment of the call before, say.
+fn leave_out_same(part: &Option<UnitPart>, changes: &mut List<RowEdit>)
+    ensures { (rows : UnitRows) → IfSome part.now (λ part. rows.units ≡ part.rows.units)
+        → changed_by changes.new rows ≡ changed_by changes.old rows }
+{
+    let (Some(part), Some(first)) = (part, changes.as_slice().first()) else {
+        return;
+    };
+    if puts_the_same(part.rows.units.as_slice(), first) {
+        drop(changes.remove_at(0));
     }
 }
 
@@ -136,10 +163,11 @@ impl<B: Books> Office<B> {
         let part = self.books.part(call)?;
         match judge(self.alloc, part.as_ref(), call)? {
             Verdict::Refused(refused) => Ok(Err(refused)),
-            Verdict::Accepted(reply, changes) => {
+            Verdict::Accepted(reply, mut changes) => {
                 if is_read(&call.request) {
                     return Ok(Ok(reply));
                 }
+                leave_out_same(&part, &mut changes);
                 self.books.apply(unit, &changes, rows_in(&part))?;
                 Ok(Ok(reply))
             }

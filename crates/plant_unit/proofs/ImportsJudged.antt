@@ -179,10 +179,10 @@ merged_at f t rows kept tags k n b m x rises ek el en eb room et em ex =
     merge_added f t rows x free (sym ex ∙ em rising ∙ (λ i. merge (ek i) rows (et i) t) ∙ needed_merge f.events rows (tags_of f) t rises)
 
 -- the changes that the code makes for the alarms are those of the definition
-pub put_all : (f : Facts) (rows added : List Event) (row : RowEdit) (cs events : List RowEdit) → AreAdded f.events rows added → events ≡ row ∷ map (λ e. Put (EventPut e)) added → cs ≡ events ++ map (state_put (with_events f.events added)) (filter (is_named added) f.alarms) → cs ≡ row ∷ import_changes f rows
+pub put_all : (f : Facts) (rows added : List Event) (row : RowEdit) (cs events : List RowEdit) → AreAdded f.events rows added → events ≡ row ∷ map (λ e. Put (EventPut e)) (with_events [] added) → cs ≡ events ++ map (state_put (with_events f.events added)) (filter (is_named added) f.alarms) → cs ≡ row ∷ import_changes f rows
 put_all f rows added row cs events new ee ec =
     ec ∙ ap (λ l. l ++ map (state_put (with_events f.events added)) (filter (is_named added) f.alarms)) ee
-    ∙ (λ i. row ∷ (map (λ e. Put (EventPut e)) (new.fresh_are i) ++ map (state_put (with_events f.events (new.fresh_are i))) (filter (is_named (new.fresh_are i)) f.alarms)))
+    ∙ (λ i. row ∷ (map (λ e. Put (EventPut e)) (with_events [] (new.fresh_are i)) ++ map (state_put (with_events f.events (new.fresh_are i))) (filter (is_named (new.fresh_are i)) f.alarms)))
 
 -- one who is not refused for want of a role holds one
 none_holds : (b : Bool) (rest : List (Bool × Refused)) → first_refusal ((not b, NotGranted) ∷ rest) ≡ None → b ≡ true

@@ -8,7 +8,7 @@ ghost use Rattle.plant_unit.specs.FromFacts.{JudgesImport};
 
 use crate::alarms::push_alarms;
 use plant_alarm::Event;
-use plant_import::{FileRead, Merged, count_new, merge};
+use plant_import::{FileRead, Merged, count_new, events_after, merge};
 use plant_model::{AlarmRow, Call, Full, Refused, Reply, Row, RowEdit, UnitPart, UnitRow, Verdict};
 use plant_types::limits::MAX_EVENTS;
 use plant_types::{Fault, List, Moment, Tag};
@@ -64,17 +64,19 @@ fn imported(merged: &Merged) -> Reply
     }
 }
 
-fn push_events(alloc: Global, changes: &mut List<RowEdit>, events: &[Event]) -> Result<(), Fault>
-    ensures value { OnOk result (changes.new ≡ changes.old ++ event_puts events.now) }
+/// Adds the changes that put these events.
+fn push_events(changes: &mut List<RowEdit>, events: List<Event>) -> Result<(), Fault>
+    ensures value { OnOk result (changes.new ≡ changes.old ++ event_puts events) }
     ensures err { OnlyMemory result }
 {
-    for event in events {
-        changes.push(RowEdit::Put(Row::Event(event.copy(alloc)?)))?;
+    for event in events.into_vec() {
+        changes.push(RowEdit::Put(Row::Event(event)))?;
     }
     Ok(())
 }
 
-/// The changes of an import of a file that adds these of its rows.
+/// The changes of an import of a file that adds these of its rows. Its events are put in rising number, whatever their order in
+/// the file: a table that gets its rows at the end moves none.
 fn import_changes(
     alloc: Global,
     unit: &UnitRow,
@@ -91,7 +93,7 @@ fn import_changes(
     let mut row = *unit;
     row.last_s = now;
     changes.push(RowEdit::Put(Row::Unit(row)))?;
-    push_events(alloc, &mut changes, added)?;
+    push_events(&mut changes, events_after(alloc, &[], added)?)?;
     let kept = part.rows.events.as_slice();
     let alarms = part.rows.alarms.as_slice();
     push_alarms(alloc, &mut changes, alarms, kept, rows, added)?;

@@ -1,6 +1,6 @@
-use Rattle.std.proofs.Common.{sym, ◌∙◌}
+use Rattle.std.proofs.Common.{subst, sym, ◌∙◌}
 use Rattle.plant_books.specs.Contents.{after_changes}
-use Rattle.plant_office.proofs.Serving.{changing_call, known_call, leaves, on_history, read_call, refused_call, serves_changing, serves_fault, serves_same}
+use Rattle.plant_office.proofs.Serving.{changing_call, known_call, leaves, on_history, read_call, refused_call, same_changes, serves_changing, serves_fault, serves_same}
 use Rattle.plant_office.proofs.office.Office.serve_unit.Goals as goal
 
 pub returns-in-Refused : goal.returns-in-Refused
@@ -40,12 +40,14 @@ returns g c =
     let call = c.args.call.now in
     let u = c.args.unit.now in
     let changes = sym c.if-is_read.ensures in
+    let left = c.leave_out_same.new.changes in
     record {
       serves = serves_changing (λ m k w legal h honest.
           let found = c.in_ok-part.ensures.found m k (c.apply.ensures.honest honest) u c.requires.named in
           let v = on_history m w call u _ _ _ _ legal h found c.as_ref.ensures.value c.in_ok-refused.ensures.value c.in-Accepted.is in
-          let known = known_call m w call u c.in-Accepted.reply _ changes v in
+          let known = known_call m w call u c.in-Accepted.reply _ left h changes v in
+          let same = same_changes m call u _ _ left found c.leave_out_same.ensures in
           leaves w call _ (after_changes m u c.in-Accepted.changes) (g.B.Books.represents c.apply.new.self) legal c.note_matrix.ensures (changing_call m w call u c.in-Accepted.reply _ h c.requires.named c.requires.plain changes v)
-          (c.in_ok-apply-in-Accepted.ensures.made m (c.part.ensures.same m k) known))
+          (subst (g.B.Books.represents c.apply.new.self) same (c.in_ok-apply-in-Accepted.ensures.made m (c.part.ensures.same m k) known)))
           (λ honest. c.part.ensures.honest (c.apply.ensures.honest honest)) changes (c.in_ok-apply-in-Accepted.ensures.count ∙ c.in_ok-part.ensures.count);
     }
