@@ -40,10 +40,10 @@ use Rattle.plant_model.specs.Facts.{facts, returned}
 use Rattle.plant_model.specs.Grants.{held, holds_any, roles_held}
 use Rattle.plant_model.specs.Histories.{last_moment}
 use Rattle.plant_model.specs.Legality.{has_matrix}
-use Rattle.plant_model.specs.Parts.{holds_by, part_of, part_of_holder, part_of_stranger}
+use Rattle.plant_model.specs.Parts.{part_of, part_of_holder, part_of_stranger}
 use Rattle.plant_model.specs.Replies.{line_of, shelf_lines}
 use Rattle.plant_model.specs.RowChanges.{changed_by, no_rows}
-use Rattle.plant_model.specs.RowFacts.{last_return}
+use Rattle.plant_model.specs.RowFacts.{holds_by, last_return}
 use Rattle.plant_model.specs.Rows.{alarm_rows, rows_of, shelf_rows}
 use Rattle.plant_model.specs.Shelves.{shelf_left}
 use Rattle.plant_model.specs.Verdicts.{changes_history, is_opening, is_read, verdict}

@@ -46,7 +46,7 @@ returns g c =
           let found = c.in_ok-part.ensures.found m k (c.apply.ensures.honest honest) u c.requires.named in
           let v = on_history m w call u _ _ _ _ legal h found c.as_ref.ensures.value c.in_ok-refused.ensures.value c.in-Accepted.is in
           let known = known_call m w call u c.in-Accepted.reply _ left h changes v in
-          let same = same_changes m call u _ _ left found c.leave_out_same.ensures in
+          let same = same_changes m call u c.in_ok-part.part c.in-Accepted.changes left found c.leave_out_same.ensures in
           leaves w call _ (after_changes m u c.in-Accepted.changes) (g.B.Books.represents c.apply.new.self) legal c.note_matrix.ensures (changing_call m w call u c.in-Accepted.reply _ h c.requires.named c.requires.plain changes v)
           (subst (g.B.Books.represents c.apply.new.self) same (c.in_ok-apply-in-Accepted.ensures.made m (c.part.ensures.same m k) known)))
           (λ honest. c.part.ensures.honest (c.apply.ensures.honest honest)) changes (c.in_ok-apply-in-Accepted.ensures.count ∙ c.in_ok-part.ensures.count);
