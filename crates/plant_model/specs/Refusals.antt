@@ -1,4 +1,5 @@
--- The refusals of a call on a unit, each with its condition, in their order. Results of shelving are named as in OPC 10000-9.
+-- When a call on a unit is refused, and why: the conditions that several calls share, and the first refusal whose condition
+-- holds. Results of shelving are named as in OPC 10000-9.
 use Rattle.plant_model.specs.Facts.{limit_revision_of}
 use Rattle.plant_model.specs.Histories.{same_number}
 use Rattle.plant_model.specs.declared.reply.ChangeRow.{ChangeRow}

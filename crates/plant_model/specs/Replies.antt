@@ -1,4 +1,4 @@
--- The replies to accepted calls.
+-- What stands in the replies to accepted calls.
 use Rattle.plant_model.specs.Shelves.{shelf}
 use Rattle.plant_model.specs.declared.reply.ChangeRow.{ChangeRow}
 use Rattle.plant_model.specs.declared.reply.RecordRow.{RecordRow}

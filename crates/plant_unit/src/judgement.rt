@@ -20,7 +20,7 @@ use plant_model::{Call, Refused, Reply, Request, UnitPart, UnitRow, Verdict};
 use plant_types::{Fault, Person};
 use std::alloc::Global;
 
-/// The verdict on a call that is no import, from a caller who may make it.
+/// Judges a call other than an import, whose caller is allowed to make it.
 fn judge_own(alloc: Global, unit: &UnitRow, part: &UnitPart, call: &Call) -> Result<Verdict, Fault>
     requires row { unit_read part.now.rows ≡ unit.now }
     requires plain { is_opening call.now.request ≡ false }
