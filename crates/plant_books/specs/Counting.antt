@@ -1,4 +1,4 @@
--- The count of answers `Store`, which stays at its greatest number once it is there.
+-- The count of answers `Store`, below its greatest number.
 use Rattle.std.specs.Prelude.{Err, Ok, Result, ℕ, ◌+◌, ◌-◌, ◌<◌, ◌^◌, ◌≡◌}
 use Rattle.plant_types.specs.declared.fault.Fault.{Fault}
 use Rattle.plant_types.specs.declared.fault.Fault.TheVariants.{Memory, Store}

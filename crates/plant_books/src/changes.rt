@@ -111,7 +111,7 @@ fn after_change(alloc: Global, mut changing: Changing, change: &RowEdit) -> Resu
 }
 
 /// The rows with the events that wait beside them.
-fn settled(alloc: Global, changing: Changing) -> Result<UnitRows, Fault>
+fn finish(alloc: Global, changing: Changing) -> Result<UnitRows, Fault>
     ensures value { EventsRise changing.rows.events → Gives result (whole changing) }
     ensures memory { OnlyMemory result }
 {
@@ -144,5 +144,5 @@ pub fn after_changes(
     for change in changes.as_slice() {
         after = after_change(alloc, after, change)?;
     }
-    settled(alloc, after)
+    finish(alloc, after)
 }

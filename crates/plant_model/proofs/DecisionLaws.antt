@@ -16,7 +16,7 @@ use Rattle.plant_model.specs.Histories.{latest, same_number}
 use Rattle.plant_model.specs.Matrices.{band_at, band_cmp, band_places, cell_of, cell_places}
 use Rattle.plant_model.specs.RowChanges.{approval_changes, approved_row, cells_of, changed_by, decided_as, for_change, put, rerated}
 use Rattle.plant_model.specs.RowFacts.{band_key, change_number, record_tag}
-use Rattle.plant_model.specs.Rows.{alarm_as, alarm_row, band_row, band_rows, cell_row, change_entry, change_rows, changes_of, record_entry, record_rows, records_of, rows_of, unit_row}
+use Rattle.plant_model.specs.Rows.{alarm_as, alarm_row, band_row, band_rows, cell_row, change_entry, change_rows, changes_of, record_entry, record_rows, records_of, rows_of, unit_row, with_limit}
 use Rattle.plant_model.specs.Service.{outage}
 use Rattle.plant_model.specs.declared.call.Call.{Call}
 use Rattle.plant_model.specs.declared.call.Request.{Request}
@@ -163,7 +163,7 @@ module _ (h : List Call) (p : Name) (t : ℕ) where
         ] refl
 
     limit_put : Draft → Name → ℕ → Option AlarmRow → UnitRows
-    limit_put d b max o = changed_by (Put (UnitPut (unit_by (Some (Limit b max)))) ∷ Put (ChangePut (change_entry (change_as n (Some approval) d))) ∷ map (λ r. Put (AlarmPut (record r { max_s = max; max_rev = r.max_rev + 1 }))) (option_to_list o)) (rows_of h)
+    limit_put d b max o = changed_by (Put (UnitPut (unit_by (Some (Limit b max)))) ∷ Put (ChangePut (change_entry (change_as n (Some approval) d))) ∷ map (λ r. Put (AlarmPut (with_limit max r))) (option_to_list o)) (rows_of h)
 
     pub approve_limit_turns : (q : Name) (s : ℕ) (b : Name) (max base : ℕ) (l : Bool) → draft h n ≡ Some (record { proposer = q; proposed = s; kind = Limit b max; base = base }) → latching h b ≡ Some l → Turns h p t (Approve u n)
     unfolding approval_put limit_put

@@ -108,11 +108,34 @@ own_changes f p t (Floods u begin until) = []
 own_changes f p t MyUnits = []
 own_changes f p t MyShelves = []
 
--- the unit's row after it: its last moment, the matrix in force and the quota
+abbrev pub at_moment : Facts → ℕ → UnitRow
+at_moment f t = record f.unit { last_s = t }
+
+-- the unit's row after it: its last moment, the matrix in force and the quota. Reading leaves it
 abbrev pub unit_after : Facts → ℕ → Request → UnitRow
 unit_after f t (OpenUnit u s m q) = record { last_s = t; matrix_no = 0; matrix_rev = 0; quota = q }
 unit_after f t (Approve u n) = approved_row t f.unit (f.change n)
-unit_after f t _ = record f.unit { last_s = t }
+unit_after f t (Grant u q r) = at_moment f t
+unit_after f t (Withdraw u q r) = at_moment f t
+unit_after f t (Register u a l max) = at_moment f t
+unit_after f t (Import u file) = at_moment f t
+unit_after f t (TimedShelve u a d w) = at_moment f t
+unit_after f t (OneShotShelve u a w) = at_moment f t
+unit_after f t (Unshelve u a) = at_moment f t
+unit_after f t (RemoveFromService u a w) = at_moment f t
+unit_after f t (PlaceInService u a) = at_moment f t
+unit_after f t (Propose u x) = at_moment f t
+unit_after f t (WithdrawChange u n) = at_moment f t
+unit_after f t (Reject u n) = at_moment f t
+unit_after f t (Status u a) = f.unit
+unit_after f t (RecordOf u a) = f.unit
+unit_after f t (ChangeOf u n) = f.unit
+unit_after f t (Shelves u) = f.unit
+unit_after f t (Alarms u) = f.unit
+unit_after f t (Standing u) = f.unit
+unit_after f t (Floods u begin until) = f.unit
+unit_after f t MyUnits = f.unit
+unit_after f t MyShelves = f.unit
 
 -- all changes that an accepted call makes
 abbrev pub changes_for : Facts → Call → List RowEdit

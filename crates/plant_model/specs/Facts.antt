@@ -1,6 +1,6 @@
 -- What a verdict looks at, of a unit.
 use Rattle.plant_model.specs.Changes.{proposals, record_of, record_revision, matrix, change}
-use Rattle.plant_model.specs.Rows.{records_of}
+use Rattle.plant_model.specs.Rows.{records_of, revision_of_limit}
 use Rattle.plant_model.specs.declared.reply.ChangeRow.{ChangeRow}
 use Rattle.plant_model.specs.declared.reply.RecordRow.{RecordRow}
 use Rattle.plant_ration.specs.Grid.{Grid}
@@ -23,22 +23,31 @@ use Rattle.plant_types.specs.declared.role.Role.TheVariants.{Steward}
 use Rattle.std.specs.Prelude.{Bool, List, Option, Some, count_by, false, is_some, length, not, option_and_then, option_map, unwrap_or, ℕ, ◌&&◌}
 
 pub record Facts : Type 0 where
+  -- its last moment, the matrix in force and the quota
   pub unit : UnitRow
+  -- whether a grant of a role to a person stands, its end past or not; whether the role is held at a moment
   pub stands : Pair → Bool
   pub held : ℕ → Pair → Bool
+  -- how many grants stand, and how many of Steward
   pub pairs : ℕ
   pub stewards : ℕ
+  -- its alarms, by tag and in the order of their tags
   pub alarm_count : ℕ
   pub alarm : Name → Option AlarmRow
   pub alarms : List AlarmRow
+  -- the shelf that the last shelving of an alarm left, its time past or not
   pub shelf : Name → Option ShelfRow
   pub shelves : List ShelfRow
+  -- all events, in rising number
   pub events : List Event
+  -- the matrix in force, and the priorities of alarms by it
   pub matrix : Grid
   pub priority : Name → Option Cell
+  -- how many changes of an alarm's record were approved; the records in force
   pub revision : Name → ℕ
   pub rationale : Name → Option RecordRow
   pub rationales : List RecordRow
+  -- how many changes were proposed, and the change of a number
   pub change_count : ℕ
   pub change : ℕ → Option ChangeRow
 
@@ -75,7 +84,7 @@ limit_of f a = unwrap_or (option_map (λ r. r.max_s) (f.alarm a)) 0
 
 -- how many changes of it were approved
 abbrev pub limit_revision_of : Facts → Name → ℕ
-limit_revision_of f a = unwrap_or (option_map (λ r. r.max_rev) (f.alarm a)) 0
+limit_revision_of f a = revision_of_limit (f.alarm a)
 
 -- the alarm is out of service
 abbrev pub is_out : Facts → Name → Bool

@@ -1,6 +1,5 @@
--- Whose a history is: its unit's, opened by the administrator, with values of their sets.
-use Rattle.plant_types.specs.Limits.{max_quota}
-use Rattle.std.specs.Prelude.{Bool, List, Some, [], is_none, nat_le, not, true, ◌&&◌, ◌∷◌, ◌||◌, ◌≡◌}
+-- Whose a history is: its unit's, opened by the administrator, with an opening and grants of valid values.
+use Rattle.std.specs.Prelude.{Bool, List, Some, [], is_none, not, true, ◌&&◌, ◌∷◌, ◌||◌, ◌≡◌}
 use Rattle.std.specs.FinMap.{get}
 use Rattle.plant_ration.specs.Matrix.{is_matrix}
 use Rattle.plant_model.specs.Verdicts.{is_opening}
@@ -9,13 +8,14 @@ use Rattle.plant_model.specs.declared.call.Call.{Call}
 use Rattle.plant_model.specs.declared.call.Request.{Request}
 use Rattle.plant_model.specs.declared.call.Request.TheVariants.{Grant, OpenUnit}
 use Rattle.plant_types.specs.Names.{Name}
+use Rattle.plant_types.specs.Numbers.{is_quota}
 use Rattle.plant_types.specs.Roles.{same_role}
 use Rattle.plant_types.specs.Text.{in_person, in_unit_code, is_text}
 use Rattle.plant_types.specs.declared.role.Role.TheVariants.{Steward}
 
 -- the values of an opening are of their sets, and a steward's grant has no end
 abbrev pub has_values : Request → Bool
-has_values (OpenUnit u s m q) = is_text in_unit_code 8 u && is_text in_person 32 s && is_matrix m.limits m.cells && nat_le 1 q && nat_le q max_quota
+has_values (OpenUnit u s m q) = is_text in_unit_code 8 u && is_text in_person 32 s && is_matrix m.limits m.cells && is_quota q
 has_values (Grant u p t) = is_text in_person 32 p && (not (same_role t.0 Steward) || is_none t.1)
 has_values _ = true
 

@@ -9,6 +9,7 @@ use Rattle.plant_alarm.specs.declared.shelf.ShelfState.{ShelfState}
 use Rattle.plant_alarm.specs.declared.shelf.ShelfState.TheVariants.{OneShotShelved, TimedShelved, Unshelved}
 use Rattle.plant_import.specs.Merging.{fresh}
 use Rattle.plant_model.specs.Facts.{Facts, returned}
+use Rattle.plant_model.specs.Rows.{revision_of_limit}
 use Rattle.plant_model.specs.Shelves.{shelf_left}
 use Rattle.plant_model.specs.declared.reply.AlarmLine.{AlarmLine}
 use Rattle.plant_model.specs.declared.reply.Reply.{Reply}
@@ -26,7 +27,7 @@ status_of r shelf =
     record {
       tag = r.tag;
       limit = r.max_s;
-      limit_revision = r.max_rev;
+      limit_revision = revision_of_limit (Some r);
       state = r.state_no;
       shelf = shelf;
       suppressed = r.suppressed;

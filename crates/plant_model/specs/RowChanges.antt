@@ -1,7 +1,7 @@
 -- Changes of a unit's rows.
 use Rattle.plant_model.specs.Changes.{priority_by}
 use Rattle.plant_model.specs.RowFacts.{change_number, record_tag}
-use Rattle.plant_model.specs.Rows.{change_entry}
+use Rattle.plant_model.specs.Rows.{change_entry, with_limit}
 use Rattle.plant_model.specs.declared.reply.ChangeRow.{ChangeRow}
 use Rattle.plant_model.specs.declared.reply.RecordRow.{RecordRow}
 use Rattle.plant_model.specs.declared.rows.RecordEntry.{RecordEntry}
@@ -136,7 +136,7 @@ rerated m r = record { tag = r.tag; change_no = r.change; rev = r.revision; cell
 abbrev pub in_force : Facts → ℕ → ChangeKind → List RowEdit
 in_force f n (Rationale a s) = Put (RecordPut (record { tag = a; change_no = n; rev = f.revision a + 1; cell_no = priority_by f.matrix s.severity s.response })) ∷ []
 in_force f n (Matrix m) = map (λ r. Put (RecordPut (rerated m r))) f.rationales
-in_force f n (Limit a max) = with_alarm f a (λ r. record r { max_s = max; max_rev = r.max_rev + 1 })
+in_force f n (Limit a max) = with_alarm f a (with_limit max)
 
 abbrev pub approval_changes : Facts → Name → ℕ → ChangeRow → List RowEdit
 approval_changes f p t c = decision_change Approved p t c ∷ in_force f c.number c.kind

@@ -75,6 +75,14 @@ alarm_as a max revision es out latches =
       out_words = option_map (λ o. o.words) out;
     }
 
+-- the revision of an alarm's limit: how many changes of it were approved; 0 where no alarm is there
+abbrev pub revision_of_limit : Option AlarmRow → ℕ
+revision_of_limit alarm = unwrap_or (option_map (λ r. r.max_rev) alarm) 0
+
+-- an alarm with the limit of one more approved change
+abbrev pub with_limit : ℕ → AlarmRow → AlarmRow
+with_limit max r = record r { max_s = max; max_rev = r.max_rev + 1 }
+
 abbrev pub alarm_row : List Call → Name → Option AlarmRow
 alarm_row h a = option_map (alarm_as a (unwrap_or (limit h a) 0) (limit_revision h a) (events_of h a) (outage h a)) (latching h a)
 

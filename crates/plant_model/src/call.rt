@@ -31,7 +31,7 @@ pub enum Request {
         latching: bool,
         max: Seconds,
     },
-    /// Brings the events of a file, or the fault that it was read with.
+    /// Imports the events of a file, or brings the first fault that was met in reading it.
     Import {
         unit: UnitCode,
         file: FileRead,

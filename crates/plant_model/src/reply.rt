@@ -15,44 +15,61 @@ pub enum Full {
 /// Why a call is refused, with the value that shows it. Results of shelving have their names of OPC 10000-9.
 #[derive(Clone, Copy, Debug, PartialEq, Eq)]
 pub enum Refused {
+    /// Someone else than the administrator opens a unit.
     NotAdministrator,
+    /// A unit of this code is open.
     UnitTaken,
+    /// The caller holds no role in the unit at the call's moment, or there is no such unit.
     NotGranted,
-    /// The role that the call needs.
+    /// The caller holds other roles than this one, which the call needs.
     RoleLacking(Role),
-    /// The unit's last moment, or the greatest of the caller's units.
+    /// The call's moment lies before this one: the unit's last moment, or the greatest of the caller's units.
     MomentBehind(Moment),
+    /// The unit has no room for one more of these.
     UnitFull(Full),
+    /// The unit has an alarm of this tag.
     AlarmTaken,
+    /// The unit has no alarm of this tag.
     AlarmUnknown,
-    /// The limit in force.
+    /// The time is longer than this, the limit in force.
     ShelvingTimeOutOfRange(Seconds),
+    /// The alarm is shelved in this way already.
     ConditionAlreadyShelved,
+    /// The alarm is not shelved, or no longer.
     ConditionNotShelved,
+    /// The alarm is out of service.
     AlreadyOutOfService,
+    /// The alarm is in service.
     NotOutOfService,
+    /// The person holds the role.
     AlreadyHeld,
+    /// No such grant stands.
     NotHeld,
+    /// The unit would be left without a steward.
     LastSteward,
+    /// The unit has no change of this number.
     ChangeUnknown,
-    /// The state of the change, which is decided.
+    /// The change was decided before, and is in this state.
     NotProposed(ChangeState),
-    /// The caller is the change's proposer.
+    /// The caller proposed the change, which others approve or reject.
     SamePerson,
+    /// The caller did not propose the change, which its proposer alone withdraws.
     NotProposer,
-    /// The revision in force.
+    /// The proposal's base is not this, the revision in force.
     BaseChanged(u32),
     /// A severity has no row in the matrix.
     OutsideMatrix,
-    /// The matrix says that no alarm is needed.
+    /// The matrix in force says that no alarm is needed.
     NotAnAlarm,
+    /// No record of the alarm was approved.
     RecordUnknown,
     /// The range is not of whole periods of ten minutes, from 1 to 1,008 of them.
     RangeNotAligned,
     /// The line and the cause of the file's first fault.
     BadFile(BadFile),
-    /// The unit's quota.
+    /// As many other alarms of the unit are shelved as this, its quota.
     ShelfQuota(Quota),
+    /// A grant's end is not after the call's moment.
     EndNotAhead,
 }
 

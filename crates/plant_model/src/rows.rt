@@ -1,7 +1,12 @@
+ghost use Rattle.std.specs.Prelude.{◌≡◌, ◌<◌, [], IfOk, None, Some};
+ghost use Rattle.plant_model.specs.Rows.{alarm_as, revision_of_limit, with_limit};
+ghost use Rattle.plant_types.specs.Results.{Gives, OnlyMemory};
+
 use crate::{Refused, Reply};
 use plant_alarm::{AlarmState, Event};
 use plant_ration::{Cell, ChangeState};
-use plant_types::{List, Moment, Person, Quota, Role, Seconds, Tag, Words};
+use plant_types::{Duplicate, Fault, List, Moment, Person, Quota, Role, Seconds, Tag, Words};
+use std::alloc::Global;
 
 /// The unit's own row: its last moment, the number and the revision of the matrix in force, and its quota of shelves.
 #[derive(Clone, Copy, Debug, PartialEq, Eq)]
@@ -34,6 +39,47 @@ pub struct AlarmRow {
     pub out_s: Option<Moment>,
     pub out_by: Option<Person>,
     pub out_words: Option<Words>,
+}
+
+impl AlarmRow {
+    /// An alarm as it is registered: normal, in service, and with a limit that no change has moved.
+    pub fn new(alloc: Global, tag: &Tag, latching: bool, max: Seconds) -> Result<AlarmRow, Fault>
+        ensures value { IfOk result (λ row. row ≡ alarm_as tag.now max 0 [] None latching) }
+        ensures err { OnlyMemory result }
+    {
+        Ok(AlarmRow {
+            tag: tag.copy(alloc)?,
+            latching,
+            max_s: max,
+            max_rev: 0,
+            state_no: AlarmState::Normal,
+            suppressed: false,
+            active_s: None,
+            return_s: None,
+            out_s: None,
+            out_by: None,
+            out_words: None,
+        })
+    }
+
+    /// How many changes of its limit were approved.
+    pub fn limit_revision(&self) -> u32
+        ensures { result ≡ revision_of_limit (Some self.now) }
+    {
+        self.max_rev
+    }
+
+    /// The alarm with the limit of one more approved change.
+    pub fn with_limit(&self, alloc: Global, max: Seconds) -> Result<AlarmRow, Fault>
+        ensures value { revision_of_limit (Some self.now) < 4294967295
+            → Gives result (with_limit max self.now) }
+        ensures err { OnlyMemory result }
+    {
+        let mut row = self.duplicate(alloc)?;
+        row.max_s = max;
+        row.max_rev = self.max_rev.saturating_add(1);
+        Ok(row)
+    }
 }
 
 /// The shelf that the last shelving of an alarm left, also where its time has passed.

@@ -1,5 +1,5 @@
 -- What each text means under the schema, found by running the resolver's meaning.
-use Rattle.std.proofs.Common.{◌≡◌, Ok, refl, List, ℕ, [], ◌∷◌, false, codes, pos, true}
+use Rattle.std.proofs.Common.{◌≡◌, Ok, refl, List, ℕ, [], ◌∷◌, drop, false, codes, map, pos, true}
 use Rattle.std.specs.Fmt.{digits}
 use Rattle.sqlite.specs.Collation.TheVariants.{Binary}
 use Rattle.sqlite.specs.Change.{created, indexed}
@@ -19,7 +19,7 @@ use Rattle.sqlite_value.specs.Keys.{ascending}
 use Rattle.plant_store.specs.Texts.{office_text, units_text, grants_text, alarms_text, shelves_text, bands_text, cells_text, events_text, by_person_text, put_office_text, office_row_text, over_unit_text, over_grant_text, over_alarm_text, over_shelf_text, over_record_text, over_change_text, put_unit_text, put_grant_text, put_alarm_text, put_shelf_text, put_band_text, put_cell_text, put_event_text, remove_grant_text, remove_shelf_text, units_of_text, grants_of_text, alarms_of_text, shelves_of_text, bands_of_text, cells_of_text, events_of_text, own_grants_text, alarm_at_text, shelf_at_text, tags_of_text, shelf_tags_text, mine_shelves_text, mine_text, records_text, changes_text, put_record_text, put_change_text, records_of_text, changes_of_text, record_at_text, bands_at_text, cells_at_text, change_at_text, last_change_text}
 use Rattle.plant_columns.specs.Tables.{office_table, unit_shape, grant_shape, alarm_shape, shelf_shape, band_shape, cell_shape, event_shape, by_person, no_schema, office_schema, units_schema, grants_schema, alarms_schema, shelves_schema, bands_schema, cells_schema, events_schema, books_schema, record_shape, change_shape, records_schema, changes_schema}
 use Rattle.plant_columns.specs.Kept.{plain_query}
-use Rattle.plant_columns.specs.Shape.{table_in}
+use Rattle.plant_columns.specs.Shape.{Shape, table_in}
 
 -- ---- what makes the schema: the table that a text defines lies in tree 0 until it is made
 
@@ -422,59 +422,63 @@ remove_shelf_plain = (refl, refl)
 
 -- ---- rows read
 
+-- the names of a table's columns after the unit's
+abbrev names_of : {X K : Type 0} → Shape X K → List (List ℕ)
+names_of s = map (λ c. c.name) (drop 1 s.columns)
+
 abbrev pub unit_shows : List Term
 unit_shows = col 1 2 ∷ col 1 3 ∷ col 1 4 ∷ col 1 5 ∷ []
 
 abbrev pub unit_names : List (List ℕ)
-unit_names = codes "last_s" ∷ codes "matrix_no" ∷ codes "matrix_rev" ∷ codes "quota" ∷ []
+unit_names = names_of unit_shape
 
 abbrev pub grant_shows : List Term
 grant_shows = col 1 2 ∷ col 1 3 ∷ col 1 4 ∷ []
 
 abbrev pub grant_names : List (List ℕ)
-grant_names = codes "person" ∷ codes "role_no" ∷ codes "end_s" ∷ []
+grant_names = names_of grant_shape
 
 abbrev pub alarm_shows : List Term
 alarm_shows = col 1 2 ∷ col 1 3 ∷ col 1 4 ∷ col 1 5 ∷ col 1 6 ∷ col 1 7 ∷ col 1 8 ∷ col 1 9 ∷ col 1 10 ∷ col 1 11 ∷ col 1 12 ∷ []
 
 abbrev pub alarm_names : List (List ℕ)
-alarm_names = codes "tag" ∷ codes "latching" ∷ codes "max_s" ∷ codes "max_rev" ∷ codes "state_no" ∷ codes "suppressed" ∷ codes "active_s" ∷ codes "return_s" ∷ codes "out_s" ∷ codes "out_by" ∷ codes "out_words" ∷ []
+alarm_names = names_of alarm_shape
 
 abbrev pub shelf_shows : List Term
 shelf_shows = col 1 2 ∷ col 1 3 ∷ col 1 4 ∷ col 1 5 ∷ col 1 6 ∷ col 1 7 ∷ []
 
 abbrev pub shelf_names : List (List ℕ)
-shelf_names = codes "tag" ∷ codes "one_shot" ∷ codes "start_s" ∷ codes "until_s" ∷ codes "person" ∷ codes "words" ∷ []
+shelf_names = names_of shelf_shape
 
 abbrev pub band_shows : List Term
 band_shows = col 1 2 ∷ col 1 3 ∷ col 1 4 ∷ []
 
 abbrev pub band_names : List (List ℕ)
-band_names = codes "matrix_no" ∷ codes "band_no" ∷ codes "limit_s" ∷ []
+band_names = names_of band_shape
 
 abbrev pub cell_shows : List Term
 cell_shows = col 1 2 ∷ col 1 3 ∷ col 1 4 ∷ col 1 5 ∷ []
 
 abbrev pub cell_names : List (List ℕ)
-cell_names = codes "matrix_no" ∷ codes "severity" ∷ codes "band_no" ∷ codes "cell_no" ∷ []
+cell_names = names_of cell_shape
 
 abbrev pub event_shows : List Term
 event_shows = col 1 2 ∷ col 1 3 ∷ col 1 4 ∷ col 1 5 ∷ []
 
 abbrev pub event_names : List (List ℕ)
-event_names = codes "seq" ∷ codes "moment_s" ∷ codes "tag" ∷ codes "kind_no" ∷ []
+event_names = names_of event_shape
 
 abbrev pub record_shows : List Term
 record_shows = col 1 2 ∷ col 1 3 ∷ col 1 4 ∷ col 1 5 ∷ []
 
 abbrev pub record_names : List (List ℕ)
-record_names = codes "tag" ∷ codes "change_no" ∷ codes "rev" ∷ codes "cell_no" ∷ []
+record_names = names_of record_shape
 
 abbrev pub change_shows : List Term
 change_shows = col 1 2 ∷ col 1 3 ∷ col 1 4 ∷ col 1 5 ∷ col 1 6 ∷ col 1 7 ∷ col 1 8 ∷ col 1 9 ∷ col 1 10 ∷ col 1 11 ∷ col 1 12 ∷ col 1 13 ∷ col 1 14 ∷ col 1 15 ∷ col 1 16 ∷ []
 
 abbrev pub change_names : List (List ℕ)
-change_names = codes "number" ∷ codes "proposer" ∷ codes "proposed_s" ∷ codes "kind_no" ∷ codes "tag" ∷ codes "base" ∷ codes "cause" ∷ codes "consequence" ∷ codes "remedy" ∷ codes "severity" ∷ codes "response_s" ∷ codes "max_s" ∷ codes "state_no" ∷ codes "decider" ∷ codes "decided_s" ∷ []
+change_names = names_of change_shape
 
 pub units_of_is : (command_of (understood books_schema units_of_text) ≡ Select (record { lets = []; body = plain_query (inner 1 end) by_unit unit_shows order_1 }) unit_names) × (reads_listing books_schema units_of_text ≡ false)
 unfolding understood everything

@@ -52,7 +52,7 @@ impl Shown for ShelfLine {
 }
 
 /// The same value again.
-fn copied<T: Duplicate>(alloc: Global, value: &T) -> Result<T, Error>
+fn copy_of<T: Duplicate>(alloc: Global, value: &T) -> Result<T, Error>
     ensures { IfOk result (λ copy. copy ≡ value.now) }
 {
     match value.duplicate(alloc) {
@@ -80,8 +80,8 @@ fn list(alloc: Global, listed: &mut List<UnitShelf>, line: &ShelfLine) -> Result
         return Ok(());
     }
     let shelf = UnitShelf {
-        unit: copied(alloc, &line.unit)?,
-        shelf: copied(alloc, &line.shelf)?,
+        unit: copy_of(alloc, &line.unit)?,
+        shelf: copy_of(alloc, &line.shelf)?,
     };
     push(listed, shelf)
 }
@@ -131,8 +131,8 @@ fn returned<S: Alter>(
 {
     let alarms = row_of_tag(alloc, conn, &listed.unit, &listed.shelf.tag)?;
     Ok(MineRow {
-        unit: copied(alloc, &listed.unit)?,
-        shelf: copied(alloc, &listed.shelf)?,
+        unit: copy_of(alloc, &listed.unit)?,
+        shelf: copy_of(alloc, &listed.shelf)?,
         last_return: last_return(alarms.as_slice(), &listed.shelf.tag),
     })
 }

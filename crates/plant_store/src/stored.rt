@@ -45,9 +45,10 @@ pub trait Stored: Shown {
         ensures text { result.now ≡ select_text };
 
     /// Whether the key may be that of one of these rows of the unit: false only where it is none of theirs.
-    fn has_key_in(&self, _rows: &UnitRows) -> bool
-        ensures { AreInOrder _rows.now → has_key (as_row self.now) _rows.now ≡ true → result ≡ true }
+    fn has_key_in(&self, rows: &UnitRows) -> bool
+        ensures { AreInOrder rows.now → has_key (as_row self.now) rows.now ≡ true → result ≡ true }
     {
+        let _rows = rows;
         true
     }
 

@@ -50,7 +50,7 @@ pub fn is_blank(schema: &Schema) -> bool
 }
 
 /// The count of answers `Store`, after this fault.
-fn counted(stores: u64, fault: &Fault) -> u64
+fn count_after(stores: u64, fault: &Fault) -> u64
     ensures { CountsFault stores result fault.now }
 {
     match fault {
@@ -237,7 +237,7 @@ impl<S: Alter> Books for Tables<S> {
             Ok(found) => Ok(found),
             Err(error) => {
                 let fault = fault_of(&error);
-                self.stores = counted(self.stores, &fault);
+                self.stores = count_after(self.stores, &fault);
                 Err(fault)
             }
         }
@@ -248,7 +248,7 @@ impl<S: Alter> Books for Tables<S> {
             Ok(found) => Ok(found),
             Err(error) => {
                 let fault = fault_of(&error);
-                self.stores = counted(self.stores, &fault);
+                self.stores = count_after(self.stores, &fault);
                 Err(fault)
             }
         }
@@ -259,7 +259,7 @@ impl<S: Alter> Books for Tables<S> {
             Ok(found) => Ok(found),
             Err(error) => {
                 let fault = fault_of(&error);
-                self.stores = counted(self.stores, &fault);
+                self.stores = count_after(self.stores, &fault);
                 Err(fault)
             }
         }
@@ -270,7 +270,7 @@ impl<S: Alter> Books for Tables<S> {
             Ok(found) => Ok(found),
             Err(error) => {
                 let fault = fault_of(&error);
-                self.stores = counted(self.stores, &fault);
+                self.stores = count_after(self.stores, &fault);
                 Err(fault)
             }
         }
@@ -281,7 +281,7 @@ impl<S: Alter> Books for Tables<S> {
             Ok(found) => Ok(found),
             Err(error) => {
                 let fault = fault_of(&error);
-                self.stores = counted(self.stores, &fault);
+                self.stores = count_after(self.stores, &fault);
                 Err(fault)
             }
         }
@@ -292,7 +292,7 @@ impl<S: Alter> Books for Tables<S> {
             Ok(found) => Ok(found),
             Err(error) => {
                 let fault = fault_of(&error);
-                self.stores = counted(self.stores, &fault);
+                self.stores = count_after(self.stores, &fault);
                 Err(fault)
             }
         }
@@ -303,7 +303,7 @@ impl<S: Alter> Books for Tables<S> {
             Ok(found) => Ok(found),
             Err(error) => {
                 let fault = fault_of(&error);
-                self.stores = counted(self.stores, &fault);
+                self.stores = count_after(self.stores, &fault);
                 Err(fault)
             }
         }
@@ -314,7 +314,7 @@ impl<S: Alter> Books for Tables<S> {
             Ok(found) => Ok(found),
             Err(error) => {
                 let fault = fault_of(&error);
-                self.stores = counted(self.stores, &fault);
+                self.stores = count_after(self.stores, &fault);
                 Err(fault)
             }
         }
@@ -330,7 +330,7 @@ impl<S: Alter> Books for Tables<S> {
             Ok(()) => Ok(()),
             Err(error) => {
                 let fault = fault_of(&error);
-                self.stores = counted(self.stores, &fault);
+                self.stores = count_after(self.stores, &fault);
                 Err(fault)
             }
         }

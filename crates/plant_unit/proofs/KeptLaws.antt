@@ -20,7 +20,7 @@ use Rattle.plant_model.specs.Legality.{IsLegal}
 use Rattle.plant_model.specs.Matrices.{matrix_numbered}
 use Rattle.plant_model.specs.Parts.{Selection, counted_for, every, is_source, none, of_approved, of_topic, part_of, part_of_holder, part_of_stranger, rows_selected, selected, selection}
 use Rattle.plant_model.specs.RowFacts.{alarm_tag, cells_at, change_found, change_number, change_read, has_cells, holds_by, matrix_read, record_found, record_tag, shelf_tag}
-use Rattle.plant_model.specs.Rows.{alarm_row, alarm_rows, cell_rows, change_entry, change_rows, changes_of, max_of_kind, record_entry, record_rows, records_of, rows_of, shelf_rows, sheet_of_kind, tag_of_kind, topic}
+use Rattle.plant_model.specs.Rows.{alarm_row, alarm_rows, cell_rows, change_entry, change_rows, changes_of, max_of_kind, record_entry, record_rows, records_of, revision_of_limit, rows_of, shelf_rows, sheet_of_kind, tag_of_kind, topic}
 use Rattle.plant_model.specs.declared.call.Call.{Call}
 use Rattle.plant_model.specs.declared.call.Request.{Request}
 use Rattle.plant_model.specs.declared.call.Request.TheVariants.{Floods, Import, Propose, Register}
@@ -291,13 +291,13 @@ module _ (h : List Call) (legal : IsLegal h) (p : Name) (t : ℕ) (q : Request) 
     by true = subst (λ n. n ≤ max_changes) (sym (revision_in h a)) (few_records h legal a)
     by false = omega arith
 
-  limit_left : (a : Name) → unwrap_or (option_map (λ (r : AlarmRow). r.max_rev) (row_at name_cmp alarm_tag a part.alarms)) 0 ≤ max_changes
-  limit_left a = subst (λ o. unwrap_or (option_map (λ (r : AlarmRow). r.max_rev) o) 0 ≤ max_changes) (sym (row_at-left name_cmp alarm_tag name_total same_names s.alarm a (alarm_rows h) ∙ ap (λ o. cond (s.alarm a) o None) (alarm_in h a))) (by (s.alarm a)) where
-    of_alarm_row : (o : Option Bool) → unwrap_or (option_map (λ (r : AlarmRow). r.max_rev) (option_map (alarm_of h a) o)) 0 ≤ max_changes
+  limit_left : (a : Name) → revision_of_limit (row_at name_cmp alarm_tag a part.alarms) ≤ max_changes
+  limit_left a = subst (λ o. revision_of_limit o ≤ max_changes) (sym (row_at-left name_cmp alarm_tag name_total same_names s.alarm a (alarm_rows h) ∙ ap (λ o. cond (s.alarm a) o None) (alarm_in h a))) (by (s.alarm a)) where
+    of_alarm_row : (o : Option Bool) → revision_of_limit (option_map (alarm_of h a) o) ≤ max_changes
     of_alarm_row None = omega arith
     of_alarm_row (Some l) = few_limits h legal a
 
-    by : (b : Bool) → unwrap_or (option_map (λ (r : AlarmRow). r.max_rev) (cond b (alarm_row h a) None)) 0 ≤ max_changes
+    by : (b : Bool) → revision_of_limit (cond b (alarm_row h a) None) ≤ max_changes
     by true = of_alarm_row (latching h a)
     by false = omega arith
 

@@ -12,7 +12,7 @@ use Rattle.plant_model.specs.declared.rows.Row.TheVariants.{Event as EventPut, U
 use Rattle.plant_model.specs.declared.rows.RowEdit.{RowEdit}
 use Rattle.plant_model.specs.declared.rows.RowEdit.TheVariants.{Put}
 use Rattle.plant_types.specs.Results.{Gives}
-use Rattle.plant_unit.specs.Summaries.{AreTold}
+use Rattle.plant_unit.specs.Summaries.{HaveSummaries}
 use Rattle.plant_import.specs.declared.merging.Merged.{Merged}
 use Rattle.plant_model.specs.Facts.{Facts, limit_revision_of}
 use Rattle.plant_model.specs.Refusals.{file_refusals, first_refusal}
@@ -58,7 +58,7 @@ pub record AreEventsOf (part : UnitPart) (rows es : List Event) : Type 0 where
   pub rise : IsRising es
   pub needed_are : part.rows.events ≡ needed es rows
   pub count_is : part.count ≡ length es
-  pub told : AreTold part.rows.alarms es
+  pub told : HaveSummaries part.rows.alarms es
 
 -- by all events of the unit: what a file's rows add at a moment, or why they are refused
 abbrev pub GivesAddition : {E : Type 0} → UnitPart → ℕ → List Event → Result (Result Merged Refused) E → Type 0

@@ -16,7 +16,7 @@ use Rattle.plant_types.specs.KeyedRows.{IsInOrder}
 use Rattle.plant_types.specs.Names.{Name, name_cmp}
 use Rattle.plant_types.specs.Results.{Gives}
 use Rattle.plant_unit.specs.Additions.{AreAdded}
-use Rattle.plant_unit.specs.Summaries.{AreNamed, AreTold, is_named, summaries, summary_of}
+use Rattle.plant_unit.specs.Summaries.{AreNamed, HaveSummaries, is_named, summaries, summary_of}
 
 -- the summary at a place, of some events, becomes that of these events and one more
 abbrev pub AddsAt : ℕ → Event → Bool → List Summary → List Summary → Type 0
@@ -32,7 +32,7 @@ GivesAnew alarms kept fresh said = IsRising kept → IsInOrder name_cmp alarm_ta
 
 -- of alarms in the order of their tags, whose columns are those of some events: their summaries, of these events and the new ones
 abbrev pub GivesOn : {E : Type 0} → List AlarmRow → List Event → Result (List Summary) E → Type 0
-GivesOn alarms fresh said = IsInOrder name_cmp alarm_tag alarms → (es : List Event) → AreTold alarms es → Gives said (summaries alarms (es ++ with_events [] fresh))
+GivesOn alarms fresh said = IsInOrder name_cmp alarm_tag alarms → (es : List Event) → HaveSummaries alarms es → Gives said (summaries alarms (es ++ with_events [] fresh))
 
 -- the change of the alarm's row, of some events, if the new ones name it
 abbrev pub GivesNamed : {E : Type 0} → BTreeSet Name → AlarmRow → Summary → Result (Option RowEdit) E → Type 0
@@ -49,7 +49,7 @@ PushesNamed named alarms of_alarms before after said = (es fresh : List Event) �
 -- the fact holds of all events before the import: its file needs the kept ones and adds the new ones; the alarms are in the
 -- order of their tags, and their columns are computed from all events
 abbrev pub ForImport : List AlarmRow → List Event → List Event → List Event → (List Event → Type 0) → Type 0
-ForImport alarms kept rows fresh fact = IsInOrder name_cmp alarm_tag alarms → (es : List Event) → kept ≡ needed es rows → AreAdded es rows fresh → AreTold alarms es → fact es
+ForImport alarms kept rows fresh fact = IsInOrder name_cmp alarm_tag alarms → (es : List Event) → kept ≡ needed es rows → AreAdded es rows fresh → HaveSummaries alarms es → fact es
 
 -- the states that the alarms have after the import
 abbrev pub states_after : List Event → List Event → List AlarmRow → List RowEdit

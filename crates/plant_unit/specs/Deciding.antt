@@ -1,19 +1,17 @@
 -- The rows that proposals and decisions about changes put.
-use Rattle.std.specs.Prelude.{List, None, Option, Result, map, option_map, true, ℕ, ◌+◌, ◌≡◌}
+use Rattle.std.specs.Prelude.{List, None, Option, Result, map, option_map, true, ◌≡◌}
 use Rattle.plant_model.specs.Facts.{Facts}
-use Rattle.plant_model.specs.RowChanges.{kind_row, rerated}
+use Rattle.plant_model.specs.RowChanges.{rerated}
 use Rattle.plant_model.specs.RowFacts.{record_read}
 use Rattle.plant_model.specs.Rows.{change_entry}
 use Rattle.plant_model.specs.declared.call.Call.{Call}
 use Rattle.plant_model.specs.declared.reply.ChangeRow.{ChangeRow}
-use Rattle.plant_model.specs.declared.rows.AlarmRow.{AlarmRow}
 use Rattle.plant_model.specs.declared.rows.ChangeEntry.{ChangeEntry}
 use Rattle.plant_model.specs.declared.rows.RecordEntry.{RecordEntry}
 use Rattle.plant_model.specs.declared.rows.Row.TheVariants.{Change as ChangePut, Record as RecordPut}
 use Rattle.plant_model.specs.declared.rows.RowEdit.{RowEdit}
 use Rattle.plant_model.specs.declared.rows.RowEdit.TheVariants.{Put}
 use Rattle.plant_model.specs.declared.rows.UnitPart.{UnitPart}
-use Rattle.plant_model.specs.declared.rows.UnitRow.{UnitRow}
 use Rattle.plant_ration.specs.Grid.{Grid}
 use Rattle.plant_ration.specs.declared.change.ChangeState.{ChangeState}
 use Rattle.plant_types.specs.Results.{Gives}
@@ -36,11 +34,3 @@ GivesRerated part matrix row said = AreKept part → has_its_sheet part.rows row
 -- puts the records of all alarms, with their priorities by a matrix
 abbrev pub rerated_puts : Grid → Facts → List RowEdit
 rerated_puts matrix f = map (λ r. Put (RecordPut (rerated matrix r))) f.rationales
-
--- an alarm's row with another limit
-abbrev pub with_limit : AlarmRow → ℕ → AlarmRow
-with_limit alarm max = record alarm { max_s = max; max_rev = alarm.max_rev + 1 }
-
--- a unit's row after the approval of a change
-abbrev pub unit_row_after : ℕ → UnitRow → ChangeRow → UnitRow
-unit_row_after t unit c = kind_row t unit c.number c.kind

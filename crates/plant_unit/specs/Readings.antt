@@ -4,7 +4,6 @@ use Rattle.plant_model.specs.Facts.{Facts}
 use Rattle.plant_model.specs.Refusals.{has_row}
 use Rattle.plant_model.specs.RowFacts.{change_found, change_read, record_read, kind_read, matrix_read, sheet_read}
 use Rattle.plant_model.specs.declared.reply.ChangeRow.{ChangeRow}
-use Rattle.plant_model.specs.declared.rows.AlarmRow.{AlarmRow}
 use Rattle.plant_model.specs.declared.rows.ChangeEntry.{ChangeEntry}
 use Rattle.plant_model.specs.declared.rows.ChangeTopic.{ChangeTopic}
 use Rattle.plant_model.specs.declared.rows.ChangeTopic.TheVariants.{Limit, Matrix, Record}
@@ -62,7 +61,3 @@ is_outside m rows r = unwrap_or (option_map (λ x. not (has_row m x.severity)) (
 -- the severity of some record is not a row of the matrix
 abbrev pub has_outside : Grid → Facts → Bool
 has_outside m f = list_any (λ r. not (has_row m r.severity)) f.rationales
-
--- how many changes of an alarm's limit were approved; none where the alarm is not there
-abbrev pub limit_revision : Option AlarmRow → ℕ
-limit_revision alarm = unwrap_or (option_map (λ r. r.max_rev) alarm) 0

@@ -30,8 +30,8 @@ abbrev pub summary_in : AlarmRow → Summary
 summary_in r = record { state = r.state_no; suppressed = r.suppressed; active_since = r.active_s; last_return = r.return_s }
 
 -- the columns of each alarm are computed from its events
-abbrev pub AreTold : List AlarmRow → List Event → Type 0
-AreTold alarms es = map summary_in alarms ≡ summaries alarms es
+abbrev pub HaveSummaries : List AlarmRow → List Event → Type 0
+HaveSummaries alarms es = map summary_in alarms ≡ summaries alarms es
 
 -- the set has the tags of the events
 abbrev pub AreNamed : BTreeSet Name → List Event → Type 0

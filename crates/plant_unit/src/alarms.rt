@@ -79,7 +79,7 @@ fn add_events(summaries: &mut List<Summary>, alarms: &[AlarmRow], events: &[Even
 }
 
 /// The summaries of alarms, computed anew from their kept and their new events.
-fn told_anew(
+fn summaries_from_events(
     alloc: Global,
     alarms: &[AlarmRow],
     kept: &[Event],
@@ -99,7 +99,11 @@ fn told_anew(
 }
 
 /// The summaries in the rows of alarms, brought forward by new events that come after all others of their alarms.
-fn told_on(alloc: Global, alarms: &[AlarmRow], fresh: &[Event]) -> Result<List<Summary>, Fault>
+fn summaries_from_rows(
+    alloc: Global,
+    alarms: &[AlarmRow],
+    fresh: &[Event],
+) -> Result<List<Summary>, Fault>
     ensures length { IfOk result (λ s. length s ≡ length alarms.now) }
     ensures value { GivesOn alarms.now fresh.now result }
     ensures err { OnlyMemory result }
@@ -190,9 +194,9 @@ fn summaries_after(
     ensures err { OnlyMemory result }
 {
     if has_late(alloc, kept, rows)? {
-        told_anew(alloc, alarms, kept, fresh)
+        summaries_from_events(alloc, alarms, kept, fresh)
     } else {
-        told_on(alloc, alarms, fresh)
+        summaries_from_rows(alloc, alarms, fresh)
     }
 }
 

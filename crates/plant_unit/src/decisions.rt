@@ -4,23 +4,23 @@ ghost use Rattle.std.specs.Prelude.{◌≡◌, ◌<◌, ◌+◌, ◌++◌, IfOk,
 ghost use Rattle.plant_types.specs.Results.{Gives, OnlyMemory};
 ghost use Rattle.plant_ration.specs.declared.change.ChangeKind.TheVariants.{Limit, Matrix as MatrixKind, Rationale};
 ghost use Rattle.plant_model.specs.Changes.{priority_by};
-ghost use Rattle.plant_model.specs.RowChanges.{in_force};
+ghost use Rattle.plant_model.specs.RowChanges.{in_force, kind_row};
 ghost use Rattle.plant_model.specs.RowFacts.{facts_in, unit_read};
 ghost use Rattle.plant_model.specs.Rows as rows;
 ghost use Rattle.plant_model.specs.Rows.{change_entry};
 ghost use Rattle.plant_model.specs.declared.call.Request.TheVariants.{Approve, Propose, Reject, WithdrawChange};
 ghost use Rattle.plant_unit.specs.Additions.{AreKept};
 ghost use Rattle.plant_unit.specs.Deciding as deciding;
-ghost use Rattle.plant_unit.specs.Deciding.{GivesRerated, decided_put, rerated_puts, unit_row_after, with_limit};
+ghost use Rattle.plant_unit.specs.Deciding.{GivesRerated, decided_put, rerated_puts};
 ghost use Rattle.plant_unit.specs.FromFacts.{AddsFrom, AddsProposal, ApprovesFrom, DecidesFrom, JudgesFrom, RefusesFrom, refusal_of_kind};
 
 use crate::matrices::push_matrix;
 use crate::proposals::{
-    limit_refusal, matrix_refusal, proposal_refusal, record_priority, rejection_refusal,
+    decision_refusal, limit_refusal, matrix_refusal, proposal_refusal, record_priority,
     withdrawal_refusal,
 };
 use crate::reading::{change_from, entry_of, source_of};
-use crate::verdicts::moved;
+use crate::verdicts::unit_change;
 use plant_model::{
     AlarmRow, Call, ChangeEntry, ChangeRow, ChangeTopic, RecordEntry, Refused, Reply, Row, RowEdit,
     UnitPart, UnitRow, Verdict, alarm_of,
@@ -127,7 +127,7 @@ fn push_proposal(
 }
 
 /// The row of a change that the caller decides.
-fn decided(
+fn decision_put(
     alloc: Global,
     entry: &ChangeEntry,
     state: ChangeState,
@@ -159,7 +159,7 @@ pub fn withdraw_change(
     if let Some(refused) = withdrawal_refusal(entry, &call.person) {
         return Ok(Err(refused));
     }
-    Ok(Ok(decided(alloc, entry, ChangeState::Withdrawn, call)?))
+    Ok(Ok(decision_put(alloc, entry, ChangeState::Withdrawn, call)?))
 }
 
 /// Rejects a change.
@@ -175,14 +175,14 @@ pub fn reject(
     let Some(entry) = entry_of(part.rows.changes.as_slice(), number) else {
         return Ok(Err(Refused::ChangeUnknown));
     };
-    if let Some(refused) = rejection_refusal(entry, &call.person) {
+    if let Some(refused) = decision_refusal(entry, &call.person) {
         return Ok(Err(refused));
     }
-    Ok(Ok(decided(alloc, entry, ChangeState::Rejected, call)?))
+    Ok(Ok(decision_put(alloc, entry, ChangeState::Rejected, call)?))
 }
 
 /// The cell of a severity and a time to respond; that no alarm is needed, where there is none.
-fn rated(matrix: &Matrix, severity: u8, response: Seconds) -> Cell
+fn cell_by(matrix: &Matrix, severity: u8, response: Seconds) -> Cell
     ensures { result ≡ priority_by matrix.now severity response }
 {
     matrix.priority(severity, response).unwrap_or(Cell::N)
@@ -220,7 +220,7 @@ fn push_record(
 }
 
 /// The row of a record with its priority by a matrix, where the change that it came from is there.
-fn rerated(
+fn rerate(
     alloc: Global,
     part: &UnitPart,
     matrix: &Matrix,
@@ -239,7 +239,7 @@ fn rerated(
         tag: row.tag.copy(alloc)?,
         change_no: row.change_no,
         rev: row.rev,
-        cell_no: rated(matrix, severity, response),
+        cell_no: cell_by(matrix, severity, response),
     }))
 }
 
@@ -254,7 +254,7 @@ fn push_rerated(
     ensures err { OnlyMemory result }
 {
     for row in part.rows.records.as_slice() {
-        let found = rerated(alloc, part, matrix, row)?;
+        let found = rerate(alloc, part, matrix, row)?;
         if let Some(entry) = found {
             changes.push(RowEdit::Put(Row::Record(entry)))?;
         }
@@ -286,17 +286,6 @@ fn push_matrix_in_force(
     Ok(None)
 }
 
-/// The row of an alarm whose limit is changed.
-fn limited(alloc: Global, alarm: &AlarmRow, max: Seconds) -> Result<AlarmRow, Fault>
-    ensures value { alarm.now.max_rev < 4294967295 → Gives result (with_limit alarm.now max) }
-    ensures err { OnlyMemory result }
-{
-    let mut row = alarm.duplicate(alloc)?;
-    row.max_s = max;
-    row.max_rev = alarm.max_rev.saturating_add(1);
-    Ok(row)
-}
-
 /// Adds the change of an alarm whose limit comes into force, or gives the refusal of its base.
 fn push_limit(
     alloc: Global,
@@ -317,7 +306,7 @@ fn push_limit(
         return Ok(Some(refused));
     }
     if let Some(alarm) = alarm {
-        changes.push(RowEdit::Put(Row::Alarm(limited(alloc, alarm, max)?)))?;
+        changes.push(RowEdit::Put(Row::Alarm(alarm.with_limit(alloc, max)?)))?;
     }
     Ok(None)
 }
@@ -351,7 +340,8 @@ fn push_in_force(
 
 /// The unit's row after the approval of a change of this kind.
 fn approved_row(unit: &UnitRow, now: Moment, change: &ChangeRow) -> UnitRow
-    ensures { unit.now.matrix_rev < 4294967295 → result ≡ unit_row_after now unit.now change.now }
+    ensures { unit.now.matrix_rev < 4294967295
+        → result ≡ kind_row now unit.now change.now.number change.now.kind }
 {
     let row = UnitRow {
         last_s: now,
@@ -382,7 +372,7 @@ fn bring_into_force(
 {
     let mut changes = List::new(alloc);
     changes.push(RowEdit::Put(Row::Unit(approved_row(unit, call.moment, change))))?;
-    changes.push(decided(alloc, entry, ChangeState::Approved, call)?)?;
+    changes.push(decision_put(alloc, entry, ChangeState::Approved, call)?)?;
     match push_in_force(alloc, &mut changes, unit, part, change)? {
         Some(refused) => Ok(Verdict::Refused(refused)),
         None => Ok(Verdict::Accepted(Reply::Done, changes)),
@@ -404,7 +394,7 @@ pub fn approve(
     let Some(entry) = entry_of(part.rows.changes.as_slice(), number) else {
         return Ok(Verdict::Refused(Refused::ChangeUnknown));
     };
-    if let Some(refused) = rejection_refusal(entry, &call.person) {
+    if let Some(refused) = decision_refusal(entry, &call.person) {
         return Ok(Verdict::Refused(refused));
     }
     match change_from(alloc, &part.rows, entry)? {
@@ -428,7 +418,7 @@ pub fn propose(
     if let Some(refused) = proposal_refusal(alloc, unit, part, proposal)? {
         return Ok(Verdict::Refused(refused));
     }
-    let mut changes = moved(alloc, unit, call.moment)?;
+    let mut changes = unit_change(alloc, unit, call.moment)?;
     push_proposal(alloc, &mut changes, part, call, proposal)?;
     Ok(Verdict::Accepted(Reply::Number(next_number(part)), changes))
 }

@@ -5,13 +5,14 @@ ghost use Rattle.plant_types.specs.Names.{name_cmp};
 ghost use Rattle.plant_types.specs.KeyedRows.{row_at};
 ghost use Rattle.plant_alarm.specs.Shelves.{is_unshelved, shelf_state};
 ghost use Rattle.plant_model.specs.Shelves as shelves;
-ghost use Rattle.plant_model.specs.Facts.{is_steward_row, others_shelved, shelf_now};
+ghost use Rattle.plant_model.specs.Facts.{is_steward_row, others_shelved, returned, shelf_now};
 ghost use Rattle.plant_model.specs.Refusals.{holds_some};
 ghost use Rattle.plant_model.specs.RowFacts.{facts_in, shelf_tag};
+ghost use Rattle.plant_unit.specs.Additions.{AreKept};
 ghost use Rattle.plant_unit.specs.Shelving as shelving;
 
 use plant_alarm::{Shelf, ShelfState, shelf_at};
-use plant_model::{GrantRow, ShelfRow, UnitPart, holds_some_by, is_held_by, last_return};
+use plant_model::{GrantRow, ShelfRow, UnitPart, holds_some_by, is_held_by, last_return, row_of};
 use plant_types::{Moment, Person, Role, Tag};
 
 /// Whether the pair is held at the moment.
@@ -84,24 +85,36 @@ fn is_unshelved(state: ShelfState) -> bool
     matches!(state, ShelfState::Unshelved)
 }
 
+/// When the alarm of a tag last returned to normal.
+pub fn returned_at(part: &UnitPart, tag: &Tag) -> Option<Moment>
+    ensures { AreKept part.now → result ≡ returned (facts_in part.now) tag.now }
+{
+    match row_of(part.rows.alarms.as_slice(), tag) {
+        Some(alarm) => alarm.return_s,
+        None => None,
+    }
+}
+
 fn is_other_shelved(part: &UnitPart, tag: &Tag, row: &ShelfRow, now: Moment) -> bool
-    ensures { result ≡ shelving.is_other_shelved (facts_in part.now) tag.now row.now now }
+    ensures { AreKept part.now
+        → result ≡ shelving.is_other_shelved (facts_in part.now) tag.now row.now now }
 {
     if *tag == row.tag {
         return false;
     }
-    let returned = last_return(part.rows.alarms.as_slice(), &row.tag);
-    !is_unshelved(state_of(Some(row), returned, now))
+    !is_unshelved(state_of(Some(row), returned_at(part, &row.tag), now))
 }
 
 /// How many other alarms are shelved at the moment.
 pub fn others_shelved(part: &UnitPart, tag: &Tag, now: Moment) -> usize
-    ensures { result ≡ others_shelved (facts_in part.now) tag.now now }
+    ensures { AreKept part.now → result ≡ others_shelved (facts_in part.now) tag.now now }
 {
-    part.rows
-        .shelves
-        .as_slice()
-        .iter()
-        .filter(|row| is_other_shelved(part, tag, row, now))
-        .count()
+    let shelves = part.rows.shelves.as_slice();
+    let mut count = 0;
+    for row in shelves {
+        if is_other_shelved(part, tag, row, now) {
+            count += 1;
+        }
+    }
+    count
 }

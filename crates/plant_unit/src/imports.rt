@@ -34,7 +34,7 @@ fn is_full(kept: u64, new: usize) -> bool
 
 /// The new rows of a file and the number of its repeated ones. Refused, in this order: a file whose new numbers are too
 /// many, and the first faulty row.
-fn added(
+fn merge_file(
     alloc: Global,
     part: &UnitPart,
     now: Moment,
@@ -55,7 +55,7 @@ fn added(
 }
 
 /// The reply to an import that added these rows; 4,294,967,295 new ones where there are more.
-fn imported(merged: &Merged) -> Reply
+fn import_reply(merged: &Merged) -> Reply
     ensures { AreFew merged.now.fresh → result ≡ import_reply merged.now }
 {
     Reply::Imported {
@@ -116,10 +116,10 @@ pub fn judge_import(
         Ok(rows) => rows.as_slice(),
         Err(fault) => return Ok(Verdict::Refused(Refused::BadFile(*fault))),
     };
-    match added(alloc, part, call.moment, rows)? {
+    match merge_file(alloc, part, call.moment, rows)? {
         Err(refused) => Ok(Verdict::Refused(refused)),
         Ok(merged) => {
-            let reply = imported(&merged);
+            let reply = import_reply(&merged);
             let fresh = merged.fresh.as_slice();
             let changes = import_changes(alloc, unit, part, call.moment, rows, fresh)?;
             Ok(Verdict::Accepted(reply, changes))

@@ -15,7 +15,7 @@ use crate::refusals::holder_refusal;
 use crate::replies::{alarms, change, floods, record, shelves, standing, status};
 use crate::service::{place_in_service, register, remove_from_service};
 use crate::shelving::{end_shelf, shelve_for, shelve_once};
-use crate::verdicts::{answered, done};
+use crate::verdicts::{answer, done};
 use plant_model::{Call, Refused, Reply, Request, UnitPart, UnitRow, Verdict};
 use plant_types::{Fault, Person};
 use std::alloc::Global;
@@ -81,17 +81,17 @@ fn judge_own(alloc: Global, unit: &UnitRow, part: &UnitPart, call: &Call) -> Res
         Request::Reject { number, .. } => {
             done(alloc, unit, now, reject(alloc, part, call, *number))
         }
-        Request::Status { tag, .. } => answered(alloc, status(alloc, part, now, tag)),
-        Request::RecordOf { tag, .. } => answered(alloc, record(alloc, part, tag)),
-        Request::ChangeOf { number, .. } => answered(alloc, change(alloc, part, *number)),
-        Request::Shelves { unit } => answered(alloc, shelves(alloc, part, now, unit)),
-        Request::Alarms { unit } => answered(alloc, alarms(alloc, part, now, unit)),
-        Request::Standing { unit } => answered(alloc, standing(alloc, part, now, unit)),
+        Request::Status { tag, .. } => answer(alloc, status(alloc, part, now, tag)),
+        Request::RecordOf { tag, .. } => answer(alloc, record(alloc, part, tag)),
+        Request::ChangeOf { number, .. } => answer(alloc, change(alloc, part, *number)),
+        Request::Shelves { unit } => answer(alloc, shelves(alloc, part, now, unit)),
+        Request::Alarms { unit } => answer(alloc, alarms(alloc, part, now, unit)),
+        Request::Standing { unit } => answer(alloc, standing(alloc, part, now, unit)),
         Request::Floods { unit, begin, until } => {
-            answered(alloc, floods(alloc, part, unit, *begin, *until))
+            answer(alloc, floods(alloc, part, unit, *begin, *until))
         }
         Request::OpenUnit { .. } | Request::Import { .. } | Request::MyUnits | Request::MyShelves =>
-            { answered(alloc, Ok(Ok(Reply::Done))) }
+            { answer(alloc, Ok(Ok(Reply::Done))) }
     }
 }
 

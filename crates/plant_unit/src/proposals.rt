@@ -6,6 +6,7 @@ ghost use Rattle.plant_ration.specs.declared.change.ChangeKind.TheVariants.{Matr
 ghost use Rattle.plant_model.specs.Refusals as refusals;
 ghost use Rattle.plant_model.specs.Refusals.{first_refusal, kind_unknown};
 ghost use Rattle.plant_model.specs.RowFacts.{facts_in, unit_read};
+ghost use Rattle.plant_model.specs.Rows.{revision_of_limit};
 ghost use Rattle.plant_model.specs.declared.call.Request.TheVariants.{Propose};
 ghost use Rattle.plant_unit.specs.Additions.{AreKept};
 ghost use Rattle.plant_unit.specs.FromFacts.{GivesFrom, RefusesAlways, RefusesFrom, refusal_of_kind};
@@ -107,17 +108,17 @@ pub fn matrix_refusal(
 
 /// How many changes of an alarm's limit were approved.
 fn limit_revision(alarm: Option<&AlarmRow>) -> u32
-    ensures { result ≡ readings.limit_revision (option_copied alarm.entry) }
+    ensures { result ≡ revision_of_limit (option_copied alarm.entry) }
 {
     match alarm {
-        Some(alarm) => alarm.max_rev,
+        Some(alarm) => alarm.limit_revision(),
         None => 0,
     }
 }
 
 /// The refusal of a change of an alarm's limit, for its base, if any.
 pub fn limit_refusal(alarm: Option<&AlarmRow>, base: u32) -> Option<Refused>
-    ensures { result ≡ base_refusal base (readings.limit_revision (option_copied alarm.entry)) }
+    ensures { result ≡ base_refusal base (revision_of_limit (option_copied alarm.entry)) }
 {
     let revision = limit_revision(alarm);
     if base != revision {
@@ -198,8 +199,8 @@ pub fn withdrawal_refusal(entry: &ChangeEntry, person: &Person) -> Option<Refuse
     }
 }
 
-/// The refusal of rejecting a change, if any.
-pub fn rejection_refusal(entry: &ChangeEntry, person: &Person) -> Option<Refused>
+/// The refusal of approving or rejecting a change, if any: it is decided already, or the caller proposed it.
+pub fn decision_refusal(entry: &ChangeEntry, person: &Person) -> Option<Refused>
     ensures { IsRefusalOf entry.now (if_proposer person.now) result }
 {
     match entry.state_no {

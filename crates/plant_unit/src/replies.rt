@@ -12,7 +12,7 @@ ghost use Rattle.plant_unit.specs.FromFacts.{Answers, AnswersAlways, AnswersAnyo
 ghost use Rattle.plant_unit.specs.Shelving.{is_shelved, line_at};
 ghost use Rattle.plant_model.specs.declared.call.Request.TheVariants.{Alarms as AlarmsCall, ChangeOf as ChangeCall, Floods as FloodsCall, RecordOf as RecordCall, Shelves as ShelvesCall, Standing as StandingCall, Status as StatusCall};
 
-use crate::facts::{state_now, state_of};
+use crate::facts::{returned_at, state_now, state_of};
 use crate::floods::{flood_lines, is_aligned};
 use crate::reading::{change_of, priority_of, rationale_of};
 use plant_alarm::ShelfState;
@@ -42,7 +42,7 @@ pub fn status(
     Ok(Ok(Reply::Status(StatusRow {
         tag: alarm.tag.copy(alloc)?,
         limit: alarm.max_s,
-        limit_revision: alarm.max_rev,
+        limit_revision: alarm.limit_revision(),
         state: alarm.state_no,
         shelf,
         suppressed: alarm.suppressed,
@@ -74,16 +74,6 @@ pub fn shelf_line(
         person: row.person.copy(alloc)?,
         words: row.words.copy(alloc)?,
     }))
-}
-
-/// When the alarm of a tag last returned to normal.
-fn returned_at(part: &UnitPart, tag: &Tag) -> Option<Moment>
-    ensures { AreKept part.now → result ≡ returned (facts_in part.now) tag.now }
-{
-    match row_of(part.rows.alarms.as_slice(), tag) {
-        Some(alarm) => alarm.return_s,
-        None => None,
-    }
 }
 
 fn line(

@@ -1,39 +1,23 @@
 //! Registering alarms, and taking them out of service and back.
 
-ghost use Rattle.std.specs.Prelude.{◌≡◌, [], IfOk, None};
+ghost use Rattle.std.specs.Prelude.{◌≡◌, IfOk};
 ghost use Rattle.plant_types.specs.Results.{Gives, OnlyMemory};
 ghost use Rattle.plant_model.specs.RowChanges.{placed_in, taken_out};
-ghost use Rattle.plant_model.specs.Rows.{alarm_as};
 ghost use Rattle.plant_model.specs.declared.call.Request.TheVariants.{PlaceInService, Register, RemoveFromService};
 ghost use Rattle.plant_unit.specs.FromFacts.{Decides, DecidesAlways};
 
-use plant_alarm::AlarmState;
 use plant_model::{AlarmRow, Call, Full, Refused, Row, RowEdit, UnitPart, alarm_of};
 use plant_types::limits::MAX_ALARMS;
 use plant_types::{Duplicate, Fault, Seconds, Tag, Words};
 use std::alloc::Global;
 
-fn new_alarm(alloc: Global, tag: &Tag, latching: bool, max: Seconds) -> Result<AlarmRow, Fault>
-    ensures value { IfOk result (λ row. row ≡ alarm_as tag.now max 0 [] None latching) }
-    ensures err { OnlyMemory result }
-{
-    Ok(AlarmRow {
-        tag: tag.copy(alloc)?,
-        latching,
-        max_s: max,
-        max_rev: 0,
-        state_no: AlarmState::Normal,
-        suppressed: false,
-        active_s: None,
-        return_s: None,
-        out_s: None,
-        out_by: None,
-        out_words: None,
-    })
-}
-
 /// The alarm's row, out of service.
-fn removed(alloc: Global, alarm: &AlarmRow, call: &Call, words: &Words) -> Result<AlarmRow, Fault>
+fn row_out_of_service(
+    alloc: Global,
+    alarm: &AlarmRow,
+    call: &Call,
+    words: &Words,
+) -> Result<AlarmRow, Fault>
     ensures value { Gives result (taken_out call.now.person call.now.moment words.now alarm.now) }
     ensures err { OnlyMemory result }
 {
@@ -45,7 +29,7 @@ fn removed(alloc: Global, alarm: &AlarmRow, call: &Call, words: &Words) -> Resul
 }
 
 /// The alarm's row, in service.
-fn placed(alloc: Global, alarm: &AlarmRow) -> Result<AlarmRow, Fault>
+fn row_in_service(alloc: Global, alarm: &AlarmRow) -> Result<AlarmRow, Fault>
     ensures value { IfOk result (λ row. row ≡ placed_in alarm.now) }
     ensures err { OnlyMemory result }
 {
@@ -73,7 +57,7 @@ pub fn register(
     if alarm_of(part.rows.alarms.as_slice(), tag).is_some() {
         return Ok(Err(Refused::AlarmTaken));
     }
-    let alarm = new_alarm(alloc, tag, latching, max)?;
+    let alarm = AlarmRow::new(alloc, tag, latching, max)?;
     Ok(Ok(RowEdit::Put(Row::Alarm(alarm))))
 }
 
@@ -94,7 +78,7 @@ pub fn remove_from_service(
     if alarm.out_s.is_some() {
         return Ok(Err(Refused::AlreadyOutOfService));
     }
-    let row = removed(alloc, alarm, call, words)?;
+    let row = row_out_of_service(alloc, alarm, call, words)?;
     Ok(Ok(RowEdit::Put(Row::Alarm(row))))
 }
 
@@ -113,6 +97,6 @@ pub fn place_in_service(
     if alarm.out_s.is_none() {
         return Ok(Err(Refused::NotOutOfService));
     }
-    let row = placed(alloc, alarm)?;
+    let row = row_in_service(alloc, alarm)?;
     Ok(Ok(RowEdit::Put(Row::Alarm(row))))
 }

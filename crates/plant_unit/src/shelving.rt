@@ -5,7 +5,8 @@ ghost use Rattle.plant_types.specs.Names.{Name};
 ghost use Rattle.plant_types.specs.Results.{Gives, OnlyMemory};
 ghost use Rattle.plant_model.specs.RowFacts.{unit_read};
 ghost use Rattle.plant_model.specs.declared.call.Request.TheVariants.{OneShotShelve, TimedShelve, Unshelve};
-ghost use Rattle.plant_unit.specs.FromFacts.{Decides, DecidesAs, GivesOne};
+ghost use Rattle.plant_unit.specs.Additions.{AreKept};
+ghost use Rattle.plant_unit.specs.FromFacts.{DecidesAs, DecidesFrom, GivesOne};
 ghost use Rattle.plant_unit.specs.Shelving as shelving;
 ghost use Rattle.plant_unit.specs.Shelving.{shelf_decision};
 
@@ -63,7 +64,8 @@ fn shelve(
     shelf: Shelf,
 ) -> Result<Result<RowEdit, Refused>, Fault>
     requires { unit_read part.now.rows ≡ unit.now }
-    ensures value { GivesOne result (shelf_decision part.now call.now tag.now words.now shelf) }
+    ensures value { AreKept part.now
+        → GivesOne result (shelf_decision part.now call.now tag.now words.now shelf) }
     ensures err { OnlyMemory result }
 {
     if others_shelved(part, tag, call.moment) as u64 >= unit.quota.get() {
@@ -83,7 +85,7 @@ pub fn shelve_for(
     words: &Words,
 ) -> Result<Result<RowEdit, Refused>, Fault>
     requires { unit_read part.now.rows ≡ unit.now }
-    ensures value { Decides part.now call.now
+    ensures value { DecidesFrom part.now call.now
         (λ u. TimedShelve u tag.now seconds words.now) result }
     ensures err { OnlyMemory result }
 {
@@ -107,7 +109,7 @@ pub fn shelve_once(
     words: &Words,
 ) -> Result<Result<RowEdit, Refused>, Fault>
     requires { unit_read part.now.rows ≡ unit.now }
-    ensures value { Decides part.now call.now (λ u. OneShotShelve u tag.now words.now) result }
+    ensures value { DecidesFrom part.now call.now (λ u. OneShotShelve u tag.now words.now) result }
     ensures err { OnlyMemory result }
 {
     let Some(alarm) = alarm_of(part.rows.alarms.as_slice(), tag) else {

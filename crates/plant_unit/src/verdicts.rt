@@ -12,7 +12,7 @@ use plant_types::{Fault, List, Moment};
 use std::alloc::Global;
 
 /// The change of the unit's own row: its last moment.
-pub fn moved(alloc: Global, unit: &UnitRow, now: Moment) -> Result<List<RowEdit>, Fault>
+pub fn unit_change(alloc: Global, unit: &UnitRow, now: Moment) -> Result<List<RowEdit>, Fault>
     ensures value { IfOk result (λ cs. cs ≡ Put (UnitPut (record unit.now { last_s = now })) ∷ []) }
     ensures err { OnlyMemory result }
 {
@@ -37,7 +37,7 @@ pub fn done(
     match decided? {
         Err(refused) => Ok(Verdict::Refused(refused)),
         Ok(change) => {
-            let mut changes = moved(alloc, unit, now)?;
+            let mut changes = unit_change(alloc, unit, now)?;
             changes.push(change)?;
             Ok(Verdict::Accepted(Reply::Done, changes))
         }
@@ -45,14 +45,11 @@ pub fn done(
 }
 
 /// Answers, and changes nothing.
-pub fn answered(
-    alloc: Global,
-    answer: Result<Result<Reply, Refused>, Fault>,
-) -> Result<Verdict, Fault>
-    ensures value { IfOk result (λ v. IsOkAnd answer (λ a. v ≡ answered_as a)) }
-    ensures err { IfErr answer (λ e. e ≡ Memory) → OnlyMemory result }
+pub fn answer(alloc: Global, said: Result<Result<Reply, Refused>, Fault>) -> Result<Verdict, Fault>
+    ensures value { IfOk result (λ v. IsOkAnd said (λ a. v ≡ answered_as a)) }
+    ensures err { IfErr said (λ e. e ≡ Memory) → OnlyMemory result }
 {
-    match answer? {
+    match said? {
         Err(refused) => Ok(Verdict::Refused(refused)),
         Ok(reply) => Ok(Verdict::Accepted(reply, List::new(alloc))),
     }

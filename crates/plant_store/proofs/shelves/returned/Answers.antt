@@ -14,4 +14,4 @@ returns-clause-found g c honest m k =
     let own = c.in_ok-alarms.ensures.rows honest.0 k.books ∙ ap (filter (λ (r : AlarmRow). same_name a r.tag)) (k.seen u AlarmKept) in
     let at : c.last_return.result ≡ last_return (rows_in m u).alarms a =
     c.last_return.ensures ∙ ap (λ (rows : List AlarmRow). last_return rows a) (c.as_slice.ensures ∙ own) ∙ own_return a (rows_in m u).alarms in
-    λ i. record { unit = c.in_ok-copied.ensures i; shelf = c.in_ok-copied-2.ensures i; last_return = at i }
+    λ i. record { unit = c.in_ok-copy_of.ensures i; shelf = c.in_ok-copy_of-2.ensures i; last_return = at i }

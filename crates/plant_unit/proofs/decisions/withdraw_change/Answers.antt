@@ -24,4 +24,4 @@ returns-clause-value c kept u =
     let e = c.in-Some.entry.now in
     let found = found_there rows c.args.number _ _ _ (ap option_copied c.in-Some.is) c.entry_of.ensures c.as_slice.ensures in
     decided_change ((facts_in c.args.part.now).change c.args.number) (change_read rows e) e (change_there rows c.args.number e found) (kept.changes_read c.args.number e (sym found)) (λ x. (not (same_name p x.proposer), NotProposer) ∷ []) Withdrawn p c.args.call.now.moment
-    c.in_ok-decided.field-0 c.in_ok-decided.ensures.value (sym c.in_default-withdrawal_refusal.is ∙ c.withdrawal_refusal.ensures rows)
+    c.in_ok-decision_put.field-0 c.in_ok-decision_put.ensures.value (sym c.in_default-withdrawal_refusal.is ∙ c.withdrawal_refusal.ensures rows)

@@ -2,7 +2,7 @@ use Rattle.std.proofs.Common.{rules, sym, true, ◌∙◌, ◌≡◌}
 use Rattle.std.specs.Prelude.{Err, Ok}
 use Rattle.plant_model.specs.RowFacts.{facts_among}
 use Rattle.plant_unit.proofs.ImportsJudged.{counted_at, full_added, merged_at}
-use Rattle.plant_unit.proofs.imports.added.Goals as goal
+use Rattle.plant_unit.proofs.imports.merge_file.Goals as goal
 
 pub returns-in-Ok-clause-value : goal.returns-in-Ok-clause-value
 returns-in-Ok-clause-value c es of =

@@ -1,7 +1,7 @@
 use Rattle.std.proofs.Common.{List, ap, ◌∙◌}
 use Rattle.plant_alarm.specs.declared.event.Event.{Event}
 use Rattle.plant_import.specs.Numbers.{with_events}
-use Rattle.plant_books.proofs.changes.settled.Goals as goal
+use Rattle.plant_books.proofs.changes.finish.Goals as goal
 
 pub returns-clause-value : goal.returns-clause-value
 returns-clause-value c order =
