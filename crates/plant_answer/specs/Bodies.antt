@@ -8,7 +8,8 @@ use Rattle.plant_model.specs.declared.reply.StatusRow.{StatusRow}
 use Rattle.plant_model.specs.declared.reply.UnitLine.{UnitLine}
 use Rattle.plant_report.specs.Moments.{moment_text}
 use Rattle.plant_answer.specs.Json.{quoted, truth, listed}
-use Rattle.plant_answer.specs.Names.{role_name, state_name, shelf_name, shelf_left, full_name, file_cause_name, fault_name, change_state_name, refusal_name, refusal_no}
+use Rattle.plant_report.specs.Texts.{state_name}
+use Rattle.plant_answer.specs.Names.{role_name, shelf_name, shelf_left, full_name, file_cause_name, fault_name, change_state_name, refusal_name, refusal_no}
 
 abbrev pub done_body : List ℕ
 done_body = codes "{\"done\":true}"

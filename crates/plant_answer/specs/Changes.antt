@@ -9,7 +9,8 @@ use Rattle.plant_model.specs.declared.reply.RecordRow.{RecordRow}
 use Rattle.plant_model.specs.declared.reply.ChangeRow.{ChangeRow}
 use Rattle.plant_report.specs.Moments.{moment_text}
 use Rattle.plant_answer.specs.Json.{quoted, quoted_or_null, listed}
-use Rattle.plant_answer.specs.Names.{cell_name, kind_name, change_state_name}
+use Rattle.plant_report.specs.Texts.{cell_name}
+use Rattle.plant_answer.specs.Names.{kind_name, change_state_name}
 
 -- an alarm's record
 unfoldable pub record_body : RecordRow → List ℕ

@@ -1,15 +1,11 @@
--- The names and the numbers that answers use.
+-- The names and the numbers that answers use, beside those of states and cells, which stand in texts too.
 use Rattle.std.specs.Prelude.{ℕ, List, codes}
 use Rattle.plant_types.specs.declared.role.Role.{Role}
 use Rattle.plant_types.specs.declared.role.Role.TheVariants.{Viewer, Operator, Maintainer, Engineer, Approver, Steward}
 use Rattle.plant_types.specs.declared.fault.Fault.{Fault}
 use Rattle.plant_types.specs.declared.fault.Fault.TheVariants as fault
-use Rattle.plant_alarm.specs.declared.summary.AlarmState.{AlarmState}
-use Rattle.plant_alarm.specs.declared.summary.AlarmState.TheVariants.{Normal, Unacknowledged, Acknowledged, ReturnedUnack, LatchedUnack, LatchedAck}
 use Rattle.plant_alarm.specs.declared.shelf.ShelfState.{ShelfState}
 use Rattle.plant_alarm.specs.declared.shelf.ShelfState.TheVariants.{Unshelved, TimedShelved, OneShotShelved}
-use Rattle.plant_ration.specs.declared.cell.Cell.{Cell}
-use Rattle.plant_ration.specs.declared.cell.Cell.TheVariants.{P1, P2, P3, P4, N}
 use Rattle.plant_ration.specs.declared.change.ChangeKind.{ChangeKind}
 use Rattle.plant_ration.specs.declared.change.ChangeKind.TheVariants as kind
 use Rattle.plant_ration.specs.declared.change.ChangeState.{ChangeState}
@@ -29,14 +25,6 @@ role_name Engineer = codes "Engineer"
 role_name Approver = codes "Approver"
 role_name Steward = codes "Steward"
 
-abbrev pub state_name : AlarmState → List ℕ
-state_name Normal = codes "Normal"
-state_name Unacknowledged = codes "Unacknowledged"
-state_name Acknowledged = codes "Acknowledged"
-state_name ReturnedUnack = codes "ReturnedUnack"
-state_name LatchedUnack = codes "LatchedUnack"
-state_name LatchedAck = codes "LatchedAck"
-
 -- a shelved state, by its name of OPC 10000-9
 abbrev pub shelf_name : ShelfState → List ℕ
 shelf_name Unshelved = codes "Unshelved"
@@ -55,14 +43,6 @@ full_name full.Alarms = codes "Alarms"
 full_name full.Grants = codes "Grants"
 full_name full.Events = codes "Events"
 full_name full.Changes = codes "Changes"
-
--- a priority, or N where no alarm is needed
-abbrev pub cell_name : Cell → List ℕ
-cell_name P1 = codes "P1"
-cell_name P2 = codes "P2"
-cell_name P3 = codes "P3"
-cell_name P4 = codes "P4"
-cell_name N = codes "N"
 
 -- what a change is of
 abbrev pub kind_name : ChangeKind → List ℕ

@@ -7,8 +7,9 @@ ghost use Rattle.plant_answer.specs.Bodies as spec;
 ghost use Rattle.plant_answer.specs.Bodies.{unit_object};
 
 use crate::json::{BODY_ROOM, push_number, push_quoted, push_string, push_truth};
-use crate::names::{fault_name, role_name, shelf_left, shelf_name, state_name};
+use crate::names::{fault_name, role_name, shelf_left, shelf_name};
 use plant_model::{StatusRow, UnitLine};
+use plant_report::state_name;
 use plant_types::{Fault, Role};
 use std::alloc::Global;
 

@@ -2,18 +2,18 @@ ghost use Rattle.std.specs.Prelude.{◌≡◌, ◌++◌, codes, map, option_map,
 ghost use Rattle.plant_types.specs.Adding.{Adds};
 ghost use Rattle.plant_types.specs.Results.{OnlyMemory};
 ghost use Rattle.plant_report.specs.Moments.{moment_text};
+ghost use Rattle.plant_report.specs.Texts as texts;
 ghost use Rattle.plant_answer.specs.Json.{quoted, quoted_or_null, with_commas};
-ghost use Rattle.plant_answer.specs.Names as names;
 ghost use Rattle.plant_answer.specs.Changes as spec;
 ghost use Rattle.plant_answer.specs.Changes.{sheet_object, row_list, matrix_object, limit_object, content_object, tag_of};
 
 use crate::json::{
     BODY_ROOM, push_decimal, push_number, push_quoted, push_string, push_string_or_null,
 };
-use crate::names::{cell_name, change_state_name, kind_name};
+use crate::names::{change_state_name, kind_name};
 use plant_model::{ChangeRow, RecordRow};
 use plant_ration::{Cell, ChangeKind, Matrix, Sheet};
-use plant_report::write_moment;
+use plant_report::{cell_name, write_moment};
 use plant_types::{Fault, Moment, Person, Seconds};
 use std::alloc::Global;
 
@@ -67,7 +67,7 @@ fn push_numbers(out: &mut Vec<u8>, numbers: &[u64]) -> Result<(), Fault>
 /// Adds the names of the cells, with a comma between each two.
 fn push_cells(out: &mut Vec<u8>, cells: &[Cell]) -> Result<(), Fault>
     ensures value { Adds result out.old.items out.new.items
-        (with_commas (λ cell. quoted (names.cell_name cell)) cells.now) }
+        (with_commas (λ cell. quoted (texts.cell_name cell)) cells.now) }
     ensures err { OnlyMemory result }
 {
     for (i, cell) in cells.iter().enumerate() {

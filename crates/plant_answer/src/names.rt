@@ -1,10 +1,10 @@
 ghost use Rattle.std.specs.Prelude.{◌≡◌};
 ghost use Rattle.plant_answer.specs.Names as spec;
 
-use plant_alarm::{AlarmState, ShelfState};
+use plant_alarm::ShelfState;
 use plant_import::Cause;
 use plant_model::Full;
-use plant_ration::{Cell, ChangeKind, ChangeState};
+use plant_ration::{ChangeKind, ChangeState};
 use plant_types::{Fault, Role};
 
 /// The name of a role.
@@ -18,20 +18,6 @@ pub fn role_name(role: Role) -> &'static [u8]
         Role::Engineer => b"Engineer",
         Role::Approver => b"Approver",
         Role::Steward => b"Steward",
-    }
-}
-
-/// The name of an alarm's state.
-pub fn state_name(state: AlarmState) -> &'static [u8]
-    ensures { result.now ≡ spec.state_name state }
-{
-    match state {
-        AlarmState::Normal => b"Normal",
-        AlarmState::Unacknowledged => b"Unacknowledged",
-        AlarmState::Acknowledged => b"Acknowledged",
-        AlarmState::ReturnedUnack => b"ReturnedUnack",
-        AlarmState::LatchedUnack => b"LatchedUnack",
-        AlarmState::LatchedAck => b"LatchedAck",
     }
 }
 
@@ -66,19 +52,6 @@ pub fn full_name(full: Full) -> &'static [u8]
         Full::Grants => b"Grants",
         Full::Events => b"Events",
         Full::Changes => b"Changes",
-    }
-}
-
-/// The name of a cell of a matrix: a priority, or that no alarm is needed.
-pub fn cell_name(cell: Cell) -> &'static [u8]
-    ensures { result.now ≡ spec.cell_name cell }
-{
-    match cell {
-        Cell::P1 => b"P1",
-        Cell::P2 => b"P2",
-        Cell::P3 => b"P3",
-        Cell::P4 => b"P4",
-        Cell::N => b"N",
     }
 }
 

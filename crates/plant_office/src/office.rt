@@ -58,7 +58,7 @@ fn leave_out_same(part: &Option<UnitPart>, changes: &mut List<RowEdit>)
     }
 }
 
-/// Tells the prover that the matrix of a request is one, as each value of its type is.
+/// Gives the proof what each value of its type is: the matrix of a request is one. It does nothing when it runs.
 fn note_matrix(request: &Request)
     ensures { has_matrix request.now ≡ true }
 {

@@ -56,14 +56,18 @@ state_name ReturnedUnack = codes "ReturnedUnack"
 state_name LatchedUnack = codes "LatchedUnack"
 state_name LatchedAck = codes "LatchedAck"
 
+-- a priority, or N where no alarm is needed
+abbrev pub cell_name : Cell → List ℕ
+cell_name P1 = codes "P1"
+cell_name P2 = codes "P2"
+cell_name P3 = codes "P3"
+cell_name P4 = codes "P4"
+cell_name N = codes "N"
+
 -- the priority of an alarm, or a hyphen where it has no record
 abbrev pub priority_name : Option Cell → List ℕ
 priority_name None = codes "-"
-priority_name (Some P1) = codes "P1"
-priority_name (Some P2) = codes "P2"
-priority_name (Some P3) = codes "P3"
-priority_name (Some P4) = codes "P4"
-priority_name (Some N) = codes "N"
+priority_name (Some cell) = cell_name cell
 
 abbrev pub flag : Bool → ℕ → ℕ
 flag holds mark = if holds then mark else 45

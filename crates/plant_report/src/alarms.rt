@@ -82,7 +82,8 @@ fn push_alarm(text: &mut Vec<u8>, line: &AlarmLine) -> Result<(), Fault>
     push_last_right(text, 6, buffer.format(line.limit.get()).as_bytes())
 }
 
-fn state_name(state: AlarmState) -> &'static [u8]
+/// The name of an alarm's state.
+pub fn state_name(state: AlarmState) -> &'static [u8]
     ensures { result.now ≡ texts.state_name state }
 {
     match state {
@@ -95,15 +96,24 @@ fn state_name(state: AlarmState) -> &'static [u8]
     }
 }
 
+/// The name of a cell of a matrix: a priority, or that no alarm is needed.
+pub fn cell_name(cell: Cell) -> &'static [u8]
+    ensures { result.now ≡ texts.cell_name cell }
+{
+    match cell {
+        Cell::P1 => b"P1",
+        Cell::P2 => b"P2",
+        Cell::P3 => b"P3",
+        Cell::P4 => b"P4",
+        Cell::N => b"N",
+    }
+}
+
 fn priority_name(priority: Option<Cell>) -> &'static [u8]
     ensures { result.now ≡ texts.priority_name priority }
 {
     match priority {
-        Some(Cell::P1) => b"P1",
-        Some(Cell::P2) => b"P2",
-        Some(Cell::P3) => b"P3",
-        Some(Cell::P4) => b"P4",
-        Some(Cell::N) => b"N",
+        Some(cell) => cell_name(cell),
         None => b"-",
     }
 }

@@ -1,4 +1,4 @@
-//! The texts printed of a unit's alarms, shelves and floods of alarms.
+//! The texts printed of a unit's alarms, shelves and floods of alarms, and the names that stand in them.
 #![tactic(auto)]
 
 mod alarms;
@@ -8,7 +8,7 @@ mod heading;
 mod moments;
 mod shelves;
 
-pub use alarms::{alarm_text, standing_text};
+pub use alarms::{alarm_text, cell_name, standing_text, state_name};
 pub use flood_lines::flood_text;
 pub use moments::write as write_moment;
 pub use plant_floods::{Run, floods};

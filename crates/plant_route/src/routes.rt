@@ -188,16 +188,16 @@ impl Routes {
         }
         let path = text_of(target);
         if method == b"POST".as_slice() {
-            found(&self.post, path)
+            kind_at(&self.post, path)
         } else if method == b"GET".as_slice() {
-            found(&self.get, path)
+            kind_at(&self.get, path)
         } else {
             None
         }
     }
 }
 
-fn found(router: &Router<CallKind>, path: &str) -> Option<CallKind>
+fn kind_at(router: &Router<CallKind>, path: &str) -> Option<CallKind>
     ensures { result ≡ route_in router.now path.now }
 {
     match router.at(path) {

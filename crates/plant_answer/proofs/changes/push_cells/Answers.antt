@@ -1,7 +1,7 @@
 use Rattle.std.proofs.Common.{ap}
 use Rattle.plant_ration.specs.declared.cell.Cell.{Cell}
 use Rattle.plant_answer.specs.Json.{quoted}
-use Rattle.plant_answer.specs.Names.{cell_name}
+use Rattle.plant_report.specs.Texts.{cell_name}
 use Rattle.plant_answer.proofs.Joined.{pushed_more, pushed_first}
 use Rattle.plant_answer.proofs.changes.push_cells.Goals as goal
 use Rattle.plant_answer.proofs.changes.push_cells.Goals.{then-i-gt0+in_ok-push, else-i-gt0}

@@ -2,7 +2,7 @@ use Rattle.std.proofs.Common.{◌≡◌, ◌++◌, map, take}
 use Rattle.std.specs.List.{join_with_byte}
 use Rattle.plant_ration.specs.declared.cell.Cell.{Cell}
 use Rattle.plant_answer.specs.Json.{quoted}
-use Rattle.plant_answer.specs.Names.{cell_name}
+use Rattle.plant_report.specs.Texts.{cell_name}
 use Rattle.plant_answer.proofs.changes.push_cells.Given as goal
 
 abbrev pub invariant-loop-i : goal.invariant-loop-i
