@@ -4,7 +4,6 @@ use Rattle.std.specs.Io.KnownBytes.{Appends}
 use Rattle.plant_model.specs.declared.call.Call.{Call}
 use Rattle.plant_model.specs.declared.reply.Answer.{Answer}
 use Rattle.plant_books.specs.Contents.{Content}
-use Rattle.plant_books.specs.declared.books.Books.{Ghosts}
 use Rattle.plant_wire.specs.Ran.{Ran}
 use Rattle.plant_wire.specs.Session.{EndsAs}
 use Rattle.plant_wire.specs.declared.reads.End.{End}
@@ -21,10 +20,6 @@ end_name Fault = codes "Fault"
 -- the line that says how a connection ended
 unfoldable pub line_of : ℕ → End → List ℕ
 line_of count end = codes "connection " ++ decimal count ++ codes " " ++ end_name end ++ codes "\n"
-
--- what the office did from these books to those, by what they hold, the keeper's premise on them and their count of Store
-abbrev pub RanFrom : {B : Type 0} → Ghosts B → B → B → List Call → List Answer → Type 0
-RanFrom books before after = Ran (books.represents before) (books.is_honest after) (books.represents after) (books.stores before) (books.stores after)
 
 -- A session over one connection. What came over a socket is known to no contract, so all that is said of the bytes is
 -- that there are some, by which the session ended so, answered with what went, and of the office `ran` is true.

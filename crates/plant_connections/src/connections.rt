@@ -5,7 +5,8 @@ ghost use Rattle.plant_wire.specs.declared.reads.End.{End};
 ghost use Rattle.plant_model.specs.declared.call.Call.{Call};
 ghost use Rattle.plant_model.specs.declared.reply.Answer.{Answer};
 ghost use Rattle.plant_connections.specs.Connections as spec;
-ghost use Rattle.plant_connections.specs.Connections.{GoesThrough, IsConnection, RanFrom, StopsAfter, Tells};
+ghost use Rattle.plant_connections.specs.Connections.{GoesThrough, IsConnection, StopsAfter, Tells};
+ghost use Rattle.plant_wire.specs.Over.{RanOn};
 
 use crate::texts::{end_name, say};
 use itoa::Buffer;
@@ -42,7 +43,7 @@ fn serve_next<L: Listener, B: Books>(
     listener: &mut L,
     office: &mut Office<B>,
 ) -> Result<End, Failed>
-    ensures does { IfOk result (IsConnection (RanFrom B.Books office.old.books office.new.books)) }
+    ensures does { IfOk result (IsConnection (RanOn B.Books office.old.books office.new.books)) }
     ensures honest { OnOk result (WasHonest B.is_honest office.old.books office.new.books) }
     ensures counted { OnOk result (L.accepted listener.new ≡ L.accepted listener.old + 1) }
     ensures ok { OnOk result (L.failures listener.new ≡ L.failures listener.old) }
@@ -92,7 +93,7 @@ pub fn serve_connections<L: Listener, B: Books, W: Write>(
         × (L.accepted listener.new ≡ L.accepted listener.old + length ends)
         × StopsAfter n (L.failures listener.old) (L.failures listener.new) (length ends) result }
     ensures ran { (calls : List Call) × (answers : List Answer)
-        × RanFrom B.Books office.old.books office.new.books calls answers }
+        × RanOn B.Books office.old.books office.new.books calls answers }
     ensures honest { WasHonest B.is_honest office.old.books office.new.books }
 {
     'connections: for count in 0..n {

@@ -26,6 +26,7 @@ impl Copies {
     /// No copy, and room for so many rows.
     pub fn new(alloc: Global, limit: u128) -> Result<Copies, Fault>
         ensures none { IfOk result (λ c. c.units.entries ≡ []) }
+        ensures limit { IfOk result (λ c. c.limit ≡ limit) }
         ensures memory { OnlyMemory result }
     {
         Ok(Copies {
@@ -35,11 +36,12 @@ impl Copies {
         })
     }
 
-    /// Whether the unit's rows are at hand. The unit is then the one last used.
-    pub fn touch(&mut self, unit: &UnitCode) -> bool
+    /// Makes the unit the one last used, if its rows are at hand.
+    pub fn touch(&mut self, unit: &UnitCode)
         ensures kept { StayCopies self.old.units.entries self.new.units.entries }
+        ensures limit { self.new.limit ≡ self.old.limit }
     {
-        self.units.promote(unit)
+        self.units.promote(unit);
     }
 
     /// What is at hand of the unit's rows, if they are.
@@ -86,6 +88,7 @@ impl Copies {
         ensures taken { result ≡ lookup_entry (same_name unit.now) self.old.units.entries }
         ensures rest { (there after : There) → DiffersAt unit.now there after
             → AreCopies there self.old.units.entries → AreCopies after self.new.units.entries }
+        ensures limit { self.new.limit ≡ self.old.limit }
     {
         let _count = self.units.len();
         let (unit, copy) = self.units.pop_entry(unit)?;
@@ -96,6 +99,7 @@ impl Copies {
     /// Lets all units go.
     pub fn clear(&mut self)
         ensures none { self.new.units.entries ≡ [] }
+        ensures limit { self.new.limit ≡ self.old.limit }
     {
         self.units.clear();
         self.rows = 0;
@@ -104,6 +108,7 @@ impl Copies {
     /// Lets the unit go that was longest not used.
     fn drop_last(&mut self)
         ensures kept { StayCopies self.old.units.entries self.new.units.entries }
+        ensures limit { self.new.limit ≡ self.old.limit }
     {
         if let Some((_, copy)) = self.units.pop_lru() {
             self.rows -= copy.row_count();
@@ -113,6 +118,7 @@ impl Copies {
     /// Lets units go, those longest not used first, until there is room for so many rows.
     fn make_room(&mut self, more: u128)
         ensures kept { StayCopies self.old.units.entries self.new.units.entries }
+        ensures limit { self.new.limit ≡ self.old.limit }
     {
         for _ in 0..self.units.len() {
             if more <= self.limit - self.rows {
@@ -126,6 +132,7 @@ impl Copies {
     /// more rows than may be at hand, nor if memory runs out.
     pub fn keep(&mut self, unit: UnitCode, copy: AtHand)
         ensures kept { StayCopiesWith (unit, copy) self.old.units.entries self.new.units.entries }
+        ensures limit { self.new.limit ≡ self.old.limit }
     {
         let more = copy.row_count();
         if more > self.limit {
@@ -142,6 +149,7 @@ impl Copies {
         requires room { self.old.rows + more ≤ self.old.limit }
         requires counted { more ≡ copies.row_count copy.rows }
         ensures kept { StayCopiesWith (unit, copy) self.old.units.entries self.new.units.entries }
+        ensures limit { self.new.limit ≡ self.old.limit }
     {
         match self.units.put(unit, copy) {
             Ok(_) => self.rows += more,

@@ -50,6 +50,7 @@ impl<B: Books> Mirror<B> {
     pub fn into_books(self) -> B
         ensures represents { (m : Content) → ⟦<Mirror<B> as Books>⟧.represents self m
             → B.represents result m }
+        ensures honest { B.is_honest result → ⟦<Mirror<B> as Books>⟧.is_honest self }
         ensures stores { B.stores result ≡ ⟦<Mirror<B> as Books>⟧.stores self }
     {
         let Mirror {

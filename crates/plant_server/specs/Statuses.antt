@@ -11,40 +11,49 @@ use Rattle.plant_line.specs.declared.words.LineError.{LineError}
 use Rattle.plant_line.specs.declared.words.LineError.TheVariants.{Memory, NoDb, NotAPerson, Text}
 use Rattle.plant_line.specs.declared.words.Task.{Task}
 use Rattle.plant_line.specs.declared.words.Task.TheVariants.{Migrate, Serve}
+use Rattle.plant_server.specs.declared.statuses.ExitStatus.{ExitStatus}
+use Rattle.plant_server.specs.declared.statuses.ExitStatus.TheVariants as status
 use Rattle.plant_store.specs.declared.tables.StoreFault.{StoreFault}
 
--- how a session ended, as a status: 0 where all was answered
-abbrev pub status_of : End → ℕ
-status_of Closed = 0
-status_of BrokenInput = 4
-status_of ReadFailed = 5
-status_of WriteFailed = 6
-status_of Fault = 7
+-- the number that the program exits with
+abbrev pub code : ExitStatus → ℕ
+code status.Done = 0
+code status.WrongLine = 2
+code status.NoBooks = 3
+code status.BrokenInput = 4
+code status.ReadFailed = 5
+code status.WriteFailed = 6
+code status.NoMemory = 7
+code status.NetFailed = 8
 
--- no books were opened
-abbrev pub unready : ℕ
-unready = 3
+-- how a session ended: done where all was answered
+abbrev pub status_of : End → ExitStatus
+status_of Closed = status.Done
+status_of BrokenInput = status.BrokenInput
+status_of ReadFailed = status.ReadFailed
+status_of WriteFailed = status.WriteFailed
+status_of Fault = status.NoMemory
 
--- why the words can't be followed: 0 where they ask for help
-abbrev pub unfollowed : LineError → ℕ
-unfollowed (Text text is_error) = if is_error then 2 else 0
-unfollowed NotAPerson = 2
-unfollowed NoDb = 2
-unfollowed Memory = 7
+-- why the words can't be followed: done where they ask for help
+abbrev pub status_of_line : LineError → ExitStatus
+status_of_line (Text text is_error) = if is_error then status.WrongLine else status.Done
+status_of_line NotAPerson = status.WrongLine
+status_of_line NoDb = status.WrongLine
+status_of_line Memory = status.NoMemory
 
 -- all connections were served, or listening or accepting failed
-abbrev pub served : Result (Unit {0}) Failed → ℕ
-served (Ok u) = 0
-served (Err e) = 8
+abbrev pub served : Result (Unit {0}) Failed → ExitStatus
+served (Ok u) = status.Done
+served (Err e) = status.NetFailed
 
 -- an older file was migrated, or not
-abbrev pub status_of_migration : Result (Unit {0}) StoreFault → ℕ
-status_of_migration (Ok u) = 0
-status_of_migration (Err e) = unready
+abbrev pub status_of_migration : Result (Unit {0}) StoreFault → ExitStatus
+status_of_migration (Ok u) = status.Done
+status_of_migration (Err e) = status.NoBooks
 
 -- One session over an inlet and an outlet, and its end. r and o are what was left to read and what was written
 -- before, r' and o' after.
-abbrev pub IsStreamed : Option (List ℕ) → Option (List ℕ) → Option (List ℕ) → Option (List ℕ) → (List Call → List Answer → Type 0) → ℕ → Type 0
+abbrev pub IsStreamed : Option (List ℕ) → Option (List ℕ) → Option (List ℕ) → Option (List ℕ) → (List Call → List Answer → Type 0) → ExitStatus → Type 0
 IsStreamed r r' o o' ran n = (end : End) × (ended : Bool) × IsSession r r' ended o o' ran end × (n ≡ status_of end)
 
 -- whatever the office did
@@ -52,24 +61,23 @@ abbrev pub Whatever : List Call → List Answer → Type 0
 Whatever calls answers = Unit {0}
 
 -- the connections of a port were served, or not all of them
-abbrev pub IsOfPort : ℕ → Type 0
+abbrev pub IsOfPort : ExitStatus → Type 0
 IsOfPort n = (result : Result (Unit {0}) Failed) × (n ≡ served result)
 
--- over books: one session ended, or the connections of a port were served
-abbrev pub HasServed : Option Service → Option (List ℕ) → Option (List ℕ) → Option (List ℕ) → Option (List ℕ) → ℕ → Type 0
-HasServed None r r' o o' n = IsStreamed r r' o o' Whatever n
-HasServed (Some service) r r' o o' n = IsOfPort n
+-- over an office of which `ran` is true: one session ended, or the connections of a port were served
+abbrev pub HasServed : (List Call → List Answer → Type 0) → Option Service → Option (List ℕ) → Option (List ℕ) → Option (List ℕ) → Option (List ℕ) → ExitStatus → Type 0
+HasServed ran None r r' o o' n = IsStreamed r r' o o' ran n
+HasServed ran (Some service) r r' o o' n = IsOfPort n × ((calls : List Call) × (answers : List Answer) × ran calls answers)
 
 -- an older file was to be migrated
-abbrev pub IsOfMigration : ℕ → Type 0
+abbrev pub IsOfMigration : ExitStatus → Type 0
 IsOfMigration n = (outcome : Result (Unit {0}) StoreFault) × (n ≡ status_of_migration outcome)
 
 -- what a line's words ask for was done, or no books were opened for it; a migration reads no request
-abbrev pub IsFollowed : Task → Option (List ℕ) → Option (List ℕ) → Option (List ℕ) → Option (List ℕ) → ℕ → Type 0
-IsFollowed (Serve db service) r r' o o' n = (n ≡ unready) ⊎ HasServed service r r' o o' n
+abbrev pub IsFollowed : Task → Option (List ℕ) → Option (List ℕ) → Option (List ℕ) → Option (List ℕ) → ExitStatus → Type 0
+IsFollowed (Serve db service) r r' o o' n = (n ≡ status.NoBooks) ⊎ HasServed Whatever service r r' o o' n
 IsFollowed (Migrate old new) r r' o o' n = (r' ≡ r) × IsOfMigration n
 
--- a status of the program: that of a session, of a port or of a migration, that no books were opened, or that the words
--- can't be followed
+-- a number that the program exits with
 abbrev pub IsStatus : ℕ → Type 0
-IsStatus n = ((end : End) × (n ≡ status_of end)) ⊎ (IsOfPort n ⊎ (IsOfMigration n ⊎ ((n ≡ unready) ⊎ ((error : LineError) × (n ≡ unfollowed error)))))
+IsStatus n = (s : ExitStatus) × (n ≡ code s)

@@ -1,13 +1,17 @@
-ghost use Rattle.std.specs.Prelude.{◌≡◌, ◌⊎◌, IfErr, IfOk};
+ghost use Rattle.std.specs.Prelude.{◌≡◌, ◌⊎◌, [], IfErr, IfOk, IsSomeAnd, List};
 ghost use Rattle.plant_books.specs.Books.{WasHonest};
+ghost use Rattle.plant_model.specs.declared.call.Call.{Call};
+ghost use Rattle.plant_model.specs.declared.reply.Answer.{Answer};
 ghost use Rattle.plant_server.specs.Statuses as statuses;
 ghost use Rattle.plant_server.specs.Statuses.{IsFollowed, IsOfMigration, IsOfPort, HasServed, IsStreamed, Whatever};
-ghost use Rattle.plant_connections.specs.Connections.{RanFrom};
+ghost use Rattle.plant_server.specs.declared.statuses.ExitStatus.TheVariants.{NoBooks};
+ghost use Rattle.plant_wire.specs.Over.{RanOn};
 
 use crate::books::in_memory;
 use crate::files::{close_file, in_file};
 use crate::migrations::migrate_file;
 use crate::sockets::Port;
+use crate::statuses::ExitStatus;
 use plant_connections::{end_name, say, serve_connections};
 use plant_line::{Line, LineError, Service, Task, line_of};
 use plant_mirror::{Copies, Mirror};
@@ -22,20 +26,20 @@ use std::convert::AsStr;
 use std::io::{Read, Write};
 use std::time::Duration;
 
-fn status_of(end: End) -> u8
+fn status_of(end: End) -> ExitStatus
     ensures { result ≡ statuses.status_of end }
 {
     match end {
-        End::Closed => 0,
-        End::BrokenInput => 4,
-        End::ReadFailed => 5,
-        End::WriteFailed => 6,
-        End::Fault => 7,
+        End::Closed => ExitStatus::Done,
+        End::BrokenInput => ExitStatus::BrokenInput,
+        End::ReadFailed => ExitStatus::ReadFailed,
+        End::WriteFailed => ExitStatus::WriteFailed,
+        End::Fault => ExitStatus::NoMemory,
     }
 }
 
 /// Says how the session ended, and gives the status.
-fn ended(errors: &mut impl Write, end: End) -> u8
+fn report_end(errors: &mut impl Write, end: End) -> ExitStatus
     ensures { result ≡ statuses.status_of end }
 {
     say(errors, b"end: ");
@@ -45,29 +49,27 @@ fn ended(errors: &mut impl Write, end: End) -> u8
 }
 
 /// Says where listening or accepting failed, and gives the status.
-fn served(errors: &mut impl Write, outcome: Result<(), Failed>) -> u8
+fn report_service(errors: &mut impl Write, outcome: Result<(), Failed>) -> ExitStatus
     ensures { result ≡ statuses.served outcome }
 {
     match outcome {
-        Ok(()) => 0,
+        Ok(()) => ExitStatus::Done,
         Err(_) => {
             say(errors, b"net: failed\n");
-            8
+            ExitStatus::NetFailed
         }
     }
 }
 
-const UNREADY: u8 = 3;
-
 /// Says why no books were opened, and gives the status.
-fn unready(errors: &mut impl Write, fault: &StoreFault) -> u8
-    ensures { result ≡ statuses.unready }
+fn report_unopened(errors: &mut impl Write, fault: &StoreFault) -> ExitStatus
+    ensures { result ≡ NoBooks }
 {
     match fault {
         StoreFault::NotThisStore => say(errors, b"store: not this store\n"),
         StoreFault::Fault(_) => say(errors, b"store: fault\n"),
     }
-    UNREADY
+    ExitStatus::NoBooks
 }
 
 /// One session; the status says how it ended.
@@ -77,16 +79,14 @@ fn serve_streams<B: Books, I: Inlet, O: Outlet, E: Write>(
     inlet: &mut I,
     outlet: &mut O,
     errors: &mut E,
-) -> u8
+) -> ExitStatus
     ensures does { IsStreamed (I.remaining inlet.old) (I.remaining inlet.new)
         (O.written outlet.old) (O.written outlet.new)
-        (RanFrom B.Books office.old.books office.new.books) result }
-    ensures streamed { IsStreamed (I.remaining inlet.old) (I.remaining inlet.new)
-        (O.written outlet.old) (O.written outlet.new) Whatever result }
+        (RanOn B.Books office.old.books office.new.books) result }
     ensures honest { WasHonest B.is_honest office.old.books office.new.books }
 {
     let end = session(alloc, inlet, outlet, office);
-    ended(errors, end)
+    report_end(errors, end)
 }
 
 /// Says on which address a port listens.
@@ -104,25 +104,30 @@ fn serve_port<B: Books>(
     office: &mut Office<B>,
     service: Service,
     output: &mut impl Write,
-) -> Result<(), Failed> {
+) -> Result<(), Failed>
+    ensures { (calls : List Call) × (answers : List Answer)
+        × RanOn B.Books office.old.books office.new.books calls answers }
+{
     let alloc = rt.alloc();
     let mut port = Port::listen(rt, service.port, service.idle.map(Duration::from_secs))?;
     say_address(alloc, output, &port)?;
     serve_connections(alloc, &mut port, service.connections, office, output)
 }
 
-/// The same; the status says whether all of them were served.
+/// Serves the connections of a port; the status says whether all of them were served.
 fn serve_all<B: Books>(
     rt: &HostRuntime,
     office: &mut Office<B>,
     service: Service,
     output: &mut impl Write,
     errors: &mut impl Write,
-) -> u8
-    ensures { IsOfPort result }
+) -> ExitStatus
+    ensures port { IsOfPort result }
+    ensures ran { (calls : List Call) × (answers : List Answer)
+        × RanOn B.Books office.old.books office.new.books calls answers }
 {
     let outcome = serve_port(rt, office, service, output);
-    served(errors, outcome)
+    report_service(errors, outcome)
 }
 
 /// Serves a port or the streams by an office, and gives the status.
@@ -133,14 +138,61 @@ fn serve_office<B: Books, I: Inlet, O: Outlet + Write, E: Write>(
     inlet: &mut I,
     outlet: &mut O,
     errors: &mut E,
-) -> u8
-    ensures { HasServed service (I.remaining inlet.old) (I.remaining inlet.new)
+) -> ExitStatus
+    ensures { HasServed (RanOn B.Books office.old.books office.new.books) service
+        (I.remaining inlet.old) (I.remaining inlet.new)
         (O.written outlet.old) (O.written outlet.new) result }
 {
     match service {
         None => serve_streams(rt.alloc(), office, inlet, outlet, errors),
         Some(service) => serve_all(rt, office, service, outlet, errors),
     }
+}
+
+/// Serves a port or the streams over these books with rows at hand, and gives the status and the books after it.
+fn serve_at_hand<S: Alter + Drop, I: Inlet, O: Outlet + Write, E: Write>(
+    rt: &HostRuntime,
+    copies: Copies,
+    books: Tables<S>,
+    service: Option<Service>,
+    inlet: &mut I,
+    outlet: &mut O,
+    errors: &mut E,
+) -> (ExitStatus, Tables<S>)
+    requires { copies.units.entries ≡ [] }
+    ensures ran { HasServed (RanOn ⟦<Tables<S> as Books>⟧ books result.1) service
+        (I.remaining inlet.old) (I.remaining inlet.new)
+        (O.written outlet.old) (O.written outlet.new) result.0 }
+    ensures served { HasServed Whatever service (I.remaining inlet.old) (I.remaining inlet.new)
+        (O.written outlet.old) (O.written outlet.new) result.0 }
+{
+    let mirror = Mirror::new(rt.alloc(), copies, books);
+    let mut office = Office::new(rt.alloc(), mirror);
+    let status = serve_office(rt, &mut office, service, inlet, outlet, errors);
+    let left = office.into_books();
+    let below = left.into_books();
+    (status, below)
+}
+
+/// The same with no rows at hand.
+fn serve_bare<S: Alter + Drop, I: Inlet, O: Outlet + Write, E: Write>(
+    rt: &HostRuntime,
+    books: Tables<S>,
+    service: Option<Service>,
+    inlet: &mut I,
+    outlet: &mut O,
+    errors: &mut E,
+) -> (ExitStatus, Tables<S>)
+    ensures ran { HasServed (RanOn ⟦<Tables<S> as Books>⟧ books result.1) service
+        (I.remaining inlet.old) (I.remaining inlet.new)
+        (O.written outlet.old) (O.written outlet.new) result.0 }
+    ensures served { HasServed Whatever service (I.remaining inlet.old) (I.remaining inlet.new)
+        (O.written outlet.old) (O.written outlet.new) result.0 }
+{
+    let mut office = Office::new(rt.alloc(), books);
+    let status = serve_office(rt, &mut office, service, inlet, outlet, errors);
+    let left = office.into_books();
+    (status, left)
 }
 
 /// Serves a port or the streams over these books, with rows at hand if there is memory for them, and gives the status and the
@@ -152,22 +204,16 @@ fn serve_books<S: Alter + Drop, I: Inlet, O: Outlet + Write, E: Write>(
     inlet: &mut I,
     outlet: &mut O,
     errors: &mut E,
-) -> (u8, Tables<S>)
-    ensures { HasServed service (I.remaining inlet.old) (I.remaining inlet.new)
+) -> (ExitStatus, Tables<S>)
+    ensures ran { HasServed (RanOn ⟦<Tables<S> as Books>⟧ books result.1) service
+        (I.remaining inlet.old) (I.remaining inlet.new)
+        (O.written outlet.old) (O.written outlet.new) result.0 }
+    ensures served { HasServed Whatever service (I.remaining inlet.old) (I.remaining inlet.new)
         (O.written outlet.old) (O.written outlet.new) result.0 }
 {
-    let alloc = rt.alloc();
-    match Copies::new(alloc, MAX_ROWS_AT_HAND) {
-        Ok(copies) => {
-            let mut office = Office::new(alloc, Mirror::new(alloc, copies, books));
-            let status = serve_office(rt, &mut office, service, inlet, outlet, errors);
-            (status, office.into_books().into_books())
-        }
-        Err(_) => {
-            let mut office = Office::new(alloc, books);
-            let status = serve_office(rt, &mut office, service, inlet, outlet, errors);
-            (status, office.into_books())
-        }
+    match Copies::new(rt.alloc(), MAX_ROWS_AT_HAND) {
+        Ok(copies) => serve_at_hand(rt, copies, books, service, inlet, outlet, errors),
+        Err(_) => serve_bare(rt, books, service, inlet, outlet, errors),
     }
 }
 
@@ -180,18 +226,22 @@ fn serve_opened<S: Alter + Drop, I: Inlet, O: Outlet + Write, E: Write>(
     inlet: &mut I,
     outlet: &mut O,
     errors: &mut E,
-) -> (u8, Option<Tables<S>>)
-    ensures served { IfOk opened (λ _. HasServed service
+) -> (ExitStatus, Option<Tables<S>>)
+    ensures ran { IfOk opened (λ books. IsSomeAnd result.1 (λ after.
+        HasServed (RanOn ⟦<Tables<S> as Books>⟧ books after) service
+        (I.remaining inlet.old) (I.remaining inlet.new)
+        (O.written outlet.old) (O.written outlet.new) result.0)) }
+    ensures served { IfOk opened (λ _. HasServed Whatever service
         (I.remaining inlet.old) (I.remaining inlet.new)
         (O.written outlet.old) (O.written outlet.new) result.0) }
-    ensures unready { IfErr opened (λ _. result.0 ≡ statuses.unready) }
+    ensures unready { IfErr opened (λ _. result.0 ≡ NoBooks) }
 {
     match opened {
         Ok(books) => {
             let (status, books) = serve_books(rt, books, service, inlet, outlet, errors);
             (status, Some(books))
         }
-        Err(fault) => (unready(errors, &fault), None),
+        Err(fault) => (report_unopened(errors, &fault), None),
     }
 }
 
@@ -204,9 +254,9 @@ fn serve<I: Inlet, O: Outlet + Write, E: Write>(
     inlet: &mut I,
     outlet: &mut O,
     errors: &mut E,
-) -> u8
-    ensures { (result ≡ statuses.unready)
-        ⊎ HasServed service (I.remaining inlet.old) (I.remaining inlet.new)
+) -> ExitStatus
+    ensures { (result ≡ NoBooks)
+        ⊎ HasServed Whatever service (I.remaining inlet.old) (I.remaining inlet.new)
         (O.written outlet.old) (O.written outlet.new) result }
 {
     match db {
@@ -231,15 +281,15 @@ fn status_of_migration(
     output: &mut impl Write,
     errors: &mut impl Write,
     outcome: Result<(), StoreFault>,
-) -> u8
+) -> ExitStatus
     ensures { result ≡ statuses.status_of_migration outcome }
 {
     match outcome {
         Ok(()) => {
             say(output, b"migrated\n");
-            0
+            ExitStatus::Done
         }
-        Err(fault) => unready(errors, &fault),
+        Err(fault) => report_unopened(errors, &fault),
     }
 }
 
@@ -251,7 +301,7 @@ fn migrate_and_say(
     new: &str,
     output: &mut impl Write,
     errors: &mut impl Write,
-) -> u8
+) -> ExitStatus
     ensures { IsOfMigration result }
 {
     let outcome = migrate_file(rt, old, new, admin);
@@ -264,7 +314,7 @@ fn run<I: Inlet, O: Outlet + Write, E: Write>(
     inlet: &mut I,
     outlet: &mut O,
     errors: &mut E,
-) -> u8
+) -> ExitStatus
     ensures { IsFollowed line.task (I.remaining inlet.old) (I.remaining inlet.new)
         (O.written outlet.old) (O.written outlet.new) result }
 {
@@ -278,36 +328,41 @@ fn run<I: Inlet, O: Outlet + Write, E: Write>(
 }
 
 /// Prints why the command line is refused, or the help that it asks for, and returns the status.
-fn unfollowed(output: &mut impl Write, errors: &mut impl Write, error: &LineError) -> u8
-    ensures { result ≡ statuses.unfollowed error.now }
+fn report_line_error(
+    output: &mut impl Write,
+    errors: &mut impl Write,
+    error: &LineError,
+) -> ExitStatus
+    ensures { result ≡ statuses.status_of_line error.now }
 {
     match error {
         LineError::Text { text, is_error } => {
             if *is_error {
                 say(errors, text.as_bytes());
-                2
+                ExitStatus::WrongLine
             } else {
                 say(output, text.as_bytes());
-                0
+                ExitStatus::Done
             }
         }
         LineError::NotAPerson => {
             say(errors, b"admin: not a person name\n");
-            2
+            ExitStatus::WrongLine
         }
         LineError::NoDb => {
             say(errors, b"migrate: no db\n");
-            2
+            ExitStatus::WrongLine
         }
-        LineError::Memory => 7,
+        LineError::Memory => ExitStatus::NoMemory,
     }
 }
 
 /// Does what the words ask for, the program's own name first, and answers the exit status: 0 where the input ended
 /// and every request was answered, where all connections of the port were served, where the older file was migrated,
 /// or for help; 2 where the command line is wrong; 3 where the file keeps no books of this administrator or can't be
-/// opened, or can't be migrated; 4, 5, 6 or 7 where the session over the streams ended by broken input, a failed read,
-/// a failed write, or for lack of memory; 8 where listening on the port or accepting a connection failed.
+/// opened, or can't be migrated, or memory ran out as books were opened; 4, 5, 6 or 7 where the session over the
+/// streams ended by broken input, a failed read, a failed write, or for lack of memory, and 7 where memory ran out as
+/// the command line was read; 8 where listening on the port or accepting a connection failed.
 pub fn command<S: AsStr, I: Read + Drop, O: Write + Drop, E: Write + Drop>(
     rt: &HostRuntime,
     words: &[S],
@@ -319,8 +374,9 @@ pub fn command<S: AsStr, I: Read + Drop, O: Write + Drop, E: Write + Drop>(
 {
     let mut inlet = FromRead::new(input);
     let mut outlet = ToWrite::new(output);
-    match line_of(rt.alloc(), words) {
+    let status = match line_of(rt.alloc(), words) {
         Ok(line) => run(rt, line, &mut inlet, &mut outlet, &mut errors),
-        Err(error) => unfollowed(&mut outlet, &mut errors, &error),
-    }
+        Err(error) => report_line_error(&mut outlet, &mut errors, &error),
+    };
+    status.code()
 }

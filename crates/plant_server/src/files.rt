@@ -80,11 +80,23 @@ fn open_file<S: Start>(
     }
 }
 
-/// How many bytes there are of this name, where there is something, be it a link to nothing.
-pub fn length_of(rt: &HostRuntime, path: &str) -> Result<Option<u64>, StoreFault> {
+/// Whether something has this name, be it a link to nothing.
+fn is_named(rt: &HostRuntime, path: &str) -> Result<bool, StoreFault> {
     match fs::symlink_metadata(rt, path) {
+        Ok(_) => Ok(true),
+        Err(error) if error.kind() == ErrorKind::NotFound => Ok(false),
+        Err(_) => Err(STORE),
+    }
+}
+
+/// The length in bytes of the file of this name or that it is a link to, or none if nothing has the name. A link to
+/// nothing counts as an empty file.
+pub fn length_of(rt: &HostRuntime, path: &str) -> Result<Option<u64>, StoreFault> {
+    match fs::metadata(rt, path) {
         Ok(found) => Ok(Some(found.len())),
-        Err(error) if error.kind() == ErrorKind::NotFound => Ok(None),
+        Err(error) if error.kind() == ErrorKind::NotFound => {
+            Ok(if is_named(rt, path)? { Some(0) } else { None })
+        }
         Err(_) => Err(STORE),
     }
 }
@@ -138,7 +150,8 @@ pub fn new_names(rt: &HostRuntime, path: &str) -> Result<NewNames, StoreFault> {
     })
 }
 
-/// Gives a new file, which is whole and closed, the name that it is for. A file of that name is not replaced.
+/// Gives a new file, which is whole and closed, the name that it is for. A file of that name is not replaced, unless it
+/// is made between the look at the name and the renaming.
 pub fn put_in_place(rt: &HostRuntime, new: &NewNames, path: &str) -> Result<(), StoreFault> {
     remove(rt, &new.log)?;
     if length_of(rt, path)?.is_some() {

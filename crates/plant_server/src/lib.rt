@@ -7,7 +7,9 @@ mod commands;
 mod files;
 mod migrations;
 mod sockets;
+mod statuses;
 
 pub use commands::command;
 pub use plant_connections::{Listener, serve_connections};
 pub use sockets::Port;
+pub use statuses::ExitStatus;

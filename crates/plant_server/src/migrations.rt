@@ -1,7 +1,13 @@
 //! The migration of a file of the older schema: its tables are copied to a new file.
 
-ghost use Rattle.std.specs.Prelude.{false};
+ghost use Rattle.std.specs.Prelude.{◌≡◌, IfOk, false};
+ghost use Rattle.sqlite.specs.Files.{file_state};
+ghost use Rattle.sqlite.specs.Held.{state};
+ghost use Rattle.plant_books.specs.Contents.{Content};
+ghost use Rattle.plant_store.specs.Changes.{IsHonest};
+ghost use Rattle.plant_store.specs.Keeping.{Represents};
 ghost use Rattle.plant_store.specs.Reading.{HasNoTransaction};
+ghost use Rattle.plant_store.specs.Upgrading.{HaveOldRows};
 
 use crate::files::{
     NewNames, STORE, beside, connect, fault_of, is_there, length_of, new_names, put_in_place,
@@ -49,7 +55,8 @@ fn discard(rt: &HostRuntime, new: &NewNames) {
     let _ = remove(rt, &new.log);
 }
 
-/// Copies the tables of the older database to the new one, and hands the older one back.
+/// Copies the tables of the older database to the new one, and hands the older one back. What the older tables had, the new
+/// books hold.
 fn copy_tables<N: Alter + Drop>(
     alloc: Global,
     old: Connection<FileStore<File>>,
@@ -58,6 +65,9 @@ fn copy_tables<N: Alter + Drop>(
 ) -> (Connection<FileStore<File>>, Result<Tables<N>, StoreFault>)
     requires older { HasNoTransaction old }
     requires newer { HasNoTransaction new }
+    ensures { (m : Content) → m.admin ≡ admin
+        → IfOk result.1 (λ books. IsHonest (file_state result.0)
+        → HaveOldRows m (file_state old).now → Represents (state N.Store books.0.0) m) }
 {
     match migrate(alloc, old, new, admin) {
         Ok((old, books)) => (old, Ok(books)),
@@ -65,7 +75,7 @@ fn copy_tables<N: Alter + Drop>(
     }
 }
 
-/// Makes the new file under this name, and hands the older database back.
+/// Makes the new file under this name, and hands the older database back. What the older tables had, the new books hold.
 fn copy_to_file(
     rt: &HostRuntime,
     old: Connection<FileStore<File>>,
@@ -76,6 +86,9 @@ fn copy_to_file(
     Result<Tables<FileStore<File>>, StoreFault>,
 )
     requires { HasNoTransaction old }
+    ensures { (m : Content) → m.admin ≡ admin
+        → IfOk result.1 (λ books. IsHonest (file_state result.0)
+        → HaveOldRows m (file_state old).now → Represents (file_state books.0.0) m) }
 {
     match connect(rt, path, Unknown) {
         Ok(conn) => copy_tables(rt.alloc(), old, conn, admin),
@@ -83,8 +96,8 @@ fn copy_to_file(
     }
 }
 
-/// Makes the new file under the name beside it, and hands the older database back. Where it can't be made, nothing of it
-/// is left.
+/// Makes the new file under the name beside it, and hands the older database back. What the older tables had, the new books
+/// hold. Where it can't be made, nothing of it is left.
 fn make_new(
     rt: &HostRuntime,
     old: Connection<FileStore<File>>,
@@ -96,6 +109,9 @@ fn make_new(
     Result<Tables<FileStore<File>>, StoreFault>,
 )
     requires { HasNoTransaction old }
+    ensures { (m : Content) → m.admin ≡ admin
+        → IfOk result.1 (λ books. IsHonest (file_state result.0)
+        → HaveOldRows m (file_state old).now → Represents (file_state books.0.0) m) }
 {
     if let Err(fault) = clear(rt, old_path, new) {
         return (old, Err(fault));
@@ -154,7 +170,7 @@ fn sync_folder(rt: &HostRuntime, path: &str) -> Result<(), StoreFault> {
 }
 
 /// Copies the tables of the older file to a new one, whose name must be free. The new one is there once it is whole,
-/// or not at all.
+/// or not at all; where its folder can't be synced, it is there and the store's fault is given.
 pub fn migrate_file(
     rt: &HostRuntime,
     old_path: &str,

@@ -6,6 +6,9 @@ use std::io;
 use std::net::{Ipv4Addr, SocketAddr, TcpListener, TcpStream};
 use std::time::Duration;
 
+/// How many connections in a row may fail before they can be served, until the port counts as failed.
+const ATTEMPTS: u32 = 100;
+
 /// A port of 127.0.0.1 that listens. Its connections send at once, and a read or a write fails after `idle`, if given.
 #[derive(Drop)]
 pub struct Port {
@@ -36,13 +39,24 @@ impl Port {
     }
 
     /// The next connection, as its two directions.
-    fn next_streams(&self) -> io::Result<(TcpStream, TcpStream)> {
+    fn accept_one(&self) -> io::Result<(TcpStream, TcpStream)> {
         let (stream, _) = self.listener.accept()?;
         stream.set_nodelay(true)?;
         stream.set_read_timeout(self.idle)?;
         stream.set_write_timeout(self.idle)?;
         let other = stream.try_clone()?;
         Ok((stream, other))
+    }
+
+    /// The next connection that can be served. Those that fail before are passed over, as where a client has gone
+    /// already; where a hundred in a row do, it fails.
+    fn next_streams(&self) -> io::Result<(TcpStream, TcpStream)> {
+        for _ in 1..ATTEMPTS {
+            if let Ok(streams) = self.accept_one() {
+                return Ok(streams);
+            }
+        }
+        self.accept_one()
     }
 }
 

@@ -1,6 +1,7 @@
 //! The office beside a plant's control rooms, as a program over its standard streams.
 #![tactic(auto)]
 
+use plant_server::ExitStatus;
 use std::env;
 use std::process::ExitCode;
 
@@ -13,7 +14,7 @@ fn words(rt: &HostRuntime) -> Option<Vec<String>> {
 
 fn main(rt: HostRuntime) -> ExitCode {
     let Some(words) = words(&rt) else {
-        return ExitCode::from(7);
+        return ExitCode::from(ExitStatus::NoMemory.code());
     };
     ExitCode::from(plant_server::command(
         &rt,

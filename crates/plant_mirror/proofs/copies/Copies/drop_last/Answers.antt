@@ -29,12 +29,8 @@ invariant_of-self-in_default c =
       within = c.args.self.now.within;
     }
 
-pub returns-in-Some : goal.returns-in-Some
-returns-in-Some c = record {
-  kept = λ there h. subst (λ (x : LruCache Name AtHand). AreCopies there x.entries) (sym c.pop_lru.ensures.entries) (true_taken (length c.args.self.now.units.entries - 1) there c.args.self.now.units.entries h);
-}
+pub returns-in-Some-clause-kept : goal.returns-in-Some-clause-kept
+returns-in-Some-clause-kept c = λ there h. subst (λ (x : LruCache Name AtHand). AreCopies there x.entries) (sym c.pop_lru.ensures.entries) (true_taken (length c.args.self.now.units.entries - 1) there c.args.self.now.units.entries h)
 
-pub returns-in_default : goal.returns-in_default
-returns-in_default c = record {
-  kept = λ there h. subst (λ (x : LruCache Name AtHand). AreCopies there x.entries) (sym c.pop_lru.ensures.entries) (true_taken (length c.args.self.now.units.entries - 1) there c.args.self.now.units.entries h);
-}
+pub returns-in_default-clause-kept : goal.returns-in_default-clause-kept
+returns-in_default-clause-kept c = λ there h. subst (λ (x : LruCache Name AtHand). AreCopies there x.entries) (sym c.pop_lru.ensures.entries) (true_taken (length c.args.self.now.units.entries - 1) there c.args.self.now.units.entries h)

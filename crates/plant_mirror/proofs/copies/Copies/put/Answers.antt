@@ -15,7 +15,5 @@ invariant_of-self c =
       within = c.requires.room;
     }
 
-pub returns-in-Ok : goal.returns-in-Ok
-returns-in-Ok c = record {
-  kept = λ there is h. subst (λ (x : LruCache Name AtHand). AreCopies there x.entries) (sym c.in-Ok.ensures.entries) (true_put there c.args.self.now.units c.args.unit c.args.copy h is);
-}
+pub returns-in-Ok-clause-kept : goal.returns-in-Ok-clause-kept
+returns-in-Ok-clause-kept c = λ there is h. subst (λ (x : LruCache Name AtHand). AreCopies there x.entries) (sym c.in-Ok.ensures.entries) (true_put there c.args.self.now.units c.args.unit c.args.copy h is)

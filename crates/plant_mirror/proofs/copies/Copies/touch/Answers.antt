@@ -15,7 +15,5 @@ invariant_of-self c =
       within = c.args.self.now.within;
     }
 
-pub returns : goal.returns
-returns c = record {
-  kept = λ there h. subst (λ (x : LruCache Name AtHand). AreCopies there x.entries) (sym c.promote.ensures.entries) (true_promoted c.args.unit.now there c.args.self.now.units.entries h);
-}
+pub returns-clause-kept : goal.returns-clause-kept
+returns-clause-kept c = λ there h. subst (λ (x : LruCache Name AtHand). AreCopies there x.entries) (sym c.promote.ensures.entries) (true_promoted c.args.unit.now there c.args.self.now.units.entries h)
