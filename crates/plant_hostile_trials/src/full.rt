@@ -108,7 +108,8 @@ fn put(rt: &(impl Abort + AllocGlobal), books: &mut impl Books, changes: &List<R
 /// The base office with 500 pairs, 2,000 alarms and 20,000 changes.
 fn crowded<B: Books + Drop>(rt: &(impl Abort + AllocGlobal), books: B) -> B {
     let base = Exchanges::of(rt.alloc(), &[BASE]).expect(rt, "exchanges");
-    let (_, _, mut books) = replays_on(rt.alloc(), books, base.requests.as_bytes(), b"");
+    let (requests, answers) = (base.requests.as_bytes(), base.answers.as_bytes());
+    let mut books = after(rt.alloc(), books, requests, answers).expect(rt, "the base office");
     put(rt, &mut books, &more_rows(rt));
     books
 }

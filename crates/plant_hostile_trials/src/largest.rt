@@ -175,7 +175,8 @@ fn is_registered<B: Books + Drop>(
     answers: &str,
 ) {
     let base = Exchanges::of(rt.alloc(), &[BASE]).expect(rt, "exchanges");
-    let (_, _, books) = replays_on(rt.alloc(), books, base.requests.as_bytes(), b"");
+    let (first, wanted) = (base.requests.as_bytes(), base.answers.as_bytes());
+    let books = after(rt.alloc(), books, first, wanted).expect(rt, "the base office");
     let (found, end, books) = replays_on(rt.alloc(), books, requests.as_bytes(), b"");
     assert_eq!(rt; text(&found), answers);
     assert_eq!(rt; end, End::Closed);

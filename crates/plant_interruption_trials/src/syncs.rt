@@ -197,9 +197,7 @@ fn faults(rt: &(impl Abort + AllocGlobal), wanted: &Exchanges, calls: &[Call]) -
     let mut faults = 0u32;
     for syncs in 9..1000u64 {
         let (log, db) = (failing(rt, syncs), failing(rt, u64::MAX));
-        let Some(count) = answered_on(rt, log, db, wanted, calls) else {
-            continue;
-        };
+        let count = answered_on(rt, log, db, wanted, calls).expect(rt, "books after nine syncs");
         if count == calls.len() {
             return faults;
         }
