@@ -17,7 +17,7 @@ use plant_report::{cell_name, write_moment};
 use plant_types::{Fault, Moment, Person, Seconds};
 use std::alloc::Global;
 
-/// The body of a reply to RecordOf.
+/// The body of a reply with a rationalisation record.
 #[tactic(auto, unfolding(crate::specs::Changes::record_body))]
 pub fn record_body(alloc: Global, row: &RecordRow) -> Result<Vec<u8>, Fault>
     ensures value { IfOk result (λ out. out.items ≡ spec.record_body row.now) }

@@ -5,7 +5,7 @@ use Rattle.plant_model.specs.Events.{flood_lines, is_aligned, rows_of_file}
 use Rattle.plant_model.specs.Facts.{Facts, is_out, limit_of, shelf_now}
 use Rattle.plant_model.specs.Grants.{is_before}
 use Rattle.plant_model.specs.Refusals.{file_refusals, kind_refusals, kind_unknown, of_change, over_quota, unknown}
-use Rattle.plant_model.specs.Replies.{alarm_lines, change_reply, import_reply, record_reply, shelf_lines, standing_lines, status_reply}
+use Rattle.plant_model.specs.Replies.{alarm_lines, change_reply, import_reply, shelf_lines, standing_lines, status_reply}
 use Rattle.plant_model.specs.RowChanges.{approval_changes, approved_row, decision_change, for_change, import_changes, kind_changes, matrix_changes, placed_in, taken_out, with_alarm}
 use Rattle.plant_model.specs.Rows.{alarm_as, change_entry, grant_as}
 use Rattle.plant_model.specs.Shelves.{shelf_row_as}
@@ -13,10 +13,11 @@ use Rattle.plant_model.specs.declared.call.Call.{Call}
 use Rattle.plant_model.specs.declared.call.Request.{Request}
 use Rattle.plant_model.specs.declared.call.Request.TheVariants.{Alarms, Approve, ChangeOf, Floods, Grant, Import, MyShelves, MyUnits, OneShotShelve, OpenUnit, PlaceInService, Propose, RecordOf, Register, Reject, RemoveFromService, Shelves, Standing, Status, TimedShelve, Unshelve, Withdraw, WithdrawChange}
 use Rattle.plant_model.specs.declared.reply.Full.TheVariants.{Alarms as TooManyAlarms, Changes as TooManyChanges, Grants as TooManyGrants}
+use Rattle.plant_model.specs.declared.reply.RecordRow.{RecordRow}
 use Rattle.plant_model.specs.declared.reply.Refused.{Refused}
 use Rattle.plant_model.specs.declared.reply.Refused.TheVariants.{AlarmTaken, AlreadyHeld, AlreadyOutOfService, ChangeUnknown, ConditionAlreadyShelved, ConditionNotShelved, EndNotAhead, LastSteward, NotHeld, NotOutOfService, NotProposer, RangeNotAligned, RecordUnknown, SamePerson, ShelvingTimeOutOfRange, UnitFull}
 use Rattle.plant_model.specs.declared.reply.Reply.{Reply}
-use Rattle.plant_model.specs.declared.reply.Reply.TheVariants.{Alarms as AlarmsOf, Done, Floods as FloodsOf, Number, Shelves as ShelvesOf, Standing as StandingOf}
+use Rattle.plant_model.specs.declared.reply.Reply.TheVariants.{Alarms as AlarmsOf, Done, Floods as FloodsOf, Number, RecordOf as RecordReply, Shelves as ShelvesOf, Standing as StandingOf}
 use Rattle.plant_model.specs.declared.rows.Key.TheVariants.{Grant as GrantKey, Shelf as ShelfKey}
 use Rattle.plant_model.specs.declared.rows.Row.TheVariants.{Alarm as AlarmPut, Change as ChangePut, Grant as GrantPut, Shelf as ShelfPut, Unit as UnitPut}
 use Rattle.plant_model.specs.declared.rows.RowEdit.{RowEdit}
@@ -27,7 +28,7 @@ use Rattle.plant_types.specs.Limits.{max_alarms, max_changes, max_grants}
 use Rattle.plant_types.specs.Names.{Name, same_name}
 use Rattle.plant_types.specs.Roles.{same_role}
 use Rattle.plant_types.specs.declared.role.Role.TheVariants.{Steward}
-use Rattle.std.specs.Prelude.{Bool, List, None, [], false, is_none, is_some, max, nat_le, nat_lt, not, true, ℕ, ◌&&◌, ◌++◌, ◌+◌, ◌∷◌}
+use Rattle.std.specs.Prelude.{Bool, List, None, Option, Some, [], false, is_none, is_some, max, nat_le, nat_lt, not, true, ℕ, ◌&&◌, ◌++◌, ◌+◌, ◌∷◌}
 
 -- the refusals of a request of this person at this moment, beside those of a caller without the role and of a moment
 -- before the last one
@@ -55,6 +56,10 @@ own_refusals f p t (Alarms u) = []
 own_refusals f p t (Standing u) = []
 own_refusals f p t MyUnits = []
 own_refusals f p t MyShelves = []
+
+abbrev pub record_reply : Option RecordRow → Reply
+record_reply None = Done
+record_reply (Some r) = RecordReply r
 
 -- the reply to it, where it is accepted
 abbrev pub reply : Facts → ℕ → Request → Reply
@@ -108,6 +113,7 @@ own_changes f p t (Floods u begin until) = []
 own_changes f p t MyUnits = []
 own_changes f p t MyShelves = []
 
+-- the unit's row with this last moment
 abbrev pub at_moment : Facts → ℕ → UnitRow
 at_moment f t = record f.unit { last_s = t }
 

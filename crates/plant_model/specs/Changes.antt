@@ -1,9 +1,8 @@
 -- Management of change (ISA-18.2, IEC 62682): proposals, their decisions, and what is in force.
-use Rattle.plant_model.specs.Histories.{counted}
-use Rattle.plant_model.specs.Histories.{latest, same_number}
+use Rattle.plant_model.specs.Histories.{counted, latest, same_number}
+use Rattle.plant_model.specs.Kinds.{Opening, says}
 use Rattle.plant_model.specs.declared.call.Call.{Call}
 use Rattle.plant_model.specs.declared.call.Request.{Request}
-use Rattle.plant_model.specs.declared.call.Request.TheVariants.{Approve, OpenUnit, Propose, Reject, WithdrawChange}
 use Rattle.plant_model.specs.declared.reply.ChangeRow.{ChangeRow}
 use Rattle.plant_model.specs.declared.reply.RecordRow.{RecordRow}
 use Rattle.plant_ration.specs.Grid.{Grid}
@@ -14,10 +13,11 @@ use Rattle.plant_ration.specs.declared.change.ChangeKind.{ChangeKind}
 use Rattle.plant_ration.specs.declared.change.ChangeKind.TheVariants.{Limit, Matrix, Rationale}
 use Rattle.plant_ration.specs.declared.change.ChangeState.{ChangeState}
 use Rattle.plant_ration.specs.declared.change.ChangeState.TheVariants.{Approved, Proposed, Rejected, Withdrawn}
+use Rattle.plant_ration.specs.declared.change.Proposal.{Proposal}
 use Rattle.plant_ration.specs.declared.change.Sheet.{Sheet}
 use Rattle.plant_types.specs.Names.{Name, same_name}
 use Rattle.plant_types.specs.Options.{when}
-use Rattle.std.specs.Prelude.{Bool, List, None, Option, Some, [], false, is_some, max, option_map, true, unwrap_or, ℕ, ◌+◌}
+use Rattle.std.specs.Prelude.{Bool, List, None, Option, Some, [], is_some, max, option_and_then, option_map, unwrap_or, ℕ, ◌+◌}
 
 -- a change as it was proposed
 pub record Draft : Type 0 where
@@ -33,26 +33,29 @@ pub record Decision : Type 0 where
   pub decided : ℕ
 
 abbrev pub is_proposal : Request → Bool
-is_proposal (Propose u x) = true
-is_proposal _ = false
+is_proposal r = is_some (says r).proposal
 
 -- changes are numbered from 1 in the order of their proposals
 abbrev pub proposals : List Call → ℕ
 proposals h = counted (λ c before. is_proposal c.request) h
 
+abbrev pub draft_by : ℕ → Name → ℕ → List Call → Option Proposal → Option Draft
+draft_by n p t before None = None
+draft_by n p t before (Some x) = when (same_number n (proposals before + 1)) (record { proposer = p; proposed = t; kind = x.kind; base = x.base })
+
 abbrev pub said_of_draft : ℕ → Name → ℕ → List Call → Request → Option Draft
-said_of_draft n p t before (Propose u x) = when (same_number n (proposals before + 1)) (record { proposer = p; proposed = t; kind = x.kind; base = x.base })
-said_of_draft n p t before _ = None
+said_of_draft n p t before r = draft_by n p t before (says r).proposal
 
 abbrev pub draft : List Call → ℕ → Option Draft
 draft h n = latest (λ c before. said_of_draft n c.person c.moment before c.request) h
 
 -- a change is withdrawn, approved or rejected
+abbrev pub decision_by : ℕ → Name → ℕ → Option (ℕ × ChangeState) → Option Decision
+decision_by n p t None = None
+decision_by n p t (Some (m, state)) = when (same_number n m) (record { state = state; decider = p; decided = t })
+
 abbrev pub said_of_decision : ℕ → Name → ℕ → Request → Option Decision
-said_of_decision n p t (WithdrawChange u m) = when (same_number n m) (record { state = Withdrawn; decider = p; decided = t })
-said_of_decision n p t (Approve u m) = when (same_number n m) (record { state = Approved; decider = p; decided = t })
-said_of_decision n p t (Reject u m) = when (same_number n m) (record { state = Rejected; decider = p; decided = t })
-said_of_decision n p t _ = None
+said_of_decision n p t r = decision_by n p t (says r).decision
 
 abbrev pub decision : List Call → ℕ → Option Decision
 decision h n = latest (λ c before. said_of_decision n c.person c.moment c.request) h
@@ -84,23 +87,34 @@ abbrev pub limit_in : Name → Option ChangeKind → Option ℕ
 limit_in a (Some (Limit b max)) = when (same_name a b) max
 limit_in a _ = None
 
+-- the number of the change that is approved
+abbrev pub approved : Option (ℕ × ChangeState) → Option ℕ
+approved None = None
+approved (Some (n, Approved)) = Some n
+approved (Some (n, Proposed)) = None
+approved (Some (n, Rejected)) = None
+approved (Some (n, Withdrawn)) = None
+
+abbrev pub number_approved : Request → Option ℕ
+number_approved r = approved (says r).decision
+
 -- what an approval brings into force: a matrix or a record, with the change's number, or a limit
 abbrev pub approved_matrix : List Call → Request → Option (ℕ × Grid)
-approved_matrix before (Approve u n) = matrix_in n (kind_of_change before n)
-approved_matrix before _ = None
+approved_matrix before r = option_and_then (λ n. matrix_in n (kind_of_change before n)) (number_approved r)
 
 abbrev pub approved_sheet : Name → List Call → Request → Option (ℕ × Sheet)
-approved_sheet a before (Approve u n) = sheet_in a n (kind_of_change before n)
-approved_sheet a before _ = None
+approved_sheet a before r = option_and_then (λ n. sheet_in a n (kind_of_change before n)) (number_approved r)
 
 abbrev pub approved_limit : Name → List Call → Request → Option ℕ
-approved_limit a before (Approve u n) = limit_in a (kind_of_change before n)
-approved_limit a before _ = None
+approved_limit a before r = option_and_then (λ n. limit_in a (kind_of_change before n)) (number_approved r)
 
 -- the matrix in force, with the number of its change; that of the opening has number 0
+abbrev pub matrix_by : Option Opening → Option (ℕ × Grid) → Option (ℕ × Grid)
+matrix_by (Some o) approved = Some (0, o.matrix)
+matrix_by None approved = approved
+
 abbrev pub said_of_matrix : List Call → Request → Option (ℕ × Grid)
-said_of_matrix before (OpenUnit u s m q) = Some (0, m)
-said_of_matrix before r = approved_matrix before r
+said_of_matrix before r = matrix_by (says r).opening (approved_matrix before r)
 
 abbrev pub no_matrix : ℕ × Grid
 no_matrix = (0, record { limits = []; cells = [] })

@@ -6,25 +6,25 @@ use Rattle.plant_floods.specs.Floods.{floods}
 use Rattle.plant_floods.specs.declared.run.Run.{Run}
 use Rattle.plant_import.specs.declared.bad_file.BadFile.{BadFile}
 use Rattle.plant_model.specs.Histories.{all_named, latest}
+use Rattle.plant_model.specs.Kinds.{says}
+pub use Rattle.plant_model.specs.Kinds.{rows_of_file}
 use Rattle.plant_model.specs.declared.call.Call.{Call}
 use Rattle.plant_model.specs.declared.call.Request.{Request}
-use Rattle.plant_model.specs.declared.call.Request.TheVariants.{Import}
 use Rattle.plant_model.specs.declared.reply.FloodLine.{FloodLine}
 use Rattle.plant_types.specs.Limits.{max_flood_seconds}
 use Rattle.plant_types.specs.Names.{Name}
 use Rattle.plant_types.specs.KeyedRows.{in_order}
 use Rattle.std.specs.List.{find}
 use Rattle.std.specs.Ordering.{nat_cmp}
-use Rattle.std.specs.Prelude.{Bool, Err, List, Ok, Option, Result, [], filter_map, map, nat_le, nat_lt, ℕ, ◌%◌, ◌&&◌, ◌*◌, ◌+◌, ◌-◌, ◌==◌}
+use Rattle.std.specs.Prelude.{Bool, List, None, Option, Result, Some, [], filter_map, map, nat_le, nat_lt, ℕ, ◌%◌, ◌&&◌, ◌*◌, ◌+◌, ◌-◌, ◌==◌}
 
--- the rows of a file that was read without fault
-abbrev pub rows_of_file : Result (List Event) BadFile → List Event
-rows_of_file (Ok rows) = rows
-rows_of_file (Err fault) = []
+-- the rows that an entry brings
+abbrev pub rows_in : Option (Result (List Event) BadFile) → List Event
+rows_in None = []
+rows_in (Some file) = rows_of_file file
 
 abbrev pub imported : Request → List Event
-imported (Import u file) = rows_of_file file
-imported _ = []
+imported r = rows_in (says r).file
 
 -- the event of a number, where some import has it
 abbrev pub event_numbered : List Call → ℕ → Option Event

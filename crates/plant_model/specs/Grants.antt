@@ -3,20 +3,20 @@ use Rattle.std.specs.List.{list_any}
 use Rattle.std.specs.Prelude.{Bool, List, None, Option, Some, false, filter, is_some, nat_lt, option_map, true, unwrap_or, ℕ}
 use Rattle.plant_model.specs.declared.call.Call.{Call}
 use Rattle.plant_model.specs.declared.call.Request.{Request}
-use Rattle.plant_model.specs.declared.call.Request.TheVariants.{Grant, OpenUnit, Withdraw}
 use Rattle.plant_types.specs.declared.role.Role.{Role}
-use Rattle.plant_types.specs.declared.role.Role.TheVariants.{Steward}
-use Rattle.plant_model.specs.Histories.{Begins, Over, Said, latest, still}
+use Rattle.plant_model.specs.Histories.{Said, latest, still}
+use Rattle.plant_model.specs.Kinds.{says}
 use Rattle.plant_types.specs.Names.{Name}
 use Rattle.plant_types.specs.Options.{when}
 use Rattle.plant_types.specs.Roles.{Pair, all_roles, same_pair}
 
 -- what a request says of a pair: that it stands until an end (None: for good), or that it is over. An opening grants Steward
+abbrev pub pair_by : Pair → Option (Pair × Said (Option ℕ)) → Option (Said (Option ℕ))
+pair_by k None = None
+pair_by k (Some (l, said)) = when (same_pair k l) said
+
 abbrev pub said_of_pair : Pair → Request → Option (Said (Option ℕ))
-said_of_pair k (OpenUnit u steward m q) = when (same_pair k (steward, Steward)) (Begins None)
-said_of_pair k (Grant u p t) = when (same_pair k (p, t.0)) (Begins t.1)
-said_of_pair k (Withdraw u p r) = when (same_pair k (p, r)) Over
-said_of_pair k _ = None
+said_of_pair k r = pair_by k (says r).pair
 
 -- until when the pair stands, where the last that was said of it is that it stands
 abbrev pub standing : List Call → Pair → Option (Option ℕ)

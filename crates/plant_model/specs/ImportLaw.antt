@@ -2,10 +2,12 @@
 use Rattle.plant_alarm.specs.declared.event.Event.{Event}
 use Rattle.plant_import.specs.Files.{SameMembers, is_fit}
 use Rattle.plant_import.specs.Merging.{fresh}
+use Rattle.plant_import.specs.declared.bad_file.BadFile.{BadFile}
 use Rattle.plant_model.specs.Alarms.{latching}
 use Rattle.plant_model.specs.Events.{events, imported}
 use Rattle.plant_model.specs.Grants.{held}
 use Rattle.plant_model.specs.Histories.{last_moment}
+use Rattle.plant_model.specs.Kinds.{OneUnit, OwnShelves, OwnUnits, Subject, says, subject_of}
 use Rattle.plant_model.specs.Legality.{IsLegal}
 use Rattle.plant_model.specs.Rows.{rows_of}
 use Rattle.plant_model.specs.Verdicts.{changes_history, verdict}
@@ -14,23 +16,28 @@ use Rattle.plant_model.specs.declared.reply.Refused.{Refused}
 use Rattle.plant_model.specs.declared.reply.Reply.{Reply}
 use Rattle.plant_model.specs.declared.reply.Reply.TheVariants.{Imported}
 use Rattle.plant_model.specs.declared.call.Request.{Request}
-use Rattle.plant_model.specs.declared.call.Request.TheVariants.{Import}
 use Rattle.plant_model.specs.declared.rows.UnitRow.{UnitRow}
 use Rattle.plant_model.specs.declared.rows.UnitRows.{UnitRows}
 use Rattle.plant_types.specs.Limits.{max_events}
 use Rattle.plant_types.specs.Names.{Name}
 use Rattle.plant_types.specs.declared.role.Role.TheVariants.{Operator}
 use Rattle.std.specs.List.{flat_map, list_all}
-use Rattle.std.specs.Prelude.{List, Ok, Result, [], is_some, length, map, nat_le, true, ℕ, ◌++◌, ◌+◌, ◌∷◌, ◌≡◌, ◌≤◌}
+use Rattle.std.specs.Prelude.{Err, List, None, Ok, Option, Result, Some, [], is_some, length, map, nat_le, true, ℕ, ◌++◌, ◌+◌, ◌∷◌, ◌≡◌, ◌≤◌}
 
 -- the rows that calls import, the calls' oldest first
 abbrev pub rows_imported : List Call → List Event
 rows_imported calls = flat_map (λ c. imported c.request) calls
 
 -- a request that imports a file that was read without fault
+abbrev pub IsFileFor : Name → Option (Result (List Event) BadFile) → Subject → Type 0
+IsFileFor u None about = ⊥
+IsFileFor u (Some (Err fault)) about = ⊥
+IsFileFor u (Some (Ok rows)) (OneUnit v) = v ≡ u
+IsFileFor u (Some (Ok rows)) OwnUnits = ⊥
+IsFileFor u (Some (Ok rows)) OwnShelves = ⊥
+
 abbrev pub IsImportOf : Name → Request → Type 0
-IsImportOf u (Import v (Ok rows)) = v ≡ u
-IsImportOf u _ = ⊥
+IsImportOf u r = IsFileFor u (says r).file (subject_of r)
 
 -- an import by a person who holds Operator at its moment, of rows of registered alarms; the moment lies before no event
 pub record IsImportInto (h : List Call) (u : Name) (es : List Event) (c : Call) : Type 0 where

@@ -1,6 +1,7 @@
 -- The kinds of calls, and what all calls of one kind have in common: one line a kind in each table.
 use Rattle.plant_alarm.specs.declared.event.Event.{Event}
-use Rattle.plant_model.specs.Events.{rows_of_file}
+use Rattle.plant_import.specs.declared.bad_file.BadFile.{BadFile}
+use Rattle.plant_model.specs.Histories.{Begins, Over, Said}
 use Rattle.plant_model.specs.declared.call.Request.{Request}
 use Rattle.plant_model.specs.declared.call.Request.TheVariants as request
 use Rattle.plant_model.specs.declared.kinds.CallKind.{CallKind}
@@ -9,12 +10,17 @@ use Rattle.plant_model.specs.declared.kinds.Counted.{Counted}
 use Rattle.plant_model.specs.declared.kinds.Counted.TheVariants as count
 use Rattle.plant_model.specs.declared.kinds.Effect.{Effect}
 use Rattle.plant_model.specs.declared.kinds.Effect.TheVariants.{Changes, Opens, Reads}
+use Rattle.plant_ration.specs.Grid.{Grid}
 use Rattle.plant_ration.specs.declared.change.ChangeKind.{ChangeKind}
 use Rattle.plant_ration.specs.declared.change.ChangeKind.TheVariants.{Limit, Matrix, Rationale}
+use Rattle.plant_ration.specs.declared.change.ChangeState.{ChangeState}
+use Rattle.plant_ration.specs.declared.change.ChangeState.TheVariants.{Approved, Rejected, Withdrawn}
+use Rattle.plant_ration.specs.declared.change.Proposal.{Proposal}
 use Rattle.plant_types.specs.Names.{Name}
+use Rattle.plant_types.specs.Roles.{Pair}
 use Rattle.plant_types.specs.declared.role.Role.{Role}
 use Rattle.plant_types.specs.declared.role.Role.TheVariants.{Approver, Engineer, Maintainer, Operator, Steward}
-use Rattle.std.specs.Prelude.{Bool, List, None, Option, Some, false, true, ℕ}
+use Rattle.std.specs.Prelude.{Bool, Err, List, None, Ok, Option, Result, Some, [], false, true, ℕ}
 
 abbrev pub kind_of : Request → CallKind
 kind_of (request.OpenUnit u s m q) = kind.OpenUnit
@@ -41,31 +47,45 @@ kind_of (request.Floods u begin until) = kind.Floods
 kind_of request.MyUnits = kind.MyUnits
 kind_of request.MyShelves = kind.MyShelves
 
+-- what a request is about: a unit, or all units in which its caller holds a role
+pub data Subject : Type 0 where
+  OneUnit : Name → Subject
+  OwnUnits : Subject
+  OwnShelves : Subject
+
+abbrev pub subject_of : Request → Subject
+subject_of (request.OpenUnit u s m q) = OneUnit u
+subject_of (request.Grant u p t) = OneUnit u
+subject_of (request.Withdraw u p r) = OneUnit u
+subject_of (request.Register u a latching max) = OneUnit u
+subject_of (request.Import u file) = OneUnit u
+subject_of (request.TimedShelve u a d words) = OneUnit u
+subject_of (request.OneShotShelve u a words) = OneUnit u
+subject_of (request.Unshelve u a) = OneUnit u
+subject_of (request.RemoveFromService u a words) = OneUnit u
+subject_of (request.PlaceInService u a) = OneUnit u
+subject_of (request.Propose u x) = OneUnit u
+subject_of (request.WithdrawChange u n) = OneUnit u
+subject_of (request.Approve u n) = OneUnit u
+subject_of (request.Reject u n) = OneUnit u
+subject_of (request.Status u a) = OneUnit u
+subject_of (request.RecordOf u a) = OneUnit u
+subject_of (request.ChangeOf u n) = OneUnit u
+subject_of (request.Shelves u) = OneUnit u
+subject_of (request.Alarms u) = OneUnit u
+subject_of (request.Standing u) = OneUnit u
+subject_of (request.Floods u begin until) = OneUnit u
+subject_of request.MyUnits = OwnUnits
+subject_of request.MyShelves = OwnShelves
+
 -- the unit that a request names
+abbrev pub unit_of : Subject → Option Name
+unit_of (OneUnit u) = Some u
+unit_of OwnUnits = None
+unit_of OwnShelves = None
+
 abbrev pub unit_named : Request → Option Name
-unit_named (request.OpenUnit u s m q) = Some u
-unit_named (request.Grant u p t) = Some u
-unit_named (request.Withdraw u p r) = Some u
-unit_named (request.Register u a latching max) = Some u
-unit_named (request.Import u file) = Some u
-unit_named (request.TimedShelve u a d words) = Some u
-unit_named (request.OneShotShelve u a words) = Some u
-unit_named (request.Unshelve u a) = Some u
-unit_named (request.RemoveFromService u a words) = Some u
-unit_named (request.PlaceInService u a) = Some u
-unit_named (request.Propose u x) = Some u
-unit_named (request.WithdrawChange u n) = Some u
-unit_named (request.Approve u n) = Some u
-unit_named (request.Reject u n) = Some u
-unit_named (request.Status u a) = Some u
-unit_named (request.RecordOf u a) = Some u
-unit_named (request.ChangeOf u n) = Some u
-unit_named (request.Shelves u) = Some u
-unit_named (request.Alarms u) = Some u
-unit_named (request.Standing u) = Some u
-unit_named (request.Floods u begin until) = Some u
-unit_named request.MyUnits = None
-unit_named request.MyShelves = None
+unit_named r = unit_of (subject_of r)
 
 -- what calls of a kind do to their unit's history
 abbrev pub effect_of : CallKind → Effect
@@ -163,6 +183,72 @@ is_read r = is_reads (effect_of (kind_of r))
 
 abbrev pub role_needed : Request → Option Role
 role_needed r = role_of (kind_of r)
+
+-- the rows of a file that was read without fault
+abbrev pub rows_of_file : Result (List Event) BadFile → List Event
+rows_of_file (Ok rows) = rows
+rows_of_file (Err fault) = []
+
+-- an opening of a unit: the unit, its first steward, its matrix and its quota
+pub record Opening : Type 0 where
+  pub unit : Name
+  pub steward : Name
+  pub matrix : Grid
+  pub quota : ℕ
+
+-- a registration of an alarm: whether it latches, and its limit
+pub record Registration : Type 0 where
+  pub tag : Name
+  pub latching : Bool
+  pub max : ℕ
+
+-- a shelf that begins, and why: timed, for so many seconds, or one-shot
+pub data NewShelf : Type 0 where
+  TimedShelf : ℕ → Name → NewShelf
+  OneShotShelf : Name → NewShelf
+
+-- what an entry says, and of what; most entries say one thing
+pub record Sayings : Type 0 where
+  pub opening : Option Opening
+  -- of a person's role: it is held from now on until an end (None: for good), or it is over
+  pub pair : Option (Pair × Said (Option ℕ))
+  pub registration : Option Registration
+  pub file : Option (Result (List Event) BadFile)
+  -- of an alarm's shelf
+  pub shelf : Option (Name × Said NewShelf)
+  -- of an alarm's removal from service, with its reason
+  pub outage : Option (Name × Said Name)
+  pub proposal : Option Proposal
+  -- of the change of a number
+  pub decision : Option (ℕ × ChangeState)
+
+abbrev pub silent : Sayings
+silent = record { opening = None; pair = None; registration = None; file = None; shelf = None; outage = None; proposal = None; decision = None }
+
+abbrev pub says : Request → Sayings
+says (request.OpenUnit u s m q) = record silent { opening = Some (record { unit = u; steward = s; matrix = m; quota = q }); pair = Some ((s, Steward), Begins None) }
+says (request.Grant u p t) = record silent { pair = Some ((p, t.0), Begins t.1) }
+says (request.Withdraw u p r) = record silent { pair = Some ((p, r), Over) }
+says (request.Register u a latching max) = record silent { registration = Some (record { tag = a; latching = latching; max = max }) }
+says (request.Import u file) = record silent { file = Some file }
+says (request.TimedShelve u a d words) = record silent { shelf = Some (a, Begins (TimedShelf d words)) }
+says (request.OneShotShelve u a words) = record silent { shelf = Some (a, Begins (OneShotShelf words)) }
+says (request.Unshelve u a) = record silent { shelf = Some (a, Over) }
+says (request.RemoveFromService u a words) = record silent { outage = Some (a, Begins words) }
+says (request.PlaceInService u a) = record silent { outage = Some (a, Over) }
+says (request.Propose u x) = record silent { proposal = Some x }
+says (request.WithdrawChange u n) = record silent { decision = Some (n, Withdrawn) }
+says (request.Approve u n) = record silent { decision = Some (n, Approved) }
+says (request.Reject u n) = record silent { decision = Some (n, Rejected) }
+says (request.Status u a) = silent
+says (request.RecordOf u a) = silent
+says (request.ChangeOf u n) = silent
+says (request.Shelves u) = silent
+says (request.Alarms u) = silent
+says (request.Standing u) = silent
+says (request.Floods u begin until) = silent
+says request.MyUnits = silent
+says request.MyShelves = silent
 
 -- what a call looks at, beside the unit's own row and the caller's grants
 pub data Scope : Type 0 where

@@ -2,14 +2,15 @@
 use Rattle.plant_types.specs.Limits.{max_quota}
 use Rattle.std.specs.FinMap.{keys}
 use Rattle.std.specs.List.{list_all}
-use Rattle.std.specs.Prelude.{Bool, List, Some, false, is_none, is_some, true, ℕ, ◌<◌, ◌≡◌}
+use Rattle.std.specs.Prelude.{Bool, List, None, Option, Some, false, is_none, is_some, true, ℕ, ◌<◌, ◌≡◌}
 use Rattle.plant_model.specs.declared.call.Call.{Call}
 use Rattle.plant_model.specs.declared.call.Request.{Request}
-use Rattle.plant_model.specs.declared.call.Request.TheVariants.{Grant}
 use Rattle.plant_alarm.specs.Shelves.{shelf_of}
 use Rattle.plant_model.specs.Events.{events_of}
 use Rattle.plant_model.specs.Facts.{facts, others_shelved, shelf_now}
 use Rattle.plant_model.specs.Grants.{held, holds_any, stands}
+use Rattle.plant_model.specs.Histories.{Begins, Over, Said}
+use Rattle.plant_model.specs.Kinds.{says}
 use Rattle.plant_model.specs.Legality.{IsLegal, has_matrix}
 use Rattle.plant_model.specs.Rows.{alarm_row}
 use Rattle.plant_model.specs.Shelves.{shelf, shelf_left}
@@ -61,9 +62,13 @@ abbrev pub NextWorldsAreLegal : Type 0
 NextWorldsAreLegal = (w : World) (c : Call) → IsLegalWorld w → has_matrix c.request ≡ true → IsLegalWorld (next w c)
 
 -- no grant of the request has an end
+abbrev pub is_for_good : Option (Pair × Said (Option ℕ)) → Bool
+is_for_good None = true
+is_for_good (Some (k, Begins until)) = is_none until
+is_for_good (Some (k, Over)) = true
+
 abbrev pub has_no_end : Request → Bool
-has_no_end (Grant u p t) = is_none t.1
-has_no_end _ = true
+has_no_end r = is_for_good (says r).pair
 
 -- without ends, standing is holding: at every moment
 abbrev pub WithoutEndsStandingIsHolding : Type 0

@@ -1,23 +1,27 @@
 -- Which lists of calls are histories.
-use Rattle.plant_model.specs.declared.call.Request.TheVariants.{Propose}
 use Rattle.plant_ration.specs.declared.change.ChangeKind.{ChangeKind}
-use Rattle.plant_ration.specs.declared.change.ChangeKind.TheVariants.{Matrix}
-use Rattle.std.specs.Prelude.{Bool, IsTrue, List, [], not, true, ◌&&◌, ◌∷◌}
+use Rattle.plant_ration.specs.declared.change.ChangeKind.TheVariants.{Limit, Matrix, Rationale}
+use Rattle.plant_ration.specs.declared.change.Proposal.{Proposal}
+use Rattle.std.specs.Prelude.{Bool, IsTrue, List, None, Option, Some, [], not, true, ◌&&◌, ◌∷◌}
 use Rattle.plant_model.specs.declared.call.Call.{Call}
 use Rattle.plant_model.specs.declared.call.Request.{Request}
-use Rattle.plant_model.specs.declared.call.Request.TheVariants.{OpenUnit}
+use Rattle.plant_model.specs.Kinds.{Opening, says}
 use Rattle.plant_model.specs.Verdicts.{changes_history, is_opening, verdict}
 use Rattle.plant_ration.specs.Matrix.{is_matrix}
 
 abbrev pub is_matrix_kind : ChangeKind → Bool
+is_matrix_kind (Rationale a s) = true
 is_matrix_kind (Matrix m) = is_matrix m.limits m.cells
-is_matrix_kind _ = true
+is_matrix_kind (Limit a max) = true
 
 -- the matrix of a request is one (its value alone does not show that)
+abbrev pub have_matrix : Option Opening → Option Proposal → Bool
+have_matrix (Some o) x = is_matrix o.matrix.limits o.matrix.cells
+have_matrix None None = true
+have_matrix None (Some x) = is_matrix_kind x.kind
+
 abbrev pub has_matrix : Request → Bool
-has_matrix (OpenUnit u s m q) = is_matrix m.limits m.cells
-has_matrix (Propose u x) = is_matrix_kind x.kind
-has_matrix _ = true
+has_matrix r = have_matrix (says r).opening (says r).proposal
 
 -- a call may follow these entries: it is not an opening, and the unit accepts it as a change
 abbrev pub may_follow : List Call → Call → Bool

@@ -1,6 +1,5 @@
 -- The priority matrices of a unit (ISA-18.2: rationalisation), by number, and the places of their bands and cells.
 use Rattle.plant_model.specs.Changes.{matrix_in, proposals}
-use Rattle.plant_model.specs.declared.call.Request.TheVariants.{Propose}
 use Rattle.std.specs.Prelude.{◌+◌}
 use Rattle.std.specs.List.{enumerate_from, range_with_len, slice_get}
 use Rattle.std.specs.Ordering.{nat_cmp, ordering_then}
@@ -8,19 +7,23 @@ use Rattle.std.specs.Prelude.{List, None, Option, Some, [], flat_map, length, ma
 use Rattle.std.specs.declared.cmp.Ordering.{Ordering}
 use Rattle.plant_model.specs.declared.call.Call.{Call}
 use Rattle.plant_model.specs.declared.call.Request.{Request}
-use Rattle.plant_model.specs.declared.call.Request.TheVariants.{OpenUnit}
 use Rattle.plant_model.specs.declared.rows.BandRow.{BandRow}
 use Rattle.plant_model.specs.declared.rows.CellRow.{CellRow}
 use Rattle.plant_ration.specs.declared.cell.Cell.{Cell}
+use Rattle.plant_ration.specs.declared.change.Proposal.{Proposal}
 use Rattle.plant_model.specs.Histories.{latest, same_number}
+use Rattle.plant_model.specs.Kinds.{Opening, says}
 use Rattle.plant_ration.specs.Grid.{Grid}
 use Rattle.plant_types.specs.Options.{when}
 
 -- the matrix that an entry brings, with its number: that of the opening has number 0, a proposed one that of its change
+abbrev pub numbered_by : List Call → Option Opening → Option Proposal → Option (ℕ × Grid)
+numbered_by before (Some o) x = Some (0, o.matrix)
+numbered_by before None None = None
+numbered_by before None (Some x) = matrix_in (proposals before + 1) (Some x.kind)
+
 abbrev pub numbered_matrix : List Call → Request → Option (ℕ × Grid)
-numbered_matrix before (OpenUnit u s m q) = Some (0, m)
-numbered_matrix before (Propose u x) = matrix_in (proposals before + 1) (Some x.kind)
-numbered_matrix before _ = None
+numbered_matrix before r = numbered_by before (says r).opening (says r).proposal
 
 abbrev pub when_number : {A : Type 0} → ℕ → Option (ℕ × A) → Option A
 when_number n None = None

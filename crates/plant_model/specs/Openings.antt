@@ -1,23 +1,28 @@
 -- Whose a history is: its unit's, opened by the administrator, with an opening and grants of valid values.
-use Rattle.std.specs.Prelude.{Bool, List, Some, [], is_none, not, true, ◌&&◌, ◌∷◌, ◌||◌, ◌≡◌}
+use Rattle.std.specs.Prelude.{Bool, List, None, Option, Some, [], is_none, not, true, ℕ, ◌&&◌, ◌∷◌, ◌||◌, ◌≡◌}
 use Rattle.std.specs.FinMap.{get}
 use Rattle.plant_ration.specs.Matrix.{is_matrix}
+use Rattle.plant_model.specs.Histories.{Begins, Over, Said}
+use Rattle.plant_model.specs.Kinds.{Opening, says}
 use Rattle.plant_model.specs.Verdicts.{is_opening}
 use Rattle.plant_model.specs.Worlds.{World, empty_world, next, unit_named}
 use Rattle.plant_model.specs.declared.call.Call.{Call}
 use Rattle.plant_model.specs.declared.call.Request.{Request}
-use Rattle.plant_model.specs.declared.call.Request.TheVariants.{Grant, OpenUnit}
 use Rattle.plant_types.specs.Names.{Name}
 use Rattle.plant_types.specs.Numbers.{is_quota}
-use Rattle.plant_types.specs.Roles.{same_role}
+use Rattle.plant_types.specs.Roles.{Pair, same_role}
 use Rattle.plant_types.specs.Text.{in_person, in_unit_code, is_text}
 use Rattle.plant_types.specs.declared.role.Role.TheVariants.{Steward}
 
 -- the values of an opening are of their sets, and a steward's grant has no end
+abbrev pub have_values : Option Opening → Option (Pair × Said (Option ℕ)) → Bool
+have_values (Some o) pair = is_text in_unit_code 8 o.unit && is_text in_person 32 o.steward && is_matrix o.matrix.limits o.matrix.cells && is_quota o.quota
+have_values None None = true
+have_values None (Some (k, Begins until)) = is_text in_person 32 k.0 && (not (same_role k.1 Steward) || is_none until)
+have_values None (Some (k, Over)) = true
+
 abbrev pub has_values : Request → Bool
-has_values (OpenUnit u s m q) = is_text in_unit_code 8 u && is_text in_person 32 s && is_matrix m.limits m.cells && is_quota q
-has_values (Grant u p t) = is_text in_person 32 p && (not (same_role t.0 Steward) || is_none t.1)
-has_values _ = true
+has_values r = have_values (says r).opening (says r).pair
 
 -- an entry of a unit's history
 pub record IsEntryOf (u : Name) (c : Call) : Type 0 where

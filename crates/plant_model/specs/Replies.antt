@@ -1,8 +1,7 @@
 -- What stands in the replies to accepted calls.
 use Rattle.plant_model.specs.Shelves.{shelf}
 use Rattle.plant_model.specs.declared.reply.ChangeRow.{ChangeRow}
-use Rattle.plant_model.specs.declared.reply.RecordRow.{RecordRow}
-use Rattle.plant_model.specs.declared.reply.Reply.TheVariants.{ChangeOf as ChangeReply, RecordOf as RecordReply}
+use Rattle.plant_model.specs.declared.reply.Reply.TheVariants.{ChangeOf as ChangeReply}
 use Rattle.plant_alarm.specs.Shelves.{is_unshelved, shelf_state}
 use Rattle.plant_alarm.specs.declared.event.Event.{Event}
 use Rattle.plant_alarm.specs.declared.shelf.ShelfState.{ShelfState}
@@ -73,10 +72,6 @@ standing_lines f t = filter_map (standing_line f t) f.alarms
 abbrev pub status_reply : Option AlarmRow → ShelfState → Reply
 status_reply None shelf = Done
 status_reply (Some r) shelf = StatusOf (status_of r shelf)
-
-abbrev pub record_reply : Option RecordRow → Reply
-record_reply None = Done
-record_reply (Some r) = RecordReply r
 
 abbrev pub change_reply : Option ChangeRow → Reply
 change_reply None = Done

@@ -1,6 +1,5 @@
 -- The rows of a unit, from its history: each table has the rows of the keys that the history names, in their order.
-use Rattle.plant_model.specs.Changes.{change, kind_of_change, limit_revision, matrix, matrix_revision, proposals, record_of}
-use Rattle.plant_model.specs.declared.call.Request.TheVariants.{Approve, Propose}
+use Rattle.plant_model.specs.Changes.{change, kind_of_change, limit_revision, matrix, matrix_revision, number_approved, proposals, record_of}
 use Rattle.plant_model.specs.declared.reply.ChangeRow.{ChangeRow}
 use Rattle.plant_model.specs.declared.reply.RecordRow.{RecordRow}
 use Rattle.plant_model.specs.declared.rows.ChangeEntry.{ChangeEntry}
@@ -10,6 +9,7 @@ use Rattle.plant_model.specs.declared.rows.RecordEntry.{RecordEntry}
 use Rattle.plant_ration.specs.declared.change.ChangeKind.{ChangeKind}
 use Rattle.plant_ration.specs.declared.change.ChangeKind.TheVariants.{Limit, Matrix, Rationale}
 use Rattle.plant_ration.specs.declared.change.Sheet.{Sheet}
+use Rattle.std.specs.Option.{option_to_list}
 use Rattle.std.specs.Ordering.{nat_cmp}
 use Rattle.std.specs.Prelude.{None, Some, map, ◌+◌}
 use Rattle.plant_alarm.specs.States.{active_since, is_suppressed, last_return, state_of}
@@ -18,12 +18,12 @@ use Rattle.plant_model.specs.Alarms.{latching, limit, quota}
 use Rattle.plant_model.specs.Events.{events, events_of}
 use Rattle.plant_model.specs.Grants.{standing}
 use Rattle.plant_model.specs.Histories.{all_named, last_moment}
+use Rattle.plant_model.specs.Kinds.{says}
 use Rattle.plant_model.specs.Matrices.{BandKey, CellKey, band_at, band_cmp, band_places, cell_cmp, cell_of, cell_places, matrix_numbered, numbered_matrix, places_in}
 use Rattle.plant_model.specs.Service.{Outage, outage}
 use Rattle.plant_model.specs.Shelves.{shelf}
 use Rattle.plant_model.specs.declared.call.Call.{Call}
 use Rattle.plant_model.specs.declared.call.Request.{Request}
-use Rattle.plant_model.specs.declared.call.Request.TheVariants.{Grant, OneShotShelve, OpenUnit, Register, TimedShelve, Unshelve, Withdraw}
 use Rattle.plant_model.specs.declared.rows.AlarmRow.{AlarmRow}
 use Rattle.plant_model.specs.declared.rows.BandRow.{BandRow}
 use Rattle.plant_model.specs.declared.rows.CellRow.{CellRow}
@@ -34,15 +34,11 @@ use Rattle.plant_model.specs.declared.rows.UnitRows.{UnitRows}
 use Rattle.plant_types.specs.Names.{Name, name_cmp}
 use Rattle.plant_types.specs.Roles.{Pair, pair_cmp}
 use Rattle.plant_types.specs.KeyedRows.{in_order}
-use Rattle.plant_types.specs.declared.role.Role.TheVariants.{Steward}
 use Rattle.std.specs.Prelude.{Bool, List, Option, [], filter_map, max, option_and_then, option_map, unwrap_or, ℕ, ◌∷◌}
 
 -- Grants: the pairs that stand, also those whose end has come
 abbrev pub pairs_named : Request → List Pair
-pairs_named (OpenUnit u p m q) = (p, Steward) ∷ []
-pairs_named (Grant u p t) = (p, t.0) ∷ []
-pairs_named (Withdraw u p r) = (p, r) ∷ []
-pairs_named _ = []
+pairs_named r = option_to_list (option_map (λ e. e.0) (says r).pair)
 
 abbrev pub grant_as : Pair → Option ℕ → GrantRow
 grant_as k until = record { person = k.0; role_no = k.1; end_s = until }
@@ -56,8 +52,7 @@ grant_rows h = filter_map (grant_row h) (in_order pair_cmp (all_named (λ c befo
 -- Alarms, one for each registration. State, suppression by design and the moments of the last activation and return follow
 -- from all kept events of the alarm
 abbrev pub tags_registered : Request → List Name
-tags_registered (Register u a l m) = a ∷ []
-tags_registered _ = []
+tags_registered r = option_to_list (option_map (λ x. x.tag) (says r).registration)
 
 abbrev pub alarm_as : Name → ℕ → ℕ → List Event → Option Outage → Bool → AlarmRow
 alarm_as a max revision es out latches =
@@ -91,10 +86,7 @@ alarm_rows h = filter_map (alarm_row h) (in_order name_cmp (all_named (λ c befo
 
 -- Shelves, those whose time has passed too
 abbrev pub tags_shelved : Request → List Name
-tags_shelved (TimedShelve u a d w) = a ∷ []
-tags_shelved (OneShotShelve u a w) = a ∷ []
-tags_shelved (Unshelve u a) = a ∷ []
-tags_shelved _ = []
+tags_shelved r = option_to_list (option_map (λ e. e.0) (says r).shelf)
 
 abbrev pub shelf_rows : List Call → List ShelfRow
 shelf_rows h = filter_map (shelf h) (in_order name_cmp (all_named (λ c before. tags_shelved c.request) h))
@@ -118,8 +110,7 @@ tag_rationalised (Some (Rationale a s)) = a ∷ []
 tag_rationalised _ = []
 
 abbrev pub tags_approved : List Call → Request → List Name
-tags_approved before (Approve u n) = tag_rationalised (kind_of_change before n)
-tags_approved before _ = []
+tags_approved before r = tag_rationalised (option_and_then (kind_of_change before) (number_approved r))
 
 abbrev pub record_entry : RecordRow → RecordEntry
 record_entry r = record { tag = r.tag; change_no = r.change; rev = r.revision; cell_no = r.priority }
@@ -170,8 +161,7 @@ change_entry c =
     }
 
 abbrev pub numbers_proposed : List Call → Request → List ℕ
-numbers_proposed before (Propose u x) = (proposals before + 1) ∷ []
-numbers_proposed before _ = []
+numbers_proposed before r = option_to_list (option_map (λ x. proposals before + 1) (says r).proposal)
 
 abbrev pub changes_of : List Call → List ChangeRow
 changes_of h = filter_map (change h) (in_order nat_cmp (all_named (λ c before. numbers_proposed before c.request) h))

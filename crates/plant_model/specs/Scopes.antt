@@ -2,7 +2,9 @@
 use Rattle.std.specs.Prelude.{Bool, None, Option, Some, false, option_copied, true, ℕ, ◌≡◌}
 use Rattle.plant_import.specs.Needed.{needed}
 use Rattle.plant_model.specs.Kinds as looked
-use Rattle.plant_model.specs.Kinds.{Scope as Looked, scope_of}
+use Rattle.plant_model.specs.Histories.{Begins, Over, Said}
+use Rattle.plant_model.specs.Kinds.{NewShelf, Scope as Looked, says, scope_of}
+pub use Rattle.plant_model.specs.Changes.{number_approved}
 use Rattle.plant_model.specs.Parts.{Selection, all_events, every, has_shelf, is_crowded, is_source, nothing, of_approved, of_content, of_number, of_records, of_shelving, of_tag, of_topic, selected}
 use Rattle.plant_model.specs.RowFacts.{change_found}
 use Rattle.plant_model.specs.declared.call.Request.{Request}
@@ -10,7 +12,7 @@ use Rattle.plant_model.specs.declared.kinds.Scope.{Scope}
 use Rattle.plant_model.specs.declared.kinds.Scope.TheVariants.{AllAlarms, AllEvents, AllGrants, AllRecords, AllShelves, Approval, Content, File, NothingElse, OneAlarm, OneChange, OneRecord, Shelving}
 use Rattle.plant_model.specs.declared.rows.ChangeEntry.{ChangeEntry}
 use Rattle.plant_model.specs.declared.rows.UnitRows.{UnitRows}
-use Rattle.plant_types.specs.Names.{same_name}
+use Rattle.plant_types.specs.Names.{Name, same_name}
 
 -- the rows that a scope takes in of a unit's
 abbrev pub selection_by : UnitRows → Scope → Selection
@@ -36,21 +38,14 @@ of_change c rows = of_topic rows c.tag c.kind_no
 abbrev pub Selects : Scope → (UnitRows → Selection) → Type 0
 Selects scope these = (rows : UnitRows) → selection_by rows scope ≡ these rows
 
-abbrev pub is_shelving_scope : Looked → Bool
-is_shelving_scope (looked.Shelving a) = true
-is_shelving_scope _ = false
+abbrev pub begins_shelf : Option (Name × Said NewShelf) → Bool
+begins_shelf None = false
+begins_shelf (Some (a, Begins x)) = true
+begins_shelf (Some (a, Over)) = false
 
 -- a request that shelves an alarm
 abbrev pub is_shelving : Request → Bool
-is_shelving q = is_shelving_scope (scope_of q)
-
-abbrev pub number_of_approval : Looked → Option ℕ
-number_of_approval (looked.Approval n) = Some n
-number_of_approval _ = None
-
--- the number of the change that a request approves
-abbrev pub number_approved : Request → Option ℕ
-number_approved q = number_of_approval (scope_of q)
+is_shelving q = begins_shelf (says q).shelf
 
 -- in a unit of these rows: whether it is crowded, for a shelving, and the change that is approved, for an approval
 pub record IsSeenIn (rows : UnitRows) (q : Request) (crowded : Bool) (approved : Option ChangeEntry) : Type 0 where
@@ -62,9 +57,19 @@ abbrev pub IsScopeOf : Request → Bool → Option ChangeEntry → Scope → Typ
 IsScopeOf q crowded approved scope = (rows : UnitRows) → IsSeenIn rows q crowded approved → selection_by rows scope ≡ selected rows q
 
 abbrev pub has_events : Looked → Bool
+has_events looked.NothingElse = false
+has_events looked.AllGrants = false
+has_events (looked.OneAlarm a) = false
+has_events (looked.Shelving a) = false
+has_events (looked.OneRecord a) = false
+has_events (looked.OneChange n) = false
+has_events (looked.Approval n) = false
+has_events (looked.Content a) = false
+has_events looked.AllRecords = false
 has_events (looked.File es) = true
+has_events looked.AllShelves = false
+has_events looked.AllAlarms = false
 has_events looked.AllEvents = true
-has_events _ = false
 
 -- a request that looks at events
 abbrev pub looks_at_events : Request → Bool

@@ -1,9 +1,9 @@
 -- Out of service (ISA-18.2, IEC 62682): the third kind of suppression, beside shelving and suppression by design.
-use Rattle.std.specs.Prelude.{List, None, Option, ℕ}
+use Rattle.std.specs.Prelude.{List, None, Option, Some, ℕ}
 use Rattle.plant_model.specs.declared.call.Call.{Call}
-use Rattle.plant_model.specs.declared.call.Request.TheVariants.{PlaceInService, RemoveFromService}
 use Rattle.plant_model.specs.declared.call.Request.{Request}
 use Rattle.plant_model.specs.Histories.{Begins, Over, Said, latest, still}
+use Rattle.plant_model.specs.Kinds.{says}
 use Rattle.plant_types.specs.Names.{Name, same_name}
 use Rattle.plant_types.specs.Options.{when}
 
@@ -14,11 +14,14 @@ pub record Outage : Type 0 where
   pub words : Name
 
 -- what an entry says of the alarm's removal from service: that one begins, or that it is over
-abbrev pub said_of_service : Name → Name → ℕ → Request → Option (Said Outage)
-said_of_service a p t (RemoveFromService u b words) = when (same_name a b) (Begins (record { from = t; person = p; words = words }))
-said_of_service a p t (PlaceInService u b) = when (same_name a b) Over
-said_of_service a p t _ = None
+abbrev pub outage_by : Name → Name → ℕ → Option (Name × Said Name) → Option (Said Outage)
+outage_by a p t None = None
+outage_by a p t (Some (b, Begins words)) = when (same_name a b) (Begins (record { from = t; person = p; words = words }))
+outage_by a p t (Some (b, Over)) = when (same_name a b) Over
 
--- the removal that stands: the last RemoveFromService or PlaceInService is a RemoveFromService
+abbrev pub said_of_service : Name → Name → ℕ → Request → Option (Said Outage)
+said_of_service a p t r = outage_by a p t (says r).outage
+
+-- the removal that stands: the last that was said of it is that it begins
 abbrev pub outage : List Call → Name → Option Outage
 outage h a = still (latest (λ c before. said_of_service a c.person c.moment c.request) h)

@@ -4,10 +4,10 @@ use Rattle.plant_alarm.specs.declared.shelf.Shelf.{Shelf}
 use Rattle.plant_alarm.specs.declared.shelf.Shelf.TheVariants.{Clear, OneShot, Timed}
 use Rattle.plant_model.specs.declared.call.Call.{Call}
 use Rattle.plant_model.specs.declared.call.Request.{Request}
-use Rattle.plant_model.specs.declared.call.Request.TheVariants.{OneShotShelve, TimedShelve, Unshelve}
 use Rattle.plant_model.specs.declared.rows.ShelfRow.{ShelfRow}
 use Rattle.plant_model.specs.Alarms.{limit}
 use Rattle.plant_model.specs.Histories.{Begins, Over, Said, latest, still}
+use Rattle.plant_model.specs.Kinds.{NewShelf, OneShotShelf, TimedShelf, says}
 use Rattle.plant_types.specs.Names.{Name, same_name}
 use Rattle.plant_types.specs.Options.{when}
 
@@ -17,11 +17,14 @@ shelf_row_as one_shot s until p words a = record { tag = a; one_shot = one_shot;
 
 -- what an entry says of the alarm's shelf: that one begins, or that it is over.
 -- A timed shelf lasts its own time, a one-shot shelf at most the limit in force just before the entry
+abbrev pub shelf_by : Name → Name → ℕ → List Call → Option (Name × Said NewShelf) → Option (Said ShelfRow)
+shelf_by a p s before None = None
+shelf_by a p s before (Some (b, Begins (TimedShelf d words))) = when (same_name a b) (Begins (shelf_row_as false s (s + d) p words a))
+shelf_by a p s before (Some (b, Begins (OneShotShelf words))) = when (same_name a b) (Begins (shelf_row_as true s (s + unwrap_or (limit before b) 0) p words a))
+shelf_by a p s before (Some (b, Over)) = when (same_name a b) Over
+
 abbrev pub said_of_shelf : Name → Name → ℕ → List Call → Request → Option (Said ShelfRow)
-said_of_shelf a p s before (TimedShelve u b d words) = when (same_name a b) (Begins (shelf_row_as false s (s + d) p words a))
-said_of_shelf a p s before (OneShotShelve u b words) = when (same_name a b) (Begins (shelf_row_as true s (s + unwrap_or (limit before b) 0) p words a))
-said_of_shelf a p s before (Unshelve u b) = when (same_name a b) Over
-said_of_shelf a p s before _ = None
+said_of_shelf a p s before r = shelf_by a p s before (says r).shelf
 
 -- the shelf that the last method left, however long ago
 abbrev pub shelf : List Call → Name → Option ShelfRow

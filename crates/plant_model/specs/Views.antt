@@ -4,14 +4,15 @@ use Rattle.std.specs.List.{list_any}
 use Rattle.std.specs.Prelude.{Bool, List, None, Option, Result, Some, [], false, filter, if◌then◌else◌, ℕ, ◌||◌, ◌∷◌, ◌≡◌}
 use Rattle.plant_model.specs.declared.call.Call.{Call}
 use Rattle.plant_model.specs.declared.call.Request.{Request}
-use Rattle.plant_model.specs.declared.call.Request.TheVariants.{Grant, OpenUnit}
 use Rattle.plant_model.specs.declared.reply.Refused.{Refused}
 use Rattle.plant_model.specs.declared.reply.Reply.{Reply}
 use Rattle.plant_model.specs.Alarms.{quota}
 use Rattle.plant_model.specs.Grants.{stands}
+use Rattle.plant_model.specs.Histories.{Begins, Over, Said}
+use Rattle.plant_model.specs.Kinds.{says}
 use Rattle.plant_model.specs.Worlds.{World, answer, history, next, unit_named, units_held}
 use Rattle.plant_types.specs.Names.{Name, same_name}
-use Rattle.plant_types.specs.Roles.{all_roles}
+use Rattle.plant_types.specs.Roles.{Pair, all_roles}
 
 -- the codes, for the administrator; else nothing
 abbrev pub codes_seen : World → Name → List Name
@@ -22,10 +23,13 @@ abbrev pub view : ℕ → Name → World → List (Name × List Call) × List Na
 view t p w = (units_held w t p, codes_seen w p)
 
 -- the request grants the person something
+abbrev pub is_given : Name → Option (Pair × Said (Option ℕ)) → Bool
+is_given p None = false
+is_given p (Some (k, Begins until)) = same_name p k.0
+is_given p (Some (k, Over)) = false
+
 abbrev pub grants_to : Name → Request → Bool
-grants_to p (OpenUnit u steward m quota) = same_name p steward
-grants_to p (Grant u q t) = same_name p q
-grants_to p _ = false
+grants_to p r = is_given p (says r).pair
 
 -- some pair of the person stands
 abbrev pub has_pair : List Call → Name → Bool

@@ -1,4 +1,5 @@
 -- The office: an administrator, and for each opened unit its history.
+use Rattle.plant_model.specs.Kinds.{OneUnit, OwnShelves, OwnUnits, Subject, subject_of}
 pub use Rattle.plant_model.specs.Kinds.{unit_named}
 use Rattle.plant_model.specs.Facts.{facts}
 use Rattle.plant_model.specs.Grants.{holds_any, roles_held}
@@ -8,7 +9,6 @@ use Rattle.plant_model.specs.Replies.{shelf_lines}
 use Rattle.plant_model.specs.Verdicts.{changes_history, is_opening, verdict}
 use Rattle.plant_model.specs.declared.call.Call.{Call}
 use Rattle.plant_model.specs.declared.call.Request.{Request}
-use Rattle.plant_model.specs.declared.call.Request.TheVariants.{MyShelves}
 use Rattle.plant_model.specs.declared.reply.MineLine.{MineLine}
 use Rattle.plant_model.specs.declared.reply.Refused.{Refused}
 use Rattle.plant_model.specs.declared.reply.Refused.TheVariants.{MomentBehind, NotAdministrator, UnitTaken}
@@ -51,9 +51,13 @@ mine_line u l = record { unit = u; line = l }
 abbrev pub mine_lines : ℕ → List (Name × List Call) → List MineLine
 mine_lines t units = flat_map (λ e. map (mine_line e.0) (shelf_lines (facts e.1) t)) units
 
+abbrev pub reply_about : List (Name × List Call) → Call → Subject → Reply
+reply_about units c OwnUnits = Units (unit_lines c.moment c.person units)
+reply_about units c OwnShelves = Mine c.person c.moment (mine_lines c.moment units)
+reply_about units c (OneUnit u) = Done
+
 abbrev pub reply_of_units : List (Name × List Call) → Call → Request → Reply
-reply_of_units units c MyShelves = Mine c.person c.moment (mine_lines c.moment units)
-reply_of_units units c _ = Units (unit_lines c.moment c.person units)
+reply_of_units units c r = reply_about units c (subject_of r)
 
 -- the answer to a call that names no unit, from the caller's units
 abbrev pub answer_of_units : List (Name × List Call) → Call → Result Reply Refused

@@ -19,7 +19,7 @@ pub enum Refused {
     NotAdministrator,
     /// A unit of this code is open.
     UnitTaken,
-    /// The caller holds no role in the unit at the call's moment, or there is no such unit.
+    /// The caller holds no role in the unit at the call's moment, or no unit has this code.
     NotGranted,
     /// The caller holds other roles than this one, which the call needs.
     RoleLacking(Role),

@@ -174,7 +174,7 @@ fn serve_at_hand<S: Alter + Drop, I: Inlet, O: Outlet + Write, E: Write>(
     (status, below)
 }
 
-/// The same with no rows at hand.
+/// Serves a port or the streams over these books, every row read from them, and gives the status and the books after it.
 fn serve_bare<S: Alter + Drop, I: Inlet, O: Outlet + Write, E: Write>(
     rt: &HostRuntime,
     books: Tables<S>,

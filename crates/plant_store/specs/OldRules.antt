@@ -2,24 +2,25 @@
 use Rattle.plant_model.specs.Calls.{own_refusals, reply}
 use Rattle.plant_alarm.specs.Shelves.{is_one_shot, is_timed}
 use Rattle.plant_model.specs.Facts.{Facts, facts, limit_of, shelf_now}
-use Rattle.plant_model.specs.Histories.{same_number}
+use Rattle.plant_model.specs.Histories.{Said, same_number}
 use Rattle.plant_model.specs.Legality.{IsLegal, has_matrix}
-use Rattle.plant_model.specs.Kinds.{role_needed}
+use Rattle.plant_model.specs.Kinds.{Opening, role_needed, says}
+use Rattle.plant_model.specs.Laws.{is_for_good}
 use Rattle.plant_model.specs.Refusals.{first_refusal, unknown}
 use Rattle.plant_model.specs.Verdicts.{changes_history, is_opening, refused_or, verdict}
 use Rattle.plant_model.specs.declared.call.Call.{Call}
 use Rattle.plant_model.specs.declared.call.Request.{Request}
-use Rattle.plant_model.specs.declared.call.Request.TheVariants.{Grant, OneShotShelve, OpenUnit, TimedShelve}
+use Rattle.plant_model.specs.declared.call.Request.TheVariants.{Grant, OneShotShelve, TimedShelve}
 use Rattle.plant_model.specs.declared.reply.Full.TheVariants.{Grants as TooManyGrants}
 use Rattle.plant_model.specs.declared.reply.Refused.{Refused}
 use Rattle.plant_model.specs.declared.reply.Refused.TheVariants.{AlreadyHeld, ConditionAlreadyShelved, MomentBehind, NotGranted, RoleLacking, ShelvingTimeOutOfRange, UnitFull}
 use Rattle.plant_model.specs.declared.reply.Reply.{Reply}
 use Rattle.plant_types.specs.Limits.{max_grants, max_quota}
 use Rattle.plant_types.specs.Names.{Name}
-use Rattle.plant_types.specs.Roles.{all_roles}
+use Rattle.plant_types.specs.Roles.{Pair, all_roles}
 use Rattle.plant_types.specs.declared.role.Role.{Role}
 use Rattle.std.specs.List.{list_any}
-use Rattle.std.specs.Prelude.{Bool, IsTrue, List, None, Option, Result, Some, [], is_none, nat_le, nat_lt, not, true, ℕ, ◌&&◌, ◌++◌, ◌∷◌, ◌≡◌}
+use Rattle.std.specs.Prelude.{Bool, IsTrue, List, None, Option, Result, Some, [], nat_le, nat_lt, not, ℕ, ◌&&◌, ◌++◌, ◌∷◌, ◌≡◌}
 
 -- the refusals of a request; shelving is not refused for a quota, nor a grant for its end
 abbrev pub old_own_refusals : Facts → Name → ℕ → Request → List (Bool × Refused)
@@ -42,10 +43,12 @@ abbrev pub old_verdict : List Call → Call → Result Reply Refused
 old_verdict h c = refused_or (first_refusal (old_refusals (facts h) c)) (reply (facts h) c.moment c.request)
 
 -- a request of schema 1 as the request of today that it stands for: an opening gives the greatest quota, a grant has no end
+abbrev pub was_said : Option Opening → Option (Pair × Said (Option ℕ)) → Bool
+was_said (Some o) pair = same_number o.quota max_quota
+was_said None pair = is_for_good pair
+
 abbrev pub is_of_old : Request → Bool
-is_of_old (OpenUnit u s m q) = same_number q max_quota
-is_of_old (Grant u p t) = is_none t.1
-is_of_old _ = true
+is_of_old r = was_said (says r).opening (says r).pair
 
 -- the histories of schema 1
 abbrev pub WasLegal : List Call → Type 0

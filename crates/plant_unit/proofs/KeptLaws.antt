@@ -357,7 +357,7 @@ summaries_told h (a ∷ tags) = by (latching h a) (summaries_told h tags) where
   by (Some l) rest = ap (λ ss. summary_of (events h) (alarm_of h a l) ∷ ss) rest
 
 holder_events : (h : List Call) (legal : IsLegal h) (p : Name) (t : ℕ) (q : Request) → AreEventsFor (part_of_holder (record { person = p; moment = t; request = q }) (rows_of h)) q (events h)
-holder_events h legal p t (Import u file) = record { rise = events_rise h legal; needed_are = refl; count_is = refl; told = summaries_told h (in_order name_cmp (tags_of_alarms h)) }
+holder_events h legal p t (Import u file) = record { rise = events_rise h legal; needed_are = refl; count_is = refl; summaries = summaries_told h (in_order name_cmp (tags_of_alarms h)) }
 holder_events h legal p t (Floods u begin until) = refl
 holder_events h legal p t _ = tt
 

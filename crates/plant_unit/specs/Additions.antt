@@ -3,9 +3,8 @@ use Rattle.plant_model.specs.Calls.{unit_after}
 use Rattle.plant_alarm.specs.declared.event.Event.{Event}
 use Rattle.plant_import.specs.Merging.{IsRising, first_fault, fresh}
 use Rattle.plant_import.specs.Needed.{needed}
-use Rattle.plant_model.specs.Events.{rows_of_file}
+use Rattle.plant_model.specs.Kinds.{Scope, scope_of, AllAlarms, AllEvents, AllGrants, AllRecords, AllShelves, Approval, Content, File, NothingElse, OneAlarm, OneChange, OneRecord, Shelving}
 use Rattle.plant_model.specs.declared.call.Request.{Request}
-use Rattle.plant_model.specs.declared.call.Request.TheVariants.{Floods, Import}
 use Rattle.plant_model.specs.declared.reply.Reply.{Reply}
 use Rattle.plant_model.specs.declared.reply.Reply.TheVariants.{Imported}
 use Rattle.plant_model.specs.declared.rows.Row.TheVariants.{Event as EventPut, Unit as UnitPut}
@@ -58,17 +57,30 @@ pub record AreEventsOf (part : UnitPart) (rows es : List Event) : Type 0 where
   pub rise : IsRising es
   pub needed_are : part.rows.events ≡ needed es rows
   pub count_is : part.count ≡ length es
-  pub told : HaveSummaries part.rows.alarms es
+  pub summaries : HaveSummaries part.rows.alarms es
 
 -- by all events of the unit: what a file's rows add at a moment, or why they are refused
 abbrev pub GivesAddition : {E : Type 0} → UnitPart → ℕ → List Event → Result (Result Merged Refused) E → Type 0
 GivesAddition part t rows said = (es : List Event) → AreEventsOf part rows es → Gives said (addition (facts_among part es) t rows)
 
 -- the events that a request sees in a part: an import those of which it has some, a list of floods those that it has
+abbrev pub AreEventsIn : UnitPart → Scope → List Event → Type 0
+AreEventsIn part NothingElse es = Unit {0}
+AreEventsIn part AllGrants es = Unit {0}
+AreEventsIn part (OneAlarm a) es = Unit {0}
+AreEventsIn part (Shelving a) es = Unit {0}
+AreEventsIn part (OneRecord a) es = Unit {0}
+AreEventsIn part (OneChange n) es = Unit {0}
+AreEventsIn part (Approval n) es = Unit {0}
+AreEventsIn part (Content a) es = Unit {0}
+AreEventsIn part AllRecords es = Unit {0}
+AreEventsIn part (File rows) es = AreEventsOf part rows es
+AreEventsIn part AllShelves es = Unit {0}
+AreEventsIn part AllAlarms es = Unit {0}
+AreEventsIn part AllEvents es = part.rows.events ≡ es
+
 abbrev pub AreEventsFor : UnitPart → Request → List Event → Type 0
-AreEventsFor part (Import u file) es = AreEventsOf part (rows_of_file file) es
-AreEventsFor part (Floods u begin until) es = part.rows.events ≡ es
-AreEventsFor part _ es = Unit {0}
+AreEventsFor part r es = AreEventsIn part (scope_of r) es
 
 -- the new rows of a file without fault
 pub record AreAdded (es rows added : List Event) : Type 0 where

@@ -1,10 +1,9 @@
 -- What a judgement says.
 use Rattle.plant_model.specs.Calls.{changes_for, own_changes, own_refusals, reply}
-use Rattle.std.specs.Prelude.{Bool, Err, IsOkAnd, List, None, Ok, Option, Result, Some, [], false, if◌then◌else◌, is_ok, nat_lt, not, true, ℕ, ◌++◌, ◌∷◌, ◌≡◌}
+use Rattle.std.specs.Prelude.{Bool, Err, IsOkAnd, List, None, Ok, Option, Result, Some, [], false, if◌then◌else◌, is_ok, is_some, nat_lt, not, true, ℕ, ◌++◌, ◌∷◌, ◌≡◌}
 use Rattle.plant_model.specs.Changes.{priority_by}
 use Rattle.plant_model.specs.declared.call.Call.{Call}
 use Rattle.plant_model.specs.declared.call.Request.{Request}
-use Rattle.plant_model.specs.declared.call.Request.TheVariants.{Import}
 use Rattle.plant_model.specs.declared.reply.Refused.{Refused}
 use Rattle.plant_model.specs.declared.reply.Reply.{Reply}
 use Rattle.plant_model.specs.declared.reply.Reply.TheVariants.{Done}
@@ -27,7 +26,7 @@ use Rattle.plant_model.specs.declared.rows.Verdict.TheVariants.{Accepted as IsAc
 use Rattle.plant_model.specs.Facts.{Facts}
 use Rattle.plant_model.specs.Legality.{IsLegal}
 use Rattle.plant_model.specs.Parts.{part_of}
-use Rattle.plant_model.specs.Kinds.{role_needed}
+use Rattle.plant_model.specs.Kinds.{role_needed, says}
 use Rattle.plant_model.specs.Refusals.{base_changed, first_refusal, has_row, holds_some, is_not_needed, kind_refusals, lacks_role, of_change}
 use Rattle.plant_model.specs.declared.reply.Refused.TheVariants.{MomentBehind, NotAnAlarm, NotGranted, NotProposer, OutsideMatrix, SamePerson}
 use Rattle.plant_model.specs.RowChanges.{changed_by, in_force, kind_row, no_rows, puts_unit}
@@ -41,8 +40,7 @@ use Rattle.plant_types.specs.Names.{Name, same_name}
 use Rattle.plant_unit.specs.Additions.{AreEventsFor}
 
 abbrev pub is_import : Request → Bool
-is_import (Import u file) = true
-is_import _ = false
+is_import r = is_some (says r).file
 
 -- what is decided, unless it is refused
 abbrev pub decided_or : {A : Type 0} → Option Refused → A → Result A Refused

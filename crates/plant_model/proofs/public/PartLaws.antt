@@ -1,5 +1,5 @@
 -- The part that a call looks at gives the verdict, the reply and the changes of all rows.
-use Rattle.plant_model.specs.Calls.{changes_for, own_refusals, reply}
+use Rattle.plant_model.specs.Calls.{changes_for, own_refusals, record_reply, reply}
 use Rattle.plant_alarm.specs.Shelves.{is_one_shot, is_timed, is_unshelved, shelf_state}
 use Rattle.plant_alarm.specs.declared.event.Event.{Event}
 use Rattle.plant_alarm.specs.declared.shelf.ShelfState.{ShelfState}
@@ -11,7 +11,7 @@ use Rattle.plant_model.specs.Changes.{no_matrix}
 use Rattle.plant_model.specs.Parts.{Selection, every, has_shelf, is_crowded, is_source, of_approved, of_content, of_number, of_records, of_topic, part_of, part_of_holder, part_of_stranger, rows_selected, selected, with_number}
 use Rattle.plant_model.specs.Kinds.{role_needed}
 use Rattle.plant_model.specs.Refusals.{first_refusal, holds_some, is_open, kind_refusals, lacks_role, of_change}
-use Rattle.plant_model.specs.Replies.{change_reply, line_of, record_reply, status_reply}
+use Rattle.plant_model.specs.Replies.{change_reply, line_of, status_reply}
 use Rattle.plant_model.specs.RowChanges.{approval_changes, approved_row, decision_change, for_change, in_force, placed_in, taken_out}
 use Rattle.plant_model.specs.RowFacts.{alarm_tag, change_found, change_number, change_read, facts_among, facts_from, facts_of, has_cells, held_by, holds_by, kind_read, last_number, last_return, matrix_read, pair_of, record_found, record_from, record_read, record_tag, sheet_read, shelf_tag, unit_read}
 use Rattle.plant_model.specs.Shelves.{shelf_left, shelf_row_as}
