@@ -76,16 +76,22 @@ abbrev pub kind_of_change : List Call → ℕ → Option ChangeKind
 kind_of_change h n = option_map (λ d. d.kind) (draft h n)
 
 abbrev pub matrix_in : ℕ → Option ChangeKind → Option (ℕ × Grid)
+matrix_in n None = None
+matrix_in n (Some (Rationale b s)) = None
 matrix_in n (Some (Matrix m)) = Some (n, m)
-matrix_in n _ = None
+matrix_in n (Some (Limit b max)) = None
 
 abbrev pub sheet_in : Name → ℕ → Option ChangeKind → Option (ℕ × Sheet)
+sheet_in a n None = None
 sheet_in a n (Some (Rationale b s)) = when (same_name a b) (n, s)
-sheet_in a n _ = None
+sheet_in a n (Some (Matrix m)) = None
+sheet_in a n (Some (Limit b max)) = None
 
 abbrev pub limit_in : Name → Option ChangeKind → Option ℕ
+limit_in a None = None
+limit_in a (Some (Rationale b s)) = None
+limit_in a (Some (Matrix m)) = None
 limit_in a (Some (Limit b max)) = when (same_name a b) max
-limit_in a _ = None
 
 -- the number of the change that is approved
 abbrev pub approved : Option (ℕ × ChangeState) → Option ℕ

@@ -78,6 +78,18 @@ facts h =
       change = change h;
     }
 
+-- the moment of its last change
+abbrev pub last_of : Facts → ℕ
+last_of f = f.unit.last_s
+
+-- how many of its alarms may be shelved at once
+abbrev pub quota_of : Facts → ℕ
+quota_of f = f.unit.quota
+
+-- how many matrices were approved
+abbrev pub matrix_revision_of : Facts → ℕ
+matrix_revision_of f = f.unit.matrix_rev
+
 -- MaxTimeShelved in force
 abbrev pub limit_of : Facts → Name → ℕ
 limit_of f a = unwrap_or (option_map (λ r. r.max_s) (f.alarm a)) 0

@@ -1,6 +1,5 @@
 -- When a call on a unit is refused, and why: the conditions that several calls share, and the first refusal whose condition
 -- holds. Results of shelving are named as in OPC 10000-9.
-use Rattle.plant_model.specs.Facts.{limit_revision_of}
 use Rattle.plant_model.specs.Histories.{same_number}
 use Rattle.plant_model.specs.declared.reply.ChangeRow.{ChangeRow}
 use Rattle.plant_model.specs.declared.reply.Refused.TheVariants.{BaseChanged, ChangeUnknown, NotAnAlarm, NotProposed, OutsideMatrix}
@@ -18,7 +17,7 @@ use Rattle.plant_alarm.specs.declared.event.Event.{Event}
 use Rattle.plant_import.specs.Merging.{first_fault}
 use Rattle.plant_import.specs.declared.bad_file.BadFile.{BadFile}
 use Rattle.plant_import.specs.Numbers.{new_numbers}
-use Rattle.plant_model.specs.Facts.{Facts, others_shelved}
+use Rattle.plant_model.specs.Facts.{Facts, limit_revision_of, matrix_revision_of, others_shelved, quota_of}
 use Rattle.plant_model.specs.RowFacts.{alarm_tag}
 use Rattle.plant_model.specs.declared.reply.Full.TheVariants.{Events as TooManyEvents}
 use Rattle.plant_model.specs.declared.reply.Refused.{Refused}
@@ -35,7 +34,7 @@ unknown f a = (is_none (f.alarm a), AlarmUnknown)
 
 -- so many other alarms are shelved now that the quota is used up
 abbrev pub over_quota : Facts → Name → ℕ → Bool × Refused
-over_quota f a t = (nat_le f.unit.quota (others_shelved f a t), ShelfQuota f.unit.quota)
+over_quota f a t = (nat_le (quota_of f) (others_shelved f a t), ShelfQuota (quota_of f))
 
 -- a file: its fault of reading; else no room for its numbers, or its first fault of merging
 abbrev pub tags_of : Facts → List Name
@@ -69,7 +68,7 @@ has_row m severity = is_some (row_of m severity)
 -- a record has its severity in the matrix in force, and a priority there; a matrix has the severities of all records in force
 abbrev pub kind_refusals : Facts → ℕ → ChangeKind → List (Bool × Refused)
 kind_refusals f base (Rationale a s) = base_changed base (f.revision a) ∷ (not (has_row f.matrix s.severity), OutsideMatrix) ∷ (is_not_needed (priority_of f.matrix s.severity s.response), NotAnAlarm) ∷ []
-kind_refusals f base (Matrix m) = base_changed base f.unit.matrix_rev ∷ (list_any (λ r. not (has_row m r.severity)) f.rationales, OutsideMatrix) ∷ []
+kind_refusals f base (Matrix m) = base_changed base (matrix_revision_of f) ∷ (list_any (λ r. not (has_row m r.severity)) f.rationales, OutsideMatrix) ∷ []
 kind_refusals f base (Limit a max) = base_changed base (limit_revision_of f a) ∷ []
 
 -- a decision is about a change that is there and not decided yet

@@ -85,8 +85,9 @@ abbrev pub matrix_changes : ℕ → Grid → List RowEdit
 matrix_changes n m = bands_of n m ++ cells_of n m
 
 abbrev pub kind_changes : ℕ → ChangeKind → List RowEdit
+kind_changes n (Rationale a s) = []
 kind_changes n (Matrix m) = matrix_changes n m
-kind_changes n _ = []
+kind_changes n (Limit a max) = []
 
 -- the alarm's row, changed
 abbrev pub with_alarm : Facts → Name → (AlarmRow → AlarmRow) → List RowEdit
@@ -147,8 +148,9 @@ for_change (Some c) changes = changes c
 
 -- the unit's row after the call: its last moment, and the matrix in force
 abbrev pub kind_row : ℕ → UnitRow → ℕ → ChangeKind → UnitRow
+kind_row t r n (Rationale a s) = record r { last_s = t }
 kind_row t r n (Matrix m) = record { last_s = t; matrix_no = n; matrix_rev = r.matrix_rev + 1; quota = r.quota }
-kind_row t r n _ = record r { last_s = t }
+kind_row t r n (Limit a max) = record r { last_s = t }
 
 abbrev pub approved_row : ℕ → UnitRow → Option ChangeRow → UnitRow
 approved_row t r None = record r { last_s = t }

@@ -106,8 +106,10 @@ cell_rows h = filter_map (cell_row h) (in_order cell_cmp (all_named (λ c before
 
 -- Rationalisation records (ISA-18.2), one for each alarm with an approved change of its record
 abbrev pub tag_rationalised : Option ChangeKind → List Name
+tag_rationalised None = []
 tag_rationalised (Some (Rationale a s)) = a ∷ []
-tag_rationalised _ = []
+tag_rationalised (Some (Matrix m)) = []
+tag_rationalised (Some (Limit a max)) = []
 
 abbrev pub tags_approved : List Call → Request → List Name
 tags_approved before r = tag_rationalised (option_and_then (kind_of_change before) (number_approved r))
@@ -134,11 +136,13 @@ tag_of_kind (Limit a max) = Some a
 
 abbrev pub sheet_of_kind : ChangeKind → Option Sheet
 sheet_of_kind (Rationale a s) = Some s
-sheet_of_kind _ = None
+sheet_of_kind (Matrix m) = None
+sheet_of_kind (Limit a max) = None
 
 abbrev pub max_of_kind : ChangeKind → Option ℕ
+max_of_kind (Rationale a s) = None
+max_of_kind (Matrix m) = None
 max_of_kind (Limit a max) = Some max
-max_of_kind _ = None
 
 abbrev pub change_entry : ChangeRow → ChangeEntry
 change_entry c =

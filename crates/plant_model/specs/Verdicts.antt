@@ -1,6 +1,6 @@
 -- What a unit answers to a call: the first refusal whose condition holds, else the reply.
 use Rattle.plant_model.specs.Calls.{own_refusals, reply}
-use Rattle.plant_model.specs.Facts.{Facts, facts}
+use Rattle.plant_model.specs.Facts.{Facts, facts, last_of}
 use Rattle.plant_model.specs.Kinds.{role_needed}
 use Rattle.plant_model.specs.Refusals.{first_refusal, holds_some, lacks_role}
 use Rattle.plant_model.specs.declared.call.Call.{Call}
@@ -12,7 +12,7 @@ use Rattle.std.specs.Prelude.{Bool, Err, List, None, Ok, Option, Result, Some, i
 
 -- the refusals of a call by a person who holds some role in the unit
 abbrev pub refusals_of_holder : Facts → Call → List (Bool × Refused)
-refusals_of_holder f c = lacks_role f c.moment c.person (role_needed c.request) ++ (nat_lt c.moment f.unit.last_s, MomentBehind f.unit.last_s) ∷ own_refusals f c.person c.moment c.request
+refusals_of_holder f c = lacks_role f c.moment c.person (role_needed c.request) ++ (nat_lt c.moment (last_of f), MomentBehind (last_of f)) ∷ own_refusals f c.person c.moment c.request
 
 -- the refusals of a call on a unit
 abbrev pub refusals : Facts → Call → List (Bool × Refused)

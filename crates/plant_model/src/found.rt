@@ -61,6 +61,16 @@ pub fn row_of<'a, T: Tagged>(rows: &'a [T], tag: &Tag) -> Option<&'a T>
     }
 }
 
+/// The row of the tag, looked for at a place first.
+pub fn row_near<'a, T: Tagged>(rows: &'a [T], place: usize, tag: &Tag) -> Option<&'a T>
+    ensures { TagsRise T.key rows.now → option_copied result ≡ row_by_tag T.key tag.now rows.now }
+{
+    match rows.get(place) {
+        Some(row) if *row.tag() == *tag => Some(row),
+        _ => row_of(rows, tag),
+    }
+}
+
 /// The alarm of the tag.
 pub fn alarm_of<'a>(alarms: &'a [AlarmRow], tag: &Tag) -> Option<&'a AlarmRow>
     ensures { option_copied result ≡ row_at name_cmp alarm_tag tag.now alarms.now }

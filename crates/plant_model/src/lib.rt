@@ -13,7 +13,7 @@ mod reply;
 mod rows;
 
 pub use call::{Call, Request};
-pub use found::{Tagged, alarm_of, change_at, last_return, place_of, row_of};
+pub use found::{Tagged, alarm_of, change_at, last_return, place_of, row_near, row_of};
 pub use held::{holds_some_by, is_before, is_held_by, is_pair, stands};
 pub use kinds::{
     CallKind, Counted, Effect, Scope, is_shelving, looks_at_events, number_approved, scope_of,

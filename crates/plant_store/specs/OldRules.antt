@@ -1,7 +1,7 @@
 -- The rules of schema 1: no quota limits the shelved alarms, no grant has an end, and a role is held as long as its grant stands.
 use Rattle.plant_model.specs.Calls.{own_refusals, reply}
 use Rattle.plant_alarm.specs.Shelves.{is_one_shot, is_timed}
-use Rattle.plant_model.specs.Facts.{Facts, facts, limit_of, shelf_now}
+use Rattle.plant_model.specs.Facts.{Facts, facts, last_of, limit_of, shelf_now}
 use Rattle.plant_model.specs.Histories.{Said, same_number}
 use Rattle.plant_model.specs.Legality.{IsLegal, has_matrix}
 use Rattle.plant_model.specs.Kinds.{Opening, role_needed, says}
@@ -36,7 +36,7 @@ old_lacks_role f p (Some r) = (not (f.stands (p, r)), RoleLacking r) ∷ []
 abbrev pub old_refusals : Facts → Call → List (Bool × Refused)
 old_refusals f c =
     (not (list_any (λ r. f.stands (c.person, r)) all_roles), NotGranted)
-    ∷ old_lacks_role f c.person (role_needed c.request) ++ (nat_lt c.moment f.unit.last_s, MomentBehind f.unit.last_s) ∷ old_own_refusals f c.person c.moment c.request
+    ∷ old_lacks_role f c.person (role_needed c.request) ++ (nat_lt c.moment (last_of f), MomentBehind (last_of f)) ∷ old_own_refusals f c.person c.moment c.request
 
 -- what a unit of this history answered to the call
 abbrev pub old_verdict : List Call → Call → Result Reply Refused

@@ -23,7 +23,7 @@ use Rattle.plant_model.specs.declared.rows.UnitPart.{UnitPart}
 use Rattle.plant_model.specs.declared.rows.UnitRow.{UnitRow}
 use Rattle.plant_model.specs.declared.rows.Verdict.{Verdict}
 use Rattle.plant_model.specs.declared.rows.Verdict.TheVariants.{Accepted as IsAccepted, Refused as IsRefused}
-use Rattle.plant_model.specs.Facts.{Facts}
+use Rattle.plant_model.specs.Facts.{Facts, last_of}
 use Rattle.plant_model.specs.Legality.{IsLegal}
 use Rattle.plant_model.specs.Parts.{part_of}
 use Rattle.plant_model.specs.Kinds.{role_needed, says}
@@ -141,7 +141,7 @@ pub record IsApproved (f : Facts) (p : Name) (t : ℕ) (c : ChangeRow) (e : Chan
 abbrev pub holder_refusals : Facts → Call → List (Bool × Refused)
 holder_refusals f c =
     (not (holds_some f c.moment c.person), NotGranted)
-    ∷ (lacks_role f c.moment c.person (role_needed c.request) ++ (nat_lt c.moment f.unit.last_s, MomentBehind f.unit.last_s) ∷ [])
+    ∷ (lacks_role f c.moment c.person (role_needed c.request) ++ (nat_lt c.moment (last_of f), MomentBehind (last_of f)) ∷ [])
 
 -- the verdict on a unit of this history; the changes turn its rows into those of the history with the call, and put the unit's row
 pub record IsVerdictOn (h : List Call) (c : Call) (v : Verdict) : Type 0 where

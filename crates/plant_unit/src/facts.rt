@@ -12,7 +12,9 @@ ghost use Rattle.plant_unit.specs.Additions.{AreKept};
 ghost use Rattle.plant_unit.specs.Shelving as shelving;
 
 use plant_alarm::{Shelf, ShelfState, shelf_at};
-use plant_model::{GrantRow, ShelfRow, UnitPart, holds_some_by, is_held_by, last_return, row_of};
+use plant_model::{
+    GrantRow, ShelfRow, UnitPart, holds_some_by, is_held_by, last_return, row_near, row_of,
+};
 use plant_types::{Moment, Person, Role, Tag};
 
 /// Whether the pair is held at the moment.
@@ -90,6 +92,16 @@ pub fn returned_at(part: &UnitPart, tag: &Tag) -> Option<Moment>
     ensures { AreKept part.now → result ≡ returned (facts_in part.now) tag.now }
 {
     match row_of(part.rows.alarms.as_slice(), tag) {
+        Some(alarm) => alarm.return_s,
+        None => None,
+    }
+}
+
+/// When the alarm of a tag last returned to normal, the alarm being looked for at a place first.
+pub fn returned_near(part: &UnitPart, place: usize, tag: &Tag) -> Option<Moment>
+    ensures { AreKept part.now → result ≡ returned (facts_in part.now) tag.now }
+{
+    match row_near(part.rows.alarms.as_slice(), place, tag) {
         Some(alarm) => alarm.return_s,
         None => None,
     }

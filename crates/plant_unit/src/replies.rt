@@ -12,7 +12,7 @@ ghost use Rattle.plant_unit.specs.FromFacts.{Answers, AnswersAlways, AnswersAnyo
 ghost use Rattle.plant_unit.specs.Shelving.{is_shelved, line_at};
 ghost use Rattle.plant_model.specs.declared.call.Request.TheVariants.{Alarms as AlarmsCall, ChangeOf as ChangeCall, Floods as FloodsCall, RecordOf as RecordCall, Shelves as ShelvesCall, Standing as StandingCall, Status as StatusCall};
 
-use crate::facts::{returned_at, state_now, state_of};
+use crate::facts::{returned_near, state_now, state_of};
 use crate::floods::{flood_lines, is_aligned};
 use crate::reading::{change_of, priority_of, rationale_of};
 use plant_alarm::ShelfState;
@@ -76,26 +76,29 @@ pub fn shelf_line(
     }))
 }
 
+/// The line of a shelf, whose alarm is looked for at a place first; none where its time has passed.
 fn line(
     alloc: Global,
     part: &UnitPart,
+    place: usize,
     row: &ShelfRow,
     now: Moment,
 ) -> Result<Option<ShelfLine>, Fault>
     ensures value { GivesFrom part.now result (λ f. line_at row.now (returned f row.now.tag) now) }
     ensures err { OnlyMemory result }
 {
-    shelf_line(alloc, row, returned_at(part, &row.tag), now)
+    shelf_line(alloc, row, returned_near(part, place, &row.tag), now)
 }
 
+/// The lines of the shelves that hold. A part has the alarms of its shelves in their order, mostly one for each.
 fn lines(alloc: Global, part: &UnitPart, now: Moment) -> Result<List<ShelfLine>, Fault>
     ensures value { GivesFrom part.now result (λ f. shelf_lines f now) }
     ensures err { OnlyMemory result }
 {
     let shelves = part.rows.shelves.as_slice();
     let mut lines = List::new(alloc);
-    for row in shelves {
-        if let Some(found) = line(alloc, part, row, now)? {
+    for (place, row) in shelves.iter().enumerate() {
+        if let Some(found) = line(alloc, part, place, row, now)? {
             lines.push(found)?;
         }
     }

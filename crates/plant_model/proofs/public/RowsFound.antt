@@ -1,14 +1,15 @@
 -- Rows in the order of their tags, and the one of a tag among them.
 use Rattle.std.proofs.Common.{ap, arith, get_or, refl, sym, ◌∙◌}
 use Rattle.std.proofs.lemmas.Bool.{ltb-false, ltb-true}
-use Rattle.std.proofs.lemmas.Option.{slice_get-get_or, slice_get_past}
+use Rattle.std.proofs.lemmas.Option.{get_or_from_slice_get, slice_get-get_or, slice_get_past, slice_get_within}
 use Rattle.std.specs.FinMap.Entries.{below_all}
 use Rattle.std.specs.List.Sorted.{IsPartitionPoint, IsPartitionedBy}
 use Rattle.std.specs.Ordering.{is_eq, is_lt, ordering_reverse}
-use Rattle.std.specs.Prelude.{Bool, List, None, Option, Some, T, [], cond, false, length, map, nat_lt, option_and_then, slice_get, suc, true, zero, ℕ, ◌&&◌, ◌<◌, ◌∷◌, ◌≡◌, ◌≤◌}
+use Rattle.std.specs.Prelude.{Bool, List, None, Option, Some, T, [], cond, false, length, map, nat_lt, option_and_then, slice_get, suc, true, unwrap_or, zero, ℕ, ◌&&◌, ◌<◌, ◌∷◌, ◌≡◌, ◌≤◌}
 use Rattle.std.specs.declared.cmp.Ordering.{Ordering}
 use Rattle.std.specs.declared.cmp.Ordering.TheVariants.{Equal, Greater, Less}
-use Rattle.plant_types.proofs.public.Orders.{name_total}
+use Rattle.plant_types.proofs.public.KeyedRowLaws.{tied}
+use Rattle.plant_types.proofs.public.Orders.{name_total, same_names}
 use Rattle.plant_types.specs.Names.{Name, name_cmp, same_name}
 use Rattle.plant_types.specs.Options.{when}
 use Rattle.plant_types.specs.KeyedRows.{IsInOrder, row_at}
@@ -121,3 +122,15 @@ module _ {X : Type 0} (key : X → Name) where
 
   pub other_found : (rows : List X) (t : Name) (p : ℕ) → Ordered rows → Parts t rows p → (r : X) → slice_get rows p ≡ Some r → same_name (key r) t ≡ false → None ≡ row_at name_cmp key t rows
   other_found rows t p order h r there same = ap (λ b. when b r) (sym same) ∙ ap (at_place t) (sym there) ∙ row_found rows t p order h
+
+  -- the row of a tag is the one that has it, wherever it stands
+  pub row_there : (rows : List X) (t : Name) (p : ℕ) → Ordered rows → (r : X) → slice_get rows p ≡ Some r → same_name (key r) t ≡ true → Some r ≡ row_at name_cmp key t rows
+  row_there [] t p order r there same = cc
+  row_there (x ∷ rows) t zero order r there same =
+      let is : name_cmp (key x) t ≡ Equal = ap (λ o. name_cmp (key (unwrap_or o x)) t) there ∙ tied (name_cmp (key r) t) true same refl in
+      sym there ∙ sym (ap (λ v. cond (is_eq v) (Some x) (row_at name_cmp key t rows)) (name_total.antisymm t (key x) ∙ ap ordering_reverse is))
+  row_there (x ∷ rows) t (suc p) order r there same =
+      let is : key (get_or rows p r) ≡ t = ap key (get_or_from_slice_get rows p r r there) ∙ same_names (key r) t (tied (name_cmp (key r) t) true same refl) in
+      let low : name_cmp (key x) t ≡ Less = ap (name_cmp (key x)) (sym is) ∙ after_at (key x) rows order.0 p r (slice_get_within rows p r there) in
+      row_there rows t p order.1 r there same
+      ∙ sym (ap (λ v. cond (is_eq v) (Some x) (row_at name_cmp key t rows)) (turned (key x) t low))
