@@ -1,5 +1,5 @@
 -- From what the steps of `next_call` say to what stands at the front.
-use Rattle.std.proofs.Common.{◌≡◌, ℕ, ◌+◌, ◌<◌, ◌≤◌, List, length, take, map, Result, Ok, Err, refl, sym, ap, subst, ◌∙◌}
+use Rattle.std.proofs.Common.{◌≡◌, ℕ, ◌+◌, ◌<◌, ◌≤◌, List, length, take, map, Result, Ok, Err, refl, sym, ap, ◌∙◌}
 use Rattle.std.proofs.lemmas.Bool.{lt-ltb, le-ltb}
 use Rattle.httparse.specs.Grammar.{RequestHead, print_request}
 use Rattle.httparse.specs.declared.spans.HeaderSpan.{HeaderSpan}
@@ -8,11 +8,9 @@ use Rattle.httparse.specs.Spans.{header_bytes, span_bytes, name_and_value, IsReq
 use Rattle.plant_model.specs.declared.call.Call as model
 use Rattle.plant_call.specs.Lengths.{body_length_in}
 use Rattle.plant_call.specs.Reading.{call_in}
-use Rattle.plant_call.specs.Front.{item_from, Front, waits, whole, broken, of_head, body_length, item_of, answer_to, StandsAtFront}
-use Rattle.plant_call.specs.Cut.{Shows, IsCutOf}
+use Rattle.plant_call.specs.Front.{item_from, waits, whole, broken, of_head, body_length, item_of, answer_to}
 use Rattle.plant_call.specs.declared.causes.Cause.{Cause}
-use Rattle.plant_call.specs.declared.cut.Cut.{Cut}
-use Rattle.plant_call.specs.declared.cut.Cut.TheVariants.{More, Call, Malformed, Broken, Fault}
+use Rattle.plant_call.specs.declared.cut.Cut.TheVariants.{Call}
 
 pub answers_broken : (head : RequestHead) (after : List ℕ) (cause : Cause) → body_length head ≡ Err cause → answer_to head after ≡ broken cause
 unfolding of_head
@@ -26,13 +24,6 @@ pub answers_whole : (head : RequestHead) (after : List ℕ) (n : ℕ) → body_l
     → answer_to head after ≡ whole (item_of head (take n after)) (length (print_request head) + n)
 unfolding of_head
 answers_whole head after n e le = rw (e, le-ltb (length after) n le) refl
-
-pub cut_from_shown : (bytes : List ℕ) (cut : Cut) (front : Front) → StandsAtFront bytes front → Shows cut front → IsCutOf bytes cut
-cut_from_shown bytes More front stands is = subst (StandsAtFront bytes) is stands
-cut_from_shown bytes (Call call n) front stands is = subst (StandsAtFront bytes) is stands
-cut_from_shown bytes (Malformed cause n) front stands is = subst (StandsAtFront bytes) is stands
-cut_from_shown bytes (Broken cause) front stands is = subst (StandsAtFront bytes) is stands
-cut_from_shown bytes Fault front stands is = tt
 
 -- the fields that were read are the head's
 fields_are : (front : List ℕ) (headers : List HeaderSpan) (spans : RequestSpans) (head : RequestHead) → IsRequestAt front headers spans head

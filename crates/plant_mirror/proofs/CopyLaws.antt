@@ -8,7 +8,7 @@ use Rattle.std.specs.Option.{option_map_or}
 use Rattle.std.specs.Prelude.{Option, filter_map, is_some, length, option_map, slice_get, unwrap_or, ◌&&◌}
 use Rattle.std.specs.Cmp.{eq_by_cmp_equiv}
 use Rattle.lru.specs.LruCache.{LruCache, last_entry, promoted, put_entries}
-use Rattle.plant_books.proofs.public.EventLaws.{changed_without, part_without, strangers_part_without}
+use Rattle.plant_books.proofs.public.EventLaws.{changed_without, part_without}
 use Rattle.plant_books.proofs.public.OrderLaws.{changed_in_order}
 use Rattle.plant_books.specs.Changing.{puts_event}
 use Rattle.plant_books.specs.Contents.{Content, after_changes, is_held_by, is_held_in, mine_row, rows_in, shelves_mine, without_events}
@@ -19,7 +19,6 @@ use Rattle.plant_mirror.specs.declared.at_hand.AtHand.{AtHand}
 use Rattle.plant_model.proofs.public.WorldLaws.{same_of}
 use Rattle.plant_model.specs.Parts.{part_of}
 use Rattle.plant_model.specs.RowChanges.{changed_by, no_rows}
-use Rattle.plant_model.specs.RowFacts.{holds_by}
 use Rattle.plant_model.specs.Scopes.{looks_at_events}
 use Rattle.plant_model.specs.declared.call.Call.{Call}
 use Rattle.plant_model.specs.declared.rows.RowEdit.{RowEdit}
@@ -189,17 +188,9 @@ pub part_there : (c : Call) (b : Bool) (o : Option UnitRows) (rows : UnitRows) �
 part_there c b None rows e h = absurd (cc e)
 part_there c b (Some r) rows e h = let same : seen b r ≡ rows = cc e in ap (λ x. Some x) (h r same)
 
-pub whole_part_seen : (c : Call) (b : Bool) (kept rows : UnitRows) → seen b rows ≡ kept → b ≡ true → part_of c kept ≡ part_of c rows
-whole_part_seen c true kept rows e whole = ap (part_of c) (sym e)
-whole_part_seen c false kept rows e whole = absurd (cc whole)
-
 pub part_seen : (c : Call) (b : Bool) (kept rows : UnitRows) → seen b rows ≡ kept → looks_at_events c.request ≡ false → part_of c kept ≡ part_of c rows
 part_seen c true kept rows e none = ap (part_of c) (sym e)
 part_seen c false kept rows e none = ap (part_of c) (sym e) ∙ part_without c rows none
-
-pub strangers_part_seen : (c : Call) (b : Bool) (kept rows : UnitRows) → seen b rows ≡ kept → holds_by kept.grants c.moment c.person ≡ false → part_of c kept ≡ part_of c rows
-strangers_part_seen c true kept rows e none = ap (part_of c) (sym e)
-strangers_part_seen c false kept rows e none = ap (part_of c) (sym e) ∙ strangers_part_without c rows (ap (λ (x : UnitRows). holds_by x.grants c.moment c.person) e ∙ none)
 
 -- ---- what changes of a unit leave of the others, and what they make of the unit
 

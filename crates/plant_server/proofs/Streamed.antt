@@ -1,5 +1,5 @@
 -- A session, and the connections of a port, by what else is true of the office.
-use Rattle.std.proofs.Common.{◌⊎◌, ℕ, List, Bool, None, Option, Some, inl, inr}
+use Rattle.std.proofs.Common.{ℕ, List, Bool, None, Option, Some, inl, inr}
 use Rattle.plant_line.specs.declared.words.Service.{Service}
 use Rattle.plant_model.specs.declared.call.Call.{Call}
 use Rattle.plant_model.specs.declared.reply.Answer.{Answer}

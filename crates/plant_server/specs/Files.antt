@@ -1,5 +1,4 @@
 -- What the files of a database held when they were opened, and what an error of the engine is reported as.
-use Rattle.std.specs.Prelude.{◌≡◌}
 use Rattle.sqlite.specs.Effect.{Database, IsDatabase}
 use Rattle.sqlite.specs.Files.{HoldsDatabase}
 use Rattle.sqlite.specs.declared.error.Error.{Error}

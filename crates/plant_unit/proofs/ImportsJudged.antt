@@ -130,9 +130,6 @@ not_added f t rows r e = by (first_refusal (file_refusals f t (Ok rows))) e
 asked : (c : Call) (q : Request) → c.request ≡ q → record { person = c.person; moment = c.moment; request = q } ≡ c
 asked c q e = λ i. record { person = c.person; moment = c.moment; request = sym e i }
 
-pub file_refused : (f : Facts) (c : Call) (u : Name) (fault : BadFile) → c.request ≡ Import u (Err fault) → IsJudgedOwn f c (IsRefused (FileRefused fault))
-file_refused f c u fault e = own_refused f c (FileRefused fault) (ap (λ q. first_refusal (own_refusals f c.person c.moment q)) e)
-
 pub import_refused : (f : Facts) (c : Call) (u : Name) (rows : List Event) (r : Refused) → c.request ≡ Import u (Ok rows) → Err r ≡ addition f c.moment rows → IsJudgedOwn f c (IsRefused r)
 import_refused f c u rows r e is = own_refused f c r (ap (λ q. first_refusal (own_refusals f c.person c.moment q)) e ∙ not_added f c.moment rows r (sym is))
 

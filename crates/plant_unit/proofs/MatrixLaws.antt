@@ -47,11 +47,6 @@ few_limits limits rows e =
     let shape = (parts _ _ (parts _ _ e).0).0 in
     le_of (length limits) 4 (parts _ _ (parts _ _ (parts _ _ shape).0).0).1
 
-pub few_rows : (limits : List ℕ) (rows : List (List Cell)) → is_matrix limits rows ≡ true → length rows ≤ 5
-few_rows limits rows e =
-    let shape = (parts _ _ (parts _ _ e).0).0 in
-    le_of (length rows) 5 (parts _ _ (parts _ _ (parts _ _ (parts _ _ shape).0).0).0).1
-
 each_wide : {V : Type 0} (items : V → List Cell) (width : ℕ) (rows : List V) (k : ℕ) (d : V) → list_all (λ row. length row == width) (map items rows) ≡ true → k < length rows → length (items (get_or rows k d)) ≡ width
 each_wide items width [] k d e lt = absurd (omega arith)
 each_wide items width (row ∷ rows) zero d e lt = eqb→eq (length (items row)) width (subst T (sym (parts _ _ e).0) tt)

@@ -1,6 +1,6 @@
 -- The tags that events name, and states that go on from those in the alarms' rows.
-use Rattle.std.proofs.Common.{List, ap, append_assoc, arith, cond, false, get_or, length, refl, subst, sym, take, true, ◌++◌, ◌+◌, ◌<◌, ◌≤◌, ◌∙◌, ◌∷◌, ◌≡◌, []}
-use Rattle.std.proofs.lemmas.List.{take_all, take_more}
+use Rattle.std.proofs.Common.{List, ap, append_assoc, arith, cond, false, get_or, length, refl, subst, sym, take, true, ◌++◌, ◌+◌, ◌<◌, ◌∙◌, ◌∷◌, ◌≡◌, []}
+use Rattle.std.proofs.lemmas.List.{take_more}
 use Rattle.std.proofs.lemmas.List.Folds.{list_any-append}
 use Rattle.std.specs.BTreeMap.{is_at}
 use Rattle.std.specs.BTreeSet.{BTreeSet, UpdatesBy, btree_set_len, contains}
@@ -57,9 +57,6 @@ named_before s events i e lt is has are a =
     are a
     ∙ covered (list_any (λ x. same_name a x.tag) (take i events)) (same_name a e.tag) (λ same. sym (are a) ∙ ap (contains name_cmp s) (same_names a e.tag (tied _ true same refl)) ∙ has)
     ∙ sym (ap (list_any (λ x. same_name a x.tag)) (take_more events i e lt ∙ ap (λ x. take i events ++ x ∷ []) (sym is)) ∙ list_any-append (λ x. same_name a x.tag) (take i events) (e ∷ []))
-
-pub named_all : (s : BTreeSet Name) (events : List Event) (i : ℕ) → length events ≤ i → AreNamed s (take i events) → AreNamed s events
-named_all s events i le are = subst (AreNamed s) (take_all i events le) are
 
 -- summaries of alarms through more events
 pub added_on : (alarms : List AlarmRow) (es events : List Event) (i : ℕ) (e : Event) (new : List Summary) → i < length events → e ≡ get_or events i e → new ≡ summaries alarms ((es ++ take i events) ++ e ∷ []) → new ≡ summaries alarms (es ++ take (i + 1) events)

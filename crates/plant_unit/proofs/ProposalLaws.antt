@@ -1,6 +1,6 @@
 -- The refusals of calls on changes.
 use Rattle.std.proofs.Common.{ap, cond, refl, sym, ◌∙◌}
-use Rattle.std.specs.Prelude.{Bool, Err, IfOk, List, None, Ok, Option, Result, Some, [], false, is_some, not, true, ℕ, ◌∷◌, ◌≡◌}
+use Rattle.std.specs.Prelude.{Bool, Err, List, None, Ok, Option, Some, [], false, is_some, not, true, ℕ, ◌∷◌, ◌≡◌}
 use Rattle.std.specs.Result.{result_err}
 use Rattle.plant_model.proofs.public.FactLaws.{is_same_number, same_number_of}
 use Rattle.plant_model.specs.Changes.{priority_by}
@@ -67,7 +67,3 @@ not_rejected (Some d) same rest c is there =
     by true b e = cc
     by false true e = cc
     by false false e = refl
-
-pub ok_is : {A E : Type 0} (r : Result A E) (a b : A) → IfOk r (λ x. x ≡ a) → a ≡ b → IfOk r (λ x. x ≡ b)
-ok_is (Ok x) a b is same = is ∙ same
-ok_is (Err e) a b is same = tt

@@ -1,8 +1,8 @@
 -- Bytes that are written or read in several steps.
-use Rattle.std.proofs.Common.{◌≡◌, ℕ, zero, suc, ◌+◌, List, [], ◌∷◌, ◌++◌, take, drop, Option, Some, None, refl, sym, ap, subst, ◌∙◌, append_assoc, append-nil, arith, suc-add}
+use Rattle.std.proofs.Common.{◌≡◌, ℕ, zero, suc, ◌+◌, List, [], ◌∷◌, ◌++◌, take, drop, Option, Some, None, refl, sym, ap, ◌∙◌, append_assoc, append-nil, arith, suc-add}
 use Rattle.std.proofs.Math.Nat.{zero-add}
 use Rattle.std.proofs.lemmas.List.{take_all, drop_all}
-use Rattle.std.specs.Io.KnownBytes.{Appends, Consumes, Keeps}
+use Rattle.std.specs.Io.KnownBytes.{Appends, Consumes}
 
 pub Appends-none : (a : Option (List ℕ)) → Appends a a []
 Appends-none None = tt
@@ -14,11 +14,6 @@ Appends-append (Some ps) None c xs ys g h = absurd g
 Appends-append (Some ps) (Some bs) None xs ys g h = absurd h
 Appends-append (Some ps) (Some bs) (Some cs) xs ys g h = h ∙ ap (λ (t : List ℕ). t ++ ys) g ∙ append_assoc ps xs ys
 
-pub Appends-kept : (a b : Option (List ℕ)) → Keeps a b → Appends a b []
-Appends-kept None b k = tt
-Appends-kept (Some xs) None k = absurd k
-Appends-kept (Some xs) (Some ys) k = k ∙ sym (append-nil xs)
-
 pub Consumes-none : (a : Option (List ℕ)) → Consumes a a []
 Consumes-none None = tt
 Consumes-none (Some xs) = refl
@@ -29,11 +24,6 @@ Consumes-append (Some ps) None c xs ys g h = absurd g
 Consumes-append (Some ps) (Some bs) None xs ys g h = absurd h
 Consumes-append (Some ps) (Some bs) (Some cs) xs ys g h = g ∙ ap (λ (t : List ℕ). xs ++ t) h ∙ sym (append_assoc xs ys cs)
 
-pub Consumes-kept : (a b : Option (List ℕ)) → Keeps a b → Consumes a b []
-Consumes-kept None b k = tt
-Consumes-kept (Some xs) None k = absurd k
-Consumes-kept (Some xs) (Some ys) k = sym k
-
 pub take-add : (i n : ℕ) (xs : List ℕ) → take (i + n) xs ≡ take i xs ++ take n (drop i xs)
 take-add zero n xs = rw zero-add refl
 take-add (suc i) n [] = rw suc-add (sym (take_all n [] (omega arith)))
@@ -42,10 +32,6 @@ take-add (suc i) n (x ∷ xs) = rw suc-add (ap (λ (t : List ℕ). x ∷ t) (tak
 -- some bytes more were taken
 pub Appends-more : (a b c : Option (List ℕ)) (i n : ℕ) (xs rest : List ℕ) → Appends a b (take i xs) → rest ≡ drop i xs → Appends b c (take n rest) → Appends a c (take (i + n) xs)
 Appends-more a b c i n xs rest g is h = rw (take-add, ← is) (Appends-append a b c (take i xs) (take n rest) g h)
-
--- none were
-pub Appends-same : (a b c : Option (List ℕ)) (xs : List ℕ) → Appends a b xs → Keeps b c → Appends a c xs
-Appends-same a b c xs g k = subst (Appends a c) (append-nil xs) (Appends-append a b c xs [] g (Appends-kept b c k))
 
 pub drop-add : (i n : ℕ) (xs : List ℕ) → drop (i + n) xs ≡ drop n (drop i xs)
 drop-add zero n xs = rw zero-add refl

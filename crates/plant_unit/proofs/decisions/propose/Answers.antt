@@ -1,6 +1,6 @@
 use Rattle.plant_model.specs.Calls.{own_changes}
 use Rattle.std.proofs.Common.{ap, refl, sym, ◌∙◌}
-use Rattle.std.specs.Prelude.{List, [], ◌++◌, ◌∷◌}
+use Rattle.std.specs.Prelude.{List, ◌++◌, ◌∷◌}
 use Rattle.plant_model.specs.RowFacts.{facts_in}
 use Rattle.plant_model.specs.declared.call.Request.TheVariants.{Propose}
 use Rattle.plant_model.specs.declared.reply.Reply.TheVariants.{Number}
