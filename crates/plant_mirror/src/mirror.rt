@@ -1,11 +1,12 @@
 ghost use Rattle.std.specs.FinMap as fin;
 ghost use Rattle.std.specs.List.{list_any};
-ghost use Rattle.std.specs.Prelude.{◌≡◌, [], IfOk, Some, option_map};
+ghost use Rattle.std.specs.Prelude.{◌≡◌, [], IfOk, IfSome, Some, option_map};
 ghost use Rattle.plant_books.specs.Contents.{Content, codes_held, part_in};
 ghost use Rattle.plant_mirror.specs.Copies.{IsMirrored, seen};
 ghost use Rattle.plant_mirror.specs.Leaves.{Leaves, AnswersOf, Mirrors};
 ghost use Rattle.plant_model.specs.Worlds.{unit_named};
 ghost use Rattle.plant_types.specs.Names.{same_name};
+ghost use Rattle.plant_types.specs.Results.{OnlyMemory};
 
 use crate::at_hand::AtHand;
 use crate::copies::Copies;
@@ -153,6 +154,19 @@ impl<B: Books> Mirror<B> {
         }
     }
 
+    /// The part of a call on this unit from what is at hand; none where that does not serve the call.
+    fn ready_part(&self, unit: &UnitCode, call: &Call) -> Result<Option<UnitPart>, Fault>
+        ensures found { (m : Content) → Mirrors B.Books self.now m → B.is_honest self.now.books
+            → unit_named call.now.request ≡ Some unit.now
+            → IfOk result (λ ready. IfSome ready (λ part. Some part ≡ part_in m call.now unit.now)) }
+        ensures memory { OnlyMemory result }
+    {
+        match self.copies.copy_of(unit) {
+            Some(copy) if copy.serves(call) => Ok(Some(part_of(self.alloc, &copy.rows, call)?)),
+            _ => Ok(None),
+        }
+    }
+
     /// The part of a call on this unit: from what is at hand, if that serves the call.
     fn part_of(&mut self, unit: &UnitCode, call: &Call) -> Result<Option<UnitPart>, Fault>
         ensures found { (m : Content) → Mirrors B.Books self.old m → B.is_honest self.new.books
@@ -160,9 +174,9 @@ impl<B: Books> Mirror<B> {
             → IfOk result (λ part. part ≡ part_in m call.now unit.now) }
         ensures leaves { Leaves B.Books result self.old self.new }
     {
-        match self.copies.copy_of(unit) {
-            Some(copy) if copy.serves(call) => Ok(Some(part_of(self.alloc, &copy.rows, call)?)),
-            _ => self.books.part(call),
+        match self.ready_part(unit, call)? {
+            Some(part) => Ok(Some(part)),
+            None => self.books.part(call),
         }
     }
 }
@@ -211,6 +225,9 @@ impl<B: Books> Books for Mirror<B> {
             return Ok(None);
         };
         self.copies.touch(unit);
+        if let Some(part) = self.ready_part(unit, call)? {
+            return Ok(Some(part));
+        }
         self.prepare(unit, call)?;
         self.part_of(unit, call)
     }

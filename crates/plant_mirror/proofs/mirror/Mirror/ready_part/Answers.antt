@@ -1,7 +1,7 @@
 use Rattle.std.proofs.Common.{Some, ap, rules, sym, true, ◌∙◌, ◌≡◌}
 use Rattle.std.specs.FinMap.{get}
 use Rattle.plant_mirror.proofs.CopyLaws.{found_there, part_there}
-use Rattle.plant_mirror.proofs.mirror.Mirror.part_of.Goals as goal
+use Rattle.plant_mirror.proofs.mirror.Mirror.ready_part.Goals as goal
 
 pub returns-in_ok-part_of-in-Some-clause-found : goal.returns-in_ok-part_of-in-Some-clause-found
 returns-in_ok-part_of-in-Some-clause-found g c = λ m h honest named.
