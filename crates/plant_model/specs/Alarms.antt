@@ -1,6 +1,6 @@
 -- Alarms: their registration, the limit MaxTimeShelved of OPC 10000-9 that is in force, and the unit's quota of shelves.
 use Rattle.plant_model.specs.Changes.{approved_limit}
-use Rattle.std.specs.Prelude.{Bool, List, None, Option, Some, max, option_map, unwrap_or, ℕ}
+use Rattle.std.specs.Prelude.{Bool, List, None, Option, Some, option_map, unwrap_or, ℕ}
 use Rattle.plant_model.specs.declared.call.Call.{Call}
 use Rattle.plant_model.specs.declared.call.Request.{Request}
 use Rattle.plant_model.specs.Histories.{latest}
@@ -8,11 +8,11 @@ use Rattle.plant_model.specs.Kinds.{Registration, says}
 use Rattle.plant_types.specs.Names.{Name, same_name}
 use Rattle.plant_types.specs.Options.{when}
 
--- what an entry says of an alarm's limit: a registration, or the approval of a change of it
 abbrev pub limit_by : Name → Option Registration → Option ℕ → Option ℕ
-limit_by a (Some x) approved = when (same_name a x.tag) x.max
-limit_by a None approved = approved
+limit_by a (Some x) by_change = when (same_name a x.tag) x.max
+limit_by a None by_change = by_change
 
+-- what an entry says of an alarm's limit: a registration, or the approval of a change of it
 abbrev pub said_of_limit : Name → List Call → Request → Option ℕ
 said_of_limit a before r = limit_by a (says r).registration (approved_limit a before r)
 

@@ -28,7 +28,7 @@ use Rattle.plant_types.specs.Limits.{max_alarms, max_changes, max_grants}
 use Rattle.plant_types.specs.Names.{Name, same_name}
 use Rattle.plant_types.specs.Roles.{same_role}
 use Rattle.plant_types.specs.declared.role.Role.TheVariants.{Steward}
-use Rattle.std.specs.Prelude.{Bool, List, None, Option, Some, [], false, is_none, is_some, max, nat_le, nat_lt, not, true, ℕ, ◌&&◌, ◌++◌, ◌+◌, ◌∷◌}
+use Rattle.std.specs.Prelude.{Bool, List, None, Option, Some, [], false, is_none, is_some, nat_le, nat_lt, not, true, ℕ, ◌&&◌, ◌++◌, ◌+◌, ◌∷◌}
 
 -- the refusals of a request of this person at this moment, beside those of a caller without the role and of a moment
 -- before the last one

@@ -17,7 +17,7 @@ use Rattle.plant_ration.specs.declared.change.Proposal.{Proposal}
 use Rattle.plant_ration.specs.declared.change.Sheet.{Sheet}
 use Rattle.plant_types.specs.Names.{Name, same_name}
 use Rattle.plant_types.specs.Options.{when}
-use Rattle.std.specs.Prelude.{Bool, List, None, Option, Some, [], is_some, max, option_and_then, option_map, unwrap_or, ℕ, ◌+◌}
+use Rattle.std.specs.Prelude.{Bool, List, None, Option, Some, [], is_some, option_and_then, option_map, unwrap_or, ℕ, ◌+◌}
 
 -- a change as it was proposed
 pub record Draft : Type 0 where
@@ -35,10 +35,11 @@ pub record Decision : Type 0 where
 abbrev pub is_proposal : Request → Bool
 is_proposal r = is_some (says r).proposal
 
--- changes are numbered from 1 in the order of their proposals
+-- how many changes were proposed; they are numbered from 1 in this order
 abbrev pub proposals : List Call → ℕ
 proposals h = counted (λ c before. is_proposal c.request) h
 
+-- the change of a number as an entry proposes it
 abbrev pub draft_by : ℕ → Name → ℕ → List Call → Option Proposal → Option Draft
 draft_by n p t before None = None
 draft_by n p t before (Some x) = when (same_number n (proposals before + 1)) (record { proposer = p; proposed = t; kind = x.kind; base = x.base })
@@ -49,11 +50,11 @@ said_of_draft n p t before r = draft_by n p t before (says r).proposal
 abbrev pub draft : List Call → ℕ → Option Draft
 draft h n = latest (λ c before. said_of_draft n c.person c.moment before c.request) h
 
--- a change is withdrawn, approved or rejected
 abbrev pub decision_by : ℕ → Name → ℕ → Option (ℕ × ChangeState) → Option Decision
 decision_by n p t None = None
 decision_by n p t (Some (m, state)) = when (same_number n m) (record { state = state; decider = p; decided = t })
 
+-- that the change of a number is withdrawn, approved or rejected
 abbrev pub said_of_decision : ℕ → Name → ℕ → Request → Option Decision
 said_of_decision n p t r = decision_by n p t (says r).decision
 
@@ -71,10 +72,11 @@ change_as n decided d = record { number = n; kind = d.kind; base = d.base; propo
 abbrev pub change : List Call → ℕ → Option ChangeRow
 change h n = option_map (change_as n (decision h n)) (draft h n)
 
--- what the change of a number is of
+-- the content of the change of a number
 abbrev pub kind_of_change : List Call → ℕ → Option ChangeKind
 kind_of_change h n = option_map (λ d. d.kind) (draft h n)
 
+-- a change of the matrix, with its number; of an alarm's record, with its number; of an alarm's limit
 abbrev pub matrix_in : ℕ → Option ChangeKind → Option (ℕ × Grid)
 matrix_in n None = None
 matrix_in n (Some (Rationale b s)) = None
@@ -93,18 +95,18 @@ limit_in a (Some (Rationale b s)) = None
 limit_in a (Some (Matrix m)) = None
 limit_in a (Some (Limit b max)) = when (same_name a b) max
 
--- the number of the change that is approved
-abbrev pub approved : Option (ℕ × ChangeState) → Option ℕ
-approved None = None
-approved (Some (n, Approved)) = Some n
-approved (Some (n, Proposed)) = None
-approved (Some (n, Rejected)) = None
-approved (Some (n, Withdrawn)) = None
+abbrev pub number_if_approved : Option (ℕ × ChangeState) → Option ℕ
+number_if_approved None = None
+number_if_approved (Some (n, Approved)) = Some n
+number_if_approved (Some (n, Proposed)) = None
+number_if_approved (Some (n, Rejected)) = None
+number_if_approved (Some (n, Withdrawn)) = None
 
+-- the number of the change that a request approves
 abbrev pub number_approved : Request → Option ℕ
-number_approved r = approved (says r).decision
+number_approved r = number_if_approved (says r).decision
 
--- what an approval brings into force: a matrix or a record, with the change's number, or a limit
+-- what an approval puts into force: a matrix or a record, with the change's number, or a limit
 abbrev pub approved_matrix : List Call → Request → Option (ℕ × Grid)
 approved_matrix before r = option_and_then (λ n. matrix_in n (kind_of_change before n)) (number_approved r)
 
@@ -114,17 +116,18 @@ approved_sheet a before r = option_and_then (λ n. sheet_in a n (kind_of_change 
 abbrev pub approved_limit : Name → List Call → Request → Option ℕ
 approved_limit a before r = option_and_then (λ n. limit_in a (kind_of_change before n)) (number_approved r)
 
--- the matrix in force, with the number of its change; that of the opening has number 0
 abbrev pub matrix_by : Option Opening → Option (ℕ × Grid) → Option (ℕ × Grid)
-matrix_by (Some o) approved = Some (0, o.matrix)
-matrix_by None approved = approved
+matrix_by (Some o) by_change = Some (0, o.matrix)
+matrix_by None by_change = by_change
 
+-- what an entry says of the matrix: that of an opening has number 0, an approved one that of its change
 abbrev pub said_of_matrix : List Call → Request → Option (ℕ × Grid)
 said_of_matrix before r = matrix_by (says r).opening (approved_matrix before r)
 
 abbrev pub no_matrix : ℕ × Grid
 no_matrix = (0, record { limits = []; cells = [] })
 
+-- the matrix in force, with its number
 abbrev pub matrix : List Call → ℕ × Grid
 matrix h = unwrap_or (latest (λ c before. said_of_matrix before c.request) h) no_matrix
 

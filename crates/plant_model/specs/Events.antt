@@ -18,7 +18,7 @@ use Rattle.std.specs.List.{find}
 use Rattle.std.specs.Ordering.{nat_cmp}
 use Rattle.std.specs.Prelude.{Bool, List, None, Option, Result, Some, [], filter_map, map, nat_le, nat_lt, ℕ, ◌%◌, ◌&&◌, ◌*◌, ◌+◌, ◌-◌, ◌==◌}
 
--- the rows that an entry brings
+-- the rows that an entry imports
 abbrev pub rows_in : Option (Result (List Event) BadFile) → List Event
 rows_in None = []
 rows_in (Some file) = rows_of_file file

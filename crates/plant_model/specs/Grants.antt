@@ -10,11 +10,11 @@ use Rattle.plant_types.specs.Names.{Name}
 use Rattle.plant_types.specs.Options.{when}
 use Rattle.plant_types.specs.Roles.{Pair, all_roles, same_pair}
 
--- what a request says of a pair: that it stands until an end (None: for good), or that it is over. An opening grants Steward
 abbrev pub pair_by : Pair → Option (Pair × Said (Option ℕ)) → Option (Said (Option ℕ))
 pair_by k None = None
 pair_by k (Some (l, said)) = when (same_pair k l) said
 
+-- what a request says of a pair: that it stands until an end (None: for good), or that it is over
 abbrev pub said_of_pair : Pair → Request → Option (Said (Option ℕ))
 said_of_pair k r = pair_by k (says r).pair
 
@@ -22,7 +22,7 @@ said_of_pair k r = pair_by k (says r).pair
 abbrev pub standing : List Call → Pair → Option (Option ℕ)
 standing h k = still (latest (λ c before. said_of_pair k c.request) h)
 
--- the pair stands: the last Grant or Withdraw of it is a Grant
+-- the pair stands: what was said of it last is not that it is over
 abbrev pub stands : List Call → Pair → Bool
 stands h k = is_some (standing h k)
 

@@ -1,4 +1,5 @@
--- The kinds of calls, and what all calls of one kind have in common: one line a kind in each table.
+-- The kinds of calls: what all calls of a kind have in common, and what a request of each kind is about, says and looks at.
+-- Each table has one line a kind.
 use Rattle.plant_alarm.specs.declared.event.Event.{Event}
 use Rattle.plant_import.specs.declared.bad_file.BadFile.{BadFile}
 use Rattle.plant_model.specs.Histories.{Begins, Over, Said}
@@ -47,7 +48,7 @@ kind_of (request.Floods u begin until) = kind.Floods
 kind_of request.MyUnits = kind.MyUnits
 kind_of request.MyShelves = kind.MyShelves
 
--- what a request is about: a unit, or all units in which its caller holds a role
+-- what a request is about: one unit, or the units in which its caller holds a role, as a list of them or of their shelves
 pub data Subject : Type 0 where
   OneUnit : Name → Subject
   OwnUnits : Subject
@@ -78,12 +79,12 @@ subject_of (request.Floods u begin until) = OneUnit u
 subject_of request.MyUnits = OwnUnits
 subject_of request.MyShelves = OwnShelves
 
--- the unit that a request names
 abbrev pub unit_of : Subject → Option Name
 unit_of (OneUnit u) = Some u
 unit_of OwnUnits = None
 unit_of OwnShelves = None
 
+-- the unit that a request names
 abbrev pub unit_named : Request → Option Name
 unit_named r = unit_of (subject_of r)
 
@@ -139,7 +140,7 @@ role_of kind.Floods = None
 role_of kind.MyUnits = None
 role_of kind.MyShelves = None
 
--- what of a unit is counted for calls of a kind
+-- which count of the unit a call of a kind needs
 abbrev pub count_of : CallKind → Counted
 count_of kind.OpenUnit = count.Nothing
 count_of kind.Grant = count.Nothing
@@ -207,7 +208,7 @@ pub data NewShelf : Type 0 where
   TimedShelf : ℕ → Name → NewShelf
   OneShotShelf : Name → NewShelf
 
--- what an entry says, and of what; most entries say one thing
+-- what an entry says, and of what: one field for each thing that the definitions ask for. Most entries say one thing
 pub record Sayings : Type 0 where
   pub opening : Option Opening
   -- of a person's role: it is held from now on until an end (None: for good), or it is over
@@ -222,9 +223,11 @@ pub record Sayings : Type 0 where
   -- of the change of a number
   pub decision : Option (ℕ × ChangeState)
 
+-- an entry that says nothing
 abbrev pub silent : Sayings
 silent = record { opening = None; pair = None; registration = None; file = None; shelf = None; outage = None; proposal = None; decision = None }
 
+-- what a request says once it is an entry. An opening also makes its steward one, for good; a request that only reads says nothing
 abbrev pub says : Request → Sayings
 says (request.OpenUnit u s m q) = record silent { opening = Some (record { unit = u; steward = s; matrix = m; quota = q }); pair = Some ((s, Steward), Begins None) }
 says (request.Grant u p t) = record silent { pair = Some ((p, t.0), Begins t.1) }

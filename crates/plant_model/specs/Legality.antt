@@ -1,4 +1,4 @@
--- Which lists of calls are histories.
+-- Which lists of calls are legal histories.
 use Rattle.plant_ration.specs.declared.change.ChangeKind.{ChangeKind}
 use Rattle.plant_ration.specs.declared.change.ChangeKind.TheVariants.{Limit, Matrix, Rationale}
 use Rattle.plant_ration.specs.declared.change.Proposal.{Proposal}
@@ -14,14 +14,14 @@ is_matrix_kind (Rationale a s) = true
 is_matrix_kind (Matrix m) = is_matrix m.limits m.cells
 is_matrix_kind (Limit a max) = true
 
--- the matrix of a request is one (its value alone does not show that)
-abbrev pub have_matrix : Option Opening → Option Proposal → Bool
-have_matrix (Some o) x = is_matrix o.matrix.limits o.matrix.cells
-have_matrix None None = true
-have_matrix None (Some x) = is_matrix_kind x.kind
+abbrev pub has_matrix_said : Option Opening → Option Proposal → Bool
+has_matrix_said (Some o) x = is_matrix o.matrix.limits o.matrix.cells
+has_matrix_said None None = true
+has_matrix_said None (Some x) = is_matrix_kind x.kind
 
+-- if the request carries a matrix, it is an ordered one
 abbrev pub has_matrix : Request → Bool
-has_matrix r = have_matrix (says r).opening (says r).proposal
+has_matrix r = has_matrix_said (says r).opening (says r).proposal
 
 -- a call may follow these entries: it is not an opening, and the unit accepts it as a change
 abbrev pub may_follow : List Call → Call → Bool

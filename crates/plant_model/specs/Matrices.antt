@@ -16,12 +16,12 @@ use Rattle.plant_model.specs.Kinds.{Opening, says}
 use Rattle.plant_ration.specs.Grid.{Grid}
 use Rattle.plant_types.specs.Options.{when}
 
--- the matrix that an entry brings, with its number: that of the opening has number 0, a proposed one that of its change
 abbrev pub numbered_by : List Call → Option Opening → Option Proposal → Option (ℕ × Grid)
 numbered_by before (Some o) x = Some (0, o.matrix)
 numbered_by before None None = None
 numbered_by before None (Some x) = matrix_in (proposals before + 1) (Some x.kind)
 
+-- the matrix of an entry, with its number: that of the opening has number 0, a proposed one that of its change
 abbrev pub numbered_matrix : List Call → Request → Option (ℕ × Grid)
 numbered_matrix before r = numbered_by before (says r).opening (says r).proposal
 

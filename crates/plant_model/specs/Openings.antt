@@ -14,15 +14,15 @@ use Rattle.plant_types.specs.Roles.{Pair, same_role}
 use Rattle.plant_types.specs.Text.{in_person, in_unit_code, is_text}
 use Rattle.plant_types.specs.declared.role.Role.TheVariants.{Steward}
 
--- the values of an opening are of their sets, and a steward's grant has no end
-abbrev pub have_values : Option Opening → Option (Pair × Said (Option ℕ)) → Bool
-have_values (Some o) pair = is_text in_unit_code 8 o.unit && is_text in_person 32 o.steward && is_matrix o.matrix.limits o.matrix.cells && is_quota o.quota
-have_values None None = true
-have_values None (Some (k, Begins until)) = is_text in_person 32 k.0 && (not (same_role k.1 Steward) || is_none until)
-have_values None (Some (k, Over)) = true
+abbrev pub has_values_said : Option Opening → Option (Pair × Said (Option ℕ)) → Bool
+has_values_said (Some o) pair = is_text in_unit_code 8 o.unit && is_text in_person 32 o.steward && is_matrix o.matrix.limits o.matrix.cells && is_quota o.quota
+has_values_said None None = true
+has_values_said None (Some (k, Begins until)) = is_text in_person 32 k.0 && (not (same_role k.1 Steward) || is_none until)
+has_values_said None (Some (k, Over)) = true
 
+-- the values of an opening and the name in a grant are of their sets, and a steward's grant has no end
 abbrev pub has_values : Request → Bool
-has_values r = have_values (says r).opening (says r).pair
+has_values r = has_values_said (says r).opening (says r).pair
 
 -- an entry of a unit's history
 pub record IsEntryOf (u : Name) (c : Call) : Type 0 where

@@ -12,7 +12,6 @@ use Rattle.plant_ration.specs.declared.change.ChangeKind.TheVariants.{Limit, Mat
 use Rattle.plant_ration.specs.declared.change.ChangeState.{ChangeState}
 use Rattle.plant_ration.specs.declared.change.ChangeState.TheVariants.{Proposed}
 use Rattle.plant_types.specs.Limits.{max_events}
-use Rattle.std.specs.Prelude.{false, max}
 use Rattle.plant_alarm.specs.declared.event.Event.{Event}
 use Rattle.plant_import.specs.Merging.{first_fault}
 use Rattle.plant_import.specs.declared.bad_file.BadFile.{BadFile}
@@ -26,7 +25,7 @@ use Rattle.plant_types.specs.Names.{Name}
 use Rattle.plant_types.specs.Roles.{all_roles}
 use Rattle.plant_types.specs.declared.role.Role.{Role}
 use Rattle.std.specs.List.{list_any}
-use Rattle.std.specs.Prelude.{Bool, Err, List, None, Ok, Option, Result, Some, [], if◌then◌else◌, is_none, is_some, length, map, nat_le, nat_lt, not, true, ℕ, ◌+◌, ◌∷◌}
+use Rattle.std.specs.Prelude.{Bool, Err, List, None, Ok, Option, Result, Some, [], false, if◌then◌else◌, is_none, is_some, length, map, nat_le, nat_lt, not, true, ℕ, ◌+◌, ◌∷◌}
 
 -- no alarm has this tag
 abbrev pub unknown : Facts → Name → Bool × Refused

@@ -11,7 +11,6 @@ use Rattle.plant_ration.specs.declared.change.ChangeKind.TheVariants.{Limit, Mat
 use Rattle.plant_ration.specs.declared.change.Sheet.{Sheet}
 use Rattle.std.specs.Option.{option_to_list}
 use Rattle.std.specs.Ordering.{nat_cmp}
-use Rattle.std.specs.Prelude.{None, Some, map, ◌+◌}
 use Rattle.plant_alarm.specs.States.{active_since, is_suppressed, last_return, state_of}
 use Rattle.plant_alarm.specs.declared.event.Event.{Event}
 use Rattle.plant_model.specs.Alarms.{latching, limit, quota}
@@ -34,9 +33,8 @@ use Rattle.plant_model.specs.declared.rows.UnitRows.{UnitRows}
 use Rattle.plant_types.specs.Names.{Name, name_cmp}
 use Rattle.plant_types.specs.Roles.{Pair, pair_cmp}
 use Rattle.plant_types.specs.KeyedRows.{in_order}
-use Rattle.std.specs.Prelude.{Bool, List, Option, [], filter_map, max, option_and_then, option_map, unwrap_or, ℕ, ◌∷◌}
+use Rattle.std.specs.Prelude.{Bool, List, None, Option, Some, [], filter_map, map, option_and_then, option_map, unwrap_or, ℕ, ◌+◌, ◌∷◌}
 
--- Grants: the pairs that stand, also those whose end has come
 abbrev pub pairs_named : Request → List Pair
 pairs_named r = option_to_list (option_map (λ e. e.0) (says r).pair)
 
@@ -46,14 +44,14 @@ grant_as k until = record { person = k.0; role_no = k.1; end_s = until }
 abbrev pub grant_row : List Call → Pair → Option GrantRow
 grant_row h k = option_map (grant_as k) (standing h k)
 
+-- Grants: the pairs that stand, also those whose end has come
 abbrev pub grant_rows : List Call → List GrantRow
 grant_rows h = filter_map (grant_row h) (in_order pair_cmp (all_named (λ c before. pairs_named c.request) h))
 
--- Alarms, one for each registration. State, suppression by design and the moments of the last activation and return follow
--- from all kept events of the alarm
 abbrev pub tags_registered : Request → List Name
 tags_registered r = option_to_list (option_map (λ x. x.tag) (says r).registration)
 
+-- an alarm's row: state, suppression by design and the moments of the last activation and return follow from all its kept events
 abbrev pub alarm_as : Name → ℕ → ℕ → List Event → Option Outage → Bool → AlarmRow
 alarm_as a max revision es out latches =
     record {
@@ -70,7 +68,7 @@ alarm_as a max revision es out latches =
       out_words = option_map (λ o. o.words) out;
     }
 
--- the revision of an alarm's limit: how many changes of it were approved; 0 where no alarm is there
+-- the revision of an alarm's limit: how many changes of it were approved; 0 if there is no alarm
 abbrev pub revision_of_limit : Option AlarmRow → ℕ
 revision_of_limit alarm = unwrap_or (option_map (λ r. r.max_rev) alarm) 0
 
@@ -81,13 +79,14 @@ with_limit max r = record r { max_s = max; max_rev = r.max_rev + 1 }
 abbrev pub alarm_row : List Call → Name → Option AlarmRow
 alarm_row h a = option_map (alarm_as a (unwrap_or (limit h a) 0) (limit_revision h a) (events_of h a) (outage h a)) (latching h a)
 
+-- Alarms, one for each registration
 abbrev pub alarm_rows : List Call → List AlarmRow
 alarm_rows h = filter_map (alarm_row h) (in_order name_cmp (all_named (λ c before. tags_registered c.request) h))
 
--- Shelves, those whose time has passed too
 abbrev pub tags_shelved : Request → List Name
 tags_shelved r = option_to_list (option_map (λ e. e.0) (says r).shelf)
 
+-- Shelves, those whose time has passed too
 abbrev pub shelf_rows : List Call → List ShelfRow
 shelf_rows h = filter_map (shelf h) (in_order name_cmp (all_named (λ c before. tags_shelved c.request) h))
 
@@ -104,7 +103,6 @@ band_rows h = filter_map (band_row h) (in_order band_cmp (all_named (λ c before
 abbrev pub cell_rows : List Call → List CellRow
 cell_rows h = filter_map (cell_row h) (in_order cell_cmp (all_named (λ c before. places_in cell_places (numbered_matrix before c.request)) h))
 
--- Rationalisation records (ISA-18.2), one for each alarm with an approved change of its record
 abbrev pub tag_rationalised : Option ChangeKind → List Name
 tag_rationalised None = []
 tag_rationalised (Some (Rationale a s)) = a ∷ []
@@ -117,13 +115,13 @@ tags_approved before r = tag_rationalised (option_and_then (kind_of_change befor
 abbrev pub record_entry : RecordRow → RecordEntry
 record_entry r = record { tag = r.tag; change_no = r.change; rev = r.revision; cell_no = r.priority }
 
+-- Rationalisation records (ISA-18.2), one for each alarm with an approved change of its record
 abbrev pub records_of : List Call → List RecordRow
 records_of h = filter_map (record_of h) (in_order name_cmp (all_named (λ c before. tags_approved before c.request) h))
 
 abbrev pub record_rows : List Call → List RecordEntry
 record_rows h = map record_entry (records_of h)
 
--- Changes, one for each proposal. What its kind does not have is not there
 abbrev pub topic : ChangeKind → ChangeTopic
 topic (Rationale a s) = RecordTopic
 topic (Matrix m) = MatrixTopic
@@ -144,6 +142,7 @@ max_of_kind (Rationale a s) = None
 max_of_kind (Matrix m) = None
 max_of_kind (Limit a max) = Some max
 
+-- a change's row; columns that its kind lacks are None
 abbrev pub change_entry : ChangeRow → ChangeEntry
 change_entry c =
     record {
@@ -167,6 +166,7 @@ change_entry c =
 abbrev pub numbers_proposed : List Call → Request → List ℕ
 numbers_proposed before r = option_to_list (option_map (λ x. proposals before + 1) (says r).proposal)
 
+-- Changes, one for each proposal
 abbrev pub changes_of : List Call → List ChangeRow
 changes_of h = filter_map (change h) (in_order nat_cmp (all_named (λ c before. numbers_proposed before c.request) h))
 

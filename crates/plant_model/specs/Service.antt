@@ -13,15 +13,15 @@ pub record Outage : Type 0 where
   pub person : Name
   pub words : Name
 
--- what an entry says of the alarm's removal from service: that one begins, or that it is over
 abbrev pub outage_by : Name → Name → ℕ → Option (Name × Said Name) → Option (Said Outage)
 outage_by a p t None = None
 outage_by a p t (Some (b, Begins words)) = when (same_name a b) (Begins (record { from = t; person = p; words = words }))
 outage_by a p t (Some (b, Over)) = when (same_name a b) Over
 
-abbrev pub said_of_service : Name → Name → ℕ → Request → Option (Said Outage)
-said_of_service a p t r = outage_by a p t (says r).outage
+-- what an entry says of the alarm's removal from service: that one begins, or that it is over
+abbrev pub said_of_outage : Name → Name → ℕ → Request → Option (Said Outage)
+said_of_outage a p t r = outage_by a p t (says r).outage
 
--- the removal that stands: the last that was said of it is that it begins
+-- the removal that stands: none where the alarm was placed in service since
 abbrev pub outage : List Call → Name → Option Outage
-outage h a = still (latest (λ c before. said_of_service a c.person c.moment c.request) h)
+outage h a = still (latest (λ c before. said_of_outage a c.person c.moment c.request) h)

@@ -6,7 +6,6 @@ use Rattle.plant_model.specs.declared.call.Call.{Call}
 use Rattle.plant_model.specs.declared.call.Request.{Request}
 use Rattle.plant_model.specs.declared.reply.Refused.{Refused}
 use Rattle.plant_model.specs.declared.reply.Reply.{Reply}
-use Rattle.plant_model.specs.Alarms.{quota}
 use Rattle.plant_model.specs.Grants.{stands}
 use Rattle.plant_model.specs.Histories.{Begins, Over, Said}
 use Rattle.plant_model.specs.Kinds.{says}
@@ -18,23 +17,25 @@ use Rattle.plant_types.specs.Roles.{Pair, all_roles}
 abbrev pub codes_seen : World → Name → List Name
 codes_seen w p = if same_name p w.admin then keys w.units else []
 
--- what a person sees of a world at a moment: the units in which the person holds a role, each with its history
+-- what a person sees of a world at a moment: the units in which the person holds a role, each with its history, and, as the
+-- administrator, all codes
 abbrev pub view : ℕ → Name → World → List (Name × List Call) × List Name
 view t p w = (units_held w t p, codes_seen w p)
 
--- the request grants the person something
-abbrev pub is_given : Name → Option (Pair × Said (Option ℕ)) → Bool
-is_given p None = false
-is_given p (Some (k, Begins until)) = same_name p k.0
-is_given p (Some (k, Over)) = false
+abbrev pub is_grant_to : Name → Option (Pair × Said (Option ℕ)) → Bool
+is_grant_to p None = false
+is_grant_to p (Some (k, Begins until)) = same_name p k.0
+is_grant_to p (Some (k, Over)) = false
 
+-- the request grants the person something
 abbrev pub grants_to : Name → Request → Bool
-grants_to p r = is_given p (says r).pair
+grants_to p r = is_grant_to p (says r).pair
 
 -- some pair of the person stands
 abbrev pub has_pair : List Call → Name → Bool
 has_pair h p = list_any (λ r. stands h (p, r)) all_roles
 
+-- a call that names one of these units
 abbrev pub names_in : (Name → Bool) → Option Name → Bool
 names_in units None = false
 names_in units (Some u) = units u

@@ -44,10 +44,10 @@ greatest_last units = fold max 0 (map (λ e. last_moment e.1) units)
 abbrev pub unit_lines : ℕ → Name → List (Name × List Call) → List UnitLine
 unit_lines t p units = map (λ e. record { unit = e.0; roles = roles_held e.1 t p }) units
 
--- their shelves that hold at a moment, by unit and tag
 abbrev pub mine_line : Name → ShelfLine → MineLine
 mine_line u l = record { unit = u; line = l }
 
+-- their shelves that hold at a moment, by unit and tag
 abbrev pub mine_lines : ℕ → List (Name × List Call) → List MineLine
 mine_lines t units = flat_map (λ e. map (mine_line e.0) (shelf_lines (facts e.1) t)) units
 

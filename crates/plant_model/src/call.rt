@@ -31,7 +31,7 @@ pub enum Request {
         latching: bool,
         max: Seconds,
     },
-    /// Imports the events of a file, or brings the first fault that was met in reading it.
+    /// Imports the events of a file, or carries the first fault found in reading it.
     Import {
         unit: UnitCode,
         file: FileRead,

@@ -5,7 +5,7 @@ use Rattle.plant_model.proofs.public.FactLaws.{alarm_in, change_entry_in, not_tr
 use Rattle.plant_model.proofs.public.HistoryLaws.{alarm_of, alarms_told, change_with, changes_told, number_of_change, numbers_of_changes, record_with, records_told, shelves_told, tag_of_record, tags_of_alarms, tags_of_records, tags_of_shelves}
 use Rattle.plant_model.proofs.public.PartLaws.{matrix_there, own_holds}
 use Rattle.plant_alarm.specs.States.{summary}
-use Rattle.plant_model.specs.Kinds.{AllEvents, AllRecords, Approval, File, OneChange, OneRecord, Scope, scope_of}
+use Rattle.plant_model.specs.Kinds.{AllEvents, AllRecords, Approval, File, OneChange, OneRecord, Scope, scope_of, scope_of_proposal}
 use Rattle.plant_types.specs.Limits.{max_changes, max_events}
 use Rattle.plant_unit.specs.Summaries.{summary_in, summary_of}
 use Rattle.plant_model.proofs.public.PartLists.{or_later, or_true}
@@ -34,6 +34,7 @@ use Rattle.plant_model.specs.declared.rows.RecordEntry.{RecordEntry}
 use Rattle.plant_model.specs.declared.rows.UnitRows.{UnitRows}
 use Rattle.plant_ration.specs.Grid.{Grid}
 use Rattle.plant_ration.specs.Matrix.{is_matrix}
+use Rattle.plant_model.specs.declared.rows.UnitPart.{UnitPart}
 use Rattle.plant_ration.specs.declared.change.ChangeKind.{ChangeKind}
 use Rattle.plant_ration.specs.declared.change.ChangeKind.TheVariants.{Limit, Matrix, Rationale}
 use Rattle.plant_ration.specs.declared.change.Sheet.{Sheet}
@@ -44,7 +45,7 @@ use Rattle.plant_model.specs.Shelves.{shelf}
 use Rattle.plant_types.specs.KeyedRows.{IsInOrder, in_order, row_at}
 use Rattle.std.specs.FinMap.Entries.{below_all}
 use Rattle.plant_unit.proofs.EventBounds.{few_events}
-use Rattle.plant_unit.specs.Additions.{AreEventsFor, AreKept}
+use Rattle.plant_unit.specs.Additions.{AreEventsFor, AreEventsIn, AreKept}
 use Rattle.plant_unit.specs.Readings.{has_its_sheet, has_kind, has_sheet, is_left_out, is_matrix_at}
 use Rattle.std.proofs.Common.{ap, arith, cond, inl, inr, refl, subst, sym, ◌∙◌, ◌⊎◌}
 use Rattle.std.specs.List.{cons_option, list_all, list_any}
@@ -356,9 +357,15 @@ summaries_told h (a ∷ tags) = by (latching h a) (summaries_told h tags) where
   by None rest = rest
   by (Some l) rest = ap (λ ss. summary_of (events h) (alarm_of h a l) ∷ ss) rest
 
+proposal_events : (part : UnitPart) (es : List Event) (k : ChangeKind) → AreEventsIn part (scope_of_proposal k) es
+proposal_events part es (Rationale a s) = tt
+proposal_events part es (Matrix m) = tt
+proposal_events part es (Limit a max) = tt
+
 holder_events : (h : List Call) (legal : IsLegal h) (p : Name) (t : ℕ) (q : Request) → AreEventsFor (part_of_holder (record { person = p; moment = t; request = q }) (rows_of h)) q (events h)
 holder_events h legal p t (Import u file) = record { rise = events_rise h legal; needed_are = refl; count_is = refl; summaries = summaries_told h (in_order name_cmp (tags_of_alarms h)) }
 holder_events h legal p t (Floods u begin until) = refl
+holder_events h legal p t (Propose u x) = proposal_events (part_of_holder (record { person = p; moment = t; request = Propose u x }) (rows_of h)) (events h) x.kind
 holder_events h legal p t _ = tt
 
 pub part_events : (h : List Call) (legal : IsLegal h) (c : Call) → holds_by (part_of c (rows_of h)).rows.grants c.moment c.person ≡ true → AreEventsFor (part_of c (rows_of h)) c.request (events h)

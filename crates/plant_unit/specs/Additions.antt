@@ -5,6 +5,7 @@ use Rattle.plant_import.specs.Merging.{IsRising, first_fault, fresh}
 use Rattle.plant_import.specs.Needed.{needed}
 use Rattle.plant_model.specs.Kinds.{Scope, scope_of, AllAlarms, AllEvents, AllGrants, AllRecords, AllShelves, Approval, Content, File, NothingElse, OneAlarm, OneChange, OneRecord, Shelving}
 use Rattle.plant_model.specs.declared.call.Request.{Request}
+use Rattle.plant_model.specs.declared.call.Request.TheVariants.{Import}
 use Rattle.plant_model.specs.declared.reply.Reply.{Reply}
 use Rattle.plant_model.specs.declared.reply.Reply.TheVariants.{Imported}
 use Rattle.plant_model.specs.declared.rows.Row.TheVariants.{Event as EventPut, Unit as UnitPut}

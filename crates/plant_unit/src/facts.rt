@@ -88,7 +88,7 @@ fn is_unshelved(state: ShelfState) -> bool
 }
 
 /// When the alarm of a tag last returned to normal.
-pub fn returned_at(part: &UnitPart, tag: &Tag) -> Option<Moment>
+fn returned_at(part: &UnitPart, tag: &Tag) -> Option<Moment>
     ensures { AreKept part.now → result ≡ returned (facts_in part.now) tag.now }
 {
     match row_of(part.rows.alarms.as_slice(), tag) {

@@ -10,7 +10,7 @@ use Rattle.plant_model.specs.declared.rows.Row.TheVariants.{Alarm as AlarmPut, S
 use Rattle.plant_model.specs.declared.rows.RowEdit.TheVariants.{Put}
 use Rattle.plant_model.specs.declared.rows.AlarmRow.{AlarmRow}
 use Rattle.plant_model.specs.Shelves.{shelf, shelf_row_as}
-use Rattle.plant_model.specs.Service.{Outage, outage, said_of_service}
+use Rattle.plant_model.specs.Service.{Outage, outage, said_of_outage}
 use Rattle.plant_model.specs.RowChanges.{changed_by, placed_in, taken_out}
 use Rattle.plant_model.specs.Events.{events_of}
 use Rattle.plant_model.proofs.public.HistoryLaws.{alarm_of, alarms_told, grants_told, pairs_of, shelves_told, tags_of_alarms, tags_of_shelves}
@@ -110,7 +110,7 @@ module _ (h : List Call) (p : Name) (t : ℕ) where
   abbrev row_by_outage : (a : Name) → Option Outage → Bool → AlarmRow
   row_by_outage a out = alarm_as a (unwrap_or (limit h a) 0) (limit_revision h a) (events_of h a) out
 
-  outage_anew : (a k : Name) (l : Bool) (v : Said Outage) → latching h a ≡ Some l → option_map (row_by_outage k (still (or_else (when (same_name k a) v) (latest (λ c before. said_of_service k c.person c.moment c.request) h)))) (latching h k) ≡ cond (same_name k a) (Some (row_by_outage a (what_stands v) l)) (alarm_row h k)
+  outage_anew : (a k : Name) (l : Bool) (v : Said Outage) → latching h a ≡ Some l → option_map (row_by_outage k (still (or_else (when (same_name k a) v) (latest (λ c before. said_of_outage k c.person c.moment c.request) h)))) (latching h k) ≡ cond (same_name k a) (Some (row_by_outage a (what_stands v) l)) (alarm_row h k)
   outage_anew a k l v known =
       ap (λ o. option_map (row_by_outage k o) (latching h k)) (still_when (same_name k a) v _)
       ∙ said_anew name_cmp same_names row_by_outage (outage h) (latching h) a l (what_stands v) known k

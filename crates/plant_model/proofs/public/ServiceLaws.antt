@@ -7,7 +7,7 @@ use Rattle.plant_model.specs.Histories.{Begins, Over, Said, last_moment, latest,
 use Rattle.plant_model.specs.Legality.{IsLegal}
 use Rattle.plant_model.specs.Refusals.{first_refusal, holds_some}
 use Rattle.plant_model.specs.Rows.{alarm_row, alarm_rows}
-use Rattle.plant_model.specs.Service.{Outage, outage, said_of_service}
+use Rattle.plant_model.specs.Service.{Outage, outage, said_of_outage}
 use Rattle.plant_model.specs.Verdicts.{changes_history, is_opening, refused_or, verdict}
 use Rattle.plant_model.specs.declared.call.Call.{Call}
 use Rattle.plant_model.specs.declared.call.Request.{Request}
@@ -47,7 +47,7 @@ pub is_some-map : {A B : Type 0} (f : A → B) (o : Option A) → is_some (optio
 is_some-map f None = refl
 is_some-map f (Some x) = refl
 
-removed_is_there : (h : List Call) (p : Name) (t : ℕ) (q : Request) (a : Name) (o : Outage) → changes_history (verdict h (record { person = p; moment = t; request = q })) (record { person = p; moment = t; request = q }) ≡ true → said_of_service a p t q ≡ Some (Begins o) → is_some (latching h a) ≡ true
+removed_is_there : (h : List Call) (p : Name) (t : ℕ) (q : Request) (a : Name) (o : Outage) → changes_history (verdict h (record { person = p; moment = t; request = q })) (record { person = p; moment = t; request = q }) ≡ true → said_of_outage a p t q ≡ Some (Begins o) → is_some (latching h a) ≡ true
 removed_is_there h p t (RemoveFromService u b w) a o accepted e =
     let there = known_alarm (not (holds_some (facts h) t p)) (not (held h t (p, Maintainer))) (nat_lt t (last_moment h)) NotGranted (RoleLacking Maintainer) (MomentBehind (last_moment h)) (alarm_row h b) ((is_out (facts h) b, AlreadyOutOfService) ∷ []) Done (both_true (is_ok (verdict h (record { person = p; moment = t; request = RemoveFromService u b w }))) true accepted).0 in
     elim (same_name a b) as (λ s. same_name a b ≡ s → when s (Begins (record { from = t; person = p; words = w })) ≡ Some (Begins o) → is_some (latching h a) ≡ true) [
@@ -60,18 +60,18 @@ removed_is_there h p t _ a o accepted e = cc
 pub registered_stays : (c : Call) (h : List Call) (a : Name) → is_some (latching h a) ≡ true → is_some (latching (c ∷ h) a) ≡ true
 registered_stays c h a e = elim (said_of_latching a c.request) as (λ o. is_some (or_else o (latching h a)) ≡ true) [ None ↦ e | Some l ↦ refl ]
 
-opening_serves : (a p : Name) (t : ℕ) (q : Request) → is_opening q ≡ true → said_of_service a p t q ≡ None
+opening_serves : (a p : Name) (t : ℕ) (q : Request) → is_opening q ≡ true → said_of_outage a p t q ≡ None
 opening_serves a p t (OpenUnit u s m k) is = refl
 opening_serves a p t _ is = cc
 
 abbrev served : List Call → Name → Option (Said Outage)
-served h a = latest (λ c before. said_of_service a c.person c.moment c.request) h
+served h a = latest (λ c before. said_of_outage a c.person c.moment c.request) h
 
 removed_known : (h : List Call) → IsLegal h → (a : Name) (o : Outage) → served h a ≡ Some (Begins o) → is_some (latching h a) ≡ true
 removed_known [] legal a o e = absurd legal
 removed_known (c ∷ []) legal a o e = let none : None ≡ Some (Begins o) = sym (ap (λ x. or_else x None) (opening_serves a c.person c.moment c.request legal.0)) ∙ e in cc
 removed_known (c ∷ b ∷ h) legal a o e =
-    elim (said_of_service a c.person c.moment c.request) as (λ x. said_of_service a c.person c.moment c.request ≡ x → or_else x (served (b ∷ h) a) ≡ Some (Begins o) → is_some (latching (c ∷ b ∷ h) a) ≡ true) [
+    elim (said_of_outage a c.person c.moment c.request) as (λ x. said_of_outage a c.person c.moment c.request ≡ x → or_else x (served (b ∷ h) a) ≡ Some (Begins o) → is_some (latching (c ∷ b ∷ h) a) ≡ true) [
       | None ↦ λ _ rest. registered_stays c (b ∷ h) a (removed_known (b ∷ h) legal.2 a o rest)
       | Some v ↦ λ some is. registered_stays c (b ∷ h) a (removed_is_there (b ∷ h) c.person c.moment c.request a o (both_true (not (is_opening c.request)) _ legal.0).1 (some ∙ is))
     ] refl e
