@@ -59,9 +59,9 @@ tells_more o o' o'' ends count is end (text, lines, h) (part, k) =
     (text ++ line, (text, part, lines, refl), Appends-append o o' o'' text line h k')
 
 -- what was done before a connection, and then over it
-pub ran_more : (held mid left : Content → Type 0) (tells_first tells : Type 0) (before between after : ℕ) → (tells → tells_first)
-    → (calls : List Call) × (answers : List Answer) × Ran held tells_first mid before between calls answers
-    → (calls : List Call) × (answers : List Answer) × Ran mid tells left between after calls answers
-    → (calls : List Call) × (answers : List Answer) × Ran held tells left before after calls answers
-ran_more held mid left tells_first tells before between after honest (cs, xs, first) (ds, ys, second) =
-    (cs ++ ds, xs ++ ys, (ran_joins held mid left tells_first tells before between after honest).join cs ds xs ys first second)
+pub ran_more : (held mid left : Content → Type 0) (premise_first premise : Type 0) (before between after : ℕ) → (premise → premise_first)
+    → (calls : List Call) × (answers : List Answer) × Ran held premise_first mid before between calls answers
+    → (calls : List Call) × (answers : List Answer) × Ran mid premise left between after calls answers
+    → (calls : List Call) × (answers : List Answer) × Ran held premise left before after calls answers
+ran_more held mid left premise_first premise before between after honest (cs, xs, first) (ds, ys, second) =
+    (cs ++ ds, xs ++ ys, (ran_joins held mid left premise_first premise before between after honest).join cs ds xs ys first second)

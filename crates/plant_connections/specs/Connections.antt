@@ -29,11 +29,11 @@ pub record IsConnection (ran : List Call → List Answer → Type 0) (end : End)
   pub ends : EndsAs came None true (Some []) (Some went) ran end
 
 -- Sessions with these ends were served in turn, each starting from the books that the previous one left. The keeper gives
--- `holds` (what books hold), `tells` (its premise on them) and `stores` (how many answers were Store).
+-- `holds` (what books hold), `premise` (its premise on them) and `stores` (how many answers were Store).
 abbrev pub GoesThrough : {B : Type 0} → (B → Content → Type 0) → (B → Type 0) → (B → ℕ) → B → List End → B → Type 0
-GoesThrough holds tells stores before [] after = after ≡ before
-GoesThrough {B} holds tells stores before (end ∷ earlier) after = (books : B) × GoesThrough holds tells stores before earlier books
-    × (tells after → tells books) × IsConnection (Ran (holds books) (tells after) (holds after) (stores books) (stores after)) end
+GoesThrough holds premise stores before [] after = after ≡ before
+GoesThrough {B} holds premise stores before (end ∷ earlier) after = (books : B) × GoesThrough holds premise stores before earlier books
+    × (premise after → premise books) × IsConnection (Ran (holds books) (premise after) (holds after) (stores books) (stores after)) end
 
 -- the log got a line for each connection, by its number and its end, whole or, where it can't be written, a part from
 -- the front

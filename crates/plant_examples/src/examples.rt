@@ -350,7 +350,7 @@ const WORKED: [Example; 16] = [
     ("shelved again at the end", &[BASE, SHELVED], AGAIN),
     ("from one shelf to another", &[BASE, SHELVED], SWITCHED),
     ("a unit far ahead", &[BASE, FAR_AHEAD, SHELVED], LOOKED_AT),
-    ("matrices that are none", &[], MATRICES),
+    ("tables that are not matrices", &[], MATRICES),
     ("the last steward", &[BASE], STEWARDS),
     ("no more shelves than the quota", &[QUOTA], QUOTA_REACHED),
     ("a grant that ends", &[BASE], ENDED_GRANT),

@@ -6,11 +6,11 @@ use Rattle.plant_model.specs.declared.reply.Answer.{Answer}
 use Rattle.plant_office.specs.Runs.{stores_in}
 use Rattle.plant_wire.specs.Ran.{Ran}
 
-pub ran_below : (held held_below left left_below : Content → Type 0) (tells tells_below : Type 0) (before after before_below after_below : ℕ)
-    → ((m : Content) → held_below m → held m) → (tells_below → tells) → ((m : Content) → left m → left_below m)
+pub ran_below : (held held_below left left_below : Content → Type 0) (premise premise_below : Type 0) (before after before_below after_below : ℕ)
+    → ((m : Content) → held_below m → held m) → (premise_below → premise) → ((m : Content) → left m → left_below m)
     → before ≡ before_below → after_below ≡ after
-    → (calls : List Call) (answers : List Answer) → Ran held tells left before after calls answers → Ran held_below tells_below left_below before_below after_below calls answers
-ran_below held held_below left left_below tells tells_below before after before_below after_below holds honest leaves first last calls answers is =
+    → (calls : List Call) (answers : List Answer) → Ran held premise left before after calls answers → Ran held_below premise_below left_below before_below after_below calls answers
+ran_below held held_below left left_below premise premise_below before after before_below after_below holds honest leaves first last calls answers is =
     record {
       run = λ m h w legal rows told.
           let run = is.run m (holds m h) w legal rows (honest told) in

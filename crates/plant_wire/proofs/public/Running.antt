@@ -72,17 +72,17 @@ counted_both before between after xs ys first second room =
     omega (arith, both, mid, end)
 
 -- no call was made
-pub ran_none : (held : Content → Type 0) (tells : Type 0) (count : ℕ) → Ran held tells held count count [] []
-ran_none held tells count = record {
+pub ran_none : (held : Content → Type 0) (premise : Type 0) (count : ℕ) → Ran held premise held count count [] []
+ran_none held premise count = record {
   run = λ m h w legal holds t. run_none w m held h holds legal;
   counted = λ room. let none : stores_in [] ≡ 0 = refl in omega (arith, none);
 }
 
 -- one call was
-pub ran_one : (held : Content → Type 0) (tells : Type 0) (left : Content → Type 0) (before after : ℕ) (call : Call) (answer : Answer)
-    → ((m : Content) → held m → (w : World) → IsLegalWorld w → Holds m w → tells → IfSaid answer (λ a. IsServed w call a left))
-    → ((m : Content) → held m → OnFault answer (left m)) → CountsAnswer before after answer → Ran held tells left before after (call ∷ []) (answer ∷ [])
-ran_one held tells left before after call answer served fault counts =
+pub ran_one : (held : Content → Type 0) (premise : Type 0) (left : Content → Type 0) (before after : ℕ) (call : Call) (answer : Answer)
+    → ((m : Content) → held m → (w : World) → IsLegalWorld w → Holds m w → premise → IfSaid answer (λ a. IsServed w call a left))
+    → ((m : Content) → held m → OnFault answer (left m)) → CountsAnswer before after answer → Ran held premise left before after (call ∷ []) (answer ∷ [])
+ran_one held premise left before after call answer served fault counts =
     record {
       run = λ m h w legal holds t.
           run_more w [] [] call answer held left (run_none w m held h holds legal) (λ m' h' w' legal' holds'. served m' h' w' legal' holds' t) fault;
@@ -93,9 +93,9 @@ ran_one held tells left before after call answer served fault counts =
 pub record Joins (first second both : List Call → List Answer → Type 0) : Type 0 where
   pub join : (cs ds : List Call) (xs bs : List Answer) → first cs xs → second ds bs → both (cs ++ ds) (xs ++ bs)
 
-pub ran_joins : (held mid left : Content → Type 0) (tells_first tells : Type 0) (before between after : ℕ) → (tells → tells_first)
-    → Joins (Ran held tells_first mid before between) (Ran mid tells left between after) (Ran held tells left before after)
-ran_joins held mid left tells_first tells before between after honest = record {
+pub ran_joins : (held mid left : Content → Type 0) (premise_first premise : Type 0) (before between after : ℕ) → (premise → premise_first)
+    → Joins (Ran held premise_first mid before between) (Ran mid premise left between after) (Ran held premise left before after)
+ran_joins held mid left premise_first premise before between after honest = record {
   join = λ cs ds xs bs first second. record {
     run = λ m h w legal holds t.
         let a = first.run m h w legal holds (honest t) in
