@@ -4,6 +4,7 @@ use crate::commands::{Written, is_text, said};
 use sqlite::Connection;
 use std::alloc::Global;
 use std::fs;
+use std::os::unix::fs::symlink;
 use std::process::Abort;
 
 /// Opens U1, with `ste` as its steward.
@@ -129,6 +130,45 @@ fn refuses_files_of_others(rt: HostRuntime) {
         );
         assert!(rt; remove(&rt, path));
     }
+}
+
+/// A link to books leads to them.
+#[test]
+fn follows_a_link_to_its_books(rt: HostRuntime) {
+    assert!(rt; is_answered(&said_over(&rt, "root", "linked.db", OPENING), DONE));
+    assert!(rt; symlink(&rt, "linked.db", "to_books.db").is_ok());
+    assert!(rt; is_answered(&said_over(&rt, "root", "to_books.db", ASKING), OWN_UNIT));
+    assert!(rt; remove(&rt, "to_books.db"));
+    assert!(rt; remove(&rt, "linked.db"));
+}
+
+/// No books are made through a link to an empty file or to nothing, as where the disk of the books is not there.
+#[test]
+fn makes_no_books_through_a_link(rt: HostRuntime) {
+    assert!(rt; fs::write(&rt, "bare.db", "").is_ok());
+    for (target, path) in [("bare.db", "to_bare.db"), ("nowhere.db", "to_nowhere.db")] {
+        assert!(rt; symlink(&rt, target, path).is_ok());
+        let refused = said_over(&rt, "root", path, OPENING);
+        assert!(rt; is_unready(&refused, "store: not this store\n"), "{path}");
+        assert!(rt; remove(&rt, path));
+    }
+    assert!(rt; fs::read(&rt, "bare.db").is_ok_and(|bytes| bytes.is_empty()));
+    assert!(rt; !fs::exists(&rt, "nowhere.db").unwrap_or(true));
+    assert!(rt; remove(&rt, "bare.db"));
+}
+
+/// A file of books with a second name is not opened, under either.
+#[test]
+fn refuses_books_with_two_names(rt: HostRuntime) {
+    assert!(rt; is_answered(&said_over(&rt, "root", "named.db", OPENING), DONE));
+    assert!(rt; fs::hard_link(&rt, "named.db", "second.db").is_ok());
+    for path in ["named.db", "second.db"] {
+        let refused = said_over(&rt, "root", path, ASKING);
+        assert!(rt; is_unready(&refused, "store: fault\n"), "{path}");
+    }
+    assert!(rt; remove(&rt, "second.db"));
+    assert!(rt; is_answered(&said_over(&rt, "root", "named.db", ASKING), OWN_UNIT));
+    assert!(rt; remove(&rt, "named.db"));
 }
 
 /// Makes a file with the database that these statements leave.
