@@ -1,6 +1,7 @@
 ghost use Rattle.std.specs.FinMap as fin;
 ghost use Rattle.std.specs.List.{list_any};
-ghost use Rattle.std.specs.Prelude.{◌≡◌, [], IfOk, IfSome, Some, option_map};
+ghost use Rattle.std.specs.Prelude.{◌≡◌, [], IfErr, IfOk, IfSome, Some, option_map};
+ghost use Rattle.plant_books.specs.Books.{CountsBy, KeepsOnErr, Makes, WasHonest};
 ghost use Rattle.plant_books.specs.Contents.{Content, codes_held, part_in};
 ghost use Rattle.plant_mirror.specs.Copies.{IsMirrored, seen};
 ghost use Rattle.plant_mirror.specs.Leaves.{Leaves, AnswersOf, Mirrors};
@@ -154,6 +155,27 @@ impl<B: Books> Mirror<B> {
         }
     }
 
+    /// Makes the changes below. Where that fails, nothing stays at hand: books that have shut are to be asked, and to say so.
+    fn change_below(
+        &mut self,
+        unit: &UnitCode,
+        changes: &Changes,
+        seen: Option<&UnitRows>,
+    ) -> Result<(), Fault>
+        ensures made { Makes B.represents self.old.books self.new.books unit.now changes.now result }
+        ensures unchanged { KeepsOnErr B.represents self.old.books self.new.books result }
+        ensures honest { WasHonest B.is_honest self.old.books self.new.books }
+        ensures count { CountsBy B.stores self.old.books self.new.books result }
+        ensures kept { IfOk result (λ _. self.new.copies ≡ self.old.copies) }
+        ensures forgets { IfErr result (λ _. self.new.copies.units.entries ≡ []) }
+    {
+        let changed = self.books.apply(unit, changes, seen);
+        if changed.is_err() {
+            self.copies.clear();
+        }
+        changed
+    }
+
     /// The part of a call on this unit from what is at hand; none where that does not serve the call.
     fn ready_part(&self, unit: &UnitCode, call: &Call) -> Result<Option<UnitPart>, Fault>
         ensures found { (m : Content) → Mirrors B.Books self.now m → B.is_honest self.now.books
@@ -254,11 +276,7 @@ impl<B: Books> Books for Mirror<B> {
         changes: &Changes,
         seen: Option<&UnitRows>,
     ) -> Result<(), Fault> {
-        if let Err(fault) = self.books.apply(unit, changes, seen) {
-            // Books that have shut are to be asked, and to say so.
-            self.copies.clear();
-            return Err(fault);
-        }
+        self.change_below(unit, changes, seen)?;
         if let Some((unit, copy)) = self.copies.take(unit) {
             if let Some(copy) = copy.after(self.alloc, changes) {
                 self.copies.keep(unit, copy);

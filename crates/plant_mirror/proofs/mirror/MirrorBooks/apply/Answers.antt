@@ -1,4 +1,4 @@
-use Rattle.std.proofs.Common.{subst}
+use Rattle.std.proofs.Common.{subst, sym}
 use Rattle.std.specs.FinMap.{get}
 use Rattle.plant_books.specs.Contents.{after_changes}
 use Rattle.plant_mirror.proofs.CopyLaws.{others_stay, taken_there}
@@ -12,10 +12,10 @@ returns-in-Some-after-clause-made g c = λ m h known.
     let cs = c.args.changes.now in
     let after = after_changes m u cs in
     record {
-      held = c.in_default.ensures.made m h.held known;
+      held = c.in_ok-change_below.ensures.made m h.held known;
       copied = λ honest.
-          let old = h.copied (c.apply.ensures.honest honest) in
-          let it = taken_there u (get m.units) c.args.self.now.copies.units.entries (c.in-Some.unit, c.in-Some.copy) old c.in-Some.ensures.taken in
+          let old = rw (sym c.in_ok-change_below.ensures.kept) at (h.copied (c.in_ok-change_below.ensures.honest honest)) in
+          let it = taken_there u (get m.units) c.change_below.new.self.copies.units.entries (c.in-Some.unit, c.in-Some.copy) old c.in-Some.ensures.taken in
           let rest = c.take.ensures.rest (get m.units) (get after.units) (others_stay m u cs) old in
           let copy = c.in-Some-after.ensures m u it.1 in
           c.keep.ensures.kept (get after.units) (subst (λ (v : Name). IsCopy (get after.units) (v, c.in-Some-after.copy)) it.0 copy) rest;
@@ -26,8 +26,8 @@ returns-in_default-after-clause-made g c = λ m h known.
     let u = c.args.unit.now in
     let cs = c.args.changes.now in
     record {
-      held = c.in_default.ensures.made m h.held known;
-      copied = λ honest. c.take.ensures.rest (get m.units) (get (after_changes m u cs).units) (others_stay m u cs) (h.copied (c.apply.ensures.honest honest));
+      held = c.in_ok-change_below.ensures.made m h.held known;
+      copied = λ honest. c.take.ensures.rest (get m.units) (get (after_changes m u cs).units) (others_stay m u cs) (rw (sym c.in_ok-change_below.ensures.kept) at (h.copied (c.in_ok-change_below.ensures.honest honest)));
     }
 
 pub returns-in_default-take-clause-made : goal.returns-in_default-take-clause-made
@@ -35,6 +35,6 @@ returns-in_default-take-clause-made g c = λ m h known.
     let u = c.args.unit.now in
     let cs = c.args.changes.now in
     record {
-      held = c.in_default.ensures.made m h.held known;
-      copied = λ honest. c.take.ensures.rest (get m.units) (get (after_changes m u cs).units) (others_stay m u cs) (h.copied (c.apply.ensures.honest honest));
+      held = c.in_ok-change_below.ensures.made m h.held known;
+      copied = λ honest. c.take.ensures.rest (get m.units) (get (after_changes m u cs).units) (others_stay m u cs) (rw (sym c.in_ok-change_below.ensures.kept) at (h.copied (c.in_ok-change_below.ensures.honest honest)));
     }
