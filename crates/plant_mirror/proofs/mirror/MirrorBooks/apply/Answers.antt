@@ -30,8 +30,8 @@ returns-in_default-after-clause-made g c = λ m h known.
       copied = λ honest. c.take.ensures.rest (get m.units) (get (after_changes m u cs).units) (others_stay m u cs) (rw (sym c.in_ok-change_below.ensures.kept) at (h.copied (c.in_ok-change_below.ensures.honest honest)));
     }
 
-pub returns-in_default-take-clause-made : goal.returns-in_default-take-clause-made
-returns-in_default-take-clause-made g c = λ m h known.
+pub returns-in_default-clause-made : goal.returns-in_default-clause-made
+returns-in_default-clause-made g c = λ m h known.
     let u = c.args.unit.now in
     let cs = c.args.changes.now in
     record {
