@@ -1,7 +1,8 @@
-ghost use Rattle.std.specs.Prelude.{◌≡◌, ℕ};
+ghost use Rattle.std.specs.Prelude.{◌≡◌, IfOk, None, ℕ};
 ghost use Rattle.std.specs.FinMap as fin;
 ghost use Rattle.plant_books.specs.Books.{CountsBy, Finds, FindsPart, Keeps, KeepsOnErr, Makes, WasHonest};
 ghost use Rattle.plant_books.specs.Contents.{Content, codes_held, events_in, mine_shelves, mine_units, rows_but_events};
+ghost use Rattle.plant_model.specs.Worlds.{unit_named};
 
 use plant_alarm::Event;
 use plant_model::{Call, Changes, ShelfRow, UnitPart, UnitRows};
@@ -73,6 +74,7 @@ pub trait Books {
     /// The rows of the unit that the call looks at, none where the unit was never opened or the call names none.
     fn part(&mut self, call: &Call) -> Result<Option<UnitPart>, Fault>
         ensures found { FindsPart represents is_honest self.old self.new call.now result }
+        ensures none { unit_named call.now.request ≡ None → IfOk result (λ part. part ≡ None) }
         ensures same { Keeps represents self.old self.new }
         ensures honest { WasHonest is_honest self.old self.new }
         ensures count { CountsBy stores self.old self.new result };

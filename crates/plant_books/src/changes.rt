@@ -1,28 +1,20 @@
-ghost use Rattle.std.specs.Prelude.{◌≡◌, ◌∷◌, [], IfOk, OnOk};
+ghost use Rattle.std.specs.Prelude.{◌≡◌, ◌∷◌, [], IfOk};
 ghost use Rattle.plant_model.specs.RowChanges.{changed_by, removed};
 ghost use Rattle.plant_model.specs.RowFacts.{pair_of, shelf_tag};
-ghost use Rattle.plant_books.specs.Changing.{MakesChange, PutsRow, puts_event, whole};
+ghost use Rattle.plant_books.specs.Changing.{MakesChange, PutsRow, is_event_put, puts_event};
 ghost use Rattle.plant_books.specs.Found.{without_tag};
-ghost use Rattle.plant_model.specs.Order.{AreInOrder, EventsRise, TagsRise};
-ghost use Rattle.plant_types.specs.Results.{Gives, OnlyMemory};
+ghost use Rattle.plant_model.specs.Order.{AreInOrder, TagsRise};
+ghost use Rattle.plant_types.specs.Results.{OnlyMemory};
 ghost use Rattle.plant_types.specs.Roles.{pair_cmp};
 ghost use Rattle.plant_types.specs.KeyedRows.{remove_row};
 
 use crate::found::remove;
 use crate::keyed::{put, put_sorted};
 use crate::rows::compare_pair;
-use plant_alarm::Event;
 use plant_import::put_events;
 use plant_model::{GrantRow, Key, Row, RowEdit, ShelfRow, UnitRow, UnitRows};
 use plant_types::{Duplicate, Fault, List, Person, Role, Tag};
 use std::alloc::Global;
-
-/// A unit's rows while they change. Events that are put wait beside the others, to be merged into them at the end.
-#[derive(Drop)]
-pub struct Changing {
-    pub rows: UnitRows,
-    pub fresh: List<Event>,
-}
 
 /// The table of the one row.
 fn one_row(alloc: Global, row: UnitRow) -> Result<List<UnitRow>, Fault>
@@ -35,13 +27,10 @@ fn one_row(alloc: Global, row: UnitRow) -> Result<List<UnitRow>, Fault>
 }
 
 /// Puts a row of a unit.
-#[tactic(auto, using(crate::proofs::public::EventLaws::with_push))]
-fn put_row(alloc: Global, changing: &mut Changing, row: Row) -> Result<(), Fault>
-    ensures ok { PutsRow row changing.old changing.new result }
-    ensures events { OnOk result (changing.new.rows.events ≡ changing.old.rows.events) }
+fn put_row(alloc: Global, rows: &mut UnitRows, row: Row) -> Result<(), Fault>
+    ensures ok { PutsRow row rows.old rows.new result }
     ensures memory { OnlyMemory result }
 {
-    let rows = &mut changing.rows;
     match row {
         Row::Unit(row) => {
             rows.units = one_row(alloc, row)?;
@@ -50,7 +39,7 @@ fn put_row(alloc: Global, changing: &mut Changing, row: Row) -> Result<(), Fault
         Row::Grant(row) => put(&mut rows.grants, row),
         Row::Alarm(row) => put_sorted(&mut rows.alarms, row),
         Row::Shelf(row) => put_sorted(&mut rows.shelves, row),
-        Row::Event(row) => changing.fresh.push(row),
+        Row::Event(row) => put_sorted(&mut rows.events, row),
         Row::Band(row) => put(&mut rows.bands, row),
         Row::Cell(row) => put(&mut rows.cells, row),
         Row::Record(row) => put_sorted(&mut rows.records, row),
@@ -77,8 +66,7 @@ fn without_shelf(mut shelves: List<ShelfRow>, tag: &Tag) -> List<ShelfRow>
 
 /// The rows without that of a key.
 fn without(rows: UnitRows, key: &Key) -> UnitRows
-    ensures value { TagsRise shelf_tag rows.shelves → result ≡ removed key.now rows }
-    ensures events { result.events ≡ rows.events }
+    ensures { TagsRise shelf_tag rows.shelves → result ≡ removed key.now rows }
 {
     match key {
         Key::Grant(person, role) => UnitRows {
@@ -93,31 +81,28 @@ fn without(rows: UnitRows, key: &Key) -> UnitRows
 }
 
 /// The rows after one change.
-fn after_change(alloc: Global, mut changing: Changing, change: &RowEdit) -> Result<Changing, Fault>
-    ensures value { MakesChange change.now changing result }
-    ensures events { IfOk result (λ after. after.rows.events ≡ changing.rows.events) }
+fn after_change(alloc: Global, mut rows: UnitRows, change: &RowEdit) -> Result<UnitRows, Fault>
+    ensures value { MakesChange change.now rows result }
     ensures memory { OnlyMemory result }
 {
     match change {
         RowEdit::Put(row) => {
-            put_row(alloc, &mut changing, row.duplicate(alloc)?)?;
-            Ok(changing)
+            put_row(alloc, &mut rows, row.duplicate(alloc)?)?;
+            Ok(rows)
         }
-        RowEdit::Remove(key) => Ok(Changing {
-            rows: without(changing.rows, key),
-            fresh: changing.fresh,
-        }),
+        RowEdit::PutEvents(events) => {
+            put_events(alloc, &mut rows.events, events.as_slice())?;
+            Ok(rows)
+        }
+        RowEdit::Remove(key) => Ok(without(rows, key)),
     }
 }
 
-/// The rows with the events that wait beside them.
-fn finish(alloc: Global, changing: Changing) -> Result<UnitRows, Fault>
-    ensures value { EventsRise changing.rows.events → Gives result (whole changing) }
-    ensures memory { OnlyMemory result }
+/// Whether a change puts an event.
+fn is_event_put(change: &RowEdit) -> bool
+    ensures { result ≡ is_event_put change.now }
 {
-    let Changing { mut rows, fresh } = changing;
-    put_events(alloc, &mut rows.events, fresh.as_slice())?;
-    Ok(rows)
+    matches!(change, RowEdit::PutEvents(_) | RowEdit::Put(Row::Event(_)))
 }
 
 /// Whether some change puts an event.
@@ -125,7 +110,7 @@ pub fn puts_event(changes: &List<RowEdit>) -> bool
     ensures { result ≡ puts_event changes.now }
 {
     let mut changes = changes.as_slice().iter();
-    changes.any(|change| matches!(change, RowEdit::Put(Row::Event(_))))
+    changes.any(is_event_put)
 }
 
 /// The rows, which stand in the order of their keys, after the changes, in their order.
@@ -137,12 +122,9 @@ pub fn after_changes(
     ensures value { AreInOrder rows → IfOk result (λ after. after ≡ changed_by changes.now rows) }
     ensures memory { OnlyMemory result }
 {
-    let mut after = Changing {
-        rows,
-        fresh: List::new(alloc),
-    };
+    let mut after = rows;
     for change in changes.as_slice() {
         after = after_change(alloc, after, change)?;
     }
-    finish(alloc, after)
+    Ok(after)
 }

@@ -14,5 +14,5 @@ mod relation;
 pub use bad_file::{BadFile, Cause};
 pub use merging::{Merged, merge};
 pub use needs::{has_late, needed};
-pub use numbers::{count_new, events_after, put_events};
+pub use numbers::{count_new, events_after, in_rising_number, put_events, rise};
 pub use reading::{FileRead, read_file};

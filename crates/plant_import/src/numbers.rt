@@ -87,24 +87,24 @@ pub fn put(events: &mut BTreeMap<Number, Event>, event: Event) -> Result<(), Fau
 }
 
 /// The events by their numbers. Of two with the same number the last counts.
-fn by_number(alloc: Global, events: &[Event]) -> Result<BTreeMap<Number, Event>, Fault>
-    ensures value { IfOk result (λ rising. AreByNumber rising (with_events [] events.now)) }
+fn by_number(alloc: Global, events: List<Event>) -> Result<BTreeMap<Number, Event>, Fault>
+    ensures value { IfOk result (λ rising. AreByNumber rising (with_events [] events)) }
     ensures err { OnlyMemory result }
 {
     let mut rising = BTreeMap::new(alloc);
-    for event in events {
-        put(&mut rising, event.copy(alloc)?)?;
+    for event in events.into_vec() {
+        put(&mut rising, event)?;
     }
     Ok(rising)
 }
 
-/// The events in rising number; of two with the same number the last. Events that rise already are copied as they stand.
-fn in_rising_number(alloc: Global, events: &[Event]) -> Result<List<Event>, Fault>
-    ensures value { IfOk result (λ rising. rising ≡ with_events [] events.now) }
+/// The events in rising number; of two with the same number the last. Events that rise already stay as they stand.
+pub fn in_rising_number(alloc: Global, events: List<Event>) -> Result<List<Event>, Fault>
+    ensures value { IfOk result (λ rising. rising ≡ with_events [] events) }
     ensures err { OnlyMemory result }
 {
-    if rise(events) {
-        return duplicated(alloc, events);
+    if rise(events.as_slice()) {
+        return Ok(events);
     }
     let mut rising = List::new(alloc);
     for event in by_number(alloc, events)?.into_values() {
@@ -169,7 +169,7 @@ pub fn events_after(alloc: Global, kept: &[Event], more: &[Event]) -> Result<Lis
     ensures value { IsRising kept.now → IfOk result (λ all. all ≡ with_events kept.now more.now) }
     ensures err { OnlyMemory result }
 {
-    let rising = in_rising_number(alloc, more)?;
+    let rising = in_rising_number(alloc, duplicated(alloc, more)?)?;
     if kept.is_empty() {
         return Ok(rising);
     }
@@ -196,7 +196,7 @@ pub fn put_events(alloc: Global, kept: &mut List<Event>, more: &[Event]) -> Resu
     ensures value { AreNumbered kept.old → OnOk result (kept.new ≡ with_events kept.old more.now) }
     ensures err { OnlyMemory result }
 {
-    let rising = in_rising_number(alloc, more)?;
+    let rising = in_rising_number(alloc, duplicated(alloc, more)?)?;
     if come_after(rising.as_slice(), kept.as_slice()) {
         return append(kept, rising);
     }

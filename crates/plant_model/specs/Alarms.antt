@@ -8,6 +8,7 @@ use Rattle.plant_model.specs.Kinds.{Registration, says}
 use Rattle.plant_types.specs.Names.{Name, same_name}
 use Rattle.plant_types.specs.Options.{when}
 
+-- the limit that a registration of the alarm gives it; without a registration, that of an approved change
 abbrev pub limit_by : Name → Option Registration → Option ℕ → Option ℕ
 limit_by a (Some x) by_change = when (same_name a x.tag) x.max
 limit_by a None by_change = by_change
@@ -21,6 +22,7 @@ said_of_limit a before r = limit_by a (says r).registration (approved_limit a be
 abbrev pub limit : List Call → Name → Option ℕ
 limit h a = latest (λ c before. said_of_limit a before c.request) h
 
+-- whether a registration makes the alarm a latching one: nothing where it is of another alarm
 abbrev pub latching_by : Name → Option Registration → Option Bool
 latching_by a None = None
 latching_by a (Some x) = when (same_name a x.tag) x.latching

@@ -39,17 +39,20 @@ is_proposal r = is_some (says r).proposal
 abbrev pub proposals : List Call → ℕ
 proposals h = counted (λ c before. is_proposal c.request) h
 
--- the change of a number as an entry proposes it
+-- the change of a number, where this proposal is the one of that number
 abbrev pub draft_by : ℕ → Name → ℕ → List Call → Option Proposal → Option Draft
 draft_by n p t before None = None
 draft_by n p t before (Some x) = when (same_number n (proposals before + 1)) (record { proposer = p; proposed = t; kind = x.kind; base = x.base })
 
+-- what an entry says of the change of a number: that it is proposed
 abbrev pub said_of_draft : ℕ → Name → ℕ → List Call → Request → Option Draft
 said_of_draft n p t before r = draft_by n p t before (says r).proposal
 
+-- the change of a number as it was proposed
 abbrev pub draft : List Call → ℕ → Option Draft
 draft h n = latest (λ c before. said_of_draft n c.person c.moment before c.request) h
 
+-- what a decision says of the change of a number: nothing where it decides another
 abbrev pub decision_by : ℕ → Name → ℕ → Option (ℕ × ChangeState) → Option Decision
 decision_by n p t None = None
 decision_by n p t (Some (m, state)) = when (same_number n m) (record { state = state; decider = p; decided = t })

@@ -14,6 +14,7 @@ is_matrix_kind (Rationale a s) = true
 is_matrix_kind (Matrix m) = is_matrix m.limits m.cells
 is_matrix_kind (Limit a max) = true
 
+-- the matrix that an opening or a proposal carries is an ordered one
 abbrev pub has_matrix_said : Option Opening → Option Proposal → Bool
 has_matrix_said (Some o) x = is_matrix o.matrix.limits o.matrix.cells
 has_matrix_said None None = true

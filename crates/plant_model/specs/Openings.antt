@@ -14,6 +14,7 @@ use Rattle.plant_types.specs.Roles.{Pair, same_role}
 use Rattle.plant_types.specs.Text.{in_person, in_unit_code, is_text}
 use Rattle.plant_types.specs.declared.role.Role.TheVariants.{Steward}
 
+-- the values that an opening or a grant carries are of their sets
 abbrev pub has_values_said : Option Opening → Option (Pair × Said (Option ℕ)) → Bool
 has_values_said (Some o) pair = is_text in_unit_code 8 o.unit && is_text in_person 32 o.steward && is_matrix o.matrix.limits o.matrix.cells && is_quota o.quota
 has_values_said None None = true

@@ -21,7 +21,7 @@ use Rattle.plant_model.specs.Matrices.{band_at, band_cmp, band_places, cell_cmp,
 use Rattle.plant_model.specs.RowFacts.{alarm_tag, band_key, cell_key, event_number, pair_of, shelf_tag}
 use Rattle.plant_model.specs.declared.rows.AlarmRow.{AlarmRow}
 use Rattle.plant_model.specs.declared.rows.RowEdit.{RowEdit}
-use Rattle.plant_model.specs.declared.rows.RowEdit.TheVariants.{Put, Remove}
+use Rattle.plant_model.specs.declared.rows.RowEdit.TheVariants.{Put, PutEvents, Remove}
 use Rattle.plant_model.specs.declared.rows.Key.{Key}
 use Rattle.plant_model.specs.declared.rows.Key.TheVariants.{Grant as GrantKey, Shelf as ShelfKey}
 use Rattle.plant_model.specs.declared.rows.Row.{Row}
@@ -55,6 +55,7 @@ removed (ShelfKey a) rows = record rows { shelves = remove_row name_cmp shelf_ta
 -- the rows after one change
 abbrev pub changed : RowEdit → UnitRows → UnitRows
 changed (Put r) rows = put r rows
+changed (PutEvents es) rows = record rows { events = with_events rows.events es }
 changed (Remove k) rows = removed k rows
 
 -- the rows after changes, in their order
@@ -120,8 +121,8 @@ state_put es r = Put (AlarmPut (with_state (of_alarm r.tag es) r))
 
 abbrev pub import_changes : Facts → List Event → List RowEdit
 import_changes f rows =
-    map (λ e. Put (EventPut e)) (new_events f.events rows)
-    ++ map (state_put (all_events f.events rows)) (filter (is_touched f.events rows) f.alarms)
+    map (state_put (all_events f.events rows)) (filter (is_touched f.events rows) f.alarms)
+    ++ PutEvents (new_events f.events rows) ∷ []
 
 -- a change that is decided
 abbrev pub decided_as : ChangeState → Name → ℕ → ChangeRow → ChangeRow

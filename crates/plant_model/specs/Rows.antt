@@ -68,7 +68,7 @@ alarm_as a max revision es out latches =
       out_words = option_map (λ o. o.words) out;
     }
 
--- the revision of an alarm's limit: how many changes of it were approved; 0 if there is no alarm
+-- how often the limit of an alarm was changed by approval, 0 for an alarm that is not there
 abbrev pub revision_of_limit : Option AlarmRow → ℕ
 revision_of_limit alarm = unwrap_or (option_map (λ r. r.max_rev) alarm) 0
 

@@ -13,6 +13,7 @@ pub record Outage : Type 0 where
   pub person : Name
   pub words : Name
 
+-- what a removal from service or its end says of an alarm: nothing where it is of another alarm
 abbrev pub outage_by : Name → Name → ℕ → Option (Name × Said Name) → Option (Said Outage)
 outage_by a p t None = None
 outage_by a p t (Some (b, Begins words)) = when (same_name a b) (Begins (record { from = t; person = p; words = words }))

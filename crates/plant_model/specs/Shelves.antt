@@ -15,7 +15,8 @@ use Rattle.plant_types.specs.Options.{when}
 abbrev pub shelf_row_as : Bool → ℕ → ℕ → Name → Name → Name → ShelfRow
 shelf_row_as one_shot s until p words a = record { tag = a; one_shot = one_shot; start_s = s; until_s = until; person = p; words = words }
 
--- a timed shelf lasts its own time, a one-shot shelf at most the limit in force just before the entry
+-- what a shelving or its end says of an alarm: nothing where it is of another alarm. A timed shelf lasts its own time, a
+-- one-shot shelf at most the limit in force just before the entry
 abbrev pub shelf_by : Name → Name → ℕ → List Call → Option (Name × Said NewShelf) → Option (Said ShelfRow)
 shelf_by a p s before None = None
 shelf_by a p s before (Some (b, Begins (TimedShelf d words))) = when (same_name a b) (Begins (shelf_row_as false s (s + d) p words a))
@@ -30,7 +31,7 @@ said_of_shelf a p s before r = shelf_by a p s before (says r).shelf
 abbrev pub shelf : List Call → Name → Option ShelfRow
 shelf h a = still (latest (λ c before. said_of_shelf a c.person c.moment before c.request) h)
 
--- the shelf of a row, none where there is no row
+-- the shelf that a row describes; without a row the alarm is not shelved
 abbrev pub shelf_left : Option ShelfRow → Shelf
 shelf_left None = Clear
 shelf_left (Some s) = if s.one_shot then OneShot s.start_s s.until_s else Timed s.start_s s.until_s

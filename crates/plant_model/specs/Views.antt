@@ -22,6 +22,7 @@ codes_seen w p = if same_name p w.admin then keys w.units else []
 abbrev pub view : ℕ → Name → World → List (Name × List Call) × List Name
 view t p w = (units_held w t p, codes_seen w p)
 
+-- what is said of a pair is a grant to the person
 abbrev pub is_grant_to : Name → Option (Pair × Said (Option ℕ)) → Bool
 is_grant_to p None = false
 is_grant_to p (Some (k, Begins until)) = same_name p k.0

@@ -164,6 +164,7 @@ impl Duplicate for RowEdit {
     fn duplicate(&self, alloc: Global) -> Result<RowEdit, Fault> {
         Ok(match self {
             RowEdit::Put(row) => RowEdit::Put(row.duplicate(alloc)?),
+            RowEdit::PutEvents(events) => RowEdit::PutEvents(events.duplicate(alloc)?),
             RowEdit::Remove(key) => RowEdit::Remove(key.duplicate(alloc)?),
         })
     }

@@ -190,10 +190,12 @@ pub enum Key {
     Shelf(Tag),
 }
 
-/// A row that is put in the place of the row of its key, or the key of a row that goes.
+/// What changes in the tables: a row that is put in the place of the row of its key, events that are all put so, or the
+/// key of a row that goes.
 #[derive(Drop)]
 pub enum RowEdit {
     Put(Row),
+    PutEvents(List<Event>),
     Remove(Key),
 }
 

@@ -1,4 +1,4 @@
-//! The office: it serves calls over any books, and answers each as the units' own machines do.
+//! The office: it serves calls over any books, and answers each as the units' histories do.
 #![tactic(auto)]
 
 mod office;

@@ -1,4 +1,4 @@
-ghost use Rattle.std.specs.Prelude.{◌≡◌, ◌<◌, ◌^◌, ◌-◌, ◌+◌, ◌≤◌, Some, None, true, false, IfOk, IfSome, IsTrue, OnErr, List, [], ◌∷◌, ◌++◌, filter_map, map, max, fold, length, vec_len, vec_capacity};
+ghost use Rattle.std.specs.Prelude.{◌≡◌, ◌<◌, ◌^◌, ◌-◌, ◌+◌, ◌≤◌, Some, None, true, false, IfOk, IfSome, IsTrue, OnErr, List, [], ◌∷◌, ◌++◌, filter_map, map, max, fold, length, option_copied, option_map, vec_len, vec_capacity};
 ghost use Rattle.plant_books.specs.Books.{WasHonest};
 ghost use Rattle.plant_types.specs.Results.{OnlyMemory};
 ghost use Rattle.plant_model.specs.declared.call.Request.TheVariants.{MyShelves, MyUnits};
@@ -27,7 +27,9 @@ use plant_unit::{is_read, judge, judge_open, shelf_line};
 use std::alloc::Global;
 
 /// The rows that the call looked at, if it looked at a unit.
-fn rows_in(part: &Option<UnitPart>) -> Option<&UnitRows> {
+fn rows_in(part: &Option<UnitPart>) -> Option<&UnitRows>
+    ensures { option_copied result ≡ option_map (λ part. part.rows) part.now }
+{
     match part {
         Some(part) => Some(&part.rows),
         None => None,
@@ -58,7 +60,8 @@ fn leave_out_same(part: &Option<UnitPart>, changes: &mut List<RowEdit>)
     }
 }
 
-/// Gives the proof what each value of its type is: the matrix of a request is one. It does nothing when it runs.
+/// Gives the proof what holds of each value of the type `Matrix`: the matrix of a request is an ordered one. It checks nothing when it
+/// runs.
 fn note_matrix(request: &Request)
     ensures { has_matrix request.now ≡ true }
 {
@@ -208,10 +211,10 @@ impl<B: Books> Office<B> {
 
     /// Answers a call, as the world of the units' histories answers it.
     ///
-    /// The headline is the clause `isolated`: an answer that is not a fault is what any other office of the same
-    /// administrator would answer that looks the same to the caller at the call's moment, and the rows of the units
-    /// that the caller held before or holds after are those of that office. A fault leaves the books as they were, and
-    /// so do a refusal and a reply to a call that only asks, whatever the books hold.
+    /// The headline is the clause `isolated`. Take any other office of the same administrator that looks the same to the caller
+    /// at the call's moment. It would give the same answer, if this one is not a fault, and the units in which the caller
+    /// holds a role before or after the call would have the same rows there. A fault leaves the books as they were, and so
+    /// do a refusal and a reply to a call that only asks, whatever the books hold.
     pub fn serve(&mut self, call: &Call) -> Answer
         ensures served { (m : Content) → B.represents self.old.books m → (w : World)
             → IsLegalWorld w → Holds m w → B.is_honest self.new.books
@@ -289,7 +292,7 @@ fn latest(now: Moment, units: &[MineUnit]) -> Moment
     latest
 }
 
-/// The line of a shelf with its unit; none where its time has passed.
+/// The line of a shelf with its unit; none where the shelf has ended: its time has passed, or it was a one-shot and its alarm returned.
 fn mine_line(alloc: Global, mine: &MineRow, now: Moment) -> Result<Option<MineLine>, Fault>
     ensures value { IfOk result (λ line. line ≡ line_of_shelf now mine.now) }
     ensures err { OnlyMemory result }
@@ -303,7 +306,7 @@ fn mine_line(alloc: Global, mine: &MineRow, now: Moment) -> Result<Option<MineLi
     }))
 }
 
-/// The lines of the shelves that hold at the moment.
+/// The lines of the shelves that have not ended at the moment.
 fn shelf_lines(alloc: Global, shelves: &[MineRow], now: Moment) -> Result<List<MineLine>, Fault>
     ensures value { IfOk result (λ lines. lines ≡ filter_map (line_of_shelf now) shelves.now) }
     ensures err { OnlyMemory result }

@@ -1,5 +1,6 @@
 -- The statements that write, table by table.
 use Rattle.std.proofs.Common.{◌≡◌, ◌≢◌, ◌⊎◌, inl, inr, ℕ, ◌/◌, length, List, [], ◌∷◌, ◌++◌, Ok, refl, sym, ap, ◌∙◌, subst, arith, nat_cmp, false}
+use Rattle.std.proofs.lemmas.List.Sums.{fold-append}
 use Rattle.sqlite.specs.Command.TheVariants.{Insert}
 use Rattle.sqlite.specs.Effect.{Database, value_rows}
 use Rattle.sqlite.specs.Listing.{understood}
@@ -11,11 +12,12 @@ use Rattle.sqlite.proofs.Callers.{IsPlain, command_of}
 use Rattle.sqlite_value.specs.declared.value.Value.TheVariants.{Null, Text}
 use Rattle.sqlite_value.specs.Keys.{first_key}
 use Rattle.plant_alarm.specs.declared.event.Event.{Event}
+use Rattle.plant_import.specs.Numbers.{event_number, with_events}
 use Rattle.plant_model.specs.declared.rows.AlarmRow.{AlarmRow}
 use Rattle.plant_model.specs.declared.rows.BandRow.{BandRow}
 use Rattle.plant_model.specs.declared.rows.CellRow.{CellRow}
 use Rattle.plant_model.specs.declared.rows.RowEdit.{RowEdit}
-use Rattle.plant_model.specs.declared.rows.RowEdit.TheVariants.{Put, Remove}
+use Rattle.plant_model.specs.declared.rows.RowEdit.TheVariants.{Put, PutEvents, Remove}
 use Rattle.plant_model.specs.declared.rows.ChangeEntry.{ChangeEntry}
 use Rattle.plant_model.specs.declared.rows.GrantRow.{GrantRow}
 use Rattle.plant_model.specs.declared.rows.RecordEntry.{RecordEntry}
@@ -294,6 +296,20 @@ pub applies_then : (u : Name) (xs ys : List RowEdit) (a b c : Database) → Appl
 applies_then u xs ys a b c p q = record {
   books = q.books;
   mine = λ rows seen. subst (AreSeen u c) (sym (changed_by-append xs ys rows)) (q.mine (changed_by xs rows) (p.mine rows seen));
+  others = λ other apart i. q.others other apart i ∙ p.others other apart i;
+  office = q.office ∙ p.office;
+}
+
+-- one event more
+with_one_more : (kept more : List Event) (e : Event) → with_events kept (more ++ e ∷ []) ≡ put_row nat_cmp event_number e (with_events kept more)
+with_one_more kept more e = fold-append (λ es x. put_row nat_cmp event_number x es) kept more (e ∷ [])
+
+pub applies_event : (u : Name) (xs : List Event) (e : Event) (a b c : Database) → Applies u (PutEvents xs ∷ []) a b → Applies u (Put (EventPut e) ∷ []) b c → Applies u (PutEvents (xs ++ e ∷ []) ∷ []) a c
+applies_event u xs e a b c p q = record {
+  books = q.books;
+  mine = λ rows seen.
+      let before : UnitRows = record rows { events = with_events rows.events xs } in
+      subst (λ (es : List Event). AreSeen u c (record rows { events = es })) (sym (with_one_more rows.events xs e)) (q.mine before (p.mine rows seen));
   others = λ other apart i. q.others other apart i ∙ p.others other apart i;
   office = q.office ∙ p.office;
 }

@@ -147,6 +147,7 @@ pub fn make_all<S: Alter>(conn: &mut Connection<S>, admin: &Person) -> Result<()
     ensures unchanged { SameOnErr S.Store conn.old conn.new result }
     ensures honest { WasHonest (IsHonestIn S.Store) conn.old conn.new }
 {
+    // Tells the proof that no transaction is open; the value is not used.
     let _settled = conn.is_autocommit();
     let mut tx = conn.transaction();
     make_tables(&mut tx, admin)?;

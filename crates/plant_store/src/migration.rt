@@ -235,6 +235,7 @@ fn take_over<O: Alter, N: Alter>(
         → OnOk result (HaveRows m (state N.Store into.new).now) }
     ensures unchanged { SameOnErr N.Store into.old into.new result }
 {
+    // Tells the proof that no transaction is open; the value is not used.
     let _settled = into.is_autocommit();
     let mut tx = into.transaction();
     fill(alloc, from, &mut tx, admin)?;
@@ -242,7 +243,7 @@ fn take_over<O: Alter, N: Alter>(
     Ok(())
 }
 
-/// Copies all rows as above into a database that has no table; a fault of the store where it has one.
+/// Takes all rows over into a database that has no table; a fault of the store where it has one.
 fn take_into_blank<O: Alter, N: Alter>(
     alloc: Global,
     from: &mut Connection<O>,

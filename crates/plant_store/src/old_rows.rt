@@ -16,7 +16,6 @@ ghost use Rattle.plant_store.specs.Writing.{SameReference, StaysOpen, Writes};
 
 use crate::read::read_rows;
 use crate::stored::Stored;
-use crate::write::put;
 use plant_alarm::Event;
 use plant_columns::decode::{Shown, moment, number, role, text};
 use plant_columns::encode::single;
@@ -100,7 +99,7 @@ pub trait OldRow: Shown {
     fn old_select() -> &'static str
         ensures { ReadsOldUnit Self.width Self.cells had result.now };
 
-    /// Puts what it becomes.
+    /// Puts what it becomes, as a new row.
     fn put<N: Alter>(
         &self,
         alloc: Global,
@@ -143,7 +142,7 @@ impl OldRow for OldUnitRow {
             matrix_rev: self.matrix_rev,
             quota: Quota::new(MAX_QUOTA).unwrap(),
         };
-        put(tx, unit, &row, None)
+        row.insert(tx, unit)
     }
 }
 
@@ -170,7 +169,7 @@ impl OldRow for OldGrantRow {
             role_no: self.role_no,
             end_s: None,
         };
-        put(tx, unit, &row, None)
+        row.insert(tx, unit)
     }
 }
 
@@ -189,7 +188,7 @@ impl<T: Unchanged> OldRow for T {
         tx: &mut Transaction<'_, N>,
         unit: &UnitCode,
     ) -> Result<(), Error> {
-        put(tx, unit, self, None)
+        self.insert(tx, unit)
     }
 }
 

@@ -1,6 +1,6 @@
 //! The part of a unit's rows that a call looks at.
 
-ghost use Rattle.std.specs.Prelude.{◌≡◌, false, IfOk, Some};
+ghost use Rattle.std.specs.Prelude.{◌≡◌, false, IfOk, None, Some};
 ghost use Rattle.sqlite.specs.Held.{state};
 ghost use Rattle.plant_model.specs.Parts.{part_of_holder};
 ghost use Rattle.plant_model.specs.Worlds.{unit_named};
@@ -318,6 +318,7 @@ pub fn part_of<S: Alter>(
     ensures found { IsHonest (state S.Store conn.new) → (m : Content)
         → HasContent (state S.Store conn.old) m → (u : Name) → unit_named call.now.request ≡ Some u
         → IfOk result (λ part. part ≡ part_in m call.now u) }
+    ensures none { unit_named call.now.request ≡ None → IfOk result (λ part. part ≡ None) }
     ensures reads { ReadsBooks S.Store conn.old conn.new }
 {
     match call.request.unit() {

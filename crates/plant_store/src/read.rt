@@ -26,6 +26,7 @@ pub fn ask<S: Alter>(
     ensures same { SameIfPlain S.Store conn.old conn.new sql.now }
     ensures honest { WasHonest (IsHonestIn S.Store) conn.old conn.new }
 {
+    // Tells the proof that no transaction is open; the value is not used.
     let _settled = conn.is_autocommit();
     conn.query_all(sql, cells)
 }

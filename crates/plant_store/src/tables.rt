@@ -142,8 +142,8 @@ impl<S: Alter> Tables<S> {
         }
     }
 
-    /// Opens a database that `create` made for this administrator and that was kept since. One without the office's
-    /// table, or with another administrator in it, is refused as `NotThisStore`.
+    /// Opens a database that `create` made for this administrator. One is refused as `NotThisStore` where the office's table or
+    /// a column of it is missing, or where its one row is not this schema's and this administrator's.
     pub fn open(
         alloc: Global,
         mut conn: Connection<S>,

@@ -2,12 +2,13 @@
 
 ghost use Rattle.std.specs.Prelude.{[], ◌∷◌, IsTrue};
 ghost use Rattle.plant_books.specs.Books.{WasHonest};
-ghost use Rattle.plant_model.specs.declared.rows.RowEdit.TheVariants.{Put, Remove};
+ghost use Rattle.plant_model.specs.declared.rows.RowEdit.TheVariants.{Put, PutEvents, Remove};
 ghost use Rattle.plant_model.specs.declared.rows.Key.TheVariants.{Grant as GrantKey, Shelf as ShelfKey};
 ghost use Rattle.plant_store.specs.Reading.{HasNoTransaction, IsHonestIn};
 ghost use Rattle.plant_store.specs.Writing.{Commits, CommitsNothing, CrashLoses, IsOpenIfOk, RunsCounting, RunsStatement, SameOnErr, SameReference, StaysOpen, Updates, Writes, WritesOpen};
 
 use crate::stored::Stored;
+use plant_alarm::Event;
 use plant_columns::encode::{grant_key, pair};
 use plant_model::{Key, Row, RowEdit, UnitRows};
 use plant_types::{Person, Role, Tag, UnitCode};
@@ -138,6 +139,22 @@ fn put_row<S: Alter>(
     }
 }
 
+/// Puts events, each as a new row.
+fn put_events<S: Alter>(
+    tx: &mut Transaction<'_, S>,
+    unit: &UnitCode,
+    events: &[Event],
+) -> Result<(), Error>
+    ensures same_reference { SameReference tx.old tx.new }
+    ensures made { Writes S.Store tx.old tx.new unit.now (PutEvents events.now ∷ []) result }
+    ensures stays { StaysOpen S.Store tx.old tx.new result }
+{
+    for event in events {
+        event.insert(tx, unit)?;
+    }
+    Ok(())
+}
+
 /// Removes the row of a key.
 fn remove_row<S: Alter>(
     tx: &mut Transaction<'_, S>,
@@ -167,6 +184,7 @@ fn change_one<S: Alter>(
 {
     match change {
         RowEdit::Put(row) => put_row(tx, unit, row, seen),
+        RowEdit::PutEvents(events) => put_events(tx, unit, events.as_slice()),
         RowEdit::Remove(key) => remove_row(tx, unit, key),
     }
 }
@@ -204,6 +222,7 @@ pub fn apply<S: Alter>(
     ensures unchanged { SameOnErr S.Store conn.old conn.new result }
     ensures honest { WasHonest (IsHonestIn S.Store) conn.old conn.new }
 {
+    // Tells the proof that no transaction is open; the value is not used.
     let _settled = conn.is_autocommit();
     let mut tx = conn.transaction();
     change_all(&mut tx, unit, changes, seen)?;

@@ -3,19 +3,19 @@ use Rattle.plant_model.specs.Calls.{changes_for, own_refusals, reply, unit_after
 use Rattle.plant_types.specs.Limits.{max_events}
 use Rattle.std.proofs.Common.{ap, append_assoc, arith, refl, subst, sym, ◌∙◌}
 use Rattle.std.proofs.lemmas.Bool.{ltb-false}
-use Rattle.std.specs.Prelude.{Bool, Err, IfOk, List, None, Ok, Option, Result, Some, [], false, filter, if◌then◌else◌, length, map, nat_lt, not, true, ℕ, ◌++◌, ◌+◌, ◌∷◌, ◌≡◌, ◌≤◌}
+use Rattle.std.specs.Prelude.{Bool, Err, IfOk, List, None, Ok, Option, Result, Some, [], false, if◌then◌else◌, length, nat_lt, not, true, ℕ, ◌++◌, ◌+◌, ◌∷◌, ◌≡◌, ◌≤◌}
 use Rattle.plant_alarm.specs.declared.event.Event.{Event}
 use Rattle.plant_import.proofs.public.Counted.{fresh_count}
 use Rattle.plant_import.specs.Merging.{IsRising, first_fault, fresh, merge, merged_or}
 use Rattle.plant_import.proofs.public.NeededLaws.{needed_merge, needed_numbers, needed_rises}
 use Rattle.plant_import.specs.Needed.{needed}
-use Rattle.plant_import.specs.Numbers.{new_numbers, with_events}
+use Rattle.plant_import.specs.Numbers.{new_numbers}
 use Rattle.plant_import.specs.declared.bad_file.BadFile.{BadFile}
 use Rattle.plant_import.specs.declared.merging.Merged.{Merged}
 use Rattle.plant_model.specs.Facts.{Facts}
 use Rattle.plant_model.specs.Kinds.{role_needed}
 use Rattle.plant_model.specs.Refusals.{fault_entries, file_refusals, first_refusal, holds_some, lacks_role, tags_of}
-use Rattle.plant_model.specs.RowChanges.{import_changes, state_put}
+use Rattle.plant_model.specs.RowChanges.{import_changes}
 use Rattle.plant_model.specs.Verdicts.{changes_history, is_read, refusals, refused_or, verdict_of}
 use Rattle.plant_model.specs.declared.call.Call.{Call}
 use Rattle.plant_model.specs.declared.call.Request.TheVariants.{Import}
@@ -27,8 +27,7 @@ use Rattle.plant_model.specs.declared.reply.Reply.TheVariants.{Imported}
 use Rattle.plant_model.specs.declared.reply.Reply.{Reply}
 use Rattle.plant_model.specs.declared.rows.RowEdit.TheVariants.{Put}
 use Rattle.plant_model.specs.declared.rows.RowEdit.{RowEdit}
-use Rattle.plant_model.specs.declared.rows.Row.TheVariants.{Event as EventPut, Unit as UnitPut}
-use Rattle.plant_unit.specs.Summaries.{is_named}
+use Rattle.plant_model.specs.declared.rows.Row.TheVariants.{Unit as UnitPut}
 use Rattle.plant_model.specs.declared.rows.Verdict.TheVariants.{Accepted as IsAccepted, Refused as IsRefused}
 use Rattle.plant_model.specs.declared.rows.Verdict.{Verdict}
 use Rattle.plant_types.specs.Names.{Name}
@@ -174,12 +173,6 @@ merged_at f t rows kept tags k n b m x rises ek el en eb room et em ex =
     let rising : IsRising kept = subst (λ (l : List Event). IsRising l) (sym ek) (needed_rises f.events rows rises) in
     let free : nat_lt max_events (length f.events + length (new_numbers f.events rows)) ≡ false = sym (counted_at f rows kept k n b rises ek el en eb) ∙ room in
     merge_added f t rows x free (sym ex ∙ em rising ∙ (λ i. merge (ek i) rows (et i) t) ∙ needed_merge f.events rows (tags_of f) t rises)
-
--- the changes that the code makes for the alarms are those of the definition
-pub put_all : (f : Facts) (rows added : List Event) (row : RowEdit) (cs events : List RowEdit) → AreAdded f.events rows added → events ≡ row ∷ map (λ e. Put (EventPut e)) (with_events [] added) → cs ≡ events ++ map (state_put (with_events f.events added)) (filter (is_named added) f.alarms) → cs ≡ row ∷ import_changes f rows
-put_all f rows added row cs events new ee ec =
-    ec ∙ ap (λ l. l ++ map (state_put (with_events f.events added)) (filter (is_named added) f.alarms)) ee
-    ∙ (λ i. row ∷ (map (λ e. Put (EventPut e)) (with_events [] (new.fresh_are i)) ++ map (state_put (with_events f.events (new.fresh_are i))) (filter (is_named (new.fresh_are i)) f.alarms)))
 
 -- one who is not refused for want of a role holds one
 none_holds : (b : Bool) (rest : List (Bool × Refused)) → first_refusal ((not b, NotGranted) ∷ rest) ≡ None → b ≡ true

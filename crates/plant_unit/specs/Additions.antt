@@ -8,7 +8,7 @@ use Rattle.plant_model.specs.declared.call.Request.{Request}
 use Rattle.plant_model.specs.declared.call.Request.TheVariants.{Import}
 use Rattle.plant_model.specs.declared.reply.Reply.{Reply}
 use Rattle.plant_model.specs.declared.reply.Reply.TheVariants.{Imported}
-use Rattle.plant_model.specs.declared.rows.Row.TheVariants.{Event as EventPut, Unit as UnitPut}
+use Rattle.plant_model.specs.declared.rows.Row.TheVariants.{Unit as UnitPut}
 use Rattle.plant_model.specs.declared.rows.RowEdit.{RowEdit}
 use Rattle.plant_model.specs.declared.rows.RowEdit.TheVariants.{Put}
 use Rattle.plant_types.specs.Results.{Gives}
@@ -27,7 +27,7 @@ use Rattle.plant_types.specs.KeyedRows.{IsInOrder}
 use Rattle.plant_unit.specs.Readings.{has_its_sheet, has_kind, is_left_out, is_matrix_at}
 use Rattle.std.specs.List.{list_all}
 use Rattle.std.specs.Ordering.{nat_cmp}
-use Rattle.std.specs.Prelude.{Err, List, None, Ok, Option, Result, Some, length, map, true, ℕ, ◌-◌, ◌<◌, ◌||◌, ◌∷◌, ◌≡◌, ◌≤◌}
+use Rattle.std.specs.Prelude.{Err, List, None, Ok, Option, Result, Some, length, true, ℕ, ◌-◌, ◌<◌, ◌||◌, ◌∷◌, ◌≡◌, ◌≤◌}
 
 abbrev pub addition_or : Option Refused → Merged → Result Merged Refused
 addition_or None added = Ok added
@@ -47,10 +47,6 @@ AreFew es = length es ≤ 4294967295
 -- the reply to an import that adds these rows
 abbrev pub import_reply : Merged → Reply
 import_reply added = Imported (length added.fresh) added.repeated
-
--- the changes that put events
-abbrev pub event_puts : List Event → List RowEdit
-event_puts es = map (λ e. Put (EventPut e)) es
 
 -- the part of an import: of these events it has those that the file's rows need, and how many there are; the states of its alarms
 -- are computed from them

@@ -8,7 +8,7 @@ ghost use Rattle.plant_unit.specs.Summaries as states;
 ghost use Rattle.plant_unit.specs.Summaries.{AreNamed};
 
 use plant_alarm::{Event, Summary};
-use plant_import::{events_after, has_late};
+use plant_import::{events_after, has_late, rise};
 use plant_model::{AlarmRow, Row, RowEdit, place_of};
 use plant_types::{Duplicate, Fault, List, Tag};
 use std::alloc::Global;
@@ -98,6 +98,30 @@ fn summaries_from_events(
     Ok(summaries)
 }
 
+/// Brings the summaries of alarms, which stand in the order of their tags, forward by more events in rising number, however
+/// they stand here.
+fn add_rising(
+    alloc: Global,
+    summaries: &mut List<Summary>,
+    alarms: &[AlarmRow],
+    events: &[Event],
+) -> Result<(), Fault>
+    ensures length { length summaries.new ≡ length summaries.old }
+    ensures value { OnOk result (AddsEvents alarms.now (with_events [] events.now) summaries.old summaries.new) }
+    ensures err { OnlyMemory result }
+{
+    if rise(events) {
+        add_events(summaries, alarms, events);
+        return Ok(());
+    }
+    add_events(
+        summaries,
+        alarms,
+        events_after(alloc, &[], events)?.as_slice(),
+    );
+    Ok(())
+}
+
 /// The summaries in the rows of alarms, brought forward by new events that come after all others of their alarms.
 fn summaries_from_rows(
     alloc: Global,
@@ -109,11 +133,7 @@ fn summaries_from_rows(
     ensures err { OnlyMemory result }
 {
     let mut summaries = summaries_in(alloc, alarms)?;
-    add_events(
-        &mut summaries,
-        alarms,
-        events_after(alloc, &[], fresh)?.as_slice(),
-    );
+    add_rising(alloc, &mut summaries, alarms, fresh)?;
     Ok(summaries)
 }
 

@@ -1,14 +1,14 @@
 //! The judgement of an import whose caller may make it.
 
-ghost use Rattle.std.specs.Prelude.{◌≡◌, ◌+◌, ◌++◌, IfOk, OnOk, map, nat_lt};
+ghost use Rattle.std.specs.Prelude.{◌≡◌, ◌+◌, IfOk, map, nat_lt};
 ghost use Rattle.plant_types.specs.Results.{OnlyMemory};
 ghost use Rattle.plant_model.specs.RowFacts.{alarm_tag, unit_read};
-ghost use Rattle.plant_unit.specs.Additions.{AreFew, GivesAddition, GivesImport, event_puts, import_reply};
+ghost use Rattle.plant_unit.specs.Additions.{AreFew, GivesAddition, GivesImport, import_reply};
 ghost use Rattle.plant_unit.specs.FromFacts.{JudgesImport};
 
 use crate::alarms::push_alarms;
 use plant_alarm::Event;
-use plant_import::{FileRead, Merged, count_new, events_after, merge};
+use plant_import::{FileRead, Merged, count_new, in_rising_number, merge};
 use plant_model::{AlarmRow, Call, Full, Refused, Reply, Row, RowEdit, UnitPart, UnitRow, Verdict};
 use plant_types::limits::MAX_EVENTS;
 use plant_types::{Fault, List, Moment, Tag};
@@ -64,17 +64,6 @@ fn import_reply(merged: &Merged) -> Reply
     }
 }
 
-/// Adds the changes that put these events.
-fn push_events(changes: &mut List<RowEdit>, events: List<Event>) -> Result<(), Fault>
-    ensures value { OnOk result (changes.new ≡ changes.old ++ event_puts events) }
-    ensures err { OnlyMemory result }
-{
-    for event in events.into_vec() {
-        changes.push(RowEdit::Put(Row::Event(event)))?;
-    }
-    Ok(())
-}
-
 /// The changes of an import of a file that adds these of its rows. Its events are put in rising number, whatever their order in
 /// the file: a table that gets its rows at the end moves none.
 fn import_changes(
@@ -83,20 +72,20 @@ fn import_changes(
     part: &UnitPart,
     now: Moment,
     rows: &[Event],
-    added: &[Event],
+    added: List<Event>,
 ) -> Result<List<RowEdit>, Fault>
     requires { unit_read part.now.rows ≡ unit.now }
-    ensures value { GivesImport part.now now rows.now added.now result }
+    ensures value { GivesImport part.now now rows.now added result }
     ensures err { OnlyMemory result }
 {
     let mut changes = List::new(alloc);
     let mut row = *unit;
     row.last_s = now;
     changes.push(RowEdit::Put(Row::Unit(row)))?;
-    push_events(&mut changes, events_after(alloc, &[], added)?)?;
     let kept = part.rows.events.as_slice();
     let alarms = part.rows.alarms.as_slice();
-    push_alarms(alloc, &mut changes, alarms, kept, rows, added)?;
+    push_alarms(alloc, &mut changes, alarms, kept, rows, added.as_slice())?;
+    changes.push(RowEdit::PutEvents(in_rising_number(alloc, added)?))?;
     Ok(changes)
 }
 
@@ -120,8 +109,7 @@ pub fn judge_import(
         Err(refused) => Ok(Verdict::Refused(refused)),
         Ok(merged) => {
             let reply = import_reply(&merged);
-            let fresh = merged.fresh.as_slice();
-            let changes = import_changes(alloc, unit, part, call.moment, rows, fresh)?;
+            let changes = import_changes(alloc, unit, part, call.moment, rows, merged.fresh)?;
             Ok(Verdict::Accepted(reply, changes))
         }
     }

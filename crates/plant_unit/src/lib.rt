@@ -20,14 +20,4 @@ mod verdicts;
 
 pub use changes::is_read;
 pub use judgement::{judge, judge_open};
-pub use plant_alarm::{AlarmState, Event, EventKind, Number, ShelfState};
-pub use plant_books::{Books, MineRow, MineUnit, Plain};
-pub use plant_import::{BadFile, FileRead};
-pub use plant_model::{
-    AlarmLine, AlarmRow, Answer, BandRow, Call, CellRow, ChangeEntry, ChangeRow, ChangeTopic,
-    Changes, FloodLine, Full, GrantRow, Key, MineLine, RecordEntry, RecordRow, Refused, Reply,
-    Request, Row, RowEdit, ShelfLine, ShelfRow, StandingLine, StatusRow, UnitLine, UnitPart,
-    UnitRow, UnitRows, Verdict, laws,
-};
-pub use plant_ration::{Cell, ChangeKind, ChangeState, Matrix, Proposal, Sheet};
 pub use replies::shelf_line;

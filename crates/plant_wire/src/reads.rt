@@ -18,13 +18,13 @@ use std::alloc::{AllocError, Global};
 pub enum End {
     /// The input ended, and all of it was answered.
     Closed,
-    /// The input ended within a request, or can't be read as requests; what can't was answered.
+    /// The input ended within a request, which is not answered, or can't be read as requests, which is answered with the cause.
     BrokenInput,
     /// A read failed, or as many were made as a session makes; all whole requests were answered.
     ReadFailed,
     /// A write failed, or took nothing.
     WriteFailed,
-    /// A growth was refused.
+    /// Memory ran out. The last call may have been made without its answer being written.
     Fault,
 }
 
@@ -37,7 +37,7 @@ pub(crate) enum Read {
     Fault,
 }
 
-/// Each is offered room for so many bytes.
+/// The room that each read is offered, in bytes.
 const CHUNK: usize = 65536;
 
 /// One read, behind what waits. No whole request may be left there, so that a client that waits for an answer has it

@@ -102,7 +102,7 @@ fn answer_call<O: Outlet, B: Books>(
     }
 }
 
-/// Answers what was cut off the front of the bytes, whatever they are. Fewer than `wanted` still wait.
+/// Answers the request that was cut off the front, if one was. If none was, it is not whole with fewer than `wanted` bytes.
 fn answer_cut<O: Outlet, B: Books>(
     alloc: Global,
     cut: &Cut,
@@ -153,8 +153,8 @@ fn answer_next<O: Outlet, B: Books>(
     step
 }
 
-/// Answers all whole requests at the front of the bytes. Where fewer are there than are wanted, none is, and they are
-/// not looked at.
+/// Answers all whole requests at the front of the bytes. With fewer than `wanted` bytes none is whole, and they are not
+/// looked at.
 pub(crate) fn answer_all<O: Outlet, B: Books>(
     alloc: Global,
     routes: &Routes,

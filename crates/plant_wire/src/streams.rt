@@ -20,7 +20,7 @@ pub trait Inlet {
     /// How many reads were made.
     ghost reads: { Self → ℕ };
 
-    /// The next bytes, at the front of `buf`, which has room for 4,096; none at the end of the input.
+    /// The next bytes, at the front of `buf`, which has room for at least 4,096; none at the end of the input.
     fn take(&mut self, buf: &mut [u8]) -> Result<usize, Failed>
         requires { least_room ≤ length buf.old }
         ensures within { IfOk result (λ n. n ≤ length buf.old) }

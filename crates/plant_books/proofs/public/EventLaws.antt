@@ -1,12 +1,8 @@
 -- A unit's rows with and without its events: the part of a call that looks at none, and changes that put none.
 use Rattle.std.proofs.Common.{List, None, Option, Some, [], ap, cond, false, refl, sym, true, ℕ, ◌∙◌, ◌∷◌, ◌≡◌}
-use Rattle.std.proofs.lemmas.List.Sums.{fold-append}
-use Rattle.std.specs.Ordering.{nat_cmp}
-use Rattle.std.specs.Prelude.{◌++◌, ◌||◌}
-use Rattle.plant_import.specs.Numbers.{event_number, with_events}
+use Rattle.std.specs.Prelude.{◌||◌}
 use Rattle.plant_model.specs.Kinds.{AllAlarms, AllEvents, AllGrants, AllRecords, AllShelves, Approval, Content, File, NothingElse, OneAlarm, OneChange, OneRecord, Scope, Shelving, scope_of}
 use Rattle.plant_model.specs.Scopes.{has_events, looks_at_events}
-use Rattle.plant_types.specs.KeyedRows.{put_row}
 use Rattle.plant_alarm.specs.declared.event.Event.{Event}
 use Rattle.plant_books.specs.Changing.{is_event_put, puts_event}
 use Rattle.plant_books.specs.Contents.{without_events}
@@ -17,7 +13,7 @@ use Rattle.plant_model.specs.declared.call.Call.{Call}
 use Rattle.plant_model.specs.declared.call.Request.{Request}
 use Rattle.plant_model.specs.declared.call.Request.TheVariants.{Floods, Import}
 use Rattle.plant_model.specs.declared.rows.RowEdit.{RowEdit}
-use Rattle.plant_model.specs.declared.rows.RowEdit.TheVariants.{Put, Remove}
+use Rattle.plant_model.specs.declared.rows.RowEdit.TheVariants.{Put, PutEvents, Remove}
 use Rattle.plant_model.specs.declared.rows.ChangeEntry.{ChangeEntry}
 use Rattle.plant_model.specs.declared.rows.ChangeTopic.{ChangeTopic}
 use Rattle.plant_model.specs.declared.rows.ChangeTopic.TheVariants.{Limit as LimitTopic, Matrix as MatrixTopic, Record as RecordTopic}
@@ -25,11 +21,6 @@ use Rattle.plant_model.specs.declared.rows.Key.TheVariants.{Grant as GrantKey, S
 use Rattle.plant_model.specs.declared.rows.Row.TheVariants.{Alarm as AlarmPut, Band as BandPut, Cell as CellPut, Change as ChangePut, Event as EventPut, Grant as GrantPut, Record as RecordPut, Shelf as ShelfPut, Unit as UnitPut}
 use Rattle.plant_model.specs.declared.rows.UnitRows.{UnitRows}
 use Rattle.plant_types.specs.Names.{Name}
-
--- ---- an event more of those that wait
-
-pub with_push : (kept fresh : List Event) (e : Event) → with_events kept (fresh ++ e ∷ []) ≡ put_row nat_cmp event_number e (with_events kept fresh)
-with_push kept fresh e = fold-append (λ es x. put_row nat_cmp event_number x es) kept fresh (e ∷ [])
 
 -- ---- what is selected of a unit's rows does not depend on its events
 
@@ -102,12 +93,6 @@ holders_part_without c rows none =
 pub part_without : (c : Call) (rows : UnitRows) → looks_at_events c.request ≡ false → part_of c (without_events rows) ≡ part_of c rows
 part_without c rows none = ap (λ part. cond (holds_by rows.grants c.moment c.person) part (part_of_stranger c rows)) (holders_part_without c rows none)
 
--- the part of one who holds no role
-pub strangers_part_without : (c : Call) (rows : UnitRows) → holds_by rows.grants c.moment c.person ≡ false → part_of c (without_events rows) ≡ part_of c rows
-strangers_part_without c rows none =
-    ap (λ b. cond b (part_of_holder c (without_events rows)) (part_of_stranger c rows)) none
-    ∙ sym (ap (λ b. cond b (part_of_holder c rows) (part_of_stranger c rows)) none)
-
 -- ---- changes that put no event
 
 put_no_event : (c : RowEdit) (rows : UnitRows) → is_event_put c ≡ false → changed c (without_events rows) ≡ without_events (changed c rows)
@@ -120,6 +105,7 @@ put_no_event (Put (BandPut r)) rows none = refl
 put_no_event (Put (CellPut r)) rows none = refl
 put_no_event (Put (RecordPut r)) rows none = refl
 put_no_event (Put (ChangePut r)) rows none = refl
+put_no_event (PutEvents es) rows none = absurd (let no : true ≡ false = none in cc)
 put_no_event (Remove (GrantKey p r)) rows none = refl
 put_no_event (Remove (ShelfKey a)) rows none = refl
 

@@ -10,12 +10,14 @@ use Rattle.std.specs.declared.cmp.Ordering.{Ordering}
 use Rattle.std.specs.declared.cmp.Ordering.TheVariants.{Equal, Greater, Less}
 use Rattle.plant_model.proofs.public.RowsFound.{After, Ordered, less, lesser, second}
 use Rattle.plant_books.specs.Listed.{AllInOrder, rows_at, unit_cmp}
-use Rattle.plant_model.specs.Order.{AreInOrder}
+use Rattle.plant_alarm.specs.declared.event.Event.{Event}
+use Rattle.plant_import.specs.Numbers.{with_events}
+use Rattle.plant_model.specs.Order.{AreInOrder, EventsRise}
 use Rattle.plant_books.specs.declared.opened.OpenedUnit.{OpenedUnit}
 use Rattle.plant_model.specs.RowChanges.{changed, changed_by, no_rows, put, removed}
 use Rattle.plant_model.specs.RowFacts.{alarm_tag, change_number, event_number, record_tag, shelf_tag}
 use Rattle.plant_model.specs.declared.rows.RowEdit.{RowEdit}
-use Rattle.plant_model.specs.declared.rows.RowEdit.TheVariants.{Put, Remove}
+use Rattle.plant_model.specs.declared.rows.RowEdit.TheVariants.{Put, PutEvents, Remove}
 use Rattle.plant_model.specs.declared.rows.Key.{Key}
 use Rattle.plant_model.specs.declared.rows.Key.TheVariants.{Grant as GrantKey, Shelf as ShelfKey}
 use Rattle.plant_model.specs.declared.rows.Row.{Row}
@@ -104,8 +106,13 @@ removed_in_order : (k : Key) (rows : UnitRows) → AreInOrder rows → AreInOrde
 removed_in_order (GrantKey p r) rows h = record { alarms = h.alarms; shelves = h.shelves; events = h.events; records = h.records; changes = h.changes }
 removed_in_order (ShelfKey a) rows h = record { alarms = h.alarms; shelves = IsInOrder-remove_row name_cmp shelf_tag name_total same_names a rows.shelves h.shelves; events = h.events; records = h.records; changes = h.changes }
 
+events_in_order : (more es : List Event) → EventsRise es → EventsRise (with_events es more)
+events_in_order [] es h = h
+events_in_order (e ∷ more) es h = events_in_order more (put_row nat_cmp event_number e es) (IsInOrder-put_row nat_cmp event_number nat_cmp_total nat_cmp-IsAntisymmetric e es h)
+
 pub one_in_order : (c : RowEdit) (rows : UnitRows) → AreInOrder rows → AreInOrder (changed c rows)
 one_in_order (Put r) rows h = put_in_order r rows h
+one_in_order (PutEvents es) rows h = record { alarms = h.alarms; shelves = h.shelves; events = events_in_order es rows.events h.events; records = h.records; changes = h.changes }
 one_in_order (Remove k) rows h = removed_in_order k rows h
 
 pub changed_in_order : (cs : List RowEdit) (rows : UnitRows) → AreInOrder rows → AreInOrder (changed_by cs rows)

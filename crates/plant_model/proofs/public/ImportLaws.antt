@@ -4,6 +4,7 @@ use Rattle.plant_model.proofs.public.Base.{x}
 use Rattle.plant_model.specs.Changes.{limit_revision}
 use Rattle.plant_model.specs.Parts.{none}
 use Rattle.plant_model.specs.declared.rows.Row.TheVariants.{Unit as UnitPut}
+use Rattle.plant_model.specs.declared.rows.RowEdit.TheVariants.{PutEvents}
 use Rattle.plant_model.proofs.public.EventLaws.{now}
 use Rattle.plant_alarm.specs.declared.event.Event.{Event}
 use Rattle.plant_floods.specs.Activations.{of_alarm}
@@ -14,13 +15,13 @@ use Rattle.plant_model.proofs.public.ChangeLaws.{Turns}
 use Rattle.plant_model.proofs.public.EventLaws.{Kept, found_event, is_of}
 use Rattle.plant_model.proofs.EventLists.{IsOf, new_alone, new_rows_say, of_said, only, only_told}
 use Rattle.plant_model.proofs.public.HistoryLaws.{alarm_of, alarms_told, events_told, numbers_of_events, tags_of_alarms, when_Some}
-use Rattle.plant_model.proofs.public.PutLaws.{put_alarms, put_events, puts, puts-rows, said, said-rows}
+use Rattle.plant_model.proofs.public.PutLaws.{put_alarms, puts, puts-rows, said, said-rows}
 use Rattle.plant_model.specs.Alarms.{latching, limit}
 use Rattle.plant_import.specs.Numbers.{has_number, with_events}
 use Rattle.plant_model.specs.Events.{event_numbered, events, events_of}
 use Rattle.plant_model.specs.Facts.{facts}
 use Rattle.plant_model.specs.Refusals.{tags_of}
-use Rattle.plant_model.specs.RowChanges.{all_events, changed_by, is_touched, new_events, put, state_put, with_state}
+use Rattle.plant_model.specs.RowChanges.{all_events, is_touched, new_events, put, with_state}
 use Rattle.plant_model.specs.RowFacts.{alarm_tag, event_number}
 use Rattle.plant_model.specs.Rows.{alarm_as, alarm_row, alarm_rows, rows_of, unit_row}
 use Rattle.plant_model.specs.Service.{outage}
@@ -152,7 +153,5 @@ module _ (h : List Call) (p : Name) (t : ℕ) (u : Name) (rows : List Event) (ke
       let first : UnitRows = put (UnitPut (unit_row after)) (rows_of h) in
       let touched : List AlarmRow = filter (is_touched (events h) rows) (alarm_rows h) in
       let twice : with_events (events h) (new_events (events h) rows) ≡ all_events (events h) rows = put_twice (events h) new (IsInOrder-rows (event_numbered h) (numbers_of_events h) (events_told h)) in
-      put_events (new_events (events h) rows) (map (state_put (all_events (events h) rows)) touched) first
-      ∙ ap (λ (es : List Event). changed_by (map (state_put (all_events (events h) rows)) touched) (record first { events = es })) twice
-      ∙ put_alarms row_now touched (record first { events = all_events (events h) rows })
-      ∙ (λ i. record (rows_of after) { events = events_put i; alarms = alarm_rows_put i })
+      put_alarms row_now touched (PutEvents (new_events (events h) rows) ∷ []) first
+      ∙ (λ i. record (rows_of after) { events = (twice ∙ events_put) i; alarms = alarm_rows_put i })

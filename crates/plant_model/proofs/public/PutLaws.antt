@@ -4,16 +4,15 @@ use Rattle.plant_model.specs.RowFacts.{record_tag}
 use Rattle.plant_model.specs.declared.reply.RecordRow.{RecordRow}
 use Rattle.plant_model.specs.declared.rows.RecordEntry.{RecordEntry}
 use Rattle.plant_model.specs.declared.rows.Row.TheVariants.{Record as RecordPut}
-use Rattle.plant_alarm.specs.declared.event.Event.{Event}
 use Rattle.plant_model.specs.Matrices.{band_cmp, cell_cmp}
 use Rattle.plant_model.specs.RowChanges.{changed_by, put}
-use Rattle.plant_model.specs.RowFacts.{alarm_tag, band_key, cell_key, event_number}
+use Rattle.plant_model.specs.RowFacts.{alarm_tag, band_key, cell_key}
 use Rattle.plant_model.specs.declared.rows.AlarmRow.{AlarmRow}
 use Rattle.plant_model.specs.declared.rows.BandRow.{BandRow}
 use Rattle.plant_model.specs.declared.rows.CellRow.{CellRow}
 use Rattle.plant_model.specs.declared.rows.RowEdit.{RowEdit}
 use Rattle.plant_model.specs.declared.rows.RowEdit.TheVariants.{Put}
-use Rattle.plant_model.specs.declared.rows.Row.TheVariants.{Alarm as AlarmPut, Band as BandPut, Cell as CellPut, Event as EventPut}
+use Rattle.plant_model.specs.declared.rows.Row.TheVariants.{Alarm as AlarmPut, Band as BandPut, Cell as CellPut}
 use Rattle.plant_model.specs.declared.rows.UnitRows.{UnitRows}
 use Rattle.plant_types.proofs.public.KeyedRowLaws.{IsInOrder-put_row, IsInOrder-rows, Tells, row_at-in_order, row_at-put_row, row_at-rows, same_rows, settled, tied}
 use Rattle.plant_types.specs.Names.{name_cmp}
@@ -22,7 +21,7 @@ use Rattle.plant_types.specs.KeyedRows.{IsInOrder, in_order, put_row, row_at}
 use Rattle.std.proofs.Common.{ap, refl, sym, ◌∙◌}
 use Rattle.std.specs.Cmp.{IsTotalOrder}
 use Rattle.std.specs.List.{cons_option}
-use Rattle.std.specs.Ordering.{eq_by_cmp, nat_cmp}
+use Rattle.std.specs.Ordering.{eq_by_cmp}
 use Rattle.std.specs.Prelude.{Bool, List, None, Option, Some, [], cond, false, filter_map, fold, is_some, map, true, ◌++◌, ◌∷◌, ◌≡◌}
 use Rattle.std.specs.declared.cmp.Ordering.{Ordering}
 use Rattle.std.specs.declared.cmp.Ordering.TheVariants.{Equal}
@@ -95,13 +94,9 @@ pub put_cells : (rs : List CellRow) (rows : UnitRows) → changed_by (map (λ r.
 put_cells [] rows = refl
 put_cells (r ∷ rs) rows = put_cells rs (put (CellPut r) rows)
 
-pub put_events : (es : List Event) (rest : List RowEdit) (rows : UnitRows) → changed_by (map (λ e. Put (EventPut e)) es ++ rest) rows ≡ changed_by rest (record rows { events = puts nat_cmp event_number es rows.events })
-put_events [] rest rows = refl
-put_events (e ∷ es) rest rows = put_events es rest (put (EventPut e) rows)
-
-pub put_alarms : (f : AlarmRow → AlarmRow) (rs : List AlarmRow) (rows : UnitRows) → changed_by (map (λ r. Put (AlarmPut (f r))) rs) rows ≡ record rows { alarms = puts name_cmp alarm_tag (map f rs) rows.alarms }
-put_alarms f [] rows = refl
-put_alarms f (r ∷ rs) rows = put_alarms f rs (put (AlarmPut (f r)) rows)
+pub put_alarms : (f : AlarmRow → AlarmRow) (rs : List AlarmRow) (rest : List RowEdit) (rows : UnitRows) → changed_by (map (λ r. Put (AlarmPut (f r))) rs ++ rest) rows ≡ changed_by rest (record rows { alarms = puts name_cmp alarm_tag (map f rs) rows.alarms })
+put_alarms f [] rest rows = refl
+put_alarms f (r ∷ rs) rest rows = put_alarms f rs rest (put (AlarmPut (f r)) rows)
 
 pub put_records : (f : RecordRow → RecordEntry) (rs : List RecordRow) (rows : UnitRows) → changed_by (map (λ r. Put (RecordPut (f r))) rs) rows ≡ record rows { records = puts name_cmp record_tag (map f rs) rows.records }
 put_records f [] rows = refl

@@ -6,7 +6,7 @@ use Rattle.std.specs.Cmp.Lexicographic.{nat_list_cmp_total}
 use Rattle.sqlite.specs.State.{State}
 use Rattle.plant_books.specs.Contents.{Content, IsKnownTo, after_changes, no_units, rows_in}
 use Rattle.plant_model.specs.declared.rows.RowEdit.{RowEdit}
-use Rattle.plant_model.specs.declared.rows.RowEdit.TheVariants.{Put, Remove}
+use Rattle.plant_model.specs.declared.rows.RowEdit.TheVariants.{Put, PutEvents, Remove}
 use Rattle.plant_model.specs.declared.rows.Key.TheVariants.{Grant as GrantKey, Shelf as ShelfKey}
 use Rattle.plant_model.specs.declared.rows.Row.TheVariants.{Alarm as AlarmPut, Band as BandPut, Cell as CellPut, Change as ChangePut, Event as EventPut, Grant as GrantPut, Record as RecordPut, Shelf as ShelfPut, Unit as UnitPut}
 use Rattle.plant_model.specs.declared.rows.UnitRows.{UnitRows}
@@ -36,6 +36,7 @@ still_there (Put (CellPut r) ∷ cs) rows h = still_there cs (changed (Put (Cell
 still_there (Put (EventPut r) ∷ cs) rows h = still_there cs (changed (Put (EventPut r)) rows) h
 still_there (Put (RecordPut r) ∷ cs) rows h = still_there cs (changed (Put (RecordPut r)) rows) h
 still_there (Put (ChangePut r) ∷ cs) rows h = still_there cs (changed (Put (ChangePut r)) rows) h
+still_there (PutEvents es ∷ cs) rows h = still_there cs (changed (PutEvents es) rows) h
 still_there (Remove (GrantKey p r) ∷ cs) rows h = still_there cs (changed (Remove (GrantKey p r)) rows) h
 still_there (Remove (ShelfKey a) ∷ cs) rows h = still_there cs (changed (Remove (ShelfKey a)) rows) h
 
@@ -50,6 +51,7 @@ comes_there (Put (CellPut r) ∷ cs) rows h = comes_there cs (changed (Put (Cell
 comes_there (Put (EventPut r) ∷ cs) rows h = comes_there cs (changed (Put (EventPut r)) rows) h
 comes_there (Put (RecordPut r) ∷ cs) rows h = comes_there cs (changed (Put (RecordPut r)) rows) h
 comes_there (Put (ChangePut r) ∷ cs) rows h = comes_there cs (changed (Put (ChangePut r)) rows) h
+comes_there (PutEvents es ∷ cs) rows h = comes_there cs (changed (PutEvents es) rows) h
 comes_there (Remove (GrantKey p r) ∷ cs) rows h = comes_there cs (changed (Remove (GrantKey p r)) rows) h
 comes_there (Remove (ShelfKey a) ∷ cs) rows h = comes_there cs (changed (Remove (ShelfKey a)) rows) h
 

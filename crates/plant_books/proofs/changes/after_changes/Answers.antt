@@ -1,7 +1,6 @@
 use Rattle.std.proofs.lemmas.Grind.{common_steps}
 use Rattle.std.proofs.Common.{ap, arith, drop, subst, sym, ◌+◌, ◌∙◌, ◌∷◌, ◌≡◌}
 use Rattle.plant_books.proofs.public.OrderLaws.{one_in_order}
-use Rattle.plant_books.specs.Changing.{whole}
 use Rattle.plant_model.specs.Order.{AreInOrder}
 use Rattle.plant_model.specs.RowChanges.{changed, changed_by}
 use Rattle.plant_books.proofs.changes.after_changes.Goals as goal
@@ -13,8 +12,7 @@ loop-change-preserved c =
     let split : drop at all ≡ c.change-item.result ∷ drop (at + 1) all = grind (arith, common_steps) in
     record {
       value = λ order.
-          let now : whole c.in_ok-after.after ≡ changed c.change-item.result (whole c.loop-change.after) = c.in_ok-after.ensures.value (c.loop-change.invariant.order order) in
-          ap (changed_by (drop (at + 1) all)) now ∙ ap (λ cs. changed_by cs (whole c.loop-change.after)) (sym split) ∙ c.loop-change.invariant.value order;
-      order = λ order. subst AreInOrder (sym (c.in_ok-after.ensures.value (c.loop-change.invariant.order order))) (one_in_order c.change-item.result (whole c.loop-change.after) (c.loop-change.invariant.order order));
-      events = c.in_ok-after.ensures.events ∙ c.loop-change.invariant.events;
+          let now : c.in_ok-after.after ≡ changed c.change-item.result c.loop-change.after = c.in_ok-after.ensures.value (c.loop-change.invariant.order order) in
+          ap (changed_by (drop (at + 1) all)) now ∙ ap (λ cs. changed_by cs c.loop-change.after) (sym split) ∙ c.loop-change.invariant.value order;
+      order = λ order. subst AreInOrder (sym (c.in_ok-after.ensures.value (c.loop-change.invariant.order order))) (one_in_order c.change-item.result c.loop-change.after (c.loop-change.invariant.order order));
     }

@@ -1,5 +1,4 @@
 use Rattle.std.proofs.Common.{◌≡◌, drop}
-use Rattle.plant_books.specs.Changing.{whole}
 use Rattle.plant_model.specs.Order.{AreInOrder}
 use Rattle.plant_model.specs.RowChanges.{changed_by}
 use Rattle.plant_books.proofs.changes.after_changes.Given as goal
@@ -7,7 +6,6 @@ use Rattle.plant_books.proofs.changes.after_changes.Given as goal
 abbrev pub invariant-loop-change : goal.invariant-loop-change
 invariant-loop-change l =
     record {
-      value : AreInOrder l.fn.rows → changed_by (drop l.change-index l.change-items) (whole l.after) ≡ changed_by l.change-items l.fn.rows;
-      order : AreInOrder l.fn.rows → AreInOrder (whole l.after);
-      events : l.after.rows.events ≡ l.fn.rows.events;
+      value : AreInOrder l.fn.rows → changed_by (drop l.change-index l.change-items) l.after ≡ changed_by l.change-items l.fn.rows;
+      order : AreInOrder l.fn.rows → AreInOrder l.after;
     }
