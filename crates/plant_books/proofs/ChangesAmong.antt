@@ -26,19 +26,19 @@ use Rattle.plant_types.specs.KeyedRows.{IsInOrder}
 abbrev pub among : List ℕ → ℕ → Bool
 among ks n = list_any (λ k. ties n k) ks
 
-or_true : (a : Bool) → (a || true) ≡ true
+pub or_true : (a : Bool) → (a || true) ≡ true
 or_true true = refl
 or_true false = refl
 
-or_none : (a : Bool) → (a || false) ≡ a
+pub or_none : (a : Bool) → (a || false) ≡ a
 or_none true = refl
 or_none false = refl
 
-none_among : (ks : List ℕ) (n m : ℕ) → AllBelow (λ k. k) n ks → n ≤ m → among ks m ≡ false
+pub none_among : (ks : List ℕ) (n m : ℕ) → AllBelow (λ k. k) n ks → n ≤ m → among ks m ≡ false
 none_among [] n m low le = refl
 none_among (k ∷ ks) n m low le = ap (λ b. b || among ks m) (other m k (omega (arith, le, low.0))) ∙ none_among ks n m low.1 le
 
-among_more : (ks : List ℕ) (n m : ℕ) → among (ks ++ n ∷ []) m ≡ (among ks m || (ties m n || false))
+pub among_more : (ks : List ℕ) (n m : ℕ) → among (ks ++ n ∷ []) m ≡ (among ks m || (ties m n || false))
 among_more ks n m = list_any-append (λ k. ties m k) ks (n ∷ [])
 
 abbrev pub those : List ℕ → List ChangeEntry → List ChangeEntry
@@ -113,6 +113,14 @@ left_out rows looked numbers b n none leaves = ap (list_any (λ k. ties n k)) no
 or_swap : (a b : Bool) → cond a true b ≡ (b || a)
 or_swap true b = sym (or_true b)
 or_swap false b = sym (or_none b)
+
+-- the first of a set, or none
+pub with_first : (old new : BTreeSet ℕ) (m n : ℕ) (b one : Bool) → UpdatesBy nat_cmp (nat_cmp m) old new true → old.keys ≡ [] → same_number m n ≡ one → b ≡ true → contains nat_cmp new n ≡ (b && one)
+with_first old new m n b one put none is wants =
+    put.0 n ∙ ap (λ ks. cond (ties m n) true (list_any (λ k. ties n k) ks)) none ∙ or_swap (ties m n) false ∙ is ∙ ap (λ c. c && one) (sym wants)
+
+pub without_first : (old : BTreeSet ℕ) (n : ℕ) (b one : Bool) → old.keys ≡ [] → b ≡ false → contains nat_cmp old n ≡ (b && one)
+without_first old n b one none leaves = ap (list_any (λ k. ties n k)) none ∙ ap (λ c. c && one) (sym leaves)
 
 -- and the one that it names, if any
 pub with_named : (old new : BTreeSet ℕ) (m n : ℕ) (b : Bool) (named : Option ℕ) → UpdatesBy nat_cmp (nat_cmp m) old new true → named ≡ Some m → contains nat_cmp old n ≡ b → contains nat_cmp new n ≡ (b || is_number named n)

@@ -4,3 +4,4 @@ mod PassingLaws
 mod RowsWithout
 mod ChangesAmong
 mod ShelvedLaws
+mod MatrixRanges

@@ -19,8 +19,6 @@ use Rattle.plant_model.specs.Parts.{Selection, has_shelf, is_crowded, is_in_forc
 use Rattle.plant_model.specs.RowFacts.{change_found, pair_of}
 use Rattle.plant_model.specs.declared.call.Request.{Request}
 use Rattle.plant_model.specs.declared.rows.AlarmRow.{AlarmRow}
-use Rattle.plant_model.specs.declared.rows.BandRow.{BandRow}
-use Rattle.plant_model.specs.declared.rows.CellRow.{CellRow}
 use Rattle.plant_model.specs.declared.rows.ChangeEntry.{ChangeEntry}
 use Rattle.plant_model.specs.declared.rows.GrantRow.{GrantRow}
 use Rattle.plant_model.specs.declared.rows.RecordEntry.{RecordEntry}
@@ -36,14 +34,6 @@ rows_by p rows scope = rows_selected p (selection_by rows scope) rows
 -- the grants that it takes in: the caller's, and others
 abbrev pub grants_by : Name → UnitRows → Scope → List GrantRow
 grants_by p rows scope = filter (λ g. same_name p g.person || (selection_by rows scope).pair (pair_of g)) rows.grants
-
--- the limits of the matrices that it takes in
-abbrev pub bands_by : UnitRows → Scope → List BandRow
-bands_by rows scope = filter (λ r. (selection_by rows scope).matrix r.matrix_no) rows.bands
-
--- the cells of the matrices that it takes in
-abbrev pub cells_by : UnitRows → Scope → List CellRow
-cells_by rows scope = filter (λ r. (selection_by rows scope).matrix r.matrix_no) rows.cells
 
 -- the changes that it takes in
 abbrev pub changes_by : UnitRows → Scope → List ChangeEntry
@@ -105,10 +95,6 @@ AreEventsWanted scope wanted = (rows : UnitRows) (es : List Event) → (selectio
 abbrev pub is_number : Option ℕ → ℕ → Bool
 is_number None n = false
 is_number (Some m) n = same_number m n
-
--- a scope takes in no matrix
-abbrev pub TakesNoMatrix : Scope → Type 0
-TakesNoMatrix scope = (rows : UnitRows) (n : ℕ) → (selection_by rows scope).matrix n ≡ false
 
 -- a scope takes in the matrix of its number, and if asked the one in force
 abbrev pub TakesMatrix : Scope → Bool → Type 0

@@ -2,7 +2,7 @@
 
 ghost use Rattle.std.specs.Prelude.{◌≡◌, ◌||◌};
 ghost use Rattle.plant_books.specs.Asking as asked;
-ghost use Rattle.plant_books.specs.Asking.{AreAlarmsWanted, AreEventsWanted, AreWanted, HasTheirShelves, IsCrowdedWith, TakesChanges, TakesMatrix, TakesSources, is_number, is_wanted};
+ghost use Rattle.plant_books.specs.Asking.{AreAlarmsWanted, AreEventsWanted, AreWanted, HasTheirShelves, IsCrowdedWith, TakesChanges, TakesMatrix, TakesSources, is_wanted};
 ghost use Rattle.plant_model.specs.Scopes.{of_change, selection_by};
 ghost use Rattle.plant_model.specs.declared.rows.UnitRows.{UnitRows};
 ghost use Rattle.plant_types.specs.Names.{Name, same_name};
@@ -212,15 +212,5 @@ pub fn wants_sources(scope: Scope<'_>) -> bool
         Scope::OneRecord(_) | Scope::AllRecords => true,
         Scope::Approval(_, Some(change)) => changes_sources(change),
         _ => false,
-    }
-}
-
-/// Whether the number is the one, if there is one.
-pub fn is_number(one: Option<u32>, number: u32) -> bool
-    ensures { result ≡ is_number one number }
-{
-    match one {
-        None => false,
-        Some(one) => one == number,
     }
 }

@@ -40,8 +40,8 @@ fn put_row(alloc: Global, rows: &mut UnitRows, row: Row) -> Result<(), Fault>
         Row::Alarm(row) => put_sorted(&mut rows.alarms, row),
         Row::Shelf(row) => put_sorted(&mut rows.shelves, row),
         Row::Event(row) => put_sorted(&mut rows.events, row),
-        Row::Band(row) => put(&mut rows.bands, row),
-        Row::Cell(row) => put(&mut rows.cells, row),
+        Row::Band(row) => put_sorted(&mut rows.bands, row),
+        Row::Cell(row) => put_sorted(&mut rows.cells, row),
         Row::Record(row) => put_sorted(&mut rows.records, row),
         Row::Change(row) => put_sorted(&mut rows.changes, row),
     }

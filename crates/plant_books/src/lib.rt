@@ -7,14 +7,15 @@ mod changes;
 mod found;
 mod grants;
 mod keyed;
+mod matrices;
 mod opened;
 mod parts;
 mod plain;
 mod rows;
 
 pub use asking::{
-    Wanted, WantedAlarms, WantedEvents, is_crowded, is_number, wanted_alarms, wanted_change,
-    wanted_events, wanted_records, wanted_shelves, wants_all_grants, wants_matrix, wants_sources,
+    Wanted, WantedAlarms, WantedEvents, is_crowded, wanted_alarms, wanted_change, wanted_events,
+    wanted_records, wanted_shelves, wants_all_grants, wants_matrix, wants_sources,
 };
 pub use books::{Books, MineRow, MineUnit};
 pub use changes::{after_changes, puts_event};

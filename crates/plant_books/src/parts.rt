@@ -1,5 +1,5 @@
-ghost use Rattle.std.specs.Prelude.{◌≡◌, IfOk, false, filter, option_copied, true};
-ghost use Rattle.plant_books.specs.Asking.{alarms_wanted, AreSources, GivesNumbers, IsApprovedBy, TakesNoMatrix, bands_by, cells_by, changes_by, events_wanted, grants_by, is_wanted, rows_by};
+ghost use Rattle.std.specs.Prelude.{◌≡◌, IfOk, filter, option_copied, true};
+ghost use Rattle.plant_books.specs.Asking.{alarms_wanted, AreSources, GivesNumbers, HasNumbers, IsApprovedBy, changes_by, events_wanted, grants_by, is_wanted, rows_by};
 ghost use Rattle.plant_books.specs.Contents.{without_events};
 ghost use Rattle.plant_model.specs.Order.{AreInOrder, ChangesRise, EventsRise, TagsRise};
 ghost use Rattle.plant_model.specs.Parts.{counted_for, is_crowded as is_crowded_in, part_of as the_part, part_of_holder as holders_part, selected};
@@ -10,16 +10,16 @@ ghost use Rattle.plant_types.specs.Names.{same_name};
 ghost use Rattle.plant_types.specs.Results.{Gives, OnlyMemory};
 
 use crate::asking::{
-    Wanted, WantedAlarms, WantedEvents, is_crowded, is_number, wanted_alarms, wanted_change,
-    wanted_events, wanted_records, wanted_shelves, wants_all_grants, wants_matrix, wants_sources,
+    Wanted, WantedAlarms, WantedEvents, is_crowded, wanted_alarms, wanted_change, wanted_events,
+    wanted_records, wanted_shelves, wants_all_grants, wants_matrix, wants_sources,
 };
 use crate::found::{changes_of, rows_wanted, shelved_alarms};
+use crate::matrices::rows_of_matrices;
 use plant_alarm::Event;
 use plant_import::needed;
 use plant_model::{
-    AlarmRow, BandRow, Call, CellRow, ChangeEntry, Counted, GrantRow, RecordEntry, Request, Scope,
-    ShelfRow, UnitPart, UnitRow, UnitRows, change_at, holds_some_by, is_shelving, number_approved,
-    scope_of,
+    AlarmRow, Call, ChangeEntry, Counted, GrantRow, RecordEntry, Request, Scope, ShelfRow,
+    UnitPart, UnitRow, UnitRows, change_at, holds_some_by, is_shelving, number_approved, scope_of,
 };
 use plant_types::{Duplicate, Fault, List, Person, duplicated};
 use std::alloc::Global;
@@ -106,53 +106,20 @@ fn matrix_in_force(rows: &UnitRows) -> u32
     }
 }
 
-/// Whether the scope takes in the matrix of a number.
-fn is_matrix_asked(rows: &UnitRows, scope: Scope<'_>, number: u32) -> bool
-    ensures { result ≡ (selection_by rows.now scope.entry).matrix number }
-{
-    let named = is_number(wanted_change(scope), number);
-    named || wants_matrix(scope) && matrix_in_force(rows) == number
-}
-
-/// Whether the scope takes in some matrix.
-fn wants_some_matrix(scope: Scope<'_>) -> bool
-    ensures { result ≡ false → TakesNoMatrix scope.entry }
-{
-    wants_matrix(scope) || wanted_change(scope).is_some()
-}
-
-/// The limits of the matrices that the scope takes in.
-fn bands_asked(alloc: Global, rows: &UnitRows, scope: Scope<'_>) -> Result<List<BandRow>, Fault>
-    ensures value { Gives result (bands_by rows.now scope.entry) }
+/// The numbers of the matrices that the scope takes in.
+fn matrices_asked(alloc: Global, rows: &UnitRows, scope: Scope<'_>) -> Result<BTreeSet<u32>, Fault>
+    ensures value { IfOk result
+        (λ numbers. HasNumbers numbers (selection_by rows.now scope.entry).matrix) }
     ensures memory { OnlyMemory result }
 {
-    let mut asked = List::new(alloc);
-    if !wants_some_matrix(scope) {
-        return Ok(asked);
+    let mut numbers = BTreeSet::new(alloc);
+    if wants_matrix(scope) {
+        numbers.insert(matrix_in_force(rows))?;
     }
-    for band in rows.bands.as_slice() {
-        if is_matrix_asked(rows, scope, band.matrix_no) {
-            asked.push(*band)?;
-        }
+    if let Some(named) = wanted_change(scope) {
+        numbers.insert(named)?;
     }
-    Ok(asked)
-}
-
-/// The cells of the matrices that the scope takes in.
-fn cells_asked(alloc: Global, rows: &UnitRows, scope: Scope<'_>) -> Result<List<CellRow>, Fault>
-    ensures value { Gives result (cells_by rows.now scope.entry) }
-    ensures memory { OnlyMemory result }
-{
-    let mut asked = List::new(alloc);
-    if !wants_some_matrix(scope) {
-        return Ok(asked);
-    }
-    for cell in rows.cells.as_slice() {
-        if is_matrix_asked(rows, scope, cell.matrix_no) {
-            asked.push(*cell)?;
-        }
-    }
-    Ok(asked)
+    Ok(numbers)
 }
 
 /// The numbers of the changes that the wanted records came from.
@@ -216,14 +183,15 @@ fn rows_asked(
     ensures value { AreInOrder rows.now → Gives result (rows_by person.now rows.now scope.entry) }
     ensures memory { OnlyMemory result }
 {
+    let matrices = matrices_asked(alloc, rows, scope)?;
     Ok(UnitRows {
         units: rows.units.duplicate(alloc)?,
         grants: grants_asked(alloc, rows, person, scope)?,
         alarms: alarms_asked(alloc, &rows.alarms, &rows.shelves, wanted_alarms(scope))?,
         shelves: rows_wanted(alloc, &rows.shelves, &wanted_shelves(scope))?,
         events: events_asked(alloc, &rows.events, wanted_events(scope))?,
-        bands: bands_asked(alloc, rows, scope)?,
-        cells: cells_asked(alloc, rows, scope)?,
+        bands: rows_of_matrices(alloc, rows.bands.as_slice(), &matrices)?,
+        cells: rows_of_matrices(alloc, rows.cells.as_slice(), &matrices)?,
         records: rows_wanted(alloc, &rows.records, &wanted_records(scope))?,
         changes: changes_asked(alloc, rows, scope)?,
     })

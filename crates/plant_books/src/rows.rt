@@ -88,16 +88,18 @@ fn rise<T: Keyed>(rows: &[T]) -> bool
     rows.is_sorted_by(|row, next| row.key_cmp(next).is_lt())
 }
 
-/// Whether the rows of a unit stand in the order of their keys.
+/// Whether the rows of a unit, but for its grants, stand in the order of their keys.
 pub fn are_in_order(rows: &UnitRows) -> bool
     ensures { IsTrue result → AreInOrder rows.now }
 {
     let alarms = rise(rows.alarms.as_slice());
     let shelves = rise(rows.shelves.as_slice());
     let events = rise(rows.events.as_slice());
+    let bands = rise(rows.bands.as_slice());
+    let cells = rise(rows.cells.as_slice());
     let records = rise(rows.records.as_slice());
     let changes = rise(rows.changes.as_slice());
-    alarms && shelves && events && records && changes
+    alarms && shelves && events && bands && cells && records && changes
 }
 
 /// How a person with a role compares with the pair of a grant: by person, and then by role.

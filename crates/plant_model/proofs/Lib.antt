@@ -1,4 +1,3 @@
-mod PlaceOrders
 pub mod public
 mod MatrixLaws
 mod DecisionLaws

@@ -19,7 +19,7 @@ use Rattle.plant_model.specs.declared.rows.CellRow.{CellRow}
 use Rattle.plant_ration.specs.declared.cell.Cell.{Cell}
 use Rattle.plant_model.proofs.public.FactLaws.{not_true, same_number_of}
 use Rattle.plant_model.proofs.public.HistoryLaws.{any-append-left, any-append-right, latest-named, mapped_key, when_Some}
-use Rattle.plant_model.proofs.PlaceOrders.{band_total, cell_total, same_bands, same_cells}
+use Rattle.plant_model.proofs.public.PlaceOrders.{band_total, cell_total, same_bands, same_cells}
 use Rattle.plant_model.proofs.public.PutLaws.{else_none, said, said-told}
 use Rattle.plant_model.specs.Histories.{all_named, same_number}
 use Rattle.plant_model.specs.Matrices.{BandKey, CellKey, at_place, band_at, band_cmp, band_places, cell_cmp, cell_of, cell_places, cells_of_row, matrix_numbered, numbered_matrix, places_in, when_number}

@@ -18,3 +18,4 @@ pub mod QuotaLaws
 pub mod Base
 pub mod RowsFound
 pub mod ChangesFound
+pub mod PlaceOrders

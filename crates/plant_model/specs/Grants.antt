@@ -10,7 +10,7 @@ use Rattle.plant_types.specs.Names.{Name}
 use Rattle.plant_types.specs.Options.{when}
 use Rattle.plant_types.specs.Roles.{Pair, all_roles, same_pair}
 
--- what a grant or a revocation says of a pair: nothing where it is of another pair
+-- what a grant or a withdrawal says of a pair: nothing where it is of another pair
 abbrev pub pair_by : Pair → Option (Pair × Said (Option ℕ)) → Option (Said (Option ℕ))
 pair_by k None = None
 pair_by k (Some (l, said)) = when (same_pair k l) said

@@ -2,7 +2,8 @@
 use Rattle.std.specs.Ordering.{nat_cmp}
 use Rattle.std.specs.Prelude.{List}
 use Rattle.plant_alarm.specs.declared.event.Event.{Event}
-use Rattle.plant_model.specs.RowFacts.{alarm_tag, change_number, event_number, record_tag, shelf_tag}
+use Rattle.plant_model.specs.Matrices.{band_cmp, cell_cmp}
+use Rattle.plant_model.specs.RowFacts.{alarm_tag, band_key, cell_key, change_number, event_number, record_tag, shelf_tag}
 use Rattle.plant_model.specs.declared.rows.ChangeEntry.{ChangeEntry}
 use Rattle.plant_model.specs.declared.rows.UnitRows.{UnitRows}
 use Rattle.plant_types.specs.Names.{Name, name_cmp}
@@ -20,10 +21,13 @@ EventsRise es = IsInOrder nat_cmp event_number es
 abbrev pub ChangesRise : List ChangeEntry → Type 0
 ChangesRise changes = IsInOrder nat_cmp change_number changes
 
--- alarms, shelves and records rise by their tags, events and changes by their numbers
+-- alarms, shelves and records rise by their tags, events and changes by their numbers; limits rise by their matrix and band, cells by
+-- their matrix, severity and band
 pub record AreInOrder (rows : UnitRows) : Type 0 where
   pub alarms : IsInOrder name_cmp alarm_tag rows.alarms
   pub shelves : IsInOrder name_cmp shelf_tag rows.shelves
   pub events : IsInOrder nat_cmp event_number rows.events
+  pub bands : IsInOrder band_cmp band_key rows.bands
+  pub cells : IsInOrder cell_cmp cell_key rows.cells
   pub records : IsInOrder name_cmp record_tag rows.records
   pub changes : IsInOrder nat_cmp change_number rows.changes

@@ -15,7 +15,9 @@ use Rattle.plant_import.specs.Numbers.{with_events}
 use Rattle.plant_model.specs.Order.{AreInOrder, EventsRise}
 use Rattle.plant_books.specs.declared.opened.OpenedUnit.{OpenedUnit}
 use Rattle.plant_model.specs.RowChanges.{changed, changed_by, no_rows, put, removed}
-use Rattle.plant_model.specs.RowFacts.{alarm_tag, change_number, event_number, record_tag, shelf_tag}
+use Rattle.plant_model.proofs.public.PlaceOrders.{band_total, cell_total, same_bands, same_cells}
+use Rattle.plant_model.specs.Matrices.{band_cmp, cell_cmp}
+use Rattle.plant_model.specs.RowFacts.{alarm_tag, band_key, cell_key, change_number, event_number, record_tag, shelf_tag}
 use Rattle.plant_model.specs.declared.rows.RowEdit.{RowEdit}
 use Rattle.plant_model.specs.declared.rows.RowEdit.TheVariants.{Put, PutEvents, Remove}
 use Rattle.plant_model.specs.declared.rows.Key.{Key}
@@ -89,22 +91,22 @@ module _ {K X : Type 0} (cmp : K → K → Ordering) (key : X → K) where
 -- ---- a unit's rows, through changes
 
 pub none_in_order : AreInOrder no_rows
-none_in_order = record { alarms = tt; shelves = tt; events = tt; records = tt; changes = tt }
+none_in_order = record { alarms = tt; shelves = tt; events = tt; bands = tt; cells = tt; records = tt; changes = tt }
 
 put_in_order : (r : Row) (rows : UnitRows) → AreInOrder rows → AreInOrder (put r rows)
-put_in_order (UnitPut r) rows h = record { alarms = h.alarms; shelves = h.shelves; events = h.events; records = h.records; changes = h.changes }
-put_in_order (GrantPut r) rows h = record { alarms = h.alarms; shelves = h.shelves; events = h.events; records = h.records; changes = h.changes }
-put_in_order (AlarmPut r) rows h = record { alarms = IsInOrder-put_row name_cmp alarm_tag name_total same_names r rows.alarms h.alarms; shelves = h.shelves; events = h.events; records = h.records; changes = h.changes }
-put_in_order (ShelfPut r) rows h = record { alarms = h.alarms; shelves = IsInOrder-put_row name_cmp shelf_tag name_total same_names r rows.shelves h.shelves; events = h.events; records = h.records; changes = h.changes }
-put_in_order (EventPut r) rows h = record { alarms = h.alarms; shelves = h.shelves; events = IsInOrder-put_row nat_cmp event_number nat_cmp_total nat_cmp-IsAntisymmetric r rows.events h.events; records = h.records; changes = h.changes }
-put_in_order (BandPut r) rows h = record { alarms = h.alarms; shelves = h.shelves; events = h.events; records = h.records; changes = h.changes }
-put_in_order (CellPut r) rows h = record { alarms = h.alarms; shelves = h.shelves; events = h.events; records = h.records; changes = h.changes }
-put_in_order (RecordPut r) rows h = record { alarms = h.alarms; shelves = h.shelves; events = h.events; records = IsInOrder-put_row name_cmp record_tag name_total same_names r rows.records h.records; changes = h.changes }
-put_in_order (ChangePut r) rows h = record { alarms = h.alarms; shelves = h.shelves; events = h.events; records = h.records; changes = IsInOrder-put_row nat_cmp change_number nat_cmp_total nat_cmp-IsAntisymmetric r rows.changes h.changes }
+put_in_order (UnitPut r) rows h = record { alarms = h.alarms; shelves = h.shelves; events = h.events; bands = h.bands; cells = h.cells; records = h.records; changes = h.changes }
+put_in_order (GrantPut r) rows h = record { alarms = h.alarms; shelves = h.shelves; events = h.events; bands = h.bands; cells = h.cells; records = h.records; changes = h.changes }
+put_in_order (AlarmPut r) rows h = record { alarms = IsInOrder-put_row name_cmp alarm_tag name_total same_names r rows.alarms h.alarms; shelves = h.shelves; events = h.events; bands = h.bands; cells = h.cells; records = h.records; changes = h.changes }
+put_in_order (ShelfPut r) rows h = record { alarms = h.alarms; shelves = IsInOrder-put_row name_cmp shelf_tag name_total same_names r rows.shelves h.shelves; events = h.events; bands = h.bands; cells = h.cells; records = h.records; changes = h.changes }
+put_in_order (EventPut r) rows h = record { alarms = h.alarms; shelves = h.shelves; events = IsInOrder-put_row nat_cmp event_number nat_cmp_total nat_cmp-IsAntisymmetric r rows.events h.events; bands = h.bands; cells = h.cells; records = h.records; changes = h.changes }
+put_in_order (BandPut r) rows h = record { alarms = h.alarms; shelves = h.shelves; events = h.events; bands = IsInOrder-put_row band_cmp band_key band_total same_bands r rows.bands h.bands; cells = h.cells; records = h.records; changes = h.changes }
+put_in_order (CellPut r) rows h = record { alarms = h.alarms; shelves = h.shelves; events = h.events; bands = h.bands; cells = IsInOrder-put_row cell_cmp cell_key cell_total same_cells r rows.cells h.cells; records = h.records; changes = h.changes }
+put_in_order (RecordPut r) rows h = record { alarms = h.alarms; shelves = h.shelves; events = h.events; bands = h.bands; cells = h.cells; records = IsInOrder-put_row name_cmp record_tag name_total same_names r rows.records h.records; changes = h.changes }
+put_in_order (ChangePut r) rows h = record { alarms = h.alarms; shelves = h.shelves; events = h.events; bands = h.bands; cells = h.cells; records = h.records; changes = IsInOrder-put_row nat_cmp change_number nat_cmp_total nat_cmp-IsAntisymmetric r rows.changes h.changes }
 
 removed_in_order : (k : Key) (rows : UnitRows) → AreInOrder rows → AreInOrder (removed k rows)
-removed_in_order (GrantKey p r) rows h = record { alarms = h.alarms; shelves = h.shelves; events = h.events; records = h.records; changes = h.changes }
-removed_in_order (ShelfKey a) rows h = record { alarms = h.alarms; shelves = IsInOrder-remove_row name_cmp shelf_tag name_total same_names a rows.shelves h.shelves; events = h.events; records = h.records; changes = h.changes }
+removed_in_order (GrantKey p r) rows h = record { alarms = h.alarms; shelves = h.shelves; events = h.events; bands = h.bands; cells = h.cells; records = h.records; changes = h.changes }
+removed_in_order (ShelfKey a) rows h = record { alarms = h.alarms; shelves = IsInOrder-remove_row name_cmp shelf_tag name_total same_names a rows.shelves h.shelves; events = h.events; bands = h.bands; cells = h.cells; records = h.records; changes = h.changes }
 
 events_in_order : (more es : List Event) → EventsRise es → EventsRise (with_events es more)
 events_in_order [] es h = h
@@ -112,7 +114,7 @@ events_in_order (e ∷ more) es h = events_in_order more (put_row nat_cmp event_
 
 pub one_in_order : (c : RowEdit) (rows : UnitRows) → AreInOrder rows → AreInOrder (changed c rows)
 one_in_order (Put r) rows h = put_in_order r rows h
-one_in_order (PutEvents es) rows h = record { alarms = h.alarms; shelves = h.shelves; events = events_in_order es rows.events h.events; records = h.records; changes = h.changes }
+one_in_order (PutEvents es) rows h = record { alarms = h.alarms; shelves = h.shelves; events = events_in_order es rows.events h.events; bands = h.bands; cells = h.cells; records = h.records; changes = h.changes }
 one_in_order (Remove k) rows h = removed_in_order k rows h
 
 pub changed_in_order : (cs : List RowEdit) (rows : UnitRows) → AreInOrder rows → AreInOrder (changed_by cs rows)

@@ -26,7 +26,7 @@ use Rattle.plant_model.proofs.public.Base.{at, x}
 use Rattle.plant_model.proofs.public.FactLaws.{is_same_number, same_number_of}
 use Rattle.plant_model.proofs.public.HistoryLaws.{mapped_key}
 use Rattle.plant_model.proofs.MatrixLaws.{band_here, band_key_of, band_keys, bands_told, cell_key_of, cell_keys, cells_told, found_any, row_here}
-use Rattle.plant_model.proofs.PlaceOrders.{band_total, cell_total, same_bands, same_cells}
+use Rattle.plant_model.proofs.public.PlaceOrders.{band_total, cell_total, same_bands, same_cells}
 use Rattle.plant_model.proofs.public.ServiceLaws.{both_true}
 use Rattle.plant_model.specs.Histories.{same_number}
 use Rattle.plant_model.specs.Matrices.{BandKey, CellKey, at_place, band_at, band_cmp, band_places, cell_cmp, cell_of, matrix_numbered}

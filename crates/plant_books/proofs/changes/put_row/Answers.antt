@@ -2,7 +2,9 @@ use Rattle.std.proofs.Common.{ap}
 use Rattle.std.specs.Cmp.{nat_cmp_total, on_total}
 use Rattle.std.specs.Ordering.{nat_cmp}
 use Rattle.plant_books.proofs.public.OrderLaws.{put_by_keys, rows_rise}
-use Rattle.plant_model.specs.RowFacts.{alarm_tag, change_number, event_number, record_tag, shelf_tag}
+use Rattle.plant_model.proofs.public.PlaceOrders.{band_total, cell_total}
+use Rattle.plant_model.specs.Matrices.{band_cmp, cell_cmp}
+use Rattle.plant_model.specs.RowFacts.{alarm_tag, band_key, cell_key, change_number, event_number, record_tag, shelf_tag}
 use Rattle.plant_types.proofs.public.Orders.{name_total}
 use Rattle.plant_types.specs.Names.{name_cmp}
 use Rattle.plant_books.proofs.changes.put_row.Goals as goal
@@ -36,3 +38,15 @@ returns-in-Change-clause-ok c order =
     rw c.in-Change.is
     (put_by_keys nat_cmp change_number c.put_sorted-in-Change.result c.put_sorted-in-Change.new.rows c.args.rows.now.changes c.in-Change.row (λ is. ap (λ rows. record c.args.rows.now { changes = rows }) is)
     (c.put_sorted-in-Change.ensures.ok (on_total change_number nat_cmp_total) (rows_rise nat_cmp change_number c.args.rows.now.changes order.changes)))
+
+pub returns-in-Band-clause-ok : goal.returns-in-Band-clause-ok
+returns-in-Band-clause-ok c order =
+    rw c.in-Band.is
+    (put_by_keys band_cmp band_key c.put_sorted-in-Band.result c.put_sorted-in-Band.new.rows c.args.rows.now.bands c.in-Band.row (λ is. ap (λ rows. record c.args.rows.now { bands = rows }) is)
+    (c.put_sorted-in-Band.ensures.ok (on_total band_key band_total) (rows_rise band_cmp band_key c.args.rows.now.bands order.bands)))
+
+pub returns-in-Cell-clause-ok : goal.returns-in-Cell-clause-ok
+returns-in-Cell-clause-ok c order =
+    rw c.in-Cell.is
+    (put_by_keys cell_cmp cell_key c.put_sorted-in-Cell.result c.put_sorted-in-Cell.new.rows c.args.rows.now.cells c.in-Cell.row (λ is. ap (λ rows. record c.args.rows.now { cells = rows }) is)
+    (c.put_sorted-in-Cell.ensures.ok (on_total cell_key cell_total) (rows_rise cell_cmp cell_key c.args.rows.now.cells order.cells)))

@@ -1,0 +1,218 @@
+-- The rows of a matrix among rows in the order of their keys: where they begin and end, and those of several matrices.
+use Rattle.std.proofs.Common.{Bool, List, [], ap, arith, cond, drop, false, get_or, inl, inr, length, not, refl, subst, suc, sym, take, true, zero, ℕ, ◌++◌, ◌<◌, ◌∙◌, ◌∷◌, ◌≡◌, ◌≤◌, ◌⊎◌}
+use Rattle.std.proofs.lemmas.Bool.{cases_order, leb-true, ltb-true, le-leb, lt-ltb}
+use Rattle.std.proofs.lemmas.List.Sorted.{IsPartitionedBy-leb, IsPartitionedBy-ltb}
+use Rattle.std.specs.List.Sorted.{IsNonDecreasingBy, IsPartitionPoint, IsPartitionedBy, IsStrictlySortedBy}
+use Rattle.std.specs.Ordering.{nat_cmp, ordering_then}
+use Rattle.std.specs.declared.cmp.Ordering.{Ordering}
+use Rattle.std.specs.declared.cmp.Ordering.TheVariants.{Equal, Greater, Less}
+use Rattle.std.specs.Cmp.{ranked}
+use Rattle.std.specs.FinMap.Entries.{below_all}
+use Rattle.std.specs.Prelude.{T, filter, map, nat_le, nat_lt, ◌||◌}
+use Rattle.plant_books.proofs.ChangesAmong.{among, among_more, none_among, or_none, or_true, smaller}
+use Rattle.plant_import.proofs.public.Placed.{AllBelow, other, other_above}
+use Rattle.std.specs.BTreeSet.{BTreeSet}
+use Rattle.plant_books.specs.MatrixRows.{MatricesRise, of_matrices}
+use Rattle.plant_model.proofs.public.ChangesFound.{tied, ties}
+use Rattle.plant_model.proofs.public.RowsFound.{first, less, second}
+use Rattle.plant_model.specs.Matrices.{band_cmp, cell_cmp}
+use Rattle.plant_model.specs.RowFacts.{band_key, cell_key}
+use Rattle.plant_model.specs.declared.rows.BandRow.{BandRow}
+use Rattle.plant_model.specs.declared.rows.CellRow.{CellRow}
+use Rattle.plant_types.proofs.public.Orders.{same_numbers}
+use Rattle.plant_types.specs.KeyedRows.{IsInOrder}
+
+-- ---- what stands before the place where a test changes, and what stands from it on
+
+module _ {X : Type 0} (q : X → Bool) where
+  abbrev pub Parted : List X → ℕ → Type 0
+  Parted xs p = IsPartitionPoint (λ x. q x ≡ true) (λ x. q x ≡ false) xs p
+
+  later_all : (x : X) (xs : List X) → Parted (x ∷ xs) 0 → Parted xs 0
+  later_all x xs h = ((λ k d low high. absurd (omega (arith, high))), (λ k d low high. h.1 (suc k) d (omega arith) (omega (arith, high))))
+
+  later_one : (x : X) (xs : List X) (p : ℕ) → Parted (x ∷ xs) (suc p) → Parted xs p
+  later_one x xs p h = ((λ k d low high. h.0 (suc k) d (omega arith) (omega (arith, high))), (λ k d low high. h.1 (suc k) d (omega (arith, low)) (omega (arith, high))))
+
+  passes : (x : X) (xs : List X) (b : Bool) → q x ≡ b → cond b (x ∷ filter q xs) (filter q xs) ≡ filter q (x ∷ xs)
+  passes x xs b is = ap (λ c. cond c (x ∷ filter q xs) (filter q xs)) (sym is)
+
+  fails : (x : X) (xs : List X) (b : Bool) → q x ≡ b → cond (not b) (x ∷ filter (λ y. not (q y)) xs) (filter (λ y. not (q y)) xs) ≡ filter (λ y. not (q y)) (x ∷ xs)
+  fails x xs b is = ap (λ c. cond (not c) (x ∷ filter (λ y. not (q y)) xs) (filter (λ y. not (q y)) xs)) (sym is)
+
+  pub before_place : (xs : List X) (p : ℕ) → Parted xs p → take p xs ≡ filter q xs
+  before_place [] zero h = refl
+  before_place [] (suc p) h = refl
+  before_place (x ∷ xs) zero h = before_place xs zero (later_all x xs h) ∙ passes x xs false (h.1 0 x (omega arith) (omega arith))
+  before_place (x ∷ xs) (suc p) h = ap (λ l. x ∷ l) (before_place xs p (later_one x xs p h)) ∙ passes x xs true (h.0 0 x (omega arith) (omega arith))
+
+  pub from_place : (xs : List X) (p : ℕ) → Parted xs p → drop p xs ≡ filter (λ y. not (q y)) xs
+  from_place [] zero h = refl
+  from_place [] (suc p) h = refl
+  from_place (x ∷ xs) zero h = ap (λ l. x ∷ l) (from_place xs zero (later_all x xs h)) ∙ fails x xs false (h.1 0 x (omega arith) (omega arith))
+  from_place (x ∷ xs) (suc p) h = from_place xs p (later_one x xs p h) ∙ fails x xs true (h.0 0 x (omega arith) (omega arith))
+
+-- ---- numbers: below another, and not above it
+
+not_below : (m n : ℕ) → n ≤ m → nat_lt m n ≡ false
+not_below m n le = by (nat_lt m n) refl
+  where
+    by : (b : Bool) → nat_lt m n ≡ b → b ≡ false
+    by true e = absurd (let lt = ltb-true m n e in omega (arith, lt, le))
+    by false e = refl
+
+not_upto : (m n : ℕ) → n < m → nat_le m n ≡ false
+not_upto m n lt = by (nat_le m n) refl
+  where
+    by : (b : Bool) → nat_le m n ≡ b → b ≡ false
+    by true e = absurd (let le = leb-true m n e in omega (arith, lt, le))
+    by false e = refl
+
+module _ {X : Type 0} (number : X → ℕ) where
+  -- no number is smaller than this, and the numbers do not fall
+  abbrev pub From : ℕ → List X → Type 0
+  From n [] = Unit {0}
+  From n (x ∷ xs) = (n ≤ number x) × From n xs
+
+  abbrev pub Climb : List X → Type 0
+  Climb [] = Unit {0}
+  Climb (x ∷ xs) = From (number x) xs × Climb xs
+
+  from_all : (n : ℕ) (xs : List X) → ((k : ℕ) (d : X) → k < length xs → n ≤ number (get_or xs k d)) → From n xs
+  from_all n [] h = tt
+  from_all n (x ∷ xs) h = (h 0 x (omega arith), from_all n xs (λ k d lt. h (suc k) d (omega (arith, lt))))
+
+  pub climb : (xs : List X) → IsNonDecreasingBy number xs → Climb xs
+  climb [] h = tt
+  climb (x ∷ xs) h = (from_all (number x) xs (λ k d lt. h 0 (suc k) d (omega arith) (omega (arith, lt))), climb xs (λ i j d le lt. h (suc i) (suc j) d (omega (arith, le)) (omega (arith, lt))))
+
+  rest_rises : (k : ℕ) (xs : List X) → IsNonDecreasingBy number xs → IsNonDecreasingBy number (drop k xs)
+  rest_rises zero xs h = h
+  rest_rises (suc k) [] h = h
+  rest_rises (suc k) (x ∷ xs) h = rest_rises k xs (λ i j d le lt. h (suc i) (suc j) d (omega (arith, le)) (omega (arith, lt)))
+
+  pub parted_below : (n : ℕ) (xs : List X) → IsNonDecreasingBy number xs → IsPartitionedBy (λ x. nat_lt (number x) n) xs
+  parted_below n xs h = IsPartitionedBy-ltb number xs n h
+
+  pub parted_upto : (n k : ℕ) (xs : List X) → IsNonDecreasingBy number xs → IsPartitionedBy (λ x. nat_le (number x) n) (drop k xs)
+  parted_upto n k xs h = IsPartitionedBy-leb number (drop k xs) n (rest_rises k xs h)
+
+  -- the rows of one number
+  abbrev pub of_number : ℕ → List X → List X
+  of_number n xs = filter (λ x. ties (number x) n) xs
+
+  abbrev upto : ℕ → List X → List X
+  upto n xs = filter (λ x. nat_le (number x) n) xs
+
+  abbrev from_on : ℕ → List X → List X
+  from_on n xs = filter (λ x. not (nat_lt (number x) n)) xs
+
+  middle : (n : ℕ) (xs : List X) → upto n (from_on n xs) ≡ of_number n xs
+  middle n [] = refl
+  middle n (x ∷ xs) = by (cases_order (number x) n) (middle n xs)
+    where
+      by : (number x ≡ n) ⊎ ((number x < n) ⊎ (n < number x)) → upto n (from_on n xs) ≡ of_number n xs → upto n (from_on n (x ∷ xs)) ≡ of_number n (x ∷ xs)
+      by (inl same) rest =
+          ap (λ b. upto n (cond (not b) (x ∷ from_on n xs) (from_on n xs))) (not_below (number x) n (omega (arith, same)))
+          ∙ ap (λ b. cond b (x ∷ upto n (from_on n xs)) (upto n (from_on n xs))) (le-leb (number x) n (omega (arith, same)))
+          ∙ ap (λ l. x ∷ l) rest
+          ∙ ap (λ b. cond b (x ∷ of_number n xs) (of_number n xs)) (sym (tied (number x) n same))
+      by (inr (inl lt)) rest =
+          ap (λ b. upto n (cond (not b) (x ∷ from_on n xs) (from_on n xs))) (lt-ltb (number x) n lt)
+          ∙ rest
+          ∙ ap (λ b. cond b (x ∷ of_number n xs) (of_number n xs)) (sym (other_above (number x) n lt))
+      by (inr (inr gt)) rest =
+          ap (λ b. upto n (cond (not b) (x ∷ from_on n xs) (from_on n xs))) (not_below (number x) n (omega (arith, gt)))
+          ∙ ap (λ b. cond b (x ∷ upto n (from_on n xs)) (upto n (from_on n xs))) (not_upto (number x) n gt)
+          ∙ rest
+          ∙ ap (λ b. cond b (x ∷ of_number n xs) (of_number n xs)) (sym (other (number x) n gt))
+
+  pub cut_out : (n : ℕ) (xs : List X) (p e : ℕ) → Parted (λ x. nat_lt (number x) n) xs p → Parted (λ x. nat_le (number x) n) (drop p xs) e → take e (drop p xs) ≡ of_number n xs
+  cut_out n xs p e low high = before_place (λ x. nat_le (number x) n) (drop p xs) e high ∙ ap (upto n) (from_place (λ x. nat_lt (number x) n) xs p low) ∙ middle n xs
+
+  -- ---- the rows of several numbers, one number after another
+
+  abbrev pub of_numbers : List ℕ → List X → List X
+  of_numbers ks xs = filter (λ x. among ks (number x)) xs
+
+  pub of_none : (xs : List X) → of_numbers [] xs ≡ []
+  of_none [] = refl
+  of_none (x ∷ xs) = of_none xs
+
+  none_from : (ks : List ℕ) (n : ℕ) (xs : List X) → AllBelow (λ k. k) n ks → From n xs → of_numbers ks xs ≡ []
+  none_from ks n [] low h = refl
+  none_from ks n (x ∷ xs) low h = ap (λ b. cond b (x ∷ of_numbers ks xs) (of_numbers ks xs)) (none_among ks n (number x) low h.0) ∙ none_from ks n xs low h.1
+
+  one_more : (ks : List ℕ) (n : ℕ) (xs : List X) → AllBelow (λ k. k) n ks → Climb xs → of_numbers (ks ++ n ∷ []) xs ≡ of_numbers ks xs ++ of_number n xs
+  one_more ks n [] low h = refl
+  one_more ks n (x ∷ xs) low h = by (cases_order (number x) n) (one_more ks n xs low h.1)
+    where
+      more : List X
+      more = of_numbers (ks ++ n ∷ []) xs
+
+      by : (number x ≡ n) ⊎ ((number x < n) ⊎ (n < number x)) → more ≡ of_numbers ks xs ++ of_number n xs → of_numbers (ks ++ n ∷ []) (x ∷ xs) ≡ of_numbers ks (x ∷ xs) ++ of_number n (x ∷ xs)
+      by (inl same) rest =
+          let none : of_numbers ks xs ≡ [] = none_from ks n xs low (subst (λ m. From m xs) same h.0) in
+          ap (λ b. cond b (x ∷ more) more) (among_more ks n (number x) ∙ ap (λ b. among ks (number x) || (b || false)) (tied (number x) n same) ∙ or_true (among ks (number x)))
+          ∙ ap (λ l. x ∷ l) (rest ∙ ap (λ l. l ++ of_number n xs) none)
+          ∙ sym (ap (λ b. cond b (x ∷ of_numbers ks xs) (of_numbers ks xs) ++ of_number n (x ∷ xs)) (none_among ks n (number x) low (omega (arith, same)))
+          ∙ (λ i. none i ++ cond (tied (number x) n same i) (x ∷ of_number n xs) (of_number n xs)))
+      by (inr (inl lt)) rest =
+          ap (λ b. cond b (x ∷ more) more) (among_more ks n (number x) ∙ ap (λ b. among ks (number x) || (b || false)) (other_above (number x) n lt) ∙ or_none (among ks (number x)))
+          ∙ elim (among ks (number x)) as (λ b. cond b (x ∷ more) more ≡ cond b (x ∷ of_numbers ks xs) (of_numbers ks xs) ++ of_number n xs) [
+            | true ↦ ap (λ l. x ∷ l) rest
+            | false ↦ rest
+          ]
+          ∙ ap (λ b. of_numbers ks (x ∷ xs) ++ cond b (x ∷ of_number n xs) (of_number n xs)) (sym (other_above (number x) n lt))
+      by (inr (inr gt)) rest =
+          ap (λ b. cond b (x ∷ more) more) (among_more ks n (number x) ∙ ap (λ b. among ks (number x) || (b || false)) (other (number x) n gt) ∙ or_none (among ks (number x)))
+          ∙ elim (among ks (number x)) as (λ b. cond b (x ∷ more) more ≡ cond b (x ∷ of_numbers ks xs) (of_numbers ks xs) ++ of_number n xs) [
+            | true ↦ ap (λ l. x ∷ l) rest
+            | false ↦ rest
+          ]
+          ∙ ap (λ b. of_numbers ks (x ∷ xs) ++ cond b (x ∷ of_number n xs) (of_number n xs)) (sym (other (number x) n gt))
+
+  pub goes_on : (xs : List X) (keys before t : List ℕ) (n : ℕ) (these so_far : List X) → IsStrictlySortedBy nat_cmp keys → before ++ n ∷ t ≡ keys → IsNonDecreasingBy number xs → so_far ≡ of_numbers before xs → these ≡ of_number n xs
+      → so_far ++ these ≡ of_numbers (before ++ n ∷ []) xs
+  goes_on xs keys before t n these so_far rising cut rise is here =
+      let low = smaller before n t (subst (IsStrictlySortedBy nat_cmp) (sym cut) rising) in
+      (λ i. is i ++ here i) ∙ sym (one_more before n xs low (climb xs rise))
+
+-- ---- rows in the order of their keys: their matrices rise
+
+leads : (a b : ℕ) (rest : Ordering) → ordering_then (nat_cmp a b) rest ≡ Less → a ≤ b
+leads a b rest e = by (nat_cmp a b) refl e
+  where
+    by : (o : Ordering) → nat_cmp a b ≡ o → ordering_then o rest ≡ Less → a ≤ b
+    by Less p q = let lt = ranked a b Less (sym p) in omega (arith, lt)
+    by Equal p q = let same = same_numbers a b p in omega (arith, same)
+    by Greater p q = cc
+
+module _ {K X : Type 0} (R : K → K → Ordering) (key : X → K) (lead : K → ℕ) (le : (a b : K) → R a b ≡ Less → lead a ≤ lead b) where
+  above : (a : K) (xs : List X) → T (below_all R a (map (λ r. (key r, r)) xs)) → (k : ℕ) (d : X) → k < length xs → lead a ≤ lead (key (get_or xs k d))
+  above a [] h k d lt = absurd (omega (arith, lt))
+  above a (x ∷ xs) h zero d lt = le a (key x) (less (R a (key x)) (first _ _ h))
+  above a (x ∷ xs) h (suc k) d lt = above a xs (second _ _ h) k d (omega (arith, lt))
+
+  rise : (xs : List X) → IsInOrder R key xs → IsNonDecreasingBy (λ r. lead (key r)) xs
+  rise [] h i j d le' lt = absurd (omega (arith, lt))
+  rise (x ∷ xs) h zero zero d le' lt = omega arith
+  rise (x ∷ xs) h zero (suc j) d le' lt = above (key x) xs (first _ _ h) j d (omega (arith, lt))
+  rise (x ∷ xs) h (suc i) zero d le' lt = absurd (omega (arith, le'))
+  rise (x ∷ xs) h (suc i) (suc j) d le' lt = rise xs (second _ _ h) i j d (omega (arith, le')) (omega (arith, lt))
+
+-- the rows of some matrices, of all rows as they are handed on
+taken : {X : Type 0} (matrix : X → ℕ) (numbers : BTreeSet ℕ) (all rows these : List X) → all ≡ rows → MatricesRise matrix rows → (MatricesRise matrix all → these ≡ of_matrices matrix numbers all) → these ≡ of_matrices matrix numbers rows
+taken matrix numbers all rows these same rises value = value (subst (MatricesRise matrix) (sym same) rises) ∙ ap (of_matrices matrix numbers) same
+
+bands_rise : (rows : List BandRow) → IsInOrder band_cmp band_key rows → MatricesRise (λ r. r.matrix_no) rows
+bands_rise rows order = rise band_cmp band_key (λ k. k.0) (λ a b. leads a.0 b.0 (nat_cmp a.1 b.1)) rows order
+
+cells_rise : (rows : List CellRow) → IsInOrder cell_cmp cell_key rows → MatricesRise (λ r. r.matrix_no) rows
+cells_rise rows order = rise cell_cmp cell_key (λ k. k.0) (λ a b. leads a.0 b.0 (ordering_then (nat_cmp a.1 b.1) (nat_cmp a.2 b.2))) rows order
+
+pub bands_taken : (numbers : BTreeSet ℕ) (all rows these : List BandRow) → all ≡ rows → IsInOrder band_cmp band_key rows → (MatricesRise (λ r. r.matrix_no) all → these ≡ of_matrices (λ r. r.matrix_no) numbers all) → these ≡ of_matrices (λ r. r.matrix_no) numbers rows
+bands_taken numbers all rows these same order value = taken (λ r. r.matrix_no) numbers all rows these same (bands_rise rows order) value
+
+pub cells_taken : (numbers : BTreeSet ℕ) (all rows these : List CellRow) → all ≡ rows → IsInOrder cell_cmp cell_key rows → (MatricesRise (λ r. r.matrix_no) all → these ≡ of_matrices (λ r. r.matrix_no) numbers all) → these ≡ of_matrices (λ r. r.matrix_no) numbers rows
+cells_taken numbers all rows these same order value = taken (λ r. r.matrix_no) numbers all rows these same (cells_rise rows order) value

@@ -1,0 +1,19 @@
+use Rattle.std.proofs.Common.{ap, drop, rules, take, ◌∙◌, ◌≡◌}
+use Rattle.std.proofs.lemmas.List.Sorted.{IsPartitionPoint-from_clause}
+use Rattle.std.specs.Prelude.{nat_le, nat_lt}
+use Rattle.plant_books.proofs.MatrixRanges.{Parted, cut_out, parted_below, parted_upto}
+use Rattle.plant_books.proofs.matrices.rows_of_matrix.Goals as goal
+
+pub returns : goal.returns
+returns g c rise =
+    let matrix = g.T.MatrixRow.matrix in
+    let n = c.args.number in
+    let xs = c.args.rows.now in
+    let p = c.partition_point.result in
+    let e = c.partition_point-2.result in
+    let from : c.split_at.result.1.now ≡ drop p xs = c.split_at.ensures.back in
+    let low : Parted (λ x. nat_lt (matrix x) n) xs p =
+    IsPartitionPoint-from_clause (λ x. nat_lt (matrix x) n) xs p c.partition_point.ensures.partitioned (parted_below matrix n xs rise) (λ a r f' k. search rules) in
+    let high : Parted (λ x. nat_le (matrix x) n) (drop p xs) e =
+    IsPartitionPoint-from_clause (λ x. nat_le (matrix x) n) (drop p xs) e (rw from at c.partition_point-2.ensures.partitioned) (parted_upto matrix n p xs rise) (λ a r f' k. search rules) in
+    c.split_at-2.ensures.front ∙ ap (take e) from ∙ cut_out matrix n xs p e low high
