@@ -1,3 +1,4 @@
 pub mod KeyedLaws
 pub mod OrderLaws
 pub mod EventLaws
+pub mod NumberRanges

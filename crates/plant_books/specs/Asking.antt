@@ -116,6 +116,16 @@ AreSources numbers tags records = (n : ℕ) → contains nat_cmp numbers n ≡ l
 abbrev pub HasNumbers : BTreeSet ℕ → (ℕ → Bool) → Type 0
 HasNumbers numbers passes = (n : ℕ) → contains nat_cmp numbers n ≡ passes n
 
--- the numbers of the changes that a scope takes in of a unit with these records
-abbrev pub GivesNumbers : {E : Type 0} → Scope → List RecordEntry → Result (BTreeSet ℕ) E → Type 0
-GivesNumbers scope records said = (rows : UnitRows) → rows.records ≡ records → IfOk said (λ numbers. HasNumbers numbers (selection_by rows scope).change)
+-- the records that a scope takes in, of these of a unit
+abbrev pub records_by : UnitRows → Scope → List RecordEntry → List RecordEntry
+records_by rows scope records = filter (λ r. (selection_by rows scope).rationale r.tag) records
+
+-- the numbers of the matrices that a scope takes in of a unit with this row of its own
+abbrev pub GivesMatrices : {E : Type 0} → Scope → List UnitRow → Result (BTreeSet ℕ) E → Type 0
+GivesMatrices scope units said = (rows : UnitRows) → rows.units ≡ units → IfOk said (λ numbers. HasNumbers numbers (selection_by rows scope).matrix)
+
+-- the numbers of the changes that a scope takes in of a unit, where of its records it takes in the same as of these
+abbrev pub GivesChanges : {E : Type 0} → Scope → List RecordEntry → Result (BTreeSet ℕ) E → Type 0
+GivesChanges scope records said =
+    (rows : UnitRows) → records_by rows scope rows.records ≡ records_by rows scope records
+    → IfOk said (λ numbers. HasNumbers numbers (selection_by rows scope).change)

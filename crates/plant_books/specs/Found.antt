@@ -1,12 +1,9 @@
--- Rows whose tags are wanted, alarms that have a shelf, rows without that of a tag, and changes of several numbers.
-use Rattle.std.specs.BTreeSet.{BTreeSet, contains}
-use Rattle.std.specs.Ordering.{nat_cmp}
-use Rattle.std.specs.Prelude.{List, filter, ℕ}
+-- Rows whose tags are wanted, alarms that have a shelf, and rows without that of a tag.
+use Rattle.std.specs.Prelude.{List, filter}
 use Rattle.plant_books.specs.Asking.{is_wanted}
 use Rattle.plant_books.specs.declared.asking.Wanted.{Wanted}
 use Rattle.plant_model.specs.Parts.{has_shelf}
 use Rattle.plant_model.specs.declared.rows.AlarmRow.{AlarmRow}
-use Rattle.plant_model.specs.declared.rows.ChangeEntry.{ChangeEntry}
 use Rattle.plant_model.specs.declared.rows.ShelfRow.{ShelfRow}
 use Rattle.plant_types.specs.KeyedRows.{remove_row}
 use Rattle.plant_types.specs.Names.{Name, name_cmp}
@@ -22,7 +19,3 @@ rows_wanted tag wanted rows = filter (λ r. is_wanted wanted (tag r)) rows
 -- the alarms that have one of these shelves
 abbrev pub shelved : List ShelfRow → List AlarmRow → List AlarmRow
 shelved shelves alarms = filter (λ r. has_shelf shelves r.tag) alarms
-
--- the changes whose numbers are in the set
-abbrev pub changes_in : BTreeSet ℕ → List ChangeEntry → List ChangeEntry
-changes_in numbers changes = filter (λ c. contains nat_cmp numbers c.number) changes

@@ -6,4 +6,4 @@ pub mod Listed
 pub mod Changing
 pub mod Found
 pub mod Keyed
-pub mod MatrixRows
+pub mod Numbered

@@ -1,18 +1,16 @@
-//! Copies of the rows whose tags are wanted, of the alarms that have a shelf and of the changes of several numbers, and
-//! rows without that of a tag.
+//! Copies of the rows whose tags are wanted and of the alarms that have a shelf, and rows without that of a tag.
 
 ghost use Rattle.std.specs.Prelude.{◌≡◌, IfOk, option_copied};
 ghost use Rattle.std.specs.Option.{option_to_list};
-ghost use Rattle.plant_books.specs.Found.{changes_in, rows_wanted, shelved, without_tag};
-ghost use Rattle.plant_model.specs.Order.{ChangesRise, TagsRise};
+ghost use Rattle.plant_books.specs.Found.{rows_wanted, shelved, without_tag};
+ghost use Rattle.plant_model.specs.Order.{TagsRise};
 ghost use Rattle.plant_model.specs.RowFacts.{alarm_tag, shelf_tag};
 ghost use Rattle.plant_types.specs.Results.{Gives, OnlyMemory};
 
 use crate::asking::Wanted;
-use plant_model::{AlarmRow, ChangeEntry, ShelfRow, Tagged, change_at, place_of, row_of};
+use plant_model::{AlarmRow, ShelfRow, Tagged, place_of, row_of};
 use plant_types::{Duplicate, Fault, List, Tag};
 use std::alloc::Global;
-use std::collections::BTreeSet;
 
 /// Takes the row of the tag out, if there is one.
 pub fn remove<T: Tagged>(rows: &mut List<T>, tag: &Tag)
@@ -68,24 +66,6 @@ pub fn shelved_alarms(
     for shelf in shelves {
         if let Some(alarm) = row_of(alarms, &shelf.tag) {
             found.push(alarm.duplicate(alloc)?)?;
-        }
-    }
-    Ok(found)
-}
-
-/// Copies of the changes of these numbers, of changes in rising number.
-pub fn changes_of(
-    alloc: Global,
-    changes: &[ChangeEntry],
-    numbers: &BTreeSet<u32>,
-) -> Result<List<ChangeEntry>, Fault>
-    ensures value { ChangesRise changes.now → Gives result (changes_in numbers.now changes.now) }
-    ensures memory { OnlyMemory result }
-{
-    let mut found = List::new(alloc);
-    for number in numbers {
-        if let Some(change) = change_at(changes, *number) {
-            found.push(change.duplicate(alloc)?)?;
         }
     }
     Ok(found)

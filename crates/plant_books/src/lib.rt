@@ -7,7 +7,8 @@ mod changes;
 mod found;
 mod grants;
 mod keyed;
-mod matrices;
+mod numbered;
+mod numbers;
 mod opened;
 mod parts;
 mod plain;
@@ -20,6 +21,7 @@ pub use asking::{
 pub use books::{Books, MineRow, MineUnit};
 pub use changes::{after_changes, puts_event};
 pub use found::shelved_alarms;
+pub use numbers::{change_numbers, matrix_numbers};
 pub use opened::push_shelves;
 pub use parts::{events_asked, part_of, part_of_grants, rows_but_events};
 pub use plain::Plain;

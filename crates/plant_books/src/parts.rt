@@ -13,8 +13,9 @@ use crate::asking::{
     Wanted, WantedAlarms, WantedEvents, is_crowded, wanted_alarms, wanted_change, wanted_events,
     wanted_records, wanted_shelves, wants_all_grants, wants_matrix, wants_sources,
 };
-use crate::found::{changes_of, rows_wanted, shelved_alarms};
-use crate::matrices::rows_of_matrices;
+use crate::found::{rows_wanted, shelved_alarms};
+use crate::numbered::rows_of_numbers;
+use crate::numbers::{change_numbers, matrix_numbers};
 use plant_alarm::Event;
 use plant_import::needed;
 use plant_model::{
@@ -23,7 +24,6 @@ use plant_model::{
 };
 use plant_types::{Duplicate, Fault, List, Person, duplicated};
 use std::alloc::Global;
-use std::collections::BTreeSet;
 
 /// A copy of the rows of a unit but its events.
 pub fn rows_but_events(alloc: Global, rows: &UnitRows) -> Result<UnitRows, Fault>
@@ -96,70 +96,6 @@ pub fn events_asked(
     }
 }
 
-/// The number of the matrix in force.
-fn matrix_in_force(rows: &UnitRows) -> u32
-    ensures { result ≡ (unit_read rows.now).matrix_no }
-{
-    match rows.units.as_slice().first() {
-        Some(unit) => unit.matrix_no,
-        None => 0,
-    }
-}
-
-/// The numbers of the matrices that the scope takes in.
-fn matrices_asked(alloc: Global, rows: &UnitRows, scope: Scope<'_>) -> Result<BTreeSet<u32>, Fault>
-    ensures value { IfOk result
-        (λ numbers. HasNumbers numbers (selection_by rows.now scope.entry).matrix) }
-    ensures memory { OnlyMemory result }
-{
-    let mut numbers = BTreeSet::new(alloc);
-    if wants_matrix(scope) {
-        numbers.insert(matrix_in_force(rows))?;
-    }
-    if let Some(named) = wanted_change(scope) {
-        numbers.insert(named)?;
-    }
-    Ok(numbers)
-}
-
-/// The numbers of the changes that the wanted records came from.
-fn sources(
-    alloc: Global,
-    records: &[RecordEntry],
-    wanted: &Wanted<'_>,
-) -> Result<BTreeSet<u32>, Fault>
-    ensures value { IfOk result (λ numbers. AreSources numbers (is_wanted wanted.now) records.now) }
-    ensures memory { OnlyMemory result }
-{
-    let mut numbers = BTreeSet::new(alloc);
-    for record in records {
-        if wanted.has(&record.tag) {
-            numbers.insert(record.change_no)?;
-        }
-    }
-    Ok(numbers)
-}
-
-/// The numbers of the changes that the scope takes in.
-fn numbers_asked(
-    alloc: Global,
-    records: &[RecordEntry],
-    scope: Scope<'_>,
-) -> Result<BTreeSet<u32>, Fault>
-    ensures value { GivesNumbers scope.entry records.now result }
-    ensures memory { OnlyMemory result }
-{
-    let mut numbers = if wants_sources(scope) {
-        sources(alloc, records, &wanted_records(scope))?
-    } else {
-        BTreeSet::new(alloc)
-    };
-    if let Some(number) = wanted_change(scope) {
-        numbers.insert(number)?;
-    }
-    Ok(numbers)
-}
-
 /// The changes that the scope takes in.
 fn changes_asked(
     alloc: Global,
@@ -169,8 +105,8 @@ fn changes_asked(
     ensures value { ChangesRise rows.now.changes → Gives result (changes_by rows.now scope.entry) }
     ensures memory { OnlyMemory result }
 {
-    let numbers = numbers_asked(alloc, rows.records.as_slice(), scope)?;
-    changes_of(alloc, rows.changes.as_slice(), &numbers)
+    let numbers = change_numbers(alloc, rows.records.as_slice(), scope)?;
+    rows_of_numbers(alloc, rows.changes.as_slice(), &numbers)
 }
 
 /// The rows that the scope takes in.
@@ -183,15 +119,15 @@ fn rows_asked(
     ensures value { AreInOrder rows.now → Gives result (rows_by person.now rows.now scope.entry) }
     ensures memory { OnlyMemory result }
 {
-    let matrices = matrices_asked(alloc, rows, scope)?;
+    let matrices = matrix_numbers(alloc, &rows.units, scope)?;
     Ok(UnitRows {
         units: rows.units.duplicate(alloc)?,
         grants: grants_asked(alloc, rows, person, scope)?,
         alarms: alarms_asked(alloc, &rows.alarms, &rows.shelves, wanted_alarms(scope))?,
         shelves: rows_wanted(alloc, &rows.shelves, &wanted_shelves(scope))?,
         events: events_asked(alloc, &rows.events, wanted_events(scope))?,
-        bands: rows_of_matrices(alloc, rows.bands.as_slice(), &matrices)?,
-        cells: rows_of_matrices(alloc, rows.cells.as_slice(), &matrices)?,
+        bands: rows_of_numbers(alloc, rows.bands.as_slice(), &matrices)?,
+        cells: rows_of_numbers(alloc, rows.cells.as_slice(), &matrices)?,
         records: rows_wanted(alloc, &rows.records, &wanted_records(scope))?,
         changes: changes_asked(alloc, rows, scope)?,
     })

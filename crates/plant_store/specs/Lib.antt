@@ -4,7 +4,6 @@ pub mod Statements
 pub mod Keeping
 pub mod Wanted
 pub mod Keys
-pub mod Numbers
 pub mod Making
 pub mod Mine
 pub mod Shelves

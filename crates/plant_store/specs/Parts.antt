@@ -3,10 +3,11 @@ use Rattle.sqlite.specs.Held.{Held, state}
 use Rattle.sqlite.specs.State.{HasCleanDisk}
 use Rattle.sqlite.specs.Tree.{Trees}
 use Rattle.sqlite_trees.specs.declared.store.Store.{Ghosts}
-use Rattle.std.specs.List.{flat_map}
+use Rattle.std.specs.BTreeSet.{BTreeSet}
 use Rattle.std.specs.Prelude.{Bool, IfOk, List, Result, Some, filter, length, true, ℕ, ◌||◌, ◌≡◌}
 use Rattle.plant_alarm.specs.declared.event.Event.{Event}
 use Rattle.plant_model.specs.declared.kinds.Scope.{Scope}
+use Rattle.plant_books.specs.Numbered.{NumbersRise, of_numbers}
 use Rattle.plant_books.specs.declared.asking.Wanted.{Wanted}
 use Rattle.plant_books.specs.declared.asking.WantedAlarms.{WantedAlarms}
 use Rattle.plant_columns.specs.Tables.{AreBooks, Kept, rows_seen}
@@ -89,11 +90,12 @@ LoadsApproved g before after unit request said =
 
 -- ---- of a connection before and after, on an honest disk
 
--- the result is the unit's rows of each number in turn
-abbrev pub LoadsEach : {S X E : Type 0} → Ghosts S → Held S → Held S → (Name → Trees → List X) → Name → (X → ℕ) → List ℕ → Result (List X) E → Type 0
-LoadsEach g before after seen unit number_of numbers said =
+-- where the numbers of the unit's rows do not fall, the result is the rows of these numbers
+abbrev pub LoadsNumbers : {S X E : Type 0} → Ghosts S → Held S → Held S → (Name → Trees → List X) → Name → (X → ℕ) → BTreeSet ℕ → Result (List X) E → Type 0
+LoadsNumbers g before after seen unit number_of numbers said =
     IsHonest (state g after) → AreBooks (state g before).now
-    → IfOk said (λ rows. rows ≡ flat_map (λ n. filter (λ r. same_number n (number_of r)) (seen unit (state g before).now.trees)) numbers)
+    → NumbersRise number_of (seen unit (state g before).now.trees)
+    → IfOk said (λ rows. rows ≡ of_numbers number_of numbers (seen unit (state g before).now.trees))
 
 -- the result is the limits of the unit's matrices that the scope takes in
 abbrev pub LoadsBands : {S E : Type 0} → Ghosts S → Held S → Held S → Name → List UnitRow → Scope → Result (List BandRow) E → Type 0

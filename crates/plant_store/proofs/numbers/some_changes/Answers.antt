@@ -1,10 +1,11 @@
-use Rattle.std.proofs.Common.{◌∙◌}
+use Rattle.std.proofs.Common.{◌∙◌, ap, filter, sym}
 use Rattle.sqlite.specs.Held.{state}
+use Rattle.sqlite_keyed.proofs.ListLemmas.{filter-filter}
 use Rattle.plant_columns.specs.Tables.{rows_seen}
 use Rattle.plant_columns.specs.Tables.Kept.{ChangeKept}
 use Rattle.plant_model.specs.Scopes.{selection_by}
-use Rattle.plant_model.specs.declared.rows.ChangeEntry.{ChangeEntry}
-use Rattle.plant_store.proofs.NumberLaws.{changes_climb, in_turn}
+use Rattle.plant_model.specs.declared.rows.RecordEntry.{RecordEntry}
+use Rattle.plant_store.proofs.NumberLaws.{changes_climb}
 use Rattle.plant_store.proofs.Queries.{if_ok}
 use Rattle.plant_store.proofs.numbers.some_changes.Goals as goal
 
@@ -12,5 +13,6 @@ pub returns-clause-rows : goal.returns-clause-rows
 returns-clause-rows g c honest books rows same =
     let u = c.args.unit.now in
     let db = (state g.S.Store c.args.conn.now).now in
-    let are = c.in_ok-numbers.ensures rows (c.as_slice.ensures ∙ same) in
-    if_ok c.rows_numbered.result (λ found h. h ∙ in_turn (λ (r : ChangeEntry). r.number) (selection_by rows c.args.scope).change c.in_ok-numbers.numbers are (rows_seen u db.trees ChangeKept) (changes_climb u db books)) (rw c.as_slice-2.ensures at (c.rows_numbered.ensures.rows honest books))
+    let taken = λ (r : RecordEntry). (selection_by rows c.args.scope).rationale r.tag in
+    let all = sym (filter-filter taken taken (λ x h. h) rows.records) ∙ ap (filter taken) (sym same ∙ sym c.as_slice.ensures) in
+    if_ok c.rows_of_numbers.result (λ found h. h ∙ (λ i. filter (λ r. c.change_numbers.ensures.value rows all r.number i) (rows_seen u db.trees ChangeKept))) (c.rows_of_numbers.ensures.rows honest books (changes_climb u db books))

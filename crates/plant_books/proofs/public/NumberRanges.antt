@@ -1,4 +1,4 @@
--- The rows of a matrix among rows in the order of their keys: where they begin and end, and those of several matrices.
+-- The rows of a number among rows whose numbers do not fall: where they begin and end, and those of several numbers.
 use Rattle.std.proofs.Common.{Bool, List, [], ap, arith, cond, drop, false, get_or, inl, inr, length, not, refl, subst, suc, sym, take, true, zero, ℕ, ◌++◌, ◌<◌, ◌∙◌, ◌∷◌, ◌≡◌, ◌≤◌, ◌⊎◌}
 use Rattle.std.proofs.lemmas.Bool.{cases_order, leb-true, ltb-true, le-leb, lt-ltb}
 use Rattle.std.proofs.lemmas.List.Sorted.{IsPartitionedBy-leb, IsPartitionedBy-ltb}
@@ -9,16 +9,17 @@ use Rattle.std.specs.declared.cmp.Ordering.TheVariants.{Equal, Greater, Less}
 use Rattle.std.specs.Cmp.{ranked}
 use Rattle.std.specs.FinMap.Entries.{below_all}
 use Rattle.std.specs.Prelude.{T, filter, map, nat_le, nat_lt, ◌||◌}
-use Rattle.plant_books.proofs.ChangesAmong.{among, among_more, none_among, or_none, or_true, smaller}
+use Rattle.plant_books.proofs.NumbersAmong.{among, among_more, none_among, or_none, or_true, smaller}
 use Rattle.plant_import.proofs.public.Placed.{AllBelow, other, other_above}
 use Rattle.std.specs.BTreeSet.{BTreeSet}
-use Rattle.plant_books.specs.MatrixRows.{MatricesRise, of_matrices}
+use Rattle.plant_books.specs.Numbered.{NumbersRise, of_numbers}
 use Rattle.plant_model.proofs.public.ChangesFound.{tied, ties}
 use Rattle.plant_model.proofs.public.RowsFound.{first, less, second}
 use Rattle.plant_model.specs.Matrices.{band_cmp, cell_cmp}
-use Rattle.plant_model.specs.RowFacts.{band_key, cell_key}
+use Rattle.plant_model.specs.RowFacts.{band_key, cell_key, change_number}
 use Rattle.plant_model.specs.declared.rows.BandRow.{BandRow}
 use Rattle.plant_model.specs.declared.rows.CellRow.{CellRow}
+use Rattle.plant_model.specs.declared.rows.ChangeEntry.{ChangeEntry}
 use Rattle.plant_types.proofs.public.Orders.{same_numbers}
 use Rattle.plant_types.specs.KeyedRows.{IsInOrder}
 
@@ -98,8 +99,8 @@ module _ {X : Type 0} (number : X → ℕ) where
   parted_upto n k xs h = IsPartitionedBy-leb number (drop k xs) n (rest_rises k xs h)
 
   -- the rows of one number
-  abbrev pub of_number : ℕ → List X → List X
-  of_number n xs = filter (λ x. ties (number x) n) xs
+  abbrev pub those_of : ℕ → List X → List X
+  those_of n xs = filter (λ x. ties (number x) n) xs
 
   abbrev upto : ℕ → List X → List X
   upto n xs = filter (λ x. nat_le (number x) n) xs
@@ -107,78 +108,78 @@ module _ {X : Type 0} (number : X → ℕ) where
   abbrev from_on : ℕ → List X → List X
   from_on n xs = filter (λ x. not (nat_lt (number x) n)) xs
 
-  middle : (n : ℕ) (xs : List X) → upto n (from_on n xs) ≡ of_number n xs
+  middle : (n : ℕ) (xs : List X) → upto n (from_on n xs) ≡ those_of n xs
   middle n [] = refl
   middle n (x ∷ xs) = by (cases_order (number x) n) (middle n xs)
     where
-      by : (number x ≡ n) ⊎ ((number x < n) ⊎ (n < number x)) → upto n (from_on n xs) ≡ of_number n xs → upto n (from_on n (x ∷ xs)) ≡ of_number n (x ∷ xs)
+      by : (number x ≡ n) ⊎ ((number x < n) ⊎ (n < number x)) → upto n (from_on n xs) ≡ those_of n xs → upto n (from_on n (x ∷ xs)) ≡ those_of n (x ∷ xs)
       by (inl same) rest =
           ap (λ b. upto n (cond (not b) (x ∷ from_on n xs) (from_on n xs))) (not_below (number x) n (omega (arith, same)))
           ∙ ap (λ b. cond b (x ∷ upto n (from_on n xs)) (upto n (from_on n xs))) (le-leb (number x) n (omega (arith, same)))
           ∙ ap (λ l. x ∷ l) rest
-          ∙ ap (λ b. cond b (x ∷ of_number n xs) (of_number n xs)) (sym (tied (number x) n same))
+          ∙ ap (λ b. cond b (x ∷ those_of n xs) (those_of n xs)) (sym (tied (number x) n same))
       by (inr (inl lt)) rest =
           ap (λ b. upto n (cond (not b) (x ∷ from_on n xs) (from_on n xs))) (lt-ltb (number x) n lt)
           ∙ rest
-          ∙ ap (λ b. cond b (x ∷ of_number n xs) (of_number n xs)) (sym (other_above (number x) n lt))
+          ∙ ap (λ b. cond b (x ∷ those_of n xs) (those_of n xs)) (sym (other_above (number x) n lt))
       by (inr (inr gt)) rest =
           ap (λ b. upto n (cond (not b) (x ∷ from_on n xs) (from_on n xs))) (not_below (number x) n (omega (arith, gt)))
           ∙ ap (λ b. cond b (x ∷ upto n (from_on n xs)) (upto n (from_on n xs))) (not_upto (number x) n gt)
           ∙ rest
-          ∙ ap (λ b. cond b (x ∷ of_number n xs) (of_number n xs)) (sym (other (number x) n gt))
+          ∙ ap (λ b. cond b (x ∷ those_of n xs) (those_of n xs)) (sym (other (number x) n gt))
 
-  pub cut_out : (n : ℕ) (xs : List X) (p e : ℕ) → Parted (λ x. nat_lt (number x) n) xs p → Parted (λ x. nat_le (number x) n) (drop p xs) e → take e (drop p xs) ≡ of_number n xs
+  pub cut_out : (n : ℕ) (xs : List X) (p e : ℕ) → Parted (λ x. nat_lt (number x) n) xs p → Parted (λ x. nat_le (number x) n) (drop p xs) e → take e (drop p xs) ≡ those_of n xs
   cut_out n xs p e low high = before_place (λ x. nat_le (number x) n) (drop p xs) e high ∙ ap (upto n) (from_place (λ x. nat_lt (number x) n) xs p low) ∙ middle n xs
 
   -- ---- the rows of several numbers, one number after another
 
-  abbrev pub of_numbers : List ℕ → List X → List X
-  of_numbers ks xs = filter (λ x. among ks (number x)) xs
+  abbrev pub those_among : List ℕ → List X → List X
+  those_among ks xs = filter (λ x. among ks (number x)) xs
 
-  pub of_none : (xs : List X) → of_numbers [] xs ≡ []
+  pub of_none : (xs : List X) → those_among [] xs ≡ []
   of_none [] = refl
   of_none (x ∷ xs) = of_none xs
 
-  none_from : (ks : List ℕ) (n : ℕ) (xs : List X) → AllBelow (λ k. k) n ks → From n xs → of_numbers ks xs ≡ []
+  none_from : (ks : List ℕ) (n : ℕ) (xs : List X) → AllBelow (λ k. k) n ks → From n xs → those_among ks xs ≡ []
   none_from ks n [] low h = refl
-  none_from ks n (x ∷ xs) low h = ap (λ b. cond b (x ∷ of_numbers ks xs) (of_numbers ks xs)) (none_among ks n (number x) low h.0) ∙ none_from ks n xs low h.1
+  none_from ks n (x ∷ xs) low h = ap (λ b. cond b (x ∷ those_among ks xs) (those_among ks xs)) (none_among ks n (number x) low h.0) ∙ none_from ks n xs low h.1
 
-  one_more : (ks : List ℕ) (n : ℕ) (xs : List X) → AllBelow (λ k. k) n ks → Climb xs → of_numbers (ks ++ n ∷ []) xs ≡ of_numbers ks xs ++ of_number n xs
+  one_more : (ks : List ℕ) (n : ℕ) (xs : List X) → AllBelow (λ k. k) n ks → Climb xs → those_among (ks ++ n ∷ []) xs ≡ those_among ks xs ++ those_of n xs
   one_more ks n [] low h = refl
   one_more ks n (x ∷ xs) low h = by (cases_order (number x) n) (one_more ks n xs low h.1)
     where
       more : List X
-      more = of_numbers (ks ++ n ∷ []) xs
+      more = those_among (ks ++ n ∷ []) xs
 
-      by : (number x ≡ n) ⊎ ((number x < n) ⊎ (n < number x)) → more ≡ of_numbers ks xs ++ of_number n xs → of_numbers (ks ++ n ∷ []) (x ∷ xs) ≡ of_numbers ks (x ∷ xs) ++ of_number n (x ∷ xs)
+      by : (number x ≡ n) ⊎ ((number x < n) ⊎ (n < number x)) → more ≡ those_among ks xs ++ those_of n xs → those_among (ks ++ n ∷ []) (x ∷ xs) ≡ those_among ks (x ∷ xs) ++ those_of n (x ∷ xs)
       by (inl same) rest =
-          let none : of_numbers ks xs ≡ [] = none_from ks n xs low (subst (λ m. From m xs) same h.0) in
+          let none : those_among ks xs ≡ [] = none_from ks n xs low (subst (λ m. From m xs) same h.0) in
           ap (λ b. cond b (x ∷ more) more) (among_more ks n (number x) ∙ ap (λ b. among ks (number x) || (b || false)) (tied (number x) n same) ∙ or_true (among ks (number x)))
-          ∙ ap (λ l. x ∷ l) (rest ∙ ap (λ l. l ++ of_number n xs) none)
-          ∙ sym (ap (λ b. cond b (x ∷ of_numbers ks xs) (of_numbers ks xs) ++ of_number n (x ∷ xs)) (none_among ks n (number x) low (omega (arith, same)))
-          ∙ (λ i. none i ++ cond (tied (number x) n same i) (x ∷ of_number n xs) (of_number n xs)))
+          ∙ ap (λ l. x ∷ l) (rest ∙ ap (λ l. l ++ those_of n xs) none)
+          ∙ sym (ap (λ b. cond b (x ∷ those_among ks xs) (those_among ks xs) ++ those_of n (x ∷ xs)) (none_among ks n (number x) low (omega (arith, same)))
+          ∙ (λ i. none i ++ cond (tied (number x) n same i) (x ∷ those_of n xs) (those_of n xs)))
       by (inr (inl lt)) rest =
           ap (λ b. cond b (x ∷ more) more) (among_more ks n (number x) ∙ ap (λ b. among ks (number x) || (b || false)) (other_above (number x) n lt) ∙ or_none (among ks (number x)))
-          ∙ elim (among ks (number x)) as (λ b. cond b (x ∷ more) more ≡ cond b (x ∷ of_numbers ks xs) (of_numbers ks xs) ++ of_number n xs) [
+          ∙ elim (among ks (number x)) as (λ b. cond b (x ∷ more) more ≡ cond b (x ∷ those_among ks xs) (those_among ks xs) ++ those_of n xs) [
             | true ↦ ap (λ l. x ∷ l) rest
             | false ↦ rest
           ]
-          ∙ ap (λ b. of_numbers ks (x ∷ xs) ++ cond b (x ∷ of_number n xs) (of_number n xs)) (sym (other_above (number x) n lt))
+          ∙ ap (λ b. those_among ks (x ∷ xs) ++ cond b (x ∷ those_of n xs) (those_of n xs)) (sym (other_above (number x) n lt))
       by (inr (inr gt)) rest =
           ap (λ b. cond b (x ∷ more) more) (among_more ks n (number x) ∙ ap (λ b. among ks (number x) || (b || false)) (other (number x) n gt) ∙ or_none (among ks (number x)))
-          ∙ elim (among ks (number x)) as (λ b. cond b (x ∷ more) more ≡ cond b (x ∷ of_numbers ks xs) (of_numbers ks xs) ++ of_number n xs) [
+          ∙ elim (among ks (number x)) as (λ b. cond b (x ∷ more) more ≡ cond b (x ∷ those_among ks xs) (those_among ks xs) ++ those_of n xs) [
             | true ↦ ap (λ l. x ∷ l) rest
             | false ↦ rest
           ]
-          ∙ ap (λ b. of_numbers ks (x ∷ xs) ++ cond b (x ∷ of_number n xs) (of_number n xs)) (sym (other (number x) n gt))
+          ∙ ap (λ b. those_among ks (x ∷ xs) ++ cond b (x ∷ those_of n xs) (those_of n xs)) (sym (other (number x) n gt))
 
-  pub goes_on : (xs : List X) (keys before t : List ℕ) (n : ℕ) (these so_far : List X) → IsStrictlySortedBy nat_cmp keys → before ++ n ∷ t ≡ keys → IsNonDecreasingBy number xs → so_far ≡ of_numbers before xs → these ≡ of_number n xs
-      → so_far ++ these ≡ of_numbers (before ++ n ∷ []) xs
+  pub goes_on : (xs : List X) (keys before t : List ℕ) (n : ℕ) (these so_far : List X) → IsStrictlySortedBy nat_cmp keys → before ++ n ∷ t ≡ keys → IsNonDecreasingBy number xs → so_far ≡ those_among before xs → these ≡ those_of n xs
+      → so_far ++ these ≡ those_among (before ++ n ∷ []) xs
   goes_on xs keys before t n these so_far rising cut rise is here =
       let low = smaller before n t (subst (IsStrictlySortedBy nat_cmp) (sym cut) rising) in
       (λ i. is i ++ here i) ∙ sym (one_more before n xs low (climb xs rise))
 
--- ---- rows in the order of their keys: their matrices rise
+-- ---- rows in the order of their keys: their numbers do not fall
 
 leads : (a b : ℕ) (rest : Ordering) → ordering_then (nat_cmp a b) rest ≡ Less → a ≤ b
 leads a b rest e = by (nat_cmp a b) refl e
@@ -201,18 +202,15 @@ module _ {K X : Type 0} (R : K → K → Ordering) (key : X → K) (lead : K →
   rise (x ∷ xs) h (suc i) zero d le' lt = absurd (omega (arith, le'))
   rise (x ∷ xs) h (suc i) (suc j) d le' lt = rise xs (second _ _ h) i j d (omega (arith, le')) (omega (arith, lt))
 
--- the rows of some matrices, of all rows as they are handed on
-taken : {X : Type 0} (matrix : X → ℕ) (numbers : BTreeSet ℕ) (all rows these : List X) → all ≡ rows → MatricesRise matrix rows → (MatricesRise matrix all → these ≡ of_matrices matrix numbers all) → these ≡ of_matrices matrix numbers rows
-taken matrix numbers all rows these same rises value = value (subst (MatricesRise matrix) (sym same) rises) ∙ ap (of_matrices matrix numbers) same
+-- the rows of some numbers, of all rows as they are handed on
+pub taken : {X : Type 0} (number : X → ℕ) (numbers : BTreeSet ℕ) (all rows these : List X) → all ≡ rows → NumbersRise number rows → (NumbersRise number all → these ≡ of_numbers number numbers all) → these ≡ of_numbers number numbers rows
+taken number numbers all rows these same rises value = value (subst (NumbersRise number) (sym same) rises) ∙ ap (of_numbers number numbers) same
 
-bands_rise : (rows : List BandRow) → IsInOrder band_cmp band_key rows → MatricesRise (λ r. r.matrix_no) rows
+pub bands_rise : (rows : List BandRow) → IsInOrder band_cmp band_key rows → NumbersRise (λ r. r.matrix_no) rows
 bands_rise rows order = rise band_cmp band_key (λ k. k.0) (λ a b. leads a.0 b.0 (nat_cmp a.1 b.1)) rows order
 
-cells_rise : (rows : List CellRow) → IsInOrder cell_cmp cell_key rows → MatricesRise (λ r. r.matrix_no) rows
+pub cells_rise : (rows : List CellRow) → IsInOrder cell_cmp cell_key rows → NumbersRise (λ r. r.matrix_no) rows
 cells_rise rows order = rise cell_cmp cell_key (λ k. k.0) (λ a b. leads a.0 b.0 (ordering_then (nat_cmp a.1 b.1) (nat_cmp a.2 b.2))) rows order
 
-pub bands_taken : (numbers : BTreeSet ℕ) (all rows these : List BandRow) → all ≡ rows → IsInOrder band_cmp band_key rows → (MatricesRise (λ r. r.matrix_no) all → these ≡ of_matrices (λ r. r.matrix_no) numbers all) → these ≡ of_matrices (λ r. r.matrix_no) numbers rows
-bands_taken numbers all rows these same order value = taken (λ r. r.matrix_no) numbers all rows these same (bands_rise rows order) value
-
-pub cells_taken : (numbers : BTreeSet ℕ) (all rows these : List CellRow) → all ≡ rows → IsInOrder cell_cmp cell_key rows → (MatricesRise (λ r. r.matrix_no) all → these ≡ of_matrices (λ r. r.matrix_no) numbers all) → these ≡ of_matrices (λ r. r.matrix_no) numbers rows
-cells_taken numbers all rows these same order value = taken (λ r. r.matrix_no) numbers all rows these same (cells_rise rows order) value
+pub changes_rise : (rows : List ChangeEntry) → IsInOrder nat_cmp change_number rows → NumbersRise change_number rows
+changes_rise rows order = rise nat_cmp change_number (λ k. k) (λ a b e. let lt = ranked a b Less (sym e) in omega (arith, lt)) rows order

@@ -1,9 +1,9 @@
 use Rattle.std.proofs.Common.{[], ap, append_assoc, refl, sym, ◌++◌, ◌∙◌, ◌∷◌, ◌≡◌}
-use Rattle.plant_books.proofs.MatrixRanges.{goes_on, of_none}
-use Rattle.plant_books.proofs.matrices.rows_of_matrices.Goals as goal
+use Rattle.plant_books.proofs.public.NumberRanges.{goes_on, of_none}
+use Rattle.plant_books.proofs.numbered.rows_of_numbers.Goals as goal
 
 pub loop-number-init : goal.loop-number-init
-loop-number-init g c = ([], refl, λ rise. c.new-found.ensures ∙ sym (of_none g.T.MatrixRow.matrix c.args.rows.now))
+loop-number-init g c = ([], refl, λ rise. c.new-found.ensures ∙ sym (of_none g.T.Numbered.number c.args.rows.now))
 
 pub loop-number-preserved : goal.loop-number-preserved
 loop-number-preserved g c =
@@ -17,5 +17,5 @@ loop-number-preserved g c =
       append_assoc before (n ∷ []) c.next.new.self ∙ cut,
       λ rise.
           c.in_ok-push_all.ensures.ok
-          ∙ goes_on g.T.MatrixRow.matrix xs c.args.numbers.now.keys before c.next.new.self n c.rows_of_matrix.result.now c.loop-number.found all.4 (cut ∙ all.0) rise (so.2 rise) (c.rows_of_matrix.ensures rise),
+          ∙ goes_on g.T.Numbered.number xs c.args.numbers.now.keys before c.next.new.self n c.rows_of_number.result.now c.loop-number.found all.4 (cut ∙ all.0) rise (so.2 rise) (c.rows_of_number.ensures rise),
     )

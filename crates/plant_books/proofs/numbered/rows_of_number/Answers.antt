@@ -1,12 +1,12 @@
 use Rattle.std.proofs.Common.{ap, drop, rules, take, ◌∙◌, ◌≡◌}
 use Rattle.std.proofs.lemmas.List.Sorted.{IsPartitionPoint-from_clause}
 use Rattle.std.specs.Prelude.{nat_le, nat_lt}
-use Rattle.plant_books.proofs.MatrixRanges.{Parted, cut_out, parted_below, parted_upto}
-use Rattle.plant_books.proofs.matrices.rows_of_matrix.Goals as goal
+use Rattle.plant_books.proofs.public.NumberRanges.{Parted, cut_out, parted_below, parted_upto}
+use Rattle.plant_books.proofs.numbered.rows_of_number.Goals as goal
 
 pub returns : goal.returns
 returns g c rise =
-    let matrix = g.T.MatrixRow.matrix in
+    let matrix = g.T.Numbered.number in
     let n = c.args.number in
     let xs = c.args.rows.now in
     let p = c.partition_point.result in

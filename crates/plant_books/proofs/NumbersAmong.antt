@@ -1,4 +1,4 @@
--- Changes in rising number: those of several numbers.
+-- Numbers among several, and those of the matrices and changes that a scope takes in.
 use Rattle.std.proofs.Common.{List, [], ap, arith, false, inl, inr, refl, subst, sym, true, ◌++◌, ◌∙◌, ◌∷◌, ◌⊎◌}
 use Rattle.std.proofs.lemmas.Bool.{cases_order}
 use Rattle.std.proofs.lemmas.List.Folds.{list_any-append}
@@ -22,7 +22,7 @@ use Rattle.std.specs.BTreeSet.{BTreeSet, UpdatesBy, contains}
 use Rattle.plant_model.specs.declared.rows.ChangeEntry.{ChangeEntry}
 use Rattle.plant_types.specs.KeyedRows.{IsInOrder}
 
--- changes of several numbers
+-- a number is one of several
 abbrev pub among : List ℕ → ℕ → Bool
 among ks n = list_any (λ k. ties n k) ks
 
@@ -41,43 +41,6 @@ none_among (k ∷ ks) n m low le = ap (λ b. b || among ks m) (other m k (omega 
 pub among_more : (ks : List ℕ) (n m : ℕ) → among (ks ++ n ∷ []) m ≡ (among ks m || (ties m n || false))
 among_more ks n m = list_any-append (λ k. ties m k) ks (n ∷ [])
 
-abbrev pub those : List ℕ → List ChangeEntry → List ChangeEntry
-those ks cs = filter (λ c. among ks c.number) cs
-
-none_here : (ks : List ℕ) (n : ℕ) (cs : List ChangeEntry) → AllBelow (λ k. k) n ks → AllAbove change_number n cs → those ks cs ≡ []
-none_here ks n [] low high = refl
-none_here ks n (c ∷ cs) low high = ap (λ b. if b then c ∷ those ks cs else those ks cs) (none_among ks n c.number low (omega (arith, high.0))) ∙ none_here ks n cs low high.1
-
-none_more : (ks : List ℕ) (n : ℕ) (cs : List ChangeEntry) → AllBelow (λ k. k) n ks → AllAbove change_number n cs → those (ks ++ n ∷ []) cs ≡ []
-none_more ks n [] low high = refl
-none_more ks n (c ∷ cs) low high =
-    ap (λ b. if b then c ∷ those (ks ++ n ∷ []) cs else those (ks ++ n ∷ []) cs)
-    (among_more ks n c.number ∙ (λ i. none_among ks n c.number low (omega (arith, high.0)) i || (other c.number n high.0 i || false)))
-    ∙ none_more ks n cs low high.1
-
-pub one_more : (ks : List ℕ) (n : ℕ) (cs : List ChangeEntry) → AllBelow (λ k. k) n ks → Rises change_number cs → those (ks ++ n ∷ []) cs ≡ those ks cs ++ option_to_list (at n cs)
-one_more ks n [] low h = refl
-one_more ks n (c ∷ cs) low h = by (cases_order c.number n) (one_more ks n cs low h.1)
-  where
-    by : (c.number ≡ n) ⊎ ((c.number < n) ⊎ (n < c.number)) → those (ks ++ n ∷ []) cs ≡ those ks cs ++ option_to_list (at n cs) → those (ks ++ n ∷ []) (c ∷ cs) ≡ those ks (c ∷ cs) ++ option_to_list (at n (c ∷ cs))
-    by (inl same) rest =
-        let above : AllAbove change_number n cs = subst (λ m. AllAbove change_number m cs) same h.0 in
-        let le : n ≤ c.number = omega (arith, same) in
-        ap (λ b. if b then c ∷ those (ks ++ n ∷ []) cs else those (ks ++ n ∷ []) cs) (among_more ks n c.number ∙ ap (λ b. among ks c.number || (b || false)) (tied c.number n same) ∙ or_true (among ks c.number))
-        ∙ ap (λ l. c ∷ l) (none_more ks n cs low above)
-        ∙ sym (ap (λ b. (if b then c ∷ those ks cs else those ks cs) ++ option_to_list (at n (c ∷ cs))) (none_among ks n c.number low le)
-        ∙ (λ i. none_here ks n cs low above i ++ option_to_list (cond (tied n c.number (sym same) i) (Some c) (at n cs))))
-    by (inr (inl lt)) rest =
-        ap (λ b. if b then c ∷ those (ks ++ n ∷ []) cs else those (ks ++ n ∷ []) cs) (among_more ks n c.number ∙ ap (λ b. among ks c.number || (b || false)) (other_above c.number n lt) ∙ or_none (among ks c.number))
-        ∙ elim (among ks c.number) as (λ b. (if b then c ∷ those (ks ++ n ∷ []) cs else those (ks ++ n ∷ []) cs) ≡ (if b then c ∷ those ks cs else those ks cs) ++ option_to_list (at n cs)) [
-          | true ↦ ap (λ l. c ∷ l) rest
-          | false ↦ rest
-        ]
-        ∙ ap (λ b. those ks (c ∷ cs) ++ option_to_list (cond b (Some c) (at n cs))) (sym (other n c.number lt))
-    by (inr (inr gt)) rest =
-        let above : AllAbove change_number n (c ∷ cs) = (gt, higher n c.number cs (omega (arith, gt)) h.0) in
-        none_more ks n (c ∷ cs) low above ∙ sym (λ i. none_here ks n (c ∷ cs) low above i ++ option_to_list (none_above n (c ∷ cs) above i))
-
 -- numbers in strictly rising order: those before one are smaller
 all_less : (k : ℕ) (ks : List ℕ) (n : ℕ) (t : List ℕ) → AllByRecursion (λ y. nat_cmp k y ≡ Less) (ks ++ n ∷ t) → nat_cmp k n ≡ Less
 all_less k [] n t h = h.0
@@ -88,24 +51,25 @@ unfolding IsStrictlySortedBy
 smaller [] n t h = tt
 smaller (k ∷ ks) n t h = (ranked k n Less (sym (all_less k ks n t h.0)), smaller ks n t h.1)
 
--- one number after another
-pub those_none : (cs : List ChangeEntry) → those [] cs ≡ []
-those_none [] = refl
-those_none (c ∷ cs) = those_none cs
-
-pub goes_on : (cs : List ChangeEntry) (keys before t : List ℕ) (n : ℕ) (o : Option ChangeEntry) (so_far : List ChangeEntry) → IsStrictlySortedBy nat_cmp keys → before ++ n ∷ t ≡ keys → IsInOrder nat_cmp change_number cs → so_far ≡ those before cs → at n cs ≡ o
-    → so_far ++ option_to_list o ≡ those (before ++ n ∷ []) cs
-goes_on cs keys before t n o so_far rising cut order is here =
-    let low = smaller before n t (subst (IsStrictlySortedBy nat_cmp) (sym cut) rising) in
-    (λ i. is i ++ option_to_list (sym here i)) ∙ sym (one_more before n cs low (rises_of change_number cs order))
-
 -- ---- the numbers of the changes that a scope takes in
 
+-- one of those that pass a test passes another
+any_passing : {X : Type 0} (p q : X → Bool) (xs : List X) → list_any q (filter p xs) ≡ list_any (λ x. p x && q x) xs
+any_passing p q [] = refl
+any_passing p q (x ∷ xs) = elim (p x) as (λ b. list_any q (cond b (x ∷ filter p xs) (filter p xs)) ≡ ((b && q x) || list_any (λ x. p x && q x) xs)) [
+  | true ↦ ap (λ b. q x || b) (any_passing p q xs)
+  | false ↦ any_passing p q xs
+]
+
 -- those of the records that it takes in, or none
-pub taken : (rows : UnitRows) (records : List RecordEntry) (tags looked : Name → Bool) (numbers : BTreeSet ℕ) (b : Bool) (n : ℕ) → rows.records ≡ records → AreSources numbers tags records → tags ≡ looked → b ≡ true
+pub taken : (rows : UnitRows) (records : List RecordEntry) (tags looked : Name → Bool) (numbers : BTreeSet ℕ) (b : Bool) (n : ℕ) → filter (λ r. looked r.tag) rows.records ≡ filter (λ r. looked r.tag) records → AreSources numbers tags records → tags ≡ looked → b ≡ true
     → contains nat_cmp numbers n ≡ (b && is_source rows looked n)
 taken rows records tags looked numbers b n same are is wants =
-    are n ∙ (λ i. list_any (λ r. is i r.tag && same_number n r.change_no) (sym same i)) ∙ ap (λ c. c && is_source rows looked n) (sym wants)
+    are n ∙ (λ i. list_any (λ r. is i r.tag && same_number n r.change_no) records)
+    ∙ sym (any_passing (λ r. looked r.tag) (λ r. same_number n r.change_no) records)
+    ∙ ap (list_any (λ r. same_number n r.change_no)) (sym same)
+    ∙ any_passing (λ r. looked r.tag) (λ r. same_number n r.change_no) rows.records
+    ∙ ap (λ c. c && is_source rows looked n) (sym wants)
 
 pub left_out : (rows : UnitRows) (looked : Name → Bool) (numbers : BTreeSet ℕ) (b : Bool) (n : ℕ) → numbers.keys ≡ [] → b ≡ false → contains nat_cmp numbers n ≡ (b && is_source rows looked n)
 left_out rows looked numbers b n none leaves = ap (list_any (λ k. ties n k)) none ∙ ap (λ c. c && is_source rows looked n) (sym leaves)
