@@ -36,7 +36,7 @@ use Rattle.plant_model.specs.declared.rows.UnitRows.{UnitRows}
 use Rattle.plant_model.specs.Matrices.{band_cmp, cell_cmp}
 use Rattle.plant_model.specs.RowChanges.{changed_by, no_rows}
 use Rattle.plant_model.specs.RowFacts.{alarm_tag, band_key, cell_key, change_number, event_number, pair_of, record_tag, shelf_tag}
-use Rattle.plant_columns.proofs.public.ShapeLaws.{band_total, cell_total}
+use Rattle.plant_model.proofs.public.PlaceOrders.{band_total, cell_total}
 use Rattle.plant_store.specs.declared.migration.TableKind.TheVariants.{Alarms, Bands, Cells, Changes, Events, Grants, Records, Shelves, Units}
 use Rattle.plant_store.specs.declared.old_rows.CodeLine.{CodeLine}
 use Rattle.plant_store.specs.Changes.{Applies, IsOfficeOf}

@@ -1,11 +1,10 @@
 -- The shape of each table is a shape, and the schema lists each.
 use Rattle.std.proofs.Common.{◌≡◌, ℕ, pos, Bool, true, false, ◌&&◌, ◌||◌, List, [], ◌∷◌, Option, None, Some, refl, ap₂, sym, ◌∙◌, nat_cmp}
-use Rattle.std.specs.Cmp.{IsTotalOrder}
 use Rattle.std.specs.Cmp.Lexicographic.{nat_list_cmp_total}
 use Rattle.std.specs.Ordering.{ordering_then}
 use Rattle.std.specs.declared.cmp.Ordering.{Ordering}
 use Rattle.std.specs.declared.cmp.Ordering.TheVariants.{Equal}
-use Rattle.std.proofs.lemmas.Cmp.{nat_cmp_total, then_total, on_total}
+use Rattle.std.proofs.lemmas.Cmp.{nat_cmp_total}
 use Rattle.sqlite.specs.Cast.{cast}
 use Rattle.sqlite.specs.Collation.TheVariants.{Binary}
 use Rattle.sqlite.specs.Kind.TheVariants.{Integer, Text as TextKind}
@@ -30,9 +29,9 @@ use Rattle.plant_types.specs.declared.role.Role.{Role}
 use Rattle.plant_types.specs.declared.role.Role.TheVariants.{Approver, Engineer, Maintainer, Operator, Steward, Viewer}
 use Rattle.plant_types.specs.Roles.{role_no}
 use Rattle.plant_types.proofs.public.Orders.{pair_total}
+use Rattle.plant_model.proofs.public.PlaceOrders.{band_total, cell_total}
 use Rattle.plant_model.specs.declared.rows.ChangeTopic.{ChangeTopic}
 use Rattle.plant_model.specs.declared.rows.ChangeTopic.TheVariants.{Limit as LimitTopic, Matrix as MatrixTopic, Record as RecordTopic}
-use Rattle.plant_model.specs.Matrices.{BandKey, CellKey, band_cmp, cell_cmp}
 use Rattle.plant_columns.specs.Shape.{Shape, table_in}
 use Rattle.plant_columns.proofs.public.Bridge.{int_cmp-pos}
 use Rattle.plant_columns.proofs.public.Family.{AreListed}
@@ -119,12 +118,6 @@ numbers m n = value_cmp-Int (pos m) (pos n) ∙ int_cmp-pos m n
 
 pub one : {a b : Ordering} → a ≡ b → ordering_then a Equal ≡ b
 one {a} {b} h = then-Equal a ∙ h
-
-pub band_total : IsTotalOrder band_cmp
-band_total = then_total (on_total (λ (k : BandKey). k.0) nat_cmp_total) (on_total (λ (k : BandKey). k.1) nat_cmp_total)
-
-pub cell_total : IsTotalOrder cell_cmp
-cell_total = then_total (on_total (λ (k : CellKey). k.0) nat_cmp_total) (then_total (on_total (λ (k : CellKey). k.1) nat_cmp_total) (on_total (λ (k : CellKey). k.2) nat_cmp_total))
 
 -- ---- table by table
 
