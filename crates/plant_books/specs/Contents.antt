@@ -19,6 +19,7 @@ use Rattle.plant_model.specs.RowFacts.{last_return, unit_read}
 use Rattle.plant_types.specs.Names.{Name, name_cmp, same_name}
 use Rattle.plant_types.specs.Options.{when}
 
+-- what books contain
 pub record Content : Type 0 where
   pub admin : Name
   pub units : FinMap name_cmp UnitRows
@@ -39,6 +40,7 @@ rows_in m u = unwrap_or (get m.units u) no_rows
 abbrev pub without_events : UnitRows → UnitRows
 without_events rows = record rows { events = [] }
 
+-- the unit's rows but its events, none where the code was never opened
 abbrev pub rows_but_events : Content → Name → Option UnitRows
 rows_but_events m u = option_map without_events (get m.units u)
 
@@ -58,6 +60,7 @@ IsKnownTo m u cs = (contains_key m.units u ≡ true) ⊎ (puts_unit cs ≡ true)
 abbrev pub is_held_by : ℕ → Name → GrantRow → Bool
 is_held_by t p g = if same_name p g.person then is_before t g.end_s else false
 
+-- the person holds a role at the moment in the unit of these rows, if there are any
 abbrev pub is_held_in : ℕ → Name → Option UnitRows → Bool
 is_held_in t p None = false
 is_held_in t p (Some rows) = list_any (is_held_by t p) rows.grants
@@ -70,9 +73,11 @@ codes_held m t p = filter_map (λ u. when (is_held_in t p (get m.units u)) u) (k
 abbrev pub roles_in : ℕ → Name → UnitRows → List Role
 roles_in t p rows = map (λ g. g.role_no) (filter (is_held_by t p) rows.grants)
 
+-- a unit with the roles that the person holds there and its last moment
 abbrev pub mine_as : ℕ → Name → Name → UnitRows → MineUnit
 mine_as t p u rows = record { unit = u; roles = roles_in t p rows; last = (unit_read rows).last_s }
 
+-- the same of a unit that was opened, where the person holds a role at the moment
 abbrev pub mine_unit : ℕ → Name → Name → Option UnitRows → Option MineUnit
 mine_unit t p u None = None
 mine_unit t p u (Some rows) = when (is_held_in t p (Some rows)) (mine_as t p u rows)
@@ -81,6 +86,7 @@ mine_unit t p u (Some rows) = when (is_held_in t p (Some rows)) (mine_as t p u r
 abbrev pub mine_units : Content → ℕ → Name → List MineUnit
 mine_units m t p = filter_map (λ u. mine_unit t p u (get m.units u)) (keys m.units)
 
+-- a shelf of a unit, with the moment at which its alarm last returned to normal
 abbrev pub mine_row : Name → UnitRows → ShelfRow → MineRow
 mine_row u rows s = record { unit = u; shelf = s; last_return = last_return rows.alarms s.tag }
 

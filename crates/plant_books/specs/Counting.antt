@@ -3,6 +3,7 @@ use Rattle.std.specs.Prelude.{Err, Ok, Result, ℕ, ◌+◌, ◌-◌, ◌<◌, �
 use Rattle.plant_types.specs.declared.fault.Fault.{Fault}
 use Rattle.plant_types.specs.declared.fault.Fault.TheVariants.{Memory, Store}
 
+-- a fault Store adds one, a fault of memory nothing
 abbrev pub CountsFault : ℕ → ℕ → Fault → Type 0
 CountsFault old new Memory = new ≡ old
 CountsFault old new Store = old < 2 ^ 64 - 1 → new ≡ old + 1

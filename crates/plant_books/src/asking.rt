@@ -33,7 +33,7 @@ pub enum WantedAlarms<'a> {
 #[derive(Clone, Copy)]
 pub enum WantedEvents<'a> {
     Nothing,
-    /// Those that these rows of a file are seen beside.
+    /// Those among which these rows of a file are put.
     Beside(&'a [Event]),
     Every,
 }

@@ -26,10 +26,10 @@ pub struct MineRow {
 
 /// Where the rows of all units are kept. A fault leaves them as they were.
 pub trait Books {
-    /// The books hold this content, under what the keeper knows of its premise.
+    /// The books hold this content, if the keeper's premise holds.
     ghost represents: { Self → Content → Type 0 };
 
-    /// The keeper's premise as a call ends. It held before each earlier call too.
+    /// The keeper's premise: that its store keeps what was written to it. Where it holds after a call, it held before.
     ghost is_honest: { Self → Type 0 };
 
     /// How many answers were `Store`.
@@ -87,7 +87,8 @@ pub trait Books {
         ensures honest { WasHonest is_honest self.old self.new }
         ensures count { CountsBy stores self.old self.new result };
 
-    /// The units in which the person holds a role at the moment, rising, each once with its roles by number.
+    /// The units in which the person holds a role at the moment, in the order of their codes, each once, with the roles in
+    /// the order of their numbers.
     fn mine_units(&mut self, person: &Person, now: Moment) -> Result<List<MineUnit>, Fault>
         ensures found { Finds represents is_honest self.old self.new result
             (λ m. mine_units m now person.now) }
@@ -95,8 +96,8 @@ pub trait Books {
         ensures honest { WasHonest is_honest self.old self.new }
         ensures count { CountsBy stores self.old self.new result };
 
-    /// Every shelf of the units in which the person holds a role at the moment, by unit and tag, each once. Shelves whose
-    /// time has passed are among them.
+    /// Every shelf of the units in which the person holds a role at the moment, in the order of units and tags, each once.
+    /// Shelves whose time has passed are among them.
     fn mine_shelves(&mut self, person: &Person, now: Moment) -> Result<List<MineRow>, Fault>
         ensures found { Finds represents is_honest self.old self.new result
             (λ m. mine_shelves m now person.now) }

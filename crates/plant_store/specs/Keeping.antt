@@ -8,6 +8,7 @@ use Rattle.plant_store.specs.Changes.{IsHonest, IsOfficeOf}
 use Rattle.plant_columns.specs.Tables.{AreBooks, AreSeen}
 use Rattle.plant_types.specs.Names.{Name}
 
+-- there is a row
 abbrev pub has_any : {A : Type 0} → List A → Bool
 has_any [] = false
 has_any (x ∷ xs) = true
@@ -23,5 +24,6 @@ pub record HaveRows (m : Content) (db : Database) : Type 0 where
 abbrev pub HasContent : State → Content → Type 0
 HasContent s m = HaveRows m s.now
 
+-- the same of a connection that is honest
 abbrev pub Represents : State → Content → Type 0
 Represents s m = IsHonest s → HasContent s m

@@ -12,6 +12,7 @@ use Rattle.plant_store.specs.Keeping.{has_any}
 use Rattle.plant_types.specs.Names.{same_name}
 use Rattle.plant_types.specs.Roles.{same_pair}
 
+-- one of the rows has the key of this row
 abbrev pub has_key : Row → UnitRows → Bool
 has_key (UnitRow r) rows = has_any rows.units
 has_key (Grant r) rows = list_any (λ other. same_pair (pair_of r) (pair_of other)) rows.grants

@@ -27,6 +27,7 @@ own_row units = unwrap_or (slice_get units 0) no_unit
 abbrev pub last_in : List UnitRow → ℕ
 last_in units = (own_row units).last_s
 
+-- a row of the table of grants, beside its unit's last moment
 abbrev pub line_at : Trees → Row → Line
 line_at trees g = record { unit = bytes (column g 1); role_no = role_in (column g 3); end_s = open_number_in (column g 4); last_s = last_in (rows_seen (bytes (column g 1)) trees UnitKept) }
 
@@ -46,10 +47,12 @@ standing_lines t lines = filter (λ l. is_before t l.end_s) lines
 abbrev pub started : Line → MineUnit
 started l = record { unit = l.unit; roles = l.role_no ∷ []; last = l.last_s }
 
+-- a run before others: one with the first of them, if that is of the same unit
 abbrev pub put_run : MineUnit → List MineUnit → List MineUnit
 put_run u [] = u ∷ []
 put_run u (v ∷ vs) = if same_name u.unit v.unit then (record { unit = u.unit; roles = u.roles ++ v.roles; last = u.last }) ∷ vs else u ∷ v ∷ vs
 
+-- the runs of all lines
 abbrev pub runs_of : List Line → List MineUnit
 runs_of [] = []
 runs_of (l ∷ ls) = put_run (started l) (runs_of ls)

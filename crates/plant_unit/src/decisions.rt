@@ -181,7 +181,7 @@ pub fn reject(
     Ok(Ok(decision_put(alloc, entry, ChangeState::Rejected, call)?))
 }
 
-/// The cell of a severity and a time to respond; that no alarm is needed, where there is none.
+/// The cell of a severity and a time to respond; `N`, that no alarm is needed, where the matrix has none.
 fn cell_by(matrix: &Matrix, severity: u8, response: Seconds) -> Cell
     ensures { result ≡ priority_by matrix.now severity response }
 {

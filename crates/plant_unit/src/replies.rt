@@ -51,7 +51,7 @@ pub fn status(
     })))
 }
 
-/// The line of a shelf whose alarm last returned to normal at this moment; none where its time has passed.
+/// The line of a shelf whose alarm last returned to normal at this moment; none where the shelf has ended.
 pub fn shelf_line(
     alloc: Global,
     row: &ShelfRow,
@@ -76,7 +76,7 @@ pub fn shelf_line(
     }))
 }
 
-/// The line of a shelf, whose alarm is looked for at a place first; none where its time has passed.
+/// The line of a shelf, whose alarm is looked for at a place first; none where the shelf has ended.
 fn line(
     alloc: Global,
     part: &UnitPart,
