@@ -1,6 +1,6 @@
--- What a session did, by how it ended. r is what the reader had left before and r' after, where that is known, and o
--- and o' what the writer holds; `ended` says whether the input's end was seen; f and f' count failed reads, g and g'
--- failed writes, k and k' reads.
+-- What a session did, by how it ended. `unread` is what the reader has left, where that is known, and `written` what the
+-- writer holds; `failed` counts failed reads, `lost` failed writes, `reads` all reads, each before and after. `ended` says
+-- whether the input's end was seen.
 use Rattle.plant_types.specs.Limits.{max_reads}
 use Rattle.std.specs.Prelude.{◌≡◌, ◌⊎◌, ◌<◌, ◌≤◌, ◌+◌, ℕ, List, [], ◌++◌, length, Bool, IsTrue, Option}
 use Rattle.std.specs.Io.KnownBytes.{Consumes, IsAtEnd}
@@ -16,47 +16,58 @@ use Rattle.plant_wire.specs.declared.reads.Read.TheVariants as read
 
 -- how one read went, and the buffer before and after
 abbrev pub IsRead : Option (List ℕ) → Option (List ℕ) → Bool → ℕ → ℕ → ℕ → ℕ → List ℕ → List ℕ → Read → Type 0
-IsRead r r' ended f f' k k' old new read.More = (bytes : List ℕ) × Consumes r r' bytes × (new ≡ old ++ bytes) × (f' ≡ f) × (k' ≡ k + 1)
-IsRead r r' ended f f' k k' old new read.Finished = Consumes r r' [] × (new ≡ old) × (f' ≡ f) × IsTrue ended × IsAtEnd r' × (k' ≡ k + 1)
-IsRead r r' ended f f' k k' old new read.Failed = Consumes r r' [] × (new ≡ old) × (f' ≡ 1) × (k ≤ k') × (k' ≤ k + 1)
-IsRead r r' ended f f' k k' old new read.Fault = (bytes : List ℕ) × Consumes r r' bytes × (f' ≡ f) × (k' ≡ k + 1)
+IsRead unread unread_after ended failed failed_after reads reads_after old new read.More =
+    (bytes : List ℕ) × Consumes unread unread_after bytes × (new ≡ old ++ bytes) × (failed_after ≡ failed) × (reads_after ≡ reads + 1)
+IsRead unread unread_after ended failed failed_after reads reads_after old new read.Finished =
+    Consumes unread unread_after [] × (new ≡ old) × (failed_after ≡ failed) × IsTrue ended × IsAtEnd unread_after × (reads_after ≡ reads + 1)
+IsRead unread unread_after ended failed failed_after reads reads_after old new read.Failed =
+    Consumes unread unread_after [] × (new ≡ old) × (failed_after ≡ 1) × (reads ≤ reads_after) × (reads_after ≤ reads + 1)
+IsRead unread unread_after ended failed failed_after reads reads_after old new read.Fault =
+    (bytes : List ℕ) × Consumes unread unread_after bytes × (failed_after ≡ failed) × (reads_after ≡ reads + 1)
 
 -- nothing is left, or less than a request
 abbrev pub IsIdle : List ℕ → Type 0
 IsIdle rest = (rest ≡ []) ⊎ StandsAtFront rest waits
 
 -- the input ended, and what was left is not a whole request
-pub record IsCutShort (bytes : List ℕ) (r' : Option (List ℕ)) (ended : Bool) (o o' : Option (List ℕ)) (ran : List Call → List Answer → Type 0) : Type 0 where
+pub record IsCutShort (bytes : List ℕ) (unread_after : Option (List ℕ)) (ended : Bool) (written written_after : Option (List ℕ)) (ran : List Call → List Answer → Type 0) : Type 0 where
   pub seen : IsTrue ended
-  pub nothing_left : IsAtEnd r'
+  pub nothing_left : IsAtEnd unread_after
   pub rest : List ℕ
   pub some : 0 < length rest
   pub waiting : StandsAtFront rest waits
-  pub serves : AnswersFront bytes o o' ran rest
+  pub serves : AnswersFront bytes written written_after ran rest
 
 -- Closed: the input ended, and its requests use it up. BrokenInput: they end in a cause that breaks the stream, or the
 -- input ended within a request. ReadFailed: each whole request was answered. WriteFailed, Fault: each but the last
 -- was answered whole; at Fault the last is not an answer by a fault of the office.
 abbrev pub EndsAs : List ℕ → Option (List ℕ) → Bool → Option (List ℕ) → Option (List ℕ) → (List Call → List Answer → Type 0) → End → Type 0
-EndsAs bytes r' ended o o' ran Closed = IsTrue ended × IsAtEnd r' × AnswersFront bytes o o' ran []
-EndsAs bytes r' ended o o' ran BrokenInput = ServesBroken bytes o o' ran ⊎ IsCutShort bytes r' ended o o' ran
-EndsAs bytes r' ended o o' ran ReadFailed = (rest : List ℕ) × IsIdle rest × AnswersFront bytes o o' ran rest
-EndsAs bytes r' ended o o' ran WriteFailed = ServesPart bytes o o' ran
-EndsAs bytes r' ended o o' ran Fault = (s : ServesPart bytes o o' ran) × IsFaultless s.last
+EndsAs bytes unread_after ended written written_after ran Closed =
+    IsTrue ended × IsAtEnd unread_after × AnswersFront bytes written written_after ran []
+EndsAs bytes unread_after ended written written_after ran BrokenInput =
+    ServesBroken bytes written written_after ran ⊎ IsCutShort bytes unread_after ended written written_after ran
+EndsAs bytes unread_after ended written written_after ran ReadFailed =
+    (rest : List ℕ) × IsIdle rest × AnswersFront bytes written written_after ran rest
+EndsAs bytes unread_after ended written written_after ran WriteFailed = ServesPart bytes written written_after ran
+EndsAs bytes unread_after ended written written_after ran Fault =
+    (s : ServesPart bytes written written_after ran) × IsFaultless s.last
 
 -- the bytes received, and what was done with them
 abbrev pub IsSession : Option (List ℕ) → Option (List ℕ) → Bool → Option (List ℕ) → Option (List ℕ) → (List Call → List Answer → Type 0) → End → Type 0
-IsSession r r' ended o o' ran end = (bytes : List ℕ) × Consumes r r' bytes × EndsAs bytes r' ended o o' ran end
+IsSession unread unread_after ended written written_after ran end =
+    (bytes : List ℕ) × Consumes unread unread_after bytes × EndsAs bytes unread_after ended written written_after ran end
 
 -- which reads and writes failed, by the end: none but at ReadFailed, where one did or 1,000,000 were made, and at
 -- WriteFailed
 abbrev pub StopsAs : ℕ → ℕ → ℕ → ℕ → ℕ → ℕ → End → Type 0
-StopsAs f f' k k' g g' Closed = (f' ≡ f) × (g' ≡ g)
-StopsAs f f' k k' g g' BrokenInput = (f' ≡ f) × (g' ≡ g)
-StopsAs f f' k k' g g' ReadFailed = ((f' ≡ 1) ⊎ ((f' ≡ f) × (k' ≡ k + max_reads))) × (g' ≡ g)
-StopsAs f f' k k' g g' WriteFailed = (f' ≡ f) × (g' ≡ 1)
-StopsAs f f' k k' g g' Fault = (f' ≡ f) × (g' ≡ g)
+StopsAs failed failed_after reads reads_after lost lost_after Closed = (failed_after ≡ failed) × (lost_after ≡ lost)
+StopsAs failed failed_after reads reads_after lost lost_after BrokenInput =
+    (failed_after ≡ failed) × (lost_after ≡ lost)
+StopsAs failed failed_after reads reads_after lost lost_after ReadFailed =
+    ((failed_after ≡ 1) ⊎ ((failed_after ≡ failed) × (reads_after ≡ reads + max_reads))) × (lost_after ≡ lost)
+StopsAs failed failed_after reads reads_after lost lost_after WriteFailed = (failed_after ≡ failed) × (lost_after ≡ 1)
+StopsAs failed failed_after reads reads_after lost lost_after Fault = (failed_after ≡ failed) × (lost_after ≡ lost)
 
 -- how many reads were made, whatever the end
 abbrev pub IsFewReads : ℕ → ℕ → Type 0
-IsFewReads k k' = (k ≤ k') × (k' ≤ k + max_reads)
+IsFewReads reads reads_after = (reads ≤ reads_after) × (reads_after ≤ reads + max_reads)
