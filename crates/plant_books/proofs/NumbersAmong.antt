@@ -1,26 +1,21 @@
 -- Numbers among several, and those of the matrices and changes that a scope takes in.
-use Rattle.std.proofs.Common.{List, [], ap, arith, false, inl, inr, refl, subst, sym, true, ◌++◌, ◌∙◌, ◌∷◌, ◌⊎◌}
-use Rattle.std.proofs.lemmas.Bool.{cases_order}
+use Rattle.std.proofs.Common.{List, [], ap, arith, false, refl, sym, true, ◌++◌, ◌∙◌, ◌∷◌}
 use Rattle.std.proofs.lemmas.List.Folds.{list_any-append}
 use Rattle.std.specs.Cmp.{ranked}
 use Rattle.std.specs.List.{AllByRecursion, list_any}
 use Rattle.std.specs.List.Sorted.{IsStrictlySortedBy}
-use Rattle.std.specs.Option.{option_to_list}
 use Rattle.std.specs.Ordering.{nat_cmp}
 use Rattle.std.specs.declared.cmp.Ordering.TheVariants.{Less}
-use Rattle.std.specs.Prelude.{Bool, None, Option, Some, cond, filter, if◌then◌else◌, ℕ, ◌<◌, ◌≡◌, ◌≤◌, ◌&&◌, ◌||◌}
-use Rattle.plant_import.proofs.public.Placed.{AllAbove, AllBelow, Rises, other, other_above, rises_of}
+use Rattle.std.specs.Prelude.{Bool, None, Option, Some, cond, filter, if◌then◌else◌, ℕ, ◌≡◌, ◌≤◌, ◌&&◌, ◌||◌}
+use Rattle.plant_import.proofs.public.Placed.{AllBelow, other}
 use Rattle.plant_books.specs.Asking.{AreSources, is_number}
-use Rattle.plant_model.proofs.public.ChangesFound.{at, higher, none_above, tied, ties}
+use Rattle.plant_model.proofs.public.ChangesFound.{ties}
 use Rattle.plant_model.specs.Histories.{same_number}
 use Rattle.plant_model.specs.Parts.{is_source}
-use Rattle.plant_model.specs.RowFacts.{change_number}
 use Rattle.plant_model.specs.declared.rows.RecordEntry.{RecordEntry}
 use Rattle.plant_model.specs.declared.rows.UnitRows.{UnitRows}
 use Rattle.plant_types.specs.Names.{Name}
 use Rattle.std.specs.BTreeSet.{BTreeSet, UpdatesBy, contains}
-use Rattle.plant_model.specs.declared.rows.ChangeEntry.{ChangeEntry}
-use Rattle.plant_types.specs.KeyedRows.{IsInOrder}
 
 -- a number is one of several
 abbrev pub among : List ℕ → ℕ → Bool
