@@ -42,9 +42,9 @@ AreLines [] text = text ≡ []
 AreLines (end ∷ earlier) text = (before : List ℕ) × (part : ℕ) × AreLines earlier before × (text ≡ before ++ take part (line_of (length earlier + 1) end))
 
 abbrev pub Tells : Option (List ℕ) → List End → Option (List ℕ) → Type 0
-Tells o ends o' = (text : List ℕ) × AreLines ends text × Appends o o' text
+Tells written ends written_after = (text : List ℕ) × AreLines ends text × Appends written written_after text
 
--- all n were served, or fewer where accepting failed; f and f' count failures of accepting
+-- all n were served, or fewer where accepting failed; `failed` counts failures of accepting
 abbrev pub StopsAfter : ℕ → ℕ → ℕ → ℕ → Result (Unit {0}) Failed → Type 0
-StopsAfter n f f' count (Ok u) = (count ≡ n) × (f' ≡ f)
-StopsAfter n f f' count (Err e) = (count < n) × (f' ≡ 1)
+StopsAfter n failed failed_after count (Ok u) = (count ≡ n) × (failed_after ≡ failed)
+StopsAfter n failed failed_after count (Err e) = (count < n) × (failed_after ≡ 1)

@@ -51,10 +51,10 @@ abbrev pub status_of_migration : Result (Unit {0}) StoreFault → ExitStatus
 status_of_migration (Ok u) = status.Done
 status_of_migration (Err e) = status.NoBooks
 
--- One session over an inlet and an outlet, and its end. r and o are what was left to read and what was written
--- before, r' and o' after.
+-- One session over an inlet and an outlet, and its end: what was left to read and what was written, before and after.
 abbrev pub IsStreamed : Option (List ℕ) → Option (List ℕ) → Option (List ℕ) → Option (List ℕ) → (List Call → List Answer → Type 0) → ExitStatus → Type 0
-IsStreamed r r' o o' ran n = (end : End) × (ended : Bool) × IsSession r r' ended o o' ran end × (n ≡ status_of end)
+IsStreamed unread unread_after written written_after ran n =
+    (end : End) × (ended : Bool) × IsSession unread unread_after ended written written_after ran end × (n ≡ status_of end)
 
 -- whatever the office did
 abbrev pub Whatever : List Call → List Answer → Type 0
@@ -66,8 +66,10 @@ IsOfPort n = (result : Result (Unit {0}) Failed) × (n ≡ served result)
 
 -- over an office of which `ran` is true: one session ended, or the connections of a port were served
 abbrev pub HasServed : (List Call → List Answer → Type 0) → Option Service → Option (List ℕ) → Option (List ℕ) → Option (List ℕ) → Option (List ℕ) → ExitStatus → Type 0
-HasServed ran None r r' o o' n = IsStreamed r r' o o' ran n
-HasServed ran (Some service) r r' o o' n = IsOfPort n × ((calls : List Call) × (answers : List Answer) × ran calls answers)
+HasServed ran None unread unread_after written written_after n =
+    IsStreamed unread unread_after written written_after ran n
+HasServed ran (Some service) unread unread_after written written_after n =
+    IsOfPort n × ((calls : List Call) × (answers : List Answer) × ran calls answers)
 
 -- an older file was to be migrated
 abbrev pub IsOfMigration : ExitStatus → Type 0
@@ -75,8 +77,9 @@ IsOfMigration n = (outcome : Result (Unit {0}) StoreFault) × (n ≡ status_of_m
 
 -- what a line's words ask for was done, or no books were opened for it; a migration reads no request
 abbrev pub IsFollowed : Task → Option (List ℕ) → Option (List ℕ) → Option (List ℕ) → Option (List ℕ) → ExitStatus → Type 0
-IsFollowed (Serve db service) r r' o o' n = (n ≡ status.NoBooks) ⊎ HasServed Whatever service r r' o o' n
-IsFollowed (Migrate old new) r r' o o' n = (r' ≡ r) × IsOfMigration n
+IsFollowed (Serve db service) unread unread_after written written_after n =
+    (n ≡ status.NoBooks) ⊎ HasServed Whatever service unread unread_after written written_after n
+IsFollowed (Migrate old new) unread unread_after written written_after n = (unread_after ≡ unread) × IsOfMigration n
 
 -- a number that the program exits with
 abbrev pub IsStatus : ℕ → Type 0

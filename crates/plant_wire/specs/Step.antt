@@ -1,4 +1,5 @@
--- What the steps of a session do. o is what was written before and o' after; `ran` says what the office did.
+-- What the steps of a session do. `written` is what the writer holds and `lost` counts failed writes, each before and
+-- after; `ran` says what the office did.
 use Rattle.std.specs.Prelude.{◌≡◌, ◌<◌, ◌≤◌, ℕ, List, [], ◌∷◌, ◌++◌, length, take, drop, map, Option, Result, Ok, Err}
 use Rattle.std.specs.Io.KnownBytes.{Appends}
 use Rattle.plant_model.specs.declared.call.Call.{Call}
@@ -18,14 +19,14 @@ use Rattle.plant_wire.specs.declared.step.Rest.TheVariants as left
 
 -- the count of failed writes, by how a step ended
 abbrev pub Stalls : {A : Type 0} → ℕ → ℕ → Result A Stop → Type 0
-Stalls f f' (Ok x) = f' ≡ f
-Stalls f f' (Err WriteFailed) = f' ≡ 1
-Stalls f f' (Err Fault) = f' ≡ f
+Stalls lost lost_after (Ok x) = lost_after ≡ lost
+Stalls lost lost_after (Err WriteFailed) = lost_after ≡ 1
+Stalls lost lost_after (Err Fault) = lost_after ≡ lost
 
 -- all of the text was written, or a part from its front
 abbrev pub IsPut : Option (List ℕ) → Option (List ℕ) → List ℕ → Result (Unit {0}) Stop → Type 0
-IsPut o o' text (Ok u) = Appends o o' text
-IsPut o o' text (Err e) = (part : ℕ) × Appends o o' (take part text)
+IsPut written written_after text (Ok u) = Appends written written_after text
+IsPut written written_after text (Err e) = (part : ℕ) × Appends written written_after (take part text)
 
 -- why an answer was written in part: a write failed, or it could not be rendered; one by a fault always can
 abbrev pub StopsFor : Last → Stop → Type 0
@@ -34,25 +35,26 @@ StopsFor last Fault = IsFaultless last
 
 -- the call was made, and its answer written whole or in part
 abbrev pub IsAnswer : Option (List ℕ) → Option (List ℕ) → (List Call → List Answer → Type 0) → Call → Result (Unit {0}) Stop → Type 0
-IsAnswer o o' ran call (Ok u) = (answer : Answer) × Appends o o' (text_of answer) × ran (call ∷ []) (answer ∷ [])
-IsAnswer o o' ran call (Err stop) =
-    (answer : Answer) × (part : ℕ) × Appends o o' (take part (text_of answer)) × ran (call ∷ []) (answer ∷ []) × StopsFor (begun (said call answer)) stop
+IsAnswer written written_after ran call (Ok u) =
+    (answer : Answer) × Appends written written_after (text_of answer) × ran (call ∷ []) (answer ∷ [])
+IsAnswer written written_after ran call (Err stop) =
+    (answer : Answer) × (part : ℕ) × Appends written written_after (take part (text_of answer)) × ran (call ∷ []) (answer ∷ []) × StopsFor (begun (said call answer)) stop
 
 -- the requests at the front of the bytes were answered, each once and in order, and this is left
-pub record AnswersFront (bytes : List ℕ) (o o' : Option (List ℕ)) (ran : List Call → List Answer → Type 0) (rest : List ℕ) : Type 0 where
+pub record AnswersFront (bytes : List ℕ) (written written_after : Option (List ℕ)) (ran : List Call → List Answer → Type 0) (rest : List ℕ) : Type 0 where
   pub marks : List Mark
   pub parses : Parsed bytes (map item_of marks) rest
-  pub writes : Appends o o' (out_of marks)
+  pub writes : Appends written written_after (out_of marks)
   pub served : ran (calls_of marks) (answers_of marks)
 
 -- they were, and then the cause that breaks the stream
-pub record ServesBroken (bytes : List ℕ) (o o' : Option (List ℕ)) (ran : List Call → List Answer → Type 0) : Type 0 where
+pub record ServesBroken (bytes : List ℕ) (written written_after : Option (List ℕ)) (ran : List Call → List Answer → Type 0) : Type 0 where
   pub marks : List Mark
   pub rest : List ℕ
   pub cause : Cause
   pub parses : Parsed bytes (map item_of marks) rest
   pub front : StandsAtFront rest (broken cause)
-  pub writes : Appends o o' (out_of marks ++ cause_text cause)
+  pub writes : Appends written written_after (out_of marks ++ cause_text cause)
   pub served : ran (calls_of marks) (answers_of marks)
 
 -- what was begun stands at the front of the rest
@@ -62,30 +64,33 @@ StandsLast rest (begun m) = (n : ℕ) × StandsAtFront rest (whole (item_of m) n
 StandsLast rest (breaking cause) = StandsAtFront rest (broken cause)
 
 -- they were, and of the next answer only a part was written
-pub record ServesPart (bytes : List ℕ) (o o' : Option (List ℕ)) (ran : List Call → List Answer → Type 0) : Type 0 where
+pub record ServesPart (bytes : List ℕ) (written written_after : Option (List ℕ)) (ran : List Call → List Answer → Type 0) : Type 0 where
   pub marks : List Mark
   pub rest : List ℕ
   pub last : Last
   pub part : ℕ
   pub parses : Parsed bytes (map item_of marks) rest
   pub stands : StandsLast rest last
-  pub writes : Appends o o' (out_of marks ++ take part (last_text last))
+  pub writes : Appends written written_after (out_of marks ++ take part (last_text last))
   pub served : ran (calls_of (marks ++ last_marks last)) (answers_of (marks ++ last_marks last))
 
 -- they were, and the next answer stops within
 abbrev pub IsStopped : List ℕ → Option (List ℕ) → Option (List ℕ) → (List Call → List Answer → Type 0) → Stop → Type 0
-IsStopped bytes o o' ran stop = (s : ServesPart bytes o o' ran) × StopsFor s.last stop
+IsStopped bytes written written_after ran stop =
+    (s : ServesPart bytes written written_after ran) × StopsFor s.last stop
 
 -- one request
 abbrev pub IsStep : List ℕ → Option (List ℕ) → Option (List ℕ) → (List Call → List Answer → Type 0) → Result Step Stop → Type 0
-IsStep bytes o o' ran (Ok (Waits n)) = StandsAtFront bytes waits × AnswersFront bytes o o' ran bytes × WaitsBelow bytes n
-IsStep bytes o o' ran (Ok (Took n)) = (0 < n) × (n ≤ length bytes) × AnswersFront bytes o o' ran (drop n bytes)
-IsStep bytes o o' ran (Ok Broken) = ServesBroken bytes o o' ran
-IsStep bytes o o' ran (Err stop) = IsStopped bytes o o' ran stop
+IsStep bytes written written_after ran (Ok (Waits n)) =
+    StandsAtFront bytes waits × AnswersFront bytes written written_after ran bytes × WaitsBelow bytes n
+IsStep bytes written written_after ran (Ok (Took n)) =
+    (0 < n) × (n ≤ length bytes) × AnswersFront bytes written written_after ran (drop n bytes)
+IsStep bytes written written_after ran (Ok Broken) = ServesBroken bytes written written_after ran
+IsStep bytes written written_after ran (Err stop) = IsStopped bytes written written_after ran stop
 
 -- all whole requests at the front
 abbrev pub IsRest : List ℕ → Option (List ℕ) → Option (List ℕ) → (List Call → List Answer → Type 0) → Result Rest Stop → Type 0
-IsRest bytes o o' ran (Ok (left.Waits n more)) =
-    (n ≤ length bytes) × StandsAtFront (drop n bytes) waits × AnswersFront bytes o o' ran (drop n bytes) × WaitsBelow (drop n bytes) more
-IsRest bytes o o' ran (Ok left.Broken) = ServesBroken bytes o o' ran
-IsRest bytes o o' ran (Err stop) = IsStopped bytes o o' ran stop
+IsRest bytes written written_after ran (Ok (left.Waits n more)) =
+    (n ≤ length bytes) × StandsAtFront (drop n bytes) waits × AnswersFront bytes written written_after ran (drop n bytes) × WaitsBelow (drop n bytes) more
+IsRest bytes written written_after ran (Ok left.Broken) = ServesBroken bytes written written_after ran
+IsRest bytes written written_after ran (Err stop) = IsStopped bytes written written_after ran stop

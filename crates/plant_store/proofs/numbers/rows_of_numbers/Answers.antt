@@ -1,10 +1,19 @@
-use Rattle.std.proofs.Common.{[], ap, append_assoc, filter, subst, sym, ◌++◌, ◌∙◌, ◌∷◌, ◌≡◌}
+use Rattle.std.proofs.Common.{[], ap, append_assoc, filter, refl, rules, subst, sym, ◌++◌, ◌∙◌, ◌∷◌, ◌≡◌}
 use Rattle.sqlite.specs.Held.{state}
 use Rattle.plant_books.proofs.public.NumberRanges.{goes_on, of_none, those_of}
 use Rattle.plant_columns.specs.Tables.{AreBooks}
 use Rattle.plant_store.proofs.NumberLaws.{other_way}
 use Rattle.plant_store.proofs.ReadsOnly.{reads_then}
 use Rattle.plant_store.proofs.numbers.rows_of_numbers.Goals as goal
+
+pub loop-number-init : goal.loop-number-init
+loop-number-init g c =
+    let all = g.T.Stored.seen c.args.unit.now (state g.S.Store c.args.conn.now).now.trees in
+    record {
+      mode = search rules;
+      rows = ([], refl, λ honest books rise. c.new-rows.ensures.items ∙ sym (of_none g.T.Numbered.number all));
+      reads = search rules;
+    }
 
 pub loop-number-preserved : goal.loop-number-preserved
 loop-number-preserved g c =

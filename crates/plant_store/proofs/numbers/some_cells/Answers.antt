@@ -1,7 +1,10 @@
-use Rattle.std.proofs.Common.{◌∙◌, filter}
+use Rattle.std.proofs.Common.{◌∙◌, filter, subst}
+use Rattle.std.specs.Prelude.{IfOk}
 use Rattle.sqlite.specs.Held.{state}
+use Rattle.plant_books.specs.Asking.{HasNumbers}
 use Rattle.plant_columns.specs.Tables.{rows_seen}
 use Rattle.plant_columns.specs.Tables.Kept.{CellKept}
+use Rattle.plant_model.specs.Scopes.{selection_by}
 use Rattle.plant_store.proofs.NumberLaws.{cells_climb}
 use Rattle.plant_store.proofs.Queries.{if_ok}
 use Rattle.plant_store.proofs.numbers.some_cells.Goals as goal
@@ -10,4 +13,6 @@ pub returns-clause-rows : goal.returns-clause-rows
 returns-clause-rows g c honest books rows same =
     let u = c.args.unit.now in
     let db = (state g.S.Store c.args.conn.now).now in
-    if_ok c.rows_of_numbers.result (λ found h. h ∙ (λ i. filter (λ r. c.matrix_numbers.ensures.value rows same r.matrix_no i) (rows_seen u db.trees CellKept))) (c.rows_of_numbers.ensures.rows honest books (cells_climb u db books))
+    let are : HasNumbers c.in-Ok.numbers (selection_by rows c.args.scope).matrix =
+    subst (λ said. IfOk said (λ numbers. HasNumbers numbers (selection_by rows c.args.scope).matrix)) c.in-Ok.is (c.matrix_numbers.ensures.value rows same) in
+    if_ok c.rows_of_numbers.result (λ found h. h ∙ (λ i. filter (λ r. are r.matrix_no i) (rows_seen u db.trees CellKept))) (c.rows_of_numbers.ensures.rows honest books (cells_climb u db books))

@@ -1,6 +1,8 @@
-use Rattle.std.proofs.Common.{◌∙◌, ap, filter, sym}
+use Rattle.std.proofs.Common.{◌∙◌, ap, filter, subst, sym}
+use Rattle.std.specs.Prelude.{IfOk}
 use Rattle.sqlite.specs.Held.{state}
 use Rattle.sqlite_keyed.proofs.ListLemmas.{filter-filter}
+use Rattle.plant_books.specs.Asking.{HasNumbers}
 use Rattle.plant_columns.specs.Tables.{rows_seen}
 use Rattle.plant_columns.specs.Tables.Kept.{ChangeKept}
 use Rattle.plant_model.specs.Scopes.{selection_by}
@@ -15,4 +17,6 @@ returns-clause-rows g c honest books rows same =
     let db = (state g.S.Store c.args.conn.now).now in
     let taken = λ (r : RecordEntry). (selection_by rows c.args.scope).rationale r.tag in
     let all = sym (filter-filter taken taken (λ x h. h) rows.records) ∙ ap (filter taken) (sym same ∙ sym c.as_slice.ensures) in
-    if_ok c.rows_of_numbers.result (λ found h. h ∙ (λ i. filter (λ r. c.change_numbers.ensures.value rows all r.number i) (rows_seen u db.trees ChangeKept))) (c.rows_of_numbers.ensures.rows honest books (changes_climb u db books))
+    let are : HasNumbers c.in-Ok.numbers (selection_by rows c.args.scope).change =
+    subst (λ said. IfOk said (λ numbers. HasNumbers numbers (selection_by rows c.args.scope).change)) c.in-Ok.is (c.change_numbers.ensures.value rows all) in
+    if_ok c.rows_of_numbers.result (λ found h. h ∙ (λ i. filter (λ r. are r.number i) (rows_seen u db.trees ChangeKept))) (c.rows_of_numbers.ensures.rows honest books (changes_climb u db books))
