@@ -1,8 +1,8 @@
-ghost use Rattle.std.specs.Prelude.{◌≡◌, ◌≤◌, ◌-◌, ℕ, length, drop, take};
+ghost use Rattle.std.specs.Prelude.{◌≡◌, ℕ, take};
 ghost use Rattle.std.specs.Io.KnownBytes.{Appends};
 ghost use Rattle.plant_connections.specs.Connections as spec;
 
-use plant_wire::End;
+use plant_wire::{End, bytes_from};
 use std::io::Write;
 
 /// The name of an end, as the log and the program write it.
@@ -16,14 +16,6 @@ pub fn end_name(end: End) -> &'static [u8]
         End::WriteFailed => b"WriteFailed",
         End::Fault => b"Fault",
     }
-}
-
-fn bytes_from(bytes: &[u8], at: usize) -> &[u8]
-    requires { at ≤ length bytes.now }
-    ensures value { result.now ≡ drop at bytes.now }
-    ensures len { length result.now ≡ length bytes.now - at }
-{
-    &bytes[at..]
 }
 
 /// Writes a text. What can't be written is passed over.

@@ -6,6 +6,7 @@ use Rattle.plant_answer.specs.declared.responses.Media.TheVariants.{Json}
 use Rattle.plant_call.specs.declared.causes.Cause.{Cause}
 use Rattle.plant_call.specs.declared.causes.Cause.TheVariants.{HeadSyntax, HeadTooLong, LengthWrong, BodyTooLong, Chunked, NoRoute, BadPerson, BadMoment, BadPath, BadBody, MatrixShape, BandsNotRising, NotOrdered}
 
+-- its name in the answer
 abbrev pub cause_name : Cause → List ℕ
 cause_name HeadSyntax = codes "HeadSyntax"
 cause_name HeadTooLong = codes "HeadTooLong"
@@ -21,6 +22,7 @@ cause_name MatrixShape = codes "MatrixShape"
 cause_name BandsNotRising = codes "BandsNotRising"
 cause_name NotOrdered = codes "NotOrdered"
 
+-- its number: causes are looked for in this order
 abbrev pub cause_no : Cause → ℕ
 cause_no HeadSyntax = 1
 cause_no HeadTooLong = 2
@@ -36,13 +38,16 @@ cause_no MatrixShape = 11
 cause_no BandsNotRising = 12
 cause_no NotOrdered = 13
 
+-- the status of the answer
 abbrev pub cause_status : Cause → ℕ
 cause_status Chunked = 501
 cause_status NoRoute = 404
 cause_status _ = 400
 
+-- the body of the answer: name and number
 unfoldable pub cause_body : Cause → List ℕ
 cause_body cause = codes "{\"cause\":" ++ quoted (cause_name cause) ++ codes ",\"malformed\":" ++ decimal (cause_no cause) ++ codes "}"
 
+-- the whole answer
 unfoldable pub cause_text : Cause → List ℕ
 cause_text cause = response (cause_status cause) Json (cause_body cause)

@@ -8,7 +8,7 @@ use Rattle.plant_call.specs.Front.{Item, asked, bad}
 use Rattle.plant_call.specs.declared.causes.Cause.{Cause}
 use Rattle.plant_wire.specs.Causes.{cause_text}
 
--- a request with its answer: a call and what the office said, or the cause that it is
+-- a request with its answer: a call with the answer of the office, or the cause for which it is malformed
 pub data Mark : Type 0 where
   said : Call → Answer → Mark
   malformed : Cause → Mark
@@ -18,11 +18,12 @@ abbrev pub item_of : Mark → Item
 item_of (said call answer) = asked call
 item_of (malformed cause) = bad cause
 
+-- the whole text of its answer
 abbrev pub mark_text : Mark → List ℕ
 mark_text (said call answer) = text_of answer
 mark_text (malformed cause) = cause_text cause
 
--- the bytes that are written for them
+-- the texts of the answers to these requests
 abbrev pub out_of : List Mark → List ℕ
 out_of [] = []
 out_of (m ∷ ms) = mark_text m ++ out_of ms
@@ -45,11 +46,13 @@ pub data Last : Type 0 where
   begun : Mark → Last
   breaking : Cause → Last
 
+-- the whole text of what was begun
 abbrev pub last_text : Last → List ℕ
 last_text nothing = []
 last_text (begun m) = mark_text m
 last_text (breaking cause) = cause_text cause
 
+-- the request that was begun, unless it breaks the stream
 abbrev pub last_marks : Last → List Mark
 last_marks nothing = []
 last_marks (begun m) = m ∷ []

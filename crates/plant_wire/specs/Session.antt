@@ -39,8 +39,9 @@ pub record IsCutShort (bytes : List ℕ) (unread_after : Option (List ℕ)) (end
   pub serves : AnswersFront bytes written written_after ran rest
 
 -- Closed: the input ended, and its requests use it up. BrokenInput: they end in a cause that breaks the stream, or the
--- input ended within a request. ReadFailed: each whole request was answered. WriteFailed, Fault: each but the last
--- was answered whole; at Fault the last is not an answer by a fault of the office.
+-- input ended within a request. ReadFailed: each whole request was answered. WriteFailed, Fault: the requests at the front
+-- were answered whole, and of at most one more a part of its answer was written; those behind it were not answered. At
+-- Fault that one is not a call that got a fault of the office.
 abbrev pub EndsAs : List ℕ → Option (List ℕ) → Bool → Option (List ℕ) → Option (List ℕ) → (List Call → List Answer → Type 0) → End → Type 0
 EndsAs bytes unread_after ended written written_after ran Closed =
     IsTrue ended × IsAtEnd unread_after × AnswersFront bytes written written_after ran []

@@ -28,7 +28,7 @@ abbrev pub IsPut : Option (List ℕ) → Option (List ℕ) → List ℕ → Resu
 IsPut written written_after text (Ok u) = Appends written written_after text
 IsPut written written_after text (Err e) = (part : ℕ) × Appends written written_after (take part text)
 
--- why an answer was written in part: a write failed, or it could not be rendered; one by a fault always can
+-- why an answer was not written whole: a write failed, or memory ran out for its text; that of a fault needs none
 abbrev pub StopsFor : Last → Stop → Type 0
 StopsFor last WriteFailed = Unit {0}
 StopsFor last Fault = IsFaultless last
@@ -47,7 +47,7 @@ pub record AnswersFront (bytes : List ℕ) (written written_after : Option (List
   pub writes : Appends written written_after (out_of marks)
   pub served : ran (calls_of marks) (answers_of marks)
 
--- they were, and then the cause that breaks the stream
+-- the requests at the front were answered, and then the cause that breaks the stream
 pub record ServesBroken (bytes : List ℕ) (written written_after : Option (List ℕ)) (ran : List Call → List Answer → Type 0) : Type 0 where
   pub marks : List Mark
   pub rest : List ℕ
@@ -63,7 +63,7 @@ StandsLast rest nothing = Unit {0}
 StandsLast rest (begun m) = (n : ℕ) × StandsAtFront rest (whole (item_of m) n)
 StandsLast rest (breaking cause) = StandsAtFront rest (broken cause)
 
--- they were, and of the next answer only a part was written
+-- the requests at the front were answered, and of the next answer only a part was written
 pub record ServesPart (bytes : List ℕ) (written written_after : Option (List ℕ)) (ran : List Call → List Answer → Type 0) : Type 0 where
   pub marks : List Mark
   pub rest : List ℕ
@@ -74,12 +74,12 @@ pub record ServesPart (bytes : List ℕ) (written written_after : Option (List �
   pub writes : Appends written written_after (out_of marks ++ take part (last_text last))
   pub served : ran (calls_of (marks ++ last_marks last)) (answers_of (marks ++ last_marks last))
 
--- they were, and the next answer stops within
+-- the requests at the front were answered, and the next answer stopped within, or before it
 abbrev pub IsStopped : List ℕ → Option (List ℕ) → Option (List ℕ) → (List Call → List Answer → Type 0) → Stop → Type 0
 IsStopped bytes written written_after ran stop =
     (s : ServesPart bytes written written_after ran) × StopsFor s.last stop
 
--- one request
+-- one step: it waits for more bytes, has answered one request or the cause that breaks the stream, or has stopped
 abbrev pub IsStep : List ℕ → Option (List ℕ) → Option (List ℕ) → (List Call → List Answer → Type 0) → Result Step Stop → Type 0
 IsStep bytes written written_after ran (Ok (Waits n)) =
     StandsAtFront bytes waits × AnswersFront bytes written written_after ran bytes × WaitsBelow bytes n
@@ -88,7 +88,7 @@ IsStep bytes written written_after ran (Ok (Took n)) =
 IsStep bytes written written_after ran (Ok Broken) = ServesBroken bytes written written_after ran
 IsStep bytes written written_after ran (Err stop) = IsStopped bytes written written_after ran stop
 
--- all whole requests at the front
+-- the same of all whole requests at the front
 abbrev pub IsRest : List ℕ → Option (List ℕ) → Option (List ℕ) → (List Call → List Answer → Type 0) → Result Rest Stop → Type 0
 IsRest bytes written written_after ran (Ok (left.Waits n more)) =
     (n ≤ length bytes) × StandsAtFront (drop n bytes) waits × AnswersFront bytes written written_after ran (drop n bytes) × WaitsBelow (drop n bytes) more

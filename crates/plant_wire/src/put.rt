@@ -4,7 +4,7 @@ ghost use Rattle.std.specs.Io.KnownBytes.{Appends};
 use crate::streams::{Failed, Outlet};
 
 /// The bytes from a place on.
-pub(crate) fn bytes_from(bytes: &[u8], at: usize) -> &[u8]
+pub fn bytes_from(bytes: &[u8], at: usize) -> &[u8]
     requires { at ≤ length bytes.now }
     ensures value { result.now ≡ drop at bytes.now }
     ensures len { length result.now ≡ length bytes.now - at }
