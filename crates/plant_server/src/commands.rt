@@ -20,12 +20,13 @@ use plant_store::{StoreFault, Tables};
 use plant_types::Person;
 use plant_types::limits::MAX_ROWS_AT_HAND;
 use plant_wire::{End, Failed, FromRead, Inlet, Outlet, ToWrite, session};
-use sqlite::{Alter, Unknown};
+use sqlite::{Alter, FileFrom, FileStore, Start, Unknown};
 use std::alloc::Global;
 use std::convert::AsStr;
 use std::io::{Read, Write};
 use std::time::Duration;
 
+/// The status for the end of a session.
 fn status_of(end: End) -> ExitStatus
     ensures { result ≡ statuses.status_of end }
 {
@@ -48,7 +49,7 @@ fn report_end(errors: &mut impl Write, end: End) -> ExitStatus
     status_of(end)
 }
 
-/// Says where listening or accepting failed, and gives the status.
+/// Says if listening or accepting failed, and gives the status.
 fn report_service(errors: &mut impl Write, outcome: Result<(), Failed>) -> ExitStatus
     ensures { result ≡ statuses.served outcome }
 {
@@ -213,7 +214,10 @@ fn serve_books<S: Alter + Drop, I: Inlet, O: Outlet + Write, E: Write>(
 {
     match Copies::new(rt.alloc(), MAX_ROWS_AT_HAND) {
         Ok(copies) => serve_at_hand(rt, copies, books, service, inlet, outlet, errors),
-        Err(_) => serve_bare(rt, books, service, inlet, outlet, errors),
+        Err(_) => {
+            say(errors, b"memory: no rows at hand\n");
+            serve_bare(rt, books, service, inlet, outlet, errors)
+        }
     }
 }
 
@@ -245,6 +249,13 @@ fn serve_opened<S: Alter + Drop, I: Inlet, O: Outlet + Write, E: Write>(
     }
 }
 
+/// Closes the books of a file, and says if its log stays beside it.
+fn close_and_say<S: Start>(books: Tables<FileStore<FileFrom<S>>>, errors: &mut impl Write) {
+    if close_file(books).is_err() {
+        say(errors, b"store: log not copied\n");
+    }
+}
+
 /// Serves the books of a file, or new books in memory, and gives the status.
 fn serve<I: Inlet, O: Outlet + Write, E: Write>(
     rt: &HostRuntime,
@@ -269,7 +280,7 @@ fn serve<I: Inlet, O: Outlet + Write, E: Write>(
             let opened = in_file(rt, path.as_str(), admin, Unknown);
             let (status, books) = serve_opened(rt, opened, service, inlet, outlet, errors);
             if let Some(books) = books {
-                close_file(books);
+                close_and_say(books, errors);
             }
             status
         }
@@ -277,7 +288,7 @@ fn serve<I: Inlet, O: Outlet + Write, E: Write>(
 }
 
 /// Says whether the older file was migrated, and gives the status.
-fn status_of_migration(
+fn report_migration(
     output: &mut impl Write,
     errors: &mut impl Write,
     outcome: Result<(), StoreFault>,
@@ -305,9 +316,10 @@ fn migrate_and_say(
     ensures { IsOfMigration result }
 {
     let outcome = migrate_file(rt, old, new, admin);
-    status_of_migration(output, errors, outcome)
+    report_migration(output, errors, outcome)
 }
 
+/// Does what the command line asks for, and gives the status.
 fn run<I: Inlet, O: Outlet + Write, E: Write>(
     rt: &HostRuntime,
     line: Line,

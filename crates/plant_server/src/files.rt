@@ -23,10 +23,13 @@ use sqlite::{Connection, Error, ErrorCode, FileFrom, FileStore, Start, Unknown};
 use std::fs;
 use std::io::ErrorKind;
 
+/// A fault of the store.
 pub const STORE: StoreFault = StoreFault::Fault(Fault::Store);
 
+/// Memory ran out.
 const MEMORY: StoreFault = StoreFault::Fault(Fault::Memory);
 
+/// What an error of the engine is reported as.
 pub fn fault_of(error: &Error) -> StoreFault
     ensures { result ≡ files.fault_of error.now }
 {
@@ -130,7 +133,7 @@ pub fn remove(rt: &HostRuntime, path: &str) -> Result<(), StoreFault> {
 fn make_whole(rt: &HostRuntime, path: &str, admin: Person) -> Result<(), StoreFault> {
     let conn = connect(rt, path, Unknown)?;
     match Tables::create(rt.alloc(), conn, admin) {
-        Ok(books) => books.close().close().map_err(|error| fault_of(&error)),
+        Ok(books) => close_file(books),
         Err(unopened) => Err(unopened.fault),
     }
 }
@@ -192,6 +195,6 @@ pub fn in_file<S: Start>(
 }
 
 /// Copies the log into the file. Where that fails, the log stays beside the file and is read when it is opened again.
-pub fn close_file<S: Start>(books: Tables<FileStore<FileFrom<S>>>) {
-    let _ = books.close().close();
+pub fn close_file<S: Start>(books: Tables<FileStore<FileFrom<S>>>) -> Result<(), StoreFault> {
+    books.close().close().map_err(|error| fault_of(&error))
 }
