@@ -181,6 +181,9 @@ const ENDED_GRANT: &str =
     r#"ste 09:00:00 POST /units/U1/grants {"person":"con","role":"Viewer","end":"2026-03-01T12:00:00Z"}
 200 {"done":true}
 
+ste 11:59:59 POST /units/U1/grants {"person":"con","role":"Viewer"}
+409 {"name":"AlreadyHeld","refused":14}
+
 con 11:59:59 GET /units/U1/alarms/PT-101
 200 {"limit":3600,"limit_revision":0,"out_of_service":false,"shelf":"Unshelved","shelf_left":0,"state":"Normal","suppressed":false,"suppressed_or_shelved":false,"tag":"PT-101"}
 

@@ -162,11 +162,16 @@ fn after_import<B: Books + Drop>(
 pub const TEN_THOUSAND: &str = r#"200 {"new":10000,"repeated":0}"#;
 
 /// The first and the last number of files that come once there are 100,000 events, and their answers.
-const FILES_WHEN_FULL: [(u32, u32, &str); 4] = [
+const FILES_WHEN_FULL: [(u32, u32, &str); 5] = [
     (90_001, 100_000, r#"200 {"new":0,"repeated":10000}"#),
     (7, 7, r#"200 {"new":0,"repeated":1}"#),
     (
         100_001,
+        100_001,
+        r#"409 {"name":"UnitFull","refused":6,"value":"Events"}"#,
+    ),
+    (
+        99_999,
         100_001,
         r#"409 {"name":"UnitFull","refused":6,"value":"Events"}"#,
     ),

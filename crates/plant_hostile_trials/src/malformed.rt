@@ -421,6 +421,18 @@ fn strange_bodies(rt: HostRuntime) {
     goes_on(&rt, &registration(&rt, no_text), answer);
 }
 
+/// A body without its length is read as the next request.
+#[test]
+fn a_body_without_its_length(rt: HostRuntime) {
+    let head: &[u8] =
+        b"POST /units/U1/grants HTTP/1.1\r\nX-Person: vic\r\nX-Moment: 2026-03-01T08:00:00Z\r\n\r\n";
+    let requests = joined(&rt, &[head, b"{\"person\":\"ann\"}\r\n\r\n"]);
+    let bad_body = answer_of(&rt, r#"400 {"cause":"BadBody","malformed":10}"#);
+    let no_head = answer_of(&rt, r#"400 {"cause":"HeadSyntax","malformed":1}"#);
+    let wanted = joined(&rt, &[bad_body.as_bytes(), no_head.as_bytes()]);
+    is_ended_over_both(&rt, &requests, &wanted, End::BrokenInput);
+}
+
 #[test]
 fn a_body_that_does_not_come_whole(rt: HostRuntime) {
     let request = b"POST /units/U1 HTTP/1.1\r\nContent-Length: 20\r\n\r\n1234567890123456789";

@@ -160,6 +160,7 @@ fn after_interruptions(
     for steps in 0..10_000u64 {
         let (answer, mut left) = limited(rt, books, steps, call);
         if let Some(answer) = answer {
+            assert!(rt; steps > 0, "not interrupted");
             is_wanted(rt, wanted, last, next, &answer);
             return left;
         }

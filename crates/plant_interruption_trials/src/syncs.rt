@@ -211,6 +211,7 @@ fn answers_nothing_after_a_failed_sync(rt: HostRuntime) {
     let wanted = Exchanges::of(rt.alloc(), &[BASE, SHELVED, LOOKED_AT]).expect(&rt, "exchanges");
     let Calls { calls, answers: _ } = calls_of(rt.alloc(), &wanted).expect(&rt, "calls");
     assert_eq!(rt; calls.len(), wanted.marks.len());
+    assert!(rt; books_over(&rt, failing(&rt, 8), failing(&rt, u64::MAX)).is_none());
     let faults = faults(&rt, &wanted, &calls);
     assert!(rt; faults > 8, "{faults}");
 }

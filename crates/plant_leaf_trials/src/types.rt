@@ -87,10 +87,16 @@ fn reads_and_copies_tags(rt: HostRuntime) {
 fn reads_and_copies_other_texts(rt: HostRuntime) {
     let alloc = rt.alloc();
     assert!(rt; is_read::<UnitCodeBytes>(&rt, alloc, b"U1"));
+    assert!(rt; is_read::<UnitCodeBytes>(&rt, alloc, &[b'U'; 8]));
+    assert!(rt; is_outside::<UnitCodeBytes>(&rt, alloc, &[b'U'; 9]));
     assert!(rt; is_outside::<UnitCodeBytes>(&rt, alloc, b"U-1"));
     assert!(rt; is_read::<PersonBytes>(&rt, alloc, b"ann.b-2"));
+    assert!(rt; is_read::<PersonBytes>(&rt, alloc, &[b'a'; 32]));
+    assert!(rt; is_outside::<PersonBytes>(&rt, alloc, &[b'a'; 33]));
     assert!(rt; is_outside::<PersonBytes>(&rt, alloc, b"Ann"));
     assert!(rt; is_read::<WordsBytes>(&rt, alloc, b"pump test ~"));
+    assert!(rt; is_read::<WordsBytes>(&rt, alloc, &[b'w'; 120]));
+    assert!(rt; is_outside::<WordsBytes>(&rt, alloc, &[b'w'; 121]));
     assert!(rt; is_outside::<WordsBytes>(&rt, alloc, b"pump\ttest"));
 }
 

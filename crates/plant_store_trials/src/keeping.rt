@@ -1,4 +1,4 @@
-//! Rows are kept by their keys, unit by unit, and none changes where a call is interrupted.
+//! Rows are kept by their keys, unit by unit, and none changes where a statement fails.
 
 use crate::fixtures::{
     at, changes, counts, event, is_last, opened, person, push_alarm, push_band, push_grant,
@@ -74,6 +74,11 @@ fn finds_what_a_person_holds(rt: HostRuntime) {
     };
     assert!(rt; first.roles.as_slice() == [Role::Viewer, Role::Operator].as_slice());
     assert!(rt; first.last.seconds() == 80);
+    let units = mine(&rt, alloc, &mut books, 100);
+    let [first, _] = units.as_slice() else {
+        rt.panic("two units")
+    };
+    assert!(rt; first.roles.as_slice() == [Role::Viewer].as_slice());
 }
 
 /// A unit with one shelf, and a grant to ann until this end.
@@ -165,7 +170,7 @@ fn too_wide(rt: &impl Abort, alloc: Global) -> List<RowEdit> {
 }
 
 #[test]
-fn changes_nothing_where_it_is_interrupted(rt: HostRuntime) {
+fn changes_nothing_where_a_value_is_too_wide(rt: HostRuntime) {
     let alloc = rt.alloc();
     let mut books = opened(&rt, alloc);
     let unit = unit(&rt, alloc, b"U1");

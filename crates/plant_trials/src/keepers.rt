@@ -271,15 +271,16 @@ pub fn check_keepers<A: Books + Drop, B: Books + Drop>(
     Ok(())
 }
 
-/// Whether both keepers hold the same rows, one after these exchanges and the other after those.
+/// Whether both keepers hold the same rows, one after these exchanges and the other after those, each answered as expected.
 pub fn are_left_alike<A: Books + Drop, B: Books + Drop>(
     alloc: Global,
     ours: A,
     theirs: B,
     these: &Exchanges,
     those: &Exchanges,
-) -> Result<bool, Fault> {
-    let (_, _, mut ours) = replays_on(alloc, ours, these.requests.as_bytes(), b"");
-    let (_, _, mut theirs) = replays_on(alloc, theirs, those.requests.as_bytes(), b"");
-    hold_alike(&mut ours, &mut theirs, &these.units)
+) -> Result<bool, Failure> {
+    let (first, second) = (these.answers.as_bytes(), those.answers.as_bytes());
+    let mut ours = after(alloc, ours, these.requests.as_bytes(), first)?;
+    let mut theirs = after(alloc, theirs, those.requests.as_bytes(), second)?;
+    Ok(hold_alike(&mut ours, &mut theirs, &these.units)?)
 }

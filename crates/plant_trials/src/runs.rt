@@ -152,12 +152,15 @@ pub fn check_run<B: Books + Drop>(
     check_rows(&mut ours, &mut theirs, &wanted.units)
 }
 
-/// So few that each example has units that do not fit beside one another.
+/// So few that the base office finds no room.
 const FEW_ROWS: u128 = 12;
 
-/// With rows at hand, many or few, a keeper answers as expected and holds what it holds without them.
+/// So few that of two units of an example one finds room at a time.
+const SOME_ROWS: u128 = 20;
+
+/// With rows at hand, many, some or few, a keeper answers as expected and holds what it holds without them.
 fn check_mirrors(alloc: Global, wanted: &Exchanges) -> Result<(), Failure> {
-    for limit in [MAX_ROWS_AT_HAND, FEW_ROWS] {
+    for limit in [MAX_ROWS_AT_HAND, SOME_ROWS, FEW_ROWS] {
         let ours = mirrored(alloc, lists(alloc)?, limit)?;
         check_keepers(alloc, ours, lists(alloc)?, wanted)?;
         let ours = mirrored(alloc, tables(alloc)?, limit)?;

@@ -73,6 +73,14 @@ fn outcome(rt: &impl Abort, alloc: Global, most: usize, fails_at: usize) -> Writ
     }
 }
 
+/// Whether the first so many answers were written, and nothing else.
+fn wrote_answers(rt: &impl Abort, alloc: Global, written: &Written, count: usize) -> bool {
+    let Some(answers) = ANSWERS.get(..count) else {
+        return false;
+    };
+    written.bytes.as_slice() == joined(rt, alloc, answers).as_slice()
+}
+
 /// With writes of so many bytes, each of this many writes fails in turn, and then none.
 fn stops_at_each_write(rt: &impl Abort, alloc: Global, most: usize, writes: usize) {
     let whole = joined(rt, alloc, &ANSWERS);
@@ -85,6 +93,10 @@ fn stops_at_each_write(rt: &impl Abort, alloc: Global, most: usize, writes: usiz
             "write {write} of {most}"
         );
         assert!(rt; most > 1 || stopped.bytes.len() == write, "write {write}");
+        assert!(rt;
+            most < 4096 || wrote_answers(rt, alloc, &stopped, write),
+            "write {write}"
+        );
     }
     let ended = outcome(rt, alloc, most, writes);
     assert_eq!(rt; ended.end, End::Closed);
