@@ -17,7 +17,7 @@ PutsRow row before after said = AreInOrder before → OnOk said (after ≡ put r
 abbrev pub MakesChange : {E : Type 0} → RowEdit → UnitRows → Result UnitRows E → Type 0
 MakesChange change before said = AreInOrder before → IfOk said (λ after. after ≡ changed change before)
 
--- a change that puts an event
+-- a change that puts an event, or a list of events, be it empty
 abbrev pub is_event_put : RowEdit → Bool
 is_event_put (Put (EventPut e)) = true
 is_event_put (PutEvents es) = true

@@ -69,7 +69,7 @@ is_held_in t p (Some rows) = list_any (is_held_by t p) rows.grants
 abbrev pub codes_held : Content → ℕ → Name → List Name
 codes_held m t p = filter_map (λ u. when (is_held_in t p (get m.units u)) u) (keys m.units)
 
--- the roles that the person holds in a unit at the moment, by number, and the unit's last moment
+-- the roles that the person holds in a unit at the moment, in the order of its grants
 abbrev pub roles_in : ℕ → Name → UnitRows → List Role
 roles_in t p rows = map (λ g. g.role_no) (filter (is_held_by t p) rows.grants)
 

@@ -52,4 +52,4 @@ listed_after opened u cs = put_row unit_cmp (λ o. o) (unit_after opened u cs) o
 pub record IsListed (administrator : Name) (opened : List OpenedUnit) (m : Content) : Type 0 where
   pub admin : administrator ≡ m.admin
   pub units : map (λ o. (o.unit, o.rows)) opened ≡ entries m.units
-  pub ordered : AllByRecursion (λ o. AreInOrder o.rows) opened
+  pub ordered : AllInOrder opened

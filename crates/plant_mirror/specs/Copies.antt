@@ -22,6 +22,7 @@ row_count rows =
     length rows.units + length rows.grants + length rows.alarms + length rows.shelves + length rows.events
     + length rows.bands + length rows.cells + length rows.records + length rows.changes
 
+-- how many rows all copies have
 abbrev pub rows_of_all : List Copy → ℕ
 rows_of_all [] = 0
 rows_of_all (copy ∷ copies) = row_count copy.1.rows + rows_of_all copies
@@ -36,6 +37,7 @@ pub record IsCopy (there : There) (copy : Copy) : Type 0 where
   pub same : option_map (seen copy.1.has_events) (there copy.0) ≡ Some copy.1.rows
   pub ordered : AreInOrder copy.1.rows
 
+-- each is a copy of what there is
 abbrev pub AreCopies : There → List Copy → Type 0
 AreCopies there [] = Unit {0}
 AreCopies there (copy ∷ copies) = IsCopy there copy × AreCopies there copies
@@ -52,7 +54,7 @@ StayCopiesWith copy before after = (there : There) → IsCopy there copy → Are
 abbrev pub DiffersAt : Name → There → There → Type 0
 DiffersAt unit there after = (u : Name) → same_name unit u ≡ false → after u ≡ there u
 
--- the books below hold the content, and under what their keeper knows of its premise the copies are true of it
+-- the books below hold the content, and if their keeper's premise holds the copies are true of it
 pub record IsMirrored (below : Content → Type 0) (is_honest : Type 0) (copies : List Copy) (m : Content) : Type 0 where
   pub held : below m
   pub copied : is_honest → AreCopies (get m.units) copies

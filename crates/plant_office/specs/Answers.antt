@@ -25,6 +25,7 @@ IfSaid (Replied r) P = P (Ok r)
 IfSaid (WasRefused r) P = P (Err r)
 IfSaid (Faulted f) P = Unit {0}
 
+-- what holds if the answer is a fault
 abbrev pub OnFault : Answer → Type 0 → Type 0
 OnFault (Faulted f) P = P
 OnFault _ P = Unit {0}

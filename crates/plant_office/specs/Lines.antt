@@ -9,6 +9,7 @@ use Rattle.plant_model.specs.Replies.{line_of}
 use Rattle.plant_model.specs.Shelves.{shelf_left}
 use Rattle.plant_model.specs.Worlds.{mine_line}
 
+-- the line of a unit of a person: its code and the roles held there
 abbrev pub line_of_mine : MineUnit → UnitLine
 line_of_mine u = record { unit = u.unit; roles = u.roles }
 

@@ -46,10 +46,11 @@ pub record IsRun (w : World) (calls : List Call) (answers : List Answer) (left :
   pub holds : Holds after (world_after w calls answers)
   pub legal : IsLegalWorld (world_after w calls answers)
 
--- how many of the answers are Store
+-- the answer is a fault of the store
 abbrev pub is_store : Answer → Bool
 is_store (Faulted Store) = true
 is_store _ = false
 
+-- how many of the answers are that
 abbrev pub stores_in : List Answer → ℕ
 stores_in answers = count_by is_store answers

@@ -165,8 +165,8 @@ fn reads_withdrawals(rt: HostRuntime) {
     assert!(rt; withdrawn.role == Role::Approver);
 }
 
-fn registration(alloc: Global, body: &[u8]) -> Option<Registration> {
-    read_registration(alloc, body).ok()
+fn registration_fault(alloc: Global, body: &[u8]) -> Option<BodyError> {
+    read_registration(alloc, body).err()
 }
 
 #[test]
@@ -174,18 +174,18 @@ fn reads_registrations(rt: HostRuntime) {
     let alloc = rt.alloc();
     let body = b"{\"tag\":\"PT-101\",\"latching\":false,\"max\":3600}";
     assert!(rt; body.len() == 44);
-    let found = registration(alloc, body).expect(&rt, "a registration");
+    let found = read_registration(alloc, body).expect(&rt, "a registration");
     assert!(rt; found.tag.as_bytes() == b"PT-101".as_slice());
     assert!(rt; !found.latching);
     assert!(rt; found.max.get() == 3600);
     let number = b"{\"tag\":\"PT-101\",\"latching\":0,\"max\":3600}";
-    assert!(rt; registration(alloc, number).is_none());
+    assert!(rt; registration_fault(alloc, number) == Some(BODY));
     let long = b"{\"tag\":\"PT-101\",\"latching\":true,\"max\":604801}";
-    assert!(rt; registration(alloc, long).is_none());
+    assert!(rt; registration_fault(alloc, long) == Some(BODY));
 }
 
 fn is_no_shelving(alloc: Global, body: &[u8]) -> bool {
-    read_timed_shelving(alloc, body).is_err()
+    read_timed_shelving(alloc, body).err() == Some(BODY)
 }
 
 #[test]
@@ -203,5 +203,5 @@ fn reads_shelvings(rt: HostRuntime) {
 fn reads_reasons(rt: HostRuntime) {
     let words = read_reason(rt.alloc(), b"{\"words\":\"a\\u0020b\"}").expect(&rt, "words");
     assert!(rt; words.as_bytes() == b"a b".as_slice());
-    assert!(rt; read_reason(rt.alloc(), b"{\"words\":\"\"}").is_err());
+    assert!(rt; read_reason(rt.alloc(), b"{\"words\":\"\"}").err() == Some(BODY));
 }

@@ -109,7 +109,7 @@ fn waits_for_a_whole_call(rt: HostRuntime) {
 }
 
 /// Targets and bodies of requests by root, and what they are read as.
-const POSTED: [(&[u8], &[u8], CallKind); 6] = [
+const POSTED: [(&[u8], &[u8], CallKind); 8] = [
     (
         b"/units/U1",
         b"{\"steward\":\"ste\",\"bands\":[300],\"cells\":[[\"P3\",\"P4\"],[\"P1\",\"P2\"]]}",
@@ -140,10 +140,20 @@ const POSTED: [(&[u8], &[u8], CallKind); 6] = [
         b"not read",
         CallKind::Unshelve,
     ),
+    (
+        b"/units/U1/alarms/PT-101/remove-from-service",
+        b"{\"words\":\"x\"}",
+        CallKind::RemoveFromService,
+    ),
+    (
+        b"/units/U1/alarms/PT-101/place-in-service",
+        b"",
+        CallKind::PlaceInService,
+    ),
 ];
 
 /// Questions, and what they are read as.
-const QUESTIONS: [(&[u8], CallKind); 3] = [
+const QUESTIONS: [(&[u8], CallKind); 6] = [
     (
         b"GET /units/U1/alarms/PT-101 HTTP/1.0\nx-moment:2026-03-01T08:00:00Z\nX-PERSON:ann\n\n",
         CallKind::Status,
@@ -155,6 +165,18 @@ const QUESTIONS: [(&[u8], CallKind); 3] = [
     (
         b"GET /units HTTP/1.0\nx-moment:2026-03-01T08:00:00Z\nX-PERSON:ann\n\n",
         CallKind::MyUnits,
+    ),
+    (
+        b"GET /units/U1/alarms HTTP/1.0\nx-moment:2026-03-01T08:00:00Z\nX-PERSON:ann\n\n",
+        CallKind::Alarms,
+    ),
+    (
+        b"GET /units/U1/standing HTTP/1.0\nx-moment:2026-03-01T08:00:00Z\nX-PERSON:ann\n\n",
+        CallKind::Standing,
+    ),
+    (
+        b"GET /shelves HTTP/1.0\nx-moment:2026-03-01T08:00:00Z\nX-PERSON:ann\n\n",
+        CallKind::MyShelves,
     ),
 ];
 

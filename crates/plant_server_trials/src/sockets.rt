@@ -99,17 +99,24 @@ fn serves_three_though_the_second_hangs_up(rt: HostRuntime) {
     assert!(rt; answers(&rt, rt.alloc(), third).as_slice() == shelved.answers.as_bytes());
 }
 
+/// A client that is silent after these bytes is given up, and the next one served.
+fn is_given_up(stop: &impl Abort, rt: &HostRuntime, bytes: &[u8]) {
+    let alloc = rt.alloc();
+    let opened = exchanges(rt, &[BASE]);
+    let (mut port, address) = listening(stop, rt, Some(Duration::from_secs(1)));
+    let silent = client(stop, rt, address, bytes);
+    let next = whole_client(stop, rt, address, opened.requests.as_bytes());
+    let (log, outcome) = log_of(rt, &mut port, lists(alloc).expect(stop, "lists"), 2);
+    assert!(stop; outcome.is_ok());
+    assert!(stop; is_text(&log, "connection 1 ReadFailed\nconnection 2 Closed\n"));
+    assert!(stop; answers(stop, alloc, silent).is_empty());
+    assert!(stop; answers(stop, alloc, next).as_slice() == opened.answers.as_bytes());
+}
+
 #[test]
 fn gives_a_silent_client_up(rt: HostRuntime) {
-    let opened = exchanges(&rt, &[BASE]);
-    let (mut port, address) = listening(&rt, &rt, Some(Duration::from_secs(1)));
-    let silent = client(&rt, &rt, address, b"");
-    let next = whole_client(&rt, &rt, address, opened.requests.as_bytes());
-    let (log, outcome) = log_of(&rt, &mut port, lists(rt.alloc()).expect(&rt, "lists"), 2);
-    assert!(rt; outcome.is_ok());
-    assert!(rt; is_text(&log, "connection 1 ReadFailed\nconnection 2 Closed\n"));
-    assert!(rt; answers(&rt, rt.alloc(), silent).is_empty());
-    assert!(rt; answers(&rt, rt.alloc(), next).as_slice() == opened.answers.as_bytes());
+    is_given_up(&rt, &rt, b"");
+    is_given_up(&rt, &rt, BEGUN);
 }
 
 /// The command line for a port and a store.

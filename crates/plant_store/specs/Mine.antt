@@ -43,7 +43,7 @@ line_cells l = Text l.unit ∷ role l.role_no ∷ open_number l.end_s ∷ number
 abbrev pub standing_lines : ℕ → List Line → List Line
 standing_lines t lines = filter (λ l. is_before t l.end_s) lines
 
--- each run of lines of one unit as one, with their roles
+-- a run of one line: its unit with its one role
 abbrev pub started : Line → MineUnit
 started l = record { unit = l.unit; roles = l.role_no ∷ []; last = l.last_s }
 
@@ -52,7 +52,7 @@ abbrev pub put_run : MineUnit → List MineUnit → List MineUnit
 put_run u [] = u ∷ []
 put_run u (v ∷ vs) = if same_name u.unit v.unit then (record { unit = u.unit; roles = u.roles ++ v.roles; last = u.last }) ∷ vs else u ∷ v ∷ vs
 
--- the runs of all lines
+-- each run of lines of one unit as one, with its roles
 abbrev pub runs_of : List Line → List MineUnit
 runs_of [] = []
 runs_of (l ∷ ls) = put_run (started l) (runs_of ls)

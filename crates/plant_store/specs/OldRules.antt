@@ -29,10 +29,12 @@ old_own_refusals f p t (TimedShelve u a d w) = unknown f a ∷ (nat_lt (limit_of
 old_own_refusals f p t (OneShotShelve u a w) = unknown f a ∷ (is_one_shot (shelf_now f a t), ConditionAlreadyShelved) ∷ []
 old_own_refusals f p t q = own_refusals f p t q
 
+-- refused where the role that is needed does not stand
 abbrev pub old_lacks_role : Facts → Name → Option Role → List (Bool × Refused)
 old_lacks_role f p None = []
 old_lacks_role f p (Some r) = (not (f.stands (p, r)), RoleLacking r) ∷ []
 
+-- all refusals of a call, in their order
 abbrev pub old_refusals : Facts → Call → List (Bool × Refused)
 old_refusals f c =
     (not (list_any (λ r. f.stands (c.person, r)) all_roles), NotGranted)
@@ -42,11 +44,12 @@ old_refusals f c =
 abbrev pub old_verdict : List Call → Call → Result Reply Refused
 old_verdict h c = refused_or (first_refusal (old_refusals (facts h) c)) (reply (facts h) c.moment c.request)
 
--- a request of schema 1 as the request of today that it stands for: an opening gives the greatest quota, a grant has no end
+-- what was said is of schema 1: an opening gives the greatest quota, a grant has no end
 abbrev pub was_said : Option Opening → Option (Pair × Said (Option ℕ)) → Bool
 was_said (Some o) pair = same_number o.quota max_quota
 was_said None pair = is_for_good pair
 
+-- a request of today that stands for one of schema 1
 abbrev pub is_of_old : Request → Bool
 is_of_old r = was_said (says r).opening (says r).pair
 

@@ -90,6 +90,7 @@ fn judge_own(alloc: Global, unit: &UnitRow, part: &UnitPart, call: &Call) -> Res
         Request::Floods { unit, begin, until } => {
             answer(alloc, floods(alloc, part, unit, *begin, *until))
         }
+        // Judged elsewhere: openings, imports, and what names no unit.
         Request::OpenUnit { .. } | Request::Import { .. } | Request::MyUnits | Request::MyShelves =>
             { answer(alloc, Ok(Ok(Reply::Done))) }
     }

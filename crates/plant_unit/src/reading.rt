@@ -21,14 +21,14 @@ use plant_ration::{Cell, ChangeKind, Sheet};
 use plant_types::{Duplicate, Fault, Tag};
 use std::alloc::Global;
 
-/// The row of an alarm's record.
+/// The row of an alarm's record. It looks at all of them, whatever their order.
 pub fn record_of<'a>(records: &'a [RecordEntry], tag: &Tag) -> Option<&'a RecordEntry>
     ensures { option_copied result ≡ row_at name_cmp record_tag tag.now records.now }
 {
     records.iter().find(|row| *tag == row.tag)
 }
 
-/// The row of the change of a number.
+/// The row of the change of a number. It looks at all of them, whatever their order.
 pub fn entry_of<'a>(changes: &'a [ChangeEntry], number: u32) -> Option<&'a ChangeEntry>
     ensures { option_copied result ≡ row_at nat_cmp change_number number changes.now }
 {
