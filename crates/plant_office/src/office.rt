@@ -129,10 +129,11 @@ impl<B: Books> Office<B> {
         let now = call.moment;
         let units = self.books.mine_units(&call.person, now)?;
         let last = latest(now, units.as_slice());
-        if last.seconds() > now.seconds() {
-            return Ok(Err(Refused::MomentBehind(last)));
+        if now.seconds() < last.seconds() {
+            Ok(Err(Refused::MomentBehind(last)))
+        } else {
+            Ok(Ok(Reply::Units(self.lines(units)?)))
         }
-        Ok(Ok(Reply::Units(self.lines(units)?)))
     }
 
     fn my_shelves(&mut self, call: &Call) -> Result<Result<Reply, Refused>, Fault>
