@@ -20,25 +20,57 @@ impl Same for GrantRow {
 
 impl Same for AlarmRow {
     fn is_same(&self, other: &AlarmRow) -> bool {
-        self.tag == other.tag && self.max_s == other.max_s && self.out_words == other.out_words
+        self.tag == other.tag
+            && self.latching == other.latching
+            && self.max_s == other.max_s
+            && self.max_rev == other.max_rev
+            && self.state_no == other.state_no
+            && self.suppressed == other.suppressed
+            && self.active_s == other.active_s
+            && self.return_s == other.return_s
+            && self.out_s == other.out_s
+            && self.out_by == other.out_by
+            && self.out_words == other.out_words
     }
 }
 
 impl Same for ShelfRow {
     fn is_same(&self, other: &ShelfRow) -> bool {
-        self.tag == other.tag && self.person == other.person && self.words == other.words
+        self.tag == other.tag
+            && self.one_shot == other.one_shot
+            && self.start_s == other.start_s
+            && self.until_s == other.until_s
+            && self.person == other.person
+            && self.words == other.words
     }
 }
 
 impl Same for RecordEntry {
     fn is_same(&self, other: &RecordEntry) -> bool {
-        self.tag == other.tag && self.change_no == other.change_no
+        self.tag == other.tag
+            && self.change_no == other.change_no
+            && self.rev == other.rev
+            && self.cell_no == other.cell_no
     }
 }
 
 impl Same for ChangeEntry {
     fn is_same(&self, other: &ChangeEntry) -> bool {
-        self.number == other.number && self.proposer == other.proposer
+        self.number == other.number
+            && self.proposer == other.proposer
+            && self.proposed_s == other.proposed_s
+            && self.kind_no == other.kind_no
+            && self.tag == other.tag
+            && self.base == other.base
+            && self.cause == other.cause
+            && self.consequence == other.consequence
+            && self.remedy == other.remedy
+            && self.severity == other.severity
+            && self.response_s == other.response_s
+            && self.max_s == other.max_s
+            && self.state_no == other.state_no
+            && self.decider == other.decider
+            && self.decided_s == other.decided_s
     }
 }
 
@@ -58,6 +90,7 @@ fn are_rows(some: &UnitRows, other: &UnitRows) -> bool {
     some.units.as_slice() == other.units.as_slice()
         && some.bands.as_slice() == other.bands.as_slice()
         && some.cells.as_slice() == other.cells.as_slice()
+        && some.events.as_slice() == other.events.as_slice()
         && are_same(&some.grants, &other.grants)
         && are_same(&some.alarms, &other.alarms)
         && are_same(&some.shelves, &other.shelves)

@@ -339,6 +339,7 @@ fn copies_nothing_where_a_write_is_interrupted(rt: HostRuntime) {
     let alloc = rt.alloc();
     for steps in 0..10_000u64 {
         if passes(&rt, alloc, older(&rt, alloc, ""), None, Some(steps)) {
+            assert!(rt; steps > 0);
             return;
         }
     }
