@@ -100,9 +100,9 @@ fn serves_three_though_the_second_hangs_up(rt: HostRuntime) {
 }
 
 /// A client that is silent after these bytes is given up, and the next one served.
-fn is_given_up(stop: &impl Abort, rt: &HostRuntime, bytes: &[u8]) {
+fn is_given_up(stop: &(impl Abort + AllocGlobal), rt: &HostRuntime, bytes: &[u8]) {
     let alloc = rt.alloc();
-    let opened = exchanges(rt, &[BASE]);
+    let opened = exchanges(stop, &[BASE]);
     let (mut port, address) = listening(stop, rt, Some(Duration::from_secs(1)));
     let silent = client(stop, rt, address, bytes);
     let next = whole_client(stop, rt, address, opened.requests.as_bytes());
