@@ -267,21 +267,13 @@ fn copies_nothing_of_a_store_that_is_spoiled(rt: HostRuntime) {
     }
 }
 
-/// Whether this store is migrated where each statement on it may take so many steps, and each on the new one as many as
-/// are given. If not, it is a fault of the store after which the new database has no table, and without limits the same
-/// call migrates it.
-fn passes(
-    rt: &impl Abort,
-    alloc: Global,
-    mut old: Connection<MemStore>,
-    steps: Option<u64>,
-    new_steps: Option<u64>,
-) -> bool
+/// Whether this store is migrated where each statement on it may take so many steps. If not, it is a fault of the store after
+/// which the new database has no table, and without a limit the same call migrates it.
+fn passes(rt: &impl Abort, alloc: Global, mut old: Connection<MemStore>, steps: u64) -> bool
     requires { HasNoTransaction old }
 {
-    let mut new = blank(rt, alloc);
-    old.set_step_limit(steps);
-    new.set_step_limit(new_steps);
+    let new = blank(rt, alloc);
+    old.set_step_limit(Some(steps));
     let mut back = match migrate(alloc, old, new, person(rt, alloc, b"root")) {
         Ok(_) => return true,
         Err(back) => back,
@@ -289,7 +281,6 @@ fn passes(
     assert!(rt; matches!(back.fault, StoreFault::Fault(Fault::Store)));
     assert!(rt; count_of_tables(&back.new) == 0);
     back.old.set_step_limit(None);
-    back.new.set_step_limit(None);
     let (mut old, books) = migrated(rt, alloc, back.old, back.new);
     assert_alike(rt, alloc, &mut old, &mut books.close());
     false
@@ -298,7 +289,7 @@ fn passes(
 /// With how many steps a statement on the older store the migration passes.
 fn steps_of(rt: &impl Abort, alloc: Global) -> u64 {
     for steps in 0..10_000u64 {
-        if passes(rt, alloc, older(rt, alloc, ""), Some(steps), None) {
+        if passes(rt, alloc, older(rt, alloc, ""), steps) {
             return steps;
         }
     }
@@ -326,24 +317,8 @@ fn copies_nothing_where_a_read_is_interrupted(rt: HostRuntime) {
     assert!(rt; steps > 0 && steps < 100);
     for statement in FURTHER.iter() {
         let longer = with_each(&rt, older(&rt, alloc, ""), statement, 100);
-        assert!(rt;
-            !passes(&rt, alloc, longer, Some(steps), None),
-            "{statement}"
-        );
+        assert!(rt; !passes(&rt, alloc, longer, steps), "{statement}");
     }
-}
-
-/// With each number of steps a statement on the new database, from none on, nothing is written or all.
-#[test]
-fn copies_nothing_where_a_write_is_interrupted(rt: HostRuntime) {
-    let alloc = rt.alloc();
-    for steps in 0..10_000u64 {
-        if passes(&rt, alloc, older(&rt, alloc, ""), None, Some(steps)) {
-            assert!(rt; steps > 0);
-            return;
-        }
-    }
-    rt.panic("no end")
 }
 
 /// A migration that runs out of memory and is made again: nothing was written then. `scripts/refuse-each` runs this test
