@@ -1,6 +1,6 @@
 //! Stores of schema 1 that are migrated, and what is refused.
 
-ghost use Rattle.std.specs.Prelude.{false};
+ghost use Rattle.std.specs.Prelude.{false, IfSome};
 ghost use Rattle.plant_store.specs.Reading.{HasNoTransaction};
 
 use crate::fixtures::{counts, made_by, opened, person, rows};
@@ -12,7 +12,7 @@ use plant_model::UnitRows;
 use plant_store::{StoreFault, Tables, migrate};
 use plant_types::Fault;
 use sqlite::{Alter, Connection, FileStore, Files, MemStore, Options};
-use sqlite_disk::Memory;
+use sqlite_disk::{Fuse, Memory};
 use std::alloc::Global;
 use std::process::Abort;
 
@@ -319,6 +319,55 @@ fn copies_nothing_where_a_read_is_interrupted(rt: HostRuntime) {
         let longer = with_each(&rt, older(&rt, alloc, ""), statement, 100);
         assert!(rt; !passes(&rt, alloc, longer, steps), "{statement}");
     }
+}
+
+/// A new database over a disk that fails after so many calls of each of its files, unless it can't be made.
+fn over_a_fuse(alloc: Global, calls: u64) -> Option<Connection<FileStore<Fuse<Memory>>>>
+    ensures { IfSome result (λ conn. HasNoTransaction conn) }
+{
+    let files = Files {
+        log: Fuse::new(Memory::new(alloc), calls),
+        db: Fuse::new(Memory::new(alloc), calls),
+    };
+    if !files.may_be_used() {
+        return None;
+    }
+    Connection::open_files(alloc, files, Options::new(7)).ok()
+}
+
+/// Whether a store of schema 1 is migrated to this database. If not, it is a fault of the store after which this has no table,
+/// and the older one can be migrated to another.
+fn passes_to<S: Alter + Drop>(rt: &impl Abort, alloc: Global, new: Connection<S>) -> bool
+    requires { HasNoTransaction new }
+{
+    let old = older(rt, alloc, "");
+    let back = match migrate(alloc, old, new, person(rt, alloc, b"root")) {
+        Ok(_) => return true,
+        Err(back) => back,
+    };
+    assert!(rt; matches!(back.fault, StoreFault::Fault(Fault::Store)));
+    assert!(rt; count_of_tables(&back.new) == 0);
+    let (mut old, books) = migrated(rt, alloc, back.old, blank(rt, alloc));
+    assert_alike(rt, alloc, &mut old, &mut books.close());
+    false
+}
+
+/// Each call on the disk of the new database fails in turn, with all calls after it.
+#[test]
+fn copies_nothing_where_the_new_disk_fails(rt: HostRuntime) {
+    let alloc = rt.alloc();
+    let mut has_failed = false;
+    for calls in 0..10_000u64 {
+        let Some(new) = over_a_fuse(alloc, calls) else {
+            continue;
+        };
+        if passes_to(&rt, alloc, new) {
+            assert!(rt; has_failed);
+            return;
+        }
+        has_failed = true;
+    }
+    rt.panic("no end")
 }
 
 /// A migration that runs out of memory and is made again: nothing was written then. `scripts/refuse-each` runs this test
