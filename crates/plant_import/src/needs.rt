@@ -1,6 +1,6 @@
 //! The kept events that an import needs.
 
-ghost use Rattle.std.specs.Prelude.{◌≡◌, ◌≤◌, IfOk, List, filter, length};
+ghost use Rattle.std.specs.Prelude.{◌≡◌, ◌≤◌, IfOk, List, filter, length, nat_lt, option_map, true, unwrap_or};
 ghost use Rattle.plant_alarm.specs.declared.event.Event.{Event as TheEvent};
 ghost use Rattle.plant_types.specs.Results.{OnlyMemory};
 ghost use Rattle.plant_import.specs.Numbers.{AreNumbered};
@@ -8,15 +8,25 @@ ghost use Rattle.plant_import.specs.Needed as needs;
 ghost use Rattle.plant_import.specs.Reached.{AreReached};
 
 use crate::numbers::has_number;
+use crate::relation::place_of;
 use plant_alarm::{Event, Number};
 use plant_types::{Fault, Tag};
 use std::alloc::Global;
 use std::collections::BTreeMap;
 
-fn is_before_all(event: &Event, rows: &[Event]) -> bool
-    ensures { result ≡ needs.is_before_all rows.now event.now }
+/// The least number of the rows.
+fn least_number(rows: &[Event]) -> Option<Number>
+    ensures { (k : TheEvent) → needs.is_before_all rows.now k
+        ≡ unwrap_or (option_map (λ least. nat_lt k.seq least) result) true }
 {
-    rows.iter().all(|row| event.seq < row.seq)
+    let mut least: Option<Number> = None;
+    for row in rows {
+        least = match least {
+            Some(number) if number < row.seq => Some(number),
+            _ => Some(row.seq),
+        };
+    }
+    least
 }
 
 /// How many of the kept events, which stand in rising number, come before every row.
@@ -25,7 +35,10 @@ fn count_before(kept: &[Event], rows: &[Event]) -> usize
     ensures value { AreNumbered kept.now
         → result ≡ length (filter (needs.is_before_all rows.now) kept.now) }
 {
-    kept.partition_point(|event| is_before_all(event, rows))
+    match least_number(rows) {
+        Some(least) => place_of(kept, least),
+        None => kept.len(),
+    }
 }
 
 fn from_last_before<'a>(kept: &'a [Event], rows: &[Event]) -> &'a [Event]

@@ -124,17 +124,6 @@ fn push_all(alloc: Global, all: &mut List<Event>, events: &[Event]) -> Result<()
     Ok(())
 }
 
-/// Adds the events themselves, without copies.
-fn append(all: &mut List<Event>, events: List<Event>) -> Result<(), Fault>
-    ensures value { OnOk result (all.new ≡ all.old ++ events) }
-    ensures err { OnlyMemory result }
-{
-    for event in events.into_vec() {
-        all.push(event)?;
-    }
-    Ok(())
-}
-
 /// The events without the first, where it has this number.
 fn without_first(events: &[Event], number: Number) -> &[Event]
     ensures { result.now ≡ numbers.behind_number number events.now }
@@ -191,15 +180,15 @@ fn come_after(events: &[Event], others: &[Event]) -> bool
 }
 
 /// Puts events, in any order, among the kept ones, which are in rising number. Its time is that of the new events
-/// where they come after all others, else that of going over the kept events once.
+/// where these rise and come after all others, else that of going over the kept events once.
 pub fn put_events(alloc: Global, kept: &mut List<Event>, more: &[Event]) -> Result<(), Fault>
     ensures value { AreNumbered kept.old → OnOk result (kept.new ≡ with_events kept.old more.now) }
     ensures err { OnlyMemory result }
 {
-    let rising = in_rising_number(alloc, duplicated(alloc, more)?)?;
-    if come_after(rising.as_slice(), kept.as_slice()) {
-        return append(kept, rising);
+    if rise(more) && come_after(more, kept.as_slice()) {
+        return push_all(alloc, kept, more);
     }
+    let rising = in_rising_number(alloc, duplicated(alloc, more)?)?;
     *kept = joined(alloc, kept.as_slice(), rising.as_slice())?;
     Ok(())
 }

@@ -3,7 +3,7 @@ use Rattle.std.proofs.Common.{ap, append-nil, append_assoc, arith, drop, get_or,
 use Rattle.std.proofs.lemmas.Bool.{cases_lt, le-ltb, lt-ltb, ltb-false, ltb-true}
 use Rattle.std.proofs.lemmas.List.Folds.{list_any-append}
 use Rattle.std.specs.List.{list_any}
-use Rattle.std.specs.List.Sorted.{IsPartitionPoint, IsPartitionedBy}
+use Rattle.std.specs.List.Sorted.{IsPartitionPoint}
 use Rattle.std.specs.Prelude.{Bool, List, None, Option, [], cond, false, filter, if◌then◌else◌, length, nat_lt, not, option_map, true, ℕ, ◌&&◌, ◌++◌, ◌+◌, ◌-◌, ◌<◌, ◌∷◌, ◌≡◌, ◌≤◌, ◌||◌}
 use Rattle.plant_alarm.specs.declared.event.Event.{Event}
 use Rattle.plant_import.proofs.public.Nearest.{order_below, other_number}
@@ -59,19 +59,6 @@ number_at : (n : ℕ) (es : List Event) → AllAbove event_number n es → (k : 
 number_at n [] h k d lt = absurd (omega arith)
 number_at n (x ∷ es) h zero d lt = h.0
 number_at n (x ∷ es) h (suc k) d lt = number_at n es h.1 k d (omega arith)
-
-numbers_rise : (es : List Event) → Rises event_number es → (i j : ℕ) (d : Event) → i < j → j < length es → (get_or es i d).seq < (get_or es j d).seq
-numbers_rise [] h i j d lt within = absurd (omega arith)
-numbers_rise (x ∷ es) h zero zero d lt within = absurd (omega (arith, lt))
-numbers_rise (x ∷ es) h zero (suc j) d lt within = number_at x.seq es h.0 j d (omega arith)
-numbers_rise (x ∷ es) h (suc i) zero d lt within = absurd (omega (arith, lt))
-numbers_rise (x ∷ es) h (suc i) (suc j) d lt within = numbers_rise es h.1 i j d (omega (arith, lt)) (omega arith)
-
-pub parted_before : (rows kept : List Event) → IsInOrder nat_cmp event_number kept → IsPartitionedBy (is_before_all rows) kept
-parted_before rows kept h i j d le lt e = by (cases_lt i j) where
-  by : (i < j) ⊎ (j ≤ i) → is_before_all rows (get_or kept i d) ≡ true
-  by (inl less) = before_more rows (get_or kept i d) (get_or kept j d) (let s = numbers_rise kept (rises_of event_number kept h) i j d less lt in omega (arith, s)) e
-  by (inr more) = let same : j ≡ i = omega (arith, le, more) in ap (λ k. is_before_all rows (get_or kept k d)) (sym same) ∙ e
 
 above_all : (rows : List Event) (k : Event) → is_before_all rows k ≡ true → Each (λ e. k.seq < e.seq) rows
 above_all [] k h = tt

@@ -1,10 +1,14 @@
-use Rattle.std.proofs.Common.{rules}
-use Rattle.std.proofs.lemmas.List.Sorted.{IsPartitionPoint-from_clause}
+use Rattle.std.proofs.Common.{arith, get_or, ◌∙◌}
+use Rattle.std.proofs.lemmas.Bool.{le-ltb, lt-ltb}
+use Rattle.std.specs.Prelude.{length}
 use Rattle.plant_import.specs.Needed.{is_before_all}
-use Rattle.plant_import.proofs.public.NeededLaws.{parted_before, parted_count}
+use Rattle.plant_import.proofs.public.NeededLaws.{parted_count}
 use Rattle.plant_import.proofs.needs.count_before.Goals as goal
 
-pub returns-clause-value : goal.returns-clause-value
-returns-clause-value c rising =
-    let part = IsPartitionPoint-from_clause (is_before_all c.args.rows.now) c.args.kept.now c.partition_point.result c.partition_point.ensures.partitioned (parted_before c.args.rows.now c.args.kept.now rising) (λ a r f' k. search rules) in
-    parted_count (is_before_all c.args.rows.now) c.args.kept.now c.partition_point.result part c.partition_point.ensures.bound
+pub returns-in-Some-clause-value : goal.returns-in-Some-clause-value
+returns-in-Some-clause-value c rising =
+    let place = c.place_of.ensures.place rising in
+    parted_count (is_before_all c.args.rows.now) c.args.kept.now c.place_of.result ((λ k d low high. c.in-Some.ensures (get_or c.args.kept.now k d) ∙ lt-ltb _ _ (place.0 k d low high)), (λ k d low high. c.in-Some.ensures (get_or c.args.kept.now k d) ∙ le-ltb _ _ (place.1 k d low high))) c.place_of.ensures.bound
+
+pub returns-in-None-clause-value : goal.returns-in-None-clause-value
+returns-in-None-clause-value c rising = parted_count (is_before_all c.args.rows.now) c.args.kept.now (length c.args.kept.now) ((λ k d low high. c.in-None.ensures (get_or c.args.kept.now k d)), (λ k d low high. absurd (omega (arith, low, high)))) (omega arith)
