@@ -124,7 +124,7 @@ records_by rows scope records = filter (λ r. (selection_by rows scope).rational
 abbrev pub GivesMatrices : {E : Type 0} → Scope → List UnitRow → Result (BTreeSet ℕ) E → Type 0
 GivesMatrices scope units said = (rows : UnitRows) → rows.units ≡ units → IfOk said (λ numbers. HasNumbers numbers (selection_by rows scope).matrix)
 
--- the numbers of the changes that a scope takes in of a unit, where of its records it takes in the same as of these
+-- the numbers of the changes that a scope takes in, of any unit of whose records it takes in the same ones as of these
 abbrev pub GivesChanges : {E : Type 0} → Scope → List RecordEntry → Result (BTreeSet ℕ) E → Type 0
 GivesChanges scope records said =
     (rows : UnitRows) → records_by rows scope rows.records ≡ records_by rows scope records

@@ -1,8 +1,8 @@
--- Which error of the database says that memory ran out.
+-- Which fault an error of the database is.
 use Rattle.sqlite.specs.declared.error.Error.{Error}
 use Rattle.sqlite.specs.declared.error.Error.TheVariants.{SqliteFailure}
 use Rattle.sqlite.specs.declared.error.ErrorCode.TheVariants.{OutOfMemory}
-use Rattle.std.specs.Prelude.{◌≡◌, ◌≢◌}
+use Rattle.std.specs.Prelude.{Err, IsErrAnd, Ok, Result, ◌≡◌, ◌≢◌}
 use Rattle.plant_types.specs.declared.fault.Fault.{Fault}
 use Rattle.plant_types.specs.declared.fault.Fault.TheVariants.{Memory, Store}
 
@@ -10,3 +10,8 @@ use Rattle.plant_types.specs.declared.fault.Fault.TheVariants.{Memory, Store}
 abbrev pub Names : Error → Fault → Type 0
 Names e Memory = e ≡ SqliteFailure OutOfMemory
 Names e Store = e ≢ SqliteFailure OutOfMemory
+
+-- what was found is said again, and an error as the fault that it is
+abbrev pub SaysAgain : {X : Type 0} → Result X Error → Result X Fault → Type 0
+SaysAgain (Ok found) again = again ≡ Ok found
+SaysAgain (Err e) again = IsErrAnd again (Names e)

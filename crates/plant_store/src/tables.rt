@@ -4,9 +4,9 @@ ghost use Rattle.std.specs.Prelude.{◌≡◌, ◌≢◌, ◌↔◌, ℕ, false,
 ghost use Rattle.sqlite.specs.Held.{state};
 ghost use Rattle.plant_books.specs.Books.{WasHonest};
 ghost use Rattle.plant_books.specs.Contents.{Content, no_units};
-ghost use Rattle.plant_books.specs.Counting.{CountsFault};
+ghost use Rattle.plant_books.specs.Counting.{Counts, CountsFault};
 ghost use Rattle.plant_store.specs.Changes.{IsHonest};
-ghost use Rattle.plant_store.specs.Counting.{Names};
+ghost use Rattle.plant_store.specs.Counting.{Names, SaysAgain};
 ghost use Rattle.plant_store.specs.Keeping.{Represents};
 ghost use Rattle.plant_columns.specs.Tables.{no_schema, schema_no};
 ghost use Rattle.plant_types.specs.declared.fault.Fault.TheVariants.{Store};
@@ -56,6 +56,21 @@ fn count_after(stores: u64, fault: &Fault) -> u64
     match fault {
         Fault::Memory => stores,
         Fault::Store => stores.saturating_add(1),
+    }
+}
+
+/// What a statement said. Where it failed that is a fault, and one of the store is counted.
+fn counted<T: Drop>(stores: &mut u64, said: Result<T, SqlError>) -> Result<T, Fault>
+    ensures said { SaysAgain said result }
+    ensures count { Counts stores.old stores.new result }
+{
+    match said {
+        Ok(found) => Ok(found),
+        Err(error) => {
+            let fault = fault_of(&error);
+            *stores = count_after(*stores, &fault);
+            Err(fault)
+        }
     }
 }
 
@@ -233,91 +248,43 @@ impl<S: Alter> Books for Tables<S> {
     }
 
     fn taken(&mut self, unit: &UnitCode) -> Result<bool, Fault> {
-        match unit::taken(self.alloc, &mut self.conn, unit) {
-            Ok(found) => Ok(found),
-            Err(error) => {
-                let fault = fault_of(&error);
-                self.stores = count_after(self.stores, &fault);
-                Err(fault)
-            }
-        }
+        let said = unit::taken(self.alloc, &mut self.conn, unit);
+        counted(&mut self.stores, said)
     }
 
     fn rows(&mut self, unit: &UnitCode) -> Result<Option<UnitRows>, Fault> {
-        match unit::rows_of(self.alloc, &mut self.conn, unit) {
-            Ok(found) => Ok(found),
-            Err(error) => {
-                let fault = fault_of(&error);
-                self.stores = count_after(self.stores, &fault);
-                Err(fault)
-            }
-        }
+        let said = unit::rows_of(self.alloc, &mut self.conn, unit);
+        counted(&mut self.stores, said)
     }
 
     fn rows_but_events(&mut self, unit: &UnitCode) -> Result<Option<UnitRows>, Fault> {
-        match unit::rows_but_events(self.alloc, &mut self.conn, unit) {
-            Ok(found) => Ok(found),
-            Err(error) => {
-                let fault = fault_of(&error);
-                self.stores = count_after(self.stores, &fault);
-                Err(fault)
-            }
-        }
+        let said = unit::rows_but_events(self.alloc, &mut self.conn, unit);
+        counted(&mut self.stores, said)
     }
 
     fn events(&mut self, unit: &UnitCode) -> Result<List<Event>, Fault> {
-        match unit::events(self.alloc, &mut self.conn, unit) {
-            Ok(found) => Ok(found),
-            Err(error) => {
-                let fault = fault_of(&error);
-                self.stores = count_after(self.stores, &fault);
-                Err(fault)
-            }
-        }
+        let said = unit::events(self.alloc, &mut self.conn, unit);
+        counted(&mut self.stores, said)
     }
 
     fn part(&mut self, call: &Call) -> Result<Option<UnitPart>, Fault> {
-        match part::part_of(self.alloc, &mut self.conn, call) {
-            Ok(found) => Ok(found),
-            Err(error) => {
-                let fault = fault_of(&error);
-                self.stores = count_after(self.stores, &fault);
-                Err(fault)
-            }
-        }
+        let said = part::part_of(self.alloc, &mut self.conn, call);
+        counted(&mut self.stores, said)
     }
 
     fn held(&mut self, person: &Person, now: Moment) -> Result<List<UnitCode>, Fault> {
-        match mine::held(self.alloc, &mut self.conn, person, now) {
-            Ok(found) => Ok(found),
-            Err(error) => {
-                let fault = fault_of(&error);
-                self.stores = count_after(self.stores, &fault);
-                Err(fault)
-            }
-        }
+        let said = mine::held(self.alloc, &mut self.conn, person, now);
+        counted(&mut self.stores, said)
     }
 
     fn mine_units(&mut self, person: &Person, now: Moment) -> Result<List<MineUnit>, Fault> {
-        match mine::mine_units(self.alloc, &mut self.conn, person, now) {
-            Ok(found) => Ok(found),
-            Err(error) => {
-                let fault = fault_of(&error);
-                self.stores = count_after(self.stores, &fault);
-                Err(fault)
-            }
-        }
+        let said = mine::mine_units(self.alloc, &mut self.conn, person, now);
+        counted(&mut self.stores, said)
     }
 
     fn mine_shelves(&mut self, person: &Person, now: Moment) -> Result<List<MineRow>, Fault> {
-        match shelves::mine_shelves(self.alloc, &mut self.conn, person, now) {
-            Ok(found) => Ok(found),
-            Err(error) => {
-                let fault = fault_of(&error);
-                self.stores = count_after(self.stores, &fault);
-                Err(fault)
-            }
-        }
+        let said = shelves::mine_shelves(self.alloc, &mut self.conn, person, now);
+        counted(&mut self.stores, said)
     }
 
     fn apply(
@@ -326,13 +293,7 @@ impl<S: Alter> Books for Tables<S> {
         changes: &Changes,
         seen: Option<&UnitRows>,
     ) -> Result<(), Fault> {
-        match write::apply(&mut self.conn, unit, changes.as_slice(), seen) {
-            Ok(()) => Ok(()),
-            Err(error) => {
-                let fault = fault_of(&error);
-                self.stores = count_after(self.stores, &fault);
-                Err(fault)
-            }
-        }
+        let said = write::apply(&mut self.conn, unit, changes.as_slice(), seen);
+        counted(&mut self.stores, said)
     }
 }

@@ -1,19 +1,20 @@
 use Rattle.sqlite.specs.Held.{state}
+use Rattle.plant_columns.specs.Tables.{AreBooks}
+use Rattle.plant_store.specs.Changes.{IsHonest}
+use Rattle.plant_store.proofs.SaidAgain.{again_left, again_made}
 use Rattle.plant_store.proofs.public.Contents.{keeps_after, keeps_same}
 use Rattle.plant_store.proofs.tables.TablesBooks.apply.Goals as goal
 
-pub returns-in-Ok-clause-made : goal.returns-in-Ok-clause-made
-returns-in-Ok-clause-made g c = λ m. rw (← c.self.view_is) (λ h known. (
+pub returns-clause-made : goal.returns-clause-made
+returns-clause-made g c = λ m. rw (← c.self.view_is) (λ h known. again_made c.apply-said.result c.counted.result c.counted.ensures.said (λ (w : IsHonest (state g.S.Store c.apply-said.new.conn) × AreBooks (state g.S.Store c.self.inside.conn).now). c.apply-said.ensures.made w.0 w.1) (λ made. (
   h.0,
   λ honest.
-      let old = state g.S.Store c.self.inside.conn in
-      let new = state g.S.Store c.apply.new.conn in
-      let k = h.1 (c.apply.ensures.honest honest) in
-      keeps_after old new m c.args.unit.now c.args.changes.now k known (rw c.as_slice.ensures at (c.in-Ok.ensures.made honest k.books)),
-))
+      let k = h.1 (c.apply-said.ensures.honest honest) in
+      keeps_after (state g.S.Store c.self.inside.conn) (state g.S.Store c.apply-said.new.conn) m c.args.unit.now c.args.changes.now k known (rw c.as_slice.ensures at (made (honest, k.books))),
+)))
 
-pub returns-in-Err-clause-unchanged : goal.returns-in-Err-clause-unchanged
-returns-in-Err-clause-unchanged g c = λ m. rw (← c.self.view_is) (λ h. (
+pub returns-clause-unchanged : goal.returns-clause-unchanged
+returns-clause-unchanged g c = λ m. rw (← c.self.view_is) (λ h. again_left c.apply-said.result c.counted.result c.counted.ensures.said c.apply-said.ensures.unchanged (λ left. (
   h.0,
-  λ honest. keeps_same (state g.S.Store c.self.inside.conn) (state g.S.Store c.apply.new.conn) m (h.1 (c.apply.ensures.honest honest)) (c.in-Err.ensures.unchanged honest),
-))
+  λ honest. keeps_same (state g.S.Store c.self.inside.conn) (state g.S.Store c.apply-said.new.conn) m (h.1 (c.apply-said.ensures.honest honest)) (left honest),
+)))
