@@ -13,7 +13,7 @@ use crate::at_hand::AtHand;
 use crate::copies::Copies;
 use plant_alarm::Event;
 use plant_books::{Books, MineRow, MineUnit, are_in_order, part_of, rows_but_events};
-use plant_model::{Call, Changes, UnitPart, UnitRows, looks_at_events};
+use plant_model::{Call, Changes, UnitPart, UnitRows, holds_some_by, looks_at_events};
 use plant_types::{Duplicate, Fault, List, Moment, Person, UnitCode};
 use std::alloc::Global;
 
@@ -201,6 +201,31 @@ impl<B: Books> Mirror<B> {
             None => self.books.part(call),
         }
     }
+
+    /// Makes the unit the one last used, where its rows are at hand and the caller holds a role in it.
+    fn touch_for(&mut self, unit: &UnitCode, part: &UnitPart, call: &Call)
+        ensures kept { (m : Content) → Mirrors B.Books self.old m → Mirrors B.Books self.new m }
+        ensures below { self.new.books ≡ self.old.books }
+    {
+        if holds_some_by(part.rows.grants.as_slice(), &call.person, call.moment) {
+            self.copies.touch(unit);
+        }
+    }
+
+    /// The part of a call on this unit from what is at hand, where its rows are brought if they are not there.
+    fn part_at_hand(&mut self, unit: &UnitCode, call: &Call) -> Result<Option<UnitPart>, Fault>
+        ensures found { (m : Content) → Mirrors B.Books self.old m → B.is_honest self.new.books
+            → unit_named call.now.request ≡ Some unit.now
+            → IfOk result (λ part. part ≡ part_in m call.now unit.now) }
+        ensures leaves { Leaves B.Books result self.old self.new }
+    {
+        if let Some(part) = self.ready_part(unit, call)? {
+            self.touch_for(unit, &part, call);
+            return Ok(Some(part));
+        }
+        self.prepare(unit, call)?;
+        self.part_of(unit, call)
+    }
 }
 
 impl<B: Books> Books for Mirror<B> {
@@ -246,12 +271,14 @@ impl<B: Books> Books for Mirror<B> {
         let Some(unit) = call.request.unit() else {
             return Ok(None);
         };
-        self.copies.touch(unit);
-        if let Some(part) = self.ready_part(unit, call)? {
-            return Ok(Some(part));
+        match self.part_at_hand(unit, call) {
+            // the rows of other units may hold the memory that this one lacks
+            Err(Fault::Memory) => {
+                self.copies.clear();
+                self.books.part(call)
+            }
+            said => said,
         }
-        self.prepare(unit, call)?;
-        self.part_of(unit, call)
     }
 
     fn held(&mut self, person: &Person, now: Moment) -> Result<List<UnitCode>, Fault> {
