@@ -35,6 +35,24 @@ pub trait Listener {
         ensures ok { OnOk result (failures self.new ≡ failures self.old) }
         ensures uncounted { OnErr result (accepted self.new ≡ accepted self.old) }
         ensures failed { OnErr result (failures self.new ≡ 1) };
+
+    /// Closes a connection whose client may still be sending, in such a way that what it was answered reaches it.
+    fn linger(requests: Self::Requests, answers: Self::Answers);
+}
+
+/// Whether the client may still be sending after this end: the office ended the session, and not because of a read or a write.
+fn may_send(end: End) -> bool {
+    match end {
+        End::BrokenInput | End::Fault => true,
+        End::Closed | End::ReadFailed | End::WriteFailed => false,
+    }
+}
+
+/// Closes the connection of a session that ended in this way.
+fn close<L: Listener>(requests: L::Requests, answers: L::Answers, end: End) {
+    if may_send(end) {
+        L::linger(requests, answers);
+    }
 }
 
 /// One session over the next connection, which is closed after it.
@@ -52,7 +70,9 @@ fn serve_next<L: Listener, B: Books>(
     ensures failed { OnErr result (L.failures listener.new ≡ 1) }
 {
     let (mut requests, mut answers) = listener.accept()?;
-    Ok(session(alloc, &mut requests, &mut answers, office))
+    let end = session(alloc, &mut requests, &mut answers, office);
+    close::<L>(requests, answers, end);
+    Ok(end)
 }
 
 #[tactic(auto, unfolding(crate::specs::Connections::line_of))]

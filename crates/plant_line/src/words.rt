@@ -1,4 +1,6 @@
-ghost use Rattle.std.specs.Prelude.{◌≡◌, None, Some, Err, IfOk, IfErr, IfSome};
+ghost use Rattle.std.specs.Prelude.{◌≡◌, None, Some, Err, IfOk, IfErr, IfSome, option_copied, option_map, string_bytes};
+ghost use Rattle.plant_line.specs.Lines as lines;
+ghost use Rattle.plant_line.specs.Lines.{IsTaskOf};
 ghost use Rattle.plant_types.specs.Text as names;
 
 use clap::builder::ValueParser;
@@ -87,7 +89,9 @@ fn person_of(alloc: Global, name: &[u8]) -> Result<Person, LineError>
     }
 }
 
+/// A copy of the path, if there is one.
 fn path_of(alloc: Global, path: Option<&str>) -> Result<Option<String>, LineError>
+    ensures copied { IfOk result (λ copy. option_map string_bytes copy ≡ option_copied path.entry) }
     ensures memory { IfErr result (λ e. e ≡ LineError.Memory) }
 {
     match path {
@@ -123,10 +127,17 @@ const FOREVER: u64 = u64::MAX;
 /// The default of `--idle` with `--forever`, in seconds.
 const FOREVER_IDLE: u64 = 30;
 
-fn service_of(matches: &ArgMatches<'_>) -> Option<Service> {
-    let port = matches.get_one::<u16>("port")?;
-    let idle = matches.get_one::<u64>("idle");
-    if matches.get_flag("forever") {
+/// How a port is served, from the values of its options; none without a port.
+fn service_from(
+    port: Option<u16>,
+    connections: Option<u64>,
+    forever: bool,
+    idle: Option<u64>,
+) -> Option<Service>
+    ensures { result ≡ lines.service_from port connections forever idle }
+{
+    let port = port?;
+    if forever {
         return Some(Service {
             port,
             connections: FOREVER,
@@ -135,9 +146,19 @@ fn service_of(matches: &ArgMatches<'_>) -> Option<Service> {
     }
     Some(Service {
         port,
-        connections: matches.get_one::<u64>("connections").unwrap_or(1),
+        connections: connections.unwrap_or(1),
         idle,
     })
+}
+
+/// How a port is served, from the options that were read.
+fn service_of(matches: &ArgMatches<'_>) -> Option<Service> {
+    service_from(
+        matches.get_one("port"),
+        matches.get_one("connections"),
+        matches.get_flag("forever"),
+        matches.get_one("idle"),
+    )
 }
 
 fn number_arg<'a>(
@@ -243,6 +264,8 @@ fn line_from(
     ensures outside { names.person_of name.now ≡ None → result ≡ Err LineError.NotAPerson }
     ensures refused { IfErr result (λ e. e ≡ LineError.NotAPerson
         → names.person_of name.now ≡ None) }
+    ensures task { IfOk result (λ line.
+        IsTaskOf (option_copied old.entry) (option_copied db.entry) service line.task) }
 {
     let admin = person_of(alloc, name)?;
     let old = path_of(alloc, old)?;

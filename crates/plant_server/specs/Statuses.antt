@@ -64,7 +64,8 @@ Whatever calls answers = Unit {0}
 abbrev pub IsOfPort : ExitStatus → Type 0
 IsOfPort n = (result : Result (Unit {0}) Failed) × (n ≡ served result)
 
--- over an office of which `ran` is true: one session ended, or the connections of a port were served
+-- Over an office of which `ran` is true: one session ended, or the connections of a port were served. Of those it says only what the
+-- office did for all of them together. How many there were is said by `serve_listener`; what came over a socket no contract knows.
 abbrev pub HasServed : (List Call → List Answer → Type 0) → Option Service → Option (List ℕ) → Option (List ℕ) → Option (List ℕ) → Option (List ℕ) → ExitStatus → Type 0
 HasServed ran None unread unread_after written written_after n =
     IsStreamed unread unread_after written written_after ran n
@@ -75,7 +76,8 @@ HasServed ran (Some service) unread unread_after written written_after n =
 abbrev pub IsOfMigration : ExitStatus → Type 0
 IsOfMigration n = (outcome : Result (Unit {0}) StoreFault) × (n ≡ status_of_migration outcome)
 
--- what a line's words ask for was done, or no books were opened for it; a migration reads no request
+-- What a line's words ask for was done, or no books were opened for it. A migration reads no request; which files it is of is not
+-- said here.
 abbrev pub IsFollowed : Task → Option (List ℕ) → Option (List ℕ) → Option (List ℕ) → Option (List ℕ) → ExitStatus → Type 0
 IsFollowed (Serve db service) unread unread_after written written_after n =
     (n ≡ status.NoBooks) ⊎ HasServed Whatever service unread unread_after written written_after n

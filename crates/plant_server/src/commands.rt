@@ -1,4 +1,5 @@
-ghost use Rattle.std.specs.Prelude.{◌≡◌, ◌⊎◌, [], IfErr, IfOk, IsSomeAnd, List};
+ghost use Rattle.std.specs.Duration.{as_nanos};
+ghost use Rattle.std.specs.Prelude.{◌≡◌, ◌⊎◌, ◌+◌, ◌*◌, [], IfErr, IfOk, IsSomeAnd, List, OnOk, option_map};
 ghost use Rattle.plant_books.specs.Books.{WasHonest};
 ghost use Rattle.plant_model.specs.declared.call.Call.{Call};
 ghost use Rattle.plant_model.specs.declared.reply.Answer.{Answer};
@@ -12,7 +13,7 @@ use crate::files::{close_file, in_file};
 use crate::migrations::migrate_file;
 use crate::sockets::Port;
 use crate::statuses::ExitStatus;
-use plant_connections::{end_name, say, serve_connections};
+use plant_connections::{Listener, end_name, say, serve_connections};
 use plant_line::{Line, LineError, Service, Task, line_of};
 use plant_mirror::{Copies, Mirror};
 use plant_office::{Books, Office};
@@ -99,6 +100,32 @@ fn say_address(alloc: Global, output: &mut impl Write, port: &Port) -> Result<()
     Ok(())
 }
 
+/// How long a client may be silent.
+fn patience(service: Service) -> Option<Duration>
+    ensures { option_map as_nanos result ≡ option_map (λ s. s * 1_000_000_000) service.idle }
+{
+    match service.idle {
+        None => None,
+        Some(seconds) => Some(Duration::from_secs(seconds)),
+    }
+}
+
+/// Serves as many connections of a listener as the service is to have.
+fn serve_listener<L: Listener, B: Books, W: Write>(
+    alloc: Global,
+    listener: &mut L,
+    office: &mut Office<B>,
+    service: Service,
+    output: &mut W,
+) -> Result<(), Failed>
+    ensures all { OnOk result
+        (L.accepted listener.new ≡ L.accepted listener.old + service.connections) }
+    ensures ran { (calls : List Call) × (answers : List Answer)
+        × RanOn B.Books office.old.books office.new.books calls answers }
+{
+    serve_connections(alloc, listener, service.connections, office, output)
+}
+
 /// Serves the connections of a port.
 fn serve_port<B: Books>(
     rt: &HostRuntime,
@@ -110,9 +137,9 @@ fn serve_port<B: Books>(
         × RanOn B.Books office.old.books office.new.books calls answers }
 {
     let alloc = rt.alloc();
-    let mut port = Port::listen(rt, service.port, service.idle.map(Duration::from_secs))?;
+    let mut port = Port::listen(rt, service.port, patience(service))?;
     say_address(alloc, output, &port)?;
-    serve_connections(alloc, &mut port, service.connections, office, output)
+    serve_listener(alloc, &mut port, office, service, output)
 }
 
 /// Serves the connections of a port; the status says whether all of them were served.
@@ -150,7 +177,26 @@ fn serve_office<B: Books, I: Inlet, O: Outlet + Write, E: Write>(
     }
 }
 
-/// Serves a port or the streams over these books with rows at hand, and gives the status and the books after it.
+/// Serves a port or the streams over these books, and gives the status and the books after it.
+fn serve_over<B: Books + Drop, I: Inlet, O: Outlet + Write, E: Write>(
+    rt: &HostRuntime,
+    books: B,
+    service: Option<Service>,
+    inlet: &mut I,
+    outlet: &mut O,
+    errors: &mut E,
+) -> (ExitStatus, B)
+    ensures { HasServed (RanOn B.Books books result.1) service
+        (I.remaining inlet.old) (I.remaining inlet.new)
+        (O.written outlet.old) (O.written outlet.new) result.0 }
+{
+    let mut office = Office::new(rt.alloc(), books);
+    let status = serve_office(rt, &mut office, service, inlet, outlet, errors);
+    let left = office.into_books();
+    (status, left)
+}
+
+/// The same over tables, with rows at hand.
 fn serve_at_hand<S: Alter + Drop, I: Inlet, O: Outlet + Write, E: Write>(
     rt: &HostRuntime,
     copies: Copies,
@@ -161,39 +207,14 @@ fn serve_at_hand<S: Alter + Drop, I: Inlet, O: Outlet + Write, E: Write>(
     errors: &mut E,
 ) -> (ExitStatus, Tables<S>)
     requires { copies.units.entries ≡ [] }
-    ensures ran { HasServed (RanOn ⟦<Tables<S> as Books>⟧ books result.1) service
+    ensures { HasServed (RanOn ⟦<Tables<S> as Books>⟧ books result.1) service
         (I.remaining inlet.old) (I.remaining inlet.new)
-        (O.written outlet.old) (O.written outlet.new) result.0 }
-    ensures served { HasServed Whatever service (I.remaining inlet.old) (I.remaining inlet.new)
         (O.written outlet.old) (O.written outlet.new) result.0 }
 {
     let mirror = Mirror::new(rt.alloc(), copies, books);
-    let mut office = Office::new(rt.alloc(), mirror);
-    let status = serve_office(rt, &mut office, service, inlet, outlet, errors);
-    let left = office.into_books();
+    let (status, left) = serve_over(rt, mirror, service, inlet, outlet, errors);
     let below = left.into_books();
     (status, below)
-}
-
-/// Serves a port or the streams over these books, every row read from them, and gives the status and the books after it.
-fn serve_bare<S: Alter + Drop, I: Inlet, O: Outlet + Write, E: Write>(
-    rt: &HostRuntime,
-    books: Tables<S>,
-    service: Option<Service>,
-    inlet: &mut I,
-    outlet: &mut O,
-    errors: &mut E,
-) -> (ExitStatus, Tables<S>)
-    ensures ran { HasServed (RanOn ⟦<Tables<S> as Books>⟧ books result.1) service
-        (I.remaining inlet.old) (I.remaining inlet.new)
-        (O.written outlet.old) (O.written outlet.new) result.0 }
-    ensures served { HasServed Whatever service (I.remaining inlet.old) (I.remaining inlet.new)
-        (O.written outlet.old) (O.written outlet.new) result.0 }
-{
-    let mut office = Office::new(rt.alloc(), books);
-    let status = serve_office(rt, &mut office, service, inlet, outlet, errors);
-    let left = office.into_books();
-    (status, left)
 }
 
 /// Serves a port or the streams over these books, with rows at hand if there is memory for them, and gives the status and the
@@ -216,7 +237,7 @@ fn serve_books<S: Alter + Drop, I: Inlet, O: Outlet + Write, E: Write>(
         Ok(copies) => serve_at_hand(rt, copies, books, service, inlet, outlet, errors),
         Err(_) => {
             say(errors, b"memory: no rows at hand\n");
-            serve_bare(rt, books, service, inlet, outlet, errors)
+            serve_over(rt, books, service, inlet, outlet, errors)
         }
     }
 }

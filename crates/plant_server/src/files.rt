@@ -30,7 +30,7 @@ pub const STORE: StoreFault = StoreFault::Fault(Fault::Store);
 const MEMORY: StoreFault = StoreFault::Fault(Fault::Memory);
 
 /// What an error of the engine is reported as.
-pub fn fault_of(error: &Error) -> StoreFault
+fn fault_of(error: &Error) -> StoreFault
     ensures { result ≡ files.fault_of error.now }
 {
     match error {

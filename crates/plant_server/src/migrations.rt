@@ -10,7 +10,7 @@ ghost use Rattle.plant_store.specs.Reading.{HasNoTransaction};
 ghost use Rattle.plant_store.specs.Upgrading.{HaveOldRows};
 
 use crate::files::{
-    NewNames, STORE, beside, connect, fault_of, is_there, length_of, new_names, put_in_place,
+    NewNames, STORE, beside, close_file, connect, is_there, length_of, new_names, put_in_place,
     remove,
 };
 use plant_store::{StoreFault, Tables, migrate};
@@ -129,13 +129,19 @@ fn close_whole(
     books: Tables<FileStore<File>>,
     new: &NewNames,
 ) -> Result<(), StoreFault> {
-    match books.close().close() {
-        Ok(()) => Ok(()),
-        Err(error) => {
-            discard(rt, new);
-            Err(fault_of(&error))
-        }
+    let closed = close_file(books);
+    if closed.is_err() {
+        discard(rt, new);
     }
+    closed
+}
+
+/// The name of the log of the file at this path. Where the path is a link, the log is beside the file that it leads to.
+fn log_of(rt: &HostRuntime, path: &str) -> Result<String, StoreFault> {
+    let Ok(file) = fs::canonicalize(rt, path) else {
+        return Err(STORE);
+    };
+    beside(rt, file.as_str(), "-wal")
 }
 
 /// Opens the older file and makes the new one from it. The older one is only read, and stays locked meanwhile. The engine
@@ -146,7 +152,7 @@ fn make_from(
     new: &NewNames,
     admin: Person,
 ) -> Result<(), StoreFault> {
-    let log = beside(rt, old_path, "-wal")?;
+    let log = log_of(rt, old_path)?;
     let had_log = length_of(rt, &log)?.is_some();
     let old = connect(rt, old_path, Unknown)?;
     let (old, made) = make_new(rt, old, old_path, new, admin);

@@ -3,11 +3,33 @@ ghost use Rattle.std.specs.Prelude.{if◌then◌else◌};
 use plant_connections::Listener;
 use plant_wire::{Failed, FromRead, ToWrite};
 use std::io;
-use std::net::{Ipv4Addr, SocketAddr, TcpListener, TcpStream};
+use std::io::{ErrorKind, Read};
+use std::net::{Ipv4Addr, Shutdown, SocketAddr, TcpListener, TcpStream};
 use std::time::Duration;
 
 /// How many connections in a row may fail before they can be served, until the port counts as failed.
 const ATTEMPTS: u32 = 100;
+
+/// At most how many reads are made of what a client still sends after its last answer.
+const LAST_READS: u32 = 256;
+
+/// At most how many seconds each of them waits.
+const LAST_WAIT: u64 = 1;
+
+/// The room that each of them is offered, in bytes.
+const LAST_ROOM: usize = 65536;
+
+/// Reads what is still sent and throws it away, until it ends, a read fails or waits too long, or `LAST_READS` were made.
+fn read_out(reader: &mut impl Read) {
+    let mut chunk = [0u8; LAST_ROOM];
+    for _ in 0..LAST_READS {
+        match reader.read(&mut chunk) {
+            Err(error) if error.kind() == ErrorKind::Interrupted => {}
+            Ok(0) | Err(_) => return,
+            Ok(_) => {}
+        }
+    }
+}
 
 /// A port of 127.0.0.1 that listens. Its connections send at once, and a read or a write fails after `idle`, if given.
 #[derive(Drop)]
@@ -83,6 +105,16 @@ impl Listener for Port {
                 self.failed = true;
                 Err(Failed)
             }
+        }
+    }
+
+    /// Ends the sending side alone and reads out what the client still sends: to close a socket with bytes unread would break
+    /// the connection, and the client might lose the answers that are on their way.
+    fn linger(requests: FromRead<TcpStream>, _answers: ToWrite<TcpStream>) {
+        let mut stream = requests.into_reader();
+        let wait = Some(Duration::from_secs(LAST_WAIT));
+        if stream.shutdown(Shutdown::Write).is_ok() && stream.set_read_timeout(wait).is_ok() {
+            read_out(&mut stream);
         }
     }
 }

@@ -132,6 +132,20 @@ fn refuses_files_of_others(rt: HostRuntime) {
     }
 }
 
+/// A log without its file is not taken for new books, and stays.
+#[test]
+fn makes_no_books_beside_a_log(rt: HostRuntime) {
+    assert!(rt; fs::write(&rt, "lone.db-wal", "a log").is_ok());
+    let refused = said_over(&rt, "root", "lone.db", OPENING);
+    assert!(rt; is_unready(&refused, "store: not this store\n"));
+    assert!(rt; !fs::exists(&rt, "lone.db").unwrap_or(true));
+    assert!(rt; !fs::exists(&rt, "lone.db.new").unwrap_or(true));
+    assert!(rt;
+        fs::read(&rt, "lone.db-wal").is_ok_and(|bytes| bytes.as_slice() == b"a log".as_slice())
+    );
+    assert!(rt; remove(&rt, "lone.db-wal"));
+}
+
 /// A link to books leads to them.
 #[test]
 fn follows_a_link_to_its_books(rt: HostRuntime) {

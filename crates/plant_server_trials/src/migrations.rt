@@ -10,6 +10,7 @@ use plant_trials::{after, root, text};
 use sqlite::{Alter, Connection, MemStore};
 use std::alloc::Global;
 use std::fs;
+use std::os::unix::fs::symlink;
 use std::process::Abort;
 
 /// The tables of schema 1.
@@ -185,7 +186,7 @@ fn migrates_a_file(rt: HostRuntime) {
     remove(&rt, &rt, new);
 }
 
-/// A file without a log is left without one.
+/// A file without a log is left without one, under its own name and through a link.
 #[test]
 fn leaves_no_log_beside_the_older_file(rt: HostRuntime) {
     let (old, new) = ("closed.db", "from-closed.db");
@@ -193,13 +194,52 @@ fn leaves_no_log_beside_the_older_file(rt: HostRuntime) {
     let conn = Connection::open(&rt, old).expect(&rt, "a file");
     conn.close().expect(&rt, "a closed file");
     fs::remove_file(&rt, "closed.db-wal").expect(&rt, "its log");
+    symlink(&rt, old, "to-closed.db").expect(&rt, "a link");
     let before = fs::read(&rt, old).expect(&rt, "a file");
-    assert!(rt; is_migrated(&said_of(&rt, "root", old, new)));
-    assert!(rt; fs::read(&rt, old).expect(&rt, "a file") == before);
-    assert!(rt; !fs::exists(&rt, "closed.db-wal").unwrap_or(true));
-    answers_as_before(&rt, &rt, new);
+    for path in [old, "to-closed.db"] {
+        assert!(rt; is_migrated(&said_of(&rt, "root", path, new)), "{path}");
+        assert!(rt; fs::read(&rt, old).expect(&rt, "a file") == before);
+        assert!(rt; !fs::exists(&rt, "closed.db-wal").unwrap_or(true), "{path}");
+        assert!(rt;
+            !fs::exists(&rt, "to-closed.db-wal").unwrap_or(true),
+            "{path}"
+        );
+        answers_as_before(&rt, &rt, new);
+        remove(&rt, &rt, new);
+    }
+    remove(&rt, &rt, "to-closed.db");
     remove(&rt, &rt, old);
-    remove(&rt, &rt, new);
+}
+
+/// A log that is there stays, also where the older file is reached through a link.
+#[test]
+fn leaves_the_log_of_the_older_file(rt: HostRuntime) {
+    make_older(&rt, &rt, "logged.db", "");
+    symlink(&rt, "logged.db", "to-logged.db").expect(&rt, "a link");
+    let before = bytes_of(&rt, &rt, "logged.db");
+    assert!(rt; is_migrated(&said_of(&rt, "root", "to-logged.db", "from-logged.db")));
+    assert!(rt; bytes_of(&rt, &rt, "logged.db") == before);
+    answers_as_before(&rt, &rt, "from-logged.db");
+    for path in ["to-logged.db", "from-logged.db", "logged.db"] {
+        remove(&rt, &rt, path);
+    }
+}
+
+/// No file is made whose log is there already.
+#[test]
+fn migrates_to_no_file_beside_a_log(rt: HostRuntime) {
+    make_older(&rt, &rt, "alone.old", "");
+    fs::write(&rt, "alone.db-wal", "a log").expect(&rt, "a file");
+    let before = bytes_of(&rt, &rt, "alone.old");
+    let refused = said_of(&rt, "root", "alone.old", "alone.db");
+    assert!(rt; is_refused(&refused, "store: fault\n"));
+    assert!(rt; bytes_of(&rt, &rt, "alone.old") == before);
+    assert!(rt; !fs::exists(&rt, "alone.db").unwrap_or(true));
+    assert!(rt; !fs::exists(&rt, "alone.db.new").unwrap_or(true));
+    let kept = fs::read(&rt, "alone.db-wal").expect(&rt, "a file");
+    assert!(rt; kept.as_slice() == b"a log".as_slice());
+    remove(&rt, &rt, "alone.db");
+    remove(&rt, &rt, "alone.old");
 }
 
 #[test]

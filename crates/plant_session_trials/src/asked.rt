@@ -72,6 +72,46 @@ vic 10:45:00 GET /units/U1/shelves
 vic 10:45:00 GET /shelves
 200 MINE vic AT 2026-03-01T10:45:00Z COUNT 0"#;
 
+/// Three units with a steward each.
+const OPENED: &str =
+    r#"root 08:00:00 POST /units/U1 {"steward":"ste","bands":[300],"cells":[["P3","P4"],["P1","P2"]]}
+200 {"done":true}
+
+root 08:00:00 POST /units/U2 {"steward":"ste","bands":[300],"cells":[["P3","P4"],["P1","P2"]]}
+200 {"done":true}
+
+root 08:00:00 POST /units/U3 {"steward":"ste","bands":[300],"cells":[["P3","P4"],["P1","P2"]]}
+200 {"done":true}"#;
+
+/// How many rows two such units have: each a row of its own, a grant, a band and four cells.
+const TWO_UNITS: u128 = 14;
+
+/// The steward asks for two units, a stranger for the first, and the steward for the third and for the second again.
+const LAST_USED: &str = r#"ste 09:00:00 GET /units/U1/standing
+200 STANDING U1 AT 2026-03-01T09:00:00Z COUNT 0
+
+ste 09:00:00 GET /units/U2/standing
+200 STANDING U2 AT 2026-03-01T09:00:00Z COUNT 0
+
+bob 09:00:00 GET /units/U1/standing
+403 {"name":"NotGranted","refused":3}
+
+ste 09:00:00 GET /units/U3/standing
+200 STANDING U3 AT 2026-03-01T09:00:00Z COUNT 0
+
+ste 09:00:00 GET /units/U2/standing
+200 STANDING U2 AT 2026-03-01T09:00:00Z COUNT 0"#;
+
+/// The steward asks for the first unit, for the second, and for the first again.
+const IN_TURN: &str = r#"ste 09:00:00 GET /units/U1/standing
+200 STANDING U1 AT 2026-03-01T09:00:00Z COUNT 0
+
+ste 09:00:00 GET /units/U2/standing
+200 STANDING U2 AT 2026-03-01T09:00:00Z COUNT 0
+
+ste 09:00:00 GET /units/U1/standing
+200 STANDING U1 AT 2026-03-01T09:00:00Z COUNT 0"#;
+
 /// How often rows, parts and shelves were asked for, how often all events of a unit among them, and how often they were changed.
 #[derive(Clone, Copy, PartialEq, Eq, Debug)]
 struct Count {
@@ -80,11 +120,13 @@ struct Count {
     changed: u64,
 }
 
-/// Books that count what they are asked for. Questions about a person's grants are not counted.
+/// Books that count what they are asked for, and that lack the memory for the rows of one unit. Questions about a person's grants
+/// are not counted.
 #[derive(Drop)]
 struct Counting<B: Books> {
     books: B,
     count: Count,
+    lacking: Option<UnitCode>,
 }
 
 impl<B: Books> Counting<B> {
@@ -98,6 +140,14 @@ impl<B: Books> Counting<B> {
         ensures { self.new.books ≡ self.old.books }
     {
         self.count.events = self.count.events.saturating_add(1);
+    }
+
+    /// Whether there is no memory for the rows of this unit.
+    fn is_lacking(&self, unit: &UnitCode) -> bool {
+        match &self.lacking {
+            Some(lacking) => *lacking == *unit,
+            None => false,
+        }
     }
 
     fn count_change(&mut self)
@@ -131,6 +181,9 @@ impl<B: Books> Books for Counting<B> {
 
     fn rows_but_events(&mut self, unit: &UnitCode) -> Result<Option<UnitRows>, Fault> {
         self.count_asked();
+        if self.is_lacking(unit) {
+            return Err(Fault::Memory);
+        }
         self.books.rows_but_events(unit)
     }
 
@@ -178,17 +231,19 @@ fn unasked(rt: &(impl Abort + AllocGlobal)) -> Counting<Plain> {
             events: 0,
             changed: 0,
         },
+        lacking: None,
     }
 }
 
-/// These books once the exchanges are answered over them as expected, with no rows at hand at first.
+/// These books once the exchanges are answered over them as expected, with no rows at hand at first and at most so many then.
 fn asked<B: Books + Drop>(
     rt: &(impl Abort + AllocGlobal),
     below: Counting<B>,
+    most: u128,
     texts: &[&str],
 ) -> Counting<B> {
     let wanted = Exchanges::of(rt.alloc(), texts).expect(rt, "exchanges");
-    let books = mirrored(rt.alloc(), below, MAX_ROWS_AT_HAND).expect(rt, "books with rows at hand");
+    let books = mirrored(rt.alloc(), below, most).expect(rt, "books with rows at hand");
     let (requests, answers) = (wanted.requests.as_bytes(), wanted.answers.as_bytes());
     let books = after(rt.alloc(), books, requests, answers).expect(rt, "answers");
     books.into_books()
@@ -196,7 +251,7 @@ fn asked<B: Books + Drop>(
 
 /// What the books below are asked for while these exchanges are answered as expected.
 fn count_of(rt: &(impl Abort + AllocGlobal), texts: &[&str]) -> Count {
-    asked(rt, unasked(rt), texts).count
+    asked(rt, unasked(rt), MAX_ROWS_AT_HAND, texts).count
 }
 
 #[test]
@@ -225,10 +280,32 @@ fn events_are_read_at_the_first_call_that_looks_at_them(rt: HostRuntime) {
 
 #[test]
 fn a_unit_is_read_once_and_for_no_stranger(rt: HostRuntime) {
-    let before = asked(&rt, unasked(&rt), &[BASE, SHELVED]);
+    let before = asked(&rt, unasked(&rt), MAX_ROWS_AT_HAND, &[BASE, SHELVED]);
     let count = before.count;
-    let after = asked(&rt, before, &[FIRST_ASKED]);
+    let after = asked(&rt, before, MAX_ROWS_AT_HAND, &[FIRST_ASKED]);
     // The part of the stranger's call, and then all rows but the events.
     assert_eq!(rt; after.count.asked, count.asked.saturating_add(2));
     assert_eq!(rt; after.count.events, count.events);
+}
+
+/// Where there is room for two units, the third takes the place of the one that was longest not used, even if a stranger has
+/// asked for it since.
+#[test]
+fn a_strangers_call_uses_no_unit(rt: HostRuntime) {
+    let before = asked(&rt, unasked(&rt), TWO_UNITS, &[OPENED]);
+    let count = before.count;
+    let after = asked(&rt, before, TWO_UNITS, &[LAST_USED]);
+    assert_eq!(rt; after.count.asked, count.asked.saturating_add(3));
+}
+
+/// Where the memory for the rows of a unit is lacking, its call is answered from the books below, and the rows of other units go.
+#[test]
+fn a_unit_that_finds_no_memory_is_answered(rt: HostRuntime) {
+    let mut before = asked(&rt, unasked(&rt), MAX_ROWS_AT_HAND, &[OPENED]);
+    let count = before.count;
+    let code = UnitCode::read(rt.alloc(), b"U2").expect(&rt, "memory");
+    before.lacking = Some(code.expect(&rt, "a code"));
+    let after = asked(&rt, before, MAX_ROWS_AT_HAND, &[IN_TURN]);
+    // The rows of the first unit, those of the second in vain, the second's part, and the rows of the first again.
+    assert_eq!(rt; after.count.asked, count.asked.saturating_add(4));
 }

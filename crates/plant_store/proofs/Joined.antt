@@ -35,7 +35,7 @@ use Rattle.plant_columns.specs.Tables.{books_schema, grant_shape, rows_seen, uni
 use Rattle.plant_columns.specs.Tables.Kept.{UnitKept, GrantKept}
 use Rattle.plant_store.specs.Texts.{mine_text}
 use Rattle.plant_store.proofs.public.Contents.{was_opened}
-use Rattle.plant_store.proofs.Meanings.{mine_is, mine_plain, mine_shows, mine_tests, order_3}
+use Rattle.plant_store.proofs.Meanings.{by_key, mine, mine_shows, mine_tests}
 use Rattle.plant_columns.proofs.public.ShapeLaws.{good}
 
 abbrev grant_key : List ℕ
@@ -70,7 +70,7 @@ equal_ties (Real n) Null h = absurd (true≢false (sym h))
 equal_ties (Text n) Null h = absurd (true≢false (sym h))
 equal_ties (Blob n) Null h = absurd (true≢false (sym h))
 
-same_unit : (p : List ℕ) (g u v : Row) → meets 3 1 mine_tests mine_shows order_3 grant_key (Text p ∷ []) g u ≡ true → meets 3 1 mine_tests mine_shows order_3 grant_key (Text p ∷ []) g v ≡ true → is_eq (by_columns (1 ∷ []) u v) ≡ true
+same_unit : (p : List ℕ) (g u v : Row) → meets 3 1 mine_tests mine_shows (by_key grant_shape) grant_key (Text p ∷ []) g u ≡ true → meets 3 1 mine_tests mine_shows (by_key grant_shape) grant_key (Text p ∷ []) g v ≡ true → is_eq (by_columns (1 ∷ []) u v) ≡ true
 same_unit p g u v h k =
     let first = equal_ties (column u 1) (column g 1) (both _ _ h) in
     let second = tied_back value_cmp_total (column v 1) (column g 1) (equal_ties (column v 1) (column g 1) (both _ _ k)) in
@@ -139,7 +139,7 @@ module _ (s : State) (m : Content) (k : HasContent s m) where
     nothing true = refl
     nothing false = refl
 
-    one_grant : (g : Row) → IsRowIn grant_shape g → (us : List Row) → map (λ (o : Output). o.1) (met 3 1 mine_tests mine_shows order_3 grant_key (Text p ∷ []) us g) ≡ cond (is_named p g) (map (out g) (filter (is_of (bytes (column g 1))) us)) []
+    one_grant : (g : Row) → IsRowIn grant_shape g → (us : List Row) → map (λ (o : Output). o.1) (met 3 1 mine_tests mine_shows (by_key grant_shape) grant_key (Text p ∷ []) us g) ≡ cond (is_named p g) (map (out g) (filter (is_of (bytes (column g 1))) us)) []
     one_grant g wf [] = sym (nothing (is_named p g))
     one_grant g wf (u ∷ us) = go (is_of q u) (is_named p g) refl refl (one_grant g wf us)
       where
@@ -149,12 +149,12 @@ module _ (s : State) (m : Content) (k : HasContent s m) where
         name : column g 1 ≡ Text (bytes (column g 1))
         name = grant_name g wf
 
-        meet : meets 3 1 mine_tests mine_shows order_3 grant_key (Text p ∷ []) g u ≡ (is_of (bytes (column g 1)) u && is_named p g)
+        meet : meets 3 1 mine_tests mine_shows (by_key grant_shape) grant_key (Text p ∷ []) g u ≡ (is_of (bytes (column g 1)) u && is_named p g)
         meet = ap₂ ◌&&◌ (equal_is (column u 1) (column g 1) (ap is_null name) ∙ ap (λ v. is_eq (value_cmp (column u 1) v)) name) (one_test (column g 2) p)
 
         go : (b c : Bool) → is_of (bytes (column g 1)) u ≡ b → is_named p g ≡ c
-            → map (λ (o : Output). o.1) (met 3 1 mine_tests mine_shows order_3 grant_key (Text p ∷ []) us g) ≡ cond (is_named p g) (map (out g) (filter (is_of (bytes (column g 1))) us)) []
-            → map (λ (o : Output). o.1) (met 3 1 mine_tests mine_shows order_3 grant_key (Text p ∷ []) (u ∷ us) g) ≡ cond (is_named p g) (map (out g) (filter (is_of (bytes (column g 1))) (u ∷ us))) []
+            → map (λ (o : Output). o.1) (met 3 1 mine_tests mine_shows (by_key grant_shape) grant_key (Text p ∷ []) us g) ≡ cond (is_named p g) (map (out g) (filter (is_of (bytes (column g 1))) us)) []
+            → map (λ (o : Output). o.1) (met 3 1 mine_tests mine_shows (by_key grant_shape) grant_key (Text p ∷ []) (u ∷ us) g) ≡ cond (is_named p g) (map (out g) (filter (is_of (bytes (column g 1))) (u ∷ us))) []
         go true true e f more = rw (meet, e, f) (ap (λ l. out g u ∷ l) (more ∙ ap (λ b. cond b (map (out g) (filter (is_of (bytes (column g 1))) us)) []) f))
         go true false e f more = rw (meet, e, f) (more ∙ ap (λ b. cond b (map (out g) (filter (is_of (bytes (column g 1))) us)) []) f)
         go false true e f more = rw (meet, e) more
@@ -167,11 +167,11 @@ module _ (s : State) (m : Content) (k : HasContent s m) where
         let cells : out g h.1 ≡ line_cells (line_at s.now.trees g) = λ i. grant_name g h.0 i ∷ ap (λ (r : Row). column r 3) h.0 i ∷ ap (λ (r : Row). column r 4) h.0 i ∷ (ap (λ (r : Row). column r 2) h.3 ∙ ap Rattle.plant_columns.specs.Codes.number (sym last)) i ∷ [] in
         ap (map (out g)) h.2 ∙ ap (λ c. c ∷ []) cells
 
-    lines_shown : (gs : List Row) → AllByRecursion HasUnit gs → map (λ (o : Output). o.1) (flat_map (met 3 1 mine_tests mine_shows order_3 grant_key (Text p ∷ []) (s.now.trees 1)) gs) ≡ map line_cells (map (line_at s.now.trees) (filter (is_named p) gs))
+    lines_shown : (gs : List Row) → AllByRecursion HasUnit gs → map (λ (o : Output). o.1) (flat_map (met 3 1 mine_tests mine_shows (by_key grant_shape) grant_key (Text p ∷ []) (s.now.trees 1)) gs) ≡ map line_cells (map (line_at s.now.trees) (filter (is_named p) gs))
     unfolding HasUnit
     lines_shown [] all = refl
     lines_shown (g ∷ gs) all =
-        map_append _ (met 3 1 mine_tests mine_shows order_3 grant_key (Text p ∷ []) (s.now.trees 1) g) _
+        map_append _ (met 3 1 mine_tests mine_shows (by_key grant_shape) grant_key (Text p ∷ []) (s.now.trees 1) g) _
         ∙ ap₂ ◌++◌ (one_grant g all.0.0 (s.now.trees 1)) (lines_shown gs all.1)
         ∙ go (is_named p g)
       where
@@ -181,7 +181,7 @@ module _ (s : State) (m : Content) (k : HasContent s m) where
 
     pub find_mine : (new : State) (rows : List Row) → Shown mine_text (Text p ∷ []) s new rows → rows ≡ map line_cells (lines_of p s.now.trees)
     find_mine new rows h =
-        let got = reads_as mine_text (Text p ∷ []) s new books_schema k.books.same_schema _ mine_is.0 mine_plain mine_is.1 rows h in
-        let whole = joins 3 1 mine_tests mine_shows order_3 grant_key (Text p ∷ []) (λ g h u v. refl) (1 ∷ []) (same_unit p) s.now.trees rows (k.books.tidy GrantKept).apart (k.books.tidy UnitKept).apart (got.answer Null) in
+        let got = reads_as mine_text (Text p ∷ []) s new books_schema k.books.same_schema _ mine.is mine.plain mine.unlisted rows h in
+        let whole = joins 3 1 mine_tests mine_shows (by_key grant_shape) grant_key (Text p ∷ []) (λ g h u v. refl) (1 ∷ []) (same_unit p) s.now.trees rows (k.books.tidy GrantKept).apart (k.books.tidy UnitKept).apart (got.answer Null) in
         whole ∙ lines_shown _ (all-sort (by_columns grant_key) (by_columns_total grant_key) HasUnit (s.now.trees 3) (all_from HasUnit (s.now.trees 3) has_unit))
         ∙ ap (λ gs. map line_cells (map (line_at s.now.trees) gs)) (sym (sort-filter (by_columns grant_key) (by_columns_total grant_key) (is_named p) (s.now.trees 3)))

@@ -45,7 +45,7 @@ use Rattle.plant_store.specs.declared.shelves.UnitShelf.{UnitShelf}
 use Rattle.plant_store.proofs.Blocks.{blocks, is_in, is_under}
 use Rattle.plant_store.proofs.Joined.{any_sorted, both, equal_ties, one_test}
 use Rattle.plant_store.proofs.LineLaws.{NotAbove, same_codes}
-use Rattle.plant_store.proofs.Meanings.{mine_shelves_is, mine_shelves_order, mine_shelves_plain, mine_shelves_shows, mine_shelves_tests, shelves_first_order, shelves_first_shows, shelves_first_tests}
+use Rattle.plant_store.proofs.Meanings.{mine_shelves, mine_shelves_order, mine_shelves_shows, mine_shelves_tests, shelves_first_order, shelves_first_shows, shelves_first_tests}
 use Rattle.plant_store.proofs.Turned.{turned_answer}
 use Rattle.plant_store.proofs.Queries.{is_named}
 
@@ -281,5 +281,5 @@ module _ (s : State) (m : Content) (k : HasContent s m) where
 
     pub find_mine_shelves : (new : State) (rows : List Row) → Shown mine_shelves_text (Text p ∷ []) s new rows → rows ≡ map shelf_line_cells (shelf_lines m p)
     find_mine_shelves new rows h =
-        let got = reads_as mine_shelves_text (Text p ∷ []) s new books_schema k.books.same_schema _ mine_shelves_is.0 mine_shelves_plain mine_shelves_is.1 rows h in
+        let got = reads_as mine_shelves_text (Text p ∷ []) s new books_schema k.books.same_schema _ mine_shelves.is mine_shelves.plain mine_shelves.unlisted rows h in
         lines_answered rows (turned_answer 7 3 shelves_first_tests shelves_first_shows shelves_first_order mine_shelves_tests mine_shelves_shows mine_shelves_order (Text p ∷ []) (λ r g. refl) (λ r g. refl) refl s.now.trees rows (got.answer Null))

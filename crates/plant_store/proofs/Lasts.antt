@@ -32,7 +32,7 @@ use Rattle.plant_columns.specs.Tables.{AreBooks, books_schema, rows_seen, change
 use Rattle.plant_columns.specs.Tables.Kept.{ChangeKept}
 use Rattle.plant_columns.proofs.public.ShapeLaws.{good}
 use Rattle.plant_store.specs.Texts.{last_change_text}
-use Rattle.plant_store.proofs.Meanings.{by_unit, falling_2, last_change_is, last_change_plain}
+use Rattle.plant_store.proofs.Meanings.{by_unit, falling_2, last_change}
 use Rattle.plant_store.proofs.Joined.{one_test}
 
 -- ---- lists the other way round
@@ -127,7 +127,7 @@ last_turned (x ∷ y ∷ ys) =
 find_last_change : (u : Name) (old new : State) → AreBooks old.now → (rows : List Row) → Shown last_change_text (Text u ∷ []) old new rows
     → rows ≡ map (λ (c : ChangeEntry). number c.number ∷ []) (option_to_list (slice_get (rows_seen u old.now.trees ChangeKept) (length (rows_seen u old.now.trees ChangeKept) - 1)))
 find_last_change u old new books rows h =
-    let got = reads_as last_change_text (Text u ∷ []) old new books_schema books.same_schema _ last_change_is.0 last_change_plain last_change_is.1 rows h in
+    let got = reads_as last_change_text (Text u ∷ []) old new books_schema books.same_schema _ last_change.is last_change.plain last_change.unlisted rows h in
     let key : List ℕ = 1 ∷ 2 ∷ [] in
     let drawn = λ (c : ChangeEntry). (let cells : Row = number c.number ∷ [] in cells) in
     let show = λ (r : Row). (shows 17 by_unit (col 1 2 ∷ []) falling_2 (Text u ∷ []) r).1 in

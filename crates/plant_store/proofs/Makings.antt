@@ -1,9 +1,8 @@
 -- The statements that make the tables.
 use Rattle.std.proofs.Common.{◌≡◌, ◌≢◌, ℕ, pos, List, [], ◌∷◌, ◌++◌, Ok, None, refl, sym, ap, ◌∙◌, subst, arith, false}
 use Rattle.std.specs.List.{AllByRecursion}
-use Rattle.sqlite.specs.Change.{created, next_tree, KeepsRows}
-use Rattle.sqlite.specs.Command.TheVariants.{CreateTable, Insert}
-use Rattle.sqlite.specs.Compile.{table_defined_by}
+use Rattle.sqlite.specs.Change.{next_tree, KeepsRows}
+use Rattle.sqlite.specs.Command.TheVariants.{Insert}
 use Rattle.sqlite.specs.Does.{Does, Tally, lacks_sequence}
 use Rattle.sqlite.specs.Edit.{edit_of, edited}
 use Rattle.sqlite.specs.Effect.{Database}
@@ -15,7 +14,7 @@ use Rattle.sqlite.specs.Source.TheVariants.{Values}
 use Rattle.sqlite.specs.State.{Executes, State, mode_of}
 use Rattle.sqlite.specs.Table.{Table}
 use Rattle.sqlite.specs.Tree.{Trees}
-use Rattle.sqlite.proofs.Callers.{IsPlain, command_of, runs_as, statement_of}
+use Rattle.sqlite.proofs.Callers.{runs_as, statement_of}
 use Rattle.sqlite_keyed.proofs.ListLemmas.{all-append}
 use Rattle.sqlite_value.specs.declared.value.Value.TheVariants.{Int, Null, Text}
 use Rattle.sqlite_value.specs.Order.{Row}
@@ -24,11 +23,11 @@ use Rattle.plant_columns.specs.Tidy.{IsTidy}
 use Rattle.plant_columns.proofs.public.Changes.{KeepsOthers, creates, indexes, lone_step, same_value, went}
 use Rattle.plant_columns.proofs.public.Family.{kept_at}
 use Rattle.plant_columns.proofs.public.Laws.{cast_int, cast_null}
-use Rattle.plant_store.specs.Making.{AreEmpty, AreNew}
-use Rattle.plant_columns.specs.Tables.{Kept, alarms_schema, alarm_shape, band_shape, bands_schema, books_schema, cell_shape, cells_schema, change_shape, changes_schema, event_shape, events_schema, grant_shape, grants_schema, no_schema, office_row, office_schema, office_table, record_shape, records_schema, shape, shelf_shape, shelves_schema, unit_shape, units_schema}
+use Rattle.plant_store.specs.Making.{AreEmpty, AreNew, schema_before, schema_with}
+use Rattle.plant_columns.specs.Tables.{Kept, books_schema, changes_schema, grant_shape, no_schema, office_row, office_schema, office_table, shape, unit_shape}
 use Rattle.plant_columns.specs.Tables.Kept.{UnitKept, GrantKept, AlarmKept, ShelfKept, BandKept, CellKept, EventKept, RecordKept, ChangeKept}
-use Rattle.plant_store.specs.Texts.{alarms_text, bands_text, by_person_text, cells_text, changes_text, events_text, grants_text, office_text, put_office_text, records_text, shelves_text, units_text}
-use Rattle.plant_store.proofs.Meanings.{alarms_created, alarms_is, alarms_made, alarms_plain, bands_created, bands_is, bands_made, bands_plain, by_person_created, by_person_is, by_person_made, by_person_plain, cells_created, cells_is, cells_made, cells_plain, changes_created, changes_is, changes_made, changes_plain, events_created, events_is, events_made, events_plain, grants_created, grants_is, grants_made, grants_plain, office_created, office_is, office_made, office_plain, put_office_is, put_office_plain, records_created, records_is, records_made, records_plain, shelves_created, shelves_is, shelves_made, shelves_plain, units_created, units_is, units_made, units_plain}
+use Rattle.plant_store.specs.Texts.{by_person_text, office_text, put_office_text, table_text}
+use Rattle.plant_store.proofs.Meanings.{Makes, by_person_created, by_person_made, by_person_means, by_person_whole, makes_office as office_means, makes_table, put_office}
 use Rattle.plant_columns.proofs.public.ShapeLaws.{all_listed}
 use Rattle.plant_store.proofs.Writes.{free}
 
@@ -36,50 +35,26 @@ still_empty : (ts : List Table) (old new : Trees) → KeepsRows ts old new → A
 still_empty [] old new kept none = tt
 still_empty (t ∷ ts) old new kept none = (kept.0 ∙ none.0, still_empty ts old new kept.1 none.1)
 
-makes : (text : List ℕ) (before after : Schema) (made last : Table) (tree : ℕ) → after.tables ≡ before.tables ++ last ∷ [] → last.tree ≡ tree
-    → command_of (understood before text) ≡ CreateTable → statement_of text (understood before text) ≡ text → IsPlain (understood before text)
-    → table_defined_by text ≡ Ok made → created before made ≡ after → next_tree before ≡ tree → lacks_sequence after ≡ false
+makes : (before : Schema) (text : List ℕ) (made : Table) (after : Schema) → Makes before text made after → (last : Table) → after.tables ≡ before.tables ++ last ∷ [] → next_tree before ≡ last.tree → lacks_sequence after ≡ false
     → (old new : State) → AreEmpty before old.now → (count : ℕ) → Executes text [] old new (Ok count) → AreEmpty after new.now
-makes text before after made last tree more its is whole plain defined is_after at free_ old new has count h =
-    let it = creates text before after made tree old new has.same_schema is whole plain defined is_after at free_ count h in
+makes before text made after it last more at free_ old new has count h =
+    let done = creates text before after made last.tree old new has.same_schema it.means.is it.whole it.means.plain it.defines it.leaves at free_ count h in
     record {
-      same_schema = it.schema;
-      empty = subst (AllByRecursion (λ t. new.now.trees t.tree ≡ [])) (sym more) (all-append (λ t. new.now.trees t.tree ≡ []) before.tables (last ∷ []) (still_empty before.tables old.now.trees new.now.trees it.kept has.empty) (ap new.now.trees its ∙ it.empty, tt));
+      same_schema = done.schema;
+      empty = subst (AllByRecursion (λ t. new.now.trees t.tree ≡ [])) (sym more) (all-append (λ t. new.now.trees t.tree ≡ []) before.tables (last ∷ []) (still_empty before.tables old.now.trees new.now.trees done.kept has.empty) (done.empty, tt));
     }
 
 pub makes_office : (old new : State) → AreEmpty no_schema old.now → (count : ℕ) → Executes office_text [] old new (Ok count) → AreEmpty office_schema new.now
-makes_office = makes office_text no_schema office_schema office_table office_table 0 refl refl office_is.0 office_is.1 office_plain office_made office_created refl refl
+makes_office = makes _ _ _ _ office_means office_table refl refl refl
 
-pub makes_units : (old new : State) → AreEmpty office_schema old.now → (count : ℕ) → Executes units_text [] old new (Ok count) → AreEmpty units_schema new.now
-makes_units = makes units_text office_schema units_schema _ (table_in unit_shape) 1 refl refl units_is.0 units_is.1 units_plain units_made units_created refl refl
-
-pub makes_grants : (old new : State) → AreEmpty units_schema old.now → (count : ℕ) → Executes grants_text [] old new (Ok count) → AreEmpty grants_schema new.now
-makes_grants = makes grants_text units_schema grants_schema _ (table_in grant_shape) 3 refl refl grants_is.0 grants_is.1 grants_plain grants_made grants_created refl refl
-
-pub makes_alarms : (old new : State) → AreEmpty grants_schema old.now → (count : ℕ) → Executes alarms_text [] old new (Ok count) → AreEmpty alarms_schema new.now
-makes_alarms = makes alarms_text grants_schema alarms_schema _ (table_in alarm_shape) 5 refl refl alarms_is.0 alarms_is.1 alarms_plain alarms_made alarms_created refl refl
-
-pub makes_shelves : (old new : State) → AreEmpty alarms_schema old.now → (count : ℕ) → Executes shelves_text [] old new (Ok count) → AreEmpty shelves_schema new.now
-makes_shelves = makes shelves_text alarms_schema shelves_schema _ (table_in shelf_shape) 7 refl refl shelves_is.0 shelves_is.1 shelves_plain shelves_made shelves_created refl refl
-
-pub makes_bands : (old new : State) → AreEmpty shelves_schema old.now → (count : ℕ) → Executes bands_text [] old new (Ok count) → AreEmpty bands_schema new.now
-makes_bands = makes bands_text shelves_schema bands_schema _ (table_in band_shape) 9 refl refl bands_is.0 bands_is.1 bands_plain bands_made bands_created refl refl
-
-pub makes_cells : (old new : State) → AreEmpty bands_schema old.now → (count : ℕ) → Executes cells_text [] old new (Ok count) → AreEmpty cells_schema new.now
-makes_cells = makes cells_text bands_schema cells_schema _ (table_in cell_shape) 11 refl refl cells_is.0 cells_is.1 cells_plain cells_made cells_created refl refl
-
-pub makes_events : (old new : State) → AreEmpty cells_schema old.now → (count : ℕ) → Executes events_text [] old new (Ok count) → AreEmpty events_schema new.now
-makes_events = makes events_text cells_schema events_schema _ (table_in event_shape) 13 refl refl events_is.0 events_is.1 events_plain events_made events_created refl refl
-
-pub makes_records : (old new : State) → AreEmpty events_schema old.now → (count : ℕ) → Executes records_text [] old new (Ok count) → AreEmpty records_schema new.now
-makes_records = makes records_text events_schema records_schema _ (table_in record_shape) 15 refl refl records_is.0 records_is.1 records_plain records_made records_created refl refl
-
-pub makes_changes : (old new : State) → AreEmpty records_schema old.now → (count : ℕ) → Executes changes_text [] old new (Ok count) → AreEmpty changes_schema new.now
-makes_changes = makes changes_text records_schema changes_schema _ (table_in change_shape) 17 refl refl changes_is.0 changes_is.1 changes_plain changes_made changes_created refl refl
+-- by computing, for each table
+pub makes_each : (i : Kept) (old new : State) → AreEmpty (schema_before i) old.now → (count : ℕ) → Executes (table_text i) [] old new (Ok count) → AreEmpty (schema_with i) new.now
+makes_each UnitKept = makes _ _ _ _ (makes_table UnitKept) (table_in unit_shape) refl refl refl
+makes_each i = makes _ _ _ _ (makes_table i) (table_in (shape i)) refl refl refl
 
 pub makes_index : (old new : State) → AreEmpty changes_schema old.now → (count : ℕ) → Executes by_person_text [] old new (Ok count) → AreEmpty books_schema new.now
 makes_index old new has count h =
-    let it = indexes by_person_text changes_schema books_schema 2 (table_in grant_shape) _ old new has.same_schema refl by_person_is.0 by_person_is.1 by_person_plain by_person_made by_person_created count h in
+    let it = indexes by_person_text changes_schema books_schema 2 (table_in grant_shape) _ old new has.same_schema refl by_person_means.is by_person_whole by_person_means.plain by_person_made by_person_created count h in
     record { same_schema = it.schema; empty = still_empty changes_schema.tables old.now.trees new.now.trees it.kept has.empty }
 
 -- ---- the office's row
@@ -100,21 +75,14 @@ empty_at ChangeKept db h = h.empty.1.1.1.1.1.1.1.1.1.0
 
 not_office : (i : Kept) → (shape i).tree ≢ 0
 not_office UnitKept e = omega arith
-not_office GrantKept e = omega arith
-not_office AlarmKept e = omega arith
-not_office ShelfKept e = omega arith
-not_office BandKept e = omega arith
-not_office CellKept e = omega arith
-not_office EventKept e = omega arith
-not_office RecordKept e = omega arith
-not_office ChangeKept e = omega arith
+not_office i e = omega arith
 
 pub makes_new : (admin : List ℕ) (old new : State) → AreEmpty books_schema old.now → (count : ℕ) → Executes put_office_text (Text admin ∷ []) old new (Ok count) → AreNew admin new.now
 makes_new admin old new has count h =
     let params : Row = Text admin ∷ [] in
     let db = old.now.trees in
     let command = Insert 0 (Values (Rattle.sqlite.specs.Term.lit (Int (pos 1)) ∷ Rattle.sqlite.specs.Term.lit Null ∷ Rattle.sqlite.specs.Term.lit (Int (pos 2)) ∷ Rattle.sqlite.specs.Term.col 0 0 ∷ []) 4) in
-    let w = runs_as put_office_text params old new books_schema has.same_schema command put_office_is put_office_plain count h in
+    let w = runs_as put_office_text params old new books_schema has.same_schema command put_office.is put_office.plain count h in
     let text = statement_of put_office_text (understood books_schema put_office_text) in
     let done = went (subst (λ s. Does old.step_limit (mode_of old) params (record old.now { schema = s }) text None command (Ok (w.tally, new.now))) has.same_schema w.changed) in
     let now : new.now ≡ record { schema = books_schema; trees = done.0.trees } = ap (λ (p : Tally × Database). p.1) (same_value (went (went done.2).2).2) in

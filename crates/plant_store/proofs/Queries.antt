@@ -1,5 +1,5 @@
 -- The statements that read one unit's rows of one table.
-use Rattle.std.proofs.Common.{◌≡◌, ℕ, Bool, true, false, ◌&&◌, List, [], ◌∷◌, map, filter, Ok, Err, Result, IfOk, refl, sym, ap, ap₂, ◌∙◌, is_eq}
+use Rattle.std.proofs.Common.{◌≡◌, ℕ, Bool, true, false, ◌&&◌, List, [], ◌∷◌, drop, length, suc, map, filter, Ok, Err, Result, IfOk, refl, sym, ap, ap₂, ◌∙◌, is_eq}
 use Rattle.std.specs.Cmp.{eq_by_cmp_equiv}
 use Rattle.std.specs.Cmp.Lexicographic.{nat_list_cmp_total}
 use Rattle.std.proofs.lemmas.Cmp.{nat_cmp_total}
@@ -20,11 +20,11 @@ use Rattle.plant_columns.proofs.public.Keys.{equal_is}
 use Rattle.plant_columns.proofs.public.Shapes.{finds_rows, shown_kept}
 use Rattle.plant_columns.specs.Codes.{number}
 use Rattle.plant_columns.specs.Shown.{columns}
-use Rattle.plant_columns.specs.Tables.{AreBooks, KeyOf, RowOf, books_schema, shape, rows_seen, unit_shape, grant_shape, alarm_shape, shelf_shape, band_shape, cell_shape, event_shape, record_shape, change_shape}
-use Rattle.plant_columns.specs.Tables.Kept.{UnitKept, GrantKept, AlarmKept, ShelfKept, BandKept, CellKept, EventKept, RecordKept, ChangeKept}
+use Rattle.plant_columns.specs.Tables.{AreBooks, Kept, KeyOf, RowOf, books_schema, shape, rows_seen, grant_shape, alarm_shape, shelf_shape, band_shape, cell_shape, record_shape, change_shape}
+use Rattle.plant_columns.specs.Tables.Kept.{UnitKept, GrantKept, AlarmKept, ShelfKept, BandKept, CellKept, RecordKept, ChangeKept}
 use Rattle.plant_store.specs.Statements.{Reads}
-use Rattle.plant_store.specs.Texts.{units_of_text, grants_of_text, alarms_of_text, shelves_of_text, bands_of_text, cells_of_text, events_of_text, own_grants_text, alarm_at_text, shelf_at_text, tags_of_text, shelf_tags_text, records_of_text, changes_of_text, record_at_text, bands_at_text, cells_at_text, change_at_text}
-use Rattle.plant_store.proofs.Meanings.{by_unit, order_1, order_2, order_3, order_4, unit_shows, grant_shows, alarm_shows, shelf_shows, band_shows, cell_shows, event_shows, unit_names, grant_names, alarm_names, shelf_names, band_names, cell_names, event_names, units_of_is, grants_of_is, alarms_of_is, shelves_of_is, bands_of_is, cells_of_is, events_of_is, own_grants_is, alarm_at_is, shelf_at_is, tags_of_is, shelf_tags_is, units_of_plain, grants_of_plain, alarms_of_plain, shelves_of_plain, bands_of_plain, cells_of_plain, events_of_plain, own_grants_plain, alarm_at_plain, shelf_at_plain, tags_of_plain, shelf_tags_plain, record_shows, record_names, change_shows, change_names, records_of_is, records_of_plain, changes_of_is, changes_of_plain, record_at_is, record_at_plain, bands_at_is, bands_at_plain, cells_at_is, cells_at_plain, change_at_is, change_at_plain}
+use Rattle.plant_store.specs.Texts.{own_grants_text, alarm_at_text, shelf_at_text, tags_of_text, shelf_tags_text, record_at_text, bands_at_text, cells_at_text, change_at_text, rows_text}
+use Rattle.plant_store.proofs.Meanings.{by_key, by_unit, lists_alarm, lists_all, lists_bands, lists_cells, lists_change, lists_own_grants, lists_record, lists_shelf, shelf_tags, tags_of}
 use Rattle.plant_store.proofs.Reading.{reads_all, reads_some}
 use Rattle.plant_columns.proofs.public.ShapeLaws.{good, numbers}
 
@@ -59,85 +59,67 @@ numbered_same m n = ap is_eq (numbers m n) ∙ (eq_by_cmp_equiv nat_cmp_total).s
 
 -- ---- all rows of a unit
 
-pub units_read : (u : Name) → Reads 4 unit_shape.cells (λ trees. rows_seen u trees UnitKept) (Text u ∷ []) units_of_text
-units_read u = reads_all RowOf KeyOf shape good books_schema UnitKept 4 (λ x. refl) units_of_text unit_shows order_1 unit_names units_of_is units_of_plain u refl (λ r. one_test (column r 1) u) (λ id v x. refl)
+-- how many columns a table has of its own
+abbrev pub own_width : Kept → ℕ
+own_width i = length (drop 1 (shape i).columns)
 
-pub grants_read : (u : Name) → Reads 3 grant_shape.cells (λ trees. rows_seen u trees GrantKept) (Text u ∷ []) grants_of_text
-grants_read u = reads_all RowOf KeyOf shape good books_schema GrantKept 3 (λ x. refl) grants_of_text grant_shows order_3 grant_names grants_of_is grants_of_plain u refl (λ r. one_test (column r 1) u) (λ id v x. refl)
-
-pub alarms_read : (u : Name) → Reads 11 alarm_shape.cells (λ trees. rows_seen u trees AlarmKept) (Text u ∷ []) alarms_of_text
-alarms_read u = reads_all RowOf KeyOf shape good books_schema AlarmKept 11 (λ x. refl) alarms_of_text alarm_shows order_2 alarm_names alarms_of_is alarms_of_plain u refl (λ r. one_test (column r 1) u) (λ id v x. refl)
-
-pub shelves_read : (u : Name) → Reads 6 shelf_shape.cells (λ trees. rows_seen u trees ShelfKept) (Text u ∷ []) shelves_of_text
-shelves_read u = reads_all RowOf KeyOf shape good books_schema ShelfKept 6 (λ x. refl) shelves_of_text shelf_shows order_2 shelf_names shelves_of_is shelves_of_plain u refl (λ r. one_test (column r 1) u) (λ id v x. refl)
-
-pub bands_read : (u : Name) → Reads 3 band_shape.cells (λ trees. rows_seen u trees BandKept) (Text u ∷ []) bands_of_text
-bands_read u = reads_all RowOf KeyOf shape good books_schema BandKept 3 (λ x. refl) bands_of_text band_shows order_3 band_names bands_of_is bands_of_plain u refl (λ r. one_test (column r 1) u) (λ id v x. refl)
-
-pub cells_read : (u : Name) → Reads 4 cell_shape.cells (λ trees. rows_seen u trees CellKept) (Text u ∷ []) cells_of_text
-cells_read u = reads_all RowOf KeyOf shape good books_schema CellKept 4 (λ x. refl) cells_of_text cell_shows order_4 cell_names cells_of_is cells_of_plain u refl (λ r. one_test (column r 1) u) (λ id v x. refl)
-
-pub events_read : (u : Name) → Reads 4 event_shape.cells (λ trees. rows_seen u trees EventKept) (Text u ∷ []) events_of_text
-events_read u = reads_all RowOf KeyOf shape good books_schema EventKept 4 (λ x. refl) events_of_text event_shows order_2 event_names events_of_is events_of_plain u refl (λ r. one_test (column r 1) u) (λ id v x. refl)
-
-pub records_read : (u : Name) → Reads 4 record_shape.cells (λ trees. rows_seen u trees RecordKept) (Text u ∷ []) records_of_text
-records_read u = reads_all RowOf KeyOf shape good books_schema RecordKept 4 (λ x. refl) records_of_text record_shows order_2 record_names records_of_is records_of_plain u refl (λ r. one_test (column r 1) u) (λ id v x. refl)
-
-pub changes_read : (u : Name) → Reads 15 change_shape.cells (λ trees. rows_seen u trees ChangeKept) (Text u ∷ []) changes_of_text
-changes_read u = reads_all RowOf KeyOf shape good books_schema ChangeKept 15 (λ x. refl) changes_of_text change_shows order_2 change_names changes_of_is changes_of_plain u refl (λ r. one_test (column r 1) u) (λ id v x. refl)
+-- by computing, for each table
+pub all_read : (i : Kept) (u : Name) → Reads (own_width i) (shape i).cells (λ trees. rows_seen u trees i) (Text u ∷ []) (rows_text i)
+all_read UnitKept u = reads_all RowOf KeyOf shape good books_schema UnitKept _ (λ x. refl) _ (lists_all UnitKept) u refl (λ r. one_test (column r 1) u) (λ id v x. refl)
+all_read i u = reads_all RowOf KeyOf shape good books_schema i _ (λ x. refl) _ (lists_all i) u refl (λ r. one_test (column r 1) u) (λ id v x. refl)
 
 -- ---- those of one person, of one tag, or of one number
 
 pub own_grants_read : (u p : Name) → Reads 3 grant_shape.cells (λ trees. filter (λ g. same_name p g.person) (rows_seen u trees GrantKept)) (Text u ∷ Text p ∷ []) own_grants_text
 own_grants_read u p =
-    reads_some RowOf KeyOf shape good books_schema GrantKept 3 (λ x. refl) own_grants_text grant_shows order_3 grant_names own_grants_is own_grants_plain u (Text p) refl (is_named p) (λ r. two_tests (column r 1) (column r 2) u p) (λ id v x. refl)
+    reads_some RowOf KeyOf shape good books_schema GrantKept 3 (λ x. refl) own_grants_text lists_own_grants u (Text p) refl (is_named p) (λ r. two_tests (column r 1) (column r 2) u p) (λ id v x. refl)
     (λ g. same_name p g.person) (λ id v x. named_same x.person p)
 
 pub alarm_read : (u a : Name) → Reads 11 alarm_shape.cells (λ trees. filter (λ r. same_name a r.tag) (rows_seen u trees AlarmKept)) (Text u ∷ Text a ∷ []) alarm_at_text
 alarm_read u a =
-    reads_some RowOf KeyOf shape good books_schema AlarmKept 11 (λ x. refl) alarm_at_text alarm_shows order_2 alarm_names alarm_at_is alarm_at_plain u (Text a) refl (is_named a) (λ r. two_tests (column r 1) (column r 2) u a) (λ id v x. refl)
+    reads_some RowOf KeyOf shape good books_schema AlarmKept 11 (λ x. refl) alarm_at_text lists_alarm u (Text a) refl (is_named a) (λ r. two_tests (column r 1) (column r 2) u a) (λ id v x. refl)
     (λ r. same_name a r.tag) (λ id v x. named_same x.tag a)
 
 pub shelf_read : (u a : Name) → Reads 6 shelf_shape.cells (λ trees. filter (λ r. same_name a r.tag) (rows_seen u trees ShelfKept)) (Text u ∷ Text a ∷ []) shelf_at_text
 shelf_read u a =
-    reads_some RowOf KeyOf shape good books_schema ShelfKept 6 (λ x. refl) shelf_at_text shelf_shows order_2 shelf_names shelf_at_is shelf_at_plain u (Text a) refl (is_named a) (λ r. two_tests (column r 1) (column r 2) u a) (λ id v x. refl)
+    reads_some RowOf KeyOf shape good books_schema ShelfKept 6 (λ x. refl) shelf_at_text lists_shelf u (Text a) refl (is_named a) (λ r. two_tests (column r 1) (column r 2) u a) (λ id v x. refl)
     (λ r. same_name a r.tag) (λ id v x. named_same x.tag a)
 
 pub record_read : (u a : Name) → Reads 4 record_shape.cells (λ trees. filter (λ r. same_name a r.tag) (rows_seen u trees RecordKept)) (Text u ∷ Text a ∷ []) record_at_text
 record_read u a =
-    reads_some RowOf KeyOf shape good books_schema RecordKept 4 (λ x. refl) record_at_text record_shows order_2 record_names record_at_is record_at_plain u (Text a) refl (is_named a) (λ r. two_tests (column r 1) (column r 2) u a) (λ id v x. refl)
+    reads_some RowOf KeyOf shape good books_schema RecordKept 4 (λ x. refl) record_at_text lists_record u (Text a) refl (is_named a) (λ r. two_tests (column r 1) (column r 2) u a) (λ id v x. refl)
     (λ r. same_name a r.tag) (λ id v x. named_same x.tag a)
 
 pub bands_at_read : (u : Name) (n : ℕ) → Reads 3 band_shape.cells (λ trees. filter (λ r. same_number n r.matrix_no) (rows_seen u trees BandKept)) (Text u ∷ number n ∷ []) bands_at_text
 bands_at_read u n =
-    reads_some RowOf KeyOf shape good books_schema BandKept 3 (λ x. refl) bands_at_text band_shows order_3 band_names bands_at_is bands_at_plain u (number n) refl (is_numbered n) (λ r. number_tests (column r 1) (column r 2) u n) (λ id v x. refl)
+    reads_some RowOf KeyOf shape good books_schema BandKept 3 (λ x. refl) bands_at_text lists_bands u (number n) refl (is_numbered n) (λ r. number_tests (column r 1) (column r 2) u n) (λ id v x. refl)
     (λ r. same_number n r.matrix_no) (λ id v x. numbered_same x.matrix_no n)
 
 pub cells_at_read : (u : Name) (n : ℕ) → Reads 4 cell_shape.cells (λ trees. filter (λ r. same_number n r.matrix_no) (rows_seen u trees CellKept)) (Text u ∷ number n ∷ []) cells_at_text
 cells_at_read u n =
-    reads_some RowOf KeyOf shape good books_schema CellKept 4 (λ x. refl) cells_at_text cell_shows order_4 cell_names cells_at_is cells_at_plain u (number n) refl (is_numbered n) (λ r. number_tests (column r 1) (column r 2) u n) (λ id v x. refl)
+    reads_some RowOf KeyOf shape good books_schema CellKept 4 (λ x. refl) cells_at_text lists_cells u (number n) refl (is_numbered n) (λ r. number_tests (column r 1) (column r 2) u n) (λ id v x. refl)
     (λ r. same_number n r.matrix_no) (λ id v x. numbered_same x.matrix_no n)
 
 pub change_read : (u : Name) (n : ℕ) → Reads 15 change_shape.cells (λ trees. filter (λ r. same_number n r.number) (rows_seen u trees ChangeKept)) (Text u ∷ number n ∷ []) change_at_text
 change_read u n =
-    reads_some RowOf KeyOf shape good books_schema ChangeKept 15 (λ x. refl) change_at_text change_shows order_2 change_names change_at_is change_at_plain u (number n) refl (is_numbered n) (λ r. number_tests (column r 1) (column r 2) u n) (λ id v x. refl)
+    reads_some RowOf KeyOf shape good books_schema ChangeKept 15 (λ x. refl) change_at_text lists_change u (number n) refl (is_numbered n) (λ r. number_tests (column r 1) (column r 2) u n) (λ id v x. refl)
     (λ r. same_number n r.number) (λ id v x. numbered_same x.number n)
 
 -- a unit's tags
 pub find_tags : (u : Name) (old new : State) → AreBooks old.now → (rows : List Row) → Shown tags_of_text (Text u ∷ []) old new rows → rows ≡ map (λ (r : AlarmRow). Text r.tag ∷ []) (rows_seen u old.now.trees AlarmKept)
 find_tags u old new books rows h =
-    finds_rows alarm_shape (good AlarmKept) books_schema tags_of_text by_unit _ order_2 _ tags_of_is.0 tags_of_is.1 tags_of_plain (Text u ∷ []) refl (is_of u) (λ r. one_test (column r 1) u) old new books.same_schema (books.tidy AlarmKept).apart rows h
+    finds_rows alarm_shape (good AlarmKept) books_schema tags_of_text by_unit _ (by_key alarm_shape) _ tags_of.is tags_of.unlisted tags_of.plain (Text u ∷ []) refl (is_of u) (λ r. one_test (column r 1) u) old new books.same_schema (books.tidy AlarmKept).apart rows h
     ∙ shown_kept alarm_shape (good AlarmKept) _ (λ (r : AlarmRow). Text r.tag ∷ []) (λ id v x. refl) (is_of u) (old.now.trees 5) (books.tidy AlarmKept).each
 
 -- the tags of a unit's shelves
 pub find_shelf_tags : (u : Name) (old new : State) → AreBooks old.now → (rows : List Row) → Shown shelf_tags_text (Text u ∷ []) old new rows → rows ≡ map (λ (r : ShelfRow). Text r.tag ∷ []) (rows_seen u old.now.trees ShelfKept)
 find_shelf_tags u old new books rows h =
-    finds_rows shelf_shape (good ShelfKept) books_schema shelf_tags_text by_unit _ order_2 _ shelf_tags_is.0 shelf_tags_is.1 shelf_tags_plain (Text u ∷ []) refl (is_of u) (λ r. one_test (column r 1) u) old new books.same_schema (books.tidy ShelfKept).apart rows h
+    finds_rows shelf_shape (good ShelfKept) books_schema shelf_tags_text by_unit _ (by_key shelf_shape) _ shelf_tags.is shelf_tags.unlisted shelf_tags.plain (Text u ∷ []) refl (is_of u) (λ r. one_test (column r 1) u) old new books.same_schema (books.tidy ShelfKept).apart rows h
     ∙ shown_kept shelf_shape (good ShelfKept) _ (λ (r : ShelfRow). Text r.tag ∷ []) (λ id v x. refl) (is_of u) (old.now.trees 7) (books.tidy ShelfKept).each
 
-pub length_mapped : {A B : Type 0} (f : A → B) (xs : List A) → Rattle.std.proofs.Common.length (map f xs) ≡ Rattle.std.proofs.Common.length xs
+pub length_mapped : {A B : Type 0} (f : A → B) (xs : List A) → length (map f xs) ≡ length xs
 length_mapped f [] = refl
-length_mapped f (x ∷ xs) = ap Rattle.std.proofs.Common.suc (length_mapped f xs)
+length_mapped f (x ∷ xs) = ap suc (length_mapped f xs)
 
 -- ---- which rows a call looks at
 

@@ -1,26 +1,24 @@
 -- What the queries of one table read: all rows of a unit, or those with a value in the second column of the key.
-use Rattle.std.proofs.Common.{◌≡◌, ℕ, Bool, false, ◌&&◌, List, [], ◌∷◌, map, filter, refl, sym, ap, ap₂, ◌∙◌, subst}
+use Rattle.std.proofs.Common.{◌≡◌, ℕ, Bool, ◌&&◌, List, [], ◌∷◌, map, filter, refl, sym, ap, ap₂, ◌∙◌, subst}
 use Rattle.std.specs.declared.cmp.Ordering.{Ordering}
 use Rattle.sqlite.specs.Command.{Command}
-use Rattle.sqlite.specs.Command.TheVariants.{Select}
 use Rattle.sqlite.specs.Effect.{Database, Reads as Answers}
-use Rattle.sqlite.specs.Listing.{understood, reads_listing}
+use Rattle.sqlite.specs.Listing.{understood}
 use Rattle.sqlite.specs.Query.{inner, end, output_cmp}
 use Rattle.sqlite.specs.Schema.{Schema}
 use Rattle.sqlite.specs.State.{State, Shown}
 use Rattle.sqlite.specs.Term.{Term}
 use Rattle.sqlite.specs.Tree.{Trees}
-use Rattle.sqlite.proofs.Callers.{IsPlain, command_of, reads_as}
+use Rattle.sqlite.proofs.Callers.{command_of, reads_as}
 use Rattle.sqlite_keyed.specs.Lists.{sort_by}
 use Rattle.sqlite_keyed.proofs.ListLemmas.{filter_same}
-use Rattle.sqlite_value.specs.declared.keys.Key.{Key}
 use Rattle.sqlite_value.specs.declared.value.Value.{Value}
 use Rattle.sqlite_value.specs.declared.value.Value.TheVariants.{Null, Text}
 use Rattle.sqlite_value.specs.Order.{Row}
 use Rattle.plant_columns.specs.Shown.{columns}
 use Rattle.plant_columns.specs.Tables.{Kept}
 use Rattle.plant_store.specs.Statements.{ReadsIn}
-use Rattle.plant_store.proofs.Meanings.{by_two, by_unit}
+use Rattle.plant_store.proofs.Meanings.{Lists, by_key, by_two, by_unit, own_columns}
 use Rattle.plant_columns.specs.Kept.{by_columns, is_of, plain_query}
 use Rattle.plant_columns.specs.Shape.{AreTables, Shape, row_in, rows_passing, seen}
 use Rattle.plant_columns.proofs.public.Laws.{one_answer, passes, reads, shows}
@@ -52,44 +50,43 @@ shown_decoded {schema} {AreIts} {X} {width} {cells} {rows} {params} {text} it ol
 
 module _ (X K : Kept → Type 0) (s : (i : Kept) → Shape (X i) (K i)) (good : (i : Kept) → IsShape (s i)) (schema : Schema) where
   -- the rows that pass the tests of a query, in the order of the key
-  answered : (i : Kept) (text : List ℕ) (tests project : List Term) (order : List (Term × Key)) (names : List (List ℕ))
-      → command_of (understood schema text) ≡ Select (record { lets = []; body = plain_query (inner (s i).tree end) tests project order }) names → (params : Row)
-      → ◌≡◌ {A = Row → Row → Ordering} (λ a b. output_cmp (plain_query (inner (s i).tree end) tests project order) (shows (s i).tree tests project order params a) (shows (s i).tree tests project order params b)) (by_columns (1 ∷ (s i).keys))
-      → (p : Row → Bool) → ((r : Row) → passes (s i).tree tests project order params r ≡ p r)
-      → ((id : Value) (v : List ℕ) (x : X i) → (shows (s i).tree tests project order params (row_in (s i) id v x)).1 ≡ (s i).cells x)
+  answered : (i : Kept) (text : List ℕ) (tests : List Term) → Lists (s i) schema text tests → (params : Row)
+      → ◌≡◌ {A = Row → Row → Ordering} (λ a b. output_cmp (plain_query (inner (s i).tree end) tests (own_columns (s i)) (by_key (s i))) (shows (s i).tree tests (own_columns (s i)) (by_key (s i)) params a) (shows (s i).tree tests (own_columns (s i)) (by_key (s i)) params b)) (by_columns (1 ∷ (s i).keys))
+      → (p : Row → Bool) → ((r : Row) → passes (s i).tree tests (own_columns (s i)) (by_key (s i)) params r ≡ p r)
+      → ((id : Value) (v : List ℕ) (x : X i) → (shows (s i).tree tests (own_columns (s i)) (by_key (s i)) params (row_in (s i) id v x)).1 ≡ (s i).cells x)
       → (db : Database) → AreTables X K s schema db → (lines : List Row) → Answers (command_of (understood schema text)) db params lines
       → lines ≡ map (s i).cells (rows_passing (s i) p (db.trees (s i).tree))
-  answered i text tests project order names is params ordered p same shown db are lines h =
-      let got = subst (λ (command : Command). Answers command db params lines) is h in
+  answered i text tests lists params ordered p same shown db are lines h =
+      let got = subst (λ (command : Command). Answers command db params lines) lists.is h in
       let tree = (s i).tree in
+      let project = own_columns (s i) in
+      let order = by_key (s i) in
       let key = 1 ∷ (s i).keys in
       one_answer tree tests project order key params ordered db.trees lines (are.tidy i).apart (reads tree tests project order db.trees params lines (got.answer Null))
       ∙ ap (λ (l : List Row). map (λ (r : Row). (shows tree tests project order params r).1) (sort_by (by_columns key) l)) (filter_same (passes tree tests project order params) p same (db.trees tree))
       ∙ shown_kept (s i) (good i) _ (s i).cells shown p (db.trees tree) (are.tidy i).each
 
-  pub reads_all : (i : Kept) (width : ℕ) → ((x : X i) → columns width ((s i).cells x) ≡ (s i).cells x) → (text : List ℕ) (project : List Term) (order : List (Term × Key)) (names : List (List ℕ))
-      → (command_of (understood schema text) ≡ Select (record { lets = []; body = plain_query (inner (s i).tree end) by_unit project order }) names) × (reads_listing schema text ≡ false) → IsPlain (understood schema text) → (u : Name)
-      → ◌≡◌ {A = Row → Row → Ordering} (λ a b. output_cmp (plain_query (inner (s i).tree end) by_unit project order) (shows (s i).tree by_unit project order (Text u ∷ []) a) (shows (s i).tree by_unit project order (Text u ∷ []) b)) (by_columns (1 ∷ (s i).keys))
-      → ((r : Row) → passes (s i).tree by_unit project order (Text u ∷ []) r ≡ is_of u r)
-      → ((id : Value) (v : List ℕ) (x : X i) → (shows (s i).tree by_unit project order (Text u ∷ []) (row_in (s i) id v x)).1 ≡ (s i).cells x)
+  pub reads_all : (i : Kept) (width : ℕ) → ((x : X i) → columns width ((s i).cells x) ≡ (s i).cells x) → (text : List ℕ) → Lists (s i) schema text by_unit → (u : Name)
+      → ◌≡◌ {A = Row → Row → Ordering} (λ a b. output_cmp (plain_query (inner (s i).tree end) by_unit (own_columns (s i)) (by_key (s i))) (shows (s i).tree by_unit (own_columns (s i)) (by_key (s i)) (Text u ∷ []) a) (shows (s i).tree by_unit (own_columns (s i)) (by_key (s i)) (Text u ∷ []) b)) (by_columns (1 ∷ (s i).keys))
+      → ((r : Row) → passes (s i).tree by_unit (own_columns (s i)) (by_key (s i)) (Text u ∷ []) r ≡ is_of u r)
+      → ((id : Value) (v : List ℕ) (x : X i) → (shows (s i).tree by_unit (own_columns (s i)) (by_key (s i)) (Text u ∷ []) (row_in (s i) id v x)).1 ≡ (s i).cells x)
       → ReadsIn schema (AreTables X K s schema) width (s i).cells (λ trees. seen X K s u trees i) (Text u ∷ []) text
-  reads_all i width whole text project order names is plain u ordered same shown = record {
-    plain = plain;
-    unlisted = is.1;
-    decoded = λ db are lines h read shows. told_back (s i) (good i) width whole lines (seen X K s u db.trees i) read (answered i text by_unit project order names is.0 (Text u ∷ []) ordered (is_of u) same shown db are lines h) shows;
+  reads_all i width whole text lists u ordered same shown = record {
+    plain = lists.plain;
+    unlisted = lists.unlisted;
+    decoded = λ db are lines h read shows. told_back (s i) (good i) width whole lines (seen X K s u db.trees i) read (answered i text by_unit lists (Text u ∷ []) ordered (is_of u) same shown db are lines h) shows;
   }
 
-  pub reads_some : (i : Kept) (width : ℕ) → ((x : X i) → columns width ((s i).cells x) ≡ (s i).cells x) → (text : List ℕ) (project : List Term) (order : List (Term × Key)) (names : List (List ℕ))
-      → (command_of (understood schema text) ≡ Select (record { lets = []; body = plain_query (inner (s i).tree end) by_two project order }) names) × (reads_listing schema text ≡ false) → IsPlain (understood schema text) → (u : Name) (value : Value)
-      → ◌≡◌ {A = Row → Row → Ordering} (λ a b. output_cmp (plain_query (inner (s i).tree end) by_two project order) (shows (s i).tree by_two project order (Text u ∷ value ∷ []) a) (shows (s i).tree by_two project order (Text u ∷ value ∷ []) b)) (by_columns (1 ∷ (s i).keys))
-      → (second : Row → Bool) → ((r : Row) → passes (s i).tree by_two project order (Text u ∷ value ∷ []) r ≡ (is_of u r && second r))
-      → ((id : Value) (v : List ℕ) (x : X i) → (shows (s i).tree by_two project order (Text u ∷ value ∷ []) (row_in (s i) id v x)).1 ≡ (s i).cells x)
+  pub reads_some : (i : Kept) (width : ℕ) → ((x : X i) → columns width ((s i).cells x) ≡ (s i).cells x) → (text : List ℕ) → Lists (s i) schema text by_two → (u : Name) (value : Value)
+      → ◌≡◌ {A = Row → Row → Ordering} (λ a b. output_cmp (plain_query (inner (s i).tree end) by_two (own_columns (s i)) (by_key (s i))) (shows (s i).tree by_two (own_columns (s i)) (by_key (s i)) (Text u ∷ value ∷ []) a) (shows (s i).tree by_two (own_columns (s i)) (by_key (s i)) (Text u ∷ value ∷ []) b)) (by_columns (1 ∷ (s i).keys))
+      → (second : Row → Bool) → ((r : Row) → passes (s i).tree by_two (own_columns (s i)) (by_key (s i)) (Text u ∷ value ∷ []) r ≡ (is_of u r && second r))
+      → ((id : Value) (v : List ℕ) (x : X i) → (shows (s i).tree by_two (own_columns (s i)) (by_key (s i)) (Text u ∷ value ∷ []) (row_in (s i) id v x)).1 ≡ (s i).cells x)
       → (test : X i → Bool) → ((id : Value) (v : List ℕ) (x : X i) → second (row_in (s i) id v x) ≡ test x)
       → ReadsIn schema (AreTables X K s schema) width (s i).cells (λ trees. filter test (seen X K s u trees i)) (Text u ∷ value ∷ []) text
-  reads_some i width whole text project order names is plain u value ordered second same shown test tested = record {
-    plain = plain;
-    unlisted = is.1;
+  reads_some i width whole text lists u value ordered second same shown test tested = record {
+    plain = lists.plain;
+    unlisted = lists.unlisted;
     decoded = λ db are lines h read shows. told_back (s i) (good i) width whole lines (filter test (seen X K s u db.trees i)) read
-        (answered i text by_two project order names is.0 (Text u ∷ value ∷ []) ordered (λ r. is_of u r && second r) same shown db are lines h
+        (answered i text by_two lists (Text u ∷ value ∷ []) ordered (λ r. is_of u r && second r) same shown db are lines h
         ∙ ap (map (s i).cells) (some_kept (s i) (good i) second test tested u (db.trees (s i).tree) (are.tidy i).each)) shows;
   }

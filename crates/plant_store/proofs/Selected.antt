@@ -23,7 +23,7 @@ use Rattle.plant_model.specs.Order.{TagsRise}
 use Rattle.plant_model.specs.Histories.{same_number}
 use Rattle.plant_model.specs.Parts.{Selection, counted_for, has_shelf, part_of, part_of_holder, part_of_stranger, rows_selected, selected}
 use Rattle.plant_model.specs.RowChanges.{no_rows}
-use Rattle.plant_model.specs.RowFacts.{alarm_tag, change_found, change_number, event_number, holds_by, pair_of, shelf_tag}
+use Rattle.plant_model.specs.RowFacts.{alarm_tag, change_found, change_number, event_number, holds_by, pair_of, record_tag, shelf_tag}
 use Rattle.plant_types.specs.KeyedRows.{IsInOrder, row_at}
 use Rattle.std.specs.Ordering.{nat_cmp}
 use Rattle.plant_types.specs.Names.{Name, name_cmp, same_name}
@@ -38,7 +38,7 @@ use Rattle.plant_books.specs.declared.asking.Wanted.TheVariants.{Every, Nothing,
 use Rattle.plant_store.specs.Keeping.{HasContent, has_any}
 use Rattle.plant_columns.specs.Tables.{rows_seen}
 use Rattle.plant_columns.specs.Tables.Kept.{UnitKept, GrantKept, AlarmKept, ShelfKept, BandKept, CellKept, EventKept, RecordKept, ChangeKept}
-use Rattle.plant_store.specs.Wanted.{alarms_left, alarms_with, events_with, records_with, shelves_with}
+use Rattle.plant_store.specs.Wanted.{alarms_left, alarms_with, events_with, rows_with}
 use Rattle.plant_alarm.specs.declared.event.EventKind.TheVariants.{Act}
 use Rattle.plant_model.specs.declared.call.Request.{Request}
 use Rattle.plant_model.specs.declared.call.Request.TheVariants.{Floods, Import}
@@ -47,41 +47,33 @@ use Rattle.std.proofs.Common.{[], arith, length, refl, ◌∷◌}
 use Rattle.plant_store.proofs.public.Contents.{kept_rows, never_opened}
 use Rattle.plant_store.proofs.Queries.{passing_all, passing_none}
 
+-- rows that are wanted are those that pass a test which says so
+rows_are : {X : Type 0} (tag_of : X → Name) (test : Name → Bool) (w : Wanted) → ((a : Name) → test a ≡ is_wanted w a) → (rows : List X) → rows_with tag_of w rows ≡ filter (λ r. test (tag_of r)) rows
+rows_are {X} tag_of test Nothing h rows = sym (filter_same (λ (r : X). test (tag_of r)) (λ r. false) (λ r. h (tag_of r)) rows ∙ passing_none rows)
+rows_are {X} tag_of test (One tag) h rows = sym (filter_same (λ (r : X). test (tag_of r)) (λ r. same_name tag.now (tag_of r)) (λ r. h (tag_of r)) rows)
+rows_are {X} tag_of test Every h rows = sym (filter_same (λ (r : X). test (tag_of r)) (λ r. true) (λ r. h (tag_of r)) rows ∙ passing_all rows)
+
 -- the shelves are those that are selected of all
 alarms_are : (s : Selection) (all shelves : List ShelfRow) (w : WantedAlarms) → ((a : Name) → s.alarm a ≡ is_alarm_wanted all w a) → HasTheirShelves s w → shelves ≡ filter (λ r. s.shelf r.tag) all → (rows : List AlarmRow)
     → alarms_left w shelves (alarms_with w rows) ≡ filter (λ r. s.alarm r.tag) rows
-alarms_are s all shelves (Those Nothing) h beside is rows = sym (filter_same (λ (r : AlarmRow). s.alarm r.tag) (λ r. false) (λ r. h r.tag) rows ∙ passing_none rows)
-alarms_are s all shelves (Those (One tag)) h beside is rows = sym (filter_same (λ (r : AlarmRow). s.alarm r.tag) (λ r. same_name tag.now r.tag) (λ r. h r.tag) rows)
-alarms_are s all shelves (Those Every) h beside is rows = sym (filter_same (λ (r : AlarmRow). s.alarm r.tag) (λ r. true) (λ r. h r.tag) rows ∙ passing_all rows)
+alarms_are s all shelves (Those wanted) h beside is rows = rows_are alarm_tag s.alarm wanted h rows
 alarms_are s all shelves Shelved h beside is rows =
     ap (λ some. shelved some rows) (is ∙ filter_same (λ (r : ShelfRow). s.shelf r.tag) (λ r. true) (λ r. beside r.tag) all ∙ passing_all all)
     ∙ sym (filter_same (λ (r : AlarmRow). s.alarm r.tag) (λ r. has_shelf all r.tag) (λ r. h r.tag) rows)
-
-shelves_are : (s : Selection) (w : Wanted) → ((a : Name) → s.shelf a ≡ is_wanted w a) → (rows : List ShelfRow) → shelves_with w rows ≡ filter (λ r. s.shelf r.tag) rows
-shelves_are s Nothing h rows = sym (filter_same (λ (r : ShelfRow). s.shelf r.tag) (λ r. false) (λ r. h r.tag) rows ∙ passing_none rows)
-shelves_are s (One tag) h rows = sym (filter_same (λ (r : ShelfRow). s.shelf r.tag) (λ r. same_name tag.now r.tag) (λ r. h r.tag) rows)
-shelves_are s Every h rows = sym (filter_same (λ (r : ShelfRow). s.shelf r.tag) (λ r. true) (λ r. h r.tag) rows ∙ passing_all rows)
-
-records_are : (s : Selection) (w : Wanted) → ((a : Name) → s.rationale a ≡ is_wanted w a) → (rows : List RecordEntry) → records_with w rows ≡ filter (λ r. s.rationale r.tag) rows
-records_are s Nothing h rows = sym (filter_same (λ (r : RecordEntry). s.rationale r.tag) (λ r. false) (λ r. h r.tag) rows ∙ passing_none rows)
-records_are s (One tag) h rows = sym (filter_same (λ (r : RecordEntry). s.rationale r.tag) (λ r. same_name tag.now r.tag) (λ r. h r.tag) rows)
-records_are s Every h rows = sym (filter_same (λ (r : RecordEntry). s.rationale r.tag) (λ r. true) (λ r. h r.tag) rows ∙ passing_all rows)
 
 -- what a request takes in of the events that were read for it
 events_are : (rows : UnitRows) (q : Request) (looks : Bool) → looks ≡ looks_at_events q → (seen : List Event) → (selected rows q).events (events_with looks seen) ≡ (selected rows q).events seen
 events_are rows q true is seen = refl
 events_are rows q false is seen = none_asked rows q [] (sym is) ∙ sym (none_asked rows q seen (sym is))
 
-pub alarms_in_order : (w : WantedAlarms) (seen : List AlarmRow) → TagsRise alarm_tag seen → TagsRise alarm_tag (alarms_with w seen)
-alarms_in_order (Those Nothing) seen h = tt
-alarms_in_order (Those (One tag)) seen h = left_in_order name_cmp alarm_tag (λ (r : AlarmRow). same_name tag.now r.tag) seen h
-alarms_in_order (Those Every) seen h = h
-alarms_in_order Shelved seen h = h
+pub rows_in_order : {X : Type 0} (tag_of : X → Name) (w : Wanted) (seen : List X) → TagsRise tag_of seen → TagsRise tag_of (rows_with tag_of w seen)
+rows_in_order tag_of Nothing seen h = tt
+rows_in_order {X} tag_of (One tag) seen h = left_in_order name_cmp tag_of (λ (r : X). same_name tag.now (tag_of r)) seen h
+rows_in_order tag_of Every seen h = h
 
-pub shelves_in_order : (w : Wanted) (seen : List ShelfRow) → TagsRise shelf_tag seen → TagsRise shelf_tag (shelves_with w seen)
-shelves_in_order Nothing seen h = tt
-shelves_in_order (One tag) seen h = left_in_order name_cmp shelf_tag (λ (r : ShelfRow). same_name tag.now r.tag) seen h
-shelves_in_order Every seen h = h
+pub alarms_in_order : (w : WantedAlarms) (seen : List AlarmRow) → TagsRise alarm_tag seen → TagsRise alarm_tag (alarms_with w seen)
+alarms_in_order (Those wanted) seen h = rows_in_order alarm_tag wanted seen h
+alarms_in_order Shelved seen h = h
 
 pub read_in_order : (looks : Bool) (seen : List Event) → IsInOrder nat_cmp event_number seen → IsInOrder nat_cmp event_number (events_with looks seen)
 read_in_order true seen h = h
@@ -102,9 +94,9 @@ module _ (s : State) (m : Content) (u : Name) (k : HasContent s m) where
       ∙ ap (filter (λ g. same_name c.person g.person || chosen.pair (pair_of g))) (k.seen u GrantKept)
 
   -- the records that a call looks at, as they were read
-  pub records_asked : (chosen : Selection) (w : Wanted) → ((a : Name) → chosen.rationale a ≡ is_wanted w a) → (records : List RecordEntry) → records ≡ records_with w (rows_seen u s.now.trees RecordKept)
+  pub records_asked : (chosen : Selection) (w : Wanted) → ((a : Name) → chosen.rationale a ≡ is_wanted w a) → (records : List RecordEntry) → records ≡ rows_with record_tag w (rows_seen u s.now.trees RecordKept)
       → records ≡ filter (λ r. chosen.rationale r.tag) (rows_in m u).records
-  records_asked chosen w h records is = is ∙ records_are chosen w h _ ∙ ap (filter (λ r. chosen.rationale r.tag)) (k.seen u RecordKept)
+  records_asked chosen w h records is = is ∙ rows_are record_tag chosen.rationale w h _ ∙ ap (filter (λ r. chosen.rationale r.tag)) (k.seen u RecordKept)
 
   -- the change that is approved, as it was read
   found_first : (n : ℕ) (changes : List ChangeEntry) → row_at nat_cmp change_number n changes ≡ slice_get (filter (λ r. same_number n r.number) changes) 0
@@ -121,7 +113,7 @@ module _ (s : State) (m : Content) (u : Name) (k : HasContent s m) where
   pub part_found : (c : Call) (chosen : Selection) → chosen ≡ selected (rows_in m u) c.request → (units : List UnitRow) → units ≡ rows_seen u s.now.trees UnitKept
       → (all : Bool) → ((p : Pair) → chosen.pair p ≡ all) → (grants : List GrantRow) → grants ≡ filter (λ g. same_name c.person g.person || all) (rows_seen u s.now.trees GrantKept)
       → (tags : WantedAlarms) → ((a : Name) → chosen.alarm a ≡ is_alarm_wanted (rows_in m u).shelves tags a) → HasTheirShelves chosen tags
-      → (shelved : Wanted) → ((a : Name) → chosen.shelf a ≡ is_wanted shelved a) → (shelves : List ShelfRow) → shelves ≡ shelves_with shelved (rows_seen u s.now.trees ShelfKept)
+      → (shelved : Wanted) → ((a : Name) → chosen.shelf a ≡ is_wanted shelved a) → (shelves : List ShelfRow) → shelves ≡ rows_with shelf_tag shelved (rows_seen u s.now.trees ShelfKept)
       → (alarms : List AlarmRow) → alarms ≡ alarms_left tags shelves (alarms_with tags (rows_seen u s.now.trees AlarmKept))
       → (looks : Bool) → looks ≡ looks_at_events c.request → (all_events : List Event) → all_events ≡ events_with looks (rows_seen u s.now.trees EventKept) → (events : List Event) → events ≡ chosen.events all_events
       → (records : List RecordEntry) → records ≡ filter (λ r. chosen.rationale r.tag) (rows_in m u).records
@@ -132,7 +124,7 @@ module _ (s : State) (m : Content) (u : Name) (k : HasContent s m) where
       → ◌≡◌ {A = UnitPart} (record { rows = record { units = units; grants = grants; alarms = alarms; shelves = shelves; events = events; bands = bands; cells = cells; records = records; changes = changes }; count = count }) (part_of_holder c (rows_in m u))
   part_found c chosen is units us all ha grants gs tags ts beside shelved hs shelves ss alarms as_ looks he all_events ae events es records rs bands bs cells ls changes cs count ns =
       let rows = rows_in m u in
-      let shelves_so : shelves ≡ filter (λ r. chosen.shelf r.tag) rows.shelves = ss ∙ shelves_are chosen shelved hs _ ∙ ap (filter (λ r. chosen.shelf r.tag)) (k.seen u ShelfKept) in
+      let shelves_so : shelves ≡ filter (λ r. chosen.shelf r.tag) rows.shelves = ss ∙ rows_are shelf_tag chosen.shelf shelved hs _ ∙ ap (filter (λ r. chosen.shelf r.tag)) (k.seen u ShelfKept) in
       let whole : ◌≡◌ {A = UnitPart} (record { rows = record { units = units; grants = grants; alarms = alarms; shelves = shelves; events = events; bands = bands; cells = cells; records = records; changes = changes }; count = count }) (record { rows = rows_selected c.person chosen rows; count = counted_for rows c.request }) = λ i. record {
         rows = record {
           units = (us ∙ k.seen u UnitKept) i;

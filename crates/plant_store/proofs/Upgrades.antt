@@ -7,7 +7,7 @@ use Rattle.std.specs.FinMap.Entries.{below_all}
 use Rattle.std.specs.List.{AllByRecursion, flat_map}
 use Rattle.std.specs.Ordering.{is_lt, ordering_reverse}
 use Rattle.std.specs.Prelude.{is_some, unwrap_or, ◌||◌}
-use Rattle.std.proofs.lemmas.Cmp.{nat_cmp_total, tied_itself}
+use Rattle.std.proofs.lemmas.Cmp.{tied_itself}
 use Rattle.std.proofs.lemmas.List.{append-nil, append_assoc, take_more}
 use Rattle.sqlite.specs.Effect.{Database}
 use Rattle.sqlite.specs.Tree.{Trees}
@@ -17,27 +17,17 @@ use Rattle.sqlite_trees.specs.Tree.{IsAscending}
 use Rattle.sqlite_value.specs.declared.value.Value.TheVariants.{Text}
 use Rattle.sqlite_value.specs.Order.{Row, bytes, column, value_cmp}
 use Rattle.sqlite_value.proofs.OrderLemmas.{then-Equal, value_cmp-Text}
-use Rattle.plant_alarm.specs.declared.event.Event.{Event}
 use Rattle.plant_books.specs.Contents.{Content, rows_in}
-use Rattle.plant_columns.specs.Tables.{AreSeen, shape}
+use Rattle.plant_columns.specs.Tables.{AreSeen, Kept, RowOf, rows_at, shape}
 use Rattle.plant_columns.specs.Tables.Kept.{AlarmKept, BandKept, CellKept, ChangeKept, EventKept, GrantKept, RecordKept, ShelfKept, UnitKept}
-use Rattle.plant_model.specs.declared.rows.AlarmRow.{AlarmRow}
-use Rattle.plant_model.specs.declared.rows.BandRow.{BandRow}
-use Rattle.plant_model.specs.declared.rows.CellRow.{CellRow}
 use Rattle.plant_model.specs.declared.rows.RowEdit.{RowEdit}
 use Rattle.plant_model.specs.declared.rows.RowEdit.TheVariants.{Put}
-use Rattle.plant_model.specs.declared.rows.ChangeEntry.{ChangeEntry}
-use Rattle.plant_model.specs.declared.rows.GrantRow.{GrantRow}
-use Rattle.plant_model.specs.declared.rows.RecordEntry.{RecordEntry}
-use Rattle.plant_model.specs.declared.rows.Row.TheVariants.{Alarm as AlarmPut, Band as BandPut, Cell as CellPut, Change as ChangePut, Event as EventPut, Grant as GrantPut, Record as RecordPut, Shelf as ShelfPut, Unit as UnitPut}
-use Rattle.plant_model.specs.declared.rows.ShelfRow.{ShelfRow}
+use Rattle.plant_model.specs.declared.rows.Row.TheVariants.{Unit as UnitPut}
 use Rattle.plant_model.specs.declared.rows.UnitRow.{UnitRow}
 use Rattle.plant_model.specs.declared.rows.UnitRows.{UnitRows}
-use Rattle.plant_model.specs.Matrices.{band_cmp, cell_cmp}
 use Rattle.plant_model.specs.RowChanges.{changed_by, no_rows}
-use Rattle.plant_model.specs.RowFacts.{alarm_tag, band_key, cell_key, change_number, event_number, pair_of, record_tag, shelf_tag}
-use Rattle.plant_model.proofs.public.PlaceOrders.{band_total, cell_total}
-use Rattle.plant_store.specs.declared.migration.TableKind.TheVariants.{Alarms, Bands, Cells, Changes, Events, Grants, Records, Shelves, Units}
+use Rattle.plant_model.specs.RowFacts.{pair_of}
+use Rattle.plant_store.specs.declared.make.TableKind.TheVariants.{Alarms, Bands, Cells, Changes, Events, Grants, Records, Shelves, Units}
 use Rattle.plant_store.specs.declared.old_rows.CodeLine.{CodeLine}
 use Rattle.plant_store.specs.Changes.{Applies, IsOfficeOf}
 use Rattle.plant_store.specs.Keeping.{HaveRows, has_any}
@@ -46,14 +36,14 @@ use Rattle.plant_store.specs.OldTables.{AreOldBooks, old_pair_of, old_own_key, o
 use Rattle.plant_store.specs.Upgrading.{AreTakenOver, HaveOldRows, all_kinds, is_among, old_codes, puts_all, puts_of, upgraded_grant, upgraded_rows, upgraded_unit}
 use Rattle.plant_store.proofs.public.Contents.{nothing_at, same_codes}
 use Rattle.plant_store.proofs.OldQueries.{old_good, old_unit_good}
-use Rattle.plant_store.proofs.Writes.{changed_by-append}
+use Rattle.plant_store.proofs.Writes.{as_row, changed_by-append, with_rows}
 use Rattle.plant_columns.specs.Kept.{by_columns, is_of}
 use Rattle.plant_columns.specs.Shape.{IsRowIn, rows_in as rows_of}
 use Rattle.plant_columns.proofs.public.Joins.{strict-sort}
 use Rattle.plant_columns.proofs.public.Kept.{all-sort, sort-filter}
 use Rattle.plant_columns.proofs.public.Keys.{by_columns_total}
+use Rattle.plant_columns.proofs.public.ShapeLaws.{good}
 use Rattle.plant_columns.proofs.public.Shapes.{named, rises}
-use Rattle.plant_types.proofs.public.Orders.{name_total, pair_total}
 use Rattle.plant_types.specs.Names.{Name, name_cmp, same_name}
 use Rattle.plant_types.specs.Roles.{pair_cmp}
 use Rattle.plant_types.specs.KeyedRows.{IsInOrder, put_row}
@@ -121,49 +111,20 @@ puts_units [] up = refl
 puts_units (x ∷ []) up = refl
 puts_units (x ∷ y ∷ xs) up = absurd (cc up.0.0)
 
-puts_grants : (xs : List GrantRow) (rows : UnitRows) → changed_by (map (λ r. Put (GrantPut r)) xs) rows ≡ record rows { grants = filled pair_cmp pair_of xs rows.grants }
-puts_grants [] rows = refl
-puts_grants (x ∷ xs) rows = puts_grants xs (record rows { grants = put_row pair_cmp pair_of x rows.grants })
+-- of any other table
+puts_into : (i : Kept) → i ≢ UnitKept → (xs : List (RowOf i)) (rows : UnitRows) → changed_by (map (λ r. Put (as_row i r)) xs) rows ≡ with_rows i (filled (shape i).order (shape i).key xs (rows_at i rows)) rows
+puts_into UnitKept apart xs rows = absurd (apart refl)
+puts_into i apart [] rows = refl
+puts_into i apart (x ∷ xs) rows = puts_into i apart xs (with_rows i (put_row (shape i).order (shape i).key x (rows_at i rows)) rows)
 
-puts_alarms : (xs : List AlarmRow) (rows : UnitRows) → changed_by (map (λ r. Put (AlarmPut r)) xs) rows ≡ record rows { alarms = filled name_cmp alarm_tag xs rows.alarms }
-puts_alarms [] rows = refl
-puts_alarms (x ∷ xs) rows = puts_alarms xs (record rows { alarms = put_row name_cmp alarm_tag x rows.alarms })
-
-puts_shelves : (xs : List ShelfRow) (rows : UnitRows) → changed_by (map (λ r. Put (ShelfPut r)) xs) rows ≡ record rows { shelves = filled name_cmp shelf_tag xs rows.shelves }
-puts_shelves [] rows = refl
-puts_shelves (x ∷ xs) rows = puts_shelves xs (record rows { shelves = put_row name_cmp shelf_tag x rows.shelves })
-
-puts_events : (xs : List Event) (rows : UnitRows) → changed_by (map (λ r. Put (EventPut r)) xs) rows ≡ record rows { events = filled nat_cmp event_number xs rows.events }
-puts_events [] rows = refl
-puts_events (x ∷ xs) rows = puts_events xs (record rows { events = put_row nat_cmp event_number x rows.events })
-
-puts_bands : (xs : List BandRow) (rows : UnitRows) → changed_by (map (λ r. Put (BandPut r)) xs) rows ≡ record rows { bands = filled band_cmp band_key xs rows.bands }
-puts_bands [] rows = refl
-puts_bands (x ∷ xs) rows = puts_bands xs (record rows { bands = put_row band_cmp band_key x rows.bands })
-
-puts_cells : (xs : List CellRow) (rows : UnitRows) → changed_by (map (λ r. Put (CellPut r)) xs) rows ≡ record rows { cells = filled cell_cmp cell_key xs rows.cells }
-puts_cells [] rows = refl
-puts_cells (x ∷ xs) rows = puts_cells xs (record rows { cells = put_row cell_cmp cell_key x rows.cells })
-
-puts_records : (xs : List RecordEntry) (rows : UnitRows) → changed_by (map (λ r. Put (RecordPut r)) xs) rows ≡ record rows { records = filled name_cmp record_tag xs rows.records }
-puts_records [] rows = refl
-puts_records (x ∷ xs) rows = puts_records xs (record rows { records = put_row name_cmp record_tag x rows.records })
-
-puts_changes : (xs : List ChangeEntry) (rows : UnitRows) → changed_by (map (λ r. Put (ChangePut r)) xs) rows ≡ record rows { changes = filled nat_cmp change_number xs rows.changes }
-puts_changes [] rows = refl
-puts_changes (x ∷ xs) rows = puts_changes xs (record rows { changes = put_row nat_cmp change_number x rows.changes })
+-- into one without rows
+puts_rising : (i : Kept) → i ≢ UnitKept → (xs : List (RowOf i)) → Rise (shape i).order (shape i).key xs → (rows : UnitRows) → rows_at i rows ≡ [] → changed_by (map (λ r. Put (as_row i r)) xs) rows ≡ with_rows i xs rows
+puts_rising i apart xs up rows none =
+    puts_into i apart xs rows ∙ ap (λ l. with_rows i l rows) (ap (filled (shape i).order (shape i).key xs) none ∙ filled_none (shape i).order (shape i).key (good i).total xs up)
 
 -- the rows of each table rise
-pub record AreRising (rows : UnitRows) : Type 0 where
-  pub units : Rise nat_cmp (λ (r : UnitRow). 0) rows.units
-  pub grants : Rise pair_cmp pair_of rows.grants
-  pub alarms : Rise name_cmp alarm_tag rows.alarms
-  pub shelves : Rise name_cmp shelf_tag rows.shelves
-  pub events : Rise nat_cmp event_number rows.events
-  pub bands : Rise band_cmp band_key rows.bands
-  pub cells : Rise cell_cmp cell_key rows.cells
-  pub records : Rise name_cmp record_tag rows.records
-  pub changes : Rise nat_cmp change_number rows.changes
+abbrev AreRising : UnitRows → Type 0
+AreRising rows = (i : Kept) → Rise (shape i).order (shape i).key (rows_at i rows)
 
 then : (xs ys : List RowEdit) (a b c : UnitRows) → changed_by xs a ≡ b → changed_by ys b ≡ c → changed_by (xs ++ ys) a ≡ c
 then xs ys a b c p q = changed_by-append xs ys a ∙ ap (changed_by ys) p ∙ q
@@ -178,30 +139,22 @@ all_put rows up =
     let r6 : UnitRows = record r5 { bands = rows.bands } in
     let r7 : UnitRows = record r6 { cells = rows.cells } in
     let r8 : UnitRows = record r7 { records = rows.records } in
-    then (puts_of rows Units) _ no_rows r1 rows (puts_units rows.units up.units)
-    (then (puts_of rows Grants) _ r1 r2 rows (puts_grants rows.grants r1 ∙ ap (λ l. record r1 { grants = l }) (filled_none pair_cmp pair_of pair_total rows.grants up.grants))
-    (then (puts_of rows Alarms) _ r2 r3 rows (puts_alarms rows.alarms r2 ∙ ap (λ l. record r2 { alarms = l }) (filled_none name_cmp alarm_tag name_total rows.alarms up.alarms))
-    (then (puts_of rows Shelves) _ r3 r4 rows (puts_shelves rows.shelves r3 ∙ ap (λ l. record r3 { shelves = l }) (filled_none name_cmp shelf_tag name_total rows.shelves up.shelves))
-    (then (puts_of rows Events) _ r4 r5 rows (puts_events rows.events r4 ∙ ap (λ l. record r4 { events = l }) (filled_none nat_cmp event_number nat_cmp_total rows.events up.events))
-    (then (puts_of rows Bands) _ r5 r6 rows (puts_bands rows.bands r5 ∙ ap (λ l. record r5 { bands = l }) (filled_none band_cmp band_key band_total rows.bands up.bands))
-    (then (puts_of rows Cells) _ r6 r7 rows (puts_cells rows.cells r6 ∙ ap (λ l. record r6 { cells = l }) (filled_none cell_cmp cell_key cell_total rows.cells up.cells))
-    (then (puts_of rows Records) _ r7 r8 rows (puts_records rows.records r7 ∙ ap (λ l. record r7 { records = l }) (filled_none name_cmp record_tag name_total rows.records up.records))
-    (then (puts_of rows Changes) [] r8 rows rows (puts_changes rows.changes r8 ∙ ap (λ l. record r8 { changes = l }) (filled_none nat_cmp change_number nat_cmp_total rows.changes up.changes)) refl))))))))
+    then (puts_of rows Units) _ no_rows r1 rows (puts_units rows.units (up UnitKept))
+    (then (puts_of rows Grants) _ r1 r2 rows (puts_rising GrantKept (λ e. cc) rows.grants (up GrantKept) r1 refl)
+    (then (puts_of rows Alarms) _ r2 r3 rows (puts_rising AlarmKept (λ e. cc) rows.alarms (up AlarmKept) r2 refl)
+    (then (puts_of rows Shelves) _ r3 r4 rows (puts_rising ShelfKept (λ e. cc) rows.shelves (up ShelfKept) r3 refl)
+    (then (puts_of rows Events) _ r4 r5 rows (puts_rising EventKept (λ e. cc) rows.events (up EventKept) r4 refl)
+    (then (puts_of rows Bands) _ r5 r6 rows (puts_rising BandKept (λ e. cc) rows.bands (up BandKept) r5 refl)
+    (then (puts_of rows Cells) _ r6 r7 rows (puts_rising CellKept (λ e. cc) rows.cells (up CellKept) r6 refl)
+    (then (puts_of rows Records) _ r7 r8 rows (puts_rising RecordKept (λ e. cc) rows.records (up RecordKept) r7 refl)
+    (then (puts_of rows Changes) [] r8 rows rows (puts_rising ChangeKept (λ e. cc) rows.changes (up ChangeKept) r8 refl) refl))))))))
 
 -- ---- the rows of a store of schema 1 rise
 
 old_rise : (u : Name) (db : Database) → AreOldBooks db → AreRising (upgraded_rows u db.trees)
-old_rise u db books = record {
-  units = ascending-map (λ (a b : UnitRow). nat_cmp 0 0 ≡ Less) upgraded_unit (old_rows u db.trees UnitKept) (rise nat_cmp old_own_key _ (rises _ (old_good UnitKept) u (db.trees 1) (books.tidy UnitKept)));
-  grants = ascending-map (λ a b. pair_cmp (pair_of a) (pair_of b) ≡ Less) upgraded_grant (old_rows u db.trees GrantKept) (rise pair_cmp old_pair_of _ (rises _ (old_good GrantKept) u (db.trees 3) (books.tidy GrantKept)));
-  alarms = rise name_cmp alarm_tag _ (rises _ (old_good AlarmKept) u (db.trees 5) (books.tidy AlarmKept));
-  shelves = rise name_cmp shelf_tag _ (rises _ (old_good ShelfKept) u (db.trees 7) (books.tidy ShelfKept));
-  events = rise nat_cmp event_number _ (rises _ (old_good EventKept) u (db.trees 13) (books.tidy EventKept));
-  bands = rise band_cmp band_key _ (rises _ (old_good BandKept) u (db.trees 9) (books.tidy BandKept));
-  cells = rise cell_cmp cell_key _ (rises _ (old_good CellKept) u (db.trees 11) (books.tidy CellKept));
-  records = rise name_cmp record_tag _ (rises _ (old_good RecordKept) u (db.trees 15) (books.tidy RecordKept));
-  changes = rise nat_cmp change_number _ (rises _ (old_good ChangeKept) u (db.trees 17) (books.tidy ChangeKept));
-}
+old_rise u db books UnitKept = ascending-map (λ (a b : UnitRow). nat_cmp 0 0 ≡ Less) upgraded_unit (old_rows u db.trees UnitKept) (rise nat_cmp old_own_key _ (rises _ (old_good UnitKept) u (db.trees 1) (books.tidy UnitKept)))
+old_rise u db books GrantKept = ascending-map (λ a b. pair_cmp (pair_of a) (pair_of b) ≡ Less) upgraded_grant (old_rows u db.trees GrantKept) (rise pair_cmp old_pair_of _ (rises _ (old_good GrantKept) u (db.trees 3) (books.tidy GrantKept)))
+old_rise u db books i = rise (shape i).order (shape i).key _ (rises _ (old_good i) u (db.trees (shape i).tree) (books.tidy i))
 
 -- a unit without rows has, after the puts, the rows that it had in the old store
 pub unit_taken : (u : Name) (db : Database) → AreOldBooks db → (old new : Database) → AreSeen u old no_rows → Applies u (puts_all (upgraded_rows u db.trees) all_kinds) old new → AreSeen u new (upgraded_rows u db.trees)

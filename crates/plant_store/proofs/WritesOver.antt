@@ -4,12 +4,8 @@ use Rattle.std.proofs.lemmas.Bool.Decides.{nat_tests}
 use Rattle.std.specs.FinMap.{slice_cmp-IsAntisymmetric, nat_cmp-IsAntisymmetric}
 use Rattle.std.specs.Ordering.{ordering_then}
 use Rattle.std.specs.Prelude.{nat_eq}
-use Rattle.sqlite.specs.Command.TheVariants.{Update}
-use Rattle.sqlite.specs.Listing.{understood}
-use Rattle.sqlite.specs.Query.{inner, end}
 use Rattle.sqlite.specs.State.{State, Executes}
 use Rattle.sqlite.specs.Term.{Term}
-use Rattle.sqlite.proofs.Callers.{IsPlain, command_of}
 use Rattle.sqlite_schema.specs.Rules.{agree}
 use Rattle.sqlite_value.specs.declared.value.Value.{Value}
 use Rattle.sqlite_value.specs.declared.value.Value.TheVariants.{Text}
@@ -22,14 +18,13 @@ use Rattle.plant_model.specs.declared.rows.RowEdit.TheVariants.{Put}
 use Rattle.plant_model.specs.declared.rows.ChangeEntry.{ChangeEntry}
 use Rattle.plant_model.specs.declared.rows.GrantRow.{GrantRow}
 use Rattle.plant_model.specs.declared.rows.RecordEntry.{RecordEntry}
-use Rattle.plant_model.specs.declared.rows.Row.{Row as AnyRow}
 use Rattle.plant_model.specs.declared.rows.Row.TheVariants.{Alarm as AlarmPut, Change as ChangePut, Grant as GrantPut, Record as RecordPut, Shelf as ShelfPut, Unit as UnitPut}
 use Rattle.plant_model.specs.declared.rows.ShelfRow.{ShelfRow}
 use Rattle.plant_model.specs.declared.rows.UnitRow.{UnitRow}
 use Rattle.plant_types.specs.Names.{Name}
 use Rattle.plant_types.specs.Roles.{role_no}
 use Rattle.plant_types.specs.KeyedRows.{put_row}
-use Rattle.plant_columns.specs.Kept.{by_columns, plain_query}
+use Rattle.plant_columns.specs.Kept.{by_columns}
 use Rattle.plant_columns.specs.Shape.{row_in}
 use Rattle.sqlite.specs.Effect.{Database}
 use Rattle.plant_columns.proofs.public.Family.{Edits, no_edits, set_edits}
@@ -43,8 +38,8 @@ use Rattle.plant_columns.proofs.public.ShapeLaws.{all_listed, good, listed, numb
 use Rattle.plant_store.specs.Changes.{Applies}
 use Rattle.plant_store.specs.Statements.{changes_written}
 use Rattle.plant_store.specs.Texts.{over_alarm_text, over_change_text, over_grant_text, over_record_text, over_shelf_text, over_unit_text}
-use Rattle.plant_store.proofs.Meanings.{by_three, by_two, by_unit, over_alarm_is, over_alarm_plain, over_alarm_shows, over_change_is, over_change_plain, over_change_shows, over_grant_is, over_grant_plain, over_grant_shows, over_record_is, over_record_plain, over_record_shows, over_shelf_is, over_shelf_plain, over_shelf_shows, over_unit_is, over_unit_plain, over_unit_shows}
-use Rattle.plant_store.proofs.Writes.{alarm_edited, change_edited, edits_apply, free, grant_edited, record_edited, shelf_edited, unit_edited}
+use Rattle.plant_store.proofs.Meanings.{Updates, by_three, by_two, by_unit, over_alarm, over_change, over_grant, over_grant_shows, over_record, over_shelf, over_two_shows, over_unit, over_unit_shows}
+use Rattle.plant_store.proofs.Writes.{as_row, edited, edits_apply, free}
 
 -- ---- cells of a key that tie are the same
 
@@ -61,37 +56,35 @@ both_tie Greater b h = absurd (true≢false (sym h))
 
 -- ---- in one table
 
-written_over : (i : Kept) (text : List ℕ) (tests terms : List Term) → command_of (understood books_schema text) ≡ Update (shape i).place (record { lets = []; body = plain_query (inner (shape i).tree end) tests terms [] }) → IsPlain (understood books_schema text)
+written_over : (i : Kept) (text : List ℕ) (tests terms : List Term) → Updates (shape i) text tests terms
     → (u : Name) (x : RowOf i)
     → ((id : Value) (y : Row) → passes (shape i).tree tests terms [] (Text u ∷ (shape i).cells x) y ≡ agree plain (1 ∷ (shape i).keys) y (1 ∷ (shape i).keys) (row_in (shape i) id u x))
     → ((id : Value) (v : Name) (y : RowOf i) → is_eq (by_columns (1 ∷ (shape i).keys) (row_in (shape i) id u x) (row_in (shape i) id v y)) ≡ true
     → (shows (shape i).tree tests terms [] (Text u ∷ (shape i).cells x) (row_in (shape i) id v y)).1 ≡ id ∷ row_in (shape i) id u x)
     → (old new : State) → AreBooks old.now → (count : ℕ) → nat_eq count 0 ≡ false → Executes text (Text u ∷ (shape i).cells x) old new (Ok count)
     → Edits RowOf KeyOf shape books_schema i u (put_row (shape i).order (shape i).key x) old.now new.now
-written_over i text tests terms is plain_text u x same shown old new books count some h =
+written_over i text tests terms over u x same shown old new books count some h =
     set_edits RowOf KeyOf shape books_schema all_listed i (good i) u x old.now new.now books
-    (sets_some (shape i) (good i) books_schema free (listed i) text tests terms is plain_text (Text u ∷ (shape i).cells x) u x
+    (sets_some (shape i) (good i) books_schema free (listed i) text tests terms over.is over.plain (Text u ∷ (shape i).cells x) u x
     (λ id y. same id y ∙ agree_is (1 ∷ (shape i).keys) y (row_in (shape i) id u x) ((good i).keyed id u x)) shown old new books.same_schema (books.tidy i) count some h)
 
-none_written : (i : Kept) (text : List ℕ) (tests terms : List Term) → command_of (understood books_schema text) ≡ Update (shape i).place (record { lets = []; body = plain_query (inner (shape i).tree end) tests terms [] }) → IsPlain (understood books_schema text)
+none_written : (i : Kept) (text : List ℕ) (tests terms : List Term) → Updates (shape i) text tests terms
     → (u : Name) (params : Row) (old new : State) → AreBooks old.now → Executes text params old new (Ok 0) → Applies u [] old.now new.now
-none_written i text tests terms is plain_text u params old new books h =
+none_written i text tests terms over u params old new books h =
     edits_apply i u (λ rows. rows) [] old.now new.now
-    (no_edits RowOf KeyOf shape books_schema all_listed i u old.now new.now books (leaves (shape i) books_schema free (listed i) text tests terms is plain_text params old new books.same_schema h))
+    (no_edits RowOf KeyOf shape books_schema all_listed i u old.now new.now books (leaves (shape i) books_schema free (listed i) text tests terms over.is over.plain params old new books.same_schema h))
     (λ rows seen. refl) (λ rows j other. refl)
 
 not_zero : (n : ℕ) → nat_eq (suc n) 0 ≡ false
 not_zero n = grind (arith, nat_tests)
 
-puts_over : (i : Kept) (as_row : RowOf i → AnyRow) (text : List ℕ) (tests terms : List Term)
-    → command_of (understood books_schema text) ≡ Update (shape i).place (record { lets = []; body = plain_query (inner (shape i).tree end) tests terms [] }) → IsPlain (understood books_schema text)
-    → ((u : Name) (x : RowOf i) (old new : Database) → AreBooks old → Edits RowOf KeyOf shape books_schema i u (put_row (shape i).order (shape i).key x) old new → Applies u (Put (as_row x) ∷ []) old new)
+puts_over : (i : Kept) (text : List ℕ) (tests terms : List Term) → Updates (shape i) text tests terms
     → ((u : Name) (x : RowOf i) (id : Value) (y : Row) → passes (shape i).tree tests terms [] (Text u ∷ (shape i).cells x) y ≡ agree plain (1 ∷ (shape i).keys) y (1 ∷ (shape i).keys) (row_in (shape i) id u x))
     → ((u : Name) (x : RowOf i) (id : Value) (v : Name) (y : RowOf i) → is_eq (by_columns (1 ∷ (shape i).keys) (row_in (shape i) id u x) (row_in (shape i) id v y)) ≡ true
     → (shows (shape i).tree tests terms [] (Text u ∷ (shape i).cells x) (row_in (shape i) id v y)).1 ≡ id ∷ row_in (shape i) id u x)
-    → (u : Name) (x : RowOf i) (old new : State) → AreBooks old.now → (count : ℕ) → Executes text (Text u ∷ (shape i).cells x) old new (Ok count) → Applies u (changes_written count (Put (as_row x))) old.now new.now
-puts_over i as_row text tests terms is plain_text edited same shown u x old new books zero h = none_written i text tests terms is plain_text u (Text u ∷ (shape i).cells x) old new books h
-puts_over i as_row text tests terms is plain_text edited same shown u x old new books (suc n) h = edited u x old.now new.now books (written_over i text tests terms is plain_text u x (same u x) (shown u x) old new books (suc n) (not_zero n) h)
+    → (u : Name) (x : RowOf i) (old new : State) → AreBooks old.now → (count : ℕ) → Executes text (Text u ∷ (shape i).cells x) old new (Ok count) → Applies u (changes_written count (Put (as_row i x))) old.now new.now
+puts_over i text tests terms over same shown u x old new books zero h = none_written i text tests terms over u (Text u ∷ (shape i).cells x) old new books h
+puts_over i text tests terms over same shown u x old new books (suc n) h = edited i u x old.now new.now books (written_over i text tests terms over u x (same u x) (shown u x) old new books (suc n) (not_zero n) h)
 
 is_zero : (n : ℕ) → nat_eq n 0 ≡ true → n ≡ 0
 is_zero n e = grind (arith, nat_tests)
@@ -113,7 +106,7 @@ unit_shown u x id v y tie =
 
 pub unit_over : (u : Name) (x : UnitRow) (old new : State) → AreBooks old.now → (count : ℕ) → Executes over_unit_text (Text u ∷ unit_shape.cells x) old new (Ok count) → Applies u (changes_written count (Put (UnitPut x))) old.now new.now
 unfolding first_key
-unit_over = puts_over UnitKept UnitPut over_unit_text by_unit over_unit_shows over_unit_is over_unit_plain unit_edited (λ u x id y. refl) unit_shown
+unit_over = puts_over UnitKept over_unit_text by_unit _ over_unit (λ u x id y. refl) unit_shown
 
 -- ---- a grant
 
@@ -130,60 +123,60 @@ grant_shown u x id v y tie =
 
 pub grant_over : (u : Name) (x : GrantRow) (old new : State) → AreBooks old.now → (count : ℕ) → Executes over_grant_text (Text u ∷ grant_shape.cells x) old new (Ok count) → Applies u (changes_written count (Put (GrantPut x))) old.now new.now
 unfolding first_key
-grant_over = puts_over GrantKept GrantPut over_grant_text by_three over_grant_shows over_grant_is over_grant_plain (λ u x old new books. grant_edited u x old new) (λ u x id y. refl) grant_shown
+grant_over = puts_over GrantKept over_grant_text by_three _ over_grant (λ u x id y. refl) grant_shown
 
 -- ---- an alarm
 
 alarm_shown : (u : Name) (x : AlarmRow) (id : Value) (v : Name) (y : AlarmRow) → is_eq (by_columns (1 ∷ 2 ∷ []) (row_in alarm_shape id u x) (row_in alarm_shape id v y)) ≡ true
-    → (shows 5 by_two over_alarm_shows [] (Text u ∷ alarm_shape.cells x) (row_in alarm_shape id v y)).1 ≡ id ∷ row_in alarm_shape id u x
+    → (shows 5 by_two (over_two_shows alarm_shape) [] (Text u ∷ alarm_shape.cells x) (row_in alarm_shape id v y)).1 ≡ id ∷ row_in alarm_shape id u x
 alarm_shown u x id v y tie =
     let both = both_tie (value_cmp (Text u) (Text v)) (ordering_then (value_cmp (Text x.tag) (Text y.tag)) Equal) tie in
     let unit : v ≡ u = sym (same_text u v both.0) in
     let tag : y.tag ≡ x.tag = sym (same_text x.tag y.tag (both_tie (value_cmp (Text x.tag) (Text y.tag)) Equal both.1).0) in
-    ap₂ (λ w t. (shows 5 by_two over_alarm_shows [] (Text u ∷ alarm_shape.cells x) (row_in alarm_shape id w (record y { tag = t }))).1) unit tag
+    ap₂ (λ w t. (shows 5 by_two (over_two_shows alarm_shape) [] (Text u ∷ alarm_shape.cells x) (row_in alarm_shape id w (record y { tag = t }))).1) unit tag
 
 pub alarm_over : (u : Name) (x : AlarmRow) (old new : State) → AreBooks old.now → (count : ℕ) → Executes over_alarm_text (Text u ∷ alarm_shape.cells x) old new (Ok count) → Applies u (changes_written count (Put (AlarmPut x))) old.now new.now
 unfolding first_key
-alarm_over = puts_over AlarmKept AlarmPut over_alarm_text by_two over_alarm_shows over_alarm_is over_alarm_plain (λ u x old new books. alarm_edited u x old new) (λ u x id y. refl) alarm_shown
+alarm_over = puts_over AlarmKept over_alarm_text by_two _ over_alarm (λ u x id y. refl) alarm_shown
 
 -- ---- a shelf
 
 shelf_shown : (u : Name) (x : ShelfRow) (id : Value) (v : Name) (y : ShelfRow) → is_eq (by_columns (1 ∷ 2 ∷ []) (row_in shelf_shape id u x) (row_in shelf_shape id v y)) ≡ true
-    → (shows 7 by_two over_shelf_shows [] (Text u ∷ shelf_shape.cells x) (row_in shelf_shape id v y)).1 ≡ id ∷ row_in shelf_shape id u x
+    → (shows 7 by_two (over_two_shows shelf_shape) [] (Text u ∷ shelf_shape.cells x) (row_in shelf_shape id v y)).1 ≡ id ∷ row_in shelf_shape id u x
 shelf_shown u x id v y tie =
     let both = both_tie (value_cmp (Text u) (Text v)) (ordering_then (value_cmp (Text x.tag) (Text y.tag)) Equal) tie in
     let unit : v ≡ u = sym (same_text u v both.0) in
     let tag : y.tag ≡ x.tag = sym (same_text x.tag y.tag (both_tie (value_cmp (Text x.tag) (Text y.tag)) Equal both.1).0) in
-    ap₂ (λ w t. (shows 7 by_two over_shelf_shows [] (Text u ∷ shelf_shape.cells x) (row_in shelf_shape id w (record y { tag = t }))).1) unit tag
+    ap₂ (λ w t. (shows 7 by_two (over_two_shows shelf_shape) [] (Text u ∷ shelf_shape.cells x) (row_in shelf_shape id w (record y { tag = t }))).1) unit tag
 
 pub shelf_over : (u : Name) (x : ShelfRow) (old new : State) → AreBooks old.now → (count : ℕ) → Executes over_shelf_text (Text u ∷ shelf_shape.cells x) old new (Ok count) → Applies u (changes_written count (Put (ShelfPut x))) old.now new.now
 unfolding first_key
-shelf_over = puts_over ShelfKept ShelfPut over_shelf_text by_two over_shelf_shows over_shelf_is over_shelf_plain (λ u x old new books. shelf_edited u x old new) (λ u x id y. refl) shelf_shown
+shelf_over = puts_over ShelfKept over_shelf_text by_two _ over_shelf (λ u x id y. refl) shelf_shown
 
 -- ---- a record
 
 record_shown : (u : Name) (x : RecordEntry) (id : Value) (v : Name) (y : RecordEntry) → is_eq (by_columns (1 ∷ 2 ∷ []) (row_in record_shape id u x) (row_in record_shape id v y)) ≡ true
-    → (shows 15 by_two over_record_shows [] (Text u ∷ record_shape.cells x) (row_in record_shape id v y)).1 ≡ id ∷ row_in record_shape id u x
+    → (shows 15 by_two (over_two_shows record_shape) [] (Text u ∷ record_shape.cells x) (row_in record_shape id v y)).1 ≡ id ∷ row_in record_shape id u x
 record_shown u x id v y tie =
     let both = both_tie (value_cmp (Text u) (Text v)) (ordering_then (value_cmp (Text x.tag) (Text y.tag)) Equal) tie in
     let unit : v ≡ u = sym (same_text u v both.0) in
     let tag : y.tag ≡ x.tag = sym (same_text x.tag y.tag (both_tie (value_cmp (Text x.tag) (Text y.tag)) Equal both.1).0) in
-    ap₂ (λ w t. (shows 15 by_two over_record_shows [] (Text u ∷ record_shape.cells x) (row_in record_shape id w (record y { tag = t }))).1) unit tag
+    ap₂ (λ w t. (shows 15 by_two (over_two_shows record_shape) [] (Text u ∷ record_shape.cells x) (row_in record_shape id w (record y { tag = t }))).1) unit tag
 
 pub record_over : (u : Name) (x : RecordEntry) (old new : State) → AreBooks old.now → (count : ℕ) → Executes over_record_text (Text u ∷ record_shape.cells x) old new (Ok count) → Applies u (changes_written count (Put (RecordPut x))) old.now new.now
 unfolding first_key
-record_over = puts_over RecordKept RecordPut over_record_text by_two over_record_shows over_record_is over_record_plain (λ u x old new books. record_edited u x old new) (λ u x id y. refl) record_shown
+record_over = puts_over RecordKept over_record_text by_two _ over_record (λ u x id y. refl) record_shown
 
 -- ---- a change
 
 change_shown : (u : Name) (x : ChangeEntry) (id : Value) (v : Name) (y : ChangeEntry) → is_eq (by_columns (1 ∷ 2 ∷ []) (row_in change_shape id u x) (row_in change_shape id v y)) ≡ true
-    → (shows 17 by_two over_change_shows [] (Text u ∷ change_shape.cells x) (row_in change_shape id v y)).1 ≡ id ∷ row_in change_shape id u x
+    → (shows 17 by_two (over_two_shows change_shape) [] (Text u ∷ change_shape.cells x) (row_in change_shape id v y)).1 ≡ id ∷ row_in change_shape id u x
 change_shown u x id v y tie =
     let both = both_tie (value_cmp (Text u) (Text v)) (ordering_then (value_cmp (number x.number) (number y.number)) Equal) tie in
     let unit : v ≡ u = sym (same_text u v both.0) in
     let n : y.number ≡ x.number = sym (same_number x.number y.number (both_tie (value_cmp (number x.number) (number y.number)) Equal both.1).0) in
-    ap₂ (λ w m. (shows 17 by_two over_change_shows [] (Text u ∷ change_shape.cells x) (row_in change_shape id w (record y { number = m }))).1) unit n
+    ap₂ (λ w m. (shows 17 by_two (over_two_shows change_shape) [] (Text u ∷ change_shape.cells x) (row_in change_shape id w (record y { number = m }))).1) unit n
 
 pub change_over : (u : Name) (x : ChangeEntry) (old new : State) → AreBooks old.now → (count : ℕ) → Executes over_change_text (Text u ∷ change_shape.cells x) old new (Ok count) → Applies u (changes_written count (Put (ChangePut x))) old.now new.now
 unfolding first_key
-change_over = puts_over ChangeKept ChangePut over_change_text by_two over_change_shows over_change_is over_change_plain (λ u x old new books. change_edited u x old new) (λ u x id y. refl) change_shown
+change_over = puts_over ChangeKept over_change_text by_two _ over_change (λ u x id y. refl) change_shown

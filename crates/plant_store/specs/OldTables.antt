@@ -6,16 +6,9 @@ use Rattle.sqlite_value.specs.declared.value.Value.TheVariants.{Null, Text}
 use Rattle.sqlite_value.specs.Order.{Row, bytes, column}
 use Rattle.std.specs.Ordering.{nat_cmp}
 use Rattle.std.specs.Prelude.{List, [], codes, ℕ, ◌∷◌}
-use Rattle.plant_alarm.specs.declared.event.Event.{Event}
 use Rattle.plant_columns.specs.Codes.{number, number_in, role, role_in}
-use Rattle.plant_columns.specs.Tables.{Kept, KeyOf, alarm_shape, band_shape, by_person, cell_shape, change_shape, event_shape, key_index, number_column, office_table, record_shape, shelf_shape, text_column}
-use Rattle.plant_columns.specs.Tables.Kept.{AlarmKept, BandKept, CellKept, ChangeKept, EventKept, GrantKept, RecordKept, ShelfKept, UnitKept}
-use Rattle.plant_model.specs.declared.rows.AlarmRow.{AlarmRow}
-use Rattle.plant_model.specs.declared.rows.BandRow.{BandRow}
-use Rattle.plant_model.specs.declared.rows.CellRow.{CellRow}
-use Rattle.plant_model.specs.declared.rows.ChangeEntry.{ChangeEntry}
-use Rattle.plant_model.specs.declared.rows.RecordEntry.{RecordEntry}
-use Rattle.plant_model.specs.declared.rows.ShelfRow.{ShelfRow}
+use Rattle.plant_columns.specs.Tables.{Kept, KeyOf, RowOf, alarm_shape, band_shape, by_person, cell_shape, change_shape, event_shape, key_index, number_column, office_table, record_shape, shape, shelf_shape, text_column}
+use Rattle.plant_columns.specs.Tables.Kept.{GrantKept, UnitKept}
 use Rattle.plant_store.specs.declared.old_rows.OldGrantRow.{OldGrantRow}
 use Rattle.plant_store.specs.declared.old_rows.OldUnitRow.{OldUnitRow}
 use Rattle.plant_columns.specs.Shape.{AreTables, Shape, seen, table_in}
@@ -62,27 +55,17 @@ old_grant_shape = record {
   read = λ r. record { person = bytes (column r 2); role_no = role_in (column r 3) };
 }
 
+-- a row of each table of that schema: two are of their own, the others those of today
 abbrev pub OldRowOf : Kept → Type 0
 OldRowOf UnitKept = OldUnitRow
 OldRowOf GrantKept = OldGrantRow
-OldRowOf AlarmKept = AlarmRow
-OldRowOf ShelfKept = ShelfRow
-OldRowOf BandKept = BandRow
-OldRowOf CellKept = CellRow
-OldRowOf EventKept = Event
-OldRowOf RecordKept = RecordEntry
-OldRowOf ChangeKept = ChangeEntry
+OldRowOf i = RowOf i
 
+-- the shape of each table of that schema
 abbrev pub old_shape : (i : Kept) → Shape (OldRowOf i) (KeyOf i)
 old_shape UnitKept = old_unit_shape
 old_shape GrantKept = old_grant_shape
-old_shape AlarmKept = alarm_shape
-old_shape ShelfKept = shelf_shape
-old_shape BandKept = band_shape
-old_shape CellKept = cell_shape
-old_shape EventKept = event_shape
-old_shape RecordKept = record_shape
-old_shape ChangeKept = change_shape
+old_shape i = shape i
 
 abbrev pub old_books_schema : Schema
 old_books_schema = record {

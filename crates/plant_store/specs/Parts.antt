@@ -8,10 +8,9 @@ use Rattle.std.specs.Prelude.{Bool, IfOk, List, Result, Some, filter, length, tr
 use Rattle.plant_alarm.specs.declared.event.Event.{Event}
 use Rattle.plant_model.specs.declared.kinds.Scope.{Scope}
 use Rattle.plant_books.specs.Numbered.{NumbersRise, of_numbers}
-use Rattle.plant_books.specs.declared.asking.Wanted.{Wanted}
 use Rattle.plant_books.specs.declared.asking.WantedAlarms.{WantedAlarms}
 use Rattle.plant_columns.specs.Tables.{AreBooks, Kept, rows_seen}
-use Rattle.plant_columns.specs.Tables.Kept.{AlarmKept, BandKept, CellKept, ChangeKept, EventKept, GrantKept, RecordKept, ShelfKept}
+use Rattle.plant_columns.specs.Tables.Kept.{AlarmKept, BandKept, CellKept, ChangeKept, EventKept, GrantKept, ShelfKept}
 use Rattle.plant_model.specs.Scopes.{is_shelving, looks_at_events, number_approved, selection_by}
 use Rattle.plant_model.specs.declared.call.Request.{Request}
 use Rattle.plant_model.specs.declared.rows.AlarmRow.{AlarmRow}
@@ -20,14 +19,13 @@ use Rattle.plant_model.specs.declared.rows.CellRow.{CellRow}
 use Rattle.plant_model.specs.declared.rows.ChangeEntry.{ChangeEntry}
 use Rattle.plant_model.specs.declared.rows.GrantRow.{GrantRow}
 use Rattle.plant_model.specs.declared.rows.RecordEntry.{RecordEntry}
-use Rattle.plant_model.specs.declared.rows.ShelfRow.{ShelfRow}
 use Rattle.plant_model.specs.declared.rows.UnitRow.{UnitRow}
 use Rattle.plant_model.specs.declared.rows.UnitRows.{UnitRows}
 use Rattle.plant_model.specs.Histories.{same_number}
 use Rattle.plant_model.specs.Parts.{counted_for, is_crowded}
 use Rattle.plant_model.specs.RowFacts.{last_number}
 use Rattle.plant_store.specs.Changes.{IsHonest}
-use Rattle.plant_store.specs.Wanted.{alarms_with, events_with, records_with, shelves_with}
+use Rattle.plant_store.specs.Wanted.{alarms_with, events_with}
 use Rattle.plant_types.specs.Names.{Name, same_name}
 
 -- ---- of the tables
@@ -44,15 +42,9 @@ count_seen unit i trees = length (rows_seen unit trees i)
 abbrev pub last_change_seen : Name → Trees → ℕ
 last_change_seen unit trees = last_number (rows_seen unit trees ChangeKept)
 
--- the alarms, shelves, records and events of a unit that are read for those that are wanted
+-- the alarms and events of a unit that are read for those that are wanted
 abbrev pub alarms_seen : WantedAlarms → Name → Trees → List AlarmRow
 alarms_seen wanted unit trees = alarms_with wanted (rows_seen unit trees AlarmKept)
-
-abbrev pub shelves_seen : Wanted → Name → Trees → List ShelfRow
-shelves_seen wanted unit trees = shelves_with wanted (rows_seen unit trees ShelfKept)
-
-abbrev pub records_seen : Wanted → Name → Trees → List RecordEntry
-records_seen wanted unit trees = records_with wanted (rows_seen unit trees RecordKept)
 
 abbrev pub events_seen : Bool → Name → Trees → List Event
 events_seen wanted unit trees = events_with wanted (rows_seen unit trees EventKept)

@@ -7,7 +7,7 @@ use Rattle.sqlite_trees.specs.declared.store.Store.{Ghosts}
 use Rattle.std.specs.Prelude.{IsTrue, List, OnOk, Result, [], map, ◌≡◌}
 use Rattle.plant_model.specs.declared.rows.Row.{Row}
 use Rattle.plant_model.specs.declared.rows.RowEdit.TheVariants.{Put}
-use Rattle.plant_store.specs.declared.migration.TableKind.{TableKind}
+use Rattle.plant_store.specs.declared.make.TableKind.{TableKind}
 use Rattle.plant_store.specs.declared.old_rows.CodeLine.{CodeLine}
 use Rattle.plant_store.specs.Changes.{IsHonest}
 use Rattle.plant_store.specs.OldTables.{AreOldBooks}

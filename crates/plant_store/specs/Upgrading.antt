@@ -17,8 +17,8 @@ use Rattle.plant_model.specs.declared.rows.Row.TheVariants.{Alarm as AlarmPut, B
 use Rattle.plant_model.specs.declared.rows.UnitRow.{UnitRow}
 use Rattle.plant_model.specs.declared.rows.UnitRows.{UnitRows}
 use Rattle.plant_model.specs.RowChanges.{no_rows}
-use Rattle.plant_store.specs.declared.migration.TableKind.{TableKind}
-use Rattle.plant_store.specs.declared.migration.TableKind.TheVariants.{Alarms, Bands, Cells, Changes, Events, Grants, Records, Shelves, Units}
+use Rattle.plant_store.specs.declared.make.TableKind.{TableKind}
+use Rattle.plant_store.specs.declared.make.TableKind.TheVariants.{Alarms, Bands, Cells, Changes, Events, Grants, Records, Shelves, Units}
 use Rattle.plant_store.specs.declared.old_rows.OldGrantRow.{OldGrantRow}
 use Rattle.plant_store.specs.declared.old_rows.OldUnitRow.{OldUnitRow}
 use Rattle.plant_store.specs.Keeping.{has_any}

@@ -1,11 +1,12 @@
 //! The tables of new books.
 
-ghost use Rattle.std.specs.Prelude.{OnOk};
+ghost use Rattle.std.specs.Prelude.{◌≡◌, OnOk};
 ghost use Rattle.sqlite.specs.Held.{state};
 ghost use Rattle.plant_books.specs.Books.{WasHonest};
 ghost use Rattle.plant_store.specs.Changes.{IsHonest};
-ghost use Rattle.plant_store.specs.Making.{AreEmpty, AreNew};
-ghost use Rattle.plant_columns.specs.Tables.{no_schema, grants_schema, shelves_schema, events_schema, changes_schema};
+ghost use Rattle.plant_store.specs.Making.{AreEmpty, AreNew, kept_as, schema_before, schema_with};
+ghost use Rattle.plant_columns.specs.Tables.{no_schema, office_schema, shelves_schema, changes_schema};
+ghost use Rattle.plant_store.specs.Texts as texts;
 ghost use Rattle.plant_store.specs.Reading.{HasNoTransaction, IsHonestIn};
 ghost use Rattle.plant_store.specs.Writing.{IsBlank, LeadsTo, SameOnErr, SameReference, StaysOpen};
 
@@ -14,98 +15,99 @@ use plant_columns::encode::single;
 use plant_types::Person;
 use sqlite::{Alter, Connection, Error, Transaction};
 
-/// Makes the tables of the office, of units and of grants.
-fn make_grants<S: Alter>(tx: &mut Transaction<'_, S>) -> Result<(), Error>
+/// Makes the office's table.
+fn make_office<S: Alter>(tx: &mut Transaction<'_, S>) -> Result<(), Error>
     ensures same_reference { SameReference tx.old tx.new }
     ensures made { LeadsTo S.Store tx.old tx.new
-        (AreEmpty no_schema) (AreEmpty grants_schema) result }
+        (AreEmpty no_schema) (AreEmpty office_schema) result }
     ensures stays { StaysOpen S.Store tx.old tx.new result }
 {
     run(
         tx,
         "CREATE TABLE office (id INTEGER NOT NULL, schema_no INTEGER NOT NULL, admin TEXT NOT NULL, PRIMARY KEY (id)) STRICT",
         &[],
-    )?;
-    run(
-        tx,
-        "CREATE TABLE units (unit TEXT NOT NULL, last_s INTEGER NOT NULL, matrix_no INTEGER NOT NULL, matrix_rev INTEGER NOT NULL, quota INTEGER NOT NULL, PRIMARY KEY (unit)) STRICT",
-        &[],
-    )?;
-    run(
-        tx,
-        "CREATE TABLE grants (unit TEXT NOT NULL, person TEXT NOT NULL, role_no INTEGER NOT NULL, end_s INTEGER, PRIMARY KEY (unit, person, role_no)) STRICT",
-        &[],
-    )?;
-    Ok(())
+    )
 }
 
-/// Makes the tables of alarms and of shelves.
-fn make_shelves<S: Alter>(tx: &mut Transaction<'_, S>) -> Result<(), Error>
-    ensures same_reference { SameReference tx.old tx.new }
-    ensures made { LeadsTo S.Store tx.old tx.new
-        (AreEmpty grants_schema) (AreEmpty shelves_schema) result }
-    ensures stays { StaysOpen S.Store tx.old tx.new result }
-{
-    run(
-        tx,
-        "CREATE TABLE alarms (unit TEXT NOT NULL, tag TEXT NOT NULL, latching INTEGER NOT NULL, max_s INTEGER NOT NULL, max_rev INTEGER NOT NULL, state_no INTEGER NOT NULL, suppressed INTEGER NOT NULL, active_s INTEGER, return_s INTEGER, out_s INTEGER, out_by TEXT, out_words TEXT, PRIMARY KEY (unit, tag)) STRICT",
-        &[],
-    )?;
-    run(
-        tx,
-        "CREATE TABLE shelves (unit TEXT NOT NULL, tag TEXT NOT NULL, one_shot INTEGER NOT NULL, start_s INTEGER NOT NULL, until_s INTEGER NOT NULL, person TEXT NOT NULL, words TEXT NOT NULL, PRIMARY KEY (unit, tag)) STRICT",
-        &[],
-    )?;
-    Ok(())
+/// The tables that have rows of units.
+pub enum TableKind {
+    Units,
+    Grants,
+    Alarms,
+    Shelves,
+    Events,
+    Bands,
+    Cells,
+    Records,
+    Changes,
 }
 
-/// Makes the tables of matrices and of events.
-fn make_events<S: Alter>(tx: &mut Transaction<'_, S>) -> Result<(), Error>
-    ensures same_reference { SameReference tx.old tx.new }
-    ensures made { LeadsTo S.Store tx.old tx.new
-        (AreEmpty shelves_schema) (AreEmpty events_schema) result }
-    ensures stays { StaysOpen S.Store tx.old tx.new result }
+/// The text that makes the table. They stand in the order in which the tables are made: scripts/check-schema reads them so.
+fn table_text(kind: &TableKind) -> &'static str
+    ensures { result.now ≡ texts.table_text (kept_as kind.now) }
 {
-    run(
-        tx,
-        "CREATE TABLE bands (unit TEXT NOT NULL, matrix_no INTEGER NOT NULL, band_no INTEGER NOT NULL, limit_s INTEGER NOT NULL, PRIMARY KEY (unit, matrix_no, band_no)) STRICT",
-        &[],
-    )?;
-    run(
-        tx,
-        "CREATE TABLE cells (unit TEXT NOT NULL, matrix_no INTEGER NOT NULL, severity INTEGER NOT NULL, band_no INTEGER NOT NULL, cell_no INTEGER NOT NULL, PRIMARY KEY (unit, matrix_no, severity, band_no)) STRICT",
-        &[],
-    )?;
-    run(
-        tx,
-        "CREATE TABLE events (unit TEXT NOT NULL, seq INTEGER NOT NULL, moment_s INTEGER NOT NULL, tag TEXT NOT NULL, kind_no INTEGER NOT NULL, PRIMARY KEY (unit, seq)) STRICT",
-        &[],
-    )?;
-    Ok(())
+    match kind {
+        TableKind::Units =>
+            "CREATE TABLE units (unit TEXT NOT NULL, last_s INTEGER NOT NULL, matrix_no INTEGER NOT NULL, matrix_rev INTEGER NOT NULL, quota INTEGER NOT NULL, PRIMARY KEY (unit)) STRICT",
+        TableKind::Grants =>
+            "CREATE TABLE grants (unit TEXT NOT NULL, person TEXT NOT NULL, role_no INTEGER NOT NULL, end_s INTEGER, PRIMARY KEY (unit, person, role_no)) STRICT",
+        TableKind::Alarms =>
+            "CREATE TABLE alarms (unit TEXT NOT NULL, tag TEXT NOT NULL, latching INTEGER NOT NULL, max_s INTEGER NOT NULL, max_rev INTEGER NOT NULL, state_no INTEGER NOT NULL, suppressed INTEGER NOT NULL, active_s INTEGER, return_s INTEGER, out_s INTEGER, out_by TEXT, out_words TEXT, PRIMARY KEY (unit, tag)) STRICT",
+        TableKind::Shelves =>
+            "CREATE TABLE shelves (unit TEXT NOT NULL, tag TEXT NOT NULL, one_shot INTEGER NOT NULL, start_s INTEGER NOT NULL, until_s INTEGER NOT NULL, person TEXT NOT NULL, words TEXT NOT NULL, PRIMARY KEY (unit, tag)) STRICT",
+        TableKind::Bands =>
+            "CREATE TABLE bands (unit TEXT NOT NULL, matrix_no INTEGER NOT NULL, band_no INTEGER NOT NULL, limit_s INTEGER NOT NULL, PRIMARY KEY (unit, matrix_no, band_no)) STRICT",
+        TableKind::Cells =>
+            "CREATE TABLE cells (unit TEXT NOT NULL, matrix_no INTEGER NOT NULL, severity INTEGER NOT NULL, band_no INTEGER NOT NULL, cell_no INTEGER NOT NULL, PRIMARY KEY (unit, matrix_no, severity, band_no)) STRICT",
+        TableKind::Events =>
+            "CREATE TABLE events (unit TEXT NOT NULL, seq INTEGER NOT NULL, moment_s INTEGER NOT NULL, tag TEXT NOT NULL, kind_no INTEGER NOT NULL, PRIMARY KEY (unit, seq)) STRICT",
+        TableKind::Records =>
+            "CREATE TABLE records (unit TEXT NOT NULL, tag TEXT NOT NULL, change_no INTEGER NOT NULL, rev INTEGER NOT NULL, cell_no INTEGER NOT NULL, PRIMARY KEY (unit, tag)) STRICT",
+        TableKind::Changes =>
+            "CREATE TABLE changes (unit TEXT NOT NULL, number INTEGER NOT NULL, proposer TEXT NOT NULL, proposed_s INTEGER NOT NULL, kind_no INTEGER NOT NULL, tag TEXT, base INTEGER NOT NULL, cause TEXT, consequence TEXT, remedy TEXT, severity INTEGER, response_s INTEGER, max_s INTEGER, state_no INTEGER NOT NULL, decider TEXT, decided_s INTEGER, PRIMARY KEY (unit, number)) STRICT",
+    }
 }
 
-/// Makes the tables of records and of changes.
-fn make_changes<S: Alter>(tx: &mut Transaction<'_, S>) -> Result<(), Error>
+/// Makes a table, after those before it.
+fn make_table<S: Alter>(tx: &mut Transaction<'_, S>, kind: &TableKind) -> Result<(), Error>
     ensures same_reference { SameReference tx.old tx.new }
-    ensures made { LeadsTo S.Store tx.old tx.new
-        (AreEmpty events_schema) (AreEmpty changes_schema) result }
+    ensures made { LeadsTo S.Store tx.old tx.new (AreEmpty (schema_before (kept_as kind.now)))
+        (AreEmpty (schema_with (kept_as kind.now))) result }
     ensures stays { StaysOpen S.Store tx.old tx.new result }
 {
-    run(
-        tx,
-        "CREATE TABLE records (unit TEXT NOT NULL, tag TEXT NOT NULL, change_no INTEGER NOT NULL, rev INTEGER NOT NULL, cell_no INTEGER NOT NULL, PRIMARY KEY (unit, tag)) STRICT",
-        &[],
-    )?;
-    run(
-        tx,
-        "CREATE TABLE changes (unit TEXT NOT NULL, number INTEGER NOT NULL, proposer TEXT NOT NULL, proposed_s INTEGER NOT NULL, kind_no INTEGER NOT NULL, tag TEXT, base INTEGER NOT NULL, cause TEXT, consequence TEXT, remedy TEXT, severity INTEGER, response_s INTEGER, max_s INTEGER, state_no INTEGER NOT NULL, decider TEXT, decided_s INTEGER, PRIMARY KEY (unit, number)) STRICT",
-        &[],
-    )?;
-    Ok(())
+    run(tx, table_text(kind), &[])
+}
+
+/// Makes the tables of the office, of units, of grants, of alarms and of shelves.
+fn make_first_tables<S: Alter>(tx: &mut Transaction<'_, S>) -> Result<(), Error>
+    ensures same_reference { SameReference tx.old tx.new }
+    ensures made { LeadsTo S.Store tx.old tx.new
+        (AreEmpty no_schema) (AreEmpty shelves_schema) result }
+    ensures stays { StaysOpen S.Store tx.old tx.new result }
+{
+    make_office(tx)?;
+    make_table(tx, &TableKind::Units)?;
+    make_table(tx, &TableKind::Grants)?;
+    make_table(tx, &TableKind::Alarms)?;
+    make_table(tx, &TableKind::Shelves)
+}
+
+/// Makes the tables of matrices, of events, of records and of changes.
+fn make_other_tables<S: Alter>(tx: &mut Transaction<'_, S>) -> Result<(), Error>
+    ensures same_reference { SameReference tx.old tx.new }
+    ensures made { LeadsTo S.Store tx.old tx.new
+        (AreEmpty shelves_schema) (AreEmpty changes_schema) result }
+    ensures stays { StaysOpen S.Store tx.old tx.new result }
+{
+    make_table(tx, &TableKind::Bands)?;
+    make_table(tx, &TableKind::Cells)?;
+    make_table(tx, &TableKind::Events)?;
+    make_table(tx, &TableKind::Records)?;
+    make_table(tx, &TableKind::Changes)
 }
 
 /// Makes the index of grants by persons, and the office's row.
-fn make_office<S: Alter>(tx: &mut Transaction<'_, S>, admin: &Person) -> Result<(), Error>
+fn fill_office<S: Alter>(tx: &mut Transaction<'_, S>, admin: &Person) -> Result<(), Error>
     ensures same_reference { SameReference tx.old tx.new }
     ensures made { LeadsTo S.Store tx.old tx.new
         (AreEmpty changes_schema) (AreNew admin.now) result }
@@ -130,12 +132,9 @@ pub fn make_tables<S: Alter>(tx: &mut Transaction<'_, S>, admin: &Person) -> Res
     ensures made { LeadsTo S.Store tx.old tx.new IsBlank (AreNew admin.now) result }
     ensures stays { StaysOpen S.Store tx.old tx.new result }
 {
-    make_grants(tx)?;
-    make_shelves(tx)?;
-    make_events(tx)?;
-    make_changes(tx)?;
-    make_office(tx, admin)?;
-    Ok(())
+    make_first_tables(tx)?;
+    make_other_tables(tx)?;
+    fill_office(tx, admin)
 }
 
 /// Makes all tables in a database that has none: all of them, or nothing.

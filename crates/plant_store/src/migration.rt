@@ -18,7 +18,7 @@ ghost use Rattle.plant_store.specs.TakingOver.{Takes, TakesTable, TakesTables, T
 ghost use Rattle.plant_store.specs.Writing.{IsBlank, SameDatabase, SameOnErr, SameReference, StaysOpen, Writes};
 ghost use Rattle.plant_store.specs.declared.tables.StoreFault.TheVariants.{NotThisStore};
 
-use crate::make::make_tables;
+use crate::make::{TableKind, make_tables};
 use crate::old_rows::{CodeLine, OldGrantRow, OldRow, OldUnitRow, old_codes_of, old_rows_of};
 use crate::opening::is_office_of;
 use crate::tables::{StoreFault, Tables, fault_of, is_blank};
@@ -30,19 +30,6 @@ use std::alloc::Global;
 
 /// The schema from which a plant is taken over.
 const OLD_SCHEMA: u32 = 1;
-
-/// The tables that have rows of units.
-pub enum TableKind {
-    Units,
-    Grants,
-    Alarms,
-    Shelves,
-    Events,
-    Bands,
-    Cells,
-    Records,
-    Changes,
-}
 
 /// Connections of which the one was not taken over into the other, handed back with the administrator's name.
 #[derive(Drop)]

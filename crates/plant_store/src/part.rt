@@ -14,8 +14,8 @@ ghost use Rattle.plant_model.specs.Order.{TagsRise};
 ghost use Rattle.plant_model.specs.RowFacts.{alarm_tag, event_number, shelf_tag};
 ghost use Rattle.plant_types.specs.KeyedRows.{IsInOrder};
 ghost use Rattle.std.specs.Ordering.{nat_cmp};
-ghost use Rattle.plant_store.specs.Parts.{AreAskedBy, LoadsApproved, LoadsCount, LoadsCrowding, LoadsGrants, alarms_seen, events_seen, grants_of, records_seen, shelves_seen};
-ghost use Rattle.plant_store.specs.Wanted.{alarms_left};
+ghost use Rattle.plant_store.specs.Parts.{AreAskedBy, LoadsApproved, LoadsCount, LoadsCrowding, LoadsGrants, alarms_seen, events_seen, grants_of};
+ghost use Rattle.plant_store.specs.Wanted.{alarms_left, rows_with};
 ghost use Rattle.plant_store.specs.Reading.{HasNoTransaction, Loads, ReadsBooks, ReadsContent};
 
 use crate::numbers::{some_bands, some_cells, some_changes};
@@ -23,6 +23,7 @@ use crate::read::{
     all_rows, count_of_alarms, count_of_shelves, last_change_number, own_grants, row_of_tag,
     rows_of_number,
 };
+use crate::stored::Tagged;
 use crate::unit::has_row;
 use plant_alarm::Event;
 use plant_books::{
@@ -30,9 +31,8 @@ use plant_books::{
     wanted_alarms, wanted_events, wanted_records, wanted_shelves, wants_all_grants,
 };
 use plant_model::{
-    AlarmRow, Call, ChangeEntry, Counted, GrantRow, RecordEntry, Request, Scope, ShelfRow,
-    UnitPart, UnitRow, UnitRows, holds_some_by, is_shelving, looks_at_events, number_approved,
-    scope_of,
+    AlarmRow, Call, ChangeEntry, Counted, GrantRow, Request, Scope, ShelfRow, UnitPart, UnitRow,
+    UnitRows, holds_some_by, is_shelving, looks_at_events, number_approved, scope_of,
 };
 use plant_types::{List, UnitCode};
 use sqlite::{Alter, Connection, Error, ErrorCode};
@@ -58,6 +58,26 @@ pub fn some_grants<S: Alter>(
     }
 }
 
+/// The unit's rows of the tags that are wanted.
+fn rows_wanted<T: Tagged, S: Alter>(
+    alloc: Global,
+    conn: &mut Connection<S>,
+    unit: &UnitCode,
+    wanted: Wanted<'_>,
+) -> Result<List<T>, Error>
+    requires { HasNoTransaction conn.old }
+    ensures mode { HasNoTransaction conn.new }
+    ensures rows { Loads S.Store conn.old conn.new
+        (λ trees. rows_with T.tag wanted.entry (T.seen unit.now trees)) result }
+    ensures reads { ReadsBooks S.Store conn.old conn.new }
+{
+    match wanted {
+        Wanted::Nothing => Ok(List::new(alloc)),
+        Wanted::One(tag) => row_of_tag(alloc, conn, unit, tag),
+        Wanted::Every => all_rows(alloc, conn, unit),
+    }
+}
+
 /// The unit's alarms that are wanted, or all where shelves decide which are.
 pub fn some_alarms<S: Alter>(
     alloc: Global,
@@ -71,9 +91,8 @@ pub fn some_alarms<S: Alter>(
     ensures reads { ReadsBooks S.Store conn.old conn.new }
 {
     match wanted {
-        WantedAlarms::Those(Wanted::Nothing) => Ok(List::new(alloc)),
-        WantedAlarms::Those(Wanted::One(tag)) => row_of_tag::<AlarmRow, S>(alloc, conn, unit, tag),
-        WantedAlarms::Those(Wanted::Every) | WantedAlarms::Shelved => all_rows(alloc, conn, unit),
+        WantedAlarms::Those(wanted) => rows_wanted(alloc, conn, unit, wanted),
+        WantedAlarms::Shelved => all_rows(alloc, conn, unit),
     }
 }
 
@@ -95,44 +114,6 @@ fn alarms_for(
                 Err(_) => Err(Error::SqliteFailure(ErrorCode::OutOfMemory)),
             }
         }
-    }
-}
-
-/// The unit's shelves that are wanted.
-pub fn some_shelves<S: Alter>(
-    alloc: Global,
-    conn: &mut Connection<S>,
-    unit: &UnitCode,
-    wanted: Wanted<'_>,
-) -> Result<List<ShelfRow>, Error>
-    requires { HasNoTransaction conn.old }
-    ensures mode { HasNoTransaction conn.new }
-    ensures rows { Loads S.Store conn.old conn.new (shelves_seen wanted.entry unit.now) result }
-    ensures reads { ReadsBooks S.Store conn.old conn.new }
-{
-    match wanted {
-        Wanted::Nothing => Ok(List::new(alloc)),
-        Wanted::One(tag) => row_of_tag::<ShelfRow, S>(alloc, conn, unit, tag),
-        Wanted::Every => all_rows(alloc, conn, unit),
-    }
-}
-
-/// The unit's records that are wanted.
-pub fn some_records<S: Alter>(
-    alloc: Global,
-    conn: &mut Connection<S>,
-    unit: &UnitCode,
-    wanted: Wanted<'_>,
-) -> Result<List<RecordEntry>, Error>
-    requires { HasNoTransaction conn.old }
-    ensures mode { HasNoTransaction conn.new }
-    ensures rows { Loads S.Store conn.old conn.new (records_seen wanted.entry unit.now) result }
-    ensures reads { ReadsBooks S.Store conn.old conn.new }
-{
-    match wanted {
-        Wanted::Nothing => Ok(List::new(alloc)),
-        Wanted::One(tag) => row_of_tag::<RecordEntry, S>(alloc, conn, unit, tag),
-        Wanted::Every => all_rows(alloc, conn, unit),
     }
 }
 
@@ -254,12 +235,12 @@ fn holders_part<S: Alter>(
     let tags = wanted_alarms(scope);
     let read = some_alarms(alloc, conn, unit, tags)?;
     let shelved = wanted_shelves(scope);
-    let shelves = some_shelves(alloc, conn, unit, shelved)?;
+    let shelves = rows_wanted(alloc, conn, unit, shelved)?;
     let alarms = alarms_for(alloc, read, &shelves, tags)?;
     let looks = looks_at_events(request);
     let all_events = some_events(alloc, conn, unit, looks)?;
     let recorded = wanted_records(scope);
-    let records = some_records(alloc, conn, unit, recorded)?;
+    let records = rows_wanted(alloc, conn, unit, recorded)?;
     let bands = some_bands(alloc, conn, unit, &units, scope)?;
     let cells = some_cells(alloc, conn, unit, &units, scope)?;
     let changes = some_changes(alloc, conn, unit, &records, scope)?;

@@ -11,7 +11,7 @@ ghost use Rattle.plant_model.specs.declared.rows.Row.{Row as AnyRow};
 ghost use Rattle.plant_model.specs.declared.rows.Row.TheVariants.{Alarm as AlarmPut, Band as BandPut, Cell as CellPut, Change as ChangePut, Event as EventPut, Grant as GrantPut, Record as RecordPut, Shelf as ShelfPut, Unit as UnitPut};
 ghost use Rattle.plant_store.specs.Keys.{has_key};
 ghost use Rattle.plant_store.specs.Statements.{ReadsNumber, ReadsTag, ReadsUnit};
-ghost use Rattle.plant_store.specs.Texts.{alarms_of_text, bands_of_text, cells_of_text, changes_of_text, events_of_text, grants_of_text, records_of_text, shelves_of_text, units_of_text};
+ghost use Rattle.plant_store.specs.Texts.{rows_text};
 ghost use Rattle.plant_types.specs.Names.{Name};
 ghost use Rattle.plant_store.specs.Writing.{SameReference, StaysOpen, Updates, Writes};
 
@@ -91,7 +91,7 @@ impl Stored for UnitRow {
 
     ghost as_row = { UnitPut };
 
-    ghost select_text = { units_of_text };
+    ghost select_text = { rows_text UnitKept };
 
     fn select() -> &'static str {
         "SELECT last_s, matrix_no, matrix_rev, quota FROM units WHERE unit = ?1 ORDER BY unit"
@@ -123,7 +123,7 @@ impl Stored for GrantRow {
 
     ghost as_row = { GrantPut };
 
-    ghost select_text = { grants_of_text };
+    ghost select_text = { rows_text GrantKept };
 
     fn select() -> &'static str {
         "SELECT person, role_no, end_s FROM grants WHERE unit = ?1 ORDER BY unit, person, role_no"
@@ -159,7 +159,7 @@ impl Stored for AlarmRow {
 
     ghost as_row = { AlarmPut };
 
-    ghost select_text = { alarms_of_text };
+    ghost select_text = { rows_text AlarmKept };
 
     fn select() -> &'static str {
         "SELECT tag, latching, max_s, max_rev, state_no, suppressed, active_s, return_s, out_s, out_by, out_words FROM alarms WHERE unit = ?1 ORDER BY unit, tag"
@@ -203,7 +203,7 @@ impl Stored for ShelfRow {
 
     ghost as_row = { ShelfPut };
 
-    ghost select_text = { shelves_of_text };
+    ghost select_text = { rows_text ShelfKept };
 
     fn select() -> &'static str {
         "SELECT tag, one_shot, start_s, until_s, person, words FROM shelves WHERE unit = ?1 ORDER BY unit, tag"
@@ -249,7 +249,7 @@ impl Stored for BandRow {
 
     ghost as_row = { BandPut };
 
-    ghost select_text = { bands_of_text };
+    ghost select_text = { rows_text BandKept };
 
     fn select() -> &'static str {
         "SELECT matrix_no, band_no, limit_s FROM bands WHERE unit = ?1 ORDER BY unit, matrix_no, band_no"
@@ -278,7 +278,7 @@ impl Stored for CellRow {
 
     ghost as_row = { CellPut };
 
-    ghost select_text = { cells_of_text };
+    ghost select_text = { rows_text CellKept };
 
     fn select() -> &'static str {
         "SELECT matrix_no, severity, band_no, cell_no FROM cells WHERE unit = ?1 ORDER BY unit, matrix_no, severity, band_no"
@@ -306,7 +306,7 @@ impl Stored for Event {
 
     ghost as_row = { EventPut };
 
-    ghost select_text = { events_of_text };
+    ghost select_text = { rows_text EventKept };
 
     fn select() -> &'static str {
         "SELECT seq, moment_s, tag, kind_no FROM events WHERE unit = ?1 ORDER BY unit, seq"
@@ -326,7 +326,7 @@ impl Stored for RecordEntry {
 
     ghost as_row = { RecordPut };
 
-    ghost select_text = { records_of_text };
+    ghost select_text = { rows_text RecordKept };
 
     fn select() -> &'static str {
         "SELECT tag, change_no, rev, cell_no FROM records WHERE unit = ?1 ORDER BY unit, tag"
@@ -370,7 +370,7 @@ impl Stored for ChangeEntry {
 
     ghost as_row = { ChangePut };
 
-    ghost select_text = { changes_of_text };
+    ghost select_text = { rows_text ChangeKept };
 
     fn select() -> &'static str {
         "SELECT number, proposer, proposed_s, kind_no, tag, base, cause, consequence, remedy, severity, response_s, max_s, state_no, decider, decided_s FROM changes WHERE unit = ?1 ORDER BY unit, number"

@@ -1,10 +1,7 @@
-ghost use Rattle.std.specs.Prelude.{◌≡◌, IfOk};
-ghost use Rattle.plant_types.specs.Results.{OnlyMemory};
+ghost use Rattle.std.specs.Prelude.{◌≡◌};
 ghost use Rattle.plant_wire.specs.Causes as spec;
 
 use plant_call::Cause;
-use plant_types::Fault;
-use std::alloc::Global;
 
 /// The bytes of the answer to a malformed request.
 pub(crate) fn cause_text(cause: Cause) -> &'static [u8]
@@ -38,12 +35,4 @@ pub(crate) fn cause_text(cause: Cause) -> &'static [u8]
         Cause::NotOrdered =>
             b"HTTP/1.1 400 Bad Request\r\nContent-Type: application/json\r\nContent-Length: 37\r\n\r\n{\"cause\":\"NotOrdered\",\"malformed\":13}",
     }
-}
-
-/// The same in memory of its own.
-pub fn render_cause(alloc: Global, cause: Cause) -> Result<Vec<u8>, Fault>
-    ensures value { IfOk result (λ text. text.items ≡ spec.cause_text cause) }
-    ensures err { OnlyMemory result }
-{
-    Ok(Vec::from_slice(alloc, cause_text(cause))?)
 }

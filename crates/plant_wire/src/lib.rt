@@ -9,7 +9,6 @@ mod std_streams;
 mod step;
 mod streams;
 
-pub use causes::render_cause;
 pub use plant_answer::render;
 pub use plant_call::{Cause, Cut, cuts_agree, next_call, next_call_with, one_reading, one_stream};
 pub use put::bytes_from;

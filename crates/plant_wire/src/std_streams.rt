@@ -1,12 +1,48 @@
-ghost use Rattle.std.specs.Prelude.{◌≡◌, ◌<◌, ◌-◌, ◌^◌, if◌then◌else◌, None, Some, IsSome, false, true};
+ghost use Rattle.std.specs.Prelude.{◌≡◌, ◌≢◌, ◌<◌, ◌-◌, ◌^◌, if◌then◌else◌, None, Some, IfErr, IsSome, false, true};
+ghost use Rattle.std.specs.Io.{ReadsAtMost, WritesAtMost};
+ghost use Rattle.std.specs.Io.KnownBytes.{ReadConsumes, WriteAppends};
+ghost use Rattle.std.specs.IoError.{error_kind};
 ghost use Rattle.std.specs.Option.{is_some};
 
 use crate::streams::{Failed, Inlet, Outlet};
 use std::io;
 use std::io::{ErrorKind, Read, Write};
 
+/// How many times one read or write is tried while signals interrupt it, as when the program is stopped and goes on.
+const TRIES: u32 = 1000;
+
+/// One read, tried again where a signal interrupted it.
+fn read_on<R: Read>(reader: &mut R, buf: &mut [u8]) -> io::Result<usize>
+    ensures bound { ReadsAtMost result buf.new }
+    ensures bytes { ReadConsumes (R.remaining reader.old) (R.remaining reader.new) result buf.new }
+    ensures retried { IfErr result (λ e. error_kind e ≢ ErrorKind.Interrupted) }
+{
+    'tries: for _ in 0..TRIES {
+        match reader.read(buf) {
+            Err(error) if error.kind() == ErrorKind::Interrupted => {}
+            outcome => return outcome,
+        }
+    }
+    Err(ErrorKind::TimedOut.into())
+}
+
+/// One write, tried again where a signal interrupted it.
+fn write_on<W: Write>(writer: &mut W, bytes: &[u8]) -> io::Result<usize>
+    ensures bound { WritesAtMost result bytes.now }
+    ensures bytes { WriteAppends (W.contents writer.old) (W.contents writer.new) result bytes.now }
+    ensures retried { IfErr result (λ e. error_kind e ≢ ErrorKind.Interrupted) }
+{
+    'tries: for _ in 0..TRIES {
+        match writer.write(bytes) {
+            Err(error) if error.kind() == ErrorKind::Interrupted => {}
+            outcome => return outcome,
+        }
+    }
+    Err(ErrorKind::TimedOut.into())
+}
+
 /// A reader of std as an inlet. What it claims of its bytes is what the reader claims. It fails with the reader's error,
-/// or where no more reads can be counted.
+/// with `TimedOut` where signals interrupted one read a thousand times, or where no more reads can be counted.
 #[derive(Drop)]
 pub struct FromRead<R: Read> {
     reader: R,
@@ -33,6 +69,13 @@ impl<R: Read> FromRead<R> {
             error: None,
         }
     }
+
+    /// The reader, as the reads left it.
+    pub fn into_reader(self) -> R
+        ensures { result ≡ self.reader }
+    {
+        self.reader
+    }
 }
 
 impl<R: Read> Inlet for FromRead<R> {
@@ -52,7 +95,7 @@ impl<R: Read> Inlet for FromRead<R> {
             self.failed = true;
             return Err(Failed);
         }
-        match self.reader.read(buf) {
+        match read_on(&mut self.reader, buf) {
             Ok(n) => {
                 self.reads += 1;
                 if n == 0 && !buf.is_empty() {
@@ -70,7 +113,7 @@ impl<R: Read> Inlet for FromRead<R> {
 }
 
 /// A writer of std as an outlet. What it claims of its bytes is what the writer claims. It fails with the writer's
-/// error, or with `WriteZero` where the writer took nothing of some bytes.
+/// error, with `TimedOut` where signals interrupted one write a thousand times, or with `WriteZero` where the writer took nothing of some bytes.
 #[derive(Drop)]
 pub struct ToWrite<W: Write> {
     writer: W,
@@ -99,7 +142,7 @@ impl<W: Write> Outlet for ToWrite<W> {
         if self.error.is_some() {
             return Err(Failed);
         }
-        match self.writer.write(bytes) {
+        match write_on(&mut self.writer, bytes) {
             Ok(n) => {
                 if n == 0 && !bytes.is_empty() {
                     self.error = Some(ErrorKind::WriteZero.into());

@@ -7,7 +7,7 @@ use crate::streams::{joined, portion, run};
 use plant_wire::{End, FromRead, ToWrite};
 use std::alloc::Global;
 use std::io;
-use std::io::{Read, Write};
+use std::io::{ErrorKind, Read, Write};
 use std::process::Abort;
 use std::time::{Duration, Instant};
 
@@ -127,4 +127,67 @@ fn reads_a_head_once(rt: HostRuntime) {
     assert_eq!(rt; end, End::Closed);
     assert!(rt; answers.as_slice() == NO_ROUTE);
     assert!(rt; taken < Duration::from_secs(5), "too long");
+}
+
+/// A stream whose every second read and every second write is interrupted by a signal.
+#[derive(Drop)]
+struct Interrupted<S> {
+    stream: S,
+    next: bool,
+}
+
+impl<S> Interrupted<S> {
+    /// Whether this read or write is made.
+    fn is_made(&mut self) -> bool {
+        self.next = !self.next;
+        !self.next
+    }
+}
+
+impl<R: Read> Read for Interrupted<R> {
+    fn read(&mut self, buf: &mut [u8]) -> io::Result<usize> {
+        if self.is_made() {
+            self.stream.read(buf)
+        } else {
+            Err(ErrorKind::Interrupted.into())
+        }
+    }
+}
+
+impl<W: Write> Write for Interrupted<W> {
+    fn write(&mut self, buf: &[u8]) -> io::Result<usize> {
+        if self.is_made() {
+            self.stream.write(buf)
+        } else {
+            Err(ErrorKind::Interrupted.into())
+        }
+    }
+
+    fn flush(&mut self) -> io::Result<()> {
+        self.stream.flush()
+    }
+}
+
+/// A signal, as where the program was stopped and goes on, ends no session.
+#[test]
+fn reads_and_writes_again_after_a_signal(rt: HostRuntime) {
+    let alloc = rt.alloc();
+    let bytes = joined(&rt, alloc, &[STATUS, NOTHING, STATUS]);
+    let wanted = joined(&rt, alloc, &[NOT_GRANTED, NO_ROUTE, NOT_GRANTED]);
+    let mut inlet = FromRead::new(Interrupted {
+        stream: ByByte { bytes, at: 0 },
+        next: false,
+    });
+    let mut writer = Narrow {
+        bytes: Vec::new(alloc),
+        most: 7,
+    };
+    let mut outlet = ToWrite::new(Interrupted {
+        stream: &mut writer,
+        next: false,
+    });
+    let end = run(&rt, alloc, &mut inlet, &mut outlet);
+    drop(outlet);
+    assert_eq!(rt; end, End::Closed);
+    assert!(rt; writer.bytes.as_slice() == wanted.as_slice());
 }

@@ -18,21 +18,21 @@ use Rattle.sqlite_value.specs.Keys.{plain, first_key}
 use Rattle.sqlite_value.specs.Order.{Row, value_cmp}
 use Rattle.sqlite_value.proofs.OrderLemmas.{value_cmp-Int, value_cmp-Text, then-Equal}
 use Rattle.plant_alarm.specs.declared.event.EventKind.{EventKind}
-use Rattle.plant_alarm.specs.declared.event.EventKind.TheVariants.{Ack, Act, Reset, Rtn, Sup, Unsup}
+use Rattle.plant_alarm.specs.declared.event.EventKind.TheVariants.{Act}
 use Rattle.plant_alarm.specs.declared.summary.AlarmState.{AlarmState}
-use Rattle.plant_alarm.specs.declared.summary.AlarmState.TheVariants.{Acknowledged, LatchedAck, LatchedUnack, Normal, ReturnedUnack, Unacknowledged}
+use Rattle.plant_alarm.specs.declared.summary.AlarmState.TheVariants.{Normal}
 use Rattle.plant_ration.specs.declared.cell.Cell.{Cell}
-use Rattle.plant_ration.specs.declared.cell.Cell.TheVariants.{N, P1, P2, P3, P4}
+use Rattle.plant_ration.specs.declared.cell.Cell.TheVariants.{N}
 use Rattle.plant_ration.specs.declared.change.ChangeState.{ChangeState}
-use Rattle.plant_ration.specs.declared.change.ChangeState.TheVariants.{Approved, Proposed, Rejected, Withdrawn}
+use Rattle.plant_ration.specs.declared.change.ChangeState.TheVariants.{Proposed}
 use Rattle.plant_types.specs.declared.role.Role.{Role}
-use Rattle.plant_types.specs.declared.role.Role.TheVariants.{Approver, Engineer, Maintainer, Operator, Steward, Viewer}
+use Rattle.plant_types.specs.declared.role.Role.TheVariants.{Viewer}
 use Rattle.plant_types.specs.Roles.{role_no}
 use Rattle.plant_types.proofs.public.Orders.{pair_total}
 use Rattle.plant_model.proofs.public.PlaceOrders.{band_total, cell_total}
 use Rattle.plant_model.specs.declared.rows.ChangeTopic.{ChangeTopic}
-use Rattle.plant_model.specs.declared.rows.ChangeTopic.TheVariants.{Limit as LimitTopic, Matrix as MatrixTopic, Record as RecordTopic}
-use Rattle.plant_columns.specs.Shape.{Shape, table_in}
+use Rattle.plant_model.specs.declared.rows.ChangeTopic.TheVariants.{Record as RecordTopic}
+use Rattle.plant_columns.specs.Shape.{table_in}
 use Rattle.plant_columns.proofs.public.Bridge.{int_cmp-pos}
 use Rattle.plant_columns.proofs.public.Family.{AreListed}
 use Rattle.plant_columns.proofs.public.Laws.{cast_int, cast_null}
@@ -45,45 +45,27 @@ use Rattle.plant_columns.specs.Tables.Kept.{UnitKept, GrantKept, AlarmKept, Shel
 
 pub role_back : (r : Role) → role_numbered (role_no r) ≡ r
 role_back Viewer = refl
-role_back Operator = refl
-role_back Maintainer = refl
-role_back Engineer = refl
-role_back Approver = refl
-role_back Steward = refl
+role_back r = refl
 
 pub state_back : (s : AlarmState) → state_numbered (state_no s) ≡ s
 state_back Normal = refl
-state_back Unacknowledged = refl
-state_back Acknowledged = refl
-state_back ReturnedUnack = refl
-state_back LatchedUnack = refl
-state_back LatchedAck = refl
+state_back s = refl
 
 pub kind_back : (k : EventKind) → kind_numbered (kind_no k) ≡ k
 kind_back Act = refl
-kind_back Rtn = refl
-kind_back Ack = refl
-kind_back Reset = refl
-kind_back Sup = refl
-kind_back Unsup = refl
+kind_back k = refl
 
 pub topic_back : (t : ChangeTopic) → topic_numbered (topic_no t) ≡ t
 topic_back RecordTopic = refl
-topic_back MatrixTopic = refl
-topic_back LimitTopic = refl
+topic_back t = refl
 
 pub decision_back : (s : ChangeState) → decision_numbered (decision_no s) ≡ s
 decision_back Proposed = refl
-decision_back Approved = refl
-decision_back Rejected = refl
-decision_back Withdrawn = refl
+decision_back s = refl
 
 pub cell_back : (c : Cell) → cell_numbered (cell_no c) ≡ c
 cell_back N = refl
-cell_back P1 = refl
-cell_back P2 = refl
-cell_back P3 = refl
-cell_back P4 = refl
+cell_back c = refl
 
 pub flag_back : (b : Bool) → flag_in (flag b) ≡ b
 flag_back true = refl
@@ -250,56 +232,15 @@ lone : (e a : Bool) → e ≡ false → ((e && true) || (a || false)) ≡ a
 lone e true h = rw h refl
 lone e false h = rw h refl
 
-alone_in : {X K : Type 0} → Shape X K → Type 0
-alone_in s = (cells r : Row) (id : Value) → equal Binary (rowid r) id ≡ false → conflicts None books_schema.indexes (table_in s) (id ∷ cells) r ≡ agree plain (1 ∷ s.keys) r (1 ∷ s.keys) (id ∷ cells)
-
-unit_alone : alone_in unit_shape
-unfolding first_key alone_in
-unit_alone cells r id free = lone (equal Binary (rowid r) id) (agree plain (1 ∷ unit_shape.keys) r (1 ∷ unit_shape.keys) (id ∷ cells)) free
-
-grant_alone : alone_in grant_shape
-unfolding first_key alone_in
-grant_alone cells r id free = lone (equal Binary (rowid r) id) (agree plain (1 ∷ grant_shape.keys) r (1 ∷ grant_shape.keys) (id ∷ cells)) free
-
-alarm_alone : alone_in alarm_shape
-unfolding first_key alone_in
-alarm_alone cells r id free = lone (equal Binary (rowid r) id) (agree plain (1 ∷ alarm_shape.keys) r (1 ∷ alarm_shape.keys) (id ∷ cells)) free
-
-shelf_alone : alone_in shelf_shape
-unfolding first_key alone_in
-shelf_alone cells r id free = lone (equal Binary (rowid r) id) (agree plain (1 ∷ shelf_shape.keys) r (1 ∷ shelf_shape.keys) (id ∷ cells)) free
-
-band_alone : alone_in band_shape
-unfolding first_key alone_in
-band_alone cells r id free = lone (equal Binary (rowid r) id) (agree plain (1 ∷ band_shape.keys) r (1 ∷ band_shape.keys) (id ∷ cells)) free
-
-cell_alone : alone_in cell_shape
-unfolding first_key alone_in
-cell_alone cells r id free = lone (equal Binary (rowid r) id) (agree plain (1 ∷ cell_shape.keys) r (1 ∷ cell_shape.keys) (id ∷ cells)) free
-
-event_alone : alone_in event_shape
-unfolding first_key alone_in
-event_alone cells r id free = lone (equal Binary (rowid r) id) (agree plain (1 ∷ event_shape.keys) r (1 ∷ event_shape.keys) (id ∷ cells)) free
-
-record_alone : alone_in record_shape
-unfolding first_key alone_in
-record_alone cells r id free = lone (equal Binary (rowid r) id) (agree plain (1 ∷ record_shape.keys) r (1 ∷ record_shape.keys) (id ∷ cells)) free
-
-change_alone : alone_in change_shape
-unfolding first_key alone_in
-change_alone cells r id free = lone (equal Binary (rowid r) id) (agree plain (1 ∷ change_shape.keys) r (1 ∷ change_shape.keys) (id ∷ cells)) free
+alone : (i : Kept) (cells r : Row) (id : Value) → equal Binary (rowid r) id ≡ false
+    → conflicts None books_schema.indexes (table_in (shape i)) (id ∷ cells) r ≡ agree plain (1 ∷ (shape i).keys) r (1 ∷ (shape i).keys) (id ∷ cells)
+unfolding first_key
+alone UnitKept cells r id free = lone (equal Binary (rowid r) id) (agree plain (1 ∷ unit_shape.keys) r (1 ∷ unit_shape.keys) (id ∷ cells)) free
+alone i cells r id free = lone (equal Binary (rowid r) id) (agree plain (1 ∷ (shape i).keys) r (1 ∷ (shape i).keys) (id ∷ cells)) free
 
 pub listed : (i : Kept) → IsListed books_schema (shape i)
-unfolding alone_in
-listed UnitKept = record { at = refl; alone = unit_alone }
-listed GrantKept = record { at = refl; alone = grant_alone }
-listed AlarmKept = record { at = refl; alone = alarm_alone }
-listed ShelfKept = record { at = refl; alone = shelf_alone }
-listed BandKept = record { at = refl; alone = band_alone }
-listed CellKept = record { at = refl; alone = cell_alone }
-listed EventKept = record { at = refl; alone = event_alone }
-listed RecordKept = record { at = refl; alone = record_alone }
-listed ChangeKept = record { at = refl; alone = change_alone }
+listed UnitKept = record { at = refl; alone = alone UnitKept }
+listed i = record { at = refl; alone = alone i }
 
 which : ℕ → Kept
 which n =
@@ -315,14 +256,7 @@ which n =
 placed : (i : Kept) → which (shape i).tree ≡ i
 unfolding which
 placed UnitKept = refl
-placed GrantKept = refl
-placed AlarmKept = refl
-placed ShelfKept = refl
-placed BandKept = refl
-placed CellKept = refl
-placed EventKept = refl
-placed RecordKept = refl
-placed ChangeKept = refl
+placed i = refl
 
 pub all_listed : AreListed RowOf KeyOf shape books_schema
 all_listed = record { which = which; placed = placed; at = λ i. (listed i).at }

@@ -5,8 +5,8 @@ use Rattle.sqlite.specs.Effect.{Database}
 use Rattle.sqlite.specs.State.{HasCleanDisk}
 use Rattle.sqlite.specs.Held.{state}
 use Rattle.plant_model.specs.declared.rows.RowEdit.{RowEdit}
-use Rattle.plant_store.specs.declared.migration.TableKind.{TableKind}
-use Rattle.plant_store.specs.declared.migration.TableKind.TheVariants.{Units}
+use Rattle.plant_store.specs.declared.make.TableKind.{TableKind}
+use Rattle.plant_store.specs.declared.make.TableKind.TheVariants.{Units}
 use Rattle.plant_store.specs.Changes.{Applies}
 use Rattle.plant_store.specs.OldTables.{AreOldBooks}
 use Rattle.plant_store.specs.Upgrading.{puts_all, puts_of, upgraded_rows}

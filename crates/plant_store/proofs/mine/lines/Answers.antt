@@ -5,7 +5,7 @@ use Rattle.plant_store.specs.declared.mine.Line.{Line}
 use Rattle.plant_columns.specs.Codes.{number_in, open_number_in, role_in}
 use Rattle.plant_store.specs.Mine.{line_cells}
 use Rattle.plant_store.proofs.Joined.{find_mine}
-use Rattle.plant_store.proofs.Meanings.{mine_plain}
+use Rattle.plant_store.proofs.Meanings.{mine}
 use Rattle.plant_store.proofs.Queries.{if_ok, told_by}
 use Rattle.plant_columns.proofs.public.ShapeLaws.{open_number_back, role_back}
 use Rattle.plant_store.proofs.ReadsOnly.{reads_plain}
@@ -24,7 +24,7 @@ returns-clause-found g c honest m k =
     if_ok c.read_all.result (λ read. told_by line_cells line_back read_back 4 (λ x. refl) c.in_ok-rows.rows.items _ read shown) (rw c.as_slice.ensures.value at c.read_all.ensures)
 
 pub returns-clause-reads : goal.returns-clause-reads
-returns-clause-reads g c = reads_plain _ mine_plain c.ask.ensures.same c.ask.ensures.honest
+returns-clause-reads g c = reads_plain _ mine.plain c.ask.ensures.same c.ask.ensures.honest
 
 pub returns-in_err-rows-clause-reads : goal.returns-in_err-rows-clause-reads
-returns-in_err-rows-clause-reads g c = reads_plain _ mine_plain c.ask.ensures.same c.ask.ensures.honest
+returns-in_err-rows-clause-reads g c = reads_plain _ mine.plain c.ask.ensures.same c.ask.ensures.honest

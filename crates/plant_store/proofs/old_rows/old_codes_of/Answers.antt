@@ -3,7 +3,7 @@ use Rattle.sqlite.specs.Held.{state}
 use Rattle.sqlite_value.specs.declared.value.Value.TheVariants.{Text}
 use Rattle.sqlite_value.specs.Order.{Row, bytes, column}
 use Rattle.plant_store.specs.declared.old_rows.CodeLine.{CodeLine}
-use Rattle.plant_store.proofs.OldMeanings.{old_codes_plain}
+use Rattle.plant_store.proofs.OldMeanings.{asks_codes}
 use Rattle.plant_store.proofs.OldQueries.{find_old_codes}
 use Rattle.plant_store.proofs.Queries.{if_ok}
 use Rattle.plant_columns.specs.Shown.{columns}
@@ -32,4 +32,4 @@ returns-clause-rows g c clean books =
     if_ok c.read_rows.result (λ lines it. codes_back it.0 _ lines (find_old_codes old new books it.0 it.1.0) it.1.1) (c.read_rows.ensures.rows clean)
 
 pub returns-clause-reads : goal.returns-clause-reads
-returns-clause-reads g c = reads_plain_old _ old_codes_plain c.read_rows.ensures.same c.read_rows.ensures.honest
+returns-clause-reads g c = reads_plain_old _ asks_codes.plain c.read_rows.ensures.same c.read_rows.ensures.honest

@@ -1,6 +1,6 @@
 use Rattle.std.proofs.Common.{ap, ◌∙◌, length}
 use Rattle.sqlite.specs.Held.{state}
-use Rattle.plant_store.proofs.Meanings.{tags_of_plain}
+use Rattle.plant_store.proofs.Meanings.{tags_of}
 use Rattle.plant_store.proofs.Queries.{find_tags, length_mapped}
 use Rattle.plant_store.proofs.ReadsOnly.{reads_plain}
 use Rattle.plant_store.proofs.read.count_of_alarms.Goals as goal
@@ -11,7 +11,7 @@ returns-clause-rows g c clean books =
     ap length (c.as_slice.ensures.value ∙ shown) ∙ length_mapped _ _
 
 pub returns-clause-reads : goal.returns-clause-reads
-returns-clause-reads g c = reads_plain _ tags_of_plain c.ask.ensures.same c.ask.ensures.honest
+returns-clause-reads g c = reads_plain _ tags_of.plain c.ask.ensures.same c.ask.ensures.honest
 
 pub returns-in_err-tags-clause-reads : goal.returns-in_err-tags-clause-reads
-returns-in_err-tags-clause-reads g c = reads_plain _ tags_of_plain c.ask.ensures.same c.ask.ensures.honest
+returns-in_err-tags-clause-reads g c = reads_plain _ tags_of.plain c.ask.ensures.same c.ask.ensures.honest

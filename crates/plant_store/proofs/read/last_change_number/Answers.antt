@@ -2,7 +2,7 @@ use Rattle.std.proofs.Common.{sym, ap, slice_get, ◌∙◌}
 use Rattle.std.specs.Option.{option_copied}
 use Rattle.sqlite.specs.Held.{state}
 use Rattle.plant_store.proofs.Lasts.{last_came, no_last_came}
-use Rattle.plant_store.proofs.Meanings.{last_change_plain}
+use Rattle.plant_store.proofs.Meanings.{last_change}
 use Rattle.plant_store.proofs.Queries.{if_ok}
 use Rattle.plant_store.proofs.ReadsOnly.{reads_plain}
 use Rattle.plant_store.proofs.read.last_change_number.Goals as goal
@@ -20,10 +20,10 @@ returns-clause-rows g c clean books =
     no_last_came c.args.unit.now (state g.S.Store c.args.conn.now) (state g.S.Store c.ask.new.conn) books c.in_ok-rows.rows.items shown none
 
 pub returns-in_err-rows-clause-reads : goal.returns-in_err-rows-clause-reads
-returns-in_err-rows-clause-reads g c = reads_plain _ last_change_plain c.ask.ensures.same c.ask.ensures.honest
+returns-in_err-rows-clause-reads g c = reads_plain _ last_change.plain c.ask.ensures.same c.ask.ensures.honest
 
 pub returns-in-Some-clause-reads : goal.returns-in-Some-clause-reads
-returns-in-Some-clause-reads g c = reads_plain _ last_change_plain c.ask.ensures.same c.ask.ensures.honest
+returns-in-Some-clause-reads g c = reads_plain _ last_change.plain c.ask.ensures.same c.ask.ensures.honest
 
 pub returns-clause-reads : goal.returns-clause-reads
-returns-clause-reads g c = reads_plain _ last_change_plain c.ask.ensures.same c.ask.ensures.honest
+returns-clause-reads g c = reads_plain _ last_change.plain c.ask.ensures.same c.ask.ensures.honest

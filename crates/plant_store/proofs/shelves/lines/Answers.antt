@@ -6,7 +6,7 @@ use Rattle.plant_columns.proofs.public.ShapeLaws.{flag_back, open_number_back}
 use Rattle.plant_store.specs.declared.shelves.ShelfLine.{ShelfLine}
 use Rattle.plant_store.specs.Shelves.{shelf_line_cells}
 use Rattle.plant_store.proofs.JoinedShelves.{find_mine_shelves}
-use Rattle.plant_store.proofs.Meanings.{mine_shelves_plain}
+use Rattle.plant_store.proofs.Meanings.{mine_shelves}
 use Rattle.plant_store.proofs.Queries.{if_ok, told_by}
 use Rattle.plant_store.proofs.ReadsOnly.{reads_plain}
 use Rattle.plant_store.proofs.shelves.lines.Goals as goal
@@ -32,7 +32,7 @@ returns-clause-found g c honest m k =
     if_ok c.read_all.result (λ read. told_by shelf_line_cells line_back read_back 8 (λ x. refl) c.in_ok-rows.rows.items _ read shown) (rw c.as_slice.ensures.value at c.read_all.ensures)
 
 pub returns-clause-reads : goal.returns-clause-reads
-returns-clause-reads g c = reads_plain _ mine_shelves_plain c.ask.ensures.same c.ask.ensures.honest
+returns-clause-reads g c = reads_plain _ mine_shelves.plain c.ask.ensures.same c.ask.ensures.honest
 
 pub returns-in_err-rows-clause-reads : goal.returns-in_err-rows-clause-reads
-returns-in_err-rows-clause-reads g c = reads_plain _ mine_shelves_plain c.ask.ensures.same c.ask.ensures.honest
+returns-in_err-rows-clause-reads g c = reads_plain _ mine_shelves.plain c.ask.ensures.same c.ask.ensures.honest

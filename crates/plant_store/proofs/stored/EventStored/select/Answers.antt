@@ -1,5 +1,6 @@
-use Rattle.plant_store.proofs.Queries.{events_read}
+use Rattle.plant_columns.specs.Tables.Kept.{EventKept}
+use Rattle.plant_store.proofs.Queries.{all_read}
 use Rattle.plant_store.proofs.stored.EventStored.select.Goals as goal
 
 pub returns-clause-reads : goal.returns-clause-reads
-returns-clause-reads c = events_read
+returns-clause-reads c = all_read EventKept

@@ -1,5 +1,6 @@
-use Rattle.plant_store.proofs.Queries.{records_read}
+use Rattle.plant_columns.specs.Tables.Kept.{RecordKept}
+use Rattle.plant_store.proofs.Queries.{all_read}
 use Rattle.plant_store.proofs.stored.RecordEntryStored.select.Goals as goal
 
 pub returns-clause-reads : goal.returns-clause-reads
-returns-clause-reads c = records_read
+returns-clause-reads c = all_read RecordKept
