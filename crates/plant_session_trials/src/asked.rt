@@ -142,7 +142,7 @@ impl<B: Books> Counting<B> {
         self.count.events = self.count.events.saturating_add(1);
     }
 
-    /// Whether there is no memory for the rows of this unit.
+    /// Whether this is the unit whose rows find no memory.
     fn is_lacking(&self, unit: &UnitCode) -> bool {
         match &self.lacking {
             Some(lacking) => *lacking == *unit,
