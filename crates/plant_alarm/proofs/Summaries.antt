@@ -1,17 +1,11 @@
 -- One more event changes a summary as the step says.
-use Rattle.std.proofs.Common.{◌≡◌, ℕ, refl, sym, ap, ◌∙◌, List, [], ◌∷◌, ◌++◌, Some, None, Option, Bool, true, false, cond, ◌&&◌, ◌||◌, not, subst}
-use Rattle.std.proofs.lemmas.Bool.{false≢true}
-use Rattle.std.proofs.lemmas.List.{append-nil}
-use Rattle.std.specs.Prelude.{option_map, unwrap_or}
 use Rattle.std.specs.List.{list_any, after_first, after_last}
-use Rattle.plant_alarm.specs.declared.event.Event.{Event}
-use Rattle.plant_alarm.specs.declared.event.EventKind.{EventKind}
-use Rattle.plant_alarm.specs.declared.event.EventKind.TheVariants.{Act, Rtn, Ack, Reset, Sup, Unsup}
-use Rattle.plant_alarm.specs.declared.summary.AlarmState.{AlarmState}
-use Rattle.plant_alarm.specs.declared.summary.AlarmState.TheVariants.{Normal, Unacknowledged}
-use Rattle.plant_alarm.specs.declared.summary.Summary.{Summary}
+use Rattle.std.proofs.Common.{◌≡◌, ℕ, refl, sym, ap, ◌∙◌, List, [], ◌∷◌, ◌++◌, Some, None, Option, Bool, true, false, cond, ◌&&◌, ◌||◌, not, subst, option_map, unwrap_or}
+use Rattle.std.proofs.lemmas.{Bool.{false≢true}, List.{append-nil}}
 use Rattle.plant_alarm.specs.States.{is_act, is_rtn, is_ack, is_reset, is_sup, is_unsup, last_that, is_active, is_unacknowledged, is_latched, is_suppressed, state_named, state_of, is_return, is_activation, returns, activations, last_moment, last_return, active_since, summary}
-use Rattle.plant_alarm.specs.Step.{next, next_at, is_active_state, acknowledged, reset, returned}
+use Rattle.plant_alarm.specs.{Step.{next, next_at, is_active_state, acknowledged, reset, returned}, declared.event.Event.{Event}}
+use Rattle.plant_alarm.specs.declared.{event.EventKind.{EventKind, TheVariants.{Act, Rtn, Ack, Reset, Sup, Unsup}}, summary.AlarmState.{AlarmState}}
+use Rattle.plant_alarm.specs.declared.summary.{AlarmState.TheVariants.{Normal, Unacknowledged}, Summary.{Summary}}
 use Rattle.plant_alarm.proofs.public.Push.{by_last, last_that-push, list_any-push, passing-push, last_moment-push, after_last-yes, after_last-no, after_first-some, after_first-none}
 
 abbrev since_act : List Event → List Event

@@ -1,7 +1,6 @@
 ghost use Rattle.std.specs.Prelude.{◌≡◌, List};
+ghost use Rattle.plant_alarm.specs.{Shelves.{shelf_of, shelf_state, timed_answer, one_shot_answer, unshelve_answer}, States.{IsInTime, last_return}};
 ghost use Rattle.plant_alarm.specs.declared.event.Event.{Event};
-ghost use Rattle.plant_alarm.specs.States.{IsInTime, last_return};
-ghost use Rattle.plant_alarm.specs.Shelves.{shelf_of, shelf_state, timed_answer, one_shot_answer, unshelve_answer};
 ghost use Rattle.plant_alarm.specs.Shelves as shelves;
 
 use plant_types::{Moment, Seconds};

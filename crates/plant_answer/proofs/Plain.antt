@@ -1,6 +1,5 @@
 -- A text without quotes and backslashes is written as it is.
-use Rattle.std.proofs.Common.{◌≡◌, ◌==◌, ◌||◌, ◌&&◌, not, ℕ, List, [], ◌∷◌, Bool, true, false, refl}
-use Rattle.std.specs.List.{flat_map, list_all}
+use Rattle.std.{specs.List.{list_all}, proofs.Common.{◌≡◌, ◌==◌, ◌||◌, ◌&&◌, not, ℕ, List, [], ◌∷◌, Bool, true, false, refl, flat_map}}
 use Rattle.plant_answer.specs.Json.{escaped}
 
 alone : (b : ℕ) (e : Bool) (t u : List ℕ) → (b == 34 || b == 92) ≡ e → (not e && list_all (λ x. not (x == 34 || x == 92)) t) ≡ true

@@ -1,17 +1,12 @@
 -- The whole text of an answer.
 use Rattle.std.specs.Prelude.{ℕ, List}
-use Rattle.plant_model.specs.declared.reply.Answer.{Answer}
-use Rattle.plant_model.specs.declared.reply.Answer.TheVariants as answer
+use Rattle.plant_model.specs.declared.reply.{Answer.{Answer}, Refused.{Refused, TheVariants.{NotAdministrator, NotGranted, RoleLacking}}}
 use Rattle.plant_model.specs.declared.reply.Reply.{Reply}
-use Rattle.plant_model.specs.declared.reply.Reply.TheVariants as reply
-use Rattle.plant_model.specs.declared.reply.Refused.{Refused}
-use Rattle.plant_model.specs.declared.reply.Refused.TheVariants.{NotAdministrator, NotGranted, RoleLacking}
 use Rattle.plant_report.specs.Texts.{shelf_text, standing_text, alarm_text, flood_text, mine_text}
-use Rattle.plant_answer.specs.declared.responses.Media.{Media}
-use Rattle.plant_answer.specs.declared.responses.Media.TheVariants.{Json, Plain}
-use Rattle.plant_answer.specs.Response.{response}
 use Rattle.plant_answer.specs.Bodies.{done_body, imported_body, number_body, status_body, units_body, refusal_body, fault_body}
-use Rattle.plant_answer.specs.Changes.{record_body, change_body}
+use Rattle.plant_answer.specs.{Changes.{record_body, change_body}, Response.{response}, declared.responses.Media.{Media, TheVariants.{Json, Plain}}}
+use Rattle.plant_model.specs.declared.reply.Answer.TheVariants as answer
+use Rattle.plant_model.specs.declared.reply.Reply.TheVariants as reply
 
 -- who may not call at all is answered 403, any other refusal 409
 abbrev pub refusal_status : Refused → ℕ

@@ -4,11 +4,9 @@ use Rattle.plant_types.specs.declared.fault.Fault.{Fault}
 use Rattle.plant_import.specs.declared.bad_file.BadFile.{BadFile}
 use Rattle.plant_model.specs.declared.reply.Refused.{Refused}
 use Rattle.plant_model.specs.declared.reply.Refused.TheVariants.{RoleLacking, MomentBehind, UnitFull, ShelvingTimeOutOfRange, NotProposed, BaseChanged, BadFile as FileRefused, ShelfQuota}
-use Rattle.plant_model.specs.declared.reply.StatusRow.{StatusRow}
-use Rattle.plant_model.specs.declared.reply.UnitLine.{UnitLine}
-use Rattle.plant_report.specs.Moments.{moment_text}
+use Rattle.plant_model.specs.declared.reply.{StatusRow.{StatusRow}, UnitLine.{UnitLine}}
+use Rattle.plant_report.specs.{Moments.{moment_text}, Texts.{state_name}}
 use Rattle.plant_answer.specs.Json.{quoted, truth, listed}
-use Rattle.plant_report.specs.Texts.{state_name}
 use Rattle.plant_answer.specs.Names.{role_name, shelf_name, shelf_left, full_name, file_cause_name, fault_name, change_state_name, refusal_name, refusal_no}
 
 abbrev pub done_body : List ℕ

@@ -1,16 +1,10 @@
 -- The bodies of a record and of a change.
 use Rattle.std.specs.Prelude.{ℕ, List, ◌++◌, map, Option, Some, None, option_map, codes, decimal}
-use Rattle.plant_ration.specs.Grid.{Grid}
-use Rattle.plant_ration.specs.declared.cell.Cell.{Cell}
+use Rattle.plant_ration.specs.{Grid.{Grid}, declared.{cell.Cell.{Cell}, change.ChangeKind.{ChangeKind, TheVariants.{Rationale, Matrix, Limit}}}}
 use Rattle.plant_ration.specs.declared.change.Sheet.{Sheet}
-use Rattle.plant_ration.specs.declared.change.ChangeKind.{ChangeKind}
-use Rattle.plant_ration.specs.declared.change.ChangeKind.TheVariants.{Rationale, Matrix, Limit}
-use Rattle.plant_model.specs.declared.reply.RecordRow.{RecordRow}
-use Rattle.plant_model.specs.declared.reply.ChangeRow.{ChangeRow}
-use Rattle.plant_report.specs.Moments.{moment_text}
-use Rattle.plant_answer.specs.Json.{quoted, quoted_or_null, listed}
-use Rattle.plant_report.specs.Texts.{cell_name}
-use Rattle.plant_answer.specs.Names.{kind_name, change_state_name}
+use Rattle.plant_model.specs.declared.reply.{ChangeRow.{ChangeRow}, RecordRow.{RecordRow}}
+use Rattle.plant_report.specs.{Moments.{moment_text}, Texts.{cell_name}}
+use Rattle.plant_answer.specs.{Json.{quoted, quoted_or_null, listed}, Names.{kind_name, change_state_name}}
 
 -- an alarm's record
 unfoldable pub record_body : RecordRow → List ℕ

@@ -1,6 +1,5 @@
 -- JSON as answers have it: compact, members in the byte order of their names.
-use Rattle.std.specs.Prelude.{ℕ, Bool, List, [], ◌∷◌, ◌++◌, Option, Some, None, codes, map, ◌==◌, ◌||◌, if◌then◌else◌}
-use Rattle.std.specs.List.{flat_map, join_with_byte}
+use Rattle.std.specs.{List.{join_with_byte}, Prelude.{ℕ, Bool, List, [], ◌∷◌, ◌++◌, Option, Some, None, codes, ◌==◌, ◌||◌, if◌then◌else◌, flat_map}}
 
 -- a byte of a string: a quote and a backslash have a backslash before them
 abbrev pub escaped : ℕ → List ℕ
@@ -13,9 +12,9 @@ quoted text = codes "\"" ++ flat_map escaped text ++ codes "\""
 abbrev pub truth : Bool → List ℕ
 truth b = if b then codes "true" else codes "false"
 
--- what each value is written as, with a comma between each two
-abbrev pub with_commas : {A : Type 0} → (A → List ℕ) → List A → List ℕ
-with_commas write values = join_with_byte 44 (map write values)
+-- the values as they are written, each after a comma
+abbrev pub after_commas : {A : Type 0} → (A → List ℕ) → List A → List ℕ
+after_commas write values = flat_map (λ x. 44 ∷ write x) values
 
 -- a list of values, with a comma between each two
 abbrev pub listed : List (List ℕ) → List ℕ

@@ -1,21 +1,16 @@
 -- The names and the numbers that answers use, beside those of states and cells, which stand in texts too.
 use Rattle.std.specs.Prelude.{ℕ, List, codes}
-use Rattle.plant_types.specs.declared.role.Role.{Role}
-use Rattle.plant_types.specs.declared.role.Role.TheVariants.{Viewer, Operator, Maintainer, Engineer, Approver, Steward}
-use Rattle.plant_types.specs.declared.fault.Fault.{Fault}
-use Rattle.plant_types.specs.declared.fault.Fault.TheVariants as fault
-use Rattle.plant_alarm.specs.declared.shelf.ShelfState.{ShelfState}
-use Rattle.plant_alarm.specs.declared.shelf.ShelfState.TheVariants.{Unshelved, TimedShelved, OneShotShelved}
-use Rattle.plant_ration.specs.declared.change.ChangeKind.{ChangeKind}
-use Rattle.plant_ration.specs.declared.change.ChangeKind.TheVariants as kind
-use Rattle.plant_ration.specs.declared.change.ChangeState.{ChangeState}
+use Rattle.plant_types.specs.declared.{fault.Fault.{Fault}, role.Role.{Role, TheVariants.{Viewer, Operator, Maintainer, Engineer, Approver, Steward}}}
+use Rattle.plant_alarm.specs.declared.shelf.ShelfState.{ShelfState, TheVariants.{Unshelved, TimedShelved, OneShotShelved}}
+use Rattle.plant_ration.specs.declared.change.{ChangeKind.{ChangeKind}, ChangeState.{ChangeState}}
 use Rattle.plant_ration.specs.declared.change.ChangeState.TheVariants.{Proposed, Approved, Rejected, Withdrawn}
 use Rattle.plant_import.specs.declared.bad_file.Cause.{Cause}
 use Rattle.plant_import.specs.declared.bad_file.Cause.TheVariants.{Header, FieldCount, NotUtf8, BadNumber, BadMoment, BadTag, BadEvent, TooLong, TagUnknown, MomentAhead, SequenceClash, MomentOutOfOrder}
-use Rattle.plant_model.specs.declared.reply.Full.{Full}
-use Rattle.plant_model.specs.declared.reply.Full.TheVariants as full
-use Rattle.plant_model.specs.declared.reply.Refused.{Refused}
+use Rattle.plant_model.specs.declared.reply.{Full.{Full}, Refused.{Refused}}
 use Rattle.plant_model.specs.declared.reply.Refused.TheVariants.{NotAdministrator, UnitTaken, NotGranted, RoleLacking, MomentBehind, UnitFull, AlarmTaken, AlarmUnknown, ShelvingTimeOutOfRange, ConditionAlreadyShelved, ConditionNotShelved, AlreadyOutOfService, NotOutOfService, AlreadyHeld, NotHeld, LastSteward, ChangeUnknown, NotProposed, SamePerson, NotProposer, BaseChanged, OutsideMatrix, NotAnAlarm, RecordUnknown, RangeNotAligned, BadFile, ShelfQuota, EndNotAhead}
+use Rattle.plant_types.specs.declared.fault.Fault.TheVariants as fault
+use Rattle.plant_ration.specs.declared.change.ChangeKind.TheVariants as kind
+use Rattle.plant_model.specs.declared.reply.Full.TheVariants as full
 
 abbrev pub role_name : Role → List ℕ
 role_name Viewer = codes "Viewer"

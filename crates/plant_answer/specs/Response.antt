@@ -1,8 +1,7 @@
 -- The bytes of a whole answer. `status_text` is a status code with its phrase, as the crate http names them.
 use Rattle.std.specs.Prelude.{ℕ, List, ◌++◌, length, codes, decimal}
 use Rattle.http.specs.StatusCode.{status_text}
-use Rattle.plant_answer.specs.declared.responses.Media.{Media}
-use Rattle.plant_answer.specs.declared.responses.Media.TheVariants.{Json, Plain}
+use Rattle.plant_answer.specs.declared.responses.Media.{Media, TheVariants.{Json, Plain}}
 
 -- 200 OK, and the like
 unfoldable pub status_line : ℕ → List ℕ

@@ -1,12 +1,12 @@
 ghost use Rattle.std.specs.Prelude.{◌≡◌, ◌++◌, IfOk};
-ghost use Rattle.plant_types.specs.Adding.{Adds};
-ghost use Rattle.plant_types.specs.Results.{OnlyMemory};
-ghost use Rattle.plant_answer.specs.Json.{quoted, with_commas};
+ghost use Rattle.plant_types.specs.{Adding.{Adds}, Results.{OnlyMemory}};
+ghost use Rattle.plant_answer.specs.{Bodies.{unit_object}, Json.{quoted}};
 ghost use Rattle.plant_answer.specs.Names as names;
 ghost use Rattle.plant_answer.specs.Bodies as spec;
-ghost use Rattle.plant_answer.specs.Bodies.{unit_object};
 
-use crate::json::{BODY_ROOM, push_number, push_quoted, push_string, push_truth};
+use crate::json::{
+    BODY_ROOM, Json, push_listed, push_number, push_quoted, push_string, push_truth,
+};
 use crate::names::{fault_name, role_name, shelf_left, shelf_name};
 use plant_model::{StatusRow, UnitLine};
 use plant_report::state_name;
@@ -66,44 +66,24 @@ pub fn status_body(alloc: Global, row: &StatusRow) -> Result<Vec<u8>, Fault>
     Ok(out)
 }
 
-/// Adds the names of the roles, with a comma between each two.
-fn push_roles(out: &mut Vec<u8>, roles: &[Role]) -> Result<(), Fault>
-    ensures value { Adds result out.old.items out.new.items
-        (with_commas (λ r. quoted (names.role_name r)) roles.now) }
-    ensures err { OnlyMemory result }
-{
-    for (i, role) in roles.iter().enumerate() {
-        if i > 0 {
-            out.push(b',')?;
-        }
-        push_quoted(out, role_name(*role))?;
+impl Json for Role {
+    ghost json = { λ r. quoted (names.role_name r) };
+
+    fn push(&self, out: &mut Vec<u8>) -> Result<(), Fault> {
+        push_quoted(out, role_name(*self))
     }
-    Ok(())
 }
 
-#[tactic(auto, unfolding(crate::specs::Bodies::unit_object))]
-fn push_unit(out: &mut Vec<u8>, line: &UnitLine) -> Result<(), Fault>
-    ensures value { Adds result out.old.items out.new.items (unit_object line.now) }
-    ensures err { OnlyMemory result }
-{
-    out.extend_from_slice(b"{\"roles\":[")?;
-    push_roles(out, line.roles.as_slice())?;
-    push_string(out, b"],\"unit\":", line.unit.as_bytes())?;
-    Ok(out.push(b'}')?)
-}
+impl Json for UnitLine {
+    ghost json = { unit_object };
 
-/// Adds the units, with a comma between each two.
-fn push_units(out: &mut Vec<u8>, lines: &[UnitLine]) -> Result<(), Fault>
-    ensures value { Adds result out.old.items out.new.items (with_commas unit_object lines.now) }
-    ensures err { OnlyMemory result }
-{
-    for (i, line) in lines.iter().enumerate() {
-        if i > 0 {
-            out.push(b',')?;
-        }
-        push_unit(out, line)?;
+    #[tactic(auto, unfolding(crate::specs::Bodies::unit_object))]
+    fn push(&self, out: &mut Vec<u8>) -> Result<(), Fault> {
+        out.extend_from_slice(b"{\"roles\":")?;
+        push_listed(out, self.roles.as_slice())?;
+        push_string(out, b",\"unit\":", self.unit.as_bytes())?;
+        Ok(out.push(b'}')?)
     }
-    Ok(())
 }
 
 /// The body of a reply to MyUnits.
@@ -112,9 +92,9 @@ pub fn units_body(alloc: Global, lines: &[UnitLine]) -> Result<Vec<u8>, Fault>
     ensures value { IfOk result (λ out. out.items ≡ spec.units_body lines.now) }
     ensures err { OnlyMemory result }
 {
-    let mut out = Vec::from_slice(alloc, b"{\"units\":[")?;
-    push_units(&mut out, lines)?;
-    out.extend_from_slice(b"]}")?;
+    let mut out = Vec::from_slice(alloc, b"{\"units\":")?;
+    push_listed(&mut out, lines)?;
+    out.push(b'}')?;
     Ok(out)
 }
 

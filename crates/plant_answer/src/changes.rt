@@ -1,14 +1,13 @@
-ghost use Rattle.std.specs.Prelude.{◌≡◌, ◌++◌, codes, map, option_map, decimal, IfOk};
-ghost use Rattle.plant_types.specs.Adding.{Adds};
-ghost use Rattle.plant_types.specs.Results.{OnlyMemory};
+ghost use Rattle.std.specs.Prelude.{◌≡◌, ◌++◌, codes, map, option_map, IfOk};
+ghost use Rattle.plant_types.specs.{Adding.{Adds}, Results.{OnlyMemory}};
 ghost use Rattle.plant_report.specs.Moments.{moment_text};
-ghost use Rattle.plant_report.specs.Texts as texts;
-ghost use Rattle.plant_answer.specs.Json.{quoted, quoted_or_null, with_commas};
-ghost use Rattle.plant_answer.specs.Changes as spec;
 ghost use Rattle.plant_answer.specs.Changes.{sheet_object, row_list, matrix_object, limit_object, content_object, tag_of};
+ghost use Rattle.plant_answer.specs.Json.{listed, quoted, quoted_or_null};
+ghost use Rattle.plant_report.specs.Texts as texts;
+ghost use Rattle.plant_answer.specs.Changes as spec;
 
 use crate::json::{
-    BODY_ROOM, push_decimal, push_number, push_quoted, push_string, push_string_or_null,
+    BODY_ROOM, Json, push_listed, push_number, push_quoted, push_string, push_string_or_null,
 };
 use crate::names::{change_state_name, kind_name};
 use plant_model::{ChangeRow, RecordRow};
@@ -50,57 +49,29 @@ fn push_sheet(out: &mut Vec<u8>, sheet: &Sheet) -> Result<(), Fault>
     Ok(out.push(b'}')?)
 }
 
-/// Adds the numbers, with a comma between each two.
-fn push_numbers(out: &mut Vec<u8>, numbers: &[u64]) -> Result<(), Fault>
-    ensures value { Adds result out.old.items out.new.items (with_commas decimal numbers.now) }
-    ensures err { OnlyMemory result }
-{
-    for (i, number) in numbers.iter().enumerate() {
-        if i > 0 {
-            out.push(b',')?;
-        }
-        push_decimal(out, *number)?;
+impl Json for Cell {
+    ghost json = { λ cell. quoted (texts.cell_name cell) };
+
+    fn push(&self, out: &mut Vec<u8>) -> Result<(), Fault> {
+        push_quoted(out, cell_name(*self))
     }
-    Ok(())
 }
 
-/// Adds the names of the cells, with a comma between each two.
-fn push_cells(out: &mut Vec<u8>, cells: &[Cell]) -> Result<(), Fault>
-    ensures value { Adds result out.old.items out.new.items
-        (with_commas (λ cell. quoted (texts.cell_name cell)) cells.now) }
-    ensures err { OnlyMemory result }
-{
-    for (i, cell) in cells.iter().enumerate() {
-        if i > 0 {
-            out.push(b',')?;
-        }
-        push_quoted(out, cell_name(*cell))?;
+impl Json for Vec<Cell> {
+    ghost json = { λ row. row_list row.items };
+
+    fn push(&self, out: &mut Vec<u8>) -> Result<(), Fault> {
+        push_listed(out, self)
     }
-    Ok(())
 }
 
-fn push_row(out: &mut Vec<u8>, row: &[Cell]) -> Result<(), Fault>
-    ensures value { Adds result out.old.items out.new.items (row_list row.now) }
-    ensures err { OnlyMemory result }
-{
-    out.push(b'[')?;
-    push_cells(out, row)?;
-    Ok(out.push(b']')?)
-}
-
-/// Adds the rows, with a comma between each two.
+/// Adds a list of the rows.
 fn push_rows(out: &mut Vec<u8>, rows: &[Vec<Cell>]) -> Result<(), Fault>
     ensures value { Adds result out.old.items out.new.items
-        (with_commas row_list (map (λ row. row.items) rows.now)) }
+        (listed (map row_list (map (λ row. row.items) rows.now))) }
     ensures err { OnlyMemory result }
 {
-    for (i, row) in rows.iter().enumerate() {
-        if i > 0 {
-            out.push(b',')?;
-        }
-        push_row(out, row)?;
-    }
-    Ok(())
+    push_listed(out, rows)
 }
 
 #[tactic(auto, unfolding(crate::specs::Changes::matrix_object))]
@@ -108,11 +79,11 @@ fn push_matrix(out: &mut Vec<u8>, matrix: &Matrix) -> Result<(), Fault>
     ensures value { Adds result out.old.items out.new.items (matrix_object matrix.now) }
     ensures err { OnlyMemory result }
 {
-    out.extend_from_slice(b"{\"bands\":[")?;
-    push_numbers(out, matrix.limits())?;
-    out.extend_from_slice(b"],\"cells\":[")?;
+    out.extend_from_slice(b"{\"bands\":")?;
+    push_listed(out, matrix.limits())?;
+    out.extend_from_slice(b",\"cells\":")?;
     push_rows(out, matrix.cells())?;
-    Ok(out.extend_from_slice(b"]}")?)
+    Ok(out.push(b'}')?)
 }
 
 #[tactic(auto, unfolding(crate::specs::Changes::limit_object))]

@@ -1,8 +1,6 @@
-ghost use Rattle.std.specs.Prelude.{◌≡◌, ◌++◌, option_map, decimal, ◌==◌, ◌||◌, not};
-ghost use Rattle.std.specs.List.{flat_map, list_all};
-ghost use Rattle.plant_types.specs.Adding.{Adds};
-ghost use Rattle.plant_types.specs.Results.{OnlyMemory};
-ghost use Rattle.plant_answer.specs.Json.{escaped, quoted, quoted_or_null, truth};
+ghost use Rattle.std.specs.{List.{join_with_byte, list_all}, Prelude.{◌≡◌, ◌++◌, option_map, decimal, map, ◌==◌, ◌||◌, not, flat_map}};
+ghost use Rattle.plant_types.specs.{Adding.{Adds}, Results.{OnlyMemory}};
+ghost use Rattle.plant_answer.specs.Json.{after_commas, escaped, listed, quoted, quoted_or_null, truth};
 
 use itoa::Buffer;
 use plant_types::Fault;
@@ -111,4 +109,61 @@ pub(crate) fn push_truth(out: &mut Vec<u8>, before: &[u8], holds: bool) -> Resul
     let word: &[u8] = if holds { b"true" } else { b"false" };
     out.extend_from_slice(before)?;
     Ok(out.extend_from_slice(word)?)
+}
+
+/// A value that a list shows.
+pub(crate) trait Json: Drop {
+    ghost use Rattle.std.specs.Prelude.{ℕ, List};
+
+    ghost json: { Self → List ℕ };
+
+    /// Adds the value as it is written.
+    fn push(&self, out: &mut Vec<u8>) -> Result<(), Fault>
+        ensures value { Adds result out.old.items out.new.items (json self.now) }
+        ensures err { OnlyMemory result };
+}
+
+impl Json for u64 {
+    ghost json = { decimal };
+
+    fn push(&self, out: &mut Vec<u8>) -> Result<(), Fault> {
+        push_decimal(out, *self)
+    }
+}
+
+/// Adds the values, each after a comma.
+fn push_after_commas<T: Json>(out: &mut Vec<u8>, values: &[T]) -> Result<(), Fault>
+    ensures value { Adds result out.old.items out.new.items (after_commas T.json values.now) }
+    ensures err { OnlyMemory result }
+{
+    for value in values {
+        out.push(b',')?;
+        value.push(out)?;
+    }
+    Ok(())
+}
+
+/// Adds the values, with a comma between each two.
+fn push_with_commas<T: Json>(out: &mut Vec<u8>, values: &[T]) -> Result<(), Fault>
+    ensures value { Adds result out.old.items out.new.items
+        (join_with_byte 44 (map T.json values.now)) }
+    ensures err { OnlyMemory result }
+{
+    match values {
+        [] => Ok(()),
+        [first, rest @ ..] => {
+            first.push(out)?;
+            push_after_commas(out, rest)
+        }
+    }
+}
+
+/// Adds a list of the values.
+pub(crate) fn push_listed<T: Json>(out: &mut Vec<u8>, values: &[T]) -> Result<(), Fault>
+    ensures value { Adds result out.old.items out.new.items (listed (map T.json values.now)) }
+    ensures err { OnlyMemory result }
+{
+    out.push(b'[')?;
+    push_with_commas(out, values)?;
+    Ok(out.push(b']')?)
 }

@@ -1,10 +1,9 @@
 ghost use Rattle.std.specs.Prelude.{◌≡◌, ◌++◌, Some, IfOk};
-ghost use Rattle.plant_types.specs.Adding.{Adds};
-ghost use Rattle.plant_types.specs.Results.{OnlyMemory};
+ghost use Rattle.plant_types.specs.{Adding.{Adds}, Results.{OnlyMemory}};
+ghost use Rattle.plant_answer.specs.Bodies.{bad_file_object, refusal_value, value_member};
 ghost use Rattle.plant_answer.specs.Names as spec;
 ghost use Rattle.plant_answer.specs.Answers as answers;
 ghost use Rattle.plant_answer.specs.Bodies as bodies;
-ghost use Rattle.plant_answer.specs.Bodies.{bad_file_object, refusal_value, value_member};
 
 use crate::json::{BODY_ROOM, push_number, push_string};
 use crate::names::{change_state_name, file_cause_name, full_name, role_name};

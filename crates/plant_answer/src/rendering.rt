@@ -1,7 +1,7 @@
 ghost use Rattle.std.specs.Prelude.{◌≡◌, IfOk};
 ghost use Rattle.plant_types.specs.Results.{OnlyMemory};
-ghost use Rattle.plant_answer.specs.Response as spec;
 ghost use Rattle.plant_answer.specs.Answers.{text_of, reply_media, reply_body};
+ghost use Rattle.plant_answer.specs.Response as spec;
 
 use crate::bodies::{fault_body, imported_body, number_body, status_body, units_body};
 use crate::changes::{change_body, record_body};

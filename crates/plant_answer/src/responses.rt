@@ -1,9 +1,8 @@
 ghost use Rattle.std.specs.Prelude.{◌≡◌, ◌++◌, IfOk, codes, unwrap_or};
 ghost use Rattle.http.specs.StatusCode.{reason_phrase};
-ghost use Rattle.plant_types.specs.Adding.{Adds};
-ghost use Rattle.plant_types.specs.Results.{OnlyMemory};
-ghost use Rattle.plant_answer.specs.Response as spec;
+ghost use Rattle.plant_types.specs.{Adding.{Adds}, Results.{OnlyMemory}};
 ghost use Rattle.plant_answer.specs.Response.{status_line, media_type};
+ghost use Rattle.plant_answer.specs.Response as spec;
 
 use http::StatusCode;
 use itoa::Buffer;

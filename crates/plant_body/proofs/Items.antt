@@ -1,16 +1,9 @@
 -- Items that are read one after another.
-use Rattle.std.proofs.Common.{◌≡◌, ℕ, ◌+◌, ◌<◌, ◌≤◌, List, [], ◌∷◌, ◌++◌, length, drop, get_or, Option, Some, None, Ok, Err, refl, sym, ap, ◌∙◌, append_assoc, append-nil, drop-cons, add-one}
-use Rattle.std.specs.Prelude.{option_map}
+use Rattle.std.proofs.Common.{◌≡◌, ℕ, ◌+◌, ◌<◌, ◌≤◌, List, [], ◌∷◌, ◌++◌, length, drop, get_or, Option, Some, None, Ok, Err, refl, sym, ap, ◌∙◌, append_assoc, append-nil, drop-cons, add-one, option_map}
 use Rattle.std.proofs.lemmas.List.{drop_all}
-use Rattle.serde_json.specs.Data.{Data}
-use Rattle.serde_json.specs.View.{view, items_view}
-use Rattle.serde_json.specs.declared.value.Value.{Value}
-use Rattle.plant_body.specs.declared.members.BodyError.{BodyError}
-use Rattle.plant_body.specs.declared.members.BodyError.TheVariants.{Memory, Because}
-use Rattle.plant_body.specs.declared.members.Unfit.{Unfit}
-use Rattle.plant_body.specs.declared.members.Unfit.TheVariants.{Body}
-use Rattle.plant_body.specs.Members.{or_body, Fails}
-use Rattle.plant_body.specs.Lists.{before, all_of}
+use Rattle.serde_json.specs.{Data.{Data}, View.{view, items_view}, declared.value.Value.{Value}}
+use Rattle.plant_body.specs.{Lists.{before, all_of}, Members.{or_body, Fails}, declared.members.BodyError.{BodyError, TheVariants.{Memory, Because}}}
+use Rattle.plant_body.specs.declared.members.Unfit.{Unfit, TheVariants.{Body}}
 
 -- the items before i were read as out, and the others are left
 pub record IsReadTo {A : Type 0} (reads : Data → Option A) (items : List Value) (i : ℕ) (out : List A) : Type 0 where

@@ -1,9 +1,7 @@
 -- What the reader of text says of bytes.
-use Rattle.std.proofs.Common.{◌≡◌, ℕ, List, Some, None, Bool, true, false, refl}
-use Rattle.std.specs.Str.{IsUtf8, is_utf8}
+use Rattle.std.{specs.Str.{is_utf8}, proofs.Common.{◌≡◌, ℕ, List, Some, None, Bool, true, false, refl, IsUtf8}}
 use Rattle.std.proofs.lemmas.Str.{IsUtf8-from_is_utf8, is_utf8-from_IsUtf8}
-use Rattle.serde_json.specs.Data.{Data}
-use Rattle.serde_json.specs.Read.{read}
+use Rattle.serde_json.specs.{Data.{Data}, Read.{read}}
 use Rattle.plant_body.specs.Members.{value_of}
 
 pub value_found : (bytes : List ℕ) (d : Data) → IsUtf8 bytes × (read bytes ≡ Some d) → value_of bytes ≡ Some d

@@ -1,19 +1,11 @@
 -- What a body says: a definition over its bytes, one for each call that has a body.
 use Rattle.std.specs.Prelude.{ℕ, List, Result, Ok, Err, codes}
 use Rattle.serde_json.specs.Data.{Data}
-use Rattle.plant_ration.specs.Grid.{Grid}
-use Rattle.plant_ration.specs.Matrix.{matrix_of}
-use Rattle.plant_ration.specs.declared.cell.Cell.{Cell}
-use Rattle.plant_ration.specs.declared.cell.MatrixFault.{MatrixFault}
-use Rattle.plant_body.specs.declared.bodies.Opening.{Opening}
-use Rattle.plant_body.specs.declared.bodies.Granting.{Granting}
-use Rattle.plant_body.specs.declared.bodies.Withdrawal.{Withdrawal}
-use Rattle.plant_body.specs.declared.bodies.Registration.{Registration}
-use Rattle.plant_body.specs.declared.bodies.TimedShelving.{TimedShelving}
-use Rattle.plant_body.specs.declared.members.Unfit.{Unfit}
-use Rattle.plant_body.specs.declared.members.Unfit.TheVariants.{Matrix}
-use Rattle.plant_body.specs.Members.{value_of, or_body, ◌>>=◌, person_at, tag_at, words_at, seconds_at, truth_at, role_at, end_at, quota_at, tenure_of}
+use Rattle.plant_ration.specs.{Grid.{Grid}, Matrix.{matrix_of}, declared.cell.{Cell.{Cell}, MatrixFault.{MatrixFault}}}
 use Rattle.plant_body.specs.Lists.{numbers_at, rows_at}
+use Rattle.plant_body.specs.Members.{value_of, or_body, ◌>>=◌, person_at, tag_at, words_at, seconds_at, truth_at, role_at, end_at, quota_at, tenure_of}
+use Rattle.plant_body.specs.declared.bodies.{Granting.{Granting}, Opening.{Opening}, Registration.{Registration}, TimedShelving.{TimedShelving}}
+use Rattle.plant_body.specs.declared.{bodies.Withdrawal.{Withdrawal}, members.Unfit.{Unfit, TheVariants.{Matrix}}}
 
 -- the matrix, or why it is none
 abbrev pub matrix_or : Result Grid MatrixFault → Result Grid Unfit

@@ -1,21 +1,11 @@
 -- What a body's members say. `read` is serde_json's reader of a `Value`, which takes text.
-use Rattle.plant_types.specs.Limits.{max_changes, max_quota}
-use Rattle.std.specs.Prelude.{◌≡◌, ℕ, List, Option, Some, None, option_and_then, option_map, is_some, Result, Ok, Err, Bool, ◌&&◌, nat_le, codes, if◌then◌else◌}
-use Rattle.std.specs.Option.{ok_or}
-use Rattle.std.specs.Str.{is_utf8, bytes_eq}
-use Rattle.serde_json.specs.Data.{Data}
-use Rattle.serde_json.specs.Read.{read}
-use Rattle.serde_json.specs.Find.{get, as_number, as_u64, as_str, as_bool, as_null}
-use Rattle.plant_types.specs.Text.{text_of, person_of, tag_of, words_of}
-use Rattle.plant_types.specs.Moment.{moment_of}
-use Rattle.plant_types.specs.Numbers.{is_seconds, is_quota, number_if}
-use Rattle.plant_types.specs.Tenure.{is_tenure}
-use Rattle.plant_types.specs.declared.role.Role.{Role}
+use Rattle.std.specs.Prelude.{◌≡◌, ℕ, List, Option, Some, None, option_and_then, option_map, is_some, Result, Ok, Err, Bool, ◌&&◌, nat_le, codes, if◌then◌else◌, ok_or, bytes_eq}
+use Rattle.std.specs.Str.{is_utf8}
+use Rattle.plant_types.specs.{Limits.{max_changes, max_quota}, Moment.{moment_of}, Numbers.{is_seconds, is_quota, number_if}, Tenure.{is_tenure}}
+use Rattle.plant_types.specs.{Text.{text_of, person_of, tag_of, words_of}, declared.role.Role.{Role}}
 use Rattle.plant_types.specs.declared.role.Role.TheVariants.{Viewer, Operator, Maintainer, Engineer, Approver, Steward}
-use Rattle.plant_body.specs.declared.members.BodyError.{BodyError}
-use Rattle.plant_body.specs.declared.members.BodyError.TheVariants.{Memory, Because}
-use Rattle.plant_body.specs.declared.members.Unfit.{Unfit}
-use Rattle.plant_body.specs.declared.members.Unfit.TheVariants.{Body}
+use Rattle.serde_json.specs.{Data.{Data}, Find.{get, as_number, as_u64, as_str, as_bool, as_null}, Read.{read}}
+use Rattle.plant_body.specs.declared.members.{BodyError.{BodyError, TheVariants.{Memory, Because}}, Unfit.{Unfit, TheVariants.{Body}}}
 
 -- the value that the bytes are
 abbrev pub value_of : List ℕ → Option Data

@@ -1,16 +1,10 @@
 -- What the body of a proposal says: what is to be changed, to what, and the revision that it was drawn up for.
-use Rattle.std.specs.Prelude.{ℕ, List, Result, Ok, Err, codes, if◌then◌else◌}
-use Rattle.std.specs.Str.{bytes_eq}
+use Rattle.std.specs.Prelude.{ℕ, List, Result, Ok, Err, codes, if◌then◌else◌, bytes_eq}
 use Rattle.serde_json.specs.Data.{Data}
-use Rattle.plant_ration.specs.declared.change.Sheet.{Sheet}
-use Rattle.plant_ration.specs.declared.change.ChangeKind.{ChangeKind}
-use Rattle.plant_ration.specs.declared.change.ChangeKind.TheVariants.{Rationale, Matrix, Limit}
-use Rattle.plant_ration.specs.declared.change.Proposal.{Proposal}
-use Rattle.plant_body.specs.declared.members.Unfit.{Unfit}
+use Rattle.plant_ration.specs.declared.change.{ChangeKind.{ChangeKind, TheVariants.{Rationale, Matrix, Limit}}, Proposal.{Proposal}, Sheet.{Sheet}}
+use Rattle.plant_body.specs.{Bodies.{matrix_from}, Lists.{numbers_at, rows_at}}
+use Rattle.plant_body.specs.{Members.{or_body, ◌>>=◌, string_at, tag_at, words_at, seconds_at, base_at, severity_at}, declared.members.Unfit.{Unfit}}
 use Rattle.plant_body.specs.declared.members.Unfit.TheVariants.{Body}
-use Rattle.plant_body.specs.Members.{or_body, ◌>>=◌, string_at, tag_at, words_at, seconds_at, base_at, severity_at}
-use Rattle.plant_body.specs.Lists.{numbers_at, rows_at}
-use Rattle.plant_body.specs.Bodies.{matrix_from}
 
 -- what is recorded of an alarm
 unfoldable pub sheet_in : Data → Result Sheet Unfit

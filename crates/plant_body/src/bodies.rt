@@ -1,7 +1,7 @@
 ghost use Rattle.std.specs.Prelude.{◌≡◌, map};
 ghost use Rattle.serde_json.specs.View.{view};
-ghost use Rattle.plant_body.specs.Members.{ReadsAs};
 ghost use Rattle.plant_body.specs.Bodies.{matrix_from, opening_in, granting_in, withdrawal_in, registration_in, timed_shelving_in, reason_in, read_by};
+ghost use Rattle.plant_body.specs.Members.{ReadsAs};
 
 use crate::lists::{numbers_in, rows_in};
 use crate::members::{

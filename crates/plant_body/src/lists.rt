@@ -1,8 +1,7 @@
 ghost use Rattle.std.specs.Prelude.{◌≡◌, map};
 ghost use Rattle.serde_json.specs.View.{view, items_view};
-ghost use Rattle.plant_body.specs.Members.{ReadsAsSeen, or_body, number_of};
+ghost use Rattle.plant_body.specs.{Lists.{all_of, cell_of, row_of, numbers_at, rows_at}, Members.{ReadsAsSeen, or_body, number_of}};
 ghost use Rattle.plant_body.specs.Lists as spec;
-ghost use Rattle.plant_body.specs.Lists.{all_of, cell_of, row_of, numbers_at, rows_at};
 
 use crate::members::{BodyError, Unfit, number_of};
 use plant_ration::Cell;

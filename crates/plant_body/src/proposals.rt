@@ -1,8 +1,6 @@
 ghost use Rattle.std.specs.Prelude.{◌≡◌};
 ghost use Rattle.serde_json.specs.View.{view};
-ghost use Rattle.plant_body.specs.Members.{ReadsAs};
-ghost use Rattle.plant_body.specs.Bodies.{read_by};
-ghost use Rattle.plant_body.specs.Proposals.{sheet_in, record_in, matrix_in, limit_in, change_in, proposal_in};
+ghost use Rattle.plant_body.specs.{Bodies.{read_by}, Members.{ReadsAs}, Proposals.{sheet_in, record_in, matrix_in, limit_in, change_in, proposal_in}};
 
 use crate::bodies::matrix_from;
 use crate::lists::{numbers_in, rows_in};

@@ -1,28 +1,15 @@
 -- Books in a list of units: what is found there, and what is there after a put.
-use Rattle.std.proofs.Common.{Bool, List, Some, T, [], ap, arith, cond, false, length, map, refl, subst, sym, true, ◌++◌, ◌∙◌, ◌∷◌, ◌≡◌}
-use Rattle.std.specs.Cmp.{tied_itself}
-use Rattle.std.specs.FinMap.Entries.{below_all, by_order, find as found, is_sorted, put}
-use Rattle.std.specs.FinMap.{entries, entries-insert, entries_sorted, get, get-entries, keys, len-empty, len-entries}
-use Rattle.std.specs.List.{cons_option, flat_map}
-use Rattle.std.specs.Ordering.{eq_by_cmp, is_eq, is_lt, ordering_reverse}
-use Rattle.std.specs.Prelude.{Err, IfSome, Ok, OnOk, Option, Result, filter_map, option_map, unwrap_or, ◌&&◌}
-use Rattle.std.specs.declared.cmp.Ordering.TheVariants.{Equal, Greater, Less}
-use Rattle.plant_books.specs.declared.opened.OpenedUnit.{OpenedUnit}
-use Rattle.plant_model.specs.declared.call.Call.{Call}
-use Rattle.plant_model.specs.declared.rows.RowEdit.{RowEdit}
-use Rattle.plant_model.specs.declared.rows.UnitRows.{UnitRows}
-use Rattle.plant_types.specs.declared.fault.Fault.{Fault}
+use Rattle.std.specs.{Cmp.{tied_itself}, FinMap.Entries.{below_all, by_order, find as found, is_sorted, put}}
+use Rattle.std.specs.{FinMap.{entries, entries-insert, entries_sorted, get, get-entries, keys, len-empty, len-entries}, List.{cons_option}}
+use Rattle.std.specs.Ordering.{eq_by_cmp, ordering_reverse}
+use Rattle.std.proofs.Common.{List, Some, T, [], ap, arith, cond, false, length, map, refl, subst, sym, true, ◌++◌, ◌∙◌, ◌∷◌, ◌≡◌, flat_map, is_eq, is_lt, Err, IfSome, Ok, OnOk, Option, Result, filter_map, option_map, unwrap_or, Equal, Greater, Less}
 use Rattle.plant_books.specs.Contents.{Content, after_changes, no_units, part_in, rows_in, with_rows}
-use Rattle.plant_books.specs.Listed.{AllInOrder, IsListed, rows_at, unit_cmp}
-use Rattle.plant_model.specs.Order.{AreInOrder}
+use Rattle.plant_books.specs.{Listed.{AllInOrder, IsListed, rows_at, unit_cmp}, declared.opened.OpenedUnit.{OpenedUnit}}
 use Rattle.plant_books.proofs.public.OrderLaws.{changed_in_order, or_none_in_order, put_all_in_order, rows_in_order}
-use Rattle.plant_model.proofs.public.Base.{lt}
-use Rattle.plant_model.specs.Parts.{part_of}
-use Rattle.plant_model.specs.RowChanges.{changed_by, no_rows}
-use Rattle.plant_model.specs.Worlds.{unit_named}
+use Rattle.plant_model.specs.{Order.{AreInOrder}, Parts.{part_of}, RowChanges.{changed_by, no_rows}, Worlds.{unit_named}, declared.call.Call.{Call}}
+use Rattle.plant_model.{specs.declared.rows.{RowEdit.{RowEdit}, UnitRows.{UnitRows}}, proofs.public.{Base.{lt}, RowsFound.{first, second}}}
+use Rattle.plant_types.specs.{KeyedRows.{put_row, row_at}, Names.{Name, name_cmp}, declared.fault.Fault.{Fault}}
 use Rattle.plant_types.proofs.public.Orders.{name_total, same_names}
-use Rattle.plant_types.specs.Names.{Name, name_cmp}
-use Rattle.plant_types.specs.KeyedRows.{put_row, row_at}
 
 abbrev entry : OpenedUnit → Name × UnitRows
 entry o = (o.unit, o.rows)
@@ -69,16 +56,7 @@ none_listed admin opened none =
       ordered = subst AllInOrder (sym none) tt;
     }
 
--- what is said of each code with what is found there, is said of each unit of the list with its rows
-second : (a b : Bool) → T (a && b) → T b
-second true b p = p
-second false b p = absurd p
-
-first : (a b : Bool) → T (a && b) → T a
-first true b p = tt
-first false b p = p
-
--- each entry is found by a look-up
+-- what is said of each code with what is found there, is said of each unit of the list with its rows: each entry is found by a look-up
 abbrev AreFound : (Name → Option UnitRows) → List (Name × UnitRows) → Type 0
 AreFound g [] = Unit {0}
 AreFound g (e ∷ es) = (g e.0 ≡ Some e.1) × AreFound g es

@@ -1,29 +1,16 @@
 -- Numbers among several, and those of the matrices and changes that a scope takes in.
-use Rattle.std.proofs.Common.{List, [], ap, arith, false, refl, sym, true, ◌++◌, ◌∙◌, ◌∷◌}
-use Rattle.std.proofs.lemmas.List.Folds.{list_any-append}
-use Rattle.std.specs.Cmp.{ranked}
-use Rattle.std.specs.List.{AllByRecursion, list_any}
-use Rattle.std.specs.List.Sorted.{IsStrictlySortedBy}
-use Rattle.std.specs.Ordering.{nat_cmp}
-use Rattle.std.specs.declared.cmp.Ordering.TheVariants.{Less}
-use Rattle.std.specs.Prelude.{Bool, None, Option, Some, cond, filter, if◌then◌else◌, ℕ, ◌≡◌, ◌≤◌, ◌&&◌, ◌||◌}
+use Rattle.std.specs.{BTreeSet.{UpdatesBy, contains}, Cmp.{ranked}, List.{AllByRecursion, list_any, Sorted.{IsStrictlySortedBy}}}
+use Rattle.std.proofs.Common.{List, [], ap, arith, false, refl, sym, true, ◌++◌, ◌∙◌, ◌∷◌, nat_cmp, Less, Bool, None, Option, Some, cond, filter, ℕ, ◌≡◌, ◌≤◌, ◌&&◌, ◌||◌, BTreeSet}
+use Rattle.std.proofs.lemmas.{Bool.{or_right}, List.Folds.{list_any-append}}
 use Rattle.plant_import.proofs.public.Placed.{AllBelow, other}
 use Rattle.plant_books.specs.Asking.{AreSources, is_number}
-use Rattle.plant_model.proofs.public.ChangesFound.{ties}
-use Rattle.plant_model.specs.Histories.{same_number}
-use Rattle.plant_model.specs.Parts.{is_source}
-use Rattle.plant_model.specs.declared.rows.RecordEntry.{RecordEntry}
-use Rattle.plant_model.specs.declared.rows.UnitRows.{UnitRows}
+use Rattle.plant_model.specs.{Histories.{same_number}, Parts.{is_source}, declared.rows.{RecordEntry.{RecordEntry}, UnitRows.{UnitRows}}}
+use Rattle.plant_model.proofs.public.RowsFound.{ties}
 use Rattle.plant_types.specs.Names.{Name}
-use Rattle.std.specs.BTreeSet.{BTreeSet, UpdatesBy, contains}
 
 -- a number is one of several
 abbrev pub among : List ℕ → ℕ → Bool
 among ks n = list_any (λ k. ties n k) ks
-
-pub or_true : (a : Bool) → (a || true) ≡ true
-or_true true = refl
-or_true false = refl
 
 pub or_none : (a : Bool) → (a || false) ≡ a
 or_none true = refl
@@ -70,7 +57,7 @@ pub left_out : (rows : UnitRows) (looked : Name → Bool) (numbers : BTreeSet �
 left_out rows looked numbers b n none leaves = ap (list_any (λ k. ties n k)) none ∙ ap (λ c. c && is_source rows looked n) (sym leaves)
 
 or_swap : (a b : Bool) → cond a true b ≡ (b || a)
-or_swap true b = sym (or_true b)
+or_swap true b = sym (or_right b true refl)
 or_swap false b = sym (or_none b)
 
 -- the first of a set, or none

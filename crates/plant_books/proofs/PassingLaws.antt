@@ -6,11 +6,6 @@ passing_every true [] h = refl
 passing_every true (x ∷ xs) h = ap (λ rest. x ∷ rest) (passing_every true xs h)
 passing_every false xs h = absurd (true≢false (sym h))
 
-pub passing_none : {A : Type 0} (b : Bool) (xs : List A) → b ≡ false → filter (λ _. b) xs ≡ []
-passing_none false [] h = refl
-passing_none false (x ∷ xs) h = passing_none false xs h
-passing_none true xs h = absurd (true≢false h)
-
 -- the same passes by two tests that answer alike
 pub passing_as : {A : Type 0} {f g : A → Bool} → ((x : A) → f x ≡ g x) → (xs : List A) → filter f xs ≡ filter g xs
 passing_as same xs = λ i. filter (λ x. same x i) xs

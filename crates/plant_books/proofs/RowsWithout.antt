@@ -1,17 +1,12 @@
 -- Rows in the order of their tags, without that of a tag.
-use Rattle.std.proofs.Common.{ap, arith, refl, subst, sym, ◌∙◌}
-use Rattle.std.specs.Ordering.{is_eq, is_lt, ordering_reverse}
-use Rattle.std.specs.Prelude.{IfSome, List, None, Option, Some, [], cond, false, not, remove, slice_get, suc, true, zero, ℕ, ◌∷◌, ◌≡◌}
-use Rattle.std.specs.declared.cmp.Ordering.{Ordering}
-use Rattle.std.specs.declared.cmp.Ordering.TheVariants.{Equal, Greater, Less}
+use Rattle.std.specs.Ordering.{ordering_reverse}
+use Rattle.std.proofs.Common.{ap, arith, refl, subst, sym, ◌∙◌, is_eq, is_lt, IfSome, List, None, Option, Some, [], cond, false, not, remove, slice_get, suc, true, zero, ℕ, ◌∷◌, ◌≡◌, Ordering, Equal, Greater, Less}
 use Rattle.plant_model.proofs.public.RowsFound.{After, Ordered, Parts, after_more, back, later, lesser, turned}
+use Rattle.plant_types.{specs.{KeyedRows.{remove_row}, Names.{Name, name_cmp, same_name}}, proofs.public.KeyedRowLaws.{tied}}
 use Rattle.plant_types.proofs.public.Orders.{name_total, same_names}
-use Rattle.plant_types.proofs.public.KeyedRowLaws.{tied}
-use Rattle.plant_types.specs.Names.{Name, name_cmp, same_name}
-use Rattle.plant_types.specs.KeyedRows.{remove_row}
 
 module _ {X : Type 0} (key : X → Name) where
-  all_stay : (t : Name) (rows : List X) → After key t rows → rows ≡ remove_row name_cmp key t rows
+  all_stay : (t : Name) (rows : List X) → After name_cmp key t rows → rows ≡ remove_row name_cmp key t rows
   all_stay t [] h = refl
   all_stay t (r ∷ rows) h = ap (λ xs. r ∷ xs) (all_stay t rows h.1) ∙ sym (ap (λ o. cond (not (is_eq o)) (r ∷ remove_row name_cmp key t rows) (remove_row name_cmp key t rows)) h.0)
 
@@ -25,24 +20,24 @@ module _ {X : Type 0} (key : X → Name) where
   abbrev pub IsOther : Name → Option X → Type 0
   IsOther t o = IfSome o (λ r. same_name (key r) t ≡ false)
 
-  pub none_goes : (rows : List X) (t : Name) (p : ℕ) → Ordered key rows → Parts key t rows p → IsOther t (slice_get rows p) → rows ≡ remove_row name_cmp key t rows
+  pub none_goes : (rows : List X) (t : Name) (p : ℕ) → Ordered name_cmp key rows → Parts name_cmp key t rows p → IsOther t (slice_get rows p) → rows ≡ remove_row name_cmp key t rows
   none_goes [] t p order h other = refl
   none_goes (x ∷ rows) t zero order h other = by (name_cmp t (key x)) refl where
     by : (o : Ordering) → name_cmp t (key x) ≡ o → x ∷ rows ≡ remove_row name_cmp key t (x ∷ rows)
-    by Less e = all_stay t (x ∷ rows) (e, after_more key t (key x) rows e order.0)
+    by Less e = all_stay t (x ∷ rows) (e, after_more name_cmp key name_total t (key x) rows e order.0)
     by Equal e = absurd (let it : true ≡ false = sym (ap is_eq (name_total.antisymm (key x) t ∙ ap ordering_reverse e)) ∙ other in cc)
-    by Greater e = absurd (let low : is_lt (name_cmp (key x) t) ≡ false = h.1 0 x (omega arith) (omega arith) in let it : true ≡ false = ap is_lt (sym (back t (key x) e)) ∙ low in cc)
+    by Greater e = absurd (let low : is_lt (name_cmp (key x) t) ≡ false = h.1 0 x (omega arith) (omega arith) in let it : true ≡ false = ap is_lt (sym (back name_total t (key x) e)) ∙ low in cc)
   none_goes (x ∷ rows) t (suc p) order h other =
       let low : name_cmp (key x) t ≡ Less = lesser (name_cmp (key x) t) (h.0 0 x (omega arith) (omega arith)) in
-      ap (λ xs. x ∷ xs) (none_goes rows t p order.1 (later key t x rows p h) other) ∙ stays t x rows Greater (turned (key x) t low) refl
+      ap (λ xs. x ∷ xs) (none_goes rows t p order.1 (later name_cmp key t x rows p h) other) ∙ stays t x rows Greater (turned name_total (key x) t low) refl
 
-  pub one_goes : (rows : List X) (t : Name) (p : ℕ) → Ordered key rows → Parts key t rows p → (r : X) → slice_get rows p ≡ Some r → same_name (key r) t ≡ true → remove rows p ≡ remove_row name_cmp key t rows
+  pub one_goes : (rows : List X) (t : Name) (p : ℕ) → Ordered name_cmp key rows → Parts name_cmp key t rows p → (r : X) → slice_get rows p ≡ Some r → same_name (key r) t ≡ true → remove rows p ≡ remove_row name_cmp key t rows
   one_goes [] t p order h r there same = absurd (let it : None ≡ Some r = there in cc)
   one_goes (x ∷ rows) t zero order h r there same =
       let first_is : x ≡ r = cc in
       let tied_to : name_cmp (key x) t ≡ Equal = tied (name_cmp (key x) t) true (ap (λ y. same_name (key y) t) first_is ∙ same) refl in
       let back_to : name_cmp t (key x) ≡ Equal = name_total.antisymm t (key x) ∙ ap ordering_reverse tied_to in
-      all_stay t rows (subst (λ (n : Name). After key n rows) (same_names (key x) t tied_to) order.0) ∙ goes t x rows back_to
+      all_stay t rows (subst (λ (n : Name). After name_cmp key n rows) (same_names (key x) t tied_to) order.0) ∙ goes t x rows back_to
   one_goes (x ∷ rows) t (suc p) order h r there same =
       let low : name_cmp (key x) t ≡ Less = lesser (name_cmp (key x) t) (h.0 0 x (omega arith) (omega arith)) in
-      ap (λ xs. x ∷ xs) (one_goes rows t p order.1 (later key t x rows p h) r there same) ∙ stays t x rows Greater (turned (key x) t low) refl
+      ap (λ xs. x ∷ xs) (one_goes rows t p order.1 (later name_cmp key t x rows p h) r there same) ∙ stays t x rows Greater (turned name_total (key x) t low) refl

@@ -2,3 +2,4 @@ pub mod KeyedLaws
 pub mod OrderLaws
 pub mod EventLaws
 pub mod NumberRanges
+pub mod ShelfLists

@@ -1,30 +1,16 @@
 -- What a call looks at in a unit's rows, and which rows of each table that is.
-use Rattle.std.specs.BTreeSet.{BTreeSet, contains}
-use Rattle.std.specs.List.{list_any}
-use Rattle.std.specs.Ordering.{nat_cmp}
+use Rattle.std.specs.{BTreeSet.{BTreeSet, contains}, List.{list_any}, Ordering.{nat_cmp}}
 use Rattle.std.specs.Prelude.{Bool, IfOk, List, [], None, Option, Result, Some, false, filter, length, true, ℕ, ◌&&◌, ◌||◌, ◌≡◌}
 use Rattle.plant_alarm.specs.declared.event.Event.{Event}
-use Rattle.plant_model.specs.Scopes.{number_approved, selection_by}
-use Rattle.plant_model.specs.declared.kinds.Scope.{Scope}
-use Rattle.plant_model.specs.declared.kinds.Scope.TheVariants.{Approval, OneChange}
-use Rattle.plant_books.specs.declared.asking.Wanted.{Wanted}
-use Rattle.plant_books.specs.declared.asking.Wanted.TheVariants.{Every, Nothing, One}
-use Rattle.plant_books.specs.declared.asking.WantedAlarms.{WantedAlarms}
-use Rattle.plant_books.specs.declared.asking.WantedAlarms.TheVariants.{Shelved, Those}
-use Rattle.plant_books.specs.declared.asking.WantedEvents.{WantedEvents}
+use Rattle.plant_model.specs.{Histories.{same_number}, Parts.{Selection, has_shelf, is_crowded, is_in_force, is_source, rows_selected}}
+use Rattle.plant_model.specs.{RowFacts.{change_found, pair_of}, Scopes.{number_approved, selection_by}, declared.call.Request.{Request}}
+use Rattle.plant_model.specs.declared.{kinds.Scope.{Scope, TheVariants.{Approval, OneChange}}, rows.{AlarmRow.{AlarmRow}, ChangeEntry.{ChangeEntry}}}
+use Rattle.plant_model.specs.declared.rows.{GrantRow.{GrantRow}, RecordEntry.{RecordEntry}, ShelfRow.{ShelfRow}, UnitRow.{UnitRow}}
+use Rattle.plant_model.specs.declared.rows.UnitRows.{UnitRows}
+use Rattle.plant_books.specs.declared.asking.{Wanted.{Wanted, TheVariants.{Every, Nothing, One}}, WantedAlarms.{WantedAlarms}}
+use Rattle.plant_books.specs.declared.asking.{WantedAlarms.TheVariants.{Shelved, Those}, WantedEvents.{WantedEvents}}
 use Rattle.plant_books.specs.declared.asking.WantedEvents.TheVariants.{Beside, Every as EveryEvent, Nothing as NoEvents}
 use Rattle.plant_import.specs.Needed.{needed}
-use Rattle.plant_model.specs.Histories.{same_number}
-use Rattle.plant_model.specs.Parts.{Selection, has_shelf, is_crowded, is_in_force, is_source, rows_selected}
-use Rattle.plant_model.specs.RowFacts.{change_found, pair_of}
-use Rattle.plant_model.specs.declared.call.Request.{Request}
-use Rattle.plant_model.specs.declared.rows.AlarmRow.{AlarmRow}
-use Rattle.plant_model.specs.declared.rows.ChangeEntry.{ChangeEntry}
-use Rattle.plant_model.specs.declared.rows.GrantRow.{GrantRow}
-use Rattle.plant_model.specs.declared.rows.RecordEntry.{RecordEntry}
-use Rattle.plant_model.specs.declared.rows.ShelfRow.{ShelfRow}
-use Rattle.plant_model.specs.declared.rows.UnitRow.{UnitRow}
-use Rattle.plant_model.specs.declared.rows.UnitRows.{UnitRows}
 use Rattle.plant_types.specs.Names.{Name, same_name}
 
 -- the rows that a scope takes in of a unit's, for a caller of this name

@@ -1,13 +1,8 @@
 -- What the calls of the trait `Books` say, by its ghost members.
 use Rattle.std.specs.Prelude.{IfOk, List, OnErr, OnOk, Option, Result, Some, ℕ, ◌≡◌}
-use Rattle.plant_books.specs.Contents.{Content, IsKnownTo, after_changes, part_in}
-use Rattle.plant_books.specs.Counting.{Counts}
-use Rattle.plant_model.specs.Worlds.{unit_named}
-use Rattle.plant_model.specs.declared.call.Call.{Call}
-use Rattle.plant_model.specs.declared.rows.RowEdit.{RowEdit}
-use Rattle.plant_model.specs.declared.rows.UnitPart.{UnitPart}
-use Rattle.plant_types.specs.Names.{Name}
-use Rattle.plant_types.specs.declared.fault.Fault.{Fault}
+use Rattle.plant_books.specs.{Contents.{Content, IsKnownTo, after_changes, part_in}, Counting.{Counts}}
+use Rattle.plant_model.specs.{Worlds.{unit_named}, declared.{call.Call.{Call}, rows.{RowEdit.{RowEdit}, UnitPart.{UnitPart}}}}
+use Rattle.plant_types.specs.{Names.{Name}, declared.fault.Fault.{Fault}}
 
 -- if the keeper's premise holds as a call ends, it held as it began
 abbrev pub WasHonest : {B : Type 0} → (B → Type 0) → B → B → Type 0

@@ -1,13 +1,7 @@
 -- Changes of a unit's rows, one after another.
-use Rattle.std.specs.List.{list_any}
-use Rattle.std.specs.Prelude.{Bool, IfOk, List, OnOk, Result, false, true, ◌≡◌}
-use Rattle.plant_model.specs.Order.{AreInOrder}
-use Rattle.plant_model.specs.RowChanges.{changed, put}
-use Rattle.plant_model.specs.declared.rows.Row.{Row}
-use Rattle.plant_model.specs.declared.rows.RowEdit.{RowEdit}
-use Rattle.plant_model.specs.declared.rows.RowEdit.TheVariants.{Put, PutEvents}
-use Rattle.plant_model.specs.declared.rows.Row.TheVariants.{Event as EventPut}
-use Rattle.plant_model.specs.declared.rows.UnitRows.{UnitRows}
+use Rattle.std.specs.{List.{list_any}, Prelude.{Bool, IfOk, List, OnOk, Result, false, true, ◌≡◌}}
+use Rattle.plant_model.specs.{Order.{AreInOrder}, RowChanges.{changed, put}, declared.rows.Row.{Row, TheVariants.{Event as EventPut}}}
+use Rattle.plant_model.specs.declared.rows.{RowEdit.{RowEdit, TheVariants.{Put, PutEvents}}, UnitRows.{UnitRows}}
 
 -- of rows in the order of their keys: if it succeeds, the row is put among them
 abbrev pub PutsRow : {A E : Type 0} → Row → UnitRows → UnitRows → Result A E → Type 0

@@ -1,23 +1,12 @@
 -- What books contain: the administrator's name, and the rows of each opened unit.
-use Rattle.std.specs.FinMap.{FinMap, contains_key, empty, get, insert, keys}
-use Rattle.std.specs.List.{flat_map, list_any}
-use Rattle.std.specs.Prelude.{Bool, List, None, OnOk, Option, Result, Some, [], false, filter, filter_map, if◌then◌else◌, map, option_map, true, unwrap_or, ℕ, ◌++◌, ◌≡◌, ◌⊎◌}
+use Rattle.std.specs.{FinMap.{FinMap, contains_key, empty, get, insert, keys}, List.{list_any}}
+use Rattle.std.specs.Prelude.{flat_map, Bool, List, None, OnOk, Option, Result, Some, [], false, filter, filter_map, if◌then◌else◌, map, option_map, true, unwrap_or, ℕ, ◌++◌, ◌≡◌, ◌⊎◌}
 use Rattle.plant_alarm.specs.declared.event.Event.{Event}
-use Rattle.plant_books.specs.declared.books.MineRow.{MineRow}
-use Rattle.plant_books.specs.declared.books.MineUnit.{MineUnit}
-use Rattle.plant_model.specs.declared.call.Call.{Call}
-use Rattle.plant_model.specs.declared.rows.RowEdit.{RowEdit}
-use Rattle.plant_model.specs.declared.rows.GrantRow.{GrantRow}
-use Rattle.plant_model.specs.declared.rows.ShelfRow.{ShelfRow}
-use Rattle.plant_model.specs.declared.rows.UnitPart.{UnitPart}
+use Rattle.plant_books.specs.declared.books.{MineRow.{MineRow}, MineUnit.{MineUnit}}
+use Rattle.plant_model.specs.{Grants.{is_before}, Parts.{part_of}, RowChanges.{changed_by, no_rows, puts_unit}, RowFacts.{last_return, unit_read}}
+use Rattle.plant_model.specs.declared.{call.Call.{Call}, rows.{GrantRow.{GrantRow}, RowEdit.{RowEdit}, ShelfRow.{ShelfRow}, UnitPart.{UnitPart}}}
 use Rattle.plant_model.specs.declared.rows.UnitRows.{UnitRows}
-use Rattle.plant_types.specs.declared.role.Role.{Role}
-use Rattle.plant_model.specs.Grants.{is_before}
-use Rattle.plant_model.specs.Parts.{part_of}
-use Rattle.plant_model.specs.RowChanges.{changed_by, no_rows, puts_unit}
-use Rattle.plant_model.specs.RowFacts.{last_return, unit_read}
-use Rattle.plant_types.specs.Names.{Name, name_cmp, same_name}
-use Rattle.plant_types.specs.Options.{when}
+use Rattle.plant_types.specs.{Names.{Name, name_cmp, same_name}, Options.{when}, declared.role.Role.{Role}}
 
 -- what books contain
 pub record Content : Type 0 where
@@ -93,6 +82,10 @@ mine_row u rows s = record { unit = u; shelf = s; last_return = last_return rows
 -- the shelves of a unit are put at the end of others
 abbrev pub AddsShelves : {A E : Type 0} → Name → UnitRows → List MineRow → List MineRow → Result A E → Type 0
 AddsShelves u rows before after said = OnOk said (after ≡ before ++ map (mine_row u rows) rows.shelves)
+
+-- the shelves of a unit, each with the moment at which its alarm last returned to normal; none where there are no rows
+abbrev pub shelves_there : Name → Option UnitRows → List MineRow
+shelves_there u o = map (mine_row u (unwrap_or o no_rows)) (unwrap_or o no_rows).shelves
 
 -- the shelves of a unit in which the person holds a role at the moment
 abbrev pub shelves_mine : ℕ → Name → Name → Option UnitRows → List MineRow

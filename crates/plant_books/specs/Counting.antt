@@ -1,7 +1,6 @@
 -- The count of answers `Store`, below its greatest number.
 use Rattle.std.specs.Prelude.{Err, Ok, Result, ℕ, ◌+◌, ◌-◌, ◌<◌, ◌^◌, ◌≡◌}
-use Rattle.plant_types.specs.declared.fault.Fault.{Fault}
-use Rattle.plant_types.specs.declared.fault.Fault.TheVariants.{Memory, Store}
+use Rattle.plant_types.specs.declared.fault.Fault.{Fault, TheVariants.{Memory, Store}}
 
 -- a fault Store adds one, a fault of memory nothing
 abbrev pub CountsFault : ℕ → ℕ → Fault → Type 0

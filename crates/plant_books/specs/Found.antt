@@ -1,12 +1,8 @@
 -- Rows whose tags are wanted, alarms that have a shelf, and rows without that of a tag.
 use Rattle.std.specs.Prelude.{List, filter}
-use Rattle.plant_books.specs.Asking.{is_wanted}
-use Rattle.plant_books.specs.declared.asking.Wanted.{Wanted}
-use Rattle.plant_model.specs.Parts.{has_shelf}
-use Rattle.plant_model.specs.declared.rows.AlarmRow.{AlarmRow}
-use Rattle.plant_model.specs.declared.rows.ShelfRow.{ShelfRow}
-use Rattle.plant_types.specs.KeyedRows.{remove_row}
-use Rattle.plant_types.specs.Names.{Name, name_cmp}
+use Rattle.plant_books.specs.{Asking.{is_wanted}, declared.asking.Wanted.{Wanted}}
+use Rattle.plant_model.specs.{Parts.{has_shelf}, declared.rows.{AlarmRow.{AlarmRow}, ShelfRow.{ShelfRow}}}
+use Rattle.plant_types.specs.{KeyedRows.{remove_row}, Names.{Name, name_cmp}}
 
 -- the rows without that of a tag
 abbrev pub without_tag : {X : Type 0} → (X → Name) → Name → List X → List X

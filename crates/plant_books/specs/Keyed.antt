@@ -1,7 +1,5 @@
 -- Rows put by an order of them.
-use Rattle.std.specs.Cmp.{IsTotalOrder}
-use Rattle.std.specs.Prelude.{List, MatchResult, Result, insert, slice_set, ℕ, ◌≡◌}
-use Rattle.std.specs.declared.cmp.Ordering.{Ordering}
+use Rattle.std.specs.{Cmp.{IsTotalOrder}, Prelude.{List, MatchResult, Result, insert, slice_set, ℕ, ◌≡◌}, declared.cmp.Ordering.{Ordering}}
 use Rattle.plant_types.specs.KeyedRows.{IsInOrder, put_row}
 
 -- the rows after are those before with this one, which replaces the row of its key

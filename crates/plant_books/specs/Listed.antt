@@ -1,19 +1,10 @@
 -- Books in a list of units.
-use Rattle.std.specs.FinMap.{entries}
-use Rattle.std.specs.List.{AllByRecursion}
-use Rattle.std.specs.Prelude.{List, Option, Some, filter_map, flat_map, map, option_map, unwrap_or, ℕ, ◌≡◌}
+use Rattle.std.specs.{FinMap.{entries}, List.{AllByRecursion}, Prelude.{List, Option, Some, filter_map, flat_map, map, option_map, unwrap_or, ℕ, ◌≡◌}}
 use Rattle.std.specs.declared.cmp.Ordering.{Ordering}
+use Rattle.plant_books.specs.{Contents.{Content, is_held_in, mine_unit, shelves_mine}, declared.books.{MineRow.{MineRow}, MineUnit.{MineUnit}}}
 use Rattle.plant_books.specs.declared.opened.OpenedUnit.{OpenedUnit}
-use Rattle.plant_books.specs.Contents.{Content, is_held_in, mine_unit, shelves_mine}
-use Rattle.plant_model.specs.Order.{AreInOrder}
-use Rattle.plant_books.specs.declared.books.MineRow.{MineRow}
-use Rattle.plant_books.specs.declared.books.MineUnit.{MineUnit}
-use Rattle.plant_model.specs.RowChanges.{changed_by, no_rows}
-use Rattle.plant_model.specs.declared.rows.RowEdit.{RowEdit}
-use Rattle.plant_model.specs.declared.rows.UnitRows.{UnitRows}
-use Rattle.plant_types.specs.Names.{Name, name_cmp}
-use Rattle.plant_types.specs.KeyedRows.{put_row, row_at}
-use Rattle.plant_types.specs.Options.{when}
+use Rattle.plant_model.specs.{Order.{AreInOrder}, RowChanges.{changed_by, no_rows}, declared.rows.{RowEdit.{RowEdit}, UnitRows.{UnitRows}}}
+use Rattle.plant_types.specs.{KeyedRows.{put_row, row_at}, Names.{Name, name_cmp}, Options.{when}}
 
 -- units by their codes
 abbrev pub unit_cmp : OpenedUnit → OpenedUnit → Ordering

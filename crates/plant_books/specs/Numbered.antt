@@ -1,8 +1,5 @@
 -- Rows with a number: limits and cells with that of their matrix, and changes.
-use Rattle.std.specs.BTreeSet.{BTreeSet, contains}
-use Rattle.std.specs.List.Sorted.{IsNonDecreasingBy}
-use Rattle.std.specs.Ordering.{nat_cmp}
-use Rattle.std.specs.Prelude.{List, filter, ℕ}
+use Rattle.std.specs.{BTreeSet.{BTreeSet, contains}, List.Sorted.{IsNonDecreasingBy}, Ordering.{nat_cmp}, Prelude.{List, filter, ℕ}}
 use Rattle.plant_model.specs.Histories.{same_number}
 
 -- the numbers of the rows do not fall

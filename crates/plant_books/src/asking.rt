@@ -1,12 +1,10 @@
 //! What a call looks at, and which rows of each table that is.
 
 ghost use Rattle.std.specs.Prelude.{◌≡◌, ◌||◌};
-ghost use Rattle.plant_books.specs.Asking as asked;
 ghost use Rattle.plant_books.specs.Asking.{AreAlarmsWanted, AreEventsWanted, AreWanted, HasTheirShelves, IsCrowdedWith, TakesChanges, TakesMatrix, TakesSources, is_wanted};
-ghost use Rattle.plant_model.specs.Scopes.{of_change, selection_by};
-ghost use Rattle.plant_model.specs.declared.rows.UnitRows.{UnitRows};
-ghost use Rattle.plant_types.specs.Names.{Name, same_name};
-ghost use Rattle.plant_types.specs.Roles.{Pair};
+ghost use Rattle.plant_model.specs.{Scopes.{of_change, selection_by}, declared.rows.UnitRows.{UnitRows}};
+ghost use Rattle.plant_types.specs.{Names.{Name, same_name}, Roles.{Pair}};
+ghost use Rattle.plant_books.specs.Asking as asked;
 
 use plant_alarm::Event;
 use plant_model::{ChangeEntry, ChangeTopic, Scope, UnitRow};

@@ -1,8 +1,8 @@
 ghost use Rattle.std.specs.Prelude.{◌≡◌, IfOk, None, ℕ};
-ghost use Rattle.std.specs.FinMap as fin;
 ghost use Rattle.plant_books.specs.Books.{CountsBy, Finds, FindsPart, Keeps, KeepsOnErr, Makes, WasHonest};
 ghost use Rattle.plant_books.specs.Contents.{Content, codes_held, events_in, mine_shelves, mine_units, rows_but_events};
 ghost use Rattle.plant_model.specs.Worlds.{unit_named};
+ghost use Rattle.std.specs.FinMap as fin;
 
 use plant_alarm::Event;
 use plant_model::{Call, Changes, ShelfRow, UnitPart, UnitRows};

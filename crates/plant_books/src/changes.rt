@@ -1,12 +1,7 @@
 ghost use Rattle.std.specs.Prelude.{◌≡◌, ◌∷◌, [], IfOk};
-ghost use Rattle.plant_model.specs.RowChanges.{changed_by, removed};
-ghost use Rattle.plant_model.specs.RowFacts.{pair_of, shelf_tag};
-ghost use Rattle.plant_books.specs.Changing.{MakesChange, PutsRow, is_event_put, puts_event};
-ghost use Rattle.plant_books.specs.Found.{without_tag};
-ghost use Rattle.plant_model.specs.Order.{AreInOrder, TagsRise};
-ghost use Rattle.plant_types.specs.Results.{OnlyMemory};
-ghost use Rattle.plant_types.specs.Roles.{pair_cmp};
-ghost use Rattle.plant_types.specs.KeyedRows.{remove_row};
+ghost use Rattle.plant_model.specs.{Order.{AreInOrder, TagsRise}, RowChanges.{changed_by, removed}, RowFacts.{pair_of, shelf_tag}};
+ghost use Rattle.plant_books.specs.{Changing.{MakesChange, PutsRow, is_event_put, puts_event}, Found.{without_tag}};
+ghost use Rattle.plant_types.specs.{KeyedRows.{remove_row}, Results.{OnlyMemory}, Roles.{pair_cmp}};
 
 use crate::found::remove;
 use crate::keyed::{put, put_sorted};

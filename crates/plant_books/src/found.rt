@@ -1,10 +1,8 @@
 //! Copies of the rows whose tags are wanted and of the alarms that have a shelf, and rows without that of a tag.
 
-ghost use Rattle.std.specs.Prelude.{◌≡◌, IfOk, option_copied};
-ghost use Rattle.std.specs.Option.{option_to_list};
+ghost use Rattle.std.specs.Prelude.{◌≡◌, IfOk, option_copied, option_to_list};
 ghost use Rattle.plant_books.specs.Found.{rows_wanted, shelved, without_tag};
-ghost use Rattle.plant_model.specs.Order.{TagsRise};
-ghost use Rattle.plant_model.specs.RowFacts.{alarm_tag, shelf_tag};
+ghost use Rattle.plant_model.specs.{Order.{TagsRise}, RowFacts.{alarm_tag, shelf_tag}};
 ghost use Rattle.plant_types.specs.Results.{Gives, OnlyMemory};
 
 use crate::asking::Wanted;

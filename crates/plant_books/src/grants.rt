@@ -1,7 +1,7 @@
 ghost use Rattle.std.specs.Prelude.{◌≡◌, IfOk, Some};
-ghost use Rattle.plant_books.specs.Contents as contents;
 ghost use Rattle.plant_books.specs.Contents.{is_held_in, roles_in};
 ghost use Rattle.plant_types.specs.Results.{OnlyMemory};
+ghost use Rattle.plant_books.specs.Contents as contents;
 
 use plant_model::{GrantRow, UnitRows, is_before};
 use plant_types::{Fault, List, Moment, Person, Role};

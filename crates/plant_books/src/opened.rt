@@ -1,12 +1,9 @@
 ghost use Rattle.std.specs.Prelude.{◌≡◌, IfOk, IfSome, OnErr, OnOk, is_some, option_map, unwrap_or};
 ghost use Rattle.plant_books.specs.Contents.{AddsShelves, without_events};
 ghost use Rattle.plant_books.specs.Listed.{AllInOrder, listed_after, listed_codes, listed_shelves, listed_units, rows_at};
-ghost use Rattle.plant_model.specs.Order.{AreInOrder, TagsRise};
-ghost use Rattle.plant_model.specs.Parts.{part_of as the_part};
-ghost use Rattle.plant_model.specs.RowChanges.{no_rows};
-ghost use Rattle.plant_model.specs.RowFacts as facts;
-ghost use Rattle.plant_model.specs.RowFacts.{alarm_tag, unit_read};
+ghost use Rattle.plant_model.specs.{Order.{AreInOrder, TagsRise}, Parts.{part_of as the_part}, RowChanges.{no_rows}, RowFacts.{alarm_tag, unit_read}};
 ghost use Rattle.plant_types.specs.Results.{Gives, OnlyMemory};
+ghost use Rattle.plant_model.specs.RowFacts as facts;
 
 use crate::books::{MineRow, MineUnit};
 use crate::changes::after_changes;

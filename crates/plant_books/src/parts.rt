@@ -1,13 +1,10 @@
 ghost use Rattle.std.specs.Prelude.{◌≡◌, IfOk, filter, option_copied, true};
-ghost use Rattle.plant_books.specs.Asking.{alarms_wanted, IsApprovedBy, changes_by, events_wanted, grants_by, rows_by};
-ghost use Rattle.plant_books.specs.Contents.{without_events};
+ghost use Rattle.plant_books.specs.{Asking.{alarms_wanted, IsApprovedBy, changes_by, events_wanted, grants_by, rows_by}, Contents.{without_events}};
 ghost use Rattle.plant_model.specs.Order.{AreInOrder, ChangesRise, EventsRise, TagsRise};
 ghost use Rattle.plant_model.specs.Parts.{counted_for, is_crowded as is_crowded_in, part_of as the_part, part_of_holder as holders_part, selected};
-ghost use Rattle.plant_model.specs.RowChanges.{no_rows};
-ghost use Rattle.plant_model.specs.RowFacts.{alarm_tag, last_number as last_number_of, shelf_tag};
+ghost use Rattle.plant_model.specs.{RowChanges.{no_rows}, RowFacts.{alarm_tag, last_number as last_number_of, shelf_tag}};
 ghost use Rattle.plant_model.specs.Scopes.{is_shelving as is_shelving_by, selection_by};
-ghost use Rattle.plant_types.specs.Names.{same_name};
-ghost use Rattle.plant_types.specs.Results.{Gives, OnlyMemory};
+ghost use Rattle.plant_types.specs.{Names.{same_name}, Results.{Gives, OnlyMemory}};
 
 use crate::asking::{
     Wanted, WantedAlarms, WantedEvents, is_crowded, wanted_alarms, wanted_change, wanted_events,

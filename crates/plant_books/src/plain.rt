@@ -1,6 +1,5 @@
 ghost use Rattle.std.specs.Prelude.{◌≡◌, ⊤};
-ghost use Rattle.plant_books.specs.Contents.{no_units};
-ghost use Rattle.plant_books.specs.Listed.{IsListed};
+ghost use Rattle.plant_books.specs.{Contents.{no_units}, Listed.{IsListed}};
 
 use crate::books::{Books, MineRow, MineUnit};
 use crate::opened::{

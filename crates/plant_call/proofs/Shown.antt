@@ -1,16 +1,10 @@
 -- From what the steps of `next_call` say to what stands at the front.
-use Rattle.std.proofs.Common.{◌≡◌, ℕ, ◌+◌, ◌<◌, ◌≤◌, List, length, take, map, Result, Ok, Err, refl, sym, ap, ◌∙◌}
-use Rattle.std.proofs.lemmas.Bool.{lt-ltb, le-ltb}
-use Rattle.httparse.specs.Grammar.{RequestHead, print_request}
-use Rattle.httparse.specs.declared.spans.HeaderSpan.{HeaderSpan}
-use Rattle.httparse.specs.declared.spans.RequestSpans.{RequestSpans}
-use Rattle.httparse.specs.Spans.{header_bytes, span_bytes, name_and_value, IsRequestAt}
+use Rattle.std.proofs.{Common.{◌≡◌, ℕ, ◌+◌, ◌<◌, ◌≤◌, List, length, take, map, Result, Ok, Err, refl, sym, ap, ◌∙◌}, lemmas.Bool.{lt-ltb, le-ltb}}
+use Rattle.httparse.specs.{Grammar.{RequestHead, print_request}, Spans.{header_bytes, span_bytes, name_and_value, IsRequestAt}}
+use Rattle.httparse.specs.declared.spans.{HeaderSpan.{HeaderSpan}, RequestSpans.{RequestSpans}}
+use Rattle.plant_call.specs.{Front.{item_from, waits, whole, broken, of_head, body_length, item_of, answer_to}, Lengths.{body_length_in}}
+use Rattle.plant_call.specs.{Reading.{call_in}, declared.{causes.Cause.{Cause}, cut.Cut.TheVariants.{Call}}}
 use Rattle.plant_model.specs.declared.call.Call as model
-use Rattle.plant_call.specs.Lengths.{body_length_in}
-use Rattle.plant_call.specs.Reading.{call_in}
-use Rattle.plant_call.specs.Front.{item_from, waits, whole, broken, of_head, body_length, item_of, answer_to}
-use Rattle.plant_call.specs.declared.causes.Cause.{Cause}
-use Rattle.plant_call.specs.declared.cut.Cut.TheVariants.{Call}
 
 pub answers_broken : (head : RequestHead) (after : List ℕ) (cause : Cause) → body_length head ≡ Err cause → answer_to head after ≡ broken cause
 unfolding of_head

@@ -1,8 +1,7 @@
 -- Two readings of one stream are one, save where httparse leaves a front open.
 use Rattle.std.proofs.Common.{◌≡◌, ◌⊎◌, ℕ, List, [], ◌∷◌, length, drop, Result, refl, sym, ap, subst, ◌∙◌, inl, inr, arith}
 use Rattle.httparse.specs.Grammar.{RequestHead}
-use Rattle.plant_call.specs.Front.{Item, waits, whole, broken, IsFront, Parses, IsOpen, EndsAt}
-use Rattle.plant_call.specs.declared.causes.Cause.{Cause}
+use Rattle.plant_call.specs.{Front.{Item, waits, whole, broken, IsFront, Parses, IsOpen, EndsAt}, declared.causes.Cause.{Cause}}
 use Rattle.plant_call.proofs.public.Cuts.{front_unique, whole_fits, whole_positive}
 
 module _ (body_length : RequestHead → Result ℕ Cause) (item_of : RequestHead → List ℕ → Item) where

@@ -1,14 +1,11 @@
 -- Causes, and steps that may fail by one.
 use Rattle.std.specs.Prelude.{◌≡◌, Result, Ok, Err}
-use Rattle.plant_ration.specs.declared.cell.MatrixFault.TheVariants as fault
-use Rattle.plant_body.specs.declared.members.BodyError.{BodyError}
-use Rattle.plant_body.specs.declared.members.BodyError.TheVariants as body
-use Rattle.plant_body.specs.declared.members.Unfit.{Unfit}
-use Rattle.plant_body.specs.declared.members.Unfit.TheVariants as unfit
-use Rattle.plant_call.specs.declared.causes.Cause.{Cause}
+use Rattle.plant_body.specs.declared.members.{BodyError.{BodyError}, Unfit.{Unfit}}
+use Rattle.plant_call.specs.declared.causes.{CallError.{CallError, TheVariants.{Memory, Because}}, Cause.{Cause}}
 use Rattle.plant_call.specs.declared.causes.Cause.TheVariants.{BadBody, MatrixShape, BandsNotRising, NotOrdered}
-use Rattle.plant_call.specs.declared.causes.CallError.{CallError}
-use Rattle.plant_call.specs.declared.causes.CallError.TheVariants.{Memory, Because}
+use Rattle.plant_ration.specs.declared.cell.MatrixFault.TheVariants as fault
+use Rattle.plant_body.specs.declared.members.BodyError.TheVariants as body
+use Rattle.plant_body.specs.declared.members.Unfit.TheVariants as unfit
 
 abbrev pub body_cause : Unfit → Cause
 body_cause unfit.Body = BadBody

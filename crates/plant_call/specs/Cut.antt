@@ -1,8 +1,7 @@
 -- What `next_call` answers.
 use Rattle.std.specs.Prelude.{◌≡◌, ◌<◌, ◌+◌, ◌++◌, ℕ, List, length, Ok}
 use Rattle.httparse.specs.Grammar.{RequestHead, print_request}
-use Rattle.plant_call.specs.Front.{Front, waits, whole, broken, asked, bad, body_length, StandsAtFront}
-use Rattle.plant_call.specs.declared.cut.Cut.{Cut}
+use Rattle.plant_call.specs.{Front.{Front, waits, whole, broken, asked, bad, body_length, StandsAtFront}, declared.cut.Cut.{Cut}}
 use Rattle.plant_call.specs.declared.cut.Cut.TheVariants.{More, Call, Malformed, Broken, Fault}
 
 -- the answer shows this front, unless memory ran out

@@ -1,14 +1,10 @@
 -- What stands at the front of a stream of requests: a definition over the bytes alone.
-use Rattle.plant_types.specs.Limits.{max_head}
 use Rattle.std.specs.Prelude.{◌≡◌, ◌⊎◌, ℕ, ◌+◌, List, [], ◌∷◌, length, take, drop, Result, Ok, Err, nat_lt, if◌then◌else◌}
+use Rattle.plant_types.specs.Limits.{max_head}
 use Rattle.httparse.specs.Grammar.{RequestHead, EndsInTarget, print_request}
-use Rattle.plant_head.specs.Head.{front, BeginsWith, IsHopeless, IsUnfinished}
-use Rattle.plant_head.specs.Fields.{fields_of}
+use Rattle.plant_head.specs.{Fields.{fields_of}, Head.{front, BeginsWith, IsHopeless, IsUnfinished}}
 use Rattle.plant_model.specs.declared.call.Call.{Call}
-use Rattle.plant_call.specs.Lengths.{body_length_in}
-use Rattle.plant_call.specs.Reading.{call_in}
-use Rattle.plant_call.specs.declared.causes.Cause.{Cause}
-use Rattle.plant_call.specs.declared.causes.Cause.TheVariants.{HeadSyntax, HeadTooLong}
+use Rattle.plant_call.specs.{Lengths.{body_length_in}, Reading.{call_in}, declared.causes.Cause.{Cause, TheVariants.{HeadSyntax, HeadTooLong}}}
 
 -- one whole request: a call, or why it is none
 pub data Item : Type 0 where

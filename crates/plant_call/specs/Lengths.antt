@@ -1,13 +1,9 @@
 -- How long the body is, by the fields.
+use Rattle.std.specs.{Char.{is_ascii_digit}, List.{list_all}}
+use Rattle.std.specs.{Prelude.{ℕ, List, [], ◌∷◌, length, codes, Result, Ok, Err, Bool, ◌&&◌, nat_lt, if◌then◌else◌, not}, Str.Parse.{digits_value}}
 use Rattle.plant_types.specs.Limits.{max_body}
-use Rattle.std.specs.Prelude.{ℕ, List, [], ◌∷◌, length, codes, Result, Ok, Err, Bool, ◌&&◌, nat_lt, if◌then◌else◌, not}
-use Rattle.std.specs.List.{list_all}
-use Rattle.std.specs.Char.{is_ascii_digit}
-use Rattle.std.specs.Str.Parse.{digits_value}
 use Rattle.plant_head.specs.Fields.{NameValue, values_named}
-use Rattle.plant_call.specs.Causes.{◌>>=◌}
-use Rattle.plant_call.specs.declared.causes.Cause.{Cause}
-use Rattle.plant_call.specs.declared.causes.Cause.TheVariants.{LengthWrong, BodyTooLong, Chunked}
+use Rattle.plant_call.specs.{Causes.{◌>>=◌}, declared.causes.Cause.{Cause, TheVariants.{LengthWrong, BodyTooLong, Chunked}}}
 
 abbrev pub is_numeral : List ℕ → Bool
 is_numeral text = nat_lt 0 (length text) && list_all is_ascii_digit text

@@ -1,12 +1,8 @@
 -- The segments of a path.
-use Rattle.std.specs.Prelude.{ℕ, zero, suc, List, [], ◌∷◌, length, slice_index, ◌==◌, nat_le, Bool, ◌&&◌, not, if◌then◌else◌, Option, Some, None, Result}
-use Rattle.std.specs.Option.{ok_or}
+use Rattle.std.specs.Prelude.{ℕ, zero, suc, List, [], ◌∷◌, length, slice_index, ◌==◌, nat_le, Bool, ◌&&◌, not, if◌then◌else◌, Option, Some, None, Result, ok_or}
 use Rattle.std.specs.Str.Parse.{digits_value}
-use Rattle.plant_types.specs.Text.{unit_code_of, tag_of}
-use Rattle.plant_types.specs.Moment.{moment_of}
-use Rattle.plant_call.specs.Lengths.{is_numeral}
-use Rattle.plant_call.specs.declared.causes.Cause.{Cause}
-use Rattle.plant_call.specs.declared.causes.Cause.TheVariants.{BadPath}
+use Rattle.plant_types.specs.{Moment.{moment_of}, Text.{unit_code_of, tag_of}}
+use Rattle.plant_call.specs.{Lengths.{is_numeral}, declared.causes.Cause.{Cause, TheVariants.{BadPath}}}
 
 -- the bytes up to the first slash
 abbrev pub until_slash : List ℕ → List ℕ

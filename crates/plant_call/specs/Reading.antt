@@ -1,22 +1,16 @@
 -- What a request asks for: a definition over its head's parts and its body.
-use Rattle.std.specs.Prelude.{ℕ, List, [], ◌∷◌, codes, Result, Ok, Err}
-use Rattle.std.specs.Option.{ok_or}
-use Rattle.plant_types.specs.Text.{person_of}
-use Rattle.plant_types.specs.Moment.{moment_of}
+use Rattle.std.specs.Prelude.{ℕ, List, [], ◌∷◌, codes, Result, Ok, Err, ok_or}
+use Rattle.plant_types.specs.{Moment.{moment_of}, Text.{person_of}}
 use Rattle.plant_import.specs.Reading.{file_read}
-use Rattle.plant_model.specs.declared.call.Request.{Request}
-use Rattle.plant_model.specs.declared.call.Request.TheVariants as request
-use Rattle.plant_model.specs.declared.call.Call.{Call}
-use Rattle.plant_model.specs.declared.kinds.CallKind.{CallKind}
-use Rattle.plant_model.specs.declared.kinds.CallKind.TheVariants as kind
+use Rattle.plant_model.specs.declared.{call.{Call.{Call}, Request.{Request}}, kinds.CallKind.{CallKind}}
 use Rattle.plant_route.specs.Routes.{route_of}
 use Rattle.plant_body.specs.Bodies.{read_by, opening_in, granting_in, withdrawal_in, registration_in, timed_shelving_in, reason_in}
 use Rattle.plant_body.specs.Proposals.{proposal_in}
 use Rattle.plant_head.specs.Fields.{NameValue, values_named}
-use Rattle.plant_call.specs.Causes.{of_body, ◌>>=◌}
-use Rattle.plant_call.specs.Path.{unit_in, tag_in, begin_in, until_in, number_in}
-use Rattle.plant_call.specs.declared.causes.Cause.{Cause}
+use Rattle.plant_call.specs.{Causes.{of_body, ◌>>=◌}, Path.{unit_in, tag_in, begin_in, until_in, number_in}, declared.causes.Cause.{Cause}}
 use Rattle.plant_call.specs.declared.causes.Cause.TheVariants.{NoRoute, BadPerson, BadMoment}
+use Rattle.plant_model.specs.declared.call.Request.TheVariants as request
+use Rattle.plant_model.specs.declared.kinds.CallKind.TheVariants as kind
 
 -- the one value of the field, a person
 abbrev pub person_said : List (List ℕ) → Result (List ℕ) Cause

@@ -1,8 +1,7 @@
 ghost use Rattle.std.specs.Prelude.{◌≡◌, ◌≢◌, ◌⊎◌, ◌<◌, ◌≤◌, ◌++◌, ℕ, List, length};
-ghost use Rattle.httparse.specs.Grammar.{RequestHead};
-ghost use Rattle.httparse.specs.Spans.{IsRequestAt, IsRequestWithin};
-ghost use Rattle.plant_call.specs.Front.{Item, Front, waits, answer_to, StandsAtFront, IsOpen, IsStream, OpensSomewhere};
+ghost use Rattle.httparse.specs.{Grammar.{RequestHead}, Spans.{IsRequestAt, IsRequestWithin}};
 ghost use Rattle.plant_call.specs.Cut.{Shows, IsCutOf, IsLengthOf, WaitsBelow};
+ghost use Rattle.plant_call.specs.Front.{Item, Front, waits, answer_to, StandsAtFront, IsOpen, IsStream, OpensSomewhere};
 
 use crate::causes::{CallError, Cause};
 use crate::lengths::body_length;

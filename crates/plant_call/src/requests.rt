@@ -1,15 +1,12 @@
-ghost use Rattle.std.specs.Prelude.{◌≡◌, ◌≤◌, codes, map, length, All};
-ghost use Rattle.std.specs.Option.{ok_or};
+ghost use Rattle.std.specs.Prelude.{◌≡◌, ◌≤◌, codes, map, length, All, ok_or, Result};
 ghost use Rattle.httparse.specs.Spans.{header_bytes, IsHeaderWithin};
 ghost use Rattle.plant_head.specs.Fields.{values_named};
 ghost use Rattle.plant_route.specs.Routes.{route_of};
-ghost use Rattle.plant_model.specs.declared.kinds.CallKind.TheVariants as kind;
 ghost use Rattle.plant_body.specs.declared.members.Unfit.{Unfit};
-ghost use Rattle.plant_body.specs.Members as body;
+ghost use Rattle.plant_call.specs.{Causes.{ReadsAs, of_body}, Reading.{person_said, moment_said, request_in, call_in}};
 ghost use Rattle.plant_call.specs.declared.causes.Cause.TheVariants.{NoRoute};
-ghost use Rattle.plant_call.specs.Causes.{ReadsAs, of_body};
-ghost use Rattle.plant_call.specs.Reading.{person_said, moment_said, request_in, call_in};
-ghost use Rattle.std.specs.Prelude.{Result};
+ghost use Rattle.plant_model.specs.declared.kinds.CallKind.TheVariants as kind;
+ghost use Rattle.plant_body.specs.Members as body;
 
 use crate::causes::{CallError, Cause, body_error};
 use crate::path::{begin_in, number_in, tag_in, unit_in, until_in};

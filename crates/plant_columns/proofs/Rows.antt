@@ -1,20 +1,12 @@
 -- The rows of a tree, under what a statement takes out of it and puts in.
-use Rattle.std.proofs.Common.{◌≡◌, inl, inr, ℤ, ◌<ℤ◌, Bool, true, false, not, ◌||◌, cond, List, [], ◌∷◌, ◌++◌, filter, Option, Some, None, refl, sym, ap, ap₂, ◌∙◌, subst, Ordering, Less, Equal, Greater, is_eq, true≢false}
-use Rattle.std.specs.List.{AllByRecursion, list_any, filter_map}
-use Rattle.std.proofs.lemmas.Bool.{false_from_ne_true}
-use Rattle.std.proofs.lemmas.Cmp.{tied_itself}
-use Rattle.sqlite_value.specs.declared.value.Value.TheVariants.{Int}
-use Rattle.sqlite_value.specs.Order.{Row, value_cmp}
-use Rattle.sqlite_value.proofs.OrderLemmas.{value_cmp_total, value_cmp-Int}
+use Rattle.std.specs.List.{AllByRecursion, list_any}
+use Rattle.std.proofs.Common.{◌≡◌, inl, inr, ℤ, ◌<ℤ◌, Bool, true, false, not, ◌||◌, cond, List, [], ◌∷◌, ◌++◌, filter, Option, Some, None, refl, sym, ap, ap₂, ◌∙◌, subst, Ordering, Less, Equal, Greater, is_eq, true≢false, filter_map}
+use Rattle.std.proofs.lemmas.{Bool.{false_from_ne_true}, Cmp.{tied_itself}}
+use Rattle.sqlite_value.{specs.{Order.{Row, value_cmp}, declared.value.Value.TheVariants.{Int}}, proofs.OrderLemmas.{value_cmp_total, value_cmp-Int}}
 use Rattle.sqlite_trees.specs.Tree.{rowid, has_rowid, put_row, without_rowid}
-use Rattle.sqlite_keyed.proofs.KeyedLemmas.{lt_from_Less, Less-from_lt, above_all}
-use Rattle.sqlite_keyed.specs.Keyed.{IsKeyedBy}
-use Rattle.sqlite_rules.specs.Lists.{Has}
-use Rattle.sqlite_rules.specs.Edit.{id_in, next_rowid, without_all}
-use Rattle.sqlite_rules.specs.Calls.{ids_of}
-use Rattle.sqlite_rules.proofs.ListLemmas.{all_has, all_from, some_has, some_from}
-use Rattle.sqlite_rules.proofs.PlaceLemmas.{tied_same}
-use Rattle.sqlite_rules.proofs.TableLemmas.{int_is}
+use Rattle.sqlite_keyed.{specs.Keyed.{IsKeyedBy}, proofs.KeyedLemmas.{lt_from_Less, Less-from_lt, above_all}}
+use Rattle.sqlite_rules.specs.{Calls.{ids_of}, Edit.{id_in, next_rowid, without_all}, Lists.{Has}}
+use Rattle.sqlite_rules.proofs.{ListLemmas.{all_has, all_from, some_has, some_from}, PlaceLemmas.{tied_same}, TableLemmas.{int_is}}
 use Rattle.plant_columns.specs.Tidy.{AreRows}
 
 -- the rowids of the rows that pass the test, and no other

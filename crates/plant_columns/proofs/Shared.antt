@@ -1,33 +1,21 @@
 -- A table that all units share, seen by one unit. The unit is the first column of its key.
-use Rattle.std.proofs.Common.{◌≡◌, ◌≢◌, ℕ, Bool, true, false, ◌&&◌, List, [], ◌∷◌, ◌++◌, map, filter, refl, sym, ap, ◌∙◌, subst, Ordering, Less, Equal, Greater, is_eq, true≢false}
-use Rattle.std.specs.List.{AllByRecursion}
-use Rattle.std.specs.FinMap.{slice_cmp-IsAntisymmetric, nat_cmp-IsAntisymmetric}
-use Rattle.std.proofs.lemmas.Bool.{false_from_ne_true}
-use Rattle.std.proofs.lemmas.Cmp.{tied_itself, alike_right}
+use Rattle.std.specs.{Cmp.{IsTotalOrder}, FinMap.{slice_cmp-IsAntisymmetric, nat_cmp-IsAntisymmetric}, List.{AllByRecursion}}
+use Rattle.std.proofs.Common.{◌≡◌, ◌≢◌, ℕ, Bool, true, false, List, [], ◌∷◌, ◌++◌, map, filter, refl, sym, ap, ◌∙◌, subst, Ordering, Less, Equal, Greater, is_eq, true≢false}
+use Rattle.std.proofs.lemmas.{Bool.{false_from_ne_true}, Cmp.{tied_itself, alike_right}}
 use Rattle.sqlite_keyed.proofs.ListLemmas.{all-filter, all-append}
-use Rattle.sqlite_value.specs.declared.value.Value.TheVariants.{Text}
-use Rattle.sqlite_value.specs.Order.{Row, column, value_cmp}
+use Rattle.sqlite_value.specs.{Order.{Row, column, value_cmp, bytes}, declared.value.Value.TheVariants.{Text}}
 use Rattle.sqlite_value.proofs.OrderLemmas.{value_cmp_total, value_cmp-Text}
-use Rattle.plant_columns.specs.Kept.{taken_out, by_columns, kept, is_of}
-use Rattle.std.specs.Cmp.{IsTotalOrder}
-use Rattle.sqlite_value.specs.Order.{bytes}
-use Rattle.sqlite_trees.specs.Tree.{IsAscending}
-use Rattle.std.proofs.Common.{Less}
-use Rattle.plant_types.specs.KeyedRows.{put_row, remove_row, IsInOrder}
-use Rattle.plant_columns.proofs.public.Bridge.{put_is, IsInOrder-rising}
+use Rattle.plant_columns.{specs.{Kept.{taken_out, by_columns, kept, is_of}, Tidy.{AreRows, IsTidy}}, proofs.public.Bridge.{put_is, IsInOrder-rising}}
 use Rattle.plant_columns.proofs.public.Joins.{strict-sort}
-use Rattle.plant_columns.specs.Tidy.{AreRows, IsTidy}
-use Rattle.plant_columns.proofs.public.Keys.{by_columns_total, then_tied}
 use Rattle.plant_columns.proofs.public.Kept.{kept-put, kept-put_other, kept-out, kept-out_other, no_ties-out, no_ties-put, read-put, read-out}
+use Rattle.plant_columns.proofs.public.Keys.{by_columns_total, then_tied}
+use Rattle.sqlite_trees.specs.Tree.{IsAscending}
+use Rattle.plant_types.{specs.KeyedRows.{put_row, remove_row, IsInOrder}, proofs.public.Halves.{left}}
 
 equal_when : (o : Ordering) → is_eq o ≡ true → o ≡ Equal
 equal_when Less h = absurd (true≢false (sym h))
 equal_when Equal h = refl
 equal_when Greater h = absurd (true≢false (sym h))
-
-and_first : (a b : Bool) → (a && b) ≡ true → a ≡ true
-and_first true b h = refl
-and_first false b h = h
 
 same_text : (a b : List ℕ) → is_eq (value_cmp (Text a) (Text b)) ≡ true → a ≡ b
 same_text a b h = slice_cmp-IsAntisymmetric nat_cmp-IsAntisymmetric a b (sym (value_cmp-Text a b) ∙ equal_when _ h)
@@ -39,7 +27,7 @@ module _ (ks : List ℕ) where
   -- rows of two units have two keys
   apart_units : (u unit : List ℕ) (x y : Row) → column x 1 ≡ Text u → unit ≢ u → is_of unit y ≡ true → is_eq (by_columns (1 ∷ ks) x y) ≡ false
   apart_units u unit x y at other h = false_from_ne_true _ (λ tie.
-      let first : value_cmp (column x 1) (column y 1) ≡ Equal = equal_when _ (and_first _ _ (sym (then_tied (value_cmp (column x 1) (column y 1)) (by_columns ks x y)) ∙ tie)) in
+      let first : value_cmp (column x 1) (column y 1) ≡ Equal = equal_when _ (left _ _ (sym (then_tied (value_cmp (column x 1) (column y 1)) (by_columns ks x y)) ∙ tie)) in
       let next : value_cmp (column x 1) (Text unit) ≡ Equal = sym (alike_right value_cmp_total (column y 1) (Text unit) (column x 1) (equal_when _ h)) ∙ first in
       other (sym (same_text u unit (ap is_eq (subst (λ v. value_cmp v (Text unit) ≡ Equal) at next)))))
 

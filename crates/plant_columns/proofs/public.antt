@@ -4,7 +4,6 @@ pub mod Keys
 pub mod Laws
 pub mod Bridge
 pub mod Joins
-pub mod JoinsMany
 pub mod Asking
 pub mod Shapes
 pub mod Inserted

@@ -1,10 +1,7 @@
 -- Why a column can't be read.
-use Rattle.sqlite.specs.declared.error.Error.{Error}
-use Rattle.sqlite.specs.declared.error.Error.TheVariants.{SqliteFailure}
-use Rattle.sqlite.specs.declared.error.ErrorCode.TheVariants.{OutOfMemory}
-use Rattle.sqlite_value.specs.declared.value.Value.{Value}
-use Rattle.sqlite_value.specs.declared.value.Value.TheVariants.{Text}
 use Rattle.std.specs.Prelude.{Bool, IsTrue, List, ℕ, ◌≡◌, ◌≢◌}
+use Rattle.sqlite.specs.declared.error.{Error.{Error, TheVariants.{SqliteFailure}}, ErrorCode.TheVariants.{OutOfMemory}}
+use Rattle.sqlite_value.specs.declared.value.Value.{Value, TheVariants.{Text}}
 use Rattle.plant_types.specs.Text.{is_text}
 
 -- it is not that memory ran out

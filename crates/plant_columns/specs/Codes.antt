@@ -1,23 +1,14 @@
 -- Typed values as the values of columns, and back. A column that holds a value outside its set is read as some value of
 -- it here: the reading code answers a fault there.
-use Rattle.sqlite.specs.Values.{or_null}
-use Rattle.sqlite_value.specs.Order.{Row, column}
-use Rattle.sqlite_value.specs.declared.value.Value.{Value}
-use Rattle.sqlite_value.specs.declared.value.Value.TheVariants.{Int, Text}
 use Rattle.std.specs.Prelude.{Bool, IfOk, List, None, Option, Result, Some, [], find, if◌then◌else◌, pos, unwrap_or, ℕ, ◌==◌, ◌∷◌, ◌≡◌}
-use Rattle.plant_alarm.specs.declared.event.EventKind.{EventKind}
-use Rattle.plant_alarm.specs.declared.event.EventKind.TheVariants.{Ack, Act, Reset, Rtn, Sup, Unsup}
-use Rattle.plant_alarm.specs.declared.summary.AlarmState.{AlarmState}
+use Rattle.sqlite.specs.Values.{or_null}
+use Rattle.sqlite_value.specs.{Order.{Row, column}, declared.value.Value.{Value, TheVariants.{Int, Text}}}
+use Rattle.plant_alarm.specs.declared.{event.EventKind.{EventKind, TheVariants.{Ack, Act, Reset, Rtn, Sup, Unsup}}, summary.AlarmState.{AlarmState}}
 use Rattle.plant_alarm.specs.declared.summary.AlarmState.TheVariants.{Acknowledged, LatchedAck, LatchedUnack, Normal, ReturnedUnack, Unacknowledged}
-use Rattle.plant_model.specs.declared.rows.ChangeTopic.{ChangeTopic}
-use Rattle.plant_model.specs.declared.rows.ChangeTopic.TheVariants.{Limit as LimitTopic, Matrix as MatrixTopic, Record as RecordTopic}
-use Rattle.plant_ration.specs.declared.cell.Cell.{Cell}
-use Rattle.plant_ration.specs.declared.cell.Cell.TheVariants.{N, P1, P2, P3, P4}
-use Rattle.plant_ration.specs.declared.change.ChangeState.{ChangeState}
+use Rattle.plant_model.specs.declared.rows.ChangeTopic.{ChangeTopic, TheVariants.{Limit as LimitTopic, Matrix as MatrixTopic, Record as RecordTopic}}
+use Rattle.plant_ration.specs.declared.{cell.Cell.{Cell, TheVariants.{N, P1, P2, P3, P4}}, change.ChangeState.{ChangeState}}
 use Rattle.plant_ration.specs.declared.change.ChangeState.TheVariants.{Approved, Proposed, Rejected, Withdrawn}
-use Rattle.plant_types.specs.declared.role.Role.{Role}
-use Rattle.plant_types.specs.declared.role.Role.TheVariants.{Viewer}
-use Rattle.plant_types.specs.Roles.{all_roles, role_no}
+use Rattle.plant_types.specs.{Roles.{all_roles, role_no}, declared.role.Role.{Role, TheVariants.{Viewer}}}
 
 -- what a column is read as, if it is read, is what it has
 abbrev pub ReadsColumn : {A E : Type 0} → (A → Value) → Row → ℕ → Result A E → Type 0

@@ -1,12 +1,8 @@
 -- The form of a table and of an index.
 use Rattle.std.specs.Prelude.{true, false, [], ◌∷◌, None, List, ℕ, Bool}
-use Rattle.sqlite.specs.Collation.TheVariants.{Binary}
-use Rattle.sqlite_value.specs.declared.value.Value.TheVariants.{Null}
-use Rattle.sqlite_value.specs.Keys.{plain}
-use Rattle.sqlite.specs.Kind.{Kind}
-use Rattle.sqlite.specs.Table.{Table}
-use Rattle.sqlite_schema.specs.declared.schema.Column.{Column}
-use Rattle.sqlite_schema.specs.declared.schema.Index.{Index}
+use Rattle.sqlite.specs.{Collation.TheVariants.{Binary}, Kind.{Kind}, Table.{Table}}
+use Rattle.sqlite_value.specs.{Keys.{plain}, declared.value.Value.TheVariants.{Null}}
+use Rattle.sqlite_schema.specs.declared.schema.{Column.{Column}, Index.{Index}}
 
 abbrev pub column_of : List ℕ → Kind → Column
 column_of name kind = record { name = name; kind = kind; is_strict = true; not_null = true; default = Null; collation = Binary }

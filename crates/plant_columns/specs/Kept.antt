@@ -1,14 +1,8 @@
 -- Rows in the order of their keys. `cmp` compares keys, so rows that tie have one key.
-use Rattle.std.specs.Prelude.{ℕ, Bool, not, List, [], ◌∷◌, filter}
-use Rattle.std.specs.declared.cmp.Ordering.{Ordering}
-use Rattle.std.specs.declared.cmp.Ordering.TheVariants.{Equal}
-use Rattle.std.specs.Ordering.{is_eq, then_cmp, on}
-use Rattle.std.specs.Prelude.{None, false, pos, negsuc}
-use Rattle.sqlite_value.specs.declared.value.Value.TheVariants.{Int, Text}
-use Rattle.sqlite_value.specs.declared.keys.Key.{Key}
-use Rattle.sqlite_value.specs.Order.{Row, column, value_cmp}
-use Rattle.sqlite.specs.Term.{Term, lit}
-use Rattle.sqlite.specs.Query.{Query, Join}
+use Rattle.std.specs.{Ordering.{is_eq, then_cmp, on}, Prelude.{ℕ, Bool, not, List, [], ◌∷◌, filter, None, false, pos, negsuc}}
+use Rattle.std.specs.declared.cmp.Ordering.{Ordering, TheVariants.{Equal}}
+use Rattle.sqlite_value.specs.{Order.{Row, column, value_cmp}, declared.{keys.Key.{Key}, value.Value.TheVariants.{Int, Text}}}
+use Rattle.sqlite.specs.{Query.{Query, Join}, Term.{Term, lit}}
 use Rattle.sqlite_keyed.specs.Lists.{insert_sorted, sort_by}
 
 module _ {X : Type 0} (cmp : X → X → Ordering) where

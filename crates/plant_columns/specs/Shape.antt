@@ -1,17 +1,9 @@
 -- The shape of a table that all units share: what is particular to one table, in one record.
-use Rattle.std.specs.Prelude.{◌≡◌, ℕ, Bool, List, ◌∷◌, map}
-use Rattle.std.specs.declared.cmp.Ordering.{Ordering}
-use Rattle.sqlite.specs.Table.{Table}
-use Rattle.sqlite.specs.Tree.{Trees, rowid}
-use Rattle.sqlite.specs.Schema.{Schema}
-use Rattle.sqlite.specs.Effect.{Database}
+use Rattle.std.specs.{Prelude.{◌≡◌, ℕ, Bool, List, ◌∷◌, map}, declared.cmp.Ordering.{Ordering}}
+use Rattle.sqlite.specs.{Effect.{Database}, Schema.{Schema}, Table.{Table}, Tree.{Trees, rowid}}
 use Rattle.sqlite_schema.specs.declared.schema.Column.{Column}
-use Rattle.sqlite_value.specs.declared.value.Value.{Value}
-use Rattle.sqlite_value.specs.declared.value.Value.TheVariants.{Text}
-use Rattle.sqlite_value.specs.Order.{Row, column, bytes}
-use Rattle.plant_columns.specs.Kept.{by_columns, kept, is_of}
-use Rattle.plant_columns.specs.Forms.{table_of}
-use Rattle.plant_columns.specs.Tidy.{IsTidy}
+use Rattle.sqlite_value.specs.{Order.{Row, column, bytes}, declared.value.Value.{Value, TheVariants.{Text}}}
+use Rattle.plant_columns.specs.{Forms.{table_of}, Kept.{by_columns, kept, is_of}, Tidy.{IsTidy}}
 
 -- X is a row without its unit, K its key. The first column is the unit's code, and begins the key.
 pub record Shape (X K : Type 0) : Type 0 where

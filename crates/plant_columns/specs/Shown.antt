@@ -1,7 +1,6 @@
 -- The rows that a query shows.
+use Rattle.std.specs.{List.{range_with_len}, Prelude.{map, ℕ}}
 use Rattle.sqlite_value.specs.Order.{Row, column}
-use Rattle.std.specs.List.{range_with_len}
-use Rattle.std.specs.Prelude.{map, ℕ}
 
 -- its first columns
 abbrev pub columns : ℕ → Row → Row

@@ -1,32 +1,16 @@
 -- The tables that all units share, each by its shape, and the schema.
-use Rattle.sqlite.specs.Effect.{Database}
-use Rattle.sqlite.specs.Kind.TheVariants.{Integer, Text as TextKind}
-use Rattle.sqlite.specs.Schema.{Schema}
-use Rattle.sqlite.specs.Table.{Table}
-use Rattle.sqlite.specs.Tree.{Trees}
-use Rattle.sqlite_schema.specs.declared.schema.Column.{Column}
-use Rattle.sqlite_schema.specs.declared.schema.Index.{Index}
-use Rattle.sqlite_value.specs.declared.value.Value.TheVariants.{Null, Text}
-use Rattle.sqlite_value.specs.Order.{Row, bytes, column}
-use Rattle.std.specs.Ordering.{nat_cmp}
-use Rattle.std.specs.Prelude.{List, Some, [], codes, false, suc, true, ℕ, ◌∷◌, ◌≡◌}
+use Rattle.std.specs.{Ordering.{nat_cmp}, Prelude.{List, Some, [], codes, false, suc, true, ℕ, ◌∷◌, ◌≡◌}}
+use Rattle.sqlite.specs.{Effect.{Database}, Kind.TheVariants.{Integer, Text as TextKind}, Schema.{Schema}, Table.{Table}, Tree.{Trees}}
+use Rattle.sqlite_schema.specs.declared.schema.{Column.{Column}, Index.{Index}}
+use Rattle.sqlite_value.specs.{Order.{Row, bytes, column}, declared.value.Value.TheVariants.{Null, Text}}
 use Rattle.plant_alarm.specs.declared.event.Event.{Event}
-use Rattle.plant_model.specs.declared.rows.AlarmRow.{AlarmRow}
-use Rattle.plant_model.specs.declared.rows.BandRow.{BandRow}
-use Rattle.plant_model.specs.declared.rows.CellRow.{CellRow}
-use Rattle.plant_model.specs.declared.rows.ChangeEntry.{ChangeEntry}
-use Rattle.plant_model.specs.declared.rows.GrantRow.{GrantRow}
-use Rattle.plant_model.specs.declared.rows.RecordEntry.{RecordEntry}
-use Rattle.plant_model.specs.declared.rows.ShelfRow.{ShelfRow}
-use Rattle.plant_model.specs.declared.rows.UnitRow.{UnitRow}
-use Rattle.plant_model.specs.declared.rows.UnitRows.{UnitRows}
 use Rattle.plant_model.specs.Matrices.{BandKey, CellKey, band_cmp, cell_cmp}
 use Rattle.plant_model.specs.RowFacts.{alarm_tag, band_key, cell_key, change_number, event_number, pair_of, record_tag, shelf_tag}
+use Rattle.plant_model.specs.declared.rows.{AlarmRow.{AlarmRow}, BandRow.{BandRow}, CellRow.{CellRow}, ChangeEntry.{ChangeEntry}, GrantRow.{GrantRow}}
+use Rattle.plant_model.specs.declared.rows.{RecordEntry.{RecordEntry}, ShelfRow.{ShelfRow}, UnitRow.{UnitRow}, UnitRows.{UnitRows}}
 use Rattle.plant_columns.specs.Codes.{alarm_state, cell, cell_in, change_state, change_state_in, flag, flag_in, kind, kind_in, number, number_in, open_number, open_number_in, open_text, open_text_in, role, role_in, state_in, topic, topic_in}
-use Rattle.plant_columns.specs.Shape.{AreTables, Shape, seen, table_in}
-use Rattle.plant_columns.specs.Forms.{column_of, index_of, open_column}
-use Rattle.plant_types.specs.Names.{Name, name_cmp}
-use Rattle.plant_types.specs.Roles.{Pair, pair_cmp}
+use Rattle.plant_columns.specs.{Forms.{column_of, index_of, open_column}, Shape.{AreTables, Shape, seen, table_in}}
+use Rattle.plant_types.specs.{Names.{Name, name_cmp}, Roles.{Pair, pair_cmp}}
 
 -- the tables, by the name of what a row is
 pub data Kept : Type 0 where

@@ -1,9 +1,6 @@
 -- What is true of a table's rows from its making on.
-use Rattle.std.specs.Prelude.{◌≡◌, ℕ, false, true, List}
-use Rattle.std.specs.Ordering.{is_eq}
-use Rattle.std.specs.List.{AllByRecursion}
-use Rattle.sqlite.specs.Tree.{rowid, IsTable, IsAscending}
-use Rattle.sqlite.specs.View.{is_int}
+use Rattle.std.specs.{List.{AllByRecursion}, Ordering.{is_eq}, Prelude.{◌≡◌, ℕ, false, true, List}}
+use Rattle.sqlite.specs.{Tree.{rowid, IsTable, IsAscending}, View.{is_int}}
 use Rattle.sqlite_value.specs.Order.{Row}
 use Rattle.plant_columns.specs.Kept.{by_columns}
 

@@ -1,14 +1,11 @@
 //! Typed rows from the rows that a query shows. A value outside its column's set is an error other than that memory ran out.
 
 ghost use Rattle.std.specs.Prelude.{◌≡◌, ◌∷◌, [], ℕ, map, IfErr, IfOk, IsTrue};
-ghost use Rattle.sqlite_value.specs.Order.{column, Row as SqlRow};
-ghost use Rattle.sqlite_value.specs.declared.value.Value.TheVariants.{Text as TextValue};
-ghost use Rattle.plant_columns.specs.Causes.{IsNoMemory, MemoryIsOfText};
-ghost use Rattle.plant_columns.specs.Codes as codes;
-ghost use Rattle.plant_columns.specs.Codes.{ReadsColumn};
-ghost use Rattle.plant_columns.specs.Shown.{columns};
-ghost use Rattle.plant_types.specs.Text.{is_text};
+ghost use Rattle.sqlite_value.specs.{Order.{column, Row as SqlRow}, declared.value.Value.TheVariants.{Text as TextValue}};
+ghost use Rattle.plant_columns.specs.{Causes.{IsNoMemory, MemoryIsOfText}, Codes.{ReadsColumn}, Shown.{columns}};
 ghost use Rattle.plant_columns.specs.Tables.{unit_shape, grant_shape, alarm_shape, shelf_shape, band_shape, cell_shape, event_shape, record_shape, change_shape};
+ghost use Rattle.plant_types.specs.Text.{is_text};
+ghost use Rattle.plant_columns.specs.Codes as codes;
 
 use crate::codes::Coded;
 use plant_alarm::{Event, Number};

@@ -2,10 +2,9 @@
 
 ghost use Rattle.std.specs.Prelude.{◌≡◌, ◌≤◌, ◌^◌, ◌∷◌, [], IfErr, IfOk};
 ghost use Rattle.sqlite.specs.Values.{bound, bound_value};
-ghost use Rattle.sqlite_value.specs.Value.{owned};
-ghost use Rattle.sqlite_value.specs.declared.value.Value.TheVariants.{Text as TextValue};
-ghost use Rattle.plant_columns.specs.Codes as codes;
+ghost use Rattle.sqlite_value.specs.{Value.{owned}, declared.value.Value.TheVariants.{Text as TextValue}};
 ghost use Rattle.plant_columns.specs.Tables.{unit_shape, grant_shape, alarm_shape, shelf_shape, band_shape, cell_shape, event_shape, record_shape, change_shape};
+ghost use Rattle.plant_columns.specs.Codes as codes;
 
 use crate::codes::Coded;
 use plant_alarm::{Event, Number};

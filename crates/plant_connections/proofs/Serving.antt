@@ -1,18 +1,12 @@
 -- Sessions over connections, one after the other.
-use Rattle.std.proofs.Common.{◌≡◌, ℕ, ◌+◌, List, [], ◌∷◌, ◌++◌, length, take, Bool, true, Option, None, Some, refl, sym, subst, inl, inr}
 use Rattle.std.specs.Io.KnownBytes.{Appends}
-use Rattle.plant_model.specs.declared.call.Call.{Call}
-use Rattle.plant_model.specs.declared.reply.Answer.{Answer}
+use Rattle.std.proofs.Common.{◌≡◌, ℕ, ◌+◌, List, [], ◌∷◌, ◌++◌, length, take, Bool, true, Option, None, Some, refl, sym, subst, inl, inr}
+use Rattle.plant_model.specs.declared.{call.Call.{Call}, reply.Answer.{Answer}}
 use Rattle.plant_books.specs.Contents.{Content}
-use Rattle.plant_wire.proofs.public.Growing.{Appends-append}
-use Rattle.plant_wire.proofs.public.Running.{ran_joins}
-use Rattle.plant_wire.specs.Causes.{cause_text}
-use Rattle.plant_wire.specs.Marks.{answers_of, calls_of, last_marks, last_text, out_of}
-use Rattle.plant_wire.specs.Ran.{Ran}
-use Rattle.plant_wire.specs.Session.{IsCutShort, IsSession}
-use Rattle.plant_wire.specs.Step.{AnswersFront, ServesBroken, ServesPart}
-use Rattle.plant_wire.specs.declared.reads.End.{End}
+use Rattle.plant_wire.specs.{Causes.{cause_text}, Marks.{answers_of, calls_of, last_marks, last_text, out_of}, Ran.{Ran}}
+use Rattle.plant_wire.specs.{Session.{IsCutShort, IsSession}, Step.{AnswersFront, ServesBroken, ServesPart}, declared.reads.End.{End}}
 use Rattle.plant_wire.specs.declared.reads.End.TheVariants.{BrokenInput, Closed, Fault, ReadFailed, WriteFailed}
+use Rattle.plant_wire.proofs.public.{Growing.{Appends-append}, Running.{ran_joins}}
 use Rattle.plant_connections.specs.Connections.{IsConnection, Tells, line_of}
 
 module _ {o o' : Option (List ℕ)} {ran : List Call → List Answer → Type 0} where

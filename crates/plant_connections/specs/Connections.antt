@@ -1,13 +1,9 @@
 -- Connections served one after the other. Lists of ends have the latest first.
-use Rattle.std.specs.Prelude.{None, Option, Result, Ok, Err, Some, true, ℕ, ◌≡◌, ◌<◌, ◌+◌, List, [], ◌∷◌, ◌++◌, codes, decimal, length, take}
 use Rattle.std.specs.Io.KnownBytes.{Appends}
-use Rattle.plant_model.specs.declared.call.Call.{Call}
-use Rattle.plant_model.specs.declared.reply.Answer.{Answer}
+use Rattle.std.specs.Prelude.{None, Option, Result, Ok, Err, Some, true, ℕ, ◌≡◌, ◌<◌, ◌+◌, List, [], ◌∷◌, ◌++◌, codes, decimal, length, take}
+use Rattle.plant_model.specs.declared.{call.Call.{Call}, reply.Answer.{Answer}}
 use Rattle.plant_books.specs.Contents.{Content}
-use Rattle.plant_wire.specs.Ran.{Ran}
-use Rattle.plant_wire.specs.Session.{EndsAs}
-use Rattle.plant_wire.specs.declared.reads.End.{End}
-use Rattle.plant_wire.specs.declared.reads.End.TheVariants.{BrokenInput, Closed, Fault, ReadFailed, WriteFailed}
+use Rattle.plant_wire.specs.{Ran.{Ran}, Session.{EndsAs}, declared.reads.End.{End, TheVariants.{BrokenInput, Closed, Fault, ReadFailed, WriteFailed}}}
 use Rattle.plant_wire.specs.declared.streams.Failed.{Failed}
 
 abbrev pub end_name : End → List ℕ

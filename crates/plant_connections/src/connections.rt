@@ -1,12 +1,9 @@
-ghost use Rattle.std.specs.Prelude.{◌≡◌, ◌+◌, ℕ, List, length, take, IfOk, OnOk, OnErr};
-ghost use Rattle.std.specs.Io.KnownBytes.{Appends};
+ghost use Rattle.std.specs.{Io.KnownBytes.{Appends}, Prelude.{◌≡◌, ◌+◌, ℕ, List, length, take, IfOk, OnOk, OnErr}};
 ghost use Rattle.plant_books.specs.Books.{WasHonest};
-ghost use Rattle.plant_wire.specs.declared.reads.End.{End};
-ghost use Rattle.plant_model.specs.declared.call.Call.{Call};
-ghost use Rattle.plant_model.specs.declared.reply.Answer.{Answer};
-ghost use Rattle.plant_connections.specs.Connections as spec;
+ghost use Rattle.plant_wire.specs.{Over.{RanOn}, declared.reads.End.{End}};
+ghost use Rattle.plant_model.specs.declared.{call.Call.{Call}, reply.Answer.{Answer}};
 ghost use Rattle.plant_connections.specs.Connections.{GoesThrough, IsConnection, StopsAfter, Tells};
-ghost use Rattle.plant_wire.specs.Over.{RanOn};
+ghost use Rattle.plant_connections.specs.Connections as spec;
 
 use crate::texts::{end_name, say};
 use itoa::Buffer;

@@ -1,34 +1,15 @@
 -- The alarms that are active, one event after another.
-use Rattle.std.proofs.Common.{IfOk, [], ap, append-nil, arith, cond, false, get_or, length, refl, subst, sym, take, true, ◌*◌, ◌++◌, ◌+◌, ◌-◌, ◌/◌, ◌<◌, ◌∙◌, ◌∷◌, ◌≡◌, ◌≤◌}
-use Rattle.std.proofs.lemmas.List.FromFn.{get_or-map-range_with_len, length-map-range_with_len, length-range_with_len}
-use Rattle.std.proofs.lemmas.Simd.{splat_is_map}
-use Rattle.std.proofs.lemmas.List.Sums.{count_by-le-length, count_by_more_no, count_by_more_yes}
-use Rattle.std.proofs.lemmas.List.{ext_get_or, length-take-le}
-use Rattle.std.proofs.Math.ListN.{replicate}
-use Rattle.std.proofs.Common.{add-zero}
-use Rattle.std.proofs.lemmas.List.{length-map, map-append, take_more}
+use Rattle.std.specs.{BTreeMap.{is_at}, BTreeSet.{UpdatesBy, contains}, Cmp.{eq_by_cmp_equiv, Lexicographic.{nat_list_cmp_total}}}
 use Rattle.std.specs.List.{list_any, range_with_len}
-use Rattle.std.specs.Prelude.{Bool, Err, List, Ok, Result, Some, count_by, fold, map, option_map, unwrap_or, ℕ, ◌||◌}
-use Rattle.plant_alarm.specs.declared.event.Event.{Event}
+use Rattle.std.proofs.Common.{IfOk, [], ap, append-nil, arith, cond, false, get_or, length, refl, subst, sym, take, true, ◌*◌, ◌++◌, ◌+◌, ◌-◌, ◌/◌, ◌<◌, ◌∙◌, ◌∷◌, ◌≡◌, ◌≤◌, add-zero, lit<, suc, ℕ, Bool, Err, List, Ok, Result, Some, count_by, fold, map, option_map, unwrap_or, ◌||◌, nat_eq, BTreeSet, btree_set_len}
+use Rattle.std.proofs.{Math.{ListN.{replicate}, Nat.{div-mul-le_self, lt-mul-div-succ}}, lemmas.Bool.Decides.{leb_tells, eqb_tells}}
+use Rattle.std.proofs.lemmas.List.FromFn.{get_or-map-range_with_len, length-map-range_with_len, length-range_with_len}
+use Rattle.std.proofs.lemmas.List.{ext_get_or, length-take-le, length-map, map-append, take_more}
+use Rattle.std.proofs.lemmas.{List.Sums.{count_by-le-length, count_by_more_no, count_by_more_yes}, Simd.{splat_is_map}}
+use Rattle.plant_alarm.specs.{States.{is_act, is_active, is_rtn, last_that, passing}, declared.event.Event.{Event}}
 use Rattle.plant_alarm.proofs.public.Push.{last_that-push, passing-push}
-use Rattle.plant_alarm.specs.States.{is_act, is_active, is_rtn, last_that, passing}
 use Rattle.plant_floods.specs.Activations.{AreActive, activations_of_all, is_activation_of, is_in_period, of_alarm, period_counts}
-use Rattle.plant_types.proofs.public.Orders.{same_names}
-use Rattle.plant_types.proofs.public.KeyedRowLaws.{tied}
-use Rattle.plant_types.specs.Names.{Name, same_name}
-use Rattle.std.specs.BTreeSet.{BTreeSet, UpdatesBy, btree_set_len, contains}
-use Rattle.std.specs.BTreeMap.{is_at}
-use Rattle.std.specs.Cmp.{eq_by_cmp_equiv}
-use Rattle.std.specs.Cmp.Lexicographic.{nat_list_cmp_total}
-use Rattle.std.proofs.lemmas.Bool.Decides.{leb_tells, eqb_tells}
-use Rattle.std.proofs.Math.Nat.{div-mul-le_self, lt-mul-div-succ}
-use Rattle.std.specs.Prelude.{nat_eq}
-use Rattle.plant_types.specs.Names.{name_cmp}
-use Rattle.std.proofs.Common.{lit<, suc, ℕ}
-
-or_false : (b : Bool) → (b || false) ≡ b
-or_false true = refl
-or_false false = refl
+use Rattle.plant_types.{specs.Names.{Name, same_name, name_cmp}, proofs.public.{KeyedRowLaws.{tied}, Orders.{same_names}}}
 
 active-push : (es : List Event) (e : Event) → is_active (es ++ e ∷ []) ≡ cond (is_act e || is_rtn e) (is_act e) (is_active es)
 active-push es e =

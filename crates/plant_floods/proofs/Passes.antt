@@ -1,27 +1,17 @@
 -- What one more count does to the floods.
-use Rattle.std.proofs.Common.{◌≡◌, ℕ, ◌+◌, ◌<◌, ◌≤◌, refl, sym, ap, ◌∙◌, List, [], ◌∷◌, ◌++◌, length, map, Bool, true, false, cond, arith, ◌&&◌, ◌||◌, not, Option, Some, None, sum, append_assoc, subst, length-append, zero-add, take, get_or}
-use Rattle.std.specs.Prelude.{nat_lt, nat_le, filter_map, fold, max}
-use Rattle.std.specs.Option.{option_to_list}
 use Rattle.std.specs.List.{list_all, slice_split, cons_option}
-use Rattle.std.proofs.lemmas.List.{append-nil, map-append, take_more, take_all, length-take-le}
-use Rattle.std.proofs.lemmas.List.Sums.{fold-append, sum_by-append}
-use Rattle.std.proofs.lemmas.List.Elements.{filter_map-append}
-use Rattle.std.proofs.lemmas.Bool.{ltb-true, le-leb}
-use Rattle.plant_floods.specs.declared.run.Run.{Run}
-use Rattle.plant_floods.specs.Floods.{ends_in_flood, Period, period, periods_after, periods, run_of, floods}
-use Rattle.plant_floods.specs.Pass.{grown, next_runs}
-use Rattle.plant_floods.proofs.Splits.{split-yes, split-no}
-
-and_true : (b : Bool) → (b && true) ≡ b
-and_true true = refl
-and_true false = refl
+use Rattle.std.proofs.Common.{◌≡◌, ℕ, ◌+◌, ◌<◌, ◌≤◌, refl, sym, ap, ◌∙◌, List, [], ◌∷◌, ◌++◌, length, map, Bool, true, false, cond, arith, ◌&&◌, ◌||◌, not, Option, Some, None, sum, append_assoc, subst, length-append, zero-add, take, get_or, nat_lt, nat_le, filter_map, fold, max, option_to_list}
+use Rattle.std.proofs.{Math.Bool.{and-true}, lemmas.{Bool.{ltb-true, le-leb}, List.Elements.{filter_map-append}}}
+use Rattle.std.proofs.lemmas.List.{append-nil, map-append, take_more, take_all, length-take-le, Sums.{fold-append, sum_by-append}}
+use Rattle.plant_floods.specs.{Floods.{ends_in_flood, Period, period, periods_after, periods, run_of, floods}, Pass.{grown, next_runs}}
+use Rattle.plant_floods.{specs.declared.run.Run.{Run}, proofs.Splits.{split-yes, split-no}}
 
 and_assoc : (a b c : Bool) → (a && (b && c)) ≡ ((a && b) && c)
 and_assoc true b c = refl
 and_assoc false b c = refl
 
 all-push : (p : ℕ → Bool) (xs : List ℕ) (c : ℕ) → list_all p (xs ++ c ∷ []) ≡ (list_all p xs && p c)
-all-push p [] c = and_true (p c)
+all-push p [] c = and-true (p c)
 all-push p (x ∷ xs) c = ap (λ b. p x && b) (all-push p xs c) ∙ and_assoc (p x) (list_all p xs) (p c)
 
 -- the test of the last period, with one more

@@ -1,9 +1,7 @@
 -- The activations of all alarms of a unit (ISA-18.2: alarm rate), and how many there are in each period of ten minutes.
-use Rattle.std.specs.BTreeSet.{BTreeSet, contains}
-use Rattle.std.specs.List.{range_with_len}
+use Rattle.std.specs.{BTreeSet.{BTreeSet, contains}, List.{range_with_len}}
 use Rattle.std.specs.Prelude.{Bool, List, [], count_by, filter, map, nat_le, nat_lt, ℕ, ◌&&◌, ◌*◌, ◌+◌, ◌-◌, ◌/◌, ◌≡◌}
-use Rattle.plant_alarm.specs.declared.event.Event.{Event}
-use Rattle.plant_alarm.specs.States.{is_activation, is_active, passing}
+use Rattle.plant_alarm.specs.{States.{is_activation, is_active, passing}, declared.event.Event.{Event}}
 use Rattle.plant_types.specs.Names.{Name, name_cmp, same_name}
 
 -- the events of one alarm

@@ -1,6 +1,6 @@
 -- Alarm floods (ISA-18.2, IEC 62682) of a list of counts, one for each period of ten minutes.
-use Rattle.std.specs.Prelude.{ℕ, ◌+◌, Bool, false, ◌&&◌, ◌||◌, not, nat_lt, nat_le, List, [], ◌∷◌, ◌++◌, Option, Some, None, length, map, sum, fold, max, filter_map}
 use Rattle.std.specs.List.{list_all, slice_split}
+use Rattle.std.specs.Prelude.{ℕ, ◌+◌, Bool, false, ◌&&◌, ◌||◌, not, nat_lt, nat_le, List, [], ◌∷◌, ◌++◌, Option, Some, None, length, map, sum, fold, max, filter_map}
 use Rattle.plant_floods.specs.declared.run.Run.{Run}
 
 -- of the periods so far the last is in a flood: some count is above 10, and it and each after it is at least 5

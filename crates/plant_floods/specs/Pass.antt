@@ -1,6 +1,5 @@
 -- The steps of one pass over the counts, which the code takes.
-use Rattle.std.specs.Prelude.{ℕ, ◌+◌, nat_lt, nat_le, if◌then◌else◌, max, Option, Some, None, List, ◌++◌, is_none}
-use Rattle.std.specs.Option.{option_to_list}
+use Rattle.std.specs.Prelude.{ℕ, ◌+◌, nat_lt, nat_le, if◌then◌else◌, max, Option, Some, None, List, ◌++◌, is_none, option_to_list}
 use Rattle.plant_floods.specs.declared.run.Run.{Run}
 
 -- the open run after one more period, where it goes on or one begins

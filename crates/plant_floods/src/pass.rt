@@ -1,9 +1,8 @@
-ghost use Rattle.std.specs.Prelude.{◌≡◌, ◌+◌, ◌*◌, ◌≤◌, IfOk, IfSome, OnOk, ◌++◌};
-ghost use Rattle.std.specs.Option.{option_to_list};
+ghost use Rattle.std.specs.Prelude.{◌≡◌, ◌+◌, ◌*◌, ◌≤◌, IfOk, IfSome, OnOk, ◌++◌, option_to_list};
 ghost use Rattle.plant_types.specs.Results.{OnlyMemory};
+ghost use Rattle.plant_floods.specs.Pass.{next_runs};
 ghost use Rattle.plant_floods.specs.Floods as floods_of;
 ghost use Rattle.plant_floods.specs.Pass as pass;
-ghost use Rattle.plant_floods.specs.Pass.{next_runs};
 
 use crate::Run;
 use plant_types::Fault;

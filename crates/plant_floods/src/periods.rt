@@ -1,9 +1,8 @@
 //! The activations of all alarms, from their events in rising number.
 
-ghost use Rattle.std.specs.Prelude.{◌≡◌, ◌≤◌, ◌<◌, ◌+◌, ◌-◌, ◌*◌, ◌/◌, ◌++◌, ◌∷◌, [], ℕ, List, IfOk, OnOk, count_by, if◌then◌else◌, length, map, nat_le, slice_index};
 ghost use Rattle.std.specs.List.{range_with_len};
-ghost use Rattle.plant_types.specs.Options.{when};
-ghost use Rattle.plant_types.specs.Results.{OnlyMemory};
+ghost use Rattle.std.specs.Prelude.{◌≡◌, ◌≤◌, ◌<◌, ◌+◌, ◌-◌, ◌*◌, ◌/◌, ◌++◌, ◌∷◌, [], ℕ, List, IfOk, OnOk, count_by, if◌then◌else◌, length, map, nat_le, slice_index};
+ghost use Rattle.plant_types.specs.{Options.{when}, Results.{OnlyMemory}};
 ghost use Rattle.plant_alarm.specs.declared.event.Event.{Event as TheEvent};
 ghost use Rattle.plant_floods.specs.Activations.{AreActive, activations_of_all, is_activation_of, is_in_period};
 ghost use Rattle.plant_floods.specs.Activations as activations;

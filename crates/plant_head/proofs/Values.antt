@@ -1,10 +1,7 @@
 -- One field more: its value comes last, if its name is the one that is looked for.
-use Rattle.std.proofs.Common.{◌≡◌, ℕ, ◌+◌, ◌<◌, List, [], ◌∷◌, ◌++◌, length, take, map, get_or, true, false, Bool, cond, sym, ap, ◌∙◌, append-nil}
-use Rattle.std.specs.Prelude.{filter}
-use Rattle.std.proofs.lemmas.List.{take_more, map_push}
-use Rattle.std.proofs.lemmas.List.Elements.{filter-append}
-use Rattle.httparse.specs.declared.spans.HeaderSpan.{HeaderSpan}
-use Rattle.httparse.specs.Spans.{header_bytes}
+use Rattle.std.proofs.Common.{◌≡◌, ℕ, ◌+◌, ◌<◌, List, [], ◌∷◌, ◌++◌, length, take, map, get_or, true, false, Bool, cond, sym, ap, ◌∙◌, append-nil, filter}
+use Rattle.std.proofs.lemmas.List.{take_more, map_push, Elements.{filter-append}}
+use Rattle.httparse.specs.{Spans.{header_bytes}, declared.spans.HeaderSpan.{HeaderSpan}}
 use Rattle.plant_head.specs.Fields.{NameValue, is_named, values_named}
 
 values_push : (name : List ℕ) (fields : List NameValue) (f : NameValue) (b : Bool) → is_named name f ≡ b

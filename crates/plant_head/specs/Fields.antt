@@ -1,10 +1,7 @@
 -- The fields of a head, as names and trimmed values, and a look-up that ignores ASCII case.
-use Rattle.std.specs.Prelude.{◌≡◌, ◌≤◌, ℕ, List, [], ◌∷◌, map, filter, length, Bool}
-use Rattle.std.specs.Str.{str_eq_ignore_ascii_case}
-use Rattle.httparse.specs.Grammar.{RequestHead}
-use Rattle.httparse.specs.Spans.{name_and_value}
-use Rattle.plant_head.specs.declared.fields.Lookup.{Lookup}
-use Rattle.plant_head.specs.declared.fields.Lookup.TheVariants.{Missing, Once, Repeated}
+use Rattle.std.specs.{Prelude.{◌≡◌, ◌≤◌, ℕ, List, [], ◌∷◌, map, filter, length, Bool}, Str.{str_eq_ignore_ascii_case}}
+use Rattle.httparse.specs.{Grammar.{RequestHead}, Spans.{name_and_value}}
+use Rattle.plant_head.specs.declared.fields.Lookup.{Lookup, TheVariants.{Missing, Once, Repeated}}
 
 -- a field's name, and its value without the spaces and tabs at its ends
 abbrev pub NameValue : Type 0

@@ -1,12 +1,10 @@
 -- What stands at the front of a stream of requests, as far as the head goes: a definition over the bytes
 -- alone. `ReadsRequest` is httparse's grammar of a head.
-use Rattle.plant_types.specs.Limits.{max_head}
 use Rattle.std.specs.Prelude.{ℕ, ◌<◌, ◌≤◌, List, length, take}
+use Rattle.plant_types.specs.Limits.{max_head}
+use Rattle.httparse.specs.{Grammar.{RequestHead, ReadsRequest, HasNoRequest, NeverHasRequest, MayBecomeRequest}, Spans.{IsRequestAt, IsRequestWithin}}
 use Rattle.httparse.specs.declared.spans.HeaderSpan.{HeaderSpan}
-use Rattle.httparse.specs.Grammar.{RequestHead, ReadsRequest, HasNoRequest, NeverHasRequest, MayBecomeRequest}
-use Rattle.httparse.specs.Spans.{IsRequestAt, IsRequestWithin}
-use Rattle.plant_head.specs.declared.heading.Heading.{Heading}
-use Rattle.plant_head.specs.declared.heading.Heading.TheVariants.{Waiting, Malformed, TooLong, Whole}
+use Rattle.plant_head.specs.declared.heading.Heading.{Heading, TheVariants.{Waiting, Malformed, TooLong, Whole}}
 
 -- the bytes that may hold the head
 abbrev pub front : List ℕ → List ℕ

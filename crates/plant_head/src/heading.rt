@@ -1,7 +1,6 @@
 ghost use Rattle.std.specs.Prelude.{◌≡◌, ◌≤◌, length};
-ghost use Rattle.plant_head.specs.declared.heading.TheConstants.{FIELD_ROOM};
+ghost use Rattle.plant_head.specs.{Head.{front, IsHeading}, declared.heading.TheConstants.{FIELD_ROOM}};
 ghost use Rattle.plant_types.specs.Results.{OnlyMemory};
-ghost use Rattle.plant_head.specs.Head.{front, IsHeading};
 
 use httparse::Status;
 use httparse::spans::{EMPTY_HEADER_SPAN, HeaderSpan, RequestSpans, parse_request};

@@ -1,24 +1,11 @@
 -- Events that all come after others, put behind them.
-use Rattle.std.proofs.Common.{List, [], ap, arith, false, length, refl, subst, suc, sym, true, zero, ◌++◌, ◌∙◌, ◌∷◌}
-use Rattle.std.proofs.lemmas.Bool.{lt-ltb, ltb-true}
-use Rattle.std.proofs.lemmas.List.{append-nil}
 use Rattle.std.specs.List.{list_all}
-use Rattle.std.specs.Ordering.{nat_cmp}
-use Rattle.std.specs.Prelude.{Bool, Option, Some, nat_lt, slice_get, ℕ, ◌&&◌, ◌-◌, ◌<◌, ◌≡◌}
+use Rattle.std.proofs.Common.{List, [], ap, arith, false, length, refl, subst, suc, sym, true, zero, ◌++◌, ◌∙◌, ◌∷◌, nat_cmp, Option, Some, nat_lt, slice_get, ℕ, ◌&&◌, ◌-◌, ◌<◌, ◌≡◌}
+use Rattle.std.proofs.{Math.Bool.{and-false, and-true}, lemmas.{Bool.{lt-ltb, ltb-true, and_parts}, List.{append-nil}}}
 use Rattle.plant_alarm.specs.declared.event.Event.{Event}
-use Rattle.plant_import.proofs.public.Counted.{order_puts, put_twice}
+use Rattle.plant_import.{specs.{Needed.{is_before_all}, Numbers.{event_number, with_events}}, proofs.public.Counted.{order_puts, put_twice}}
 use Rattle.plant_import.proofs.public.Placed.{AllAbove, AllBelow, EachBehind, Rises, puts_after, rises_of}
-use Rattle.plant_import.specs.Needed.{is_before_all}
-use Rattle.plant_import.specs.Numbers.{event_number, with_events}
 use Rattle.plant_types.specs.KeyedRows.{IsInOrder}
-
-both_true : (a b : Bool) → (a && b) ≡ true → (a ≡ true) × (b ≡ true)
-both_true true b e = (refl, e)
-both_true false b e = cc
-
-and_false : (a : Bool) → (a && false) ≡ false
-and_false true = refl
-and_false false = refl
 
 -- an event before the first of rising events is before all
 before_rest : (k : Event) (n : ℕ) (fs : List Event) → k.seq < n → AllAbove event_number n fs → is_before_all fs k ≡ true
@@ -47,17 +34,13 @@ last_decides n m x [] l len is h =
     let at : m ≡ 0 = omega (arith, len) in
     let here : ◌≡◌ {A = Option Event} (Some l) (Some x) = is ∙ ap (slice_get (x ∷ [])) at in
     let same : l ≡ x = cc here in
-    ap (λ (e : Event). nat_lt e.seq n) same ∙ and_true (nat_lt x.seq n)
-  where
-    and_true : (a : Bool) → a ≡ (a && true)
-    and_true true = refl
-    and_true false = refl
+    ap (λ (e : Event). nat_lt e.seq n) same ∙ sym (and-true (nat_lt x.seq n))
 last_decides n zero x (y ∷ ys) l len is h = absurd (omega (arith, len))
 last_decides n (suc m) x (y ∷ ys) l len is h =
     let above : x.seq < l.seq = last_above x.seq m (y ∷ ys) l h.0 is in
     elim (nat_lt l.seq n) as (λ b. nat_lt l.seq n ≡ b → b ≡ list_all (λ k. nat_lt k.seq n) (y ∷ ys) → b ≡ (nat_lt x.seq n && list_all (λ k. nat_lt k.seq n) (y ∷ ys))) [
       | true ↦ λ t rest. rest ∙ ap (λ b. b && list_all (λ k. nat_lt k.seq n) (y ∷ ys)) (sym (lt-ltb x.seq n (omega (arith, above, ltb-true l.seq n t))))
-      | false ↦ λ f rest. sym (ap (λ b. nat_lt x.seq n && b) (sym rest) ∙ and_false (nat_lt x.seq n))
+      | false ↦ λ f rest. sym (ap (λ b. nat_lt x.seq n && b) (sym rest) ∙ and-false (nat_lt x.seq n))
     ] refl (last_decides n m y ys l (omega (arith, len)) is h.1)
 
 pub after_last : (others events : List Event) (l f : Event) → Some l ≡ slice_get others (length others - 1) → Some f ≡ slice_get events 0 → IsInOrder nat_cmp event_number others → IsInOrder nat_cmp event_number events
@@ -78,8 +61,8 @@ after_none (k ∷ ks) = after_none ks
 below_first : (f : Event) (fs ks : List Event) → list_all (is_before_all (f ∷ fs)) ks ≡ true → AllBelow event_number f.seq ks × (list_all (is_before_all fs) ks ≡ true)
 below_first f fs [] h = (tt, refl)
 below_first f fs (k ∷ ks) h =
-    let here = both_true (is_before_all (f ∷ fs) k) (list_all (is_before_all (f ∷ fs)) ks) h in
-    let parts = both_true (nat_lt k.seq f.seq) (is_before_all fs k) here.0 in
+    let here = and_parts (is_before_all (f ∷ fs) k) (list_all (is_before_all (f ∷ fs)) ks) h in
+    let parts = and_parts (nat_lt k.seq f.seq) (is_before_all fs k) here.0 in
     let rest = below_first f fs ks here.1 in
     ((ltb-true k.seq f.seq parts.0, rest.0), ap (λ b. b && list_all (is_before_all fs) ks) parts.1 ∙ rest.1)
 

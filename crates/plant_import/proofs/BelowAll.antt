@@ -1,33 +1,23 @@
 -- The new rows of a file in rising number stand below each row that follows.
-use Rattle.std.proofs.Common.{List, [], ap, drop, get_or, length, refl, subst, sym, ◌++◌, ◌+◌, ◌<◌, ◌∙◌, ◌∷◌, ◌≡◌, ℕ}
-use Rattle.std.proofs.lemmas.Bool.{lt-ltb}
-use Rattle.std.proofs.lemmas.List.{append-nil, drop_more}
-use Rattle.std.specs.BTreeMap.{BTreeMap}
-use Rattle.std.specs.Borrow.{Bor}
-use Rattle.std.specs.List.{list_all}
-use Rattle.std.specs.Prelude.{Bool, IsTrue, MatchOption, None, Option, Some, false, if◌then◌else◌, nat_lt, not, true, ◌&&◌}
+use Rattle.std.specs.{Borrow.{Bor}, List.{list_all}}
+use Rattle.std.proofs.Common.{List, [], ap, drop, get_or, length, refl, subst, sym, ◌++◌, ◌+◌, ◌<◌, ◌∙◌, ◌∷◌, ◌≡◌, ℕ, BTreeMap, IsTrue, MatchOption, None, Option, Some, if◌then◌else◌, nat_lt, not, true, ◌&&◌}
+use Rattle.std.proofs.lemmas.{Bool.{lt-ltb, and_parts}, List.{append-nil, drop_more}}
 use Rattle.plant_alarm.specs.declared.event.Event.{Event}
-use Rattle.plant_import.proofs.ByNumber.{put_in}
+use Rattle.plant_import.specs.{Numbers.{AreByNumber, AreNumbered, event_number}, Relation.{AreNearest, IsLast, below, from}}
+use Rattle.plant_import.{specs.declared.relation.Nearest.{Nearest}, proofs.ByNumber.{put_in}}
 use Rattle.plant_import.proofs.public.Placed.{AllBelow, EachBehind, Rises, behind_end, put_after, rises_of}
-use Rattle.plant_import.specs.declared.relation.Nearest.{Nearest}
-use Rattle.plant_import.specs.Numbers.{AreByNumber, AreNumbered, event_number}
-use Rattle.plant_import.specs.Relation.{AreNearest, IsLast, below, from}
-
-both_true : (a b : Bool) → (a && b) ≡ true → (a ≡ true) × (b ≡ true)
-both_true true b e = (refl, e)
-both_true false b e = cc
 
 -- all are below a number
 pub below_all : (n : ℕ) (es : List Event) → list_all (λ e. nat_lt e.seq n) es ≡ true → below n es ≡ es
 below_all n [] h = refl
 below_all n (x ∷ xs) h =
-    let parts = both_true (nat_lt x.seq n) (list_all (λ e. nat_lt e.seq n) xs) h in
+    let parts = and_parts (nat_lt x.seq n) (list_all (λ e. nat_lt e.seq n) xs) h in
     ap (λ b. if b then x ∷ below n xs else below n xs) parts.0 ∙ ap (λ l. x ∷ l) (below_all n xs parts.1)
 
 pub from_none : (n : ℕ) (es : List Event) → list_all (λ e. nat_lt e.seq n) es ≡ true → from n es ≡ []
 from_none n [] h = refl
 from_none n (x ∷ xs) h =
-    let parts = both_true (nat_lt x.seq n) (list_all (λ e. nat_lt e.seq n) xs) h in
+    let parts = and_parts (nat_lt x.seq n) (list_all (λ e. nat_lt e.seq n) xs) h in
     ap (λ b. if not b then x ∷ from n xs else from n xs) parts.0 ∙ from_none n xs parts.1
 
 -- so the last is the nearest, and there is none from the number on

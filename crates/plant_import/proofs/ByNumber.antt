@@ -1,23 +1,12 @@
 -- Events by their numbers in a map: one more put, and those on both sides of a number.
-use Rattle.std.proofs.Common.{List, [], ap, arith, refl, subst, sym, ◌++◌, ◌∙◌, ◌∷◌}
-use Rattle.std.proofs.lemmas.List.{map-append}
-use Rattle.std.proofs.lemmas.Bool.{false≢true, le-ltb, lt-ltb, ltb-false, ltb-true}
-use Rattle.std.specs.BTreeMap.{insert_entry}
-use Rattle.std.specs.BTreeMap.Range.{entries_between}
-use Rattle.std.specs.Cmp.{ranked}
-use Rattle.std.specs.List.{list_any}
-use Rattle.std.specs.FinMap.Entries.{by_order}
-use Rattle.std.specs.Ordering.{is_eq, is_le, match_ordering, nat_cmp}
-use Rattle.std.specs.Prelude.{Bool, Some, None, false, if◌then◌else◌, length, map, nat_lt, not, slice_get, true, ℕ, ◌-◌, ◌<◌, ◌≡◌, ◌≤◌, ◌&&◌, ◌||◌, suc}
-use Rattle.std.specs.declared.cmp.Ordering.TheVariants.{Equal, Greater, Less}
-use Rattle.std.specs.declared.ops.Bound.TheVariants.{Excluded, Included, Unbounded}
+use Rattle.std.specs.{BTreeMap.{insert_entry, Range.{entries_between}}, Cmp.{ranked}, FinMap.Entries.{by_order}, List.{list_any}}
+use Rattle.std.specs.{Ordering.{match_ordering}, declared.ops.Bound.TheVariants.{Excluded, Included, Unbounded}}
+use Rattle.std.proofs.Common.{List, [], ap, arith, refl, subst, sym, ◌++◌, ◌∙◌, ◌∷◌, is_eq, is_le, nat_cmp, Bool, Some, None, false, if◌then◌else◌, length, map, nat_lt, not, slice_get, true, ℕ, ◌-◌, ◌<◌, ◌≡◌, ◌≤◌, ◌&&◌, ◌||◌, suc, Equal, Greater, Less}
+use Rattle.std.proofs.lemmas.{Bool.{false≢true, le-ltb, lt-ltb, ltb-false, ltb-true, or_parts}, List.{map-append}}
 use Rattle.plant_alarm.specs.declared.event.Event.{Event}
-use Rattle.plant_import.proofs.public.Counted.{or_parts}
+use Rattle.plant_import.specs.{Merging.{IsRising, out_of_order}, Numbers.{event_number, has_number}, Relation.{below, from}}
 use Rattle.plant_import.proofs.public.Nearest.{AreParts, order_above, order_below}
 use Rattle.plant_import.proofs.public.Risings.{Before, Each, Rising, each_weaker, is_rising, rising_of}
-use Rattle.plant_import.specs.Merging.{IsRising, out_of_order}
-use Rattle.plant_import.specs.Numbers.{event_number, has_number}
-use Rattle.plant_import.specs.Relation.{below, from}
 use Rattle.plant_types.specs.KeyedRows.{put_row}
 
 abbrev pub numbered : List Event → List (ℕ × Event)

@@ -1,14 +1,10 @@
 -- The new numbers of rows in rising number, counted row by row.
-use Rattle.std.proofs.Common.{List, [], ap, false, length, refl, sym, true, ◌∙◌, ◌∷◌, ◌≡◌, ℕ}
-use Rattle.std.proofs.lemmas.List.{length-map}
 use Rattle.std.specs.List.{list_all, list_any}
-use Rattle.std.specs.Ordering.{nat_cmp}
-use Rattle.std.specs.Prelude.{Bool, filter, if◌then◌else◌, not, ◌||◌}
+use Rattle.std.proofs.Common.{List, [], ap, false, length, refl, sym, true, ◌∙◌, ◌∷◌, ◌≡◌, ℕ, nat_cmp, Bool, filter, if◌then◌else◌, not, ◌||◌}
+use Rattle.std.proofs.lemmas.List.{length-map}
 use Rattle.plant_alarm.specs.declared.event.Event.{Event}
-use Rattle.plant_import.proofs.Appended.{behind}
+use Rattle.plant_import.{specs.{Needed.{is_before_all}, Numbers.{event_number, has_number, new_numbers, numbers_of}}, proofs.Appended.{behind}}
 use Rattle.plant_import.proofs.public.Placed.{AllBelow, EachBehind, in_order_same, keys_rise, other, rises_of}
-use Rattle.plant_import.specs.Needed.{is_before_all}
-use Rattle.plant_import.specs.Numbers.{event_number, has_number, new_numbers, numbers_of}
 use Rattle.plant_types.specs.KeyedRows.{IsInOrder}
 
 abbrev pub is_other : List Event → Event → Bool

@@ -1,13 +1,7 @@
 -- The set of the known tags, one more at a time.
-use Rattle.std.proofs.Common.{List, ap, arith, cond, false, get_or, length, refl, sym, take, true, ◌++◌, ◌+◌, ◌<◌, ◌∙◌, ◌∷◌, ◌≡◌, []}
-use Rattle.std.proofs.lemmas.List.{take_more}
-use Rattle.std.proofs.lemmas.List.Folds.{list_any-append}
-use Rattle.std.specs.BTreeMap.{is_at}
-use Rattle.std.specs.BTreeSet.{BTreeSet, UpdatesBy, btree_set_len}
-use Rattle.std.specs.Cmp.{eq_by_cmp_equiv}
-use Rattle.std.specs.Cmp.Lexicographic.{nat_list_cmp_total}
-use Rattle.std.specs.List.{list_any}
-use Rattle.std.specs.Prelude.{Bool, ℕ, ◌||◌}
+use Rattle.std.specs.{BTreeMap.{is_at}, BTreeSet.{UpdatesBy}, Cmp.{eq_by_cmp_equiv, Lexicographic.{nat_list_cmp_total}}, List.{list_any}}
+use Rattle.std.proofs.Common.{List, ap, arith, cond, false, get_or, length, refl, sym, take, true, ◌++◌, ◌+◌, ◌<◌, ◌∙◌, ◌∷◌, ◌≡◌, [], BTreeSet, btree_set_len, Bool, ℕ, ◌||◌}
+use Rattle.std.proofs.lemmas.List.{take_more, Folds.{list_any-append}}
 use Rattle.plant_types.specs.Names.{Name, name_cmp, same_name}
 use Rattle.plant_import.specs.Relation.{AreKnown}
 

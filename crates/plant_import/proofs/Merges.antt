@@ -1,28 +1,17 @@
 -- What a file's rows add, one row more at a time.
-use Rattle.std.proofs.Common.{◌≡◌, ℕ, ◌+◌, ◌-◌, ◌<◌, ◌≤◌, refl, sym, ap, ◌∙◌, subst, arith, List, [], ◌∷◌, ◌++◌, length, take, drop, get_or, Bool, true, false, cond, ◌||◌, not, Option, Some, None, Ok, Err, append_assoc, length-append}
-use Rattle.std.specs.Prelude.{option_map, Result, nat_lt}
-use Rattle.std.proofs.lemmas.List.{append-nil, take_more, take_all, length-take-le, take-append-drop}
-use Rattle.plant_types.specs.Names.{Name, same_name}
-use Rattle.plant_types.specs.Options.{or_else}
-use Rattle.plant_alarm.specs.declared.event.Event.{Event}
-use Rattle.plant_alarm.proofs.public.Push.{passing-push}
-use Rattle.plant_import.specs.declared.bad_file.BadFile.{BadFile}
-use Rattle.plant_import.specs.declared.bad_file.Cause.{Cause}
-use Rattle.plant_import.specs.declared.merging.Merged.{Merged}
-use Rattle.plant_import.specs.Reading.{bad}
 use Rattle.std.specs.List.{list_any}
+use Rattle.std.proofs.Common.{◌≡◌, ℕ, ◌+◌, ◌-◌, ◌<◌, ◌≤◌, refl, sym, ap, ◌∙◌, subst, arith, List, [], ◌∷◌, ◌++◌, length, take, drop, get_or, Bool, true, false, cond, ◌||◌, not, Option, Some, None, Ok, Err, append_assoc, length-append, option_map, Result, nat_lt}
+use Rattle.std.proofs.{Math.Bool.{or-true}, lemmas.{Bool.{lt-ltb, le-ltb, or_parts}, List.Folds.{list_any-append}}}
+use Rattle.std.proofs.lemmas.List.{append-nil, take_more, take_all, length-take-le, take-append-drop}
+use Rattle.plant_types.specs.{Names.{Name, same_name}, Options.{or_else}}
+use Rattle.plant_alarm.{specs.declared.event.Event.{Event}, proofs.public.Push.{passing-push}}
 use Rattle.plant_import.specs.Fields.{first_cause}
-use Rattle.plant_import.proofs.ByNumber.{any_put, put_in, rises_put}
-use Rattle.plant_import.proofs.public.Counted.{no_clash, no_disorder, or_parts, same_by_number}
-use Rattle.plant_import.proofs.public.Nearest.{same_any}
-use Rattle.plant_import.specs.Numbers.{has_number}
-use Rattle.std.proofs.lemmas.Bool.{lt-ltb, le-ltb}
-use Rattle.std.proofs.lemmas.List.Folds.{list_any-append}
-use Rattle.plant_import.specs.declared.bad_file.Cause.TheVariants.{TagUnknown, MomentAhead, SequenceClash, MomentOutOfOrder}
-use Rattle.plant_import.specs.declared.relation.Relation.{Relation}
-use Rattle.plant_import.specs.declared.relation.Relation.TheVariants.{New, Known, Clash, OutOfOrder}
-use Rattle.plant_import.specs.Relation.{RelatesSo, IsRelated, JudgesRow, joined}
 use Rattle.plant_import.specs.Merging.{IsRising, same_event, clashes, out_of_order, merge_fault, first_fault, is_new, fresh, merged_or, merge}
+use Rattle.plant_import.specs.{Numbers.{has_number}, Reading.{bad}, Relation.{RelatesSo, IsRelated, JudgesRow, joined}}
+use Rattle.plant_import.specs.declared.bad_file.{BadFile.{BadFile}, Cause.{Cause}}
+use Rattle.plant_import.specs.declared.bad_file.Cause.TheVariants.{TagUnknown, MomentAhead, SequenceClash, MomentOutOfOrder}
+use Rattle.plant_import.specs.declared.{merging.Merged.{Merged}, relation.Relation.{Relation, TheVariants.{New, Known, Clash, OutOfOrder}}}
+use Rattle.plant_import.proofs.{ByNumber.{any_put, put_in, rises_put}, public.{Counted.{row_fits, same_by_number}, Nearest.{same_any}}}
 
 or_else-assoc : {A : Type 0} (a b c : Option A) → or_else (or_else a b) c ≡ or_else a (or_else b c)
 or_else-assoc None b c = refl
@@ -132,15 +121,11 @@ both kept fresh e a b c a' b' c' h k =
     two : {x y x' y' : Bool} → x ≡ x' → y ≡ y' → (x || y) ≡ (x' || y')
     two p q = cc
 
-or_true : (b : Bool) → (b || true) ≡ true
-or_true true = refl
-or_true false = refl
-
 clash_first : (kept fresh : List Event) (e : Event) → list_any (clashes e) kept ≡ true → list_any (clashes e) (kept ++ fresh) ≡ true
 clash_first kept fresh e h = list_any-append (clashes e) kept fresh ∙ ap (λ b. b || list_any (clashes e) fresh) h
 
 clash_second : (kept fresh : List Event) (e : Event) → list_any (clashes e) fresh ≡ true → list_any (clashes e) (kept ++ fresh) ≡ true
-clash_second kept fresh e h = list_any-append (clashes e) kept fresh ∙ ap (λ b. list_any (clashes e) kept || b) h ∙ or_true (list_any (clashes e) kept)
+clash_second kept fresh e h = list_any-append (clashes e) kept fresh ∙ ap (λ b. list_any (clashes e) kept || b) h ∙ or-true (list_any (clashes e) kept)
 
 pub judged_unknown : (tags : List Name) (now : ℕ) (kept fresh : List Event) (e : Event) → list_any (same_name e.tag) tags ≡ false → JudgesRow tags now kept fresh e (Err TagUnknown)
 judged_unknown tags now kept fresh e tag = unknown_tag tags now (kept ++ fresh) e tag
@@ -237,11 +222,11 @@ was_new false e = refl
 pub so_new : (tags : List Name) (now : ℕ) (kept rows new rising : List Event) (repeated : ℕ) (e : Event) → MergedSo tags now kept rows new rising repeated → JudgesRow tags now kept rising e (Ok true)
     → MergedSo tags now kept (rows ++ e ∷ []) (new ++ e ∷ []) (put_in e rising) repeated
 so_new tags now kept rows new rising repeated e h j =
-    let numbers = same_by_number e (kept ++ rising) (no_clash tags now (kept ++ rising) e j.0) in
+    let numbers = same_by_number e (kept ++ rising) (row_fits tags now (kept ++ rising) e j.0).0 in
     let other = among (has_number e.seq) kept rising (sym numbers ∙ was_new (list_any (same_event e) (kept ++ rising)) j.1) in
     record {
       merged = merged_new tags now kept rows new repeated e h.merged (sym (fault_alike tags now kept rising rows e h.alike) ∙ j.0) (sym (ap not (h.alike (same_event e))) ∙ j.1);
-      rises = rises_put e rising other (among (out_of_order e) kept rising (no_disorder tags now (kept ++ rising) e j.0)) h.rises;
+      rises = rises_put e rising other (among (out_of_order e) kept rising (row_fits tags now (kept ++ rising) e j.0).1) h.rises;
       alike = alike_new kept rising rows e other h.alike;
     }
 

@@ -1,10 +1,7 @@
 -- A record's fields by their places.
-use Rattle.std.proofs.Common.{◌≡◌, ℕ, zero, suc, List, [], ◌∷◌, Option, refl, sym, ap, ◌∙◌, Bool, true, false, ◌&&◌, ◌+◌, ◌<◌, length, take, get_or}
-use Rattle.std.specs.Prelude.{unwrap_or, slice_get}
-use Rattle.std.specs.List.{list_all}
-use Rattle.std.specs.Str.{is_utf8}
-use Rattle.std.proofs.lemmas.List.Folds.{list_all_more, list_all_at}
-use Rattle.std.proofs.lemmas.Option.{unwrap_or-slice_get}
+use Rattle.std.specs.{List.{list_all}, Str.{is_utf8}}
+use Rattle.std.proofs.Common.{◌≡◌, ℕ, zero, suc, List, [], ◌∷◌, Option, refl, sym, ap, ◌∙◌, Bool, true, false, ◌&&◌, ◌+◌, ◌<◌, length, take, get_or, unwrap_or, slice_get}
+use Rattle.std.proofs.lemmas.{List.Folds.{list_all_more, list_all_at}, Option.{unwrap_or-slice_get}}
 use Rattle.csv.specs.Records.{field_at}
 use Rattle.plant_import.specs.Fields.{field}
 

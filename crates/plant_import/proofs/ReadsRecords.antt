@@ -1,19 +1,14 @@
 -- What a read of a record does to how far a reader has come.
-use Rattle.std.proofs.Common.{Bor, ◌≡◌, ◌∙◌, ℕ, List, [], ◌∷◌, ◌++◌, Some, Ok, Err, true, false, Bool, refl, sym, inl, length, length-append, ◌+◌, arith}
-use Rattle.std.specs.Prelude.{Result, IfOk}
+use Rattle.std.proofs.Common.{Bor, ◌≡◌, ◌∙◌, ℕ, List, [], ◌∷◌, ◌++◌, Some, Ok, Err, true, false, Bool, refl, sym, inl, length, length-append, ◌+◌, arith, Result, IfOk}
 use Rattle.plant_types.specs.declared.fault.Fault.{Fault}
 use Rattle.plant_alarm.specs.declared.event.Event.{Event}
-use Rattle.plant_import.specs.declared.bad_file.BadFile.{BadFile}
-use Rattle.plant_import.specs.declared.bad_file.Cause.{Cause}
-use Rattle.plant_import.specs.declared.bad_file.Cause.TheVariants.{Header}
-use Rattle.plant_import.specs.Reading.{bad, row_read, is_header, file_read}
-use Rattle.plant_import.proofs.Rows.{AreReadRows, rows_none, rows_push, rows_stop, rows_whole, file_rows, file_no_header, file_empty}
-use Rattle.csv.specs.Reading.{ReadRecord, default_config, strip_bom, records, took_first}
-use Rattle.csv.specs.declared.parser.State.TheVariants as st
-use Rattle.csv.specs.declared.reader.Reader.{Reader}
-use Rattle.csv.proofs.ReadFacts.{rows-end, rows-more}
-use Rattle.plant_import.specs.Records.{HasRead, ReadsOne, AreRowsRead}
+use Rattle.plant_import.specs.{Reading.{bad, row_read, is_header, file_read}, Records.{HasRead, ReadsOne, AreRowsRead}}
+use Rattle.plant_import.specs.declared.bad_file.{BadFile.{BadFile}, Cause.{Cause, TheVariants.{Header}}}
 use Rattle.plant_import.proofs.RecordsReached.{all_reached, begins_with}
+use Rattle.plant_import.proofs.Rows.{AreReadRows, rows_none, rows_push, rows_stop, rows_whole, file_rows, file_no_header, file_empty}
+use Rattle.csv.specs.{Reading.{ReadRecord, default_config, strip_bom, records, took_first}, declared.reader.Reader.{Reader}}
+use Rattle.csv.proofs.ReadFacts.{rows-end, rows-more}
+use Rattle.csv.specs.declared.parser.State.TheVariants as st
 
 pub reads_one : (old new : Reader (Bor (List ℕ))) (text : List ℕ) (rows : List (List (List ℕ))) (found : Bool) (fields : List (List ℕ))
     → HasRead old text rows → ReadRecord (λ (s : Bor (List ℕ)). Some s.now) old new found fields → took_first new ≡ true → ReadsOne new text rows found fields

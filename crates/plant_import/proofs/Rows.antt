@@ -1,23 +1,14 @@
 -- What a row is read as, cause by cause.
-use Rattle.std.proofs.Common.{◌≡◌, ◌≢◌, ℕ, ◌<◌, ◌≤◌, List, [], ◌∷◌, length, Bool, true, false, not, Option, Some, None, Ok, Err, refl, sym, ap, ◌∙◌, arith}
-use Rattle.std.specs.Prelude.{◌==◌, ◌+◌, nat_lt, is_none, slice_get, option_map, ◌++◌, map}
-use Rattle.std.specs.List.{list_all, enumerate_from, cons_option}
-use Rattle.std.specs.Option.{option_to_list}
-use Rattle.std.proofs.lemmas.List.{map-append}
-use Rattle.std.proofs.lemmas.List.Elements.{filter_map-append}
+use Rattle.std.specs.{List.{list_all, enumerate_from, cons_option}, Str.{is_utf8}}
+use Rattle.std.proofs.Common.{◌≡◌, ◌≢◌, ℕ, ◌<◌, ◌≤◌, List, [], ◌∷◌, length, Bool, true, false, not, Option, Some, None, Ok, Err, refl, sym, ap, ◌∙◌, arith, ◌==◌, ◌+◌, nat_lt, is_none, slice_get, option_map, ◌++◌, map, option_to_list}
+use Rattle.std.proofs.lemmas.{Bool.{lt-ltb, le-ltb, ltb-false, ne_eqb}, List.{map-append, Elements.{filter_map-append}}}
 use Rattle.csv.specs.Reading.{default_config, records, strip_bom}
-use Rattle.std.specs.Str.{is_utf8}
-use Rattle.std.proofs.lemmas.Bool.{lt-ltb, le-ltb, ltb-false, ne_eqb}
-use Rattle.plant_types.specs.Limits.{max_file_rows}
-use Rattle.plant_types.specs.Moment.{moment_of}
-use Rattle.plant_types.specs.Text.{tag_of}
-use Rattle.plant_alarm.specs.declared.event.EventKind.{EventKind}
-use Rattle.plant_alarm.specs.declared.event.Event.{Event}
-use Rattle.plant_import.specs.declared.bad_file.BadFile.{BadFile}
-use Rattle.plant_import.specs.declared.bad_file.Cause.{Cause}
-use Rattle.plant_import.specs.declared.bad_file.Cause.TheVariants.{Header, FieldCount, NotUtf8, BadNumber, BadMoment, BadTag, BadEvent, TooLong}
+use Rattle.plant_types.specs.{Limits.{max_file_rows}, Moment.{moment_of}, Text.{tag_of}}
+use Rattle.plant_alarm.specs.declared.event.{Event.{Event}, EventKind.{EventKind}}
 use Rattle.plant_import.specs.Fields.{field, number_of, kind_of, first_cause, row_fault, event_in}
 use Rattle.plant_import.specs.Reading.{row_read, event_or, events_or, rows_read, row_faults, bad, is_header, file_read}
+use Rattle.plant_import.specs.declared.bad_file.{BadFile.{BadFile}, Cause.{Cause}}
+use Rattle.plant_import.specs.declared.bad_file.Cause.TheVariants.{Header, FieldCount, NotUtf8, BadNumber, BadMoment, BadTag, BadEvent, TooLong}
 
 -- a row of four fields of text
 pub record IsTextRow (fields : List (List ℕ)) : Type 0 where

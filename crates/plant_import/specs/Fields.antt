@@ -1,16 +1,10 @@
 -- What the fields of a row are read as.
+use Rattle.std.specs.{Cmp.Lexicographic.{pointwise}, List.{list_all}}
 use Rattle.std.specs.Prelude.{ℕ, Bool, ◌&&◌, not, nat_lt, nat_eq, ◌==◌, if◌then◌else◌, List, [], ◌∷◌, length, Option, Some, None, codes, slice_index, is_none, unwrap_or, slice_get}
-use Rattle.std.specs.List.{list_all}
-use Rattle.std.specs.Cmp.Lexicographic.{pointwise}
 use Rattle.std.specs.Str.{is_utf8}
-use Rattle.plant_types.specs.Limits.{max_file_rows}
-use Rattle.plant_types.specs.Text.{is_digit, is_between, tag_of}
-use Rattle.plant_types.specs.Moment.{decimal_value, moment_of}
-use Rattle.plant_alarm.specs.declared.event.Event.{Event}
-use Rattle.plant_alarm.specs.declared.event.EventKind.{EventKind}
-use Rattle.plant_alarm.specs.declared.event.EventKind.TheVariants.{Act, Rtn, Ack, Reset, Sup, Unsup}
-use Rattle.plant_import.specs.declared.bad_file.Cause.{Cause}
-use Rattle.plant_import.specs.declared.bad_file.Cause.TheVariants.{FieldCount, NotUtf8, BadNumber, BadMoment, BadTag, BadEvent, TooLong}
+use Rattle.plant_types.specs.{Limits.{max_file_rows}, Moment.{decimal_value, moment_of}, Text.{is_digit, is_between, tag_of}}
+use Rattle.plant_alarm.specs.declared.event.{Event.{Event}, EventKind.{EventKind, TheVariants.{Act, Rtn, Ack, Reset, Sup, Unsup}}}
+use Rattle.plant_import.specs.declared.bad_file.Cause.{Cause, TheVariants.{FieldCount, NotUtf8, BadNumber, BadMoment, BadTag, BadEvent, TooLong}}
 
 abbrev pub same_bytes : List ℕ → List ℕ → Bool
 same_bytes = pointwise nat_eq

@@ -1,6 +1,5 @@
 -- Files that are merged one after another: which file has which rows, and in which order they come, makes no difference.
-use Rattle.std.specs.List.{flat_map, list_all, list_any}
-use Rattle.std.specs.Prelude.{Bool, List, [], is_none, length, nat_lt, not, true, ℕ, ◌&&◌, ◌++◌, ◌+◌, ◌∷◌, ◌≡◌}
+use Rattle.std.specs.{List.{list_all, list_any}, Prelude.{flat_map, Bool, List, [], is_none, length, nat_lt, not, true, ℕ, ◌&&◌, ◌++◌, ◌+◌, ◌∷◌, ◌≡◌}}
 use Rattle.plant_alarm.specs.declared.event.Event.{Event}
 use Rattle.plant_import.specs.Merging.{clashes, first_fault, fresh, out_of_order, same_event}
 use Rattle.plant_types.specs.Names.{Name, same_name}

@@ -1,18 +1,11 @@
 -- What a file adds to the events that are kept, or its first fault.
-use Rattle.std.specs.Prelude.{ℕ, ◌+◌, ◌-◌, ◌<◌, ◌≤◌, Bool, ◌&&◌, ◌||◌, not, nat_lt, ◌==◌, List, [], ◌∷◌, ◌++◌, length, Option, Some, None, Result, Ok, Err, option_map}
-use Rattle.std.specs.List.{list_any, AllPairs}
-use Rattle.plant_types.specs.Names.{Name, same_name}
-use Rattle.plant_types.specs.Options.{or_else}
-use Rattle.plant_alarm.specs.declared.event.Event.{Event}
-use Rattle.plant_alarm.specs.declared.event.EventKind.{EventKind}
-use Rattle.plant_alarm.specs.declared.event.EventKind.TheVariants.{Act, Rtn, Ack, Reset, Sup, Unsup}
-use Rattle.plant_alarm.specs.States.{passing}
-use Rattle.plant_import.specs.declared.bad_file.BadFile.{BadFile}
-use Rattle.plant_import.specs.declared.bad_file.Cause.{Cause}
+use Rattle.std.specs.List.{list_any}
+use Rattle.std.specs.Prelude.{ℕ, ◌+◌, ◌-◌, ◌<◌, ◌≤◌, Bool, ◌&&◌, ◌||◌, not, nat_lt, ◌==◌, List, [], ◌∷◌, ◌++◌, length, Option, Some, None, Result, Ok, Err, option_map, AllPairs}
+use Rattle.plant_types.specs.{Names.{Name, same_name}, Options.{or_else}}
+use Rattle.plant_alarm.specs.{States.{passing}, declared.event.{Event.{Event}, EventKind.{EventKind, TheVariants.{Act, Rtn, Ack, Reset, Sup, Unsup}}}}
+use Rattle.plant_import.specs.{Fields.{first_cause}, Reading.{bad}, declared.bad_file.{BadFile.{BadFile}, Cause.{Cause}}}
 use Rattle.plant_import.specs.declared.bad_file.Cause.TheVariants.{TagUnknown, MomentAhead, SequenceClash, MomentOutOfOrder}
 use Rattle.plant_import.specs.declared.merging.Merged.{Merged}
-use Rattle.plant_import.specs.Fields.{first_cause}
-use Rattle.plant_import.specs.Reading.{bad}
 
 -- events in rising number, whose moments don't fall
 abbrev pub IsRising : List Event → Type 0

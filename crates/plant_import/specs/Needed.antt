@@ -1,11 +1,10 @@
 -- The kept events that an import needs. A row's neighbours by number show whether it is faulty, and whether it is kept already. An
 -- alarm's state can be brought forward from its last event, as long as no new row has a smaller number than that event.
-use Rattle.plant_alarm.specs.declared.event.Event.{Event}
-use Rattle.plant_import.specs.Merging.{IsRising, first_fault, fresh, merge}
-use Rattle.plant_import.specs.Numbers.{has_number, with_events}
-use Rattle.plant_types.specs.Names.{Name, same_name}
 use Rattle.std.specs.List.{list_all, list_any}
 use Rattle.std.specs.Prelude.{Bool, List, None, [], drop, false, filter, if◌then◌else◌, length, nat_lt, not, ℕ, ◌&&◌, ◌++◌, ◌-◌, ◌≡◌}
+use Rattle.plant_alarm.specs.declared.event.Event.{Event}
+use Rattle.plant_import.specs.{Merging.{IsRising, first_fault, fresh, merge}, Numbers.{has_number, with_events}}
+use Rattle.plant_types.specs.Names.{Name, same_name}
 
 -- the event has a smaller number than every row
 abbrev pub is_before_all : List Event → Event → Bool

@@ -1,10 +1,8 @@
 -- Events by their numbers.
+use Rattle.std.specs.{BTreeMap.{BTreeMap}, List.{list_any}, Ordering.{eq_by_cmp, nat_cmp}}
+use Rattle.std.specs.Prelude.{Bool, List, drop, false, filter, fold, if◌then◌else◌, map, not, option_map, slice_get, unwrap_or, ℕ, ◌≡◌}
 use Rattle.plant_alarm.specs.declared.event.Event.{Event}
 use Rattle.plant_types.specs.KeyedRows.{IsInOrder, in_order, put_row}
-use Rattle.std.specs.BTreeMap.{BTreeMap}
-use Rattle.std.specs.List.{list_any}
-use Rattle.std.specs.Ordering.{eq_by_cmp, nat_cmp}
-use Rattle.std.specs.Prelude.{Bool, List, drop, false, filter, fold, if◌then◌else◌, map, not, option_map, slice_get, unwrap_or, ℕ, ◌≡◌}
 
 abbrev pub event_number : Event → ℕ
 event_number e = e.seq

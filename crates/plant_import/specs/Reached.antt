@@ -1,9 +1,7 @@
 -- What the code knows of the last number of each alarm.
+use Rattle.std.specs.{BTreeMap.{BTreeMap, get}, List.{list_any}, Prelude.{List, false, nat_lt, option_map, unwrap_or, ℕ, ◌&&◌, ◌≡◌}}
 use Rattle.plant_alarm.specs.declared.event.Event.{Event}
 use Rattle.plant_types.specs.Names.{Name, name_cmp, same_name}
-use Rattle.std.specs.BTreeMap.{BTreeMap, get}
-use Rattle.std.specs.List.{list_any}
-use Rattle.std.specs.Prelude.{List, false, nat_lt, option_map, unwrap_or, ℕ, ◌&&◌, ◌≡◌}
 
 -- a number is below the last one of an alarm where it is below one of the alarm's events
 abbrev pub AreReached : BTreeMap Name ℕ → List Event → Type 0

@@ -1,12 +1,10 @@
 -- The rows of a file, or its first fault.
-use Rattle.std.specs.Prelude.{ℕ, ◌+◌, Bool, ◌&&◌, ◌==◌, if◌then◌else◌, List, [], ◌∷◌, length, Option, Some, None, Result, Ok, Err, codes, slice_get, option_map, map, filter_map}
 use Rattle.std.specs.List.{enumerate_from}
+use Rattle.std.specs.Prelude.{ℕ, ◌+◌, Bool, ◌&&◌, ◌==◌, if◌then◌else◌, List, [], ◌∷◌, length, Option, Some, None, Result, Ok, Err, codes, slice_get, option_map, map, filter_map}
 use Rattle.csv.specs.Reading.{default_config, strip_bom, records}
 use Rattle.plant_alarm.specs.declared.event.Event.{Event}
-use Rattle.plant_import.specs.declared.bad_file.BadFile.{BadFile}
-use Rattle.plant_import.specs.declared.bad_file.Cause.{Cause}
+use Rattle.plant_import.specs.{Fields.{same_bytes, field, row_fault, event_in}, declared.bad_file.{BadFile.{BadFile}, Cause.{Cause}}}
 use Rattle.plant_import.specs.declared.bad_file.Cause.TheVariants.{Header}
-use Rattle.plant_import.specs.Fields.{same_bytes, field, row_fault, event_in}
 
 -- the first record of each file
 abbrev pub is_header : List (List ℕ) → Bool

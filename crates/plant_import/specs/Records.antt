@@ -1,12 +1,10 @@
 -- How far a reader has come in a file: what the code knows of it between two records.
-use Rattle.std.specs.Prelude.{ℕ, ◌≡◌, Bool, true, false, List, ◌∷◌, [], ◌++◌, Some, Result}
-use Rattle.std.specs.Borrow.{Bor}
+use Rattle.std.specs.{Borrow.{Bor}, Prelude.{ℕ, ◌≡◌, Bool, true, false, List, ◌∷◌, [], ◌++◌, Some, Result}}
 use Rattle.csv.specs.Reading.{Reached, Ready, default_config, reader_config, reader_state, reader_trim, records, source_of, strip_bom}
-use Rattle.plant_alarm.specs.declared.event.Event.{Event}
-use Rattle.plant_import.specs.declared.bad_file.BadFile.{BadFile}
-use Rattle.plant_import.specs.Reading.{rows_read}
-use Rattle.csv.specs.declared.parser.State.TheVariants as st
 use Rattle.csv.specs.declared.reader.Reader.{Reader}
+use Rattle.plant_alarm.specs.declared.event.Event.{Event}
+use Rattle.plant_import.specs.{Reading.{rows_read}, declared.bad_file.BadFile.{BadFile}}
+use Rattle.csv.specs.declared.parser.State.TheVariants as st
 use Rattle.csv.specs.declared.reader.Trim.TheVariants as trim
 
 -- it has read these records of a text, and is ready for the next

@@ -1,17 +1,11 @@
 -- How a row relates to events in rising number: what the code finds from the nearest of them.
-use Rattle.std.specs.Prelude.{ℕ, ◌≡◌, ◌-◌, Bool, true, false, List, ◌++◌, Option, Some, None, Result, Ok, Err, filter, length, nat_lt, not, slice_get}
-use Rattle.std.specs.Borrow.{Bor}
-use Rattle.std.specs.BTreeSet.{BTreeSet, contains}
-use Rattle.std.specs.List.{list_any}
-use Rattle.std.specs.Option.{option_copied}
+use Rattle.std.specs.{BTreeSet.{BTreeSet, contains}, Borrow.{Bor}, List.{list_any}}
+use Rattle.std.specs.Prelude.{ℕ, ◌≡◌, ◌-◌, Bool, true, false, List, ◌++◌, Option, Some, None, Result, Ok, Err, filter, length, nat_lt, not, slice_get, option_copied}
 use Rattle.plant_types.specs.Names.{Name, name_cmp, same_name}
 use Rattle.plant_alarm.specs.declared.event.Event.{Event}
-use Rattle.plant_import.specs.declared.bad_file.Cause.{Cause}
-use Rattle.plant_import.specs.declared.bad_file.Cause.TheVariants.{SequenceClash, MomentOutOfOrder}
-use Rattle.plant_import.specs.declared.relation.Nearest.{Nearest}
-use Rattle.plant_import.specs.declared.relation.Relation.{Relation}
-use Rattle.plant_import.specs.declared.relation.Relation.TheVariants.{New, Known, Clash, OutOfOrder}
-use Rattle.plant_import.specs.Merging.{clashes, is_new, merge_fault, out_of_order, same_event}
+use Rattle.plant_import.specs.{Merging.{clashes, is_new, merge_fault, out_of_order, same_event}, declared.bad_file.Cause.{Cause}}
+use Rattle.plant_import.specs.declared.{bad_file.Cause.TheVariants.{SequenceClash, MomentOutOfOrder}, relation.Nearest.{Nearest}}
+use Rattle.plant_import.specs.declared.relation.Relation.{Relation, TheVariants.{New, Known, Clash, OutOfOrder}}
 
 -- whether one of the events is the same, clashes, or is out of order with this one
 pub record RelatesSo (events : List Event) (e : Event) (same clash order : Bool) : Type 0 where

@@ -1,7 +1,5 @@
-ghost use Rattle.std.specs.Prelude.{◌≡◌, ◌≢◌, ◌<◌, ◌≤◌, length, slice_index, IsTrue};
-ghost use Rattle.std.specs.List.{list_all};
-ghost use Rattle.plant_types.specs.Text.{is_digit};
-ghost use Rattle.plant_types.specs.Moment.{decimal_value};
+ghost use Rattle.std.specs.{List.{list_all}, Prelude.{◌≡◌, ◌≢◌, ◌<◌, ◌≤◌, length, slice_index, IsTrue}};
+ghost use Rattle.plant_types.specs.{Moment.{decimal_value}, Text.{is_digit}};
 ghost use Rattle.plant_import.specs.Fields as fields;
 
 use plant_alarm::{EventKind, Number};

@@ -1,14 +1,10 @@
+ghost use Rattle.std.specs.{BTreeMap.{BTreeMap as TheMap}, List.{list_all}};
 ghost use Rattle.std.specs.Prelude.{◌≡◌, ◌+◌, ◌++◌, ◌∷◌, [], IfOk, IsTrue, List, MatchOption, None, OnOk, Some, length, nat_lt, ℕ};
-ghost use Rattle.std.specs.BTreeMap.{BTreeMap as TheMap};
-ghost use Rattle.std.specs.List.{list_all};
 ghost use Rattle.plant_alarm.specs.declared.event.Event.{Event as TheEvent};
-ghost use Rattle.plant_types.specs.Names.{Name};
-ghost use Rattle.plant_types.specs.Results.{OnlyMemory};
+ghost use Rattle.plant_types.specs.{Names.{Name}, Results.{OnlyMemory}};
+ghost use Rattle.plant_import.specs.{Merging.{IsRising}, Numbers.{AreByNumber, AreNumbered, with_event}, Relation.{AreKnown, AreNearest, JudgesRow}};
 ghost use Rattle.plant_import.specs.Merging as merging;
-ghost use Rattle.plant_import.specs.Merging.{IsRising};
-ghost use Rattle.plant_import.specs.Numbers.{AreByNumber, AreNumbered, with_event};
 ghost use Rattle.plant_import.specs.Relation as relation;
-ghost use Rattle.plant_import.specs.Relation.{AreKnown, AreNearest, JudgesRow};
 
 use crate::numbers::{put, rise};
 use crate::relation::{Nearest, Relation, nearest_among, nearest_by_number, relation_of};

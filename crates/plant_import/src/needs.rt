@@ -3,9 +3,8 @@
 ghost use Rattle.std.specs.Prelude.{◌≡◌, ◌≤◌, IfOk, List, filter, length, nat_lt, option_map, true, unwrap_or};
 ghost use Rattle.plant_alarm.specs.declared.event.Event.{Event as TheEvent};
 ghost use Rattle.plant_types.specs.Results.{OnlyMemory};
-ghost use Rattle.plant_import.specs.Numbers.{AreNumbered};
+ghost use Rattle.plant_import.specs.{Numbers.{AreNumbered}, Reached.{AreReached}};
 ghost use Rattle.plant_import.specs.Needed as needs;
-ghost use Rattle.plant_import.specs.Reached.{AreReached};
 
 use crate::numbers::has_number;
 use crate::relation::place_of;

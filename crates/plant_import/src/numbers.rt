@@ -1,13 +1,12 @@
 //! Events by their numbers: how many of a file are new, and all events with those of a file.
 
-ghost use Rattle.std.specs.Prelude.{◌≡◌, ◌↔◌, ◌++◌, [], IfOk, IsTrue, List, OnOk, false, length, option_map, slice_get, unwrap_or};
 ghost use Rattle.std.specs.List.{list_all, list_any};
+ghost use Rattle.std.specs.Prelude.{◌≡◌, ◌↔◌, ◌++◌, [], IfOk, IsTrue, List, OnOk, false, length, option_map, slice_get, unwrap_or};
 ghost use Rattle.plant_alarm.specs.declared.event.Event.{Event as TheEvent};
 ghost use Rattle.plant_types.specs.Results.{OnlyMemory};
-ghost use Rattle.plant_import.specs.Merging.{IsRising};
-ghost use Rattle.plant_import.specs.Needed.{is_before_all};
-ghost use Rattle.plant_import.specs.Numbers as numbers;
+ghost use Rattle.plant_import.specs.{Merging.{IsRising}, Needed.{is_before_all}};
 ghost use Rattle.plant_import.specs.Numbers.{AreByNumber, new_numbers, with_events, AreNumbered, with_event};
+ghost use Rattle.plant_import.specs.Numbers as numbers;
 
 use crate::relation::place_of;
 use plant_alarm::{Event, Number};

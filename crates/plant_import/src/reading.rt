@@ -1,11 +1,8 @@
-ghost use Rattle.std.specs.Prelude.{◌≡◌, ◌∷◌, [], IfOk, List, ℕ};
-ghost use Rattle.std.specs.List.{list_all};
-ghost use Rattle.std.specs.Str.{is_utf8};
+ghost use Rattle.std.specs.{List.{list_all}, Prelude.{◌≡◌, ◌∷◌, [], IfOk, List, ℕ}, Str.{is_utf8}};
 ghost use Rattle.csv.specs.Records.{fields_of};
 ghost use Rattle.plant_types.specs.Results.{OnlyMemory};
+ghost use Rattle.plant_import.specs.{Reading.{row_read, file_read}, Records.{HasRead, AreRowsRead}};
 ghost use Rattle.plant_import.specs.Reading as reading;
-ghost use Rattle.plant_import.specs.Reading.{row_read, file_read};
-ghost use Rattle.plant_import.specs.Records.{HasRead, AreRowsRead};
 
 use crate::fields::{kind_of, number_of};
 use crate::records::{field, next_record, reader_of};

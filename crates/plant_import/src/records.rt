@@ -1,8 +1,8 @@
 ghost use Rattle.std.specs.Prelude.{◌≡◌, [], IfOk, List, ℕ};
 ghost use Rattle.csv.specs.Records.{fields_of};
 ghost use Rattle.plant_types.specs.Results.{OnlyMemory};
-ghost use Rattle.plant_import.specs.Fields as fields;
 ghost use Rattle.plant_import.specs.Records.{HasRead, ReadsOne};
+ghost use Rattle.plant_import.specs.Fields as fields;
 
 use csv::{ByteRecord, Reader, ReaderBuilder};
 use plant_types::Fault;

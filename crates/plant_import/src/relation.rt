@@ -1,11 +1,8 @@
-ghost use Rattle.std.specs.Prelude.{◌≡◌, ◌≤◌, ◌<◌, List, length, nat_lt};
-ghost use Rattle.std.specs.List.{list_any};
-ghost use Rattle.std.specs.List.Sorted.{IsPartitionPoint};
+ghost use Rattle.std.specs.{List.{list_any, Sorted.{IsPartitionPoint}}, Prelude.{◌≡◌, ◌≤◌, ◌<◌, List, length, nat_lt}};
 ghost use Rattle.plant_alarm.specs.declared.event.Event.{Event as TheEvent};
-ghost use Rattle.plant_import.specs.Merging.{IsRising, same_event};
-ghost use Rattle.plant_import.specs.Numbers.{AreByNumber, AreNumbered};
-ghost use Rattle.plant_import.specs.Relation as relation;
+ghost use Rattle.plant_import.specs.{Merging.{IsRising, same_event}, Numbers.{AreByNumber, AreNumbered}};
 ghost use Rattle.plant_import.specs.Relation.{AreNearest, IsFirst, IsLast, IsRelated};
+ghost use Rattle.plant_import.specs.Relation as relation;
 
 use plant_alarm::{Event, Number};
 use std::collections::BTreeMap;

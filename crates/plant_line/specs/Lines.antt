@@ -1,8 +1,6 @@
 -- What the options of the program's command line ask for.
 use Rattle.std.specs.Prelude.{Bool, true, false, List, ℕ, None, Option, Some, ◌≡◌, ◌-◌, ◌^◌, option_map, string_bytes, unwrap_or}
-use Rattle.plant_line.specs.declared.words.Service.{Service}
-use Rattle.plant_line.specs.declared.words.Task.{Task}
-use Rattle.plant_line.specs.declared.words.Task.TheVariants.{Migrate, Serve}
+use Rattle.plant_line.specs.declared.words.{Service.{Service}, Task.{Task, TheVariants.{Migrate, Serve}}}
 
 -- How a port is served: as many connections as asked for, or one, each given up after as many silent seconds as asked for, or never.
 -- With `forever`: 2^64 - 1 connections, more than any machine serves, each given up after as many silent seconds as asked for, or 30.

@@ -1,6 +1,6 @@
 ghost use Rattle.std.specs.Prelude.{◌≡◌, None, Some, Err, IfOk, IfErr, IfSome, option_copied, option_map, string_bytes};
-ghost use Rattle.plant_line.specs.Lines as lines;
 ghost use Rattle.plant_line.specs.Lines.{IsTaskOf};
+ghost use Rattle.plant_line.specs.Lines as lines;
 ghost use Rattle.plant_types.specs.Text as names;
 
 use clap::builder::ValueParser;

@@ -1,31 +1,14 @@
 -- Copies of rows: what is found among them, and how they stay true.
-use Rattle.std.proofs.Common.{Bool, List, None, Some, [], ap, arith, cond, drop, false, map, not, refl, subst, suc, sym, take, true, zero, ℕ, ◌++◌, ◌+◌, ◌-◌, ◌≤◌, ◌∙◌, ◌∷◌, ◌≡◌}
-use Rattle.std.proofs.lemmas.List.{append_assoc, append-nil}
-use Rattle.std.specs.FinMap.{get, get-insert}
-use Rattle.std.specs.List.{AllByRecursion, IsDistinct, cons_option, flat_map, list_any}
-use Rattle.std.specs.Map.{keys_of, lookup, lookup_entry, remove_entry}
-use Rattle.std.specs.Option.{option_map_or}
-use Rattle.std.specs.Prelude.{Option, filter_map, is_some, length, option_map, slice_get, unwrap_or, ◌&&◌}
-use Rattle.std.specs.Cmp.{eq_by_cmp_equiv}
+use Rattle.std.specs.{Cmp.{eq_by_cmp_equiv}, FinMap.{get, get-insert}, List.{AllByRecursion, IsDistinct}}
+use Rattle.std.specs.{Map.{keys_of, lookup, lookup_entry, remove_entry}, Option.{option_map_or}}
+use Rattle.std.proofs.Common.{Bool, List, None, Some, [], ap, arith, cond, false, map, not, refl, subst, suc, sym, take, true, zero, ℕ, ◌+◌, ◌-◌, ◌≤◌, ◌∙◌, ◌∷◌, ◌≡◌, Option, is_some, length, option_map, slice_get, unwrap_or, ◌&&◌}
 use Rattle.lru.specs.LruCache.{LruCache, last_entry, promoted, put_entries}
-use Rattle.plant_books.proofs.public.EventLaws.{changed_without, part_without}
-use Rattle.plant_books.proofs.public.OrderLaws.{changed_in_order}
-use Rattle.plant_books.specs.Changing.{puts_event}
-use Rattle.plant_books.specs.Contents.{Content, after_changes, is_held_by, is_held_in, mine_row, rows_in, shelves_mine, without_events}
-use Rattle.plant_model.specs.Order.{AreInOrder}
-use Rattle.plant_books.specs.declared.books.MineRow.{MineRow}
-use Rattle.plant_mirror.specs.Copies.{AreCopies, Copy, IsCopy, There, row_count, rows_of_all, seen, shelves_there}
-use Rattle.plant_mirror.specs.declared.at_hand.AtHand.{AtHand}
-use Rattle.plant_model.proofs.public.WorldLaws.{same_of}
-use Rattle.plant_model.specs.Parts.{part_of}
-use Rattle.plant_model.specs.RowChanges.{changed_by, no_rows}
-use Rattle.plant_model.specs.Scopes.{looks_at_events}
-use Rattle.plant_model.specs.declared.call.Call.{Call}
-use Rattle.plant_model.specs.declared.rows.RowEdit.{RowEdit}
-use Rattle.plant_model.specs.declared.rows.UnitRows.{UnitRows}
-use Rattle.plant_types.proofs.public.Orders.{name_total}
-use Rattle.plant_types.specs.Names.{Name, same_name}
-use Rattle.plant_types.specs.Options.{when}
+use Rattle.plant_books.specs.{Changing.{puts_event}, Contents.{Content, after_changes, mine_row, rows_in, shelves_there, without_events}}
+use Rattle.plant_books.proofs.public.{EventLaws.{changed_without, part_without}, OrderLaws.{changed_in_order}}
+use Rattle.plant_model.specs.{Order.{AreInOrder}, Parts.{part_of}, RowChanges.{changed_by, no_rows}, Scopes.{looks_at_events}}
+use Rattle.plant_model.{specs.declared.{call.Call.{Call}, rows.{RowEdit.{RowEdit}, UnitRows.{UnitRows}}}, proofs.public.WorldLaws.{same_of}}
+use Rattle.plant_mirror.specs.{Copies.{AreCopies, Copy, IsCopy, There, row_count, rows_of_all, seen}, declared.at_hand.AtHand.{AtHand}}
+use Rattle.plant_types.{specs.Names.{Name, same_name}, proofs.public.Orders.{name_total}}
 
 -- ---- what is found is there
 
@@ -218,43 +201,3 @@ changed_there m u cs copy after h flag is none =
       same = ap (λ d. option_map (seen d) (get (after_changes m u cs).units u)) flag ∙ there ∙ ap (λ x. Some x) rows;
       ordered = subst AreInOrder (sym is) (changed_in_order cs copy.rows h.ordered);
     }
-
--- ---- shelves of units one after another
-
-none_left : (us : List Name) (i : ℕ) → length us ≤ i → drop i us ≡ []
-none_left [] zero h = refl
-none_left [] (suc i) h = refl
-none_left (u ∷ us) zero h = absurd (omega (arith, h))
-none_left (u ∷ us) (suc i) h = none_left us i (omega (arith, h))
-
-pub all_told : (f : Name → List MineRow) (mine all : List MineRow) (us : List Name) (i : ℕ) → length us ≤ i → mine ++ flat_map f (drop i us) ≡ all → mine ≡ all
-all_told f mine all us i h honest = sym (append-nil mine) ∙ ap (λ xs. mine ++ flat_map f xs) (sym (none_left us i h)) ∙ honest
-
-pub more_told : (f : Name → List MineRow) (mine more all : List MineRow) (us : List Name) (i : ℕ) (u : Name) → drop i us ≡ u ∷ drop (i + 1) us → f u ≡ more → mine ++ flat_map f (drop i us) ≡ all → (mine ++ more) ++ flat_map f (drop (i + 1) us) ≡ all
-more_told f mine more all us i u e is honest =
-    append_assoc mine more (flat_map f (drop (i + 1) us))
-    ∙ ap (λ xs. mine ++ (xs ++ flat_map f (drop (i + 1) us))) (sym is)
-    ∙ ap (λ xs. mine ++ flat_map f xs) (sym e)
-    ∙ honest
-
--- those of the units that are held are those that the person may see
-pub held_shelves : (there : There) (t : ℕ) (p : Name) (us : List Name) → flat_map (λ u. shelves_there u (there u)) (filter_map (λ u. when (is_held_in t p (there u)) u) us) ≡ flat_map (λ u. shelves_mine t p u (there u)) us
-held_shelves there t p [] = refl
-held_shelves there t p (u ∷ us) = by (there u) refl (held_shelves there t p us)
-  where
-    seen : List Name → List MineRow
-    seen vs = flat_map (λ v. shelves_there v (there v)) vs
-
-    rest : List Name
-    rest = filter_map (λ v. when (is_held_in t p (there v)) v) us
-
-    mine : List MineRow
-    mine = flat_map (λ v. shelves_mine t p v (there v)) us
-
-    by : (o : Option UnitRows) → there u ≡ o → seen rest ≡ mine → seen (cons_option (when (is_held_in t p o) u) rest) ≡ shelves_mine t p u o ++ mine
-    by None e same = same
-    by (Some rows) e same =
-        elim (list_any (is_held_by t p) rows.grants) as (λ b. seen (cons_option (when b u) rest) ≡ cond b (map (mine_row u rows) rows.shelves) [] ++ mine) [
-          | true ↦ λ i. shelves_there u (e i) ++ same i
-          | false ↦ same
-        ]

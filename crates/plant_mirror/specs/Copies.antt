@@ -1,11 +1,8 @@
 -- Copies of units' rows, beside the books that keep them.
-use Rattle.std.specs.FinMap.{get}
-use Rattle.std.specs.Prelude.{Bool, List, None, Option, Some, [], false, length, map, option_map, true, ℕ, ◌+◌, ◌∷◌, ◌≡◌}
-use Rattle.plant_books.specs.Contents.{Content, mine_row, without_events}
-use Rattle.plant_model.specs.Order.{AreInOrder}
-use Rattle.plant_books.specs.declared.books.MineRow.{MineRow}
+use Rattle.std.specs.{FinMap.{get}, Prelude.{Bool, List, Option, Some, [], false, length, option_map, true, ℕ, ◌+◌, ◌∷◌, ◌≡◌}}
+use Rattle.plant_books.specs.Contents.{Content, without_events}
+use Rattle.plant_model.specs.{Order.{AreInOrder}, declared.rows.UnitRows.{UnitRows}}
 use Rattle.plant_mirror.specs.declared.at_hand.AtHand.{AtHand}
-use Rattle.plant_model.specs.declared.rows.UnitRows.{UnitRows}
 use Rattle.plant_types.specs.Names.{Name, same_name}
 
 -- the rows of each unit that was opened
@@ -58,8 +55,3 @@ DiffersAt unit there after = (u : Name) → same_name unit u ≡ false → after
 pub record IsMirrored (below : Content → Type 0) (is_honest : Type 0) (copies : List Copy) (m : Content) : Type 0 where
   pub held : below m
   pub copied : is_honest → AreCopies (get m.units) copies
-
--- the shelves of a unit, each with the moment at which its alarm last returned to normal
-abbrev pub shelves_there : Name → Option UnitRows → List MineRow
-shelves_there u None = []
-shelves_there u (Some rows) = map (mine_row u rows) rows.shelves

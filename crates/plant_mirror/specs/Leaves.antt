@@ -1,10 +1,7 @@
 -- What a question leaves of the books, and of the copies beside them.
 use Rattle.std.specs.Prelude.{IfOk, Result}
-use Rattle.plant_books.specs.Contents.{Content}
-use Rattle.plant_books.specs.Counting.{Counts}
-use Rattle.plant_books.specs.declared.books.Books.{Ghosts}
-use Rattle.plant_mirror.specs.Copies.{IsMirrored}
-use Rattle.plant_mirror.specs.declared.mirror.Mirror.{Mirror}
+use Rattle.plant_books.specs.{Contents.{Content}, Counting.{Counts}, declared.books.Books.{Ghosts}}
+use Rattle.plant_mirror.specs.{Copies.{IsMirrored}, declared.mirror.Mirror.{Mirror}}
 use Rattle.plant_types.specs.declared.fault.Fault.{Fault}
 
 -- a question changes nothing: books and copies hold the same content, the keeper's premise held before, and answers

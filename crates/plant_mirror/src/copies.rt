@@ -1,9 +1,8 @@
-ghost use Rattle.std.specs.Map.{lookup, lookup_entry};
-ghost use Rattle.std.specs.Prelude.{◌≡◌, ◌≤◌, ◌+◌, [], flat_map, IfOk, IfSome, Some, option_copied};
-ghost use Rattle.plant_mirror.specs.Copies as copies;
+ghost use Rattle.std.specs.{Map.{lookup, lookup_entry}, Prelude.{◌≡◌, ◌≤◌, ◌+◌, [], flat_map, IfOk, IfSome, Some, option_copied}};
+ghost use Rattle.plant_books.specs.Contents.{shelves_there};
 ghost use Rattle.plant_mirror.specs.Copies.{AreCopies, There, DiffersAt, StayCopies, StayCopiesWith};
-ghost use Rattle.plant_types.specs.Names.{same_name};
-ghost use Rattle.plant_types.specs.Results.{OnlyMemory};
+ghost use Rattle.plant_types.specs.{Names.{same_name}, Results.{OnlyMemory}};
+ghost use Rattle.plant_mirror.specs.Copies as copies;
 
 use crate::at_hand::AtHand;
 use lru::LruCache;
@@ -70,7 +69,7 @@ impl Copies {
     ) -> Result<Option<List<MineRow>>, Fault>
         ensures found { (there : There) → AreCopies there self.now.units.entries
             → IfOk result (λ found. IfSome found (λ mine. mine
-            ≡ flat_map (λ u. copies.shelves_there u (there u)) units.now)) }
+            ≡ flat_map (λ u. shelves_there u (there u)) units.now)) }
         ensures memory { OnlyMemory result }
     {
         let mut mine = List::new(alloc);

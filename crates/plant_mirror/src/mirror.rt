@@ -1,13 +1,9 @@
-ghost use Rattle.std.specs.FinMap as fin;
-ghost use Rattle.std.specs.List.{list_any};
-ghost use Rattle.std.specs.Prelude.{◌≡◌, [], IfErr, IfOk, IfSome, Some, option_map};
-ghost use Rattle.plant_books.specs.Books.{CountsBy, KeepsOnErr, Makes, WasHonest};
-ghost use Rattle.plant_books.specs.Contents.{Content, codes_held, part_in};
-ghost use Rattle.plant_mirror.specs.Copies.{IsMirrored, seen};
-ghost use Rattle.plant_mirror.specs.Leaves.{Leaves, AnswersOf, Mirrors};
+ghost use Rattle.std.specs.{List.{list_any}, Prelude.{◌≡◌, [], IfErr, IfOk, IfSome, Some, option_map}};
+ghost use Rattle.plant_books.specs.{Books.{CountsBy, KeepsOnErr, Makes, WasHonest}, Contents.{Content, codes_held, part_in}};
+ghost use Rattle.plant_mirror.specs.{Copies.{IsMirrored, seen}, Leaves.{Leaves, AnswersOf, Mirrors}};
 ghost use Rattle.plant_model.specs.Worlds.{unit_named};
-ghost use Rattle.plant_types.specs.Names.{same_name};
-ghost use Rattle.plant_types.specs.Results.{OnlyMemory};
+ghost use Rattle.plant_types.specs.{Names.{same_name}, Results.{OnlyMemory}};
+ghost use Rattle.std.specs.FinMap as fin;
 
 use crate::at_hand::AtHand;
 use crate::copies::Copies;

@@ -1,56 +1,26 @@
 -- Imports of the same rows leave the same rows.
-use Rattle.plant_import.proofs.public.Placed.{there}
-use Rattle.plant_model.proofs.public.Base.{x}
-use Rattle.plant_model.specs.Changes.{limit_revision}
-use Rattle.plant_model.specs.Parts.{none}
-use Rattle.plant_import.proofs.public.Counted.{fresh_count}
-use Rattle.plant_model.specs.declared.reply.Full.TheVariants.{Events as TooManyEvents}
-use Rattle.plant_alarm.specs.declared.event.Event.{Event}
-use Rattle.plant_floods.specs.Activations.{of_alarm}
-use Rattle.plant_import.proofs.public.FileLaws.{Within, all_from, all_member, and_parts, back_within, both_ways, fit_within, fresh_alike, front_within, kept_fresh, member, no_fault, no_more, or_left, or_right, passing-append, same_more, same_number_new, within_both}
-use Rattle.plant_import.specs.Files.{SameMembers, are_known, is_fit}
-use Rattle.plant_import.specs.Merging.{first_fault, fresh, is_new, same_event}
-use Rattle.plant_import.specs.declared.bad_file.BadFile.{BadFile}
-use Rattle.plant_model.proofs.public.EventLaws.{events_brought, events_in_order, found_event, now, tag_registered}
-use Rattle.plant_model.proofs.EventLists.{IsOf, distinct_rising, of_both, of_find, of_same, one_said, rises}
-use Rattle.plant_model.proofs.public.HistoryLaws.{tags_of_alarms}
-use Rattle.plant_model.proofs.public.LegalLaws.{followed}
-use Rattle.plant_model.specs.Alarms.{latching, limit}
-use Rattle.plant_import.specs.Numbers.{has_number, new_numbers}
-use Rattle.plant_model.specs.Events.{events}
-use Rattle.plant_model.specs.Facts.{facts}
-use Rattle.plant_model.specs.Grants.{held}
+use Rattle.std.specs.{Cmp.{eq_by_cmp_equiv}, List.{list_all, list_any}}
+use Rattle.std.proofs.Common.{ap, append-nil, append_assoc, arith, length-append, refl, subst, sym, true, ◌++◌, ◌+◌, ◌∙◌, ◌≡◌, ◌≤◌, find, nat_cmp, Bool, Err, List, None, Ok, Option, Some, [], false, filter_map, is_some, length, nat_le, nat_lt, not, option_map, unwrap_or, ℕ, ◌&&◌, ◌||◌, ◌∷◌}
+use Rattle.std.proofs.lemmas.{Bool.{not_from_true, or_right, or_left, and_parts, Decides.{nat_tests}}, List.Folds.{list_any-append}}
+use Rattle.plant_import.specs.{Files.{SameMembers, are_known, is_fit}, Merging.{first_fault, fresh, is_new, same_event}}
+use Rattle.plant_import.{specs.{Numbers.{has_number, new_numbers}, declared.bad_file.BadFile.{BadFile}}, proofs.public.Counted.{fresh_count}}
+use Rattle.plant_import.proofs.public.FileLaws.{Within, all_from, all_member, back_within, both_ways, fit_within, fresh_alike, front_within, kept_fresh, member, no_fault, no_more, passing-append, same_more, same_number_new, within_both}
+use Rattle.plant_model.specs.{Alarms.{latching, limit}, Changes.{limit_revision}, Events.{events}, Facts.{facts}, Grants.{held}}
 use Rattle.plant_model.specs.Histories.{last_moment}
 use Rattle.plant_model.specs.ImportLaw.{AreAccepted, AreImportsInto, ImportsAgree, but_last, new_counted, new_in, rows_imported, through}
-use Rattle.plant_model.specs.Legality.{IsLegal}
-use Rattle.plant_model.specs.Refusals.{fault_entries, first_refusal, holds_some, tags_of}
-use Rattle.plant_model.specs.Replies.{import_reply}
-use Rattle.plant_model.specs.RowFacts.{event_number}
-use Rattle.plant_model.specs.Rows.{alarm_as, rows_of}
-use Rattle.plant_model.specs.Service.{outage}
-use Rattle.plant_model.specs.Verdicts.{changes_history, refused_or, verdict}
-use Rattle.plant_model.specs.declared.call.Call.{Call}
-use Rattle.plant_model.specs.declared.call.Request.{Request}
-use Rattle.plant_model.specs.declared.call.Request.TheVariants.{Import}
-use Rattle.plant_model.specs.declared.reply.Refused.{Refused}
-use Rattle.plant_model.specs.declared.reply.Refused.TheVariants.{MomentBehind, NotGranted, RoleLacking, UnitFull}
-use Rattle.plant_model.specs.declared.reply.Reply.{Reply}
+use Rattle.plant_model.specs.{Legality.{IsLegal}, Parts.{none}, Refusals.{fault_entries, first_refusal, holds_some, tags_of}, Replies.{import_reply}}
+use Rattle.plant_model.specs.{RowFacts.{event_number}, Rows.{alarm_as, rows_of}, Service.{outage}, Verdicts.{changes_history, refused_or, verdict}}
+use Rattle.plant_model.specs.declared.{call.{Call.{Call}, Request.{Request, TheVariants.{Import}}}, reply.Full.TheVariants.{Events as TooManyEvents}}
+use Rattle.plant_model.specs.declared.reply.{Refused.{Refused, TheVariants.{MomentBehind, NotGranted, RoleLacking, UnitFull}}, Reply.{Reply}}
 use Rattle.plant_model.specs.declared.rows.UnitRows.{UnitRows}
-use Rattle.plant_types.proofs.public.Orders.{number_total, same_numbers}
-use Rattle.plant_types.proofs.public.KeyedRowLaws.{same_rows}
-use Rattle.plant_types.specs.Limits.{max_events}
-use Rattle.plant_types.specs.Names.{Name, name_cmp, same_name}
-use Rattle.plant_types.specs.Options.{or_else}
-use Rattle.plant_types.specs.Roles.{Pair}
-use Rattle.plant_types.specs.KeyedRows.{IsInOrder, in_order}
-use Rattle.plant_types.specs.declared.role.Role.TheVariants.{Approver, Engineer, Maintainer, Operator, Steward, Viewer}
-use Rattle.std.proofs.Common.{ap, append-nil, append_assoc, arith, length-append, refl, subst, sym, true, ◌++◌, ◌+◌, ◌∙◌, ◌≡◌, ◌≤◌}
-use Rattle.std.proofs.lemmas.Bool.Decides.{nat_tests}
-use Rattle.std.proofs.lemmas.List.Folds.{list_any-append}
-use Rattle.std.specs.Cmp.{eq_by_cmp_equiv}
-use Rattle.std.specs.List.{find, list_all, list_any}
-use Rattle.std.specs.Ordering.{nat_cmp}
-use Rattle.std.specs.Prelude.{Bool, Err, List, None, Ok, Option, Some, [], false, filter_map, is_some, length, nat_le, nat_lt, not, option_map, unwrap_or, ℕ, ◌&&◌, ◌||◌, ◌∷◌}
+use Rattle.plant_model.proofs.EventLists.{IsOf, distinct_rising, of_both, of_find, of_same, one_said, rises}
+use Rattle.plant_model.proofs.public.{EventLaws.{events_brought, events_in_order, found_event, now, tag_registered}, HistoryLaws.{tags_of_alarms}}
+use Rattle.plant_model.proofs.public.LegalLaws.{followed}
+use Rattle.plant_alarm.specs.declared.event.Event.{Event}
+use Rattle.plant_floods.specs.Activations.{of_alarm}
+use Rattle.plant_types.specs.{KeyedRows.{IsInOrder, in_order}, Limits.{max_events}, Names.{Name, name_cmp, same_name}, Options.{or_else}}
+use Rattle.plant_types.specs.{Roles.{Pair}, declared.role.Role.TheVariants.{Approver, Engineer, Maintainer, Operator, Steward, Viewer}}
+use Rattle.plant_types.proofs.public.{KeyedRowLaws.{same_rows}, Orders.{number_total, same_numbers}}
 
 -- the members of the events after an import
 module _ (h : List Call) (p : Name) (t : ℕ) (u : Name) (rows : List Event) (fit : is_fit (events h ++ rows) ≡ true) where
@@ -108,16 +78,7 @@ module _ (h : List Call) (u : Name) (all : List Event) (fit : is_fit all ≡ tru
 
   -- what an import that meets no refusal is answered
   no_refusal : (a b c d : Bool) (x y z v : Refused) (fault : Option BadFile) (r : Reply) → a ≡ false → b ≡ false → c ≡ false → d ≡ false → fault ≡ None → refused_or (first_refusal ((a, x) ∷ (b, y) ∷ (c, z) ∷ (d, v) ∷ fault_entries fault)) r ≡ Ok r
-  no_refusal false false false false x y z v None r ha hb hc hd none = refl
-  no_refusal true b c d x y z v fault r ha hb hc hd none = cc
-  no_refusal false true c d x y z v fault r ha hb hc hd none = cc
-  no_refusal false false true d x y z v fault r ha hb hc hd none = cc
-  no_refusal false false false true x y z v fault r ha hb hc hd none = cc
-  no_refusal false false false false x y z v (Some fault) r ha hb hc hd none = cc
-
-  turned_off : (b : Bool) → b ≡ true → not b ≡ false
-  turned_off true e = refl
-  turned_off false e = cc
+  no_refusal a b c d x y z v fault r ha hb hc hd none = λ i. refused_or (first_refusal ((ha i, x) ∷ (hb i, y) ∷ (hc i, z) ∷ (hd i, v) ∷ fault_entries (none i))) r
 
   at_least : (m n : ℕ) → m ≤ n → nat_lt n m ≡ false
   at_least m n le = grind (arith, nat_tests)
@@ -136,7 +97,7 @@ module _ (h : List Call) (u : Name) (all : List Event) (fit : is_fit all ≡ tru
         let role : held g t (p, Operator) ≡ true = reached.held_still t (p, Operator) ∙ operator in
         no_refusal (not (holds_some (facts g) t p)) (not (held g t (p, Operator))) (nat_lt t (last_moment g)) (nat_lt max_events (length (events g) + length (new_numbers (events g) rows)))
         NotGranted (RoleLacking Operator) (MomentBehind (last_moment g)) (UnitFull TooManyEvents) (first_fault (tags_of (facts g)) t 2 (events g) rows) (import_reply (events g) rows)
-        (turned_off (holds_some (facts g) t p) (some_role g t p role)) (turned_off (held g t (p, Operator)) role) (at_least (last_moment g) t behind)
+        (not_from_true (holds_some (facts g) t p) (some_role g t p role)) (not_from_true (held g t (p, Operator)) role) (at_least (last_moment g) t behind)
         (ap (λ n. nat_lt max_events (length (events g) + n)) (sym (fresh_count (tags_of (facts g)) t 2 (events g) rows clean)) ∙ at_least (length (events g) + length (fresh (events g) rows)) max_events room) clean
 
     accepted : changes_history (verdict g next_one) next_one ≡ true

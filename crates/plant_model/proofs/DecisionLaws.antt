@@ -1,49 +1,26 @@
 -- The changes of proposals and decisions turn the rows of the history into those of the history with the call.
-use Rattle.plant_import.proofs.public.Placed.{there}
-use Rattle.plant_model.proofs.public.ChangeLaws.{rows-same, with_request}
-use Rattle.plant_types.proofs.public.Orders.{same_names, same_numbers}
-use Rattle.plant_types.proofs.public.KeyedRowLaws.{put-rows, tied}
-use Rattle.plant_model.proofs.public.Base.{base, x}
-use Rattle.plant_model.proofs.public.ChangeLaws.{Turns, put_row-map, said_anew}
-use Rattle.plant_model.proofs.public.HistoryLaws.{alarm_of, alarms_told, change_with, changes_told, numbers_of_changes, record_with, records_told, tag_of_record, tags_of_alarms, tags_of_records}
-use Rattle.plant_model.proofs.MatrixLaws.{band_keys, bands_anew, bands_told, cell_keys, cells_anew, cells_told, no_next}
-use Rattle.plant_model.proofs.public.PutLaws.{put_bands, put_cells, put_records, puts, puts-rows, said, said-rows}
+use Rattle.std.proofs.Common.{ap, cond, refl, sym, ◌∙◌, option_to_list, nat_cmp, Bool, List, None, Option, Some, [], false, filter_map, if◌then◌else◌, is_some, map, max, option_map, true, unwrap_or, ℕ, ◌+◌, ◌∷◌, ◌≡◌}
 use Rattle.plant_model.specs.Alarms.{latching, limit, quota}
 use Rattle.plant_model.specs.Changes.{Decision, Draft, change, change_as, decision, draft, kind_of_change, limit_in, limit_revision, matrix, matrix_in, matrix_revision, no_matrix, proposals, record_as, record_of, record_revision, said_of_matrix, sheet, sheet_in}
-use Rattle.plant_model.specs.Events.{events_of}
-use Rattle.plant_model.specs.Facts.{facts}
-use Rattle.plant_model.specs.Histories.{latest, same_number}
+use Rattle.plant_model.specs.{Events.{events_of}, Facts.{facts}, Histories.{latest, same_number}}
 use Rattle.plant_model.specs.Matrices.{band_at, band_cmp, band_places, cell_of, cell_places}
 use Rattle.plant_model.specs.RowChanges.{approval_changes, approved_row, cells_of, changed_by, decided_as, for_change, put, rerated}
 use Rattle.plant_model.specs.RowFacts.{band_key, change_number, record_tag}
 use Rattle.plant_model.specs.Rows.{alarm_as, alarm_row, band_row, band_rows, cell_row, change_entry, change_rows, changes_of, record_entry, record_rows, records_of, rows_of, unit_row, with_limit}
-use Rattle.plant_model.specs.Service.{outage}
-use Rattle.plant_model.specs.declared.call.Call.{Call}
-use Rattle.plant_model.specs.declared.call.Request.{Request}
-use Rattle.plant_model.specs.declared.call.Request.TheVariants.{Approve, Propose, Reject, WithdrawChange}
-use Rattle.plant_model.specs.declared.reply.ChangeRow.{ChangeRow}
-use Rattle.plant_model.specs.declared.reply.RecordRow.{RecordRow}
-use Rattle.plant_model.specs.declared.rows.AlarmRow.{AlarmRow}
-use Rattle.plant_model.specs.declared.rows.BandRow.{BandRow}
-use Rattle.plant_model.specs.declared.rows.CellRow.{CellRow}
-use Rattle.plant_model.specs.declared.rows.RowEdit.TheVariants.{Put}
-use Rattle.plant_model.specs.declared.rows.Row.TheVariants.{Alarm as AlarmPut, Change as ChangePut, Unit as UnitPut}
-use Rattle.plant_model.specs.declared.rows.UnitRow.{UnitRow}
-use Rattle.plant_model.specs.declared.rows.UnitRows.{UnitRows}
-use Rattle.plant_ration.specs.Grid.{Grid}
-use Rattle.plant_ration.specs.Matrix.{priority_of}
-use Rattle.plant_ration.specs.declared.cell.Cell.TheVariants.{N}
-use Rattle.plant_ration.specs.declared.change.ChangeKind.{ChangeKind}
+use Rattle.plant_model.specs.{Service.{outage}, declared.call.{Call.{Call}, Request.{Request}}}
+use Rattle.plant_model.specs.declared.{call.Request.TheVariants.{Approve, Propose, Reject, WithdrawChange}, reply.ChangeRow.{ChangeRow}}
+use Rattle.plant_model.specs.declared.{reply.RecordRow.{RecordRow}, rows.{AlarmRow.{AlarmRow}, BandRow.{BandRow}, CellRow.{CellRow}}}
+use Rattle.plant_model.specs.declared.rows.{Row.TheVariants.{Alarm as AlarmPut, Change as ChangePut, Unit as UnitPut}, RowEdit.TheVariants.{Put}}
+use Rattle.plant_model.specs.declared.rows.{UnitRow.{UnitRow}, UnitRows.{UnitRows}}
+use Rattle.plant_model.proofs.MatrixLaws.{band_keys, bands_anew, bands_told, cell_keys, cells_anew, cells_told, no_next}
+use Rattle.plant_model.proofs.public.ChangeLaws.{rows-same, with_request, Turns, put_row-map, said_anew}
+use Rattle.plant_model.proofs.public.HistoryLaws.{alarm_of, alarms_told, change_with, changes_told, numbers_of_changes, record_with, records_told, tag_of_record, tags_of_alarms, tags_of_records}
+use Rattle.plant_model.proofs.public.PutLaws.{put_bands, put_cells, put_records, puts, puts-rows, said, said-rows}
+use Rattle.plant_types.specs.{KeyedRows.{put_row}, Names.{Name, name_cmp, same_name}, Options.{or_else, when}}
+use Rattle.plant_types.proofs.public.{KeyedRowLaws.{put-rows, tied}, Orders.{same_names, same_numbers}}
+use Rattle.plant_ration.specs.{Grid.{Grid}, Matrix.{priority_of}, declared.{cell.Cell.TheVariants.{N}, change.ChangeKind.{ChangeKind}}}
 use Rattle.plant_ration.specs.declared.change.ChangeKind.TheVariants.{Limit, Matrix, Rationale}
-use Rattle.plant_ration.specs.declared.change.ChangeState.TheVariants.{Approved, Rejected, Withdrawn}
-use Rattle.plant_ration.specs.declared.change.Sheet.{Sheet}
-use Rattle.plant_types.specs.Names.{Name, name_cmp, same_name}
-use Rattle.plant_types.specs.Options.{or_else, when}
-use Rattle.plant_types.specs.KeyedRows.{put_row}
-use Rattle.std.proofs.Common.{ap, cond, refl, sym, ◌∙◌}
-use Rattle.std.specs.Option.{option_to_list}
-use Rattle.std.specs.Ordering.{nat_cmp}
-use Rattle.std.specs.Prelude.{Bool, List, None, Option, Some, [], false, filter_map, if◌then◌else◌, is_some, map, max, option_map, true, unwrap_or, ℕ, ◌+◌, ◌∷◌, ◌≡◌}
+use Rattle.plant_ration.specs.declared.change.{ChangeState.TheVariants.{Approved, Rejected, Withdrawn}, Sheet.{Sheet}}
 
 when_else : {A : Type 0} (b : Bool) (v : A) (rest : Option A) → or_else (when b v) rest ≡ cond b (Some v) rest
 when_else true v rest = refl

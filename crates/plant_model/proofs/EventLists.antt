@@ -1,29 +1,17 @@
 -- Events by their numbers: what a list of events has at each number, and what a file without a fault adds to those that are kept.
+use Rattle.std.specs.{Cmp.{ranked}, FinMap.Entries.{below_all, is_sorted}, List.{cons_option, list_any}}
+use Rattle.std.proofs.Common.{Equal, Greater, Less, T, ap, arith, cond, refl, subst, sym, true, ◌++◌, ◌+◌, ◌<◌, ◌∙◌, ◌≡◌, find, is_lt, nat_cmp, Bool, List, None, Option, Some, [], false, filter_map, map, nat_lt, not, option_and_then, ℕ, ◌&&◌, ◌==◌, ◌||◌, ◌∷◌, Ordering}
+use Rattle.std.proofs.lemmas.{Bool.{eq-eqb, ltb-false, or_parts, false_from_ne_true, or_right, or_left}, List.Folds.{list_any-append}}
 use Rattle.plant_alarm.specs.declared.event.Event.{Event}
 use Rattle.plant_floods.specs.Activations.{of_alarm}
-use Rattle.plant_import.proofs.public.FileLaws.{AreDistinct, all_member, clash_of, file_fits, first_member, fit_parts, fit_within, fits_in, kept_fresh, member, no_first, none_member, none_within, or_left, or_right}
-use Rattle.plant_import.proofs.public.Nearest.{order_above, same_any, same_is}
-use Rattle.plant_import.proofs.public.Risings.{Before, Each, Rising, is_rising}
-use Rattle.plant_import.specs.Fields.{first_cause}
-use Rattle.plant_import.specs.Files.{SameMembers, are_known, is_fit}
-use Rattle.plant_import.specs.Merging.{IsRising, clashes, first_fault, fresh, merge_fault, out_of_order, same_event}
+use Rattle.plant_import.specs.{Fields.{first_cause}, Files.{SameMembers, are_known, is_fit}}
+use Rattle.plant_import.specs.{Merging.{IsRising, clashes, first_fault, fresh, merge_fault, out_of_order, same_event}, Numbers.{has_number}}
 use Rattle.plant_import.specs.declared.bad_file.Cause.TheVariants.{MomentAhead, MomentOutOfOrder, SequenceClash, TagUnknown}
-use Rattle.plant_model.proofs.public.FactLaws.{not_true, same_number_of}
-use Rattle.plant_model.proofs.public.PutLaws.{said}
-use Rattle.plant_import.specs.Numbers.{has_number}
-use Rattle.plant_model.specs.RowFacts.{event_number}
-use Rattle.plant_types.specs.Names.{Name, same_name}
-use Rattle.plant_types.specs.Options.{or_else, when}
-use Rattle.plant_types.specs.KeyedRows.{IsInOrder}
-use Rattle.std.proofs.Common.{Equal, Greater, Less, T, ap, arith, cond, refl, subst, sym, true, ◌++◌, ◌+◌, ◌<◌, ◌∙◌, ◌≡◌}
-use Rattle.std.proofs.lemmas.Bool.{eq-eqb, ltb-false}
-use Rattle.std.proofs.lemmas.List.Folds.{list_any-append}
-use Rattle.std.specs.Cmp.{ranked}
-use Rattle.std.specs.FinMap.Entries.{below_all, is_sorted}
-use Rattle.std.specs.List.{cons_option, find, list_any}
-use Rattle.std.specs.Ordering.{is_lt, nat_cmp}
-use Rattle.std.specs.Prelude.{Bool, List, None, Option, Some, [], false, filter_map, map, nat_lt, not, option_and_then, ℕ, ◌&&◌, ◌==◌, ◌||◌, ◌∷◌}
-use Rattle.std.specs.declared.cmp.Ordering.{Ordering}
+use Rattle.plant_import.proofs.public.Counted.{no_first}
+use Rattle.plant_import.proofs.public.FileLaws.{AreDistinct, all_member, clash_of, file_fits, first_member, fit_parts, fit_within, fits_in, kept_fresh, member, none_member, none_within}
+use Rattle.plant_import.proofs.public.{Nearest.{order_above, same_any, same_is}, Risings.{Before, Each, Rising, is_rising}}
+use Rattle.plant_model.{specs.RowFacts.{event_number}, proofs.public.{FactLaws.{same_number_of}, PutLaws.{said}}}
+use Rattle.plant_types.specs.{KeyedRows.{IsInOrder}, Names.{Name, same_name}, Options.{or_else, when}}
 
 -- what a list has at a number: one of its events, or none
 abbrev pub IsOf : List Event → ℕ → Option Event → Type 0
@@ -152,15 +140,11 @@ less_of m n Less e h = ranked m n Less e
 less_of m n Equal e h = absurd h
 less_of m n Greater e h = absurd h
 
-two_false : (a b : Bool) → (a || b) ≡ false → (a ≡ false) × (b ≡ false)
-two_false true b e = cc
-two_false false b e = (refl, e)
-
 below_each : (e : Event) (es : List Event) → T (below_all nat_cmp e.seq (map (λ x. (event_number x, x)) es)) → list_any (out_of_order e) es ≡ false → Each (Before e) es
 below_each e [] below order = tt
 below_each e (x ∷ es) below order =
     let b = two_true (is_lt (nat_cmp e.seq x.seq)) (below_all nat_cmp e.seq (map (λ x. (event_number x, x)) es)) below in
-    let o = two_false (out_of_order e x) (list_any (out_of_order e) es) order in
+    let o = or_parts (out_of_order e x) (list_any (out_of_order e) es) order in
     let less : e.seq < x.seq = less_of e.seq x.seq (nat_cmp e.seq x.seq) refl b.0 in
     ((less, ltb-false x.moment e.moment (sym (order_above e x less) ∙ o.0)), below_each e es b.1 o.1)
 
@@ -169,7 +153,7 @@ rises [] fit order = tt
 rises (e ∷ es) fit order =
     let o = two_true (below_all nat_cmp e.seq (map (λ x. (event_number x, x)) es)) (is_sorted nat_cmp (map (λ x. (event_number x, x)) es)) order in
     let here = fit_parts (e ∷ es) e (all_member (fits_in (e ∷ es)) (e ∷ es) e fit (first_member e es)) in (
-      below_each e es o.0 (two_false (out_of_order e e) (list_any (out_of_order e) es) here.1).1,
+      below_each e es o.0 (or_parts (out_of_order e e) (list_any (out_of_order e) es) here.1).1,
       rises es (fit_within (e ∷ es) es fit (λ q there. or_right (same_event q e) (member q es) there)) o.1,
     )
 
@@ -180,7 +164,7 @@ rising es fit order = is_rising es (rises es fit order)
 not_among : (e : Event) (es : List Event) → Each (Before e) es → member e es ≡ false
 not_among e [] h = refl
 not_among e (x ∷ es) h =
-    let other : same_event e x ≡ false = not_true (same_event e x) (λ is. let same : e.seq ≡ x.seq = ap event_number (same_is e x is) in let less = h.0.0 in omega (arith, same, less)) in
+    let other : same_event e x ≡ false = false_from_ne_true (same_event e x) (λ is. let same : e.seq ≡ x.seq = ap event_number (same_is e x is) in let less = h.0.0 in omega (arith, same, less)) in
     let rest = not_among e es h.1 in
     λ i. other i || rest i
 

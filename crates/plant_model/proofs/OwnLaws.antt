@@ -1,17 +1,12 @@
 -- Each unit's history is its own: opened by the administrator, with values of their sets.
-use Rattle.std.proofs.Common.{List, None, Option, Some, [], cond, false, not, refl, subst, sym, true, Bool, ◌∙◌, ◌∷◌, ◌≡◌}
-use Rattle.std.specs.Prelude.{if◌then◌else◌, is_some, unwrap_or}
 use Rattle.std.specs.FinMap.{get, get-empty, get-insert}
-use Rattle.plant_model.proofs.public.LegalLaws.{first_entry, later_entry}
-use Rattle.plant_model.proofs.public.ServiceLaws.{both_true}
-use Rattle.plant_model.proofs.public.WorldLaws.{opening_changes}
+use Rattle.std.proofs.Common.{List, None, Option, Some, [], cond, false, not, refl, subst, sym, true, Bool, ◌∙◌, ◌∷◌, ◌≡◌, if◌then◌else◌, is_some, unwrap_or}
+use Rattle.std.proofs.lemmas.Bool.{and_parts}
 use Rattle.plant_model.specs.Openings.{HasItsHistories, HistoriesAreOwn, IsEntryOf, IsHistoryOf, has_values}
 use Rattle.plant_model.specs.Verdicts.{changes_history, is_opening, verdict}
 use Rattle.plant_model.specs.Worlds.{World, answer_at, by_admin, history, next_at, opening, unit_answer, unit_named, with_call}
-use Rattle.plant_model.specs.declared.call.Call.{Call}
-use Rattle.plant_types.proofs.public.Orders.{name_total, same_names}
-use Rattle.plant_types.proofs.public.KeyedRowLaws.{tied}
-use Rattle.plant_types.specs.Names.{Name, name_cmp, same_name}
+use Rattle.plant_model.{specs.declared.call.Call.{Call}, proofs.public.{LegalLaws.{first_entry, later_entry}, WorldLaws.{opening_changes}}}
+use Rattle.plant_types.{specs.Names.{Name, name_cmp, same_name}, proofs.public.{KeyedRowLaws.{tied}, Orders.{name_total, same_names}}}
 
 follow : (admin u : Name) (h : List Call) (c : Call) → IsHistoryOf admin u h → IsEntryOf u c → not (is_opening c.request) ≡ true → IsHistoryOf admin u (c ∷ h)
 follow admin u [] c own entry plain = absurd own
@@ -27,7 +22,7 @@ module _ (w : World) (c : Call) (u : Name) (own : HasItsHistories w) (entry : Is
   entered None is changing =
       let opens : is_opening c.request ≡ true = first_entry (by_admin w c) false (is_opening c.request) c refl changing in
       (entry, opens, same_names c.person w.admin (tied _ true (opened_by (by_admin w c) false (is_opening c.request) c refl opens changing) refl))
-  entered (Some h) is changing = follow w.admin u h c (own u h is) entry (both_true _ _ (later_entry (by_admin w c) (is_opening c.request) h c refl changing)).0
+  entered (Some h) is changing = follow w.admin u h c (own u h is) entry (and_parts _ _ (later_entry (by_admin w c) (is_opening c.request) h c refl changing)).0
 
   at_code : (q : Name) (h : List Call) (b : Bool) → same_name q u ≡ b → IsHistoryOf w.admin u (c ∷ history w u) → cond b (Some (c ∷ history w u)) (get w.units q) ≡ Some h → IsHistoryOf w.admin q h
   at_code q h true same now is =

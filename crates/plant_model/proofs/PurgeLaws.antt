@@ -1,18 +1,13 @@
 -- The calls of others on units in which a person never had a pair can go.
-use Rattle.std.proofs.Common.{◌≡◌, ℕ, List, [], ◌∷◌, Some, None, refl, sym, ap, subst, ◌∙◌, Bool, true, false, cond}
-use Rattle.std.specs.Prelude.{◌||◌, if◌then◌else◌, Option, is_some, unwrap_or, option_map}
 use Rattle.std.specs.FinMap.{get, get-insert, get-empty}
-use Rattle.plant_model.specs.declared.call.Call.{Call}
-use Rattle.plant_types.specs.Names.{Name, name_cmp, same_name}
-use Rattle.plant_types.specs.Options.{when}
-use Rattle.plant_types.specs.Roles.{all_roles}
-use Rattle.plant_model.specs.Grants.{is_before, standing, stands, held, holds_any}
-use Rattle.plant_model.specs.Verdicts.{verdict, changes_history}
-use Rattle.plant_model.specs.Worlds.{World, history, unit_named, unit_seen, is_taken, answer_at, answer, with_call, next_at, next, empty_world}
+use Rattle.std.proofs.Common.{◌≡◌, ℕ, List, [], ◌∷◌, Some, None, refl, sym, ap, subst, ◌∙◌, Bool, true, false, cond, ◌||◌, if◌then◌else◌, Option, is_some, unwrap_or, option_map}
+use Rattle.std.proofs.lemmas.Bool.{false_from_ne_true}
+use Rattle.plant_model.specs.{Grants.{is_before, standing, stands, held, holds_any}, Laws.{OthersCallsCanGo}, Verdicts.{verdict, changes_history}}
 use Rattle.plant_model.specs.Views.{has_pair, names_in, purge, answers_to, IsInside, IsAlwaysInside}
-use Rattle.plant_model.specs.Laws.{OthersCallsCanGo}
-use Rattle.plant_types.proofs.public.Orders.{name_total}
-use Rattle.plant_model.proofs.public.WorldLaws.{same_of, any-mono, not_true, clash, seen, own_histories, history-with_call, is_taken-with_call, taken_by_other, Alike, own_answer, same_answer}
+use Rattle.plant_model.specs.Worlds.{World, history, unit_named, unit_seen, is_taken, answer_at, answer, with_call, next_at, next, empty_world}
+use Rattle.plant_model.specs.declared.call.Call.{Call}
+use Rattle.plant_model.proofs.public.WorldLaws.{same_of, any-mono, clash, seen, own_histories, history-with_call, is_taken-with_call, taken_by_other, Alike, own_answer, same_answer}
+use Rattle.plant_types.{specs.{Names.{Name, name_cmp, same_name}, Options.{when}, Roles.{all_roles}}, proofs.public.Orders.{name_total}}
 
 -- what is held stands
 held_stands : (t : ℕ) (o : Option (Option ℕ)) → unwrap_or (option_map (is_before t) o) false ≡ true → is_some o ≡ true
@@ -21,7 +16,7 @@ held_stands t (Some x) e = refl
 
 -- who has no pair holds no role
 pub no_pair : (h : List Call) (t : ℕ) (p : Name) → has_pair h p ≡ false → holds_any h t p ≡ false
-no_pair h t p none = not_true _ (λ e. clash (has_pair h p) (any-mono (λ r. held h t (p, r)) (λ r. stands h (p, r)) (λ r. held_stands t (standing h (p, r))) all_roles e) none)
+no_pair h t p none = false_from_ne_true _ (λ e. clash (has_pair h p) (any-mono (λ r. held h t (p, r)) (λ r. stands h (p, r)) (λ r. held_stands t (standing h (p, r))) all_roles e) none)
 
 -- the same in the units, and no pair of the person outside them
 record Purged (p : Name) (units : Name → Bool) (w v : World) : Type 0 where

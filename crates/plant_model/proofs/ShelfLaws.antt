@@ -1,25 +1,12 @@
 -- The shelf that a verdict sees is the one that the alarm's events leave.
-use Rattle.std.proofs.Common.{List, None, Option, Some, ap, arith, refl, sym, ◌∙◌, ◌≡◌, Bool}
-use Rattle.std.proofs.Common.{get_or, inl, inr, suc}
-use Rattle.std.proofs.lemmas.Bool.Decides.{leb_tells}
-use Rattle.std.proofs.lemmas.List.Kept.{IsNonDecreasingBy-filter}
 use Rattle.std.specs.List.Sorted.{IsNonDecreasingBy}
-use Rattle.std.specs.Prelude.{option_and_then, option_map, unwrap_or}
-use Rattle.plant_alarm.proofs.public.Returns.{shelf_by_events}
-use Rattle.plant_alarm.specs.States.{IsInTime, last_return}
-use Rattle.plant_alarm.specs.declared.event.Event.{Event}
+use Rattle.std.proofs.Common.{List, None, Option, Some, ap, arith, refl, sym, ◌∙◌, ◌≡◌, Bool, get_or, inl, inr, suc, option_and_then, option_map, unwrap_or}
+use Rattle.std.proofs.lemmas.{Bool.Decides.{leb_tells}, List.Kept.{IsNonDecreasingBy-filter}}
+use Rattle.plant_alarm.{specs.{States.{IsInTime, last_return}, declared.event.Event.{Event}}, proofs.public.Returns.{shelf_by_events}}
 use Rattle.plant_import.specs.Merging.{IsRising}
-use Rattle.plant_model.proofs.public.EventLaws.{events_rise, unspoken}
-use Rattle.plant_model.specs.Alarms.{latching, limit}
-use Rattle.plant_model.specs.Changes.{limit_revision}
-use Rattle.plant_model.specs.Events.{events, events_of}
-use Rattle.plant_model.specs.Facts.{facts, returned}
-use Rattle.plant_model.specs.Laws.{ShelvesEndByReturns}
-use Rattle.plant_model.specs.Legality.{IsLegal}
-use Rattle.plant_model.specs.Rows.{alarm_as}
-use Rattle.plant_model.specs.Service.{outage}
-use Rattle.plant_model.specs.Shelves.{shelf, shelf_left}
-use Rattle.plant_model.specs.declared.call.Call.{Call}
+use Rattle.plant_model.specs.{Alarms.{latching, limit}, Changes.{limit_revision}, Events.{events, events_of}, Facts.{facts, returned}}
+use Rattle.plant_model.specs.{Laws.{ShelvesEndByReturns}, Legality.{IsLegal}, Rows.{alarm_as}, Service.{outage}, Shelves.{shelf, shelf_left}}
+use Rattle.plant_model.{specs.declared.call.Call.{Call}, proofs.public.EventLaws.{events_rise, unspoken}}
 use Rattle.plant_types.specs.Names.{Name, same_name}
 
 moments_rise : (es : List Event) → IsRising es → IsNonDecreasingBy (λ e. e.moment) es

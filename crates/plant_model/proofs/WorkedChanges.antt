@@ -1,28 +1,16 @@
 -- Worked examples: management of change, rationalisation records, and limits.
-use Rattle.plant_alarm.specs.declared.shelf.ShelfState.TheVariants.{OneShotShelved, Unshelved}
-use Rattle.plant_alarm.specs.declared.summary.AlarmState.TheVariants.{Normal}
-use Rattle.plant_model.proofs.public.Base.{IsAnswered, IsDone, abe, amy, ann, at, base, call, eve, grant, grid, lt, plain, pt, root, status, ste, u1, vic, x}
-use Rattle.plant_model.specs.Refusals.{holds_some}
-use Rattle.plant_model.specs.Rows.{rows_of}
-use Rattle.plant_model.specs.Verdicts.{verdict}
-use Rattle.plant_model.specs.declared.call.Call.{Call}
+use Rattle.std.proofs.Common.{refl, List, None, Ok, Option, Result, Some, [], codes, false, length, ℕ, ◌∷◌, ◌≡◌}
+use Rattle.plant_alarm.specs.declared.{shelf.ShelfState.TheVariants.{OneShotShelved, Unshelved}, summary.AlarmState.TheVariants.{Normal}}
+use Rattle.plant_model.specs.{Refusals.{holds_some}, Rows.{rows_of}, Verdicts.{verdict}, declared.call.Call.{Call}}
 use Rattle.plant_model.specs.declared.call.Request.TheVariants.{Alarms, Approve, ChangeOf, Grant, OneShotShelve, OpenUnit, Propose, RecordOf, Register, Reject, TimedShelve, WithdrawChange}
-use Rattle.plant_model.specs.declared.reply.AlarmLine.{AlarmLine}
-use Rattle.plant_model.specs.declared.reply.Refused.{Refused}
+use Rattle.plant_model.specs.declared.reply.{AlarmLine.{AlarmLine}, Refused.{Refused}}
 use Rattle.plant_model.specs.declared.reply.Refused.TheVariants.{BaseChanged, ChangeUnknown, NotAnAlarm, NotProposed, NotProposer, OutsideMatrix, RecordUnknown, RoleLacking, SamePerson, ShelvingTimeOutOfRange}
-use Rattle.plant_model.specs.declared.reply.Reply.{Reply}
-use Rattle.plant_model.specs.declared.reply.Reply.TheVariants.{Alarms as AlarmsOf, ChangeOf as ChangeReply, Number, RecordOf as RecordReply}
-use Rattle.plant_ration.specs.Grid.{Grid}
-use Rattle.plant_ration.specs.declared.cell.Cell.{Cell}
-use Rattle.plant_ration.specs.declared.cell.Cell.TheVariants.{N, P1, P2, P3, P4}
-use Rattle.plant_ration.specs.declared.change.ChangeKind.{ChangeKind}
-use Rattle.plant_ration.specs.declared.change.ChangeKind.TheVariants.{Limit, Matrix, Rationale}
-use Rattle.plant_ration.specs.declared.change.ChangeState.TheVariants.{Approved, Withdrawn}
+use Rattle.plant_model.specs.declared.reply.Reply.{Reply, TheVariants.{Alarms as AlarmsOf, ChangeOf as ChangeReply, Number, RecordOf as RecordReply}}
+use Rattle.plant_model.proofs.public.Base.{IsAnswered, IsDone, abe, amy, ann, at, base, call, eve, grant, grid, lt, plain, pt, root, status, ste, u1, vic, x}
+use Rattle.plant_ration.specs.{Grid.{Grid}, declared.{cell.Cell.{Cell, TheVariants.{N, P1, P2, P3, P4}}, change.ChangeKind.{ChangeKind}}}
+use Rattle.plant_ration.specs.declared.change.{ChangeKind.TheVariants.{Limit, Matrix, Rationale}, ChangeState.TheVariants.{Approved, Withdrawn}}
 use Rattle.plant_ration.specs.declared.change.Sheet.{Sheet}
-use Rattle.plant_types.specs.Names.{Name}
-use Rattle.plant_types.specs.declared.role.Role.TheVariants.{Approver, Engineer}
-use Rattle.std.proofs.Common.{refl}
-use Rattle.std.specs.Prelude.{List, None, Ok, Option, Result, Some, [], codes, false, length, ℕ, ◌∷◌, ◌≡◌}
+use Rattle.plant_types.specs.{Names.{Name}, declared.role.Role.TheVariants.{Approver, Engineer}}
 
 abbrev u2 : Name
 u2 = codes "U2"

@@ -1,20 +1,13 @@
 -- Worked examples: floods, and the lists of alarms after an import.
-use Rattle.plant_alarm.specs.declared.event.Event.{Event}
-use Rattle.plant_alarm.specs.declared.event.EventKind.TheVariants.{Act, Rtn}
+use Rattle.std.proofs.Common.{refl, suc, true, zero, ◌++◌, ◌+◌, ◌≡◌, List, None, Ok, [], false, ℕ, ◌∷◌}
+use Rattle.plant_alarm.specs.declared.event.{Event.{Event}, EventKind.TheVariants.{Act, Rtn}}
 use Rattle.plant_alarm.specs.declared.summary.AlarmState.TheVariants.{Normal, Unacknowledged}
-use Rattle.plant_floods.specs.Activations.{period_counts}
-use Rattle.plant_floods.specs.Floods.{floods}
-use Rattle.plant_floods.specs.declared.run.Run.{Run}
-use Rattle.plant_model.proofs.public.Base.{IsAnswered, ann, at, base, call, event, lt, pt, u1, vic, x}
-use Rattle.plant_model.specs.Events.{flood_lines, is_aligned}
-use Rattle.plant_model.specs.Refusals.{holds_some}
-use Rattle.plant_model.specs.Verdicts.{verdict}
-use Rattle.plant_model.specs.declared.call.Call.{Call}
+use Rattle.plant_floods.specs.{Activations.{period_counts}, Floods.{floods}, declared.run.Run.{Run}}
+use Rattle.plant_model.specs.{Events.{flood_lines, is_aligned}, Refusals.{holds_some}, Verdicts.{verdict}, declared.call.Call.{Call}}
 use Rattle.plant_model.specs.declared.call.Request.TheVariants.{Alarms, Floods, Import, Standing, TimedShelve}
 use Rattle.plant_model.specs.declared.reply.Refused.TheVariants.{RangeNotAligned}
 use Rattle.plant_model.specs.declared.reply.Reply.TheVariants.{Alarms as AlarmsOf, Floods as FloodsOf, Standing as StandingOf}
-use Rattle.std.proofs.Common.{refl, suc, true, zero, ◌++◌, ◌+◌, ◌≡◌}
-use Rattle.std.specs.Prelude.{List, None, Ok, [], false, ℕ, ◌∷◌}
+use Rattle.plant_model.proofs.public.Base.{IsAnswered, ann, at, base, call, event, lt, pt, u1, vic, x}
 
 abbrev flood : ℕ → ℕ → ℕ → ℕ → Run
 flood first last total peak = record { first = first; last = last; total = total; peak = peak }

@@ -1,18 +1,11 @@
 -- Worked examples: grants, grants that end, stewards, and moments.
-use Rattle.std.proofs.Common.{refl}
-use Rattle.std.specs.Prelude.{List, None, Some, [], codes, count_by, is_some, ℕ, ◌∷◌, ◌≡◌}
-use Rattle.plant_alarm.specs.declared.shelf.ShelfState.TheVariants.{Unshelved}
-use Rattle.plant_alarm.specs.declared.summary.AlarmState.TheVariants.{Normal}
-use Rattle.plant_model.specs.declared.call.Call.{Call}
+use Rattle.std.proofs.Common.{refl, List, None, Some, [], codes, count_by, is_some, ℕ, ◌∷◌, ◌≡◌}
+use Rattle.plant_alarm.specs.declared.{shelf.ShelfState.TheVariants.{Unshelved}, summary.AlarmState.TheVariants.{Normal}}
+use Rattle.plant_model.specs.{Refusals.{holds_some}, Rows.{rows_of}, Verdicts.{verdict}, declared.call.Call.{Call}}
 use Rattle.plant_model.specs.declared.call.Request.TheVariants.{Grant, OpenUnit, Status, Withdraw}
 use Rattle.plant_model.specs.declared.reply.Refused.TheVariants.{AlreadyHeld, EndNotAhead, LastSteward, MomentBehind, NotGranted, NotHeld}
-use Rattle.plant_types.specs.declared.role.Role.{Role}
-use Rattle.plant_types.specs.declared.role.Role.TheVariants.{Operator, Steward, Viewer}
 use Rattle.plant_model.proofs.public.Base.{IsAnswered, IsDone, ann, at, base, bob, call, grant, grid, plain, pt, root, ste, u1, vic}
-use Rattle.plant_model.specs.Refusals.{holds_some}
-use Rattle.plant_model.specs.Rows.{rows_of}
-use Rattle.plant_model.specs.Verdicts.{verdict}
-use Rattle.plant_types.specs.Names.{Name}
+use Rattle.plant_types.specs.{Names.{Name}, declared.role.Role.{Role, TheVariants.{Operator, Steward, Viewer}}}
 
 last_steward : IsAnswered base (call ste (at 10 0 0) (Withdraw u1 ste Steward)) LastSteward
 unfolding holds_some

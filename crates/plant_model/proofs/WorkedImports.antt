@@ -1,24 +1,16 @@
 -- Worked examples: imports, alarm states, and how a return ends a one-shot shelf.
-use Rattle.plant_alarm.specs.declared.event.Event.{Event}
-use Rattle.plant_alarm.specs.declared.event.EventKind.{EventKind}
-use Rattle.plant_alarm.specs.declared.event.EventKind.TheVariants.{Ack, Act, Reset, Rtn, Sup, Unsup}
-use Rattle.plant_alarm.specs.declared.shelf.ShelfState.TheVariants.{OneShotShelved, Unshelved}
-use Rattle.plant_alarm.specs.declared.summary.AlarmState.{AlarmState}
+use Rattle.std.proofs.Common.{refl, true, ◌≡◌, Err, List, Ok, [], codes, false, ℕ, ◌∷◌}
+use Rattle.plant_alarm.specs.declared.event.{Event.{Event}, EventKind.{EventKind, TheVariants.{Ack, Act, Reset, Rtn, Sup, Unsup}}}
+use Rattle.plant_alarm.specs.declared.{shelf.ShelfState.TheVariants.{OneShotShelved, Unshelved}, summary.AlarmState.{AlarmState}}
 use Rattle.plant_alarm.specs.declared.summary.AlarmState.TheVariants.{Acknowledged, LatchedAck, LatchedUnack, Normal, ReturnedUnack, Unacknowledged}
 use Rattle.plant_import.specs.Merging.{merge_fault}
 use Rattle.plant_import.specs.declared.bad_file.Cause.TheVariants.{Header, MomentAhead, MomentOutOfOrder, SequenceClash, TagUnknown}
-use Rattle.plant_model.proofs.public.Base.{IsAnswered, ann, at, base, call, event, lt, plain, pt, status, u1, vic, x}
-use Rattle.plant_model.specs.Refusals.{holds_some}
-use Rattle.plant_model.specs.Rows.{rows_of}
-use Rattle.plant_model.specs.Verdicts.{verdict}
-use Rattle.plant_model.specs.declared.call.Call.{Call}
+use Rattle.plant_model.specs.{Refusals.{holds_some}, Rows.{rows_of}, Verdicts.{verdict}, declared.call.Call.{Call}}
 use Rattle.plant_model.specs.declared.call.Request.TheVariants.{Import, OneShotShelve, Status}
 use Rattle.plant_model.specs.declared.reply.Refused.TheVariants.{BadFile as FileRefused, RoleLacking}
-use Rattle.plant_model.specs.declared.reply.Reply.TheVariants.{Imported, Status as StatusOf}
-use Rattle.plant_model.specs.declared.rows.UnitRows.{UnitRows}
+use Rattle.plant_model.specs.declared.{reply.Reply.TheVariants.{Imported, Status as StatusOf}, rows.UnitRows.{UnitRows}}
+use Rattle.plant_model.proofs.public.Base.{IsAnswered, ann, at, base, call, event, lt, plain, pt, status, u1, vic, x}
 use Rattle.plant_types.specs.declared.role.Role.TheVariants.{Operator}
-use Rattle.std.proofs.Common.{refl, true, ◌≡◌}
-use Rattle.std.specs.Prelude.{Err, List, Ok, [], codes, false, ℕ, ◌∷◌}
 
 abbrev import_at : ℕ → List Event → Call
 import_at t rows = call ann t (Import u1 (Ok rows))

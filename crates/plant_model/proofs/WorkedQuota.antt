@@ -1,20 +1,12 @@
 -- Worked examples: the quota of shelves.
-use Rattle.plant_alarm.specs.declared.event.Event.{Event}
-use Rattle.plant_alarm.specs.declared.event.EventKind.TheVariants.{Act, Rtn}
+use Rattle.std.proofs.Common.{drop, refl, ◌≡◌, List, None, Ok, [], codes, false, length, ℕ, ◌∷◌}
+use Rattle.plant_alarm.specs.declared.event.{Event.{Event}, EventKind.TheVariants.{Act, Rtn}}
 use Rattle.plant_import.specs.Merging.{merge_fault}
-use Rattle.plant_model.proofs.public.Base.{IsAnswered, IsDone, ann, at, call, eve, event, grid, root, ste, x}
-use Rattle.plant_model.specs.Facts.{facts}
-use Rattle.plant_model.specs.Refusals.{holds_some}
-use Rattle.plant_model.specs.Replies.{shelf_lines}
-use Rattle.plant_model.specs.Verdicts.{verdict}
-use Rattle.plant_model.specs.declared.call.Call.{Call}
+use Rattle.plant_model.specs.{Facts.{facts}, Refusals.{holds_some}, Replies.{shelf_lines}, Verdicts.{verdict}, declared.call.Call.{Call}}
 use Rattle.plant_model.specs.declared.call.Request.TheVariants.{Grant, Import, OneShotShelve, OpenUnit, Register, TimedShelve, Unshelve}
-use Rattle.plant_model.specs.declared.reply.Refused.TheVariants.{ShelfQuota, ShelvingTimeOutOfRange}
-use Rattle.plant_model.specs.declared.reply.Reply.TheVariants.{Imported}
-use Rattle.plant_types.specs.Names.{Name}
-use Rattle.plant_types.specs.declared.role.Role.TheVariants.{Engineer, Operator}
-use Rattle.std.proofs.Common.{drop, refl, ◌≡◌}
-use Rattle.std.specs.Prelude.{List, None, Ok, [], codes, false, length, ℕ, ◌∷◌}
+use Rattle.plant_model.specs.declared.reply.{Refused.TheVariants.{ShelfQuota, ShelvingTimeOutOfRange}, Reply.TheVariants.{Imported}}
+use Rattle.plant_model.proofs.public.Base.{IsAnswered, IsDone, ann, at, call, eve, event, grid, root, ste, x}
+use Rattle.plant_types.specs.{Names.{Name}, declared.role.Role.TheVariants.{Engineer, Operator}}
 
 -- a quota of two shelved alarms
 abbrev u3 : Name

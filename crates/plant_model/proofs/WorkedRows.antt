@@ -1,19 +1,11 @@
 -- Worked examples: the rows that calls leave, and that the part which a call looks at gives its verdict and its changes.
-use Rattle.plant_model.specs.Calls.{changes_for}
-use Rattle.std.proofs.Common.{refl}
-use Rattle.std.specs.Prelude.{List, Some, [], codes, true, ◌∷◌, ◌≡◌}
-use Rattle.plant_model.specs.declared.call.Call.{Call}
+use Rattle.std.proofs.Common.{refl, List, Some, [], codes, true, ◌∷◌, ◌≡◌}
+use Rattle.plant_model.specs.{Calls.{changes_for}, Facts.{facts}, Parts.{part_of}, Refusals.{holds_some}, RowChanges.{changed_by, no_rows}}
+use Rattle.plant_model.specs.{RowFacts.{facts_in}, Rows.{rows_of}, Verdicts.{verdict, verdict_of}, declared.call.Call.{Call}}
 use Rattle.plant_model.specs.declared.call.Request.TheVariants.{Grant, OneShotShelve, OpenUnit, PlaceInService, Register, RemoveFromService, TimedShelve, Unshelve, Withdraw}
+use Rattle.plant_model.proofs.public.Base.{amy, ann, at, base, bob, call, eve, grid, lt, moe, opened, pt, root, ste, u1, vic, x}
 use Rattle.plant_ration.specs.declared.cell.Cell.TheVariants.{P1, P2, P3, P4}
 use Rattle.plant_types.specs.declared.role.Role.TheVariants.{Viewer}
-use Rattle.plant_model.proofs.public.Base.{amy, ann, at, base, bob, call, eve, grid, lt, moe, opened, pt, root, ste, u1, vic, x}
-use Rattle.plant_model.specs.Facts.{facts}
-use Rattle.plant_model.specs.Parts.{part_of}
-use Rattle.plant_model.specs.Refusals.{holds_some}
-use Rattle.plant_model.specs.RowChanges.{changed_by, no_rows}
-use Rattle.plant_model.specs.RowFacts.{facts_in}
-use Rattle.plant_model.specs.Rows.{rows_of}
-use Rattle.plant_model.specs.Verdicts.{verdict, verdict_of}
 
 abbrev IsByPart : List Call → Call → Type 0
 IsByPart h c = (verdict_of (facts_in (part_of c (rows_of h))) c ≡ verdict h c) × (changed_by (changes_for (facts_in (part_of c (rows_of h))) c) (rows_of h) ≡ rows_of (c ∷ h))

@@ -1,17 +1,12 @@
 -- Worked examples: out of service, and the list of alarms.
-use Rattle.std.proofs.Common.{refl, ◌≡◌}
-use Rattle.std.specs.Prelude.{List, None, Ok, Some, [], codes, false, true, ◌∷◌}
-use Rattle.plant_alarm.specs.declared.shelf.ShelfState.TheVariants.{TimedShelved, Unshelved}
-use Rattle.plant_alarm.specs.declared.summary.AlarmState.TheVariants.{Normal}
-use Rattle.plant_model.specs.declared.call.Call.{Call}
+use Rattle.std.proofs.Common.{refl, ◌≡◌, List, None, Ok, Some, [], codes, false, true, ◌∷◌}
+use Rattle.plant_alarm.specs.declared.{shelf.ShelfState.TheVariants.{TimedShelved, Unshelved}, summary.AlarmState.TheVariants.{Normal}}
+use Rattle.plant_model.specs.{Refusals.{holds_some}, Rows.{alarm_row}, Verdicts.{verdict}, declared.call.Call.{Call}}
 use Rattle.plant_model.specs.declared.call.Request.TheVariants.{Alarms, PlaceInService, RemoveFromService, Standing, TimedShelve}
 use Rattle.plant_model.specs.declared.reply.Refused.TheVariants.{AlarmUnknown, AlreadyOutOfService, NotOutOfService, RoleLacking}
 use Rattle.plant_model.specs.declared.reply.Reply.TheVariants.{Alarms as AlarmsOf, Standing as StandingOf, Status as StatusOf}
-use Rattle.plant_types.specs.declared.role.Role.TheVariants.{Maintainer}
 use Rattle.plant_model.proofs.public.Base.{IsAnswered, IsDone, ann, at, base, call, lt, moe, pt, status, u1, vic, x}
-use Rattle.plant_model.specs.Refusals.{holds_some}
-use Rattle.plant_model.specs.Rows.{alarm_row}
-use Rattle.plant_model.specs.Verdicts.{verdict}
+use Rattle.plant_types.specs.declared.role.Role.TheVariants.{Maintainer}
 
 -- removed from service
 abbrev removed : List Call

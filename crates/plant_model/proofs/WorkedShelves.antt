@@ -1,17 +1,12 @@
 -- Worked examples: timed and one-shot shelves.
-use Rattle.std.proofs.Common.{refl}
-use Rattle.std.specs.Prelude.{Err, List, Ok, [], codes, drop, false, true, ◌∷◌, ◌≡◌}
-use Rattle.plant_alarm.specs.declared.shelf.ShelfState.TheVariants.{TimedShelved, Unshelved}
-use Rattle.plant_alarm.specs.declared.summary.AlarmState.TheVariants.{Normal}
-use Rattle.plant_model.specs.declared.call.Call.{Call}
+use Rattle.std.proofs.Common.{refl, Err, List, Ok, [], codes, drop, false, true, ◌∷◌, ◌≡◌}
+use Rattle.plant_alarm.specs.declared.{shelf.ShelfState.TheVariants.{TimedShelved, Unshelved}, summary.AlarmState.TheVariants.{Normal}}
+use Rattle.plant_model.specs.{Refusals.{holds_some}, Rows.{rows_of}, Verdicts.{verdict}, declared.call.Call.{Call}}
 use Rattle.plant_model.specs.declared.call.Request.TheVariants.{OneShotShelve, Register, Shelves, Status, TimedShelve, Unshelve}
 use Rattle.plant_model.specs.declared.reply.Refused.TheVariants.{ConditionAlreadyShelved, ConditionNotShelved, MomentBehind, NotGranted, ShelvingTimeOutOfRange}
 use Rattle.plant_model.specs.declared.reply.Reply.TheVariants.{Done, Shelves as ShelvesOf}
-use Rattle.plant_types.specs.declared.role.Role.TheVariants.{Operator}
 use Rattle.plant_model.proofs.public.Base.{IsDone, ann, at, base, bob, call, eve, grant, lt, opened, plain, pt, status, u1, x}
-use Rattle.plant_model.specs.Refusals.{holds_some}
-use Rattle.plant_model.specs.Rows.{rows_of}
-use Rattle.plant_model.specs.Verdicts.{verdict}
+use Rattle.plant_types.specs.declared.role.Role.TheVariants.{Operator}
 
 -- an unknown person, on this unit and on one that was never opened
 nobody : verdict base (call bob (at 7 0 0) (Status u1 pt)) ≡ Err NotGranted

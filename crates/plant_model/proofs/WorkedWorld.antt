@@ -1,16 +1,10 @@
 -- Worked examples: openings, and calls that name no unit.
-use Rattle.std.proofs.Common.{ap, refl}
-use Rattle.std.specs.FinMap.{get-empty}
-use Rattle.std.specs.Prelude.{Err, List, None, Ok, Some, [], codes, false, is_some, true, ◌∷◌, ◌≡◌}
-use Rattle.plant_model.specs.declared.call.Call.{Call}
+use Rattle.std.{specs.FinMap.{get-empty}, proofs.Common.{ap, refl, Err, List, None, Ok, Some, [], codes, false, is_some, true, ◌∷◌, ◌≡◌}}
+use Rattle.plant_model.specs.{Worlds.{answer, answer_of_units, empty_world, opening}, declared.call.Call.{Call}}
 use Rattle.plant_model.specs.declared.call.Request.TheVariants.{Grant, MyShelves, MyUnits, OneShotShelve, OpenUnit, Register, TimedShelve}
-use Rattle.plant_model.specs.declared.reply.Refused.TheVariants.{MomentBehind, NotAdministrator, UnitTaken}
-use Rattle.plant_model.specs.declared.reply.Reply.TheVariants.{Done, Mine, Units}
-use Rattle.plant_types.specs.declared.role.Role.TheVariants.{Maintainer, Operator, Viewer}
-use Rattle.plant_types.specs.declared.role.Role.{Role}
+use Rattle.plant_model.specs.declared.reply.{Refused.TheVariants.{MomentBehind, NotAdministrator, UnitTaken}, Reply.TheVariants.{Done, Mine, Units}}
 use Rattle.plant_model.proofs.public.Base.{ann, at, base, bob, call, grid, lt, root, ste, u1, vic}
-use Rattle.plant_model.specs.Worlds.{answer, answer_of_units, empty_world, opening}
-use Rattle.plant_types.specs.Names.{Name, name_cmp}
+use Rattle.plant_types.specs.{Names.{Name, name_cmp}, declared.role.Role.{Role, TheVariants.{Maintainer, Operator, Viewer}}}
 
 -- nobody's units
 no_units : answer_of_units [] (call vic (at 8 0 0) MyUnits) ≡ Ok (Units [])

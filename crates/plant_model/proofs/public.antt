@@ -3,6 +3,7 @@ pub mod HistoryLaws
 pub mod FactLaws
 pub mod HeldLaws
 pub mod ChangeLaws
+pub mod Accepted
 pub mod ServiceLaws
 pub mod ReadLaws
 pub mod CountLaws
@@ -17,5 +18,4 @@ pub mod EndLaws
 pub mod QuotaLaws
 pub mod Base
 pub mod RowsFound
-pub mod ChangesFound
 pub mod PlaceOrders

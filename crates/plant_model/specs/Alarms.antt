@@ -1,12 +1,8 @@
 -- Alarms: their registration, the limit MaxTimeShelved of OPC 10000-9 that is in force, and the unit's quota of shelves.
-use Rattle.plant_model.specs.Changes.{approved_limit}
 use Rattle.std.specs.Prelude.{Bool, List, None, Option, Some, option_map, unwrap_or, ℕ}
-use Rattle.plant_model.specs.declared.call.Call.{Call}
+use Rattle.plant_model.specs.{Changes.{approved_limit}, Histories.{latest}, Kinds.{Registration, says}, declared.call.Call.{Call}}
 use Rattle.plant_model.specs.declared.call.Request.{Request}
-use Rattle.plant_model.specs.Histories.{latest}
-use Rattle.plant_model.specs.Kinds.{Registration, says}
-use Rattle.plant_types.specs.Names.{Name, same_name}
-use Rattle.plant_types.specs.Options.{when}
+use Rattle.plant_types.specs.{Names.{Name, same_name}, Options.{when}}
 
 -- the limit that a registration of the alarm gives it; without a registration, that of an approved change
 abbrev pub limit_by : Name → Option Registration → Option ℕ → Option ℕ

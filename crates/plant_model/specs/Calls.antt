@@ -1,34 +1,23 @@
 -- What each call does to a unit: its refusals in their order, its reply and its changes, with one line a kind in each table.
+use Rattle.std.specs.Prelude.{Bool, List, None, Option, Some, [], false, is_none, is_some, nat_le, nat_lt, not, true, ℕ, ◌&&◌, ◌++◌, ◌+◌, ◌∷◌}
 use Rattle.plant_alarm.specs.Shelves.{is_one_shot, is_timed, is_unshelved}
-use Rattle.plant_model.specs.Changes.{change_as}
-use Rattle.plant_model.specs.Events.{flood_lines, is_aligned, rows_of_file}
-use Rattle.plant_model.specs.Facts.{Facts, is_out, limit_of, shelf_now}
-use Rattle.plant_model.specs.Grants.{is_before}
-use Rattle.plant_model.specs.Refusals.{file_refusals, kind_refusals, kind_unknown, of_change, over_quota, unknown}
+use Rattle.plant_model.specs.{Changes.{change_as}, Events.{flood_lines, is_aligned, rows_of_file}, Facts.{Facts, is_out, limit_of, shelf_now}}
+use Rattle.plant_model.specs.{Grants.{is_before}, Refusals.{file_refusals, kind_refusals, kind_unknown, of_change, over_quota, unknown}}
 use Rattle.plant_model.specs.Replies.{alarm_lines, change_reply, import_reply, shelf_lines, standing_lines, status_reply}
 use Rattle.plant_model.specs.RowChanges.{approval_changes, approved_row, decision_change, for_change, import_changes, kind_changes, matrix_changes, placed_in, taken_out, with_alarm}
-use Rattle.plant_model.specs.Rows.{alarm_as, change_entry, grant_as}
-use Rattle.plant_model.specs.Shelves.{shelf_row_as}
-use Rattle.plant_model.specs.declared.call.Call.{Call}
-use Rattle.plant_model.specs.declared.call.Request.{Request}
+use Rattle.plant_model.specs.{Rows.{alarm_as, change_entry, grant_as}, Shelves.{shelf_row_as}, declared.call.{Call.{Call}, Request.{Request}}}
 use Rattle.plant_model.specs.declared.call.Request.TheVariants.{Alarms, Approve, ChangeOf, Floods, Grant, Import, MyShelves, MyUnits, OneShotShelve, OpenUnit, PlaceInService, Propose, RecordOf, Register, Reject, RemoveFromService, Shelves, Standing, Status, TimedShelve, Unshelve, Withdraw, WithdrawChange}
 use Rattle.plant_model.specs.declared.reply.Full.TheVariants.{Alarms as TooManyAlarms, Changes as TooManyChanges, Grants as TooManyGrants}
-use Rattle.plant_model.specs.declared.reply.RecordRow.{RecordRow}
-use Rattle.plant_model.specs.declared.reply.Refused.{Refused}
+use Rattle.plant_model.specs.declared.reply.{RecordRow.{RecordRow}, Refused.{Refused}}
 use Rattle.plant_model.specs.declared.reply.Refused.TheVariants.{AlarmTaken, AlreadyHeld, AlreadyOutOfService, ChangeUnknown, ConditionAlreadyShelved, ConditionNotShelved, EndNotAhead, LastSteward, NotHeld, NotOutOfService, NotProposer, RangeNotAligned, RecordUnknown, SamePerson, ShelvingTimeOutOfRange, UnitFull}
 use Rattle.plant_model.specs.declared.reply.Reply.{Reply}
 use Rattle.plant_model.specs.declared.reply.Reply.TheVariants.{Alarms as AlarmsOf, Done, Floods as FloodsOf, Number, RecordOf as RecordReply, Shelves as ShelvesOf, Standing as StandingOf}
 use Rattle.plant_model.specs.declared.rows.Key.TheVariants.{Grant as GrantKey, Shelf as ShelfKey}
 use Rattle.plant_model.specs.declared.rows.Row.TheVariants.{Alarm as AlarmPut, Change as ChangePut, Grant as GrantPut, Shelf as ShelfPut, Unit as UnitPut}
-use Rattle.plant_model.specs.declared.rows.RowEdit.{RowEdit}
-use Rattle.plant_model.specs.declared.rows.RowEdit.TheVariants.{Put, Remove}
-use Rattle.plant_model.specs.declared.rows.UnitRow.{UnitRow}
+use Rattle.plant_model.specs.declared.rows.{RowEdit.{RowEdit, TheVariants.{Put, Remove}}, UnitRow.{UnitRow}}
 use Rattle.plant_ration.specs.declared.change.ChangeState.TheVariants.{Rejected, Withdrawn}
-use Rattle.plant_types.specs.Limits.{max_alarms, max_changes, max_grants}
-use Rattle.plant_types.specs.Names.{Name, same_name}
-use Rattle.plant_types.specs.Roles.{same_role}
+use Rattle.plant_types.specs.{Limits.{max_alarms, max_changes, max_grants}, Names.{Name, same_name}, Roles.{same_role}}
 use Rattle.plant_types.specs.declared.role.Role.TheVariants.{Steward}
-use Rattle.std.specs.Prelude.{Bool, List, None, Option, Some, [], false, is_none, is_some, nat_le, nat_lt, not, true, ℕ, ◌&&◌, ◌++◌, ◌+◌, ◌∷◌}
 
 -- the refusals of a request of this person at this moment, beside those of a caller without the role and of a moment
 -- before the last one

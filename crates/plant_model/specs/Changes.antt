@@ -1,23 +1,11 @@
 -- Management of change (ISA-18.2, IEC 62682): proposals, their decisions, and what is in force.
-use Rattle.plant_model.specs.Histories.{counted, latest, same_number}
-use Rattle.plant_model.specs.Kinds.{Opening, says}
-use Rattle.plant_model.specs.declared.call.Call.{Call}
-use Rattle.plant_model.specs.declared.call.Request.{Request}
-use Rattle.plant_model.specs.declared.reply.ChangeRow.{ChangeRow}
-use Rattle.plant_model.specs.declared.reply.RecordRow.{RecordRow}
-use Rattle.plant_ration.specs.Grid.{Grid}
-use Rattle.plant_ration.specs.Matrix.{priority_of}
-use Rattle.plant_ration.specs.declared.cell.Cell.{Cell}
-use Rattle.plant_ration.specs.declared.cell.Cell.TheVariants.{N}
-use Rattle.plant_ration.specs.declared.change.ChangeKind.{ChangeKind}
-use Rattle.plant_ration.specs.declared.change.ChangeKind.TheVariants.{Limit, Matrix, Rationale}
-use Rattle.plant_ration.specs.declared.change.ChangeState.{ChangeState}
-use Rattle.plant_ration.specs.declared.change.ChangeState.TheVariants.{Approved, Proposed, Rejected, Withdrawn}
-use Rattle.plant_ration.specs.declared.change.Proposal.{Proposal}
-use Rattle.plant_ration.specs.declared.change.Sheet.{Sheet}
-use Rattle.plant_types.specs.Names.{Name, same_name}
-use Rattle.plant_types.specs.Options.{when}
 use Rattle.std.specs.Prelude.{Bool, List, None, Option, Some, [], is_some, option_and_then, option_map, unwrap_or, ℕ, ◌+◌}
+use Rattle.plant_model.specs.{Histories.{counted, latest, same_number}, Kinds.{Opening, says}, declared.call.{Call.{Call}, Request.{Request}}}
+use Rattle.plant_model.specs.declared.reply.{ChangeRow.{ChangeRow}, RecordRow.{RecordRow}}
+use Rattle.plant_ration.specs.{Grid.{Grid}, Matrix.{priority_of}, declared.{cell.Cell.{Cell, TheVariants.{N}}, change.ChangeKind.{ChangeKind}}}
+use Rattle.plant_ration.specs.declared.change.{ChangeKind.TheVariants.{Limit, Matrix, Rationale}, ChangeState.{ChangeState}}
+use Rattle.plant_ration.specs.declared.change.{ChangeState.TheVariants.{Approved, Proposed, Rejected, Withdrawn}, Proposal.{Proposal}, Sheet.{Sheet}}
+use Rattle.plant_types.specs.{Names.{Name, same_name}, Options.{when}}
 
 -- a change as it was proposed
 pub record Draft : Type 0 where

@@ -1,22 +1,13 @@
 -- The events of a unit: the rows of all its imports, each number once, as the numbers rise. Arrival plays no part.
-use Rattle.plant_import.specs.Numbers.{has_number, numbers_of}
-use Rattle.plant_alarm.specs.declared.event.Event.{Event}
-use Rattle.plant_floods.specs.Activations.{of_alarm, period_counts}
-use Rattle.plant_floods.specs.Floods.{floods}
-use Rattle.plant_floods.specs.declared.run.Run.{Run}
-use Rattle.plant_import.specs.declared.bad_file.BadFile.{BadFile}
-use Rattle.plant_model.specs.Histories.{all_named, latest}
-use Rattle.plant_model.specs.Kinds.{says}
-pub use Rattle.plant_model.specs.Kinds.{rows_of_file}
-use Rattle.plant_model.specs.declared.call.Call.{Call}
-use Rattle.plant_model.specs.declared.call.Request.{Request}
-use Rattle.plant_model.specs.declared.reply.FloodLine.{FloodLine}
-use Rattle.plant_types.specs.Limits.{max_flood_seconds}
-use Rattle.plant_types.specs.Names.{Name}
-use Rattle.plant_types.specs.KeyedRows.{in_order}
-use Rattle.std.specs.List.{find}
 use Rattle.std.specs.Ordering.{nat_cmp}
-use Rattle.std.specs.Prelude.{Bool, List, None, Option, Result, Some, [], filter_map, map, nat_le, nat_lt, ℕ, ◌%◌, ◌&&◌, ◌*◌, ◌+◌, ◌-◌, ◌==◌}
+use Rattle.std.specs.Prelude.{find, Bool, List, None, Option, Result, Some, [], filter_map, map, nat_le, nat_lt, ℕ, ◌%◌, ◌&&◌, ◌*◌, ◌+◌, ◌-◌, ◌==◌}
+use Rattle.plant_import.specs.{Numbers.{has_number, numbers_of}, declared.bad_file.BadFile.{BadFile}}
+use Rattle.plant_alarm.specs.declared.event.Event.{Event}
+use Rattle.plant_floods.specs.{Activations.{of_alarm, period_counts}, Floods.{floods}, declared.run.Run.{Run}}
+use Rattle.plant_model.specs.{Histories.{all_named, latest}, Kinds.{says}, declared.call.{Call.{Call}, Request.{Request}}}
+use Rattle.plant_model.specs.declared.reply.FloodLine.{FloodLine}
+use Rattle.plant_types.specs.{KeyedRows.{in_order}, Limits.{max_flood_seconds}, Names.{Name}}
+pub use Rattle.plant_model.specs.Kinds.{rows_of_file}
 
 -- the rows that an entry imports
 abbrev pub rows_in : Option (Result (List Event) BadFile) → List Event

@@ -1,26 +1,12 @@
 -- What a verdict looks at, of a unit.
-use Rattle.plant_model.specs.Changes.{proposals, record_of, record_revision, matrix, change}
-use Rattle.plant_model.specs.Rows.{records_of, revision_of_limit}
-use Rattle.plant_model.specs.declared.reply.ChangeRow.{ChangeRow}
-use Rattle.plant_model.specs.declared.reply.RecordRow.{RecordRow}
-use Rattle.plant_ration.specs.Grid.{Grid}
-use Rattle.plant_ration.specs.declared.cell.Cell.{Cell}
-use Rattle.plant_model.specs.Events.{events}
-use Rattle.plant_alarm.specs.Shelves.{is_unshelved, shelf_state}
-use Rattle.plant_alarm.specs.declared.event.Event.{Event}
-use Rattle.plant_alarm.specs.declared.shelf.ShelfState.{ShelfState}
-use Rattle.plant_model.specs.Grants.{held, stands}
-use Rattle.plant_model.specs.Rows.{alarm_row, alarm_rows, grant_rows, shelf_rows, unit_row}
-use Rattle.plant_model.specs.Shelves.{shelf, shelf_left}
-use Rattle.plant_model.specs.declared.call.Call.{Call}
-use Rattle.plant_model.specs.declared.rows.AlarmRow.{AlarmRow}
-use Rattle.plant_model.specs.declared.rows.GrantRow.{GrantRow}
-use Rattle.plant_model.specs.declared.rows.ShelfRow.{ShelfRow}
-use Rattle.plant_model.specs.declared.rows.UnitRow.{UnitRow}
-use Rattle.plant_types.specs.Names.{Name, same_name}
-use Rattle.plant_types.specs.Roles.{Pair, same_role}
-use Rattle.plant_types.specs.declared.role.Role.TheVariants.{Steward}
 use Rattle.std.specs.Prelude.{Bool, List, Option, Some, count_by, false, is_some, length, not, option_and_then, option_map, unwrap_or, ℕ, ◌&&◌}
+use Rattle.plant_model.specs.{Changes.{proposals, record_of, record_revision, matrix, change}, Events.{events}, Grants.{held, stands}}
+use Rattle.plant_model.specs.Rows.{records_of, revision_of_limit, alarm_row, alarm_rows, grant_rows, shelf_rows, unit_row}
+use Rattle.plant_model.specs.{Shelves.{shelf, shelf_left}, declared.{call.Call.{Call}, reply.{ChangeRow.{ChangeRow}, RecordRow.{RecordRow}}}}
+use Rattle.plant_model.specs.declared.rows.{AlarmRow.{AlarmRow}, GrantRow.{GrantRow}, ShelfRow.{ShelfRow}, UnitRow.{UnitRow}}
+use Rattle.plant_ration.specs.{Grid.{Grid}, declared.cell.Cell.{Cell}}
+use Rattle.plant_alarm.specs.{Shelves.{is_unshelved, shelf_state}, declared.{event.Event.{Event}, shelf.ShelfState.{ShelfState}}}
+use Rattle.plant_types.specs.{Names.{Name, same_name}, Roles.{Pair, same_role}, declared.role.Role.TheVariants.{Steward}}
 
 pub record Facts : Type 0 where
   -- its last moment, the matrix in force and the quota

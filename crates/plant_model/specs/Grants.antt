@@ -1,14 +1,7 @@
 -- Which roles a person holds in a unit, and until when.
-use Rattle.std.specs.List.{list_any}
-use Rattle.std.specs.Prelude.{Bool, List, None, Option, Some, false, filter, is_some, nat_lt, option_map, true, unwrap_or, ℕ}
-use Rattle.plant_model.specs.declared.call.Call.{Call}
-use Rattle.plant_model.specs.declared.call.Request.{Request}
-use Rattle.plant_types.specs.declared.role.Role.{Role}
-use Rattle.plant_model.specs.Histories.{Said, latest, still}
-use Rattle.plant_model.specs.Kinds.{says}
-use Rattle.plant_types.specs.Names.{Name}
-use Rattle.plant_types.specs.Options.{when}
-use Rattle.plant_types.specs.Roles.{Pair, all_roles, same_pair}
+use Rattle.std.specs.{List.{list_any}, Prelude.{Bool, List, None, Option, Some, false, filter, is_some, nat_lt, option_map, true, unwrap_or, ℕ}}
+use Rattle.plant_model.specs.{Histories.{Said, latest, still}, Kinds.{says}, declared.call.{Call.{Call}, Request.{Request}}}
+use Rattle.plant_types.specs.{Names.{Name}, Options.{when}, Roles.{Pair, all_roles, same_pair}, declared.role.Role.{Role}}
 
 -- what a grant or a withdrawal says of a pair: nothing where it is of another pair
 abbrev pub pair_by : Pair → Option (Pair × Said (Option ℕ)) → Option (Said (Option ℕ))

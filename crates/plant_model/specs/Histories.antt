@@ -1,7 +1,5 @@
 -- A unit's history: the list of its accepted changing calls, the newest first.
-use Rattle.std.specs.Prelude.{if◌then◌else◌, ◌+◌}
-use Rattle.std.specs.Ordering.{eq_by_cmp, nat_cmp}
-use Rattle.std.specs.Prelude.{Bool, List, None, Option, Some, [], ℕ, ◌++◌, ◌∷◌}
+use Rattle.std.specs.{Ordering.{eq_by_cmp, nat_cmp}, Prelude.{if◌then◌else◌, ◌+◌, Bool, List, None, Option, Some, [], ℕ, ◌++◌, ◌∷◌}}
 use Rattle.plant_model.specs.declared.call.Call.{Call}
 use Rattle.plant_types.specs.Options.{or_else}
 

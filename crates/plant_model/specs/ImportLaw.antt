@@ -1,28 +1,13 @@
 -- Imports agree: which file has which rows, and in which order they come, makes no difference.
+use Rattle.std.specs.List.{list_all}
+use Rattle.std.specs.Prelude.{flat_map, Err, List, None, Ok, Option, Result, Some, [], is_some, length, map, nat_le, true, ℕ, ◌++◌, ◌+◌, ◌∷◌, ◌≡◌, ◌≤◌}
 use Rattle.plant_alarm.specs.declared.event.Event.{Event}
-use Rattle.plant_import.specs.Files.{SameMembers, is_fit}
-use Rattle.plant_import.specs.Merging.{fresh}
-use Rattle.plant_import.specs.declared.bad_file.BadFile.{BadFile}
-use Rattle.plant_model.specs.Alarms.{latching}
-use Rattle.plant_model.specs.Events.{events, imported}
-use Rattle.plant_model.specs.Grants.{held}
-use Rattle.plant_model.specs.Histories.{last_moment}
-use Rattle.plant_model.specs.Kinds.{OneUnit, OwnShelves, OwnUnits, Subject, says, subject_of}
-use Rattle.plant_model.specs.Legality.{IsLegal}
-use Rattle.plant_model.specs.Rows.{rows_of}
-use Rattle.plant_model.specs.Verdicts.{changes_history, verdict}
-use Rattle.plant_model.specs.declared.call.Call.{Call}
-use Rattle.plant_model.specs.declared.reply.Refused.{Refused}
-use Rattle.plant_model.specs.declared.reply.Reply.{Reply}
-use Rattle.plant_model.specs.declared.reply.Reply.TheVariants.{Imported}
-use Rattle.plant_model.specs.declared.call.Request.{Request}
-use Rattle.plant_model.specs.declared.rows.UnitRow.{UnitRow}
-use Rattle.plant_model.specs.declared.rows.UnitRows.{UnitRows}
-use Rattle.plant_types.specs.Limits.{max_events}
-use Rattle.plant_types.specs.Names.{Name}
-use Rattle.plant_types.specs.declared.role.Role.TheVariants.{Operator}
-use Rattle.std.specs.List.{flat_map, list_all}
-use Rattle.std.specs.Prelude.{Err, List, None, Ok, Option, Result, Some, [], is_some, length, map, nat_le, true, ℕ, ◌++◌, ◌+◌, ◌∷◌, ◌≡◌, ◌≤◌}
+use Rattle.plant_import.specs.{Files.{SameMembers, is_fit}, Merging.{fresh}, declared.bad_file.BadFile.{BadFile}}
+use Rattle.plant_model.specs.{Alarms.{latching}, Events.{events, imported}, Grants.{held}, Histories.{last_moment}}
+use Rattle.plant_model.specs.{Kinds.{OneUnit, OwnShelves, OwnUnits, Subject, says, subject_of}, Legality.{IsLegal}, Rows.{rows_of}}
+use Rattle.plant_model.specs.{Verdicts.{changes_history, verdict}, declared.{call.{Call.{Call}, Request.{Request}}, reply.Refused.{Refused}}}
+use Rattle.plant_model.specs.declared.{reply.Reply.{Reply, TheVariants.{Imported}}, rows.{UnitRow.{UnitRow}, UnitRows.{UnitRows}}}
+use Rattle.plant_types.specs.{Limits.{max_events}, Names.{Name}, declared.role.Role.TheVariants.{Operator}}
 
 -- the rows that calls import, the calls' oldest first
 abbrev pub rows_imported : List Call → List Event

@@ -1,27 +1,16 @@
 -- The kinds of calls: what all calls of a kind have in common, and what a request of each kind is about, says and looks at.
 -- Each table has one line a kind.
+use Rattle.std.specs.Prelude.{Bool, Err, List, None, Ok, Option, Result, Some, [], false, true, ℕ}
 use Rattle.plant_alarm.specs.declared.event.Event.{Event}
 use Rattle.plant_import.specs.declared.bad_file.BadFile.{BadFile}
-use Rattle.plant_model.specs.Histories.{Begins, Over, Said}
-use Rattle.plant_model.specs.declared.call.Request.{Request}
+use Rattle.plant_model.specs.{Histories.{Begins, Over, Said}, declared.{call.Request.{Request}, kinds.{CallKind.{CallKind}, Counted.{Counted}}}}
+use Rattle.plant_model.specs.declared.kinds.Effect.{Effect, TheVariants.{Changes, Opens, Reads}}
+use Rattle.plant_ration.specs.{Grid.{Grid}, declared.change.ChangeKind.{ChangeKind, TheVariants.{Limit, Matrix, Rationale}}}
+use Rattle.plant_ration.specs.declared.change.{ChangeState.{ChangeState, TheVariants.{Approved, Rejected, Withdrawn}}, Proposal.{Proposal}}
+use Rattle.plant_types.specs.{Names.{Name}, Roles.{Pair}, declared.role.Role.{Role, TheVariants.{Approver, Engineer, Maintainer, Operator, Steward}}}
 use Rattle.plant_model.specs.declared.call.Request.TheVariants as request
-use Rattle.plant_model.specs.declared.kinds.CallKind.{CallKind}
 use Rattle.plant_model.specs.declared.kinds.CallKind.TheVariants as kind
-use Rattle.plant_model.specs.declared.kinds.Counted.{Counted}
 use Rattle.plant_model.specs.declared.kinds.Counted.TheVariants as count
-use Rattle.plant_model.specs.declared.kinds.Effect.{Effect}
-use Rattle.plant_model.specs.declared.kinds.Effect.TheVariants.{Changes, Opens, Reads}
-use Rattle.plant_ration.specs.Grid.{Grid}
-use Rattle.plant_ration.specs.declared.change.ChangeKind.{ChangeKind}
-use Rattle.plant_ration.specs.declared.change.ChangeKind.TheVariants.{Limit, Matrix, Rationale}
-use Rattle.plant_ration.specs.declared.change.ChangeState.{ChangeState}
-use Rattle.plant_ration.specs.declared.change.ChangeState.TheVariants.{Approved, Rejected, Withdrawn}
-use Rattle.plant_ration.specs.declared.change.Proposal.{Proposal}
-use Rattle.plant_types.specs.Names.{Name}
-use Rattle.plant_types.specs.Roles.{Pair}
-use Rattle.plant_types.specs.declared.role.Role.{Role}
-use Rattle.plant_types.specs.declared.role.Role.TheVariants.{Approver, Engineer, Maintainer, Operator, Steward}
-use Rattle.std.specs.Prelude.{Bool, Err, List, None, Ok, Option, Result, Some, [], false, true, ℕ}
 
 abbrev pub kind_of : Request → CallKind
 kind_of (request.OpenUnit u s m q) = kind.OpenUnit

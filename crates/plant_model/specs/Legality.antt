@@ -1,13 +1,8 @@
 -- Which lists of calls are legal histories.
-use Rattle.plant_ration.specs.declared.change.ChangeKind.{ChangeKind}
-use Rattle.plant_ration.specs.declared.change.ChangeKind.TheVariants.{Limit, Matrix, Rationale}
-use Rattle.plant_ration.specs.declared.change.Proposal.{Proposal}
 use Rattle.std.specs.Prelude.{Bool, IsTrue, List, None, Option, Some, [], not, true, ◌&&◌, ◌∷◌}
-use Rattle.plant_model.specs.declared.call.Call.{Call}
-use Rattle.plant_model.specs.declared.call.Request.{Request}
-use Rattle.plant_model.specs.Kinds.{Opening, says}
-use Rattle.plant_model.specs.Verdicts.{changes_history, is_opening, verdict}
-use Rattle.plant_ration.specs.Matrix.{is_matrix}
+use Rattle.plant_ration.specs.{Matrix.{is_matrix}, declared.change.ChangeKind.{ChangeKind, TheVariants.{Limit, Matrix, Rationale}}}
+use Rattle.plant_ration.specs.declared.change.Proposal.{Proposal}
+use Rattle.plant_model.specs.{Kinds.{Opening, says}, Verdicts.{changes_history, is_opening, verdict}, declared.call.{Call.{Call}, Request.{Request}}}
 
 abbrev pub is_matrix_kind : ChangeKind → Bool
 is_matrix_kind (Rationale a s) = true

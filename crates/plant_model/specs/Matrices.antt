@@ -1,19 +1,10 @@
 -- The priority matrices of a unit (ISA-18.2: rationalisation), by number, and the places of their bands and cells.
-use Rattle.plant_model.specs.Changes.{matrix_in, proposals}
-use Rattle.std.specs.Prelude.{◌+◌}
-use Rattle.std.specs.List.{enumerate_from, range_with_len, slice_get}
-use Rattle.std.specs.Ordering.{nat_cmp, ordering_then}
-use Rattle.std.specs.Prelude.{List, None, Option, Some, [], flat_map, length, map, option_and_then, option_map, suc, zero, ℕ}
+use Rattle.std.specs.{List.{enumerate_from, range_with_len, slice_get}, Ordering.{nat_cmp, ordering_then}}
+use Rattle.std.specs.Prelude.{◌+◌, List, None, Option, Some, [], flat_map, length, map, option_and_then, option_map, suc, zero, ℕ}
 use Rattle.std.specs.declared.cmp.Ordering.{Ordering}
-use Rattle.plant_model.specs.declared.call.Call.{Call}
-use Rattle.plant_model.specs.declared.call.Request.{Request}
-use Rattle.plant_model.specs.declared.rows.BandRow.{BandRow}
-use Rattle.plant_model.specs.declared.rows.CellRow.{CellRow}
-use Rattle.plant_ration.specs.declared.cell.Cell.{Cell}
-use Rattle.plant_ration.specs.declared.change.Proposal.{Proposal}
-use Rattle.plant_model.specs.Histories.{latest, same_number}
-use Rattle.plant_model.specs.Kinds.{Opening, says}
-use Rattle.plant_ration.specs.Grid.{Grid}
+use Rattle.plant_model.specs.{Changes.{matrix_in, proposals}, Histories.{latest, same_number}, Kinds.{Opening, says}, declared.call.Call.{Call}}
+use Rattle.plant_model.specs.declared.{call.Request.{Request}, rows.{BandRow.{BandRow}, CellRow.{CellRow}}}
+use Rattle.plant_ration.specs.{Grid.{Grid}, declared.{cell.Cell.{Cell}, change.Proposal.{Proposal}}}
 use Rattle.plant_types.specs.Options.{when}
 
 abbrev pub numbered_by : List Call → Option Opening → Option Proposal → Option (ℕ × Grid)

@@ -1,17 +1,9 @@
 -- Whose a history is: its unit's, opened by the administrator, with an opening and grants of valid values.
-use Rattle.std.specs.Prelude.{Bool, List, None, Option, Some, [], is_none, not, true, ℕ, ◌&&◌, ◌∷◌, ◌||◌, ◌≡◌}
-use Rattle.std.specs.FinMap.{get}
+use Rattle.std.specs.{FinMap.{get}, Prelude.{Bool, List, None, Option, Some, [], is_none, not, true, ℕ, ◌&&◌, ◌∷◌, ◌||◌, ◌≡◌}}
 use Rattle.plant_ration.specs.Matrix.{is_matrix}
-use Rattle.plant_model.specs.Histories.{Begins, Over, Said}
-use Rattle.plant_model.specs.Kinds.{Opening, says}
-use Rattle.plant_model.specs.Verdicts.{is_opening}
-use Rattle.plant_model.specs.Worlds.{World, empty_world, next, unit_named}
-use Rattle.plant_model.specs.declared.call.Call.{Call}
-use Rattle.plant_model.specs.declared.call.Request.{Request}
-use Rattle.plant_types.specs.Names.{Name}
-use Rattle.plant_types.specs.Numbers.{is_quota}
-use Rattle.plant_types.specs.Roles.{Pair, same_role}
-use Rattle.plant_types.specs.Text.{in_person, in_unit_code, is_text}
+use Rattle.plant_model.specs.{Histories.{Begins, Over, Said}, Kinds.{Opening, says}, Verdicts.{is_opening}}
+use Rattle.plant_model.specs.{Worlds.{World, empty_world, next, unit_named}, declared.call.{Call.{Call}, Request.{Request}}}
+use Rattle.plant_types.specs.{Names.{Name}, Numbers.{is_quota}, Roles.{Pair, same_role}, Text.{in_person, in_unit_code, is_text}}
 use Rattle.plant_types.specs.declared.role.Role.TheVariants.{Steward}
 
 -- the values that an opening or a grant carries are of their sets

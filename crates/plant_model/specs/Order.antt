@@ -1,13 +1,10 @@
 -- Rows in the order of their keys, as a unit keeps them.
-use Rattle.std.specs.Ordering.{nat_cmp}
-use Rattle.std.specs.Prelude.{List}
+use Rattle.std.specs.{Ordering.{nat_cmp}, Prelude.{List}}
 use Rattle.plant_alarm.specs.declared.event.Event.{Event}
 use Rattle.plant_model.specs.Matrices.{band_cmp, cell_cmp}
 use Rattle.plant_model.specs.RowFacts.{alarm_tag, band_key, cell_key, change_number, event_number, record_tag, shelf_tag}
-use Rattle.plant_model.specs.declared.rows.ChangeEntry.{ChangeEntry}
-use Rattle.plant_model.specs.declared.rows.UnitRows.{UnitRows}
-use Rattle.plant_types.specs.Names.{Name, name_cmp}
-use Rattle.plant_types.specs.KeyedRows.{IsInOrder}
+use Rattle.plant_model.specs.declared.rows.{ChangeEntry.{ChangeEntry}, UnitRows.{UnitRows}}
+use Rattle.plant_types.specs.{KeyedRows.{IsInOrder}, Names.{Name, name_cmp}}
 
 -- the rows, whose tags are read so, rise by their tags
 abbrev pub TagsRise : {X : Type 0} → (X → Name) → List X → Type 0

@@ -1,26 +1,17 @@
 -- The part of a unit's rows that a call looks at: the unit's row, the caller's grants, and what its request selects.
+use Rattle.std.specs.List.{list_any}
+use Rattle.std.specs.Prelude.{◌&&◌, Bool, List, None, Option, Some, [], false, filter, if◌then◌else◌, length, nat_le, true, ℕ, ◌||◌}
 use Rattle.plant_alarm.specs.declared.event.Event.{Event}
 use Rattle.plant_import.specs.Needed.{needed}
 use Rattle.plant_model.specs.Histories.{same_number}
 use Rattle.plant_model.specs.Kinds.{AllAlarms, AllEvents, AllGrants, AllRecords, AllShelves, Approval, Content, File, NothingElse, OneAlarm, OneChange, OneRecord, Scope, Shelving, count_of, kind_of, scope_of}
-use Rattle.plant_model.specs.declared.kinds.Counted.{Counted}
+use Rattle.plant_model.specs.{RowChanges.{no_rows}, RowFacts.{change_found, holds_by, last_number, unit_read, pair_of}, declared.call.Call.{Call}}
+use Rattle.plant_model.specs.declared.{call.Request.{Request}, kinds.Counted.{Counted}}
 use Rattle.plant_model.specs.declared.kinds.Counted.TheVariants.{Alarms as AlarmsCounted, Changes as ChangesCounted, Events as EventsCounted, Nothing}
-use Rattle.plant_model.specs.RowChanges.{no_rows}
-use Rattle.plant_model.specs.RowFacts.{change_found, holds_by, last_number, unit_read}
-use Rattle.plant_model.specs.declared.rows.ChangeEntry.{ChangeEntry}
-use Rattle.plant_model.specs.declared.rows.ChangeTopic.{ChangeTopic}
+use Rattle.plant_model.specs.declared.rows.{ChangeEntry.{ChangeEntry}, ChangeTopic.{ChangeTopic}}
 use Rattle.plant_model.specs.declared.rows.ChangeTopic.TheVariants.{Limit as LimitTopic, Matrix as MatrixTopic, Record as RecordTopic}
-use Rattle.std.specs.List.{list_any}
-use Rattle.std.specs.Prelude.{◌&&◌}
-use Rattle.plant_model.specs.RowFacts.{pair_of}
-use Rattle.plant_model.specs.declared.call.Call.{Call}
-use Rattle.plant_model.specs.declared.call.Request.{Request}
-use Rattle.plant_model.specs.declared.rows.ShelfRow.{ShelfRow}
-use Rattle.plant_model.specs.declared.rows.UnitPart.{UnitPart}
-use Rattle.plant_model.specs.declared.rows.UnitRows.{UnitRows}
-use Rattle.plant_types.specs.Names.{Name, same_name}
-use Rattle.plant_types.specs.Roles.{Pair}
-use Rattle.std.specs.Prelude.{Bool, List, None, Option, Some, [], false, filter, if◌then◌else◌, length, nat_le, true, ℕ, ◌||◌}
+use Rattle.plant_model.specs.declared.rows.{ShelfRow.{ShelfRow}, UnitPart.{UnitPart}, UnitRows.{UnitRows}}
+use Rattle.plant_types.specs.{Names.{Name, same_name}, Roles.{Pair}}
 
 -- the rows of a scope, beside the unit's own row and the caller's grants: by pair, tag, number of a matrix, number of a change
 pub record Selection : Type 0 where

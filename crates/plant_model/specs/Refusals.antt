@@ -1,31 +1,17 @@
 -- When a call on a unit is refused, and why: the conditions that several calls share, and the first refusal whose condition
 -- holds. Results of shelving are named as in OPC 10000-9.
-use Rattle.plant_model.specs.Histories.{same_number}
-use Rattle.plant_model.specs.declared.reply.ChangeRow.{ChangeRow}
-use Rattle.plant_model.specs.declared.reply.Refused.TheVariants.{BaseChanged, ChangeUnknown, NotAnAlarm, NotProposed, OutsideMatrix}
-use Rattle.plant_ration.specs.Grid.{Grid}
-use Rattle.plant_ration.specs.Matrix.{priority_of, row_of}
-use Rattle.plant_ration.specs.declared.cell.Cell.{Cell}
-use Rattle.plant_ration.specs.declared.cell.Cell.TheVariants.{N}
-use Rattle.plant_ration.specs.declared.change.ChangeKind.{ChangeKind}
-use Rattle.plant_ration.specs.declared.change.ChangeKind.TheVariants.{Limit, Matrix, Rationale}
-use Rattle.plant_ration.specs.declared.change.ChangeState.{ChangeState}
-use Rattle.plant_ration.specs.declared.change.ChangeState.TheVariants.{Proposed}
-use Rattle.plant_types.specs.Limits.{max_events}
-use Rattle.plant_alarm.specs.declared.event.Event.{Event}
-use Rattle.plant_import.specs.Merging.{first_fault}
-use Rattle.plant_import.specs.declared.bad_file.BadFile.{BadFile}
-use Rattle.plant_import.specs.Numbers.{new_numbers}
-use Rattle.plant_model.specs.Facts.{Facts, limit_revision_of, matrix_revision_of, others_shelved, quota_of}
-use Rattle.plant_model.specs.RowFacts.{alarm_tag}
-use Rattle.plant_model.specs.declared.reply.Full.TheVariants.{Events as TooManyEvents}
-use Rattle.plant_model.specs.declared.reply.Refused.{Refused}
-use Rattle.plant_model.specs.declared.reply.Refused.TheVariants.{AlarmUnknown, BadFile as FileRefused, RoleLacking, ShelfQuota, UnitFull}
-use Rattle.plant_types.specs.Names.{Name}
-use Rattle.plant_types.specs.Roles.{all_roles}
-use Rattle.plant_types.specs.declared.role.Role.{Role}
 use Rattle.std.specs.List.{list_any}
 use Rattle.std.specs.Prelude.{Bool, Err, List, None, Ok, Option, Result, Some, [], false, if◌then◌else◌, is_none, is_some, length, map, nat_le, nat_lt, not, true, ℕ, ◌+◌, ◌∷◌}
+use Rattle.plant_model.specs.{Facts.{Facts, limit_revision_of, matrix_revision_of, others_shelved, quota_of}, Histories.{same_number}}
+use Rattle.plant_model.specs.{RowFacts.{alarm_tag}, declared.reply.{ChangeRow.{ChangeRow}, Full.TheVariants.{Events as TooManyEvents}}}
+use Rattle.plant_model.specs.declared.reply.Refused.{Refused}
+use Rattle.plant_model.specs.declared.reply.Refused.TheVariants.{BaseChanged, ChangeUnknown, NotAnAlarm, NotProposed, OutsideMatrix, AlarmUnknown, BadFile as FileRefused, RoleLacking, ShelfQuota, UnitFull}
+use Rattle.plant_ration.specs.{Grid.{Grid}, Matrix.{priority_of, row_of}, declared.cell.Cell.{Cell, TheVariants.{N}}}
+use Rattle.plant_ration.specs.declared.change.{ChangeKind.{ChangeKind, TheVariants.{Limit, Matrix, Rationale}}, ChangeState.{ChangeState}}
+use Rattle.plant_ration.specs.declared.change.ChangeState.TheVariants.{Proposed}
+use Rattle.plant_types.specs.{Limits.{max_events}, Names.{Name}, Roles.{all_roles}, declared.role.Role.{Role}}
+use Rattle.plant_alarm.specs.declared.event.Event.{Event}
+use Rattle.plant_import.specs.{Merging.{first_fault}, Numbers.{new_numbers}, declared.bad_file.BadFile.{BadFile}}
 
 -- no alarm has this tag
 abbrev pub unknown : Facts → Name → Bool × Refused

@@ -1,24 +1,12 @@
 -- What stands in the replies to accepted calls.
-use Rattle.plant_model.specs.Shelves.{shelf}
-use Rattle.plant_model.specs.declared.reply.ChangeRow.{ChangeRow}
-use Rattle.plant_model.specs.declared.reply.Reply.TheVariants.{ChangeOf as ChangeReply}
-use Rattle.plant_alarm.specs.Shelves.{is_unshelved, shelf_state}
-use Rattle.plant_alarm.specs.declared.event.Event.{Event}
-use Rattle.plant_alarm.specs.declared.shelf.ShelfState.{ShelfState}
+use Rattle.std.specs.Prelude.{List, None, Option, Some, false, filter_map, is_some, length, map, not, option_map, true, ℕ, ◌-◌, ◌||◌}
+use Rattle.plant_model.specs.{Facts.{Facts, returned}, Rows.{revision_of_limit}, Shelves.{shelf, shelf_left}, declared.reply.AlarmLine.{AlarmLine}}
+use Rattle.plant_model.specs.declared.reply.{ChangeRow.{ChangeRow}, Reply.{Reply}}
+use Rattle.plant_model.specs.declared.reply.{Reply.TheVariants.{ChangeOf as ChangeReply, Done, Imported, Status as StatusOf}, ShelfLine.{ShelfLine}}
+use Rattle.plant_model.specs.declared.{reply.{StandingLine.{StandingLine}, StatusRow.{StatusRow}}, rows.{AlarmRow.{AlarmRow}, ShelfRow.{ShelfRow}}}
+use Rattle.plant_alarm.specs.{Shelves.{is_unshelved, shelf_state}, declared.{event.Event.{Event}, shelf.ShelfState.{ShelfState}}}
 use Rattle.plant_alarm.specs.declared.shelf.ShelfState.TheVariants.{OneShotShelved, TimedShelved, Unshelved}
 use Rattle.plant_import.specs.Merging.{fresh}
-use Rattle.plant_model.specs.Facts.{Facts, returned}
-use Rattle.plant_model.specs.Rows.{revision_of_limit}
-use Rattle.plant_model.specs.Shelves.{shelf_left}
-use Rattle.plant_model.specs.declared.reply.AlarmLine.{AlarmLine}
-use Rattle.plant_model.specs.declared.reply.Reply.{Reply}
-use Rattle.plant_model.specs.declared.reply.Reply.TheVariants.{Done, Imported, Status as StatusOf}
-use Rattle.plant_model.specs.declared.reply.ShelfLine.{ShelfLine}
-use Rattle.plant_model.specs.declared.reply.StandingLine.{StandingLine}
-use Rattle.plant_model.specs.declared.reply.StatusRow.{StatusRow}
-use Rattle.plant_model.specs.declared.rows.AlarmRow.{AlarmRow}
-use Rattle.plant_model.specs.declared.rows.ShelfRow.{ShelfRow}
-use Rattle.std.specs.Prelude.{List, None, Option, Some, false, filter_map, is_some, length, map, not, option_map, true, ℕ, ◌-◌, ◌||◌}
 
 -- an alarm's state (ISA-18.2, IEC 62682): SuppressedOrShelved holds where it is shelved, suppressed by design or out of service
 abbrev pub status_of : AlarmRow → ShelfState → StatusRow

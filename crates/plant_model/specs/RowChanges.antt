@@ -1,41 +1,19 @@
 -- Changes of a unit's rows.
-use Rattle.plant_model.specs.Changes.{priority_by}
-use Rattle.plant_model.specs.RowFacts.{change_number, record_tag}
-use Rattle.plant_model.specs.Rows.{change_entry, with_limit}
-use Rattle.plant_model.specs.declared.reply.ChangeRow.{ChangeRow}
-use Rattle.plant_model.specs.declared.reply.RecordRow.{RecordRow}
-use Rattle.plant_model.specs.declared.rows.RecordEntry.{RecordEntry}
-use Rattle.plant_model.specs.declared.rows.Row.TheVariants.{Change as ChangePut, Record as RecordPut}
-use Rattle.plant_ration.specs.declared.change.ChangeKind.{ChangeKind}
-use Rattle.plant_ration.specs.declared.change.ChangeKind.TheVariants.{Limit, Matrix, Rationale}
-use Rattle.plant_ration.specs.declared.change.ChangeState.{ChangeState}
-use Rattle.plant_ration.specs.declared.change.ChangeState.TheVariants.{Approved}
-use Rattle.std.specs.Prelude.{Option}
-use Rattle.plant_import.specs.Numbers.{with_events}
-use Rattle.plant_alarm.specs.States.{active_since, is_suppressed, last_return, state_of}
-use Rattle.plant_alarm.specs.declared.event.Event.{Event}
+use Rattle.std.specs.{List.{list_any}, Ordering.{nat_cmp}}
+use Rattle.std.specs.Prelude.{Option, Bool, List, None, Some, [], false, filter, filter_map, map, max, true, ℕ, ◌++◌, ◌+◌, ◌∷◌, option_to_list}
+use Rattle.plant_model.specs.{Changes.{priority_by}, Facts.{Facts}, Matrices.{band_at, band_cmp, band_places, cell_cmp, cell_of, cell_places}}
+use Rattle.plant_model.specs.RowFacts.{change_number, record_tag, alarm_tag, band_key, cell_key, event_number, pair_of, shelf_tag}
+use Rattle.plant_model.specs.{Rows.{change_entry, with_limit}, declared.reply.{ChangeRow.{ChangeRow}, RecordRow.{RecordRow}}}
+use Rattle.plant_model.specs.declared.rows.{AlarmRow.{AlarmRow}, Key.{Key, TheVariants.{Grant as GrantKey, Shelf as ShelfKey}}}
+use Rattle.plant_model.specs.declared.rows.{RecordEntry.{RecordEntry}, Row.{Row}}
+use Rattle.plant_model.specs.declared.rows.Row.TheVariants.{Change as ChangePut, Record as RecordPut, Alarm as AlarmPut, Band as BandPut, Cell as CellPut, Event as EventPut, Grant as GrantPut, Shelf as ShelfPut, Unit as UnitPut}
+use Rattle.plant_model.specs.declared.rows.{RowEdit.{RowEdit, TheVariants.{Put, PutEvents, Remove}}, UnitRow.{UnitRow}, UnitRows.{UnitRows}}
+use Rattle.plant_ration.specs.{Grid.{Grid}, declared.change.ChangeKind.{ChangeKind, TheVariants.{Limit, Matrix, Rationale}}}
+use Rattle.plant_ration.specs.declared.change.ChangeState.{ChangeState, TheVariants.{Approved}}
+use Rattle.plant_import.specs.{Merging.{fresh}, Numbers.{with_events}}
+use Rattle.plant_alarm.specs.{States.{active_since, is_suppressed, last_return, state_of}, declared.event.Event.{Event}}
 use Rattle.plant_floods.specs.Activations.{of_alarm}
-use Rattle.plant_import.specs.Merging.{fresh}
-use Rattle.plant_model.specs.Facts.{Facts}
-use Rattle.plant_model.specs.Matrices.{band_at, band_cmp, band_places, cell_cmp, cell_of, cell_places}
-use Rattle.plant_model.specs.RowFacts.{alarm_tag, band_key, cell_key, event_number, pair_of, shelf_tag}
-use Rattle.plant_model.specs.declared.rows.AlarmRow.{AlarmRow}
-use Rattle.plant_model.specs.declared.rows.RowEdit.{RowEdit}
-use Rattle.plant_model.specs.declared.rows.RowEdit.TheVariants.{Put, PutEvents, Remove}
-use Rattle.plant_model.specs.declared.rows.Key.{Key}
-use Rattle.plant_model.specs.declared.rows.Key.TheVariants.{Grant as GrantKey, Shelf as ShelfKey}
-use Rattle.plant_model.specs.declared.rows.Row.{Row}
-use Rattle.plant_model.specs.declared.rows.Row.TheVariants.{Alarm as AlarmPut, Band as BandPut, Cell as CellPut, Event as EventPut, Grant as GrantPut, Shelf as ShelfPut, Unit as UnitPut}
-use Rattle.plant_model.specs.declared.rows.UnitRow.{UnitRow}
-use Rattle.plant_model.specs.declared.rows.UnitRows.{UnitRows}
-use Rattle.plant_ration.specs.Grid.{Grid}
-use Rattle.plant_types.specs.Names.{Name, name_cmp, same_name}
-use Rattle.plant_types.specs.Roles.{pair_cmp}
-use Rattle.plant_types.specs.KeyedRows.{put_row, remove_row}
-use Rattle.std.specs.List.{list_any}
-use Rattle.std.specs.Option.{option_to_list}
-use Rattle.std.specs.Ordering.{nat_cmp}
-use Rattle.std.specs.Prelude.{Bool, List, None, Some, [], false, filter, filter_map, map, max, true, ℕ, ◌++◌, ◌+◌, ◌∷◌}
+use Rattle.plant_types.specs.{KeyedRows.{put_row, remove_row}, Names.{Name, name_cmp, same_name}, Roles.{pair_cmp}}
 
 abbrev pub put : Row → UnitRows → UnitRows
 put (UnitPut r) rows = record rows { units = r ∷ [] }

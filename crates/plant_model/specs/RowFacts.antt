@@ -1,37 +1,17 @@
 -- The facts that a verdict looks at, read from rows.
+use Rattle.std.specs.{List.{range_with_len, list_any, slice_get}, Ordering.{nat_cmp}}
+use Rattle.std.specs.Prelude.{Bool, List, Option, [], filter, filter_map, map, option_and_then, true, ◌&&◌, ◌∷◌, count_by, false, length, option_map, unwrap_or, ℕ, ◌-◌}
 use Rattle.plant_alarm.specs.declared.event.Event.{Event}
-use Rattle.plant_model.specs.Histories.{same_number}
-use Rattle.plant_model.specs.declared.reply.ChangeRow.{ChangeRow}
-use Rattle.plant_model.specs.declared.reply.RecordRow.{RecordRow}
-use Rattle.plant_model.specs.declared.rows.ChangeEntry.{ChangeEntry}
-use Rattle.plant_model.specs.declared.rows.ChangeTopic.{ChangeTopic}
+use Rattle.plant_model.specs.{Facts.{Facts, is_steward_row}, Grants.{is_before}, Histories.{same_number}, Matrices.{BandKey, CellKey}}
+use Rattle.plant_model.specs.declared.{reply.{ChangeRow.{ChangeRow}, RecordRow.{RecordRow}}, rows.{AlarmRow.{AlarmRow}, BandRow.{BandRow}}}
+use Rattle.plant_model.specs.declared.rows.{CellRow.{CellRow}, ChangeEntry.{ChangeEntry}, ChangeTopic.{ChangeTopic}}
 use Rattle.plant_model.specs.declared.rows.ChangeTopic.TheVariants.{Limit as LimitTopic, Matrix as MatrixTopic, Record as RecordTopic}
-use Rattle.plant_model.specs.declared.rows.RecordEntry.{RecordEntry}
-use Rattle.plant_ration.specs.Grid.{Grid}
-use Rattle.plant_ration.specs.declared.cell.Cell.{Cell}
-use Rattle.plant_ration.specs.declared.change.ChangeKind.{ChangeKind}
-use Rattle.plant_ration.specs.declared.change.ChangeKind.TheVariants.{Limit, Matrix, Rationale}
+use Rattle.plant_model.specs.declared.rows.{GrantRow.{GrantRow}, RecordEntry.{RecordEntry}, ShelfRow.{ShelfRow}, UnitPart.{UnitPart}}
+use Rattle.plant_model.specs.declared.rows.{UnitRow.{UnitRow}, UnitRows.{UnitRows}}
+use Rattle.plant_ration.specs.{Grid.{Grid}, declared.{cell.Cell.{Cell}, change.ChangeKind.{ChangeKind, TheVariants.{Limit, Matrix, Rationale}}}}
 use Rattle.plant_ration.specs.declared.change.Sheet.{Sheet}
-use Rattle.std.specs.List.{range_with_len}
-use Rattle.std.specs.Ordering.{nat_cmp}
-use Rattle.std.specs.Prelude.{Bool, List, Option, [], filter, filter_map, map, option_and_then, true, ◌&&◌, ◌∷◌}
+use Rattle.plant_types.specs.{KeyedRows.{row_at}, Names.{Name, name_cmp}, Roles.{Pair, all_roles, pair_cmp, same_pair}}
 pub use Rattle.plant_import.specs.Numbers.{event_number}
-use Rattle.plant_model.specs.Facts.{Facts, is_steward_row}
-use Rattle.plant_model.specs.Grants.{is_before}
-use Rattle.plant_model.specs.Matrices.{BandKey, CellKey}
-use Rattle.plant_model.specs.declared.rows.AlarmRow.{AlarmRow}
-use Rattle.plant_model.specs.declared.rows.BandRow.{BandRow}
-use Rattle.plant_model.specs.declared.rows.CellRow.{CellRow}
-use Rattle.plant_model.specs.declared.rows.GrantRow.{GrantRow}
-use Rattle.plant_model.specs.declared.rows.ShelfRow.{ShelfRow}
-use Rattle.plant_model.specs.declared.rows.UnitPart.{UnitPart}
-use Rattle.plant_model.specs.declared.rows.UnitRow.{UnitRow}
-use Rattle.plant_model.specs.declared.rows.UnitRows.{UnitRows}
-use Rattle.plant_types.specs.Names.{Name, name_cmp}
-use Rattle.plant_types.specs.Roles.{Pair, all_roles, pair_cmp, same_pair}
-use Rattle.plant_types.specs.KeyedRows.{row_at}
-use Rattle.std.specs.List.{list_any, slice_get}
-use Rattle.std.specs.Prelude.{count_by, false, length, option_map, unwrap_or, ℕ, ◌-◌}
 
 -- the keys of rows
 abbrev pub pair_of : GrantRow → Pair

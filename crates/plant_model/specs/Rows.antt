@@ -1,39 +1,19 @@
 -- The rows of a unit, from its history: each table has the rows of the keys that the history names, in their order.
-use Rattle.plant_model.specs.Changes.{change, kind_of_change, limit_revision, matrix, matrix_revision, number_approved, proposals, record_of}
-use Rattle.plant_model.specs.declared.reply.ChangeRow.{ChangeRow}
-use Rattle.plant_model.specs.declared.reply.RecordRow.{RecordRow}
-use Rattle.plant_model.specs.declared.rows.ChangeEntry.{ChangeEntry}
-use Rattle.plant_model.specs.declared.rows.ChangeTopic.{ChangeTopic}
-use Rattle.plant_model.specs.declared.rows.ChangeTopic.TheVariants.{Limit as LimitTopic, Matrix as MatrixTopic, Record as RecordTopic}
-use Rattle.plant_model.specs.declared.rows.RecordEntry.{RecordEntry}
-use Rattle.plant_ration.specs.declared.change.ChangeKind.{ChangeKind}
-use Rattle.plant_ration.specs.declared.change.ChangeKind.TheVariants.{Limit, Matrix, Rationale}
-use Rattle.plant_ration.specs.declared.change.Sheet.{Sheet}
-use Rattle.std.specs.Option.{option_to_list}
 use Rattle.std.specs.Ordering.{nat_cmp}
-use Rattle.plant_alarm.specs.States.{active_since, is_suppressed, last_return, state_of}
-use Rattle.plant_alarm.specs.declared.event.Event.{Event}
+use Rattle.std.specs.Prelude.{option_to_list, Bool, List, None, Option, Some, [], filter_map, map, option_and_then, option_map, unwrap_or, ℕ, ◌+◌, ◌∷◌}
 use Rattle.plant_model.specs.Alarms.{latching, limit, quota}
-use Rattle.plant_model.specs.Events.{events, events_of}
-use Rattle.plant_model.specs.Grants.{standing}
-use Rattle.plant_model.specs.Histories.{all_named, last_moment}
-use Rattle.plant_model.specs.Kinds.{says}
+use Rattle.plant_model.specs.Changes.{change, kind_of_change, limit_revision, matrix, matrix_revision, number_approved, proposals, record_of}
+use Rattle.plant_model.specs.{Events.{events, events_of}, Grants.{standing}, Histories.{all_named, last_moment}, Kinds.{says}}
 use Rattle.plant_model.specs.Matrices.{BandKey, CellKey, band_at, band_cmp, band_places, cell_cmp, cell_of, cell_places, matrix_numbered, numbered_matrix, places_in}
-use Rattle.plant_model.specs.Service.{Outage, outage}
-use Rattle.plant_model.specs.Shelves.{shelf}
-use Rattle.plant_model.specs.declared.call.Call.{Call}
-use Rattle.plant_model.specs.declared.call.Request.{Request}
-use Rattle.plant_model.specs.declared.rows.AlarmRow.{AlarmRow}
-use Rattle.plant_model.specs.declared.rows.BandRow.{BandRow}
-use Rattle.plant_model.specs.declared.rows.CellRow.{CellRow}
-use Rattle.plant_model.specs.declared.rows.GrantRow.{GrantRow}
-use Rattle.plant_model.specs.declared.rows.ShelfRow.{ShelfRow}
-use Rattle.plant_model.specs.declared.rows.UnitRow.{UnitRow}
+use Rattle.plant_model.specs.{Service.{Outage, outage}, Shelves.{shelf}, declared.call.{Call.{Call}, Request.{Request}}}
+use Rattle.plant_model.specs.declared.{reply.{ChangeRow.{ChangeRow}, RecordRow.{RecordRow}}, rows.{AlarmRow.{AlarmRow}, BandRow.{BandRow}}}
+use Rattle.plant_model.specs.declared.rows.{CellRow.{CellRow}, ChangeEntry.{ChangeEntry}, ChangeTopic.{ChangeTopic}}
+use Rattle.plant_model.specs.declared.rows.ChangeTopic.TheVariants.{Limit as LimitTopic, Matrix as MatrixTopic, Record as RecordTopic}
+use Rattle.plant_model.specs.declared.rows.{GrantRow.{GrantRow}, RecordEntry.{RecordEntry}, ShelfRow.{ShelfRow}, UnitRow.{UnitRow}}
 use Rattle.plant_model.specs.declared.rows.UnitRows.{UnitRows}
-use Rattle.plant_types.specs.Names.{Name, name_cmp}
-use Rattle.plant_types.specs.Roles.{Pair, pair_cmp}
-use Rattle.plant_types.specs.KeyedRows.{in_order}
-use Rattle.std.specs.Prelude.{Bool, List, None, Option, Some, [], filter_map, map, option_and_then, option_map, unwrap_or, ℕ, ◌+◌, ◌∷◌}
+use Rattle.plant_ration.specs.declared.change.{ChangeKind.{ChangeKind, TheVariants.{Limit, Matrix, Rationale}}, Sheet.{Sheet}}
+use Rattle.plant_alarm.specs.{States.{active_since, is_suppressed, last_return, state_of}, declared.event.Event.{Event}}
+use Rattle.plant_types.specs.{KeyedRows.{in_order}, Names.{Name, name_cmp}, Roles.{Pair, pair_cmp}}
 
 abbrev pub pairs_named : Request → List Pair
 pairs_named r = option_to_list (option_map (λ e. e.0) (says r).pair)

@@ -1,11 +1,7 @@
 -- Out of service (ISA-18.2, IEC 62682): the third kind of suppression, beside shelving and suppression by design.
 use Rattle.std.specs.Prelude.{List, None, Option, Some, ℕ}
-use Rattle.plant_model.specs.declared.call.Call.{Call}
-use Rattle.plant_model.specs.declared.call.Request.{Request}
-use Rattle.plant_model.specs.Histories.{Begins, Over, Said, latest, still}
-use Rattle.plant_model.specs.Kinds.{says}
-use Rattle.plant_types.specs.Names.{Name, same_name}
-use Rattle.plant_types.specs.Options.{when}
+use Rattle.plant_model.specs.{Histories.{Begins, Over, Said, latest, still}, Kinds.{says}, declared.call.{Call.{Call}, Request.{Request}}}
+use Rattle.plant_types.specs.{Names.{Name, same_name}, Options.{when}}
 
 -- when, by whom and why an alarm was removed from service
 pub record Outage : Type 0 where

@@ -1,15 +1,9 @@
 -- Shelving: what the last method of the shelved state machine of OPC 10000-9 left.
 use Rattle.std.specs.Prelude.{Bool, List, None, Option, Some, false, if◌then◌else◌, true, unwrap_or, ℕ, ◌+◌}
-use Rattle.plant_alarm.specs.declared.shelf.Shelf.{Shelf}
-use Rattle.plant_alarm.specs.declared.shelf.Shelf.TheVariants.{Clear, OneShot, Timed}
-use Rattle.plant_model.specs.declared.call.Call.{Call}
-use Rattle.plant_model.specs.declared.call.Request.{Request}
-use Rattle.plant_model.specs.declared.rows.ShelfRow.{ShelfRow}
-use Rattle.plant_model.specs.Alarms.{limit}
-use Rattle.plant_model.specs.Histories.{Begins, Over, Said, latest, still}
-use Rattle.plant_model.specs.Kinds.{NewShelf, OneShotShelf, TimedShelf, says}
-use Rattle.plant_types.specs.Names.{Name, same_name}
-use Rattle.plant_types.specs.Options.{when}
+use Rattle.plant_alarm.specs.declared.shelf.Shelf.{Shelf, TheVariants.{Clear, OneShot, Timed}}
+use Rattle.plant_model.specs.{Alarms.{limit}, Histories.{Begins, Over, Said, latest, still}, Kinds.{NewShelf, OneShotShelf, TimedShelf, says}}
+use Rattle.plant_model.specs.declared.{call.{Call.{Call}, Request.{Request}}, rows.ShelfRow.{ShelfRow}}
+use Rattle.plant_types.specs.{Names.{Name, same_name}, Options.{when}}
 
 -- a shelf's row: by whom and why, whether it is a one-shot, its start and its end
 abbrev pub shelf_row_as : Bool → ℕ → ℕ → Name → Name → Name → ShelfRow

@@ -1,14 +1,9 @@
 -- What a unit answers to a call: the first refusal whose condition holds, else the reply.
-use Rattle.plant_model.specs.Calls.{own_refusals, reply}
-use Rattle.plant_model.specs.Facts.{Facts, facts, last_of}
-use Rattle.plant_model.specs.Kinds.{role_needed}
-use Rattle.plant_model.specs.Refusals.{first_refusal, holds_some, lacks_role}
-use Rattle.plant_model.specs.declared.call.Call.{Call}
-pub use Rattle.plant_model.specs.Kinds.{is_opening, is_read}
-use Rattle.plant_model.specs.declared.reply.Refused.{Refused}
-use Rattle.plant_model.specs.declared.reply.Refused.TheVariants.{MomentBehind, NotGranted}
-use Rattle.plant_model.specs.declared.reply.Reply.{Reply}
 use Rattle.std.specs.Prelude.{Bool, Err, List, None, Ok, Option, Result, Some, if◌then◌else◌, is_ok, nat_lt, not, ◌&&◌, ◌++◌, ◌∷◌}
+use Rattle.plant_model.specs.{Calls.{own_refusals, reply}, Facts.{Facts, facts, last_of}, Kinds.{role_needed}}
+use Rattle.plant_model.specs.{Refusals.{first_refusal, holds_some, lacks_role}, declared.{call.Call.{Call}, reply.Refused.{Refused}}}
+use Rattle.plant_model.specs.declared.reply.{Refused.TheVariants.{MomentBehind, NotGranted}, Reply.{Reply}}
+pub use Rattle.plant_model.specs.Kinds.{is_opening, is_read}
 
 -- the refusals of a call by a person who holds some role in the unit
 abbrev pub refusals_of_holder : Facts → Call → List (Bool × Refused)

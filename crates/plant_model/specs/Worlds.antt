@@ -1,26 +1,13 @@
 -- The office: an administrator, and for each opened unit its history.
-use Rattle.plant_model.specs.Kinds.{OneUnit, OwnShelves, OwnUnits, Subject, subject_of}
-pub use Rattle.plant_model.specs.Kinds.{unit_named}
-use Rattle.plant_model.specs.Facts.{facts}
-use Rattle.plant_model.specs.Grants.{holds_any, roles_held}
-use Rattle.plant_model.specs.Histories.{last_moment}
-use Rattle.plant_model.specs.Legality.{IsLegal}
-use Rattle.plant_model.specs.Replies.{shelf_lines}
-use Rattle.plant_model.specs.Verdicts.{changes_history, is_opening, verdict}
-use Rattle.plant_model.specs.declared.call.Call.{Call}
-use Rattle.plant_model.specs.declared.call.Request.{Request}
-use Rattle.plant_model.specs.declared.reply.MineLine.{MineLine}
-use Rattle.plant_model.specs.declared.reply.Refused.{Refused}
-use Rattle.plant_model.specs.declared.reply.Refused.TheVariants.{MomentBehind, NotAdministrator, UnitTaken}
-use Rattle.plant_model.specs.declared.reply.Reply.{Reply}
-use Rattle.plant_model.specs.declared.reply.Reply.TheVariants.{Done, Mine, Units}
-use Rattle.plant_model.specs.declared.reply.ShelfLine.{ShelfLine}
-use Rattle.plant_model.specs.declared.reply.UnitLine.{UnitLine}
-use Rattle.plant_types.specs.Names.{Name, name_cmp, same_name}
-use Rattle.plant_types.specs.Options.{when}
 use Rattle.std.specs.FinMap.{FinMap, contains_key, empty, get, insert, keys}
-use Rattle.std.specs.List.{flat_map}
-use Rattle.std.specs.Prelude.{Bool, Err, List, None, Ok, Option, Result, Some, [], filter_map, fold, if◌then◌else◌, map, max, nat_lt, not, unwrap_or, ℕ, ◌∷◌, ◌≡◌}
+use Rattle.std.specs.Prelude.{flat_map, Bool, Err, List, None, Ok, Option, Result, Some, [], filter_map, fold, if◌then◌else◌, map, max, nat_lt, not, unwrap_or, ℕ, ◌∷◌, ◌≡◌}
+use Rattle.plant_model.specs.{Facts.{facts}, Grants.{holds_any, roles_held}, Histories.{last_moment}}
+use Rattle.plant_model.specs.{Kinds.{OneUnit, OwnShelves, OwnUnits, Subject, subject_of}, Legality.{IsLegal}, Replies.{shelf_lines}}
+use Rattle.plant_model.specs.{Verdicts.{changes_history, is_opening, verdict}, declared.call.{Call.{Call}, Request.{Request}}}
+use Rattle.plant_model.specs.declared.reply.{MineLine.{MineLine}, Refused.{Refused, TheVariants.{MomentBehind, NotAdministrator, UnitTaken}}}
+use Rattle.plant_model.specs.declared.reply.{Reply.{Reply, TheVariants.{Done, Mine, Units}}, ShelfLine.{ShelfLine}, UnitLine.{UnitLine}}
+use Rattle.plant_types.specs.{Names.{Name, name_cmp, same_name}, Options.{when}}
+pub use Rattle.plant_model.specs.Kinds.{unit_named}
 
 pub record World : Type 0 where
   pub admin : Name

@@ -1,11 +1,9 @@
 //! Which grants are held at a moment.
 
-ghost use Rattle.std.specs.Prelude.{◌≡◌, option_copied};
-ghost use Rattle.std.specs.List.{list_any};
-ghost use Rattle.plant_model.specs.Grants as grants;
+ghost use Rattle.std.specs.{List.{list_any}, Prelude.{◌≡◌, option_copied}};
 ghost use Rattle.plant_model.specs.RowFacts.{held_by, holds_by, pair_of};
-ghost use Rattle.plant_types.specs.Roles.{pair_cmp, same_pair};
-ghost use Rattle.plant_types.specs.KeyedRows.{row_at};
+ghost use Rattle.plant_types.specs.{KeyedRows.{row_at}, Roles.{pair_cmp, same_pair}};
+ghost use Rattle.plant_model.specs.Grants as grants;
 
 use crate::GrantRow;
 use plant_types::{Moment, Person, Role};

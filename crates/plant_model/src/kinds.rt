@@ -1,10 +1,7 @@
 ghost use Rattle.std.specs.Prelude.{◌≡◌, option_copied, option_map};
-ghost use Rattle.plant_model.specs.Events.{rows_of_file};
+ghost use Rattle.plant_model.specs.{Events.{rows_of_file}, Kinds.{scope_of_proposal}, Parts.{selection}, Scopes.{IsScopeOf, Selects}};
 ghost use Rattle.plant_model.specs.Kinds as kinds;
-ghost use Rattle.plant_model.specs.Kinds.{scope_of_proposal};
-ghost use Rattle.plant_model.specs.Parts.{selection};
 ghost use Rattle.plant_model.specs.Scopes as scopes;
-ghost use Rattle.plant_model.specs.Scopes.{IsScopeOf, Selects};
 
 use crate::{ChangeEntry, Request};
 use plant_alarm::Event;

@@ -1,8 +1,8 @@
 //! What holds of the definitions alone: contracts that stand on empty bodies.
 
 ghost use Rattle.plant_model.specs.ImportLaw.{ImportsAgree};
-ghost use Rattle.plant_model.specs.Openings.{HistoriesAreOwn};
 ghost use Rattle.plant_model.specs.Laws.{UnseenCallsChangeNothing, CodesAreTheAdministrators, EqualViewsEqualAnswers, CallsToSeenUnits, OthersCallsCanGo, NextWorldsAreLegal, WithoutEndsStandingIsHolding, QuotaOf2000RefusesNothing, ShelvesEndByReturns};
+ghost use Rattle.plant_model.specs.Openings.{HistoriesAreOwn};
 
 /// Isolation: what one person sees of two worlds.
 pub fn two_worlds()

@@ -1,63 +1,27 @@
 -- Books that hold the rows of a world, and what a call does to them.
-use Rattle.plant_model.specs.Calls.{reply}
-use Rattle.std.proofs.Common.{true≢false, ap, arith, inl, inr, refl, subst, sym, ◌++◌, ◌∙◌}
-use Rattle.std.proofs.lemmas.Bool.Decides.{nat_tests}
-use Rattle.std.proofs.lemmas.List.Elements.{filter_map-append}
-use Rattle.std.specs.FinMap.Entries.{find as found}
-use Rattle.std.specs.FinMap.{contains_key, get, get-insert, keys}
-use Rattle.std.specs.List.{cons_option, flat_map}
-use Rattle.std.specs.Prelude.{Bool, Err, IfOk, IfSome, IsErrAnd, List, None, Ok, OnErr, Option, Result, Some, [], cond, false, filter_map, fold, if◌then◌else◌, is_ok, is_some, map, max, nat_lt, not, option_and_then, option_map, true, unwrap_or, ℕ, ◌<◌, ◌∷◌, ◌≡◌, ◌≤◌}
-use Rattle.plant_books.specs.declared.books.MineRow.{MineRow}
-use Rattle.plant_books.specs.declared.books.MineUnit.{MineUnit}
-use Rattle.plant_model.specs.declared.call.Call.{Call}
-use Rattle.plant_model.specs.declared.call.Request.TheVariants.{MyShelves, MyUnits, OpenUnit}
-use Rattle.plant_model.specs.declared.call.Request.{Request}
-use Rattle.plant_model.specs.declared.reply.Answer.TheVariants.{Fault as Faulted, Refused as WasRefused, Reply as Replied}
-use Rattle.plant_model.specs.declared.reply.Answer.{Answer}
-use Rattle.plant_model.specs.declared.reply.MineLine.{MineLine}
-use Rattle.plant_model.specs.declared.reply.Refused.TheVariants.{MomentBehind, NotGranted}
-use Rattle.plant_model.specs.declared.reply.Refused.{Refused}
-use Rattle.plant_model.specs.declared.reply.Reply.TheVariants.{Mine, Units}
-use Rattle.plant_model.specs.declared.reply.Reply.{Reply}
-use Rattle.plant_model.specs.declared.reply.UnitLine.{UnitLine}
-use Rattle.plant_model.specs.declared.rows.AlarmRow.{AlarmRow}
-use Rattle.plant_model.specs.declared.rows.RowEdit.{RowEdit}
-use Rattle.plant_model.specs.declared.rows.UnitPart.{UnitPart}
-use Rattle.plant_model.specs.declared.rows.UnitRows.{UnitRows}
-use Rattle.plant_model.specs.declared.rows.Verdict.TheVariants.{Accepted as IsAccepted, Refused as IsRefused}
-use Rattle.plant_model.specs.declared.rows.Verdict.{Verdict}
-use Rattle.plant_types.specs.declared.fault.Fault.{Fault}
-use Rattle.plant_alarm.specs.Shelves.{shelf_state}
-use Rattle.plant_books.specs.Contents.{Content, IsKnownTo, after_changes, mine_row, mine_shelves, mine_unit, mine_units, part_in, rows_in, shelves_mine, with_rows}
-use Rattle.plant_books.specs.Counting.{Counts, CountsFault}
-use Rattle.plant_books.specs.declared.books.Books.{Ghosts}
-use Rattle.plant_model.proofs.public.Base.{lt}
-use Rattle.plant_model.proofs.public.FactLaws.{alarm_in}
-use Rattle.plant_model.proofs.public.HeldLaws.{any_of_rows, roles_of_rows}
+use Rattle.std.specs.{FinMap.{contains_key, get, get-insert, keys, Entries.{find as found}}, List.{cons_option}}
+use Rattle.std.proofs.Common.{true≢false, ap, arith, inl, inr, refl, subst, sym, ◌++◌, ◌∙◌, flat_map, Bool, Err, IfOk, IfSome, IsErrAnd, List, None, Ok, OnErr, Option, Result, Some, [], cond, false, filter_map, fold, if◌then◌else◌, is_ok, is_some, map, max, nat_lt, not, option_and_then, option_map, true, unwrap_or, ℕ, ◌<◌, ◌∷◌, ◌≡◌, ◌≤◌}
+use Rattle.std.proofs.lemmas.{Bool.Decides.{nat_tests}, List.Elements.{filter_map-append}}
+use Rattle.plant_model.specs.{Calls.{reply}, Facts.{facts, returned}, Grants.{held, holds_any, roles_held}, Histories.{last_moment}}
+use Rattle.plant_model.specs.{Legality.{has_matrix}, Parts.{part_of, part_of_holder, part_of_stranger}, Replies.{line_of, shelf_lines}}
+use Rattle.plant_model.specs.{RowChanges.{changed_by, no_rows}, RowFacts.{holds_by, last_return}, Rows.{alarm_rows, rows_of, shelf_rows}}
+use Rattle.plant_model.specs.{Shelves.{shelf_left}, Verdicts.{changes_history, is_opening, is_read, verdict}, Views.{view}}
+use Rattle.plant_model.specs.Worlds.{IsLegalWorld, World, answer, answer_at, answer_of_units, by_admin, greatest_last, history, is_taken, mine_line, mine_lines, next, next_at, opening, reply_of_units, unit_lines, unit_named, unit_seen, units_held, with_call}
+use Rattle.plant_model.specs.declared.{call.{Call.{Call}, Request.{Request, TheVariants.{MyShelves, MyUnits, OpenUnit}}}, reply.Answer.{Answer}}
+use Rattle.plant_model.specs.declared.reply.{Answer.TheVariants.{Fault as Faulted, Refused as WasRefused, Reply as Replied}, MineLine.{MineLine}}
+use Rattle.plant_model.specs.declared.reply.{Refused.{Refused, TheVariants.{MomentBehind, NotGranted}}, Reply.{Reply, TheVariants.{Mine, Units}}}
+use Rattle.plant_model.specs.declared.{reply.UnitLine.{UnitLine}, rows.{AlarmRow.{AlarmRow}, RowEdit.{RowEdit}, UnitPart.{UnitPart}}}
+use Rattle.plant_model.specs.declared.rows.{UnitRows.{UnitRows}, Verdict.{Verdict, TheVariants.{Accepted as IsAccepted, Refused as IsRefused}}}
+use Rattle.plant_model.proofs.public.{Base.{lt}, FactLaws.{alarm_in}, HeldLaws.{any_of_rows, roles_of_rows}}
 use Rattle.plant_model.proofs.public.LegalLaws.{next_legal, own_units_after, same_unit, there_of_held}
 use Rattle.plant_model.proofs.public.WorldLaws.{Said, equal_views, not_granted, refused_changes, same_keys, same_seen, view_alike}
-use Rattle.plant_model.specs.Facts.{facts, returned}
-use Rattle.plant_model.specs.Grants.{held, holds_any, roles_held}
-use Rattle.plant_model.specs.Histories.{last_moment}
-use Rattle.plant_model.specs.Legality.{has_matrix}
-use Rattle.plant_model.specs.Parts.{part_of, part_of_holder, part_of_stranger}
-use Rattle.plant_model.specs.Replies.{line_of, shelf_lines}
-use Rattle.plant_model.specs.RowChanges.{changed_by, no_rows}
-use Rattle.plant_model.specs.RowFacts.{holds_by, last_return}
-use Rattle.plant_model.specs.Rows.{alarm_rows, rows_of, shelf_rows}
-use Rattle.plant_model.specs.Shelves.{shelf_left}
-use Rattle.plant_model.specs.Verdicts.{changes_history, is_opening, is_read, verdict}
-use Rattle.plant_model.specs.Views.{view}
-use Rattle.plant_model.specs.Worlds.{IsLegalWorld, World, answer, answer_at, answer_of_units, by_admin, greatest_last, history, is_taken, mine_line, mine_lines, next, next_at, opening, reply_of_units, unit_lines, unit_named, unit_seen, units_held, with_call}
-use Rattle.plant_office.specs.Answers.{CountsAnswer, IfSaid, OnFault, answer_as}
-use Rattle.plant_office.specs.Lines.{line_of_mine, line_of_shelf}
-use Rattle.plant_office.specs.Runs.{IsAlike}
-use Rattle.plant_office.specs.Served.{Holds, IsIsolated, IsOwnUnit, IsServed}
-use Rattle.plant_office.specs.Serves.{Serves}
-use Rattle.plant_types.proofs.public.DateTests.{left}
+use Rattle.plant_books.specs.Contents.{Content, IsKnownTo, after_changes, mine_row, mine_shelves, mine_unit, mine_units, part_in, rows_in, shelves_mine, with_rows}
+use Rattle.plant_books.specs.{Counting.{Counts, CountsFault}, declared.books.{Books.{Ghosts}, MineRow.{MineRow}, MineUnit.{MineUnit}}}
+use Rattle.plant_types.{specs.{Names.{Name, same_name}, Options.{when}, declared.fault.Fault.{Fault}}, proofs.public.Halves.{left}}
 use Rattle.plant_types.proofs.public.Orders.{name_total}
-use Rattle.plant_types.specs.Names.{Name, same_name}
-use Rattle.plant_types.specs.Options.{when}
+use Rattle.plant_alarm.specs.Shelves.{shelf_state}
+use Rattle.plant_office.specs.{Answers.{CountsAnswer, IfSaid, OnFault, answer_as}, Lines.{line_of_mine, line_of_shelf}, Runs.{IsAlike}}
+use Rattle.plant_office.specs.{Served.{Holds, IsIsolated, IsOwnUnit, IsServed}, Serves.{Serves}}
 use Rattle.plant_unit.specs.Judged.{IsOpening, IsPartOf, IsVerdictOn}
 
 -- a call was answered as the world answers it, and these contents hold the rows of the world after it

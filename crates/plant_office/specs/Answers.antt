@@ -1,9 +1,7 @@
 -- What an answer says.
 use Rattle.std.specs.Prelude.{Err, None, Ok, Option, Result, Some, ℕ, ◌≡◌}
-use Rattle.plant_model.specs.declared.reply.Answer.{Answer}
-use Rattle.plant_model.specs.declared.reply.Answer.TheVariants.{Fault as Faulted, Refused as WasRefused, Reply as Replied}
-use Rattle.plant_model.specs.declared.reply.Refused.{Refused}
-use Rattle.plant_model.specs.declared.reply.Reply.{Reply}
+use Rattle.plant_model.specs.declared.reply.Answer.{Answer, TheVariants.{Fault as Faulted, Refused as WasRefused, Reply as Replied}}
+use Rattle.plant_model.specs.declared.reply.{Refused.{Refused}, Reply.{Reply}}
 use Rattle.plant_types.specs.declared.fault.Fault.{Fault}
 use Rattle.plant_books.specs.Counting.{CountsFault}
 

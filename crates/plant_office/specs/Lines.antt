@@ -1,13 +1,8 @@
 -- The lines of a person's units and shelves.
 use Rattle.std.specs.Prelude.{Option, Some, option_map, ℕ}
-use Rattle.plant_books.specs.declared.books.MineRow.{MineRow}
-use Rattle.plant_books.specs.declared.books.MineUnit.{MineUnit}
-use Rattle.plant_model.specs.declared.reply.MineLine.{MineLine}
-use Rattle.plant_model.specs.declared.reply.UnitLine.{UnitLine}
+use Rattle.plant_books.specs.declared.books.{MineRow.{MineRow}, MineUnit.{MineUnit}}
+use Rattle.plant_model.specs.{Replies.{line_of}, Shelves.{shelf_left}, Worlds.{mine_line}, declared.reply.{MineLine.{MineLine}, UnitLine.{UnitLine}}}
 use Rattle.plant_alarm.specs.Shelves.{shelf_state}
-use Rattle.plant_model.specs.Replies.{line_of}
-use Rattle.plant_model.specs.Shelves.{shelf_left}
-use Rattle.plant_model.specs.Worlds.{mine_line}
 
 -- the line of a unit of a person: its code and the roles held there
 abbrev pub line_of_mine : MineUnit → UnitLine

@@ -1,16 +1,10 @@
 -- Whole runs. A call that was answered by a fault counts as never made.
-use Rattle.std.specs.FinMap.{get}
-use Rattle.std.specs.Prelude.{Bool, List, [], count_by, false, true, ℕ, ◌∷◌, ◌≡◌}
-use Rattle.plant_model.specs.declared.call.Call.{Call}
-use Rattle.plant_model.specs.declared.reply.Answer.{Answer}
+use Rattle.std.specs.{FinMap.{get}, Prelude.{Bool, List, [], count_by, false, true, ℕ, ◌∷◌, ◌≡◌}}
+use Rattle.plant_model.specs.{Views.{view}, Worlds.{IsLegalWorld, World, answer, answers, next}, declared.{call.Call.{Call}, reply.Answer.{Answer}}}
 use Rattle.plant_model.specs.declared.reply.Answer.TheVariants.{Fault as Faulted}
-use Rattle.plant_types.specs.declared.fault.Fault.TheVariants.{Store}
+use Rattle.plant_types.specs.{Names.{Name}, declared.fault.Fault.TheVariants.{Store}}
 use Rattle.plant_books.specs.Contents.{Content}
-use Rattle.plant_model.specs.Views.{view}
-use Rattle.plant_model.specs.Worlds.{IsLegalWorld, World, answer, answers, next}
-use Rattle.plant_office.specs.Answers.{IfSaid}
-use Rattle.plant_office.specs.Served.{Holds, IsOwnUnit}
-use Rattle.plant_types.specs.Names.{Name}
+use Rattle.plant_office.specs.{Answers.{IfSaid}, Served.{Holds, IsOwnUnit}}
 
 -- the world after a call with this answer
 abbrev pub after_answer : World → Call → Answer → World

@@ -1,13 +1,8 @@
 -- Books that hold the rows of a world, and what a served call leaves.
-use Rattle.std.specs.FinMap.{get}
-use Rattle.std.specs.Prelude.{Result, option_map, true, ◌≡◌, ◌⊎◌}
-use Rattle.plant_model.specs.declared.call.Call.{Call}
-use Rattle.plant_model.specs.declared.reply.Refused.{Refused}
-use Rattle.plant_model.specs.declared.reply.Reply.{Reply}
+use Rattle.std.specs.{FinMap.{get}, Prelude.{Result, option_map, true, ◌≡◌, ◌⊎◌}}
+use Rattle.plant_model.specs.{Grants.{holds_any}, Rows.{rows_of}, Worlds.{IsLegalWorld, World, answer, history, next}, declared.call.Call.{Call}}
+use Rattle.plant_model.specs.declared.reply.{Refused.{Refused}, Reply.{Reply}}
 use Rattle.plant_books.specs.Contents.{Content}
-use Rattle.plant_model.specs.Grants.{holds_any}
-use Rattle.plant_model.specs.Rows.{rows_of}
-use Rattle.plant_model.specs.Worlds.{IsLegalWorld, World, answer, history, next}
 use Rattle.plant_types.specs.Names.{Name}
 
 -- the books hold the rows of the world

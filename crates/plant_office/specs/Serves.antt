@@ -1,12 +1,7 @@
 -- What serving a call says, and leaves of the books.
 use Rattle.std.specs.Prelude.{IfOk, OnErr, Result, false, ◌≡◌}
-use Rattle.plant_books.specs.Contents.{Content}
-use Rattle.plant_books.specs.Counting.{Counts}
-use Rattle.plant_books.specs.declared.books.Books.{Ghosts}
-use Rattle.plant_model.specs.Verdicts.{changes_history}
-use Rattle.plant_model.specs.Worlds.{IsLegalWorld, World}
-use Rattle.plant_model.specs.declared.call.Call.{Call}
-use Rattle.plant_model.specs.declared.reply.Refused.{Refused}
+use Rattle.plant_books.specs.{Contents.{Content}, Counting.{Counts}, declared.books.Books.{Ghosts}}
+use Rattle.plant_model.specs.{Verdicts.{changes_history}, Worlds.{IsLegalWorld, World}, declared.{call.Call.{Call}, reply.Refused.{Refused}}}
 use Rattle.plant_model.specs.declared.reply.Reply.{Reply}
 use Rattle.plant_office.specs.Served.{Holds, IsServed}
 use Rattle.plant_types.specs.declared.fault.Fault.{Fault}

@@ -1,9 +1,7 @@
 -- Faults and priorities computed by their definition.
 use Rattle.std.proofs.Common.{◌≡◌, refl, [], ◌∷◌, Some, None}
-use Rattle.plant_ration.specs.declared.cell.Cell.TheVariants.{P1, P2, P3, P4}
+use Rattle.plant_ration.specs.{Grid.{Grid}, Matrix.{fault_of, priority_of}, declared.cell.Cell.TheVariants.{P1, P2, P3, P4}}
 use Rattle.plant_ration.specs.declared.cell.MatrixFault.TheVariants.{Shape, BandsNotRising, NotOrdered}
-use Rattle.plant_ration.specs.Grid.{Grid}
-use Rattle.plant_ration.specs.Matrix.{fault_of, priority_of}
 
 abbrev the_table : Grid
 the_table = record { limits = 300 ∷ []; cells = (P3 ∷ P4 ∷ []) ∷ (P1 ∷ P2 ∷ []) ∷ [] }

@@ -1,23 +1,12 @@
 -- What the tests of a matrix say of its rows, limits and cells.
-use Rattle.std.proofs.Common.{◌≡◌, ℕ, zero, suc, ◌+◌, ◌-◌, ◌<◌, ◌≤◌, refl, sym, ap, ◌∙◌, List, [], ◌∷◌, length, Bool, true, false, cond, ◌&&◌, arith, Some, None, Option, ◌⊎◌, inl, inr}
-use Rattle.std.proofs.Math.Numerals.{add-one}
-use Rattle.std.proofs.lemmas.Bool.{cases_lt, false≢true, leb-true, ltb-true, eqb-true, le-leb, lt-ltb, le-ltb, lt-leb, ne_eqb}
+use Rattle.std.specs.List.{list_all, position_or_len, Sorted.{IsStrictlyIncreasing}}
+use Rattle.std.proofs.Common.{◌≡◌, ℕ, zero, suc, ◌+◌, ◌-◌, ◌<◌, ◌≤◌, refl, sym, ap, ◌∙◌, List, [], ◌∷◌, length, Bool, true, cond, ◌&&◌, arith, Some, None, Option, ◌⊎◌, inl, inr, is_some, nat_le, nat_lt, ◌==◌, slice_get, slice_index, option_and_then}
+use Rattle.std.proofs.{Math.Numerals.{add-one}, lemmas.Bool.{cases_lt, leb-true, ltb-true, eqb-true, le-leb, lt-ltb, le-ltb, lt-leb, ne_eqb}}
 use Rattle.std.proofs.lemmas.Option.{slice_get_past}
-use Rattle.std.specs.Prelude.{is_some, nat_le, nat_lt, ◌==◌, slice_get, slice_index, option_and_then}
-use Rattle.std.specs.List.{list_all, position_or_len}
-use Rattle.std.specs.List.Sorted.{IsStrictlyIncreasing}
-use Rattle.plant_types.specs.Numbers.{is_seconds}
-use Rattle.plant_ration.specs.declared.cell.Cell.{Cell}
+use Rattle.plant_types.{specs.Numbers.{is_seconds}, proofs.public.Halves.{left, right}}
 use Rattle.plant_ration.specs.Grid.{Grid}
 use Rattle.plant_ration.specs.Matrix.{rank, no_lower, neighbours, is_no_lower_row, is_rising, is_ordered, has_shape, is_matrix, band, is_row, priority_of, cell_at, IsOrdered}
-
-left : (a b : Bool) → (a && b) ≡ true → a ≡ true
-left true b e = refl
-left false b e = e
-
-right : (a b : Bool) → (a && b) ≡ true → b ≡ true
-right true b e = e
-right false b e = absurd (false≢true e)
+use Rattle.plant_ration.specs.declared.cell.Cell.{Cell}
 
 -- neighbours at a place
 neighbours_at : {A : Type 0} (ok : A → A → Bool) (xs : List A) (k : ℕ) (a b : A) → neighbours ok xs ≡ true → slice_get xs k ≡ Some a → slice_get xs (suc k) ≡ Some b → ok a b ≡ true

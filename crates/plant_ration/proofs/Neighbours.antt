@@ -1,33 +1,20 @@
 -- Tests of neighbours, place by place.
-use Rattle.std.proofs.Common.{◌≡◌, ℕ, zero, suc, ◌+◌, ◌<◌, ◌≤◌, refl, sym, ap, ◌∙◌, List, [], ◌∷◌, length, get_or, map, Bool, true, false, ◌&&◌, arith, ◌-◌, subst, ◌⊎◌, inl, inr}
-use Rattle.std.proofs.lemmas.Bool.{cases_lt}
-use Rattle.std.proofs.lemmas.List.{get_or_default}
-use Rattle.std.proofs.lemmas.List.Folds.{list_all-map}
-use Rattle.std.proofs.Common.{Vec, Global, eqb}
-use Rattle.std.specs.Prelude.{nat_le}
 use Rattle.std.specs.List.{list_all}
+use Rattle.std.proofs.Common.{◌≡◌, ℕ, zero, suc, ◌+◌, ◌<◌, ◌≤◌, refl, sym, ap, ◌∙◌, List, [], ◌∷◌, length, get_or, map, Bool, true, false, ◌&&◌, arith, ◌-◌, subst, ◌⊎◌, inl, inr, Vec, Global, eqb, nat_le}
+use Rattle.std.proofs.lemmas.{Bool.{cases_lt, and_from, and_right}, List.{get_or_default, Folds.{list_all-map}}}
 use Rattle.plant_types.specs.Numbers.{is_seconds}
-use Rattle.plant_ration.specs.declared.cell.Cell.{Cell}
-use Rattle.plant_ration.specs.Matrix.{neighbours, no_lower, is_no_lower_row, is_ordered, has_shape}
-
-and_true : (a b : Bool) → a ≡ true → b ≡ true → (a && b) ≡ true
-and_true true b p q = q
-and_true false b p q = p
-
-and_false : (a b : Bool) → b ≡ false → (a && b) ≡ false
-and_false true b q = q
-and_false false b q = refl
+use Rattle.plant_ration.specs.{Matrix.{neighbours, no_lower, is_no_lower_row, is_ordered, has_shape}, declared.cell.Cell.{Cell}}
 
 all_by : {A : Type 0} (ok : A → A → Bool) (xs : List A) → ((k : ℕ) (d : A) → suc k < length xs → ok (get_or xs k d) (get_or xs (suc k) d) ≡ true) → neighbours ok xs ≡ true
 all_by ok [] h = refl
 all_by ok (x ∷ []) h = refl
-all_by ok (x ∷ y ∷ rest) h = and_true _ _ (h 0 x (omega arith)) (all_by ok (y ∷ rest) (λ k d lt. h (suc k) d (omega arith)))
+all_by ok (x ∷ y ∷ rest) h = and_from _ _ (h 0 x (omega arith)) (all_by ok (y ∷ rest) (λ k d lt. h (suc k) d (omega arith)))
 
 not_by : {A : Type 0} (ok : A → A → Bool) (xs : List A) (k : ℕ) → suc k < length xs → ((d : A) → ok (get_or xs k d) (get_or xs (suc k) d) ≡ false) → neighbours ok xs ≡ false
 not_by ok [] k lt h = absurd (omega arith)
 not_by ok (x ∷ []) k lt h = absurd (omega arith)
 not_by ok (x ∷ y ∷ rest) zero lt h = ap (λ b. b && neighbours ok (y ∷ rest)) (h x)
-not_by ok (x ∷ y ∷ rest) (suc k) lt h = and_false _ _ (not_by ok (y ∷ rest) k (omega arith) h)
+not_by ok (x ∷ y ∷ rest) (suc k) lt h = and_right _ _ (not_by ok (y ∷ rest) k (omega arith) h)
 
 -- each element and the next pass, where those before i do and i is past the last
 pub neighbours_all : {A : Type 0} (ok : A → A → Bool) (xs : List A) (i : ℕ) → length xs ≤ i → ((k : ℕ) (d : A) → k + 1 < i → k + 1 < length xs → ok (get_or xs k d) (get_or xs (k + 1) d) ≡ true) → neighbours ok xs ≡ true

@@ -1,13 +1,10 @@
 -- Rationalisation, after ISA-18.2 and IEC 62682: the priority comes from the severity of the consequence and the time to
 -- respond. Which tables are such matrices is this office's own rule.
-use Rattle.std.specs.Prelude.{ℕ, ◌+◌, ◌-◌, ◌≤◌, ◌≡◌, Bool, true, ◌&&◌, not, nat_lt, nat_le, ◌==◌, if◌then◌else◌, List, [], ◌∷◌, length, Option, Some, None, Result, Ok, Err, option_and_then, unwrap_or, slice_get, position}
-use Rattle.std.specs.List.{list_all, zip}
+use Rattle.std.specs.List.{list_all}
+use Rattle.std.specs.Prelude.{ℕ, ◌+◌, ◌-◌, ◌≤◌, ◌≡◌, Bool, true, ◌&&◌, not, nat_lt, nat_le, ◌==◌, if◌then◌else◌, List, [], ◌∷◌, length, Option, Some, None, Result, Ok, Err, option_and_then, unwrap_or, slice_get, position, zip}
 use Rattle.plant_types.specs.Numbers.{is_seconds}
-use Rattle.plant_ration.specs.declared.cell.Cell.{Cell}
-use Rattle.plant_ration.specs.declared.cell.Cell.TheVariants.{P1, P2, P3, P4, N}
-use Rattle.plant_ration.specs.declared.cell.MatrixFault.{MatrixFault}
+use Rattle.plant_ration.specs.{Grid.{Grid}, declared.cell.{Cell.{Cell, TheVariants.{P1, P2, P3, P4, N}}, MatrixFault.{MatrixFault}}}
 use Rattle.plant_ration.specs.declared.cell.MatrixFault.TheVariants.{Shape, BandsNotRising, NotOrdered}
-use Rattle.plant_ration.specs.Grid.{Grid}
 
 -- the place of a cell, from 1 for the highest priority to 5 where no alarm is needed
 abbrev pub rank : Cell → ℕ

@@ -1,8 +1,6 @@
-ghost use Rattle.std.specs.Prelude.{◌≡◌, ◌↔◌, IfOk, IsSome, Ok, Err, map, IsTrue};
-ghost use Rattle.std.specs.List.Sorted.{IsStrictlyIncreasing};
+ghost use Rattle.std.specs.{List.Sorted.{IsStrictlyIncreasing}, Prelude.{◌≡◌, ◌↔◌, IfOk, IsSome, Ok, Err, map, IsTrue}};
 ghost use Rattle.plant_types.specs.Results.{OnlyMemory};
-ghost use Rattle.plant_ration.specs.declared.cell.MatrixFault.{MatrixFault};
-ghost use Rattle.plant_ration.specs.Matrix.{matrix_of, priority_of, is_row, is_matrix, IsOrdered};
+ghost use Rattle.plant_ration.specs.{Matrix.{matrix_of, priority_of, is_row, is_matrix, IsOrdered}, declared.cell.MatrixFault.{MatrixFault}};
 
 use crate::{Cell, MatrixFault, shape};
 use plant_types::{Fault, Seconds};
@@ -22,8 +20,7 @@ pub struct Matrix {
 
 impl Model for Matrix {
     ghost use Rattle.std.specs.Prelude.{map, IsTrue};
-    ghost use Rattle.plant_ration.specs.Grid.{Grid};
-    ghost use Rattle.plant_ration.specs.Matrix.{is_matrix};
+    ghost use Rattle.plant_ration.specs.{Grid.{Grid}, Matrix.{is_matrix}};
 
     ghost Value = { Grid };
 

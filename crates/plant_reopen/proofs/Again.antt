@@ -1,20 +1,13 @@
 -- Files that are opened again hold the same books.
 use Rattle.std.proofs.Common.{◌≡◌, IsTrue, sym, ap, ◌∙◌}
-use Rattle.sqlite.specs.Effect.{Database}
-use Rattle.sqlite.specs.State.{IsLive}
-use Rattle.sqlite_disk.specs.declared.Disk as disk
-use Rattle.sqlite_disk.specs.declared.Files.{Files}
-use Rattle.sqlite.specs.WalReads.{AreClean}
-use Rattle.sqlite_store.specs.declared.store.FileStore.{FileStore}
-use Rattle.sqlite.specs.Held.{Held}
-use Rattle.sqlite.specs.Files.{file_state, IsOpened, Finds}
-use Rattle.sqlite.specs.Closing.{IsCopied}
+use Rattle.sqlite.specs.{Closing.{IsCopied}, Effect.{Database}, Files.{file_state, IsOpened, Finds}, Held.{Held}, State.{IsLive}, WalReads.{AreClean}}
 use Rattle.sqlite.proofs.Callers.{finds_again}
+use Rattle.sqlite_disk.specs.declared.Files.{Files}
+use Rattle.sqlite_store.specs.declared.store.FileStore.{FileStore}
 use Rattle.plant_books.specs.Contents.{Content}
-use Rattle.plant_store.specs.Changes.{IsHonest}
-use Rattle.plant_store.specs.Keeping.{Represents, HasContent}
-use Rattle.plant_store.proofs.public.Contents.{keeps_same}
+use Rattle.plant_store.{specs.{Changes.{IsHonest}, Keeping.{Represents, HasContent}}, proofs.public.Contents.{keeps_same}}
 use Rattle.plant_store.proofs.public.Databases.{same_database}
+use Rattle.sqlite_disk.specs.declared.Disk as disk
 
 module _ {D : Type 0} {g : disk.Ghosts D} (old new : Held (FileStore D g)) (files : Files D) (live : IsLive (file_state old)) (settled : IsTrue (file_state old).is_open → (file_state old).now ≡ (file_state old).committed)
     (copied : AreClean g files.log files.db → IsCopied old files) (opened : IsOpened new) (found : Finds files new) (up : IsTrue (file_state new).is_open) where

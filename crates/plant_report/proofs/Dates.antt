@@ -1,8 +1,6 @@
 -- The dates one after another are those of the calendar.
-use Rattle.std.proofs.Common.{◌≡◌, ℕ, zero, suc, ◌+◌, ◌≤◌, ◌<◌, refl, ap, arith, pos, cond, Bool, true, false}
-use Rattle.std.specs.Prelude.{nat_lt}
-use Rattle.std.proofs.lemmas.Int.{ints}
-use Rattle.std.proofs.lemmas.Bool.{ltb-true, ltb-false}
+use Rattle.std.proofs.Common.{◌≡◌, ℕ, zero, suc, ◌+◌, ◌≤◌, ◌<◌, refl, ap, arith, pos, cond, Bool, true, false, nat_lt}
+use Rattle.std.proofs.lemmas.{Bool.{ltb-true, ltb-false}, Int.{ints}}
 use Rattle.jiff_core.specs.Calendar.{day_count, days_in_month, IsCivilDate}
 use Rattle.jiff_core.proofs.CalendarLemmas.{day_count-day, day_count-next_month, day_count-next_year, day_count-last_of_year, days_in_month_bounds}
 use Rattle.plant_types.proofs.public.Days.{day_count-2000, years}

@@ -1,6 +1,5 @@
 -- Moments' texts, computed.
-use Rattle.std.proofs.Common.{◌≡◌, refl}
-use Rattle.std.specs.Prelude.{codes}
+use Rattle.std.proofs.Common.{◌≡◌, refl, codes}
 use Rattle.plant_report.specs.Moments.{date_after, moment_text}
 
 pub the_first : moment_text 0 ≡ codes "2000-01-01T00:00:00Z"

@@ -1,14 +1,10 @@
 -- The text computed by the calendar is the one that is read as the moment.
-use Rattle.std.proofs.Common.{◌≡◌, ℕ, ◌+◌, ◌*◌, ◌/◌, ◌%◌, ◌≤◌, ◌<◌, refl, sym, arith, Bool, true, false, ◌&&◌, cond, Some, None, List, pos}
-use Rattle.std.proofs.lemmas.Bool.{leb-true, ltb-true, false≢true}
-use Rattle.std.proofs.lemmas.Int.{ints}
+use Rattle.std.proofs.Common.{◌≡◌, ℕ, ◌+◌, ◌*◌, ◌/◌, ◌%◌, ◌≤◌, ◌<◌, refl, sym, arith, Bool, true, false, cond, Some, None, List, pos}
+use Rattle.std.proofs.lemmas.{Bool.{leb-true, ltb-true}, Int.{ints}}
 use Rattle.jiff_core.specs.Calendar.{days_in_month, IsCivilDate}
-use Rattle.plant_types.specs.Moment.{moment_of, is_date, is_time, has_form, civil_of, is_civil, days_since_2000}
-use Rattle.plant_types.specs.Spelling.{spelled}
-use Rattle.plant_types.proofs.public.Days.{day_count-2000, until-2100, is_date_true, years}
-use Rattle.plant_types.proofs.public.Round.{written}
-use Rattle.plant_report.specs.Moments.{date_after, moment_text}
-use Rattle.plant_report.proofs.Dates.{date_after_is}
+use Rattle.plant_types.specs.{Moment.{moment_of, is_date, is_time, has_form, civil_of, is_civil, days_since_2000}, Spelling.{spelled}}
+use Rattle.plant_types.proofs.public.{Days.{day_count-2000, until-2100, is_date_true, years}, Halves.{left, right}, Round.{written}}
+use Rattle.plant_report.{specs.Moments.{date_after, moment_text}, proofs.Dates.{date_after_is}}
 
 clock_is : (y m d n : ℕ) → spelled y m d (n % 86400 / 3600) (n % 3600 / 60) (n % 60) ≡ spelled y m d (n % 86400 / 60 / 60) (n % 86400 / 60 % 60) (n % 86400 % 60)
 clock_is y m d n =
@@ -28,14 +24,6 @@ moment_of-moment_text n lt =
     let of_year = years (pos date.year) date.month date.day is.civil (omega (arith, is.count)) (omega (arith, is.count)) in
     let high : date.year ≤ 2099 = omega (arith, ints, of_year.is, of_year.high) in
     written n date.year date.month date.day (moment_text n) (is_date_true date.year date.month date.day is.low high is.civil) (omega (arith, is.count, day_count-2000)) (clock_is date.year date.month date.day n)
-
-left : (a b : Bool) → (a && b) ≡ true → a ≡ true
-left true b e = refl
-left false b e = e
-
-right : (a b : Bool) → (a && b) ≡ true → b ≡ true
-right true b e = e
-right false b e = absurd (false≢true e)
 
 day_is_early : (y m d : ℕ) → is_date y m d ≡ true → days_since_2000 y m d < 36525
 day_is_early y m d e =

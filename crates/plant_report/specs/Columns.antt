@@ -1,6 +1,5 @@
 -- Lines of columns, as printed texts have them.
-use Rattle.std.specs.Prelude.{ℕ, ◌-◌, List, [], ◌∷◌, ◌++◌, length, replicate}
-use Rattle.std.specs.List.{join_with_byte}
+use Rattle.std.specs.{List.{join_with_byte}, Prelude.{ℕ, ◌-◌, List, [], ◌∷◌, ◌++◌, length, replicate}}
 
 -- filled up with spaces on the right
 abbrev pub left : ℕ → List ℕ → List ℕ

@@ -1,18 +1,12 @@
 -- The printed texts: a heading, and a line for each row.
-use Rattle.std.specs.Prelude.{ℕ, Bool, if◌then◌else◌, List, [], ◌∷◌, ◌++◌, length, Option, Some, None, decimal, codes}
-use Rattle.std.specs.List.{flat_map}
+use Rattle.std.specs.Prelude.{ℕ, Bool, if◌then◌else◌, List, [], ◌∷◌, ◌++◌, length, Option, Some, None, decimal, codes, flat_map}
 use Rattle.plant_types.specs.Names.{Name}
 use Rattle.plant_alarm.specs.declared.summary.AlarmState.{AlarmState}
 use Rattle.plant_alarm.specs.declared.summary.AlarmState.TheVariants.{Normal, Unacknowledged, Acknowledged, ReturnedUnack, LatchedUnack, LatchedAck}
-use Rattle.plant_ration.specs.declared.cell.Cell.{Cell}
-use Rattle.plant_ration.specs.declared.cell.Cell.TheVariants.{P1, P2, P3, P4, N}
-use Rattle.plant_model.specs.declared.reply.ShelfLine.{ShelfLine}
+use Rattle.plant_ration.specs.declared.cell.Cell.{Cell, TheVariants.{P1, P2, P3, P4, N}}
+use Rattle.plant_model.specs.declared.reply.{AlarmLine.{AlarmLine}, FloodLine.{FloodLine}, MineLine.{MineLine}, ShelfLine.{ShelfLine}}
 use Rattle.plant_model.specs.declared.reply.StandingLine.{StandingLine}
-use Rattle.plant_model.specs.declared.reply.AlarmLine.{AlarmLine}
-use Rattle.plant_model.specs.declared.reply.FloodLine.{FloodLine}
-use Rattle.plant_model.specs.declared.reply.MineLine.{MineLine}
-use Rattle.plant_report.specs.Columns.{left, right, line}
-use Rattle.plant_report.specs.Moments.{moment_text}
+use Rattle.plant_report.specs.{Columns.{left, right, line}, Moments.{moment_text}}
 
 -- the first line: what it lists, whose, at which moment, and how many lines follow
 abbrev pub heading : List ℕ → Name → ℕ → ℕ → List ℕ

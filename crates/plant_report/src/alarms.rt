@@ -1,9 +1,7 @@
 ghost use Rattle.std.specs.Prelude.{◌≡◌, ◌++◌, IfOk};
-ghost use Rattle.plant_types.specs.Adding.{Adds};
-ghost use Rattle.plant_types.specs.Results.{OnlyMemory};
-ghost use Rattle.plant_report.specs.Columns.{line as line_of};
+ghost use Rattle.plant_types.specs.{Adding.{Adds}, Results.{OnlyMemory}};
+ghost use Rattle.plant_report.specs.{Columns.{line as line_of}, Texts.{alarm_columns, standing_columns}};
 ghost use Rattle.plant_report.specs.Texts as texts;
-ghost use Rattle.plant_report.specs.Texts.{alarm_columns, standing_columns};
 
 use crate::columns::{push_column, push_last, push_last_right, push_left, push_moment};
 use crate::heading::{push_heading, room_for};

@@ -1,9 +1,6 @@
 ghost use Rattle.std.specs.Prelude.{◌≡◌, [], ◌∷◌, ◌++◌, ◌-◌, ◌≤◌, length, replicate};
-ghost use Rattle.plant_types.specs.Adding.{Adds};
-ghost use Rattle.plant_types.specs.Results.{OnlyMemory};
-ghost use Rattle.plant_report.specs.declared.columns.TheConstants.{WIDEST};
-ghost use Rattle.plant_report.specs.Columns.{left, right, line as line_of};
-ghost use Rattle.plant_report.specs.Moments.{moment_text};
+ghost use Rattle.plant_types.specs.{Adding.{Adds}, Results.{OnlyMemory}};
+ghost use Rattle.plant_report.specs.{Columns.{left, right, line as line_of}, Moments.{moment_text}, declared.columns.TheConstants.{WIDEST}};
 
 use crate::moments;
 use plant_types::{Fault, Moment};

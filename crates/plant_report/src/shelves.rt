@@ -1,9 +1,7 @@
 ghost use Rattle.std.specs.Prelude.{◌≡◌, ◌++◌, IfOk};
-ghost use Rattle.plant_types.specs.Adding.{Adds};
-ghost use Rattle.plant_types.specs.Results.{OnlyMemory};
-ghost use Rattle.plant_report.specs.Columns.{line as line_of};
+ghost use Rattle.plant_types.specs.{Adding.{Adds}, Results.{OnlyMemory}};
+ghost use Rattle.plant_report.specs.{Columns.{line as line_of}, Texts.{shelf_columns, mine_columns}};
 ghost use Rattle.plant_report.specs.Texts as texts;
-ghost use Rattle.plant_report.specs.Texts.{shelf_columns, mine_columns};
 
 use crate::columns::{push_last, push_left, push_moment, push_right};
 use crate::heading::{push_heading, room_for};

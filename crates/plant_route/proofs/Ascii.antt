@@ -1,9 +1,7 @@
 -- A path is text.
-use Rattle.std.proofs.Common.{◌≡◌, ℕ, zero, suc, ◌<◌, List, [], ◌∷◌, Bool, true, false, ◌&&◌, refl, arith, get_or, ◌==◌}
 use Rattle.std.specs.List.{list_all}
-use Rattle.std.specs.Str.{IsUtf8}
-use Rattle.std.proofs.lemmas.Bool.Decides.{nat_tests}
-use Rattle.std.proofs.lemmas.Str.{IsUtf8-from_ascii}
+use Rattle.std.proofs.Common.{◌≡◌, ℕ, zero, suc, ◌<◌, List, [], ◌∷◌, Bool, true, false, ◌&&◌, refl, arith, get_or, ◌==◌, IsUtf8}
+use Rattle.std.proofs.lemmas.{Bool.Decides.{nat_tests}, Str.{IsUtf8-from_ascii}}
 use Rattle.plant_route.specs.Routes.{is_path_byte, is_path}
 
 byte_below : (b : ℕ) → is_path_byte b ≡ true → b < 128

@@ -1,8 +1,6 @@
 -- An `insert` that succeeded put the route into its place.
 use Rattle.std.proofs.Common.{◌≡◌, ℕ, List, Result, Ok, Err, OnOk}
-use Rattle.matchit.specs.Route.{Scan, parse_route}
-use Rattle.matchit.specs.Router.{InsertsRead}
-use Rattle.matchit.specs.declared.error.InsertError.{InsertError}
+use Rattle.matchit.specs.{Route.{Scan, parse_route}, Router.{InsertsRead}, declared.error.InsertError.{InsertError}}
 use Rattle.plant_model.specs.declared.kinds.CallKind.{CallKind}
 use Rattle.plant_route.specs.Routes.{Rows, with_route, insert}
 

@@ -1,13 +1,8 @@
 -- Which route a method and a target name: a definition over the bytes. `insert` puts a path into the rows of a
 -- router as matchit does, and `first` is matchit's search.
-use Rattle.std.specs.Prelude.{ℕ, List, [], ◌∷◌, codes, Result, Ok, Err, Option, None, option_map, Bool, ◌&&◌, ◌||◌, not, nat_le, ◌==◌, if◌then◌else◌, slice_index}
 use Rattle.std.specs.List.{list_all}
-use Rattle.std.specs.Str.{bytes_eq}
-use Rattle.matchit.specs.Rows.{RowsOf}
-use Rattle.matchit.specs.Seek.{first}
-use Rattle.matchit.specs.Order.{placed}
-use Rattle.matchit.specs.Route.{Scan, parse_route}
-use Rattle.matchit.specs.Router.{RouteOf, route_from}
+use Rattle.std.specs.Prelude.{ℕ, List, [], ◌∷◌, codes, Result, Ok, Err, Option, None, option_map, Bool, ◌&&◌, ◌||◌, not, nat_le, ◌==◌, if◌then◌else◌, slice_index, bytes_eq}
+use Rattle.matchit.specs.{Order.{placed}, Route.{Scan, parse_route}, Router.{RouteOf, route_from}, Rows.{RowsOf}, Seek.{first}}
 use Rattle.matchit.specs.declared.error.InsertError.{InsertError}
 use Rattle.plant_model.specs.declared.kinds.CallKind.{CallKind}
 use Rattle.plant_model.specs.declared.kinds.CallKind.TheVariants.{OpenUnit, Grant, Withdraw, Register, Import, TimedShelve, OneShotShelve, Unshelve, RemoveFromService, PlaceInService, Propose, WithdrawChange, Approve, Reject, Status, RecordOf, ChangeOf, Alarms, Shelves, Standing, Floods, MyUnits, MyShelves}

@@ -1,8 +1,7 @@
 -- What an office over a keeper did, said of another keeper that holds as much before it and as much after it.
 use Rattle.std.proofs.Common.{List, sym, subst, ℕ, ◌+◌, ◌<◌, ◌^◌, ◌≡◌}
 use Rattle.plant_books.specs.Contents.{Content}
-use Rattle.plant_model.specs.declared.call.Call.{Call}
-use Rattle.plant_model.specs.declared.reply.Answer.{Answer}
+use Rattle.plant_model.specs.declared.{call.Call.{Call}, reply.Answer.{Answer}}
 use Rattle.plant_office.specs.Runs.{stores_in}
 use Rattle.plant_wire.specs.Ran.{Ran}
 

@@ -1,14 +1,10 @@
 -- What a connection over files shows, where the files held a database.
 use Rattle.std.proofs.Common.{◌≡◌, ap, subst, sym, ◌∙◌}
-use Rattle.sqlite.specs.Effect.{Database}
-use Rattle.sqlite.specs.Start.{FindsIn}
-use Rattle.sqlite.specs.State.{HasCleanDisk, IsLive, Opens, State}
+use Rattle.sqlite.specs.{Effect.{Database}, Start.{FindsIn}, State.{HasCleanDisk, IsLive, Opens, State}}
 use Rattle.sqlite_wal.specs.Recovery.{Image}
 use Rattle.plant_books.specs.Contents.{Content}
 use Rattle.plant_server.specs.Files.{HoldBooks, HoldDatabase}
-use Rattle.plant_store.proofs.public.Databases.{same_database}
-use Rattle.plant_store.specs.Changes.{IsHonest}
-use Rattle.plant_store.specs.Keeping.{HaveRows, Represents}
+use Rattle.plant_store.{specs.{Changes.{IsHonest}, Keeping.{HaveRows, Represents}}, proofs.public.Databases.{same_database}}
 
 module _ (files : Image) (s : State) (opened : HasCleanDisk s → Opens s × IsLive s) (found : HasCleanDisk s → FindsIn files s) where
   pub same_now : IsHonest s → (db : Database) → HoldDatabase files db → s.now ≡ db

@@ -1,13 +1,9 @@
 -- A session, and the connections of a port, by what else is true of the office.
 use Rattle.std.proofs.Common.{ℕ, List, Bool, None, Option, Some, inl, inr}
 use Rattle.plant_line.specs.declared.words.Service.{Service}
-use Rattle.plant_model.specs.declared.call.Call.{Call}
-use Rattle.plant_model.specs.declared.reply.Answer.{Answer}
-use Rattle.plant_server.specs.Statuses.{HasServed, IsStreamed}
-use Rattle.plant_server.specs.declared.statuses.ExitStatus.{ExitStatus}
-use Rattle.plant_wire.specs.Session.{EndsAs, IsCutShort}
-use Rattle.plant_wire.specs.Step.{AnswersFront, ServesBroken, ServesPart}
-use Rattle.plant_wire.specs.declared.reads.End.{End}
+use Rattle.plant_model.specs.declared.{call.Call.{Call}, reply.Answer.{Answer}}
+use Rattle.plant_server.specs.{Statuses.{HasServed, IsStreamed}, declared.statuses.ExitStatus.{ExitStatus}}
+use Rattle.plant_wire.specs.{Session.{EndsAs, IsCutShort}, Step.{AnswersFront, ServesBroken, ServesPart}, declared.reads.End.{End}}
 use Rattle.plant_wire.specs.declared.reads.End.TheVariants.{BrokenInput, Closed, Fault, ReadFailed, WriteFailed}
 
 module _ (ran also : List Call → List Answer → Type 0) (follows : (calls : List Call) (answers : List Answer) → ran calls answers → also calls answers) (o o' : Option (List ℕ)) where

@@ -1,15 +1,11 @@
 -- What the files of a database held when they were opened, and what an error of the engine is reported as.
-use Rattle.sqlite.specs.Effect.{Database, IsDatabase}
-use Rattle.sqlite.specs.Files.{HoldsDatabase}
-use Rattle.sqlite.specs.declared.error.Error.{Error}
-use Rattle.sqlite.specs.declared.error.Error.TheVariants.{SqliteFailure}
+use Rattle.sqlite.specs.{Effect.{Database, IsDatabase}, Files.{HoldsDatabase}, declared.error.Error.{Error, TheVariants.{SqliteFailure}}}
 use Rattle.sqlite.specs.declared.error.ErrorCode.TheVariants.{NotADatabase, OutOfMemory}
 use Rattle.sqlite_wal.specs.Recovery.{Image}
 use Rattle.plant_books.specs.Contents.{Content}
-use Rattle.plant_store.specs.Keeping.{HaveRows}
-use Rattle.plant_store.specs.declared.tables.StoreFault.{StoreFault}
-use Rattle.plant_store.specs.declared.tables.StoreFault.TheVariants as store_fault
+use Rattle.plant_store.specs.{Keeping.{HaveRows}, declared.tables.StoreFault.{StoreFault}}
 use Rattle.plant_types.specs.declared.fault.Fault.TheVariants.{Memory, Store}
+use Rattle.plant_store.specs.declared.tables.StoreFault.TheVariants as store_fault
 
 -- the files hold this database
 pub record HoldDatabase (files : Image) (db : Database) : Type 0 where

@@ -1,19 +1,13 @@
 -- The exit statuses of the program.
 use Rattle.std.specs.Prelude.{if◌then◌else◌, Bool, List, ℕ, ◌≡◌, ◌⊎◌, Err, None, Ok, Option, Result, Some}
-use Rattle.plant_model.specs.declared.call.Call.{Call}
-use Rattle.plant_model.specs.declared.reply.Answer.{Answer}
-use Rattle.plant_wire.specs.Session.{IsSession}
-use Rattle.plant_wire.specs.declared.reads.End.{End}
-use Rattle.plant_wire.specs.declared.reads.End.TheVariants.{BrokenInput, Closed, Fault, ReadFailed, WriteFailed}
+use Rattle.plant_model.specs.declared.{call.Call.{Call}, reply.Answer.{Answer}}
+use Rattle.plant_wire.specs.{Session.{IsSession}, declared.reads.End.{End, TheVariants.{BrokenInput, Closed, Fault, ReadFailed, WriteFailed}}}
 use Rattle.plant_wire.specs.declared.streams.Failed.{Failed}
-use Rattle.plant_line.specs.declared.words.Service.{Service}
-use Rattle.plant_line.specs.declared.words.LineError.{LineError}
-use Rattle.plant_line.specs.declared.words.LineError.TheVariants.{Memory, NoDb, NotAPerson, Text}
-use Rattle.plant_line.specs.declared.words.Task.{Task}
+use Rattle.plant_line.specs.declared.words.{LineError.{LineError, TheVariants.{Memory, NoDb, NotAPerson, Text}}, Service.{Service}, Task.{Task}}
 use Rattle.plant_line.specs.declared.words.Task.TheVariants.{Migrate, Serve}
 use Rattle.plant_server.specs.declared.statuses.ExitStatus.{ExitStatus}
-use Rattle.plant_server.specs.declared.statuses.ExitStatus.TheVariants as status
 use Rattle.plant_store.specs.declared.tables.StoreFault.{StoreFault}
+use Rattle.plant_server.specs.declared.statuses.ExitStatus.TheVariants as status
 
 -- the number that the program exits with
 abbrev pub code : ExitStatus → ℕ

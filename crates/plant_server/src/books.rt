@@ -1,6 +1,5 @@
 ghost use Rattle.std.specs.Prelude.{◌≡◌, ◌≢◌, IfErr, IfOk};
-ghost use Rattle.sqlite.specs.Held.{state};
-ghost use Rattle.sqlite.specs.Steps.{over_memory};
+ghost use Rattle.sqlite.specs.{Held.{state}, Steps.{over_memory}};
 ghost use Rattle.plant_books.specs.Contents.{no_units};
 ghost use Rattle.plant_store.specs.Keeping.{Represents};
 

@@ -1,12 +1,10 @@
-ghost use Rattle.std.specs.Duration.{as_nanos};
-ghost use Rattle.std.specs.Prelude.{◌≡◌, ◌⊎◌, ◌+◌, ◌*◌, [], IfErr, IfOk, IsSomeAnd, List, OnOk, option_map};
+ghost use Rattle.std.specs.{Duration.{as_nanos}, Prelude.{◌≡◌, ◌⊎◌, ◌+◌, ◌*◌, [], IfErr, IfOk, IsSomeAnd, List, OnErr, OnOk, option_map}};
 ghost use Rattle.plant_books.specs.Books.{WasHonest};
-ghost use Rattle.plant_model.specs.declared.call.Call.{Call};
-ghost use Rattle.plant_model.specs.declared.reply.Answer.{Answer};
-ghost use Rattle.plant_server.specs.Statuses as statuses;
+ghost use Rattle.plant_model.specs.declared.{call.Call.{Call}, reply.Answer.{Answer}};
 ghost use Rattle.plant_server.specs.Statuses.{IsFollowed, IsOfMigration, IsOfPort, HasServed, IsStreamed, Whatever};
 ghost use Rattle.plant_server.specs.declared.statuses.ExitStatus.TheVariants.{NoBooks};
 ghost use Rattle.plant_wire.specs.Over.{RanOn};
+ghost use Rattle.plant_server.specs.Statuses as statuses;
 
 use crate::books::in_memory;
 use crate::files::{close_file, in_file};
@@ -101,7 +99,7 @@ fn say_address(alloc: Global, output: &mut impl Write, port: &Port) -> Result<()
 }
 
 /// How long a client may be silent.
-fn patience(service: Service) -> Option<Duration>
+fn idle_time(service: Service) -> Option<Duration>
     ensures { option_map as_nanos result ≡ option_map (λ s. s * 1_000_000_000) service.idle }
 {
     match service.idle {
@@ -110,7 +108,7 @@ fn patience(service: Service) -> Option<Duration>
     }
 }
 
-/// Serves as many connections of a listener as the service is to have.
+/// Serves as many connections of a listener as the service is to have, or fewer where accepting fails.
 fn serve_listener<L: Listener, B: Books, W: Write>(
     alloc: Global,
     listener: &mut L,
@@ -120,6 +118,7 @@ fn serve_listener<L: Listener, B: Books, W: Write>(
 ) -> Result<(), Failed>
     ensures all { OnOk result
         (L.accepted listener.new ≡ L.accepted listener.old + service.connections) }
+    ensures failed { OnErr result (L.failures listener.new ≡ 1) }
     ensures ran { (calls : List Call) × (answers : List Answer)
         × RanOn B.Books office.old.books office.new.books calls answers }
 {
@@ -137,7 +136,7 @@ fn serve_port<B: Books>(
         × RanOn B.Books office.old.books office.new.books calls answers }
 {
     let alloc = rt.alloc();
-    let mut port = Port::listen(rt, service.port, patience(service))?;
+    let mut port = Port::listen(rt, service.port, idle_time(service))?;
     say_address(alloc, output, &port)?;
     serve_listener(alloc, &mut port, office, service, output)
 }

@@ -1,21 +1,14 @@
 //! Books that a file keeps.
 
 ghost use Rattle.std.specs.Prelude.{◌≡◌, false, true, IsTrue, IfErr, IfOk};
-ghost use Rattle.sqlite.specs.Effect.{Database};
-ghost use Rattle.sqlite.specs.Files.{file_state, IsBlankAs, IsOpened};
-ghost use Rattle.sqlite.specs.Opening.{is_open_error};
-ghost use Rattle.sqlite.specs.Start.{FindsIn};
-ghost use Rattle.sqlite.specs.State.{HasCleanDisk};
-ghost use Rattle.sqlite.specs.declared.error.Error.{Error as EngineError};
+ghost use Rattle.sqlite.specs.{Effect.{Database}, Files.{file_state, IsBlankAs, IsOpened}, Opening.{is_open_error}, Start.{FindsIn}};
+ghost use Rattle.sqlite.specs.{State.{HasCleanDisk}, declared.error.Error.{Error as EngineError}};
 ghost use Rattle.sqlite_store.specs.FileStore.{view};
 ghost use Rattle.sqlite_wal.specs.Files.{image_at};
 ghost use Rattle.plant_books.specs.Contents.{Content};
-ghost use Rattle.plant_server.specs.Files as files;
 ghost use Rattle.plant_server.specs.Files.{HoldBooks, HoldDatabase};
-ghost use Rattle.plant_store.specs.Changes.{IsHonest};
-ghost use Rattle.plant_store.specs.Keeping.{Represents};
-ghost use Rattle.plant_store.specs.Opening.{IsThisOffice};
-ghost use Rattle.plant_store.specs.Reading.{HasNoTransaction};
+ghost use Rattle.plant_store.specs.{Changes.{IsHonest}, Keeping.{Represents}, Opening.{IsThisOffice}, Reading.{HasNoTransaction}};
+ghost use Rattle.plant_server.specs.Files as files;
 
 use plant_store::{StoreFault, Tables};
 use plant_types::{Fault, Person};

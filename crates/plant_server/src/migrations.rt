@@ -1,13 +1,9 @@
 //! The migration of a file of the older schema: its tables are copied to a new file.
 
 ghost use Rattle.std.specs.Prelude.{◌≡◌, IfOk, false};
-ghost use Rattle.sqlite.specs.Files.{file_state};
-ghost use Rattle.sqlite.specs.Held.{state};
+ghost use Rattle.sqlite.specs.{Files.{file_state}, Held.{state}};
 ghost use Rattle.plant_books.specs.Contents.{Content};
-ghost use Rattle.plant_store.specs.Changes.{IsHonest};
-ghost use Rattle.plant_store.specs.Keeping.{Represents};
-ghost use Rattle.plant_store.specs.Reading.{HasNoTransaction};
-ghost use Rattle.plant_store.specs.Upgrading.{HaveOldRows};
+ghost use Rattle.plant_store.specs.{Changes.{IsHonest}, Keeping.{Represents}, Reading.{HasNoTransaction}, Upgrading.{HaveOldRows}};
 
 use crate::files::{
     NewNames, STORE, beside, close_file, connect, is_there, length_of, new_names, put_in_place,

@@ -1,42 +1,24 @@
 -- What the join of grants and units answers, where each unit with a grant has a row of its own.
-use Rattle.std.proofs.Common.{◌≡◌, ℕ, Bool, true, false, ◌&&◌, cond, List, [], ◌∷◌, ◌++◌, map, filter, flat_map, refl, sym, ap, ap₂, ◌∙◌, subst, is_eq, Equal, Less, Greater, Ordering, true≢false, Option, None, Some}
-use Rattle.std.specs.List.{AllByRecursion}
-use Rattle.std.specs.FinMap.{get}
-use Rattle.std.specs.Prelude.{unwrap_or, is_some}
-use Rattle.sqlite.specs.Collation.TheVariants.{Binary}
-use Rattle.sqlite.specs.Query.{Output}
-use Rattle.sqlite.specs.State.{State, Shown}
-use Rattle.sqlite.proofs.Callers.{reads_as}
-use Rattle.sqlite_keyed.specs.Lists.{sort_by, insert_sorted}
-use Rattle.sqlite_keyed.proofs.ListLemmas.{all-filter}
-use Rattle.sqlite_rules.specs.Lists.{Has}
-use Rattle.sqlite_rules.proofs.ListLemmas.{all_from, all_has, has_kept}
+use Rattle.std.specs.{FinMap.{get}, List.{AllByRecursion}}
+use Rattle.std.proofs.Common.{◌≡◌, ℕ, Bool, true, false, ◌&&◌, cond, List, [], ◌∷◌, ◌++◌, map, filter, flat_map, refl, sym, ap, ap₂, ◌∙◌, subst, is_eq, Equal, Less, Greater, Ordering, true≢false, Option, None, Some, unwrap_or, is_some}
+use Rattle.std.proofs.lemmas.Cmp.{tied_back, tied_itself, alike_right}
+use Rattle.sqlite.{specs.{Collation.TheVariants.{Binary}, Query.{Output}, State.{State, Shown}}, proofs.Callers.{reads_as}}
+use Rattle.sqlite_keyed.{specs.Lists.{sort_by, insert_sorted}, proofs.ListLemmas.{all-filter}}
+use Rattle.sqlite_rules.{specs.Lists.{Has}, proofs.ListLemmas.{all_from, all_has, has_kept}}
 use Rattle.sqlite_schema.specs.Rules.{equal}
 use Rattle.sqlite_sql.specs.Ops.{binary, is_null}
 use Rattle.sqlite_tied.proofs.RuleLemmas.{and_true}
-use Rattle.sqlite_value.specs.declared.value.Value.{Value}
-use Rattle.sqlite_value.specs.declared.value.Value.TheVariants.{Null, Int, Real, Text, Blob}
-use Rattle.sqlite_value.specs.Order.{Row, column, bytes, value_cmp}
+use Rattle.sqlite_value.specs.{Order.{Row, column, bytes, value_cmp}, declared.value.Value.{Value, TheVariants.{Null, Int, Real, Text, Blob}}}
 use Rattle.sqlite_value.proofs.OrderLemmas.{value_cmp_total, then-Equal}
-use Rattle.std.proofs.lemmas.Cmp.{tied_back, tied_itself, alike_right}
 use Rattle.plant_books.specs.Contents.{Content}
 use Rattle.plant_model.specs.RowChanges.{no_rows}
-use Rattle.plant_types.specs.Names.{Name}
-use Rattle.plant_columns.specs.Kept.{by_columns, is_of}
-use Rattle.plant_columns.specs.Shape.{IsRowIn}
-use Rattle.plant_columns.specs.Tidy.{AreApart}
-use Rattle.plant_columns.proofs.public.Keys.{equal_is, by_columns_total}
-use Rattle.plant_columns.proofs.public.Kept.{all-sort, no_ties-out, sort-filter}
-use Rattle.plant_columns.proofs.public.Joins.{joins, meets, met}
+use Rattle.plant_types.{specs.Names.{Name}, proofs.public.Halves.{left}}
+use Rattle.plant_columns.specs.{Kept.{by_columns, is_of}, Shape.{IsRowIn}, Tables.Kept.{UnitKept, GrantKept}}
+use Rattle.plant_columns.{specs.{Tables.{books_schema, grant_shape, rows_seen, unit_shape}, Tidy.{AreApart}}, proofs.public.Joins.{joins, meets, met}}
+use Rattle.plant_columns.proofs.public.{Kept.{all-sort, no_ties-out, sort-filter}, Keys.{equal_is, by_columns_total}, ShapeLaws.{good}}
 use Rattle.plant_columns.proofs.public.Shapes.{named}
-use Rattle.plant_store.specs.Keeping.{HasContent, has_any}
-use Rattle.plant_store.specs.Mine.{is_named, last_in, line_at, line_cells, lines_of}
-use Rattle.plant_columns.specs.Tables.{books_schema, grant_shape, rows_seen, unit_shape}
-use Rattle.plant_columns.specs.Tables.Kept.{UnitKept, GrantKept}
-use Rattle.plant_store.specs.Texts.{mine_text}
-use Rattle.plant_store.proofs.public.Contents.{was_opened}
-use Rattle.plant_store.proofs.Meanings.{by_key, mine, mine_shows, mine_tests}
-use Rattle.plant_columns.proofs.public.ShapeLaws.{good}
+use Rattle.plant_store.specs.{Keeping.{HasContent, has_any}, Mine.{is_named, last_in, line_at, line_cells, lines_of}, Texts.{mine_text}}
+use Rattle.plant_store.proofs.{Meanings.{by_key, mine, mine_shows, mine_tests}, public.Contents.{was_opened}}
 
 abbrev grant_key : List ℕ
 grant_key = 1 ∷ 2 ∷ 3 ∷ []
@@ -53,12 +35,8 @@ equal_when Less h = absurd (true≢false (sym h))
 equal_when Equal h = refl
 equal_when Greater h = absurd (true≢false (sym h))
 
-pub both : (a b : Bool) → (a && b) ≡ true → a ≡ true
-both true b h = refl
-both false b h = h
-
 -- what SQL calls equal ties, also where the second may be NULL
-pub equal_ties : (a b : Value) → equal Binary a b ≡ true → value_cmp a b ≡ Equal
+equal_ties : (a b : Value) → equal Binary a b ≡ true → value_cmp a b ≡ Equal
 unfolding binary
 equal_ties a (Int n) h = equal_when _ (sym (equal_is a (Int n) refl) ∙ h)
 equal_ties a (Real n) h = equal_when _ (sym (equal_is a (Real n) refl) ∙ h)
@@ -72,8 +50,8 @@ equal_ties (Blob n) Null h = absurd (true≢false (sym h))
 
 same_unit : (p : List ℕ) (g u v : Row) → meets 3 1 mine_tests mine_shows (by_key grant_shape) grant_key (Text p ∷ []) g u ≡ true → meets 3 1 mine_tests mine_shows (by_key grant_shape) grant_key (Text p ∷ []) g v ≡ true → is_eq (by_columns (1 ∷ []) u v) ≡ true
 same_unit p g u v h k =
-    let first = equal_ties (column u 1) (column g 1) (both _ _ h) in
-    let second = tied_back value_cmp_total (column v 1) (column g 1) (equal_ties (column v 1) (column g 1) (both _ _ k)) in
+    let first = equal_ties (column u 1) (column g 1) (left _ _ h) in
+    let second = tied_back value_cmp_total (column v 1) (column g 1) (equal_ties (column v 1) (column g 1) (left _ _ k)) in
     let tie : value_cmp (column u 1) (column v 1) ≡ Equal = sym (alike_right value_cmp_total (column g 1) (column v 1) (column u 1) second) ∙ first in
     ap is_eq (then-Equal (value_cmp (column u 1) (column v 1)) ∙ tie)
 
@@ -100,7 +78,7 @@ any_inserted : {B : Type 0} (f : Row → B) (cmp : Row → Row → Ordering) (x 
 any_inserted f cmp x [] = refl
 any_inserted f cmp x (y ∷ ys) = elim (Rattle.std.proofs.Common.is_gt (cmp x y)) as (λ b. has_any (map f (cond b (y ∷ insert_sorted cmp x ys) (x ∷ y ∷ ys))) ≡ true) [ true ↦ refl | false ↦ refl ]
 
-pub any_sorted : {B : Type 0} (f : Row → B) (cmp : Row → Row → Ordering) (xs : List Row) (r : Row) → Has xs r → has_any (map f (sort_by cmp xs)) ≡ true
+any_sorted : {B : Type 0} (f : Row → B) (cmp : Row → Row → Ordering) (xs : List Row) (r : Row) → Has xs r → has_any (map f (sort_by cmp xs)) ≡ true
 any_sorted f cmp [] r h = absurd h
 any_sorted f cmp (x ∷ xs) r h = any_inserted f cmp x (sort_by cmp xs)
 

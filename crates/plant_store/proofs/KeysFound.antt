@@ -1,10 +1,6 @@
 -- A row that is found by its key is there, and no key that is there is passed over.
-use Rattle.std.proofs.Common.{ap, refl, ◌∙◌, ◌≡◌}
-use Rattle.std.specs.Borrow.{Bor}
-use Rattle.std.specs.List.{list_any}
-use Rattle.std.specs.Ordering.{eq_by_cmp}
-use Rattle.std.specs.Prelude.{Bool, List, None, Option, Some, [], find, if◌then◌else◌, is_some, option_copied, false, true, ◌∷◌, ◌||◌}
-use Rattle.std.specs.declared.cmp.Ordering.{Ordering}
+use Rattle.std.specs.{Borrow.{Bor}, List.{list_any}, Ordering.{eq_by_cmp}}
+use Rattle.std.proofs.Common.{ap, refl, ◌∙◌, ◌≡◌, Bool, List, None, Option, Some, [], find, if◌then◌else◌, is_some, option_copied, false, true, ◌∷◌, ◌||◌, Ordering}
 use Rattle.plant_types.specs.KeyedRows.{row_at}
 
 found_any : {X : Type 0} (test : X → Bool) (xs : List X) → is_some (find test xs) ≡ list_any test xs

@@ -1,39 +1,21 @@
 -- The last row of a unit, by a query in the falling order of the key with LIMIT 1.
-use Rattle.std.proofs.Common.{◌≡◌, ℕ, List, [], ◌∷◌, ◌++◌, map, filter, reverse, take, Option, Some, None, refl, sym, ap, ◌∙◌, subst, Ordering, Less, IsPermutation, arith, length, pos, suc}
 use Rattle.std.specs.List.{AllByRecursion}
-use Rattle.std.specs.Prelude.{option_map, option_to_list, slice_get, unwrap_or, ◌-◌}
+use Rattle.std.proofs.Common.{◌≡◌, ℕ, List, [], ◌∷◌, ◌++◌, map, filter, reverse, take, Option, Some, None, refl, sym, ap, ◌∙◌, subst, Ordering, Less, IsPermutation, arith, length, pos, suc, option_map, option_to_list, slice_get, unwrap_or, ◌-◌}
 use Rattle.std.proofs.lemmas.List.{map-append, reverse-append}
 use Rattle.std.proofs.lemmas.List.Sorted.{IsPermutation-trans, IsPermutation-reverse, IsPermutation-map, IsPermutation-sym}
-use Rattle.sqlite.specs.Query.{IsAnswer, Output, output_cmp, inner, end}
-use Rattle.sqlite.specs.Program.{overlay}
-use Rattle.sqlite.specs.State.{State, Shown}
-use Rattle.sqlite.specs.Term.{Term, lit, col}
-use Rattle.sqlite.specs.Tree.{Trees, IsAscending}
-use Rattle.sqlite.proofs.Callers.{reads_as}
-use Rattle.sqlite_keyed.specs.Lists.{sort_by}
-use Rattle.sqlite_keyed.proofs.ListLemmas.{ascending-map, ascending-append, all-append, all_weaker, filter_same, map-map}
+use Rattle.sqlite.specs.{Program.{overlay}, Query.{IsAnswer, Output, output_cmp, inner, end}, State.{State, Shown}, Term.{Term, lit, col}}
+use Rattle.sqlite.{specs.Tree.{Trees, IsAscending}, proofs.Callers.{reads_as}}
+use Rattle.sqlite_keyed.{specs.Lists.{sort_by}, proofs.ListLemmas.{ascending-map, ascending-append, all-append, all_weaker, filter_same, map-map}}
 use Rattle.sqlite_keyed.proofs.SortLemmas.{sorted_unique, IsPermutation-sort_by}
 use Rattle.sqlite_sql.proofs.QueryLemmas.{output_cmp_total}
-use Rattle.sqlite_value.specs.declared.keys.Key.{Key}
-use Rattle.sqlite_value.specs.declared.value.Value.TheVariants.{Null, Int, Text}
-use Rattle.sqlite_value.specs.Order.{Row, column}
-use Rattle.plant_model.specs.RowFacts.{last_number}
-use Rattle.plant_model.specs.declared.rows.ChangeEntry.{ChangeEntry}
+use Rattle.sqlite_value.specs.{Order.{Row, column}, declared.{keys.Key.{Key}, value.Value.TheVariants.{Null, Int, Text}}}
+use Rattle.plant_model.specs.{RowFacts.{last_number}, declared.rows.ChangeEntry.{ChangeEntry}}
 use Rattle.plant_types.specs.Names.{Name}
-use Rattle.plant_columns.specs.Kept.{by_columns, is_of, kept, plain_query}
-use Rattle.plant_columns.specs.Tidy.{AreApart}
-use Rattle.plant_columns.proofs.public.Joins.{strict-sort}
-use Rattle.plant_columns.proofs.public.Keys.{by_columns_total}
-use Rattle.plant_columns.proofs.public.Kept.{no_ties-out}
-use Rattle.plant_columns.proofs.public.Laws.{Reads, reads, passes, shows}
+use Rattle.plant_columns.specs.{Codes.{number}, Kept.{by_columns, is_of, kept, plain_query}, Tables.Kept.{ChangeKept}}
+use Rattle.plant_columns.{specs.{Tables.{AreBooks, books_schema, rows_seen, change_shape}, Tidy.{AreApart}}, proofs.public.Joins.{strict-sort}}
+use Rattle.plant_columns.proofs.public.{Kept.{no_ties-out}, Keys.{by_columns_total}, Laws.{Reads, reads, passes, shows}, ShapeLaws.{good}}
 use Rattle.plant_columns.proofs.public.Shapes.{shown_kept}
-use Rattle.plant_columns.specs.Codes.{number}
-use Rattle.plant_columns.specs.Tables.{AreBooks, books_schema, rows_seen, change_shape}
-use Rattle.plant_columns.specs.Tables.Kept.{ChangeKept}
-use Rattle.plant_columns.proofs.public.ShapeLaws.{good}
-use Rattle.plant_store.specs.Texts.{last_change_text}
-use Rattle.plant_store.proofs.Meanings.{by_unit, falling_2, last_change}
-use Rattle.plant_store.proofs.Joined.{one_test}
+use Rattle.plant_store.{specs.Texts.{last_change_text}, proofs.{Joined.{one_test}, Meanings.{by_unit, falling_2, last_change}}}
 
 -- ---- lists the other way round
 

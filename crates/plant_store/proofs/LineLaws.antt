@@ -1,23 +1,17 @@
 -- Runs of lines: one more line, and what there is of each unit.
+use Rattle.std.specs.{Cmp.Lexicographic.{nat_list_cmp_total}, List.{AllByRecursion}}
 use Rattle.std.proofs.Common.{◌≡◌, ℕ, Bool, true, false, cond, List, [], ◌∷◌, ◌++◌, map, filter, Option, None, Some, refl, sym, ap, ◌∙◌, subst, true≢false, append_assoc, Ordering, Less, Equal, Greater, is_gt, is_eq}
-use Rattle.std.specs.List.{AllByRecursion}
-use Rattle.std.specs.Cmp.Lexicographic.{nat_list_cmp_total}
 use Rattle.sqlite_trees.specs.Tree.{IsAscending}
 use Rattle.plant_books.specs.declared.books.MineUnit.{MineUnit}
-use Rattle.plant_types.specs.declared.role.Role.{Role}
-use Rattle.plant_types.specs.Names.{Name, name_cmp, same_name}
-use Rattle.plant_types.specs.KeyedRows.{IsInOrder, row_at}
-use Rattle.plant_types.proofs.public.Orders.{name_total, same_names}
-use Rattle.plant_types.proofs.public.KeyedRowLaws.{tied}
+use Rattle.plant_types.specs.{KeyedRows.{IsInOrder, row_at}, Names.{Name, name_cmp, same_name}, declared.role.Role.{Role}}
+use Rattle.plant_types.proofs.public.{KeyedRowLaws.{tied}, Orders.{name_total, same_names}}
 use Rattle.plant_columns.proofs.public.Bridge.{IsInOrder-rising}
-use Rattle.plant_store.specs.declared.mine.Line.{Line}
-use Rattle.plant_store.specs.Keeping.{has_any}
-use Rattle.plant_store.specs.Mine.{put_run, runs_of, started}
+use Rattle.plant_store.specs.{Keeping.{has_any}, Mine.{put_run, runs_of, started}, declared.mine.Line.{Line}}
 
-pub same_codes : (a b : Name) → same_name a b ≡ true → a ≡ b
+same_codes : (a b : Name) → same_name a b ≡ true → a ≡ b
 same_codes a b h = same_names a b (tied _ _ h refl)
 
-pub itself : (a : Name) → same_name a a ≡ true
+itself : (a : Name) → same_name a a ≡ true
 itself a = ap is_eq (Rattle.std.proofs.lemmas.Cmp.tied_itself nat_list_cmp_total a)
 
 -- ---- one more line
@@ -46,7 +40,7 @@ other_run u l h (v ∷ vs) = go (same_name l.unit v.unit)
 
 -- ---- the runs of lines whose units rise
 
-abbrev pub NotAbove : Name → Name → Type 0
+abbrev NotAbove : Name → Name → Type 0
 NotAbove a b = is_gt (name_cmp a b) ≡ false
 
 put_above : (P : Name → Type 0) (u : MineUnit) → P u.unit → (vs : List MineUnit) → AllByRecursion (λ v. P v.unit) vs → AllByRecursion (λ v. P v.unit) (put_run u vs)
@@ -57,7 +51,7 @@ runs_above : (P : Name → Type 0) (ls : List Line) → AllByRecursion (λ l. P 
 runs_above P [] all = tt
 runs_above P (l ∷ ls) all = put_above P (started l) all.0 (runs_of ls) (runs_above P ls all.1)
 
-pub less_when : (a b : Name) → NotAbove a b → same_name a b ≡ false → name_cmp a b ≡ Less
+less_when : (a b : Name) → NotAbove a b → same_name a b ≡ false → name_cmp a b ≡ Less
 less_when a b h k = go (name_cmp a b) h k
   where
     go : (o : Ordering) → is_gt o ≡ false → is_eq o ≡ false → o ≡ Less
@@ -80,7 +74,7 @@ put_rises u (v ∷ vs) all up = go (same_name u.unit v.unit) refl
     go true e = (subst (λ n. AllByRecursion (λ w. name_cmp n w.unit ≡ Less) vs) (sym (same_codes u.unit v.unit e)) up.0, up.1)
     go false e = let less = less_when u.unit v.unit all.0 e in ((less, all_less u.unit v.unit less vs up.0), up)
 
-pub runs_rise : (ls : List Line) → IsAscending (λ a b. is_gt (name_cmp a.unit b.unit) ≡ false) ls → RunsRise (runs_of ls)
+runs_rise : (ls : List Line) → IsAscending (λ a b. is_gt (name_cmp a.unit b.unit) ≡ false) ls → RunsRise (runs_of ls)
 runs_rise [] up = tt
 runs_rise (l ∷ ls) up = put_rises (started l) (runs_of ls) (runs_above (NotAbove l.unit) ls up.0) (runs_rise ls up.1)
 

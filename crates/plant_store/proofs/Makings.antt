@@ -1,34 +1,18 @@
 -- The statements that make the tables.
-use Rattle.std.proofs.Common.{◌≡◌, ◌≢◌, ℕ, pos, List, [], ◌∷◌, ◌++◌, Ok, None, refl, sym, ap, ◌∙◌, subst, arith, false}
-use Rattle.std.specs.List.{AllByRecursion}
-use Rattle.sqlite.specs.Change.{next_tree, KeepsRows}
-use Rattle.sqlite.specs.Command.TheVariants.{Insert}
-use Rattle.sqlite.specs.Does.{Does, Tally, lacks_sequence}
-use Rattle.sqlite.specs.Edit.{edit_of, edited}
-use Rattle.sqlite.specs.Effect.{Database}
-use Rattle.sqlite.specs.Listing.{understood}
-use Rattle.sqlite.specs.Rowids.TheVariants.{Chosen}
-use Rattle.sqlite.specs.Rows.{Written}
-use Rattle.sqlite.specs.Schema.{Schema}
-use Rattle.sqlite.specs.Source.TheVariants.{Values}
-use Rattle.sqlite.specs.State.{Executes, State, mode_of}
-use Rattle.sqlite.specs.Table.{Table}
-use Rattle.sqlite.specs.Tree.{Trees}
+use Rattle.std.{specs.List.{AllByRecursion}, proofs.Common.{◌≡◌, ◌≢◌, ℕ, pos, List, [], ◌∷◌, ◌++◌, Ok, None, refl, sym, ap, ◌∙◌, subst, arith, false}}
+use Rattle.sqlite.specs.{Change.{next_tree, KeepsRows}, Command.TheVariants.{Insert}, Does.{Does, Tally, lacks_sequence}, Edit.{edit_of, edited}}
+use Rattle.sqlite.specs.{Effect.{Database}, Listing.{understood}, Rowids.TheVariants.{Chosen}, Rows.{Written}, Schema.{Schema}}
+use Rattle.sqlite.specs.{Source.TheVariants.{Values}, State.{Executes, State, mode_of}, Table.{Table}, Tree.{Trees}}
 use Rattle.sqlite.proofs.Callers.{runs_as, statement_of}
 use Rattle.sqlite_keyed.proofs.ListLemmas.{all-append}
-use Rattle.sqlite_value.specs.declared.value.Value.TheVariants.{Int, Null, Text}
-use Rattle.sqlite_value.specs.Order.{Row}
+use Rattle.sqlite_value.specs.{Order.{Row}, declared.value.Value.TheVariants.{Int, Null, Text}}
 use Rattle.plant_columns.specs.Shape.{IsRowIn, table_in}
-use Rattle.plant_columns.specs.Tidy.{IsTidy}
-use Rattle.plant_columns.proofs.public.Changes.{KeepsOthers, creates, indexes, lone_step, same_value, went}
-use Rattle.plant_columns.proofs.public.Family.{kept_at}
-use Rattle.plant_columns.proofs.public.Laws.{cast_int, cast_null}
-use Rattle.plant_store.specs.Making.{AreEmpty, AreNew, schema_before, schema_with}
-use Rattle.plant_columns.specs.Tables.{Kept, books_schema, changes_schema, grant_shape, no_schema, office_row, office_schema, office_table, shape, unit_shape}
 use Rattle.plant_columns.specs.Tables.Kept.{UnitKept, GrantKept, AlarmKept, ShelfKept, BandKept, CellKept, EventKept, RecordKept, ChangeKept}
-use Rattle.plant_store.specs.Texts.{by_person_text, office_text, put_office_text, table_text}
+use Rattle.plant_columns.specs.Tables.{Kept, books_schema, changes_schema, grant_shape, no_schema, office_row, office_schema, office_table, shape, unit_shape}
+use Rattle.plant_columns.{specs.Tidy.{IsTidy}, proofs.public.{Changes.{KeepsOthers, creates, indexes, lone_step, same_value, went}, Family.{kept_at}}}
+use Rattle.plant_columns.proofs.public.{Laws.{cast_int, cast_null}, ShapeLaws.{all_listed}}
+use Rattle.plant_store.specs.{Making.{AreEmpty, AreNew, schema_before, schema_with}, Texts.{by_person_text, office_text, put_office_text, table_text}}
 use Rattle.plant_store.proofs.Meanings.{Makes, by_person_created, by_person_made, by_person_means, by_person_whole, makes_office as office_means, makes_table, put_office}
-use Rattle.plant_columns.proofs.public.ShapeLaws.{all_listed}
 use Rattle.plant_store.proofs.Writes.{free}
 
 still_empty : (ts : List Table) (old new : Trees) → KeepsRows ts old new → AllByRecursion (λ t. old t.tree ≡ []) ts → AllByRecursion (λ t. new t.tree ≡ []) ts

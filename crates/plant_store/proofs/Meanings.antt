@@ -1,31 +1,17 @@
 -- What each text means under the schema, found by running the resolver's meaning.
-use Rattle.std.proofs.Common.{◌≡◌, Ok, refl, List, ℕ, suc, [], ◌∷◌, ◌++◌, drop, false, codes, length, map, pos, true}
-use Rattle.std.specs.Fmt.{digits}
-use Rattle.sqlite.specs.Collation.TheVariants.{Binary}
-use Rattle.sqlite.specs.Change.{created, indexed}
-use Rattle.sqlite.specs.Command.{Command}
-use Rattle.sqlite.specs.Command.TheVariants.{Insert, Delete, Select, Update, CreateTable, CreateIndex}
-use Rattle.sqlite.specs.Compile.{table_defined_by, index_defined_by}
-use Rattle.sqlite.specs.Listing.{understood, reads_listing}
-use Rattle.sqlite.specs.Query.{Query, inner, end}
-use Rattle.sqlite.specs.Schema.{Schema}
-use Rattle.sqlite.specs.Source.TheVariants.{Values}
-use Rattle.sqlite.specs.Table.{Table}
-use Rattle.sqlite.specs.Term.{Term, lit, col, op2}
-use Rattle.sqlite.proofs.Callers.{IsPlain, command_of, statement_of}
+use Rattle.std.{specs.Fmt.{digits}, proofs.Common.{◌≡◌, Ok, refl, List, ℕ, suc, [], ◌∷◌, drop, false, codes, length, map, pos, true}}
+use Rattle.sqlite.specs.{Change.{created, indexed}, Collation.TheVariants.{Binary}, Command.{Command}}
+use Rattle.sqlite.specs.{Command.TheVariants.{Insert, Delete, Select, Update, CreateTable, CreateIndex}, Compile.{table_defined_by, index_defined_by}}
+use Rattle.sqlite.specs.{Listing.{understood, reads_listing}, Query.{Query, inner, end}, Schema.{Schema}, Source.TheVariants.{Values}, Table.{Table}}
+use Rattle.sqlite.{specs.Term.{Term, lit, col, op2}, proofs.Callers.{IsPlain, command_of, statement_of}}
 use Rattle.sqlite_schema.specs.declared.schema.Column.{Column}
-use Rattle.sqlite_sql.specs.declared.ops.BinaryOp.TheVariants.{Compare}
-use Rattle.sqlite_sql.specs.declared.ops.CompareOp.TheVariants.{Eq}
+use Rattle.sqlite_sql.specs.declared.ops.{BinaryOp.TheVariants.{Compare}, CompareOp.TheVariants.{Eq}}
 use Rattle.sqlite_tied.specs.Compute.{everything}
-use Rattle.sqlite_value.specs.declared.keys.Key.{Key}
-use Rattle.sqlite_value.specs.declared.value.Value.TheVariants.{Null, Int}
-use Rattle.sqlite_value.specs.Keys.{ascending}
+use Rattle.sqlite_value.specs.{Keys.{ascending}, declared.{keys.Key.{Key}, value.Value.TheVariants.{Null, Int}}}
 use Rattle.plant_store.specs.Making.{schema_before, schema_with}
-use Rattle.plant_store.specs.Texts.{office_text, by_person_text, put_office_text, office_row_text, over_unit_text, over_grant_text, over_alarm_text, over_shelf_text, over_record_text, over_change_text, remove_grant_text, remove_shelf_text, own_grants_text, alarm_at_text, shelf_at_text, tags_of_text, shelf_tags_text, mine_shelves_text, mine_text, record_at_text, bands_at_text, cells_at_text, change_at_text, last_change_text, put_text, rows_text, table_text}
+use Rattle.plant_store.specs.Texts.{office_text, by_person_text, put_office_text, office_row_text, over_unit_text, over_grant_text, over_alarm_text, over_shelf_text, over_record_text, over_change_text, remove_grant_text, remove_shelf_text, own_grants_text, alarm_at_text, shelf_at_text, tags_of_text, shelf_tags_text, mine_text, record_at_text, bands_at_text, cells_at_text, change_at_text, last_change_text, put_text, rows_text, table_text}
+use Rattle.plant_columns.specs.{Kept.{plain_query}, Shape.{Shape, table_in}, Tables.Kept.{UnitKept}}
 use Rattle.plant_columns.specs.Tables.{Kept, shape, office_table, unit_shape, grant_shape, alarm_shape, shelf_shape, band_shape, cell_shape, by_person, no_schema, office_schema, books_schema, record_shape, change_shape, changes_schema}
-use Rattle.plant_columns.specs.Tables.Kept.{UnitKept}
-use Rattle.plant_columns.specs.Kept.{plain_query}
-use Rattle.plant_columns.specs.Shape.{Shape, table_in}
 
 -- under this schema the text is this command, and plain
 pub record Means (schema : Schema) (text : List ℕ) (command : Command) : Type 0 where
@@ -237,7 +223,7 @@ pub last_change : Asks books_schema last_change_text (record (plain_query (inner
 unfolding understood everything
 last_change = record { is = refl; unlisted = refl; plain = (refl, refl) }
 
--- ---- joins
+-- ---- a join
 
 abbrev pub mine_tests : List Term
 mine_tests = op2 (Compare Eq Binary) (col 2 1) (col 1 1) ∷ op2 (Compare Eq Binary) (col 1 2) (col 0 0) ∷ []
@@ -248,26 +234,3 @@ mine_shows = col 1 1 ∷ col 1 3 ∷ col 1 4 ∷ col 2 2 ∷ []
 pub mine : Asks books_schema mine_text (plain_query (inner 3 (inner 1 end)) mine_tests mine_shows (by_key grant_shape)) (codes "unit" ∷ codes "role_no" ∷ codes "end_s" ∷ codes "last_s" ∷ [])
 unfolding understood everything
 mine = record { is = refl; unlisted = refl; plain = (refl, refl) }
-
-abbrev pub mine_shelves_tests : List Term
-mine_shelves_tests = op2 (Compare Eq Binary) (col 1 1) (col 2 1) ∷ op2 (Compare Eq Binary) (col 1 2) (col 0 0) ∷ []
-
-abbrev pub mine_shelves_shows : List Term
-mine_shelves_shows = terms 2 1 shelf_shape.columns ++ col 1 4 ∷ []
-
-abbrev pub mine_shelves_order : List (Term × Key)
-mine_shelves_order = (col 2 1, ascending Binary) ∷ (col 2 2, ascending Binary) ∷ (col 1 3, ascending Binary) ∷ []
-
--- the same join, from the shelves
-abbrev pub shelves_first_tests : List Term
-shelves_first_tests = op2 (Compare Eq Binary) (col 2 1) (col 1 1) ∷ op2 (Compare Eq Binary) (col 2 2) (col 0 0) ∷ []
-
-abbrev pub shelves_first_shows : List Term
-shelves_first_shows = terms 1 1 shelf_shape.columns ++ col 2 4 ∷ []
-
-abbrev pub shelves_first_order : List (Term × Key)
-shelves_first_order = (col 1 1, ascending Binary) ∷ (col 1 2, ascending Binary) ∷ (col 2 3, ascending Binary) ∷ []
-
-pub mine_shelves : Asks books_schema mine_shelves_text (plain_query (inner 3 (inner 7 end)) mine_shelves_tests mine_shelves_shows mine_shelves_order) (codes "unit" ∷ own_names shelf_shape ++ codes "end_s" ∷ [])
-unfolding understood everything
-mine_shelves = record { is = refl; unlisted = refl; plain = (refl, refl) }

@@ -1,43 +1,22 @@
 -- The runs of a person's lines are the units in which the person holds a role.
-use Rattle.std.proofs.Common.{◌≡◌, ℕ, Bool, true, false, cond, ◌&&◌, List, [], ◌∷◌, map, filter, filter_map, Option, None, Some, refl, sym, ap, ap₂, ◌∙◌, subst, Ordering, Less, Equal, Greater, is_gt, is_eq, T}
-use Rattle.std.specs.Prelude.{is_some, unwrap_or, ◌||◌}
-use Rattle.std.specs.List.{AllByRecursion, list_any, cons_option}
-use Rattle.std.specs.Ordering.{eq_by_cmp, is_lt, ordering_then}
-use Rattle.std.specs.Cmp.{eq_by_cmp_equiv}
-use Rattle.std.specs.Cmp.Lexicographic.{nat_list_cmp_total}
+use Rattle.std.specs.{Cmp.{eq_by_cmp_equiv, Lexicographic.{nat_list_cmp_total}}, FinMap.Entries.{below_all, is_sorted}}
 use Rattle.std.specs.FinMap.{FinMap, get, contains_key, keys, entries, entries_sorted, contains_key-keys}
-use Rattle.std.specs.FinMap.Entries.{below_all, is_sorted}
+use Rattle.std.specs.{List.{AllByRecursion, list_any, cons_option}, Ordering.{eq_by_cmp, ordering_then}}
+use Rattle.std.proofs.Common.{◌≡◌, ℕ, Bool, true, false, cond, ◌&&◌, List, [], ◌∷◌, map, filter, filter_map, Option, None, Some, refl, sym, ap, ap₂, ◌∙◌, subst, Ordering, Less, Equal, Greater, is_gt, is_eq, T, is_some, unwrap_or, ◌||◌, is_lt}
 use Rattle.sqlite.specs.State.{State}
-use Rattle.sqlite_keyed.specs.Lists.{sort_by}
-use Rattle.sqlite_keyed.proofs.ListLemmas.{all-filter, ascending-filter}
+use Rattle.sqlite_keyed.{specs.Lists.{sort_by}, proofs.ListLemmas.{all-filter, ascending-filter}}
 use Rattle.sqlite_trees.specs.Tree.{IsAscending}
-use Rattle.sqlite_value.specs.declared.value.Value.TheVariants.{Text}
-use Rattle.sqlite_value.specs.Order.{Row, column, bytes, value_cmp}
-use Rattle.sqlite_value.proofs.OrderLemmas.{value_cmp-Text}
+use Rattle.sqlite_value.{specs.{Order.{Row, column, bytes, value_cmp}, declared.value.Value.TheVariants.{Text}}, proofs.OrderLemmas.{value_cmp-Text}}
 use Rattle.plant_books.specs.Contents.{Content, is_held_by, is_held_in, codes_held, mine_as, mine_unit, mine_units, roles_in, rows_in}
 use Rattle.plant_books.specs.declared.books.MineUnit.{MineUnit}
-use Rattle.plant_model.specs.declared.rows.GrantRow.{GrantRow}
-use Rattle.plant_model.specs.declared.rows.UnitRows.{UnitRows}
-use Rattle.plant_model.specs.Grants.{is_before}
-use Rattle.plant_model.specs.RowChanges.{no_rows}
-use Rattle.plant_types.specs.Names.{Name, name_cmp, same_name}
-use Rattle.plant_types.specs.Options.{when}
-use Rattle.plant_types.specs.KeyedRows.{IsInOrder, row_at}
-use Rattle.plant_types.proofs.public.Orders.{name_total, same_names}
-use Rattle.plant_types.proofs.public.KeyedRowLaws.{IsInOrder-told, row_at-told, same_rows}
-use Rattle.plant_columns.specs.Kept.{by_columns, is_of}
-use Rattle.plant_columns.specs.Shape.{IsRowIn}
-use Rattle.plant_columns.proofs.public.Keys.{by_columns_total}
-use Rattle.plant_columns.proofs.public.Kept.{all-kept, all-sort, no_ties-out, sort-filter}
-use Rattle.plant_columns.proofs.public.Joins.{strict-sort}
-use Rattle.plant_columns.proofs.public.Shapes.{named}
-use Rattle.plant_store.specs.declared.mine.Line.{Line}
-use Rattle.plant_store.specs.Keeping.{HasContent, has_any}
-use Rattle.plant_store.specs.Mine.{is_named, last_in, line_at, lines_of, runs_of, standing_lines}
-use Rattle.plant_columns.specs.Tables.{grant_shape, rows_seen}
-use Rattle.plant_columns.specs.Tables.Kept.{UnitKept, GrantKept}
-use Rattle.plant_store.proofs.LineLaws.{roles_at, run_at, run_with, runs_in_order}
-use Rattle.plant_columns.proofs.public.ShapeLaws.{good}
+use Rattle.plant_model.specs.{Grants.{is_before}, RowChanges.{no_rows}, declared.rows.{GrantRow.{GrantRow}, UnitRows.{UnitRows}}}
+use Rattle.plant_types.specs.{KeyedRows.{IsInOrder, row_at}, Names.{Name, name_cmp, same_name}, Options.{when}}
+use Rattle.plant_types.proofs.public.{KeyedRowLaws.{IsInOrder-told, row_at-told, same_rows}, Orders.{name_total, same_names}}
+use Rattle.plant_columns.specs.{Kept.{by_columns, is_of}, Shape.{IsRowIn}, Tables.{grant_shape, rows_seen, Kept.{UnitKept, GrantKept}}}
+use Rattle.plant_columns.proofs.public.{Joins.{strict-sort}, Kept.{all-kept, all-sort, no_ties-out, sort-filter}, Keys.{by_columns_total}}
+use Rattle.plant_columns.proofs.public.{ShapeLaws.{good}, Shapes.{named}}
+use Rattle.plant_store.specs.{Keeping.{HasContent, has_any}, Mine.{is_named, last_in, line_at, lines_of, runs_of, standing_lines}}
+use Rattle.plant_store.{specs.declared.mine.Line.{Line}, proofs.LineLaws.{roles_at, run_at, run_with, runs_in_order}}
 
 abbrev grant_key : List ℕ
 grant_key = 1 ∷ 2 ∷ 3 ∷ []

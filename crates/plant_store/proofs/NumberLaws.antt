@@ -1,18 +1,10 @@
 -- The numbers of the tables' rows do not fall.
-use Rattle.std.proofs.Common.{◌≡◌, ℕ}
-use Rattle.std.specs.Cmp.{eq_by_cmp_equiv}
-use Rattle.std.proofs.lemmas.Cmp.{nat_cmp_total}
+use Rattle.std.{specs.Cmp.{eq_by_cmp_equiv}, proofs.{Common.{◌≡◌, ℕ}, lemmas.Cmp.{nat_cmp_total}}}
 use Rattle.sqlite.specs.Effect.{Database}
-use Rattle.plant_books.proofs.public.NumberRanges.{bands_rise, cells_rise, changes_rise}
-use Rattle.plant_books.specs.Numbered.{NumbersRise}
-use Rattle.plant_columns.specs.Tables.{AreBooks, band_shape, cell_shape, change_shape, rows_seen}
-use Rattle.plant_columns.specs.Tables.Kept.{BandKept, CellKept, ChangeKept}
-use Rattle.plant_columns.proofs.public.ShapeLaws.{good}
-use Rattle.plant_columns.proofs.public.Shapes.{rises}
-use Rattle.plant_model.specs.Histories.{same_number}
-use Rattle.plant_model.specs.RowFacts.{change_number}
-use Rattle.plant_model.specs.declared.rows.BandRow.{BandRow}
-use Rattle.plant_model.specs.declared.rows.CellRow.{CellRow}
+use Rattle.plant_books.{specs.Numbered.{NumbersRise}, proofs.public.NumberRanges.{bands_rise, cells_rise, changes_rise}}
+use Rattle.plant_columns.specs.Tables.{AreBooks, band_shape, cell_shape, change_shape, rows_seen, Kept.{BandKept, CellKept, ChangeKept}}
+use Rattle.plant_columns.proofs.public.{ShapeLaws.{good}, Shapes.{rises}}
+use Rattle.plant_model.specs.{Histories.{same_number}, RowFacts.{change_number}, declared.rows.{BandRow.{BandRow}, CellRow.{CellRow}}}
 use Rattle.plant_types.specs.Names.{Name}
 
 pub other_way : (m n : ℕ) → same_number m n ≡ same_number n m

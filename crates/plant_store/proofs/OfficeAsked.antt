@@ -1,18 +1,14 @@
 -- The question for the office's row, as it is written.
 use Rattle.std.proofs.Common.{◌≡◌, refl, [], ◌∷◌, codes, None, Ok, false}
-use Rattle.sqlite_ast.specs.declared.Expr.{Expr, out-Expr}
-use Rattle.sqlite_ast.specs.declared.Expr.TheOpen.{Expr-F, Shown-F}
-use Rattle.sqlite_ast.specs.declared.Shown as written
+use Rattle.sqlite_ast.specs.declared.{Core.{Core, out-Core}, Expr.{Expr, out-Expr, TheOpen.{Expr-F, Shown-F}}, Select.{Select, out-Select}}
 use Rattle.sqlite_ast.specs.declared.Source.{Source, out-Source}
-use Rattle.sqlite_ast.specs.declared.Core.{Core, out-Core}
-use Rattle.sqlite_ast.specs.declared.Select.{Select, out-Select}
-use Rattle.sqlite_ast.specs.declared.Origin.TheVariants as origin
-use Rattle.sqlite_ast.specs.declared.Statement.TheVariants as statement
 use Rattle.sqlite_syntax.specs.declared.statement.Parsed.{Parsed}
-use Rattle.sqlite_resolve.specs.Scope.{Name}
-use Rattle.sqlite_resolve.specs.Compile.{first}
+use Rattle.sqlite_resolve.specs.{Compile.{first}, Scope.{Name}}
 use Rattle.sqlite_tied.specs.Compute.{everything}
 use Rattle.plant_store.specs.Texts.{office_row_text}
+use Rattle.sqlite_ast.specs.declared.Shown as written
+use Rattle.sqlite_ast.specs.declared.Origin.TheVariants as origin
+use Rattle.sqlite_ast.specs.declared.Statement.TheVariants as statement
 
 -- a column that is shown under its name
 pub record IsShownColumn (s : written.Shown) (n : Name) : Type 0 where

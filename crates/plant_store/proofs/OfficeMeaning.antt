@@ -1,23 +1,13 @@
 -- What the question for the office's row means under any schema that has the table with its columns.
 use Rattle.std.proofs.Common.{◌≡◌, ℕ, List, [], ◌∷◌, codes, Some, None, Ok, Err, true, false, slice_get}
-use Rattle.sqlite.specs.Listing.{understood, reads_listing}
-use Rattle.sqlite.specs.Query.{Query, inner, end}
-use Rattle.sqlite.specs.Term.{col}
-use Rattle.sqlite_resolve.specs.declared.compiled.Compiled.{Compiled}
-use Rattle.sqlite_resolve.specs.declared.error.CompileError.TheVariants.{Mismatch}
-use Rattle.sqlite_resolve.specs.Compile as compile
-use Rattle.sqlite_resolve.specs.Compile.{compiled}
-use Rattle.sqlite_resolve.specs.Scope.{Name}
-use Rattle.sqlite_schema.specs.declared.command.Command.TheVariants.{Select}
-use Rattle.sqlite_schema.specs.declared.program.Program.{Program}
-use Rattle.sqlite_schema.specs.declared.schema.Schema.{Schema}
-use Rattle.sqlite_schema.specs.declared.schema.Table.{Table}
-use Rattle.sqlite_schema.specs.Names.{table_named, place_of}
+use Rattle.sqlite.specs.{Listing.{understood, reads_listing}, Query.{Query, inner, end}, Term.{col}}
+use Rattle.sqlite_resolve.specs.{Compile.{compiled}, Scope.{Name}, declared.{compiled.Compiled.{Compiled}, error.CompileError.TheVariants.{Mismatch}}}
+use Rattle.sqlite_schema.specs.{Names.{table_named, place_of}, declared.{command.Command.TheVariants.{Select}, program.Program.{Program}}}
+use Rattle.sqlite_schema.specs.declared.schema.{Schema.{Schema}, Table.{Table}}
 use Rattle.sqlite_typing.specs.Types.{accepts_program}
 use Rattle.plant_columns.specs.Kept.{plain_query}
-use Rattle.plant_store.specs.Texts.{office_row_text}
-use Rattle.plant_store.proofs.OfficeAsked.{Asks, asked}
-use Rattle.plant_store.proofs.ThreeColumns.{IsColumn, is_read, not_read}
+use Rattle.plant_store.{specs.Texts.{office_row_text}, proofs.{OfficeAsked.{Asks, asked}, ThreeColumns.{IsColumn, is_read, not_read}}}
+use Rattle.sqlite_resolve.specs.Compile as compile
 
 module _ (schema : Schema) (k : ℕ) (t : Table) (named : table_named schema (codes "office") ≡ Some k) (is : slice_get schema.tables k ≡ Some t)
     (id : IsColumn t (codes "id")) (schema_no : IsColumn t (codes "schema_no")) (admin : IsColumn t (codes "admin")) where

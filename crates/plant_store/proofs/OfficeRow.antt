@@ -1,34 +1,19 @@
 -- What the question for the office's row shows, wherever the office's table stands.
-use Rattle.std.proofs.Common.{◌≡◌, refl, sym, ap, subst, ◌∙◌, ℕ, List, [], ◌∷◌, length, ltb, map, filter, false, true, inl, inr, codes, IsPermutation, ◌↔◌, Option, None, Some, slice_get, unwrap_or, is_some}
-use Rattle.std.specs.Prelude.{option_and_then, option_map}
 use Rattle.std.specs.List.{position_or_len}
-use Rattle.std.proofs.lemmas.Bool.{and_parts, cases_Bool, false≢true, ltb-true}
-use Rattle.std.proofs.lemmas.Iterator.Adapters.{position_from-zero}
-use Rattle.std.proofs.lemmas.List.Sorted.{IsPermutation-map, IsPermutation-sym}
-use Rattle.std.proofs.lemmas.Option.{slice_get-get_or}
-use Rattle.sqlite.specs.Kind.TheVariants.{Integer}
-use Rattle.sqlite.specs.Query.{Output}
-use Rattle.sqlite.specs.Schema.{Schema}
-use Rattle.sqlite.specs.State.{State, Shown}
-use Rattle.sqlite.specs.Table.{Table}
-use Rattle.sqlite.specs.Term.{col}
+use Rattle.std.proofs.Common.{◌≡◌, refl, sym, ap, subst, ◌∙◌, ℕ, List, [], ◌∷◌, length, ltb, map, filter, false, true, inl, inr, codes, IsPermutation, ◌↔◌, Option, None, Some, slice_get, unwrap_or, is_some, option_and_then, option_map}
+use Rattle.std.proofs.lemmas.{Bool.{and_parts, cases_Bool, false≢true, ltb-true}, Iterator.Adapters.{position_from-zero}}
+use Rattle.std.proofs.lemmas.{List.Sorted.{IsPermutation-map, IsPermutation-sym}, Option.{slice_get-get_or}}
+use Rattle.sqlite.specs.{Kind.TheVariants.{Integer}, Query.{Output}, Schema.{Schema}, State.{State, Shown}, Table.{Table}, Term.{col}}
 use Rattle.sqlite.proofs.Callers.{IsPlain, command_of, one_permutation, reads_as}
 use Rattle.sqlite_schema.specs.Names.{column_named, place_of, same_name, table_named}
 use Rattle.sqlite_typing.specs.Types.{accepts_program}
-use Rattle.sqlite_value.specs.declared.value.Value.TheVariants.{Null}
-use Rattle.sqlite_value.specs.Order.{Row, column}
+use Rattle.sqlite_value.specs.{Order.{Row, column}, declared.value.Value.TheVariants.{Null}}
 use Rattle.plant_books.specs.Contents.{Content}
-use Rattle.plant_columns.specs.Shown.{columns}
-use Rattle.plant_columns.specs.Tables.{AreBooks, office_table}
-use Rattle.plant_store.proofs.public.Contents.{keeps_same}
-use Rattle.plant_store.proofs.OfficeMeaning.{is_refused, is_understood, query}
-use Rattle.plant_store.proofs.ThreeColumns.{IsColumn}
-use Rattle.plant_store.specs.Changes.{IsHonest}
-use Rattle.plant_store.specs.Keeping.{Represents, HasContent}
+use Rattle.plant_columns.{specs.{Forms.{column_of}, Shown.{columns}, Tables.{AreBooks, office_table}}, proofs.public.Laws.{reads, shows}}
+use Rattle.plant_store.specs.{Changes.{IsHonest}, Keeping.{Represents, HasContent}}
 use Rattle.plant_store.specs.Opening.{IsOffice, IsThisOffice, has_office, is_office, office_cells, office_in, office_shown, place_named}
-use Rattle.plant_store.specs.Texts.{office_row_text}
-use Rattle.plant_columns.proofs.public.Laws.{reads, shows}
-use Rattle.plant_columns.specs.Forms.{column_of}
+use Rattle.plant_store.{specs.Texts.{office_row_text}, proofs.{OfficeMeaning.{is_refused, is_understood, query}, ThreeColumns.{IsColumn}}}
+use Rattle.plant_store.proofs.public.Contents.{keeps_same}
 use Rattle.plant_types.specs.Names.{Name}
 
 -- ---- a table and its columns are found by their names

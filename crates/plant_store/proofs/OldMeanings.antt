@@ -1,13 +1,8 @@
 -- What the texts that read a store of schema 1 mean there.
 use Rattle.std.proofs.Common.{refl, List, ℕ, [], ◌∷◌, codes}
-use Rattle.sqlite.specs.Listing.{understood}
-use Rattle.sqlite.specs.Query.{inner, end}
-use Rattle.sqlite.specs.Term.{col}
-use Rattle.sqlite.proofs.Callers.{IsPlain}
+use Rattle.sqlite.{specs.{Listing.{understood}, Query.{inner, end}, Term.{col}}, proofs.Callers.{IsPlain}}
 use Rattle.sqlite_tied.specs.Compute.{everything}
-use Rattle.plant_columns.specs.Kept.{plain_query}
-use Rattle.plant_columns.specs.Tables.{Kept}
-use Rattle.plant_columns.specs.Tables.Kept.{GrantKept, UnitKept}
+use Rattle.plant_columns.specs.{Kept.{plain_query}, Tables.{Kept, Kept.{GrantKept, UnitKept}}}
 use Rattle.plant_store.specs.OldTables.{old_books_schema, old_shape, old_unit_shape}
 use Rattle.plant_store.specs.Texts.{office_row_text, old_codes_text, old_grants_text, old_units_text, rows_text}
 use Rattle.plant_store.proofs.Meanings.{Asks, Lists, by_key, by_unit}

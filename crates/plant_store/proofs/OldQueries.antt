@@ -1,28 +1,14 @@
 -- What a store of schema 1 answers.
-use Rattle.std.proofs.Common.{◌≡◌, true, List, [], ◌∷◌, drop, length, map, refl, sym, ap, ap₂, ◌∙◌}
-use Rattle.std.specs.Ordering.{ordering_then}
+use Rattle.std.{specs.Ordering.{ordering_then}, proofs.Common.{◌≡◌, true, List, [], ◌∷◌, drop, length, map, refl, sym, ap, ap₂, ◌∙◌}}
 use Rattle.std.proofs.lemmas.Cmp.{nat_cmp_total}
 use Rattle.sqlite.specs.State.{State, Shown}
-use Rattle.sqlite_value.specs.declared.value.Value.TheVariants.{Text}
-use Rattle.sqlite_value.specs.Order.{Row, bytes, column}
-use Rattle.sqlite_value.proofs.OrderLemmas.{value_cmp-Text}
-use Rattle.plant_columns.specs.Tables.{Kept, KeyOf}
-use Rattle.plant_columns.specs.Tables.Kept.{GrantKept, UnitKept}
-use Rattle.plant_columns.proofs.public.ShapeLaws.{cast_number, good, numbers, one, role_back}
+use Rattle.sqlite_value.{specs.{Order.{Row, bytes, column}, declared.value.Value.TheVariants.{Text}}, proofs.OrderLemmas.{value_cmp-Text}}
+use Rattle.plant_columns.specs.{Kept.{by_columns}, Shape.{IsRowIn}, Tables.{Kept, KeyOf, Kept.{GrantKept, UnitKept}}}
+use Rattle.plant_columns.proofs.public.{ShapeLaws.{cast_number, good, numbers, one, role_back}, Shapes.{IsShape, finds_rows}}
 use Rattle.plant_store.specs.OldTables.{AreOldBooks, OldRowOf, old_books_schema, old_grant_shape, old_rows, old_shape, old_unit_shape}
-use Rattle.plant_store.specs.Statements.{ReadsOld}
-use Rattle.plant_store.specs.Texts.{old_codes_text}
-use Rattle.plant_store.specs.Upgrading.{old_codes}
-use Rattle.plant_store.proofs.Meanings.{by_key}
-use Rattle.plant_store.proofs.OldMeanings.{lists_old, asks_codes, old_text}
-use Rattle.plant_store.proofs.Queries.{one_test}
-use Rattle.plant_store.proofs.Reading.{reads_all}
-use Rattle.plant_columns.specs.Kept.{by_columns}
-use Rattle.plant_columns.specs.Shape.{IsRowIn}
-use Rattle.plant_columns.proofs.public.Shapes.{IsShape, finds_rows}
-use Rattle.plant_types.proofs.public.Orders.{pair_total}
-use Rattle.plant_types.specs.Names.{Name}
-use Rattle.plant_types.specs.Roles.{role_no}
+use Rattle.plant_store.{specs.{Statements.{ReadsOld}, Texts.{old_codes_text}, Upgrading.{old_codes}}, proofs.Meanings.{by_key}}
+use Rattle.plant_store.proofs.{OldMeanings.{lists_old, asks_codes, old_text}, Queries.{one_test}, Reading.{reads_all}}
+use Rattle.plant_types.{specs.{Names.{Name}, Roles.{role_no}}, proofs.public.Orders.{pair_total}}
 
 -- ---- the two tables of that schema alone
 

@@ -1,34 +1,18 @@
 -- Histories of schema 1 are histories of today: a quota of 2,000 refuses nothing, and without ends what stands is held.
-use Rattle.plant_model.specs.Calls.{own_refusals, reply}
-use Rattle.plant_types.specs.Limits.{max_grants, max_quota}
-use Rattle.std.proofs.Common.{◌≡◌, Bool, true, false, List, [], ◌∷◌, ◌++◌, Option, None, Some, refl, sym, ap, ap₂, ◌∙◌, subst, true≢false, not, arith, ◌<◌, ℕ, nat_cmp, Ordering, Less, Equal, Greater, is_eq}
-use Rattle.std.specs.Cmp.{ranks}
-use Rattle.std.specs.List.{list_all, list_any}
-use Rattle.std.specs.Ordering.{MatchOrdering}
-use Rattle.std.specs.Prelude.{is_none, is_some, nat_le, nat_lt, ◌&&◌, ◌||◌}
-use Rattle.std.proofs.lemmas.Bool.Decides.{nat_tests}
-use Rattle.plant_alarm.specs.Shelves.{is_one_shot, is_timed}
-use Rattle.plant_model.specs.Alarms.{quota, said_of_quota}
-use Rattle.plant_model.specs.Facts.{facts, limit_of, others_shelved, shelf_now}
-use Rattle.plant_model.specs.Grants.{held, stands}
-use Rattle.plant_model.specs.Histories.{latest, same_number}
-use Rattle.plant_model.specs.Laws.{has_no_end}
-use Rattle.plant_model.specs.Legality.{IsLegal}
-use Rattle.plant_model.specs.Kinds.{role_needed}
-use Rattle.plant_model.specs.Refusals.{first_refusal, holds_some, lacks_role}
-use Rattle.plant_model.specs.Rows.{alarm_row}
-use Rattle.plant_model.specs.Verdicts.{changes_history, is_opening, refusals, refused_or, verdict}
-use Rattle.plant_model.specs.declared.call.Call.{Call}
-use Rattle.plant_model.specs.declared.call.Request.{Request}
-use Rattle.plant_model.specs.declared.call.Request.TheVariants.{Grant, OneShotShelve, OpenUnit, TimedShelve}
-use Rattle.plant_model.specs.declared.reply.Refused.{Refused}
+use Rattle.std.specs.{Cmp.{ranks}, List.{list_all, list_any}, Ordering.{MatchOrdering}}
+use Rattle.std.proofs.Common.{◌≡◌, Bool, true, false, List, [], ◌∷◌, ◌++◌, Option, None, Some, refl, sym, ap, ap₂, ◌∙◌, subst, true≢false, not, arith, ◌<◌, ℕ, nat_cmp, Ordering, Less, Equal, Greater, is_eq, is_none, is_some, nat_le, nat_lt, ◌&&◌, ◌||◌}
+use Rattle.std.proofs.lemmas.Bool.{and_from, Decides.{nat_tests}}
+use Rattle.plant_model.specs.{Alarms.{quota, said_of_quota}, Calls.{own_refusals, reply}, Facts.{facts, limit_of, others_shelved, shelf_now}}
+use Rattle.plant_model.specs.{Grants.{held, stands}, Histories.{latest, same_number}, Kinds.{role_needed}, Laws.{has_no_end}, Legality.{IsLegal}}
+use Rattle.plant_model.specs.{Refusals.{first_refusal, holds_some, lacks_role}, Rows.{alarm_row}}
+use Rattle.plant_model.specs.{Verdicts.{changes_history, is_opening, refusals, refused_or, verdict}, declared.call.{Call.{Call}, Request.{Request}}}
+use Rattle.plant_model.specs.declared.{call.Request.TheVariants.{Grant, OneShotShelve, OpenUnit, TimedShelve}, reply.Refused.{Refused}}
 use Rattle.plant_model.specs.declared.reply.Refused.TheVariants.{AlarmUnknown, EndNotAhead, MomentBehind, NotGranted, ShelfQuota}
-use Rattle.plant_model.proofs.public.EndLaws.{without_ends}
-use Rattle.plant_model.proofs.public.QuotaLaws.{few_others}
+use Rattle.plant_model.proofs.public.{EndLaws.{without_ends}, QuotaLaws.{few_others}}
+use Rattle.plant_types.specs.{Limits.{max_grants, max_quota}, Names.{Name}, Roles.{Pair, all_roles}, declared.role.Role.{Role}}
+use Rattle.plant_types.proofs.public.Halves.{left}
+use Rattle.plant_alarm.specs.Shelves.{is_one_shot, is_timed}
 use Rattle.plant_store.specs.OldRules.{WasLegal, OldHistoriesAreLegal, OldVerdictsStay, is_of_old, old_lacks_role, old_own_refusals, old_refusals, old_verdict}
-use Rattle.plant_types.specs.Names.{Name}
-use Rattle.plant_types.specs.Roles.{Pair, all_roles}
-use Rattle.plant_types.specs.declared.role.Role.{Role}
 
 -- ---- lists of refusals
 
@@ -62,15 +46,10 @@ no_end : (q : Request) → is_of_old q ≡ true → has_no_end q ≡ true
 no_end (Grant u p t) e = e
 no_end _ e = refl
 
-both : (a b : Bool) → a ≡ true → b ≡ true → (a && b) ≡ true
-both true true h k = refl
-both true false h k = k
-both false b h k = h
-
 no_ends : (h : List Call) → WasLegal h → list_all (λ (c : Call). has_no_end c.request) h ≡ true
 no_ends [] was = absurd was
-no_ends (c ∷ []) was = both (has_no_end c.request) true (no_end c.request was.2) refl
-no_ends (c ∷ d ∷ before) was = both (has_no_end c.request) _ (no_end c.request was.2) (no_ends (d ∷ before) was.3)
+no_ends (c ∷ []) was = and_from (has_no_end c.request) true (no_end c.request was.2) refl
+no_ends (c ∷ d ∷ before) was = and_from (has_no_end c.request) _ (no_end c.request was.2) (no_ends (d ∷ before) was.3)
 
 equal_by : (m n : ℕ) → same_number m n ≡ true → m ≡ n
 equal_by m n h = go (nat_cmp m n) (ranks m n) h
@@ -88,14 +67,10 @@ says_nothing : (q : Request) → (not (is_opening q)) ≡ true → said_of_quota
 says_nothing (OpenUnit u s m n) o = absurd (true≢false (sym o))
 says_nothing _ o = refl
 
-first_of : (a b : Bool) → (a && b) ≡ true → a ≡ true
-first_of true b h = refl
-first_of false b h = h
-
 quota_said : (h : List Call) → WasLegal h → latest (λ (c : Call) before. said_of_quota c.request) h ≡ Some max_quota
 quota_said [] was = absurd was
 quota_said (c ∷ []) was = rw (opened_with c.request was.0 was.2) refl
-quota_said (c ∷ d ∷ before) was = rw (says_nothing c.request (first_of _ _ was.0)) (quota_said (d ∷ before) was.3)
+quota_said (c ∷ d ∷ before) was = rw (says_nothing c.request (left _ _ was.0)) (quota_said (d ∷ before) was.3)
 
 quota_is : (h : List Call) → WasLegal h → quota h ≡ max_quota
 quota_is h was = rw (quota_said h was) refl

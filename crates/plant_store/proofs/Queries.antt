@@ -1,32 +1,22 @@
 -- The statements that read one unit's rows of one table.
+use Rattle.std.specs.Cmp.{eq_by_cmp_equiv, Lexicographic.{nat_list_cmp_total}}
 use Rattle.std.proofs.Common.{◌≡◌, ℕ, Bool, true, false, ◌&&◌, List, [], ◌∷◌, drop, length, suc, map, filter, Ok, Err, Result, IfOk, refl, sym, ap, ap₂, ◌∙◌, is_eq}
-use Rattle.std.specs.Cmp.{eq_by_cmp_equiv}
-use Rattle.std.specs.Cmp.Lexicographic.{nat_list_cmp_total}
 use Rattle.std.proofs.lemmas.Cmp.{nat_cmp_total}
-use Rattle.sqlite.specs.Collation.TheVariants.{Binary}
-use Rattle.sqlite.specs.State.{State, Shown}
+use Rattle.sqlite.specs.{Collation.TheVariants.{Binary}, State.{State, Shown}}
 use Rattle.sqlite_schema.specs.Rules.{equal}
 use Rattle.sqlite_tied.proofs.RuleLemmas.{and_true}
-use Rattle.sqlite_value.specs.declared.value.Value.{Value}
-use Rattle.sqlite_value.specs.declared.value.Value.TheVariants.{Text}
-use Rattle.sqlite_value.specs.Order.{Row, column, value_cmp}
+use Rattle.sqlite_value.specs.{Order.{Row, column, value_cmp}, declared.value.Value.{Value, TheVariants.{Text}}}
 use Rattle.sqlite_value.proofs.OrderLemmas.{value_cmp-Text}
-use Rattle.plant_model.specs.Histories.{same_number}
-use Rattle.plant_model.specs.declared.rows.AlarmRow.{AlarmRow}
-use Rattle.plant_model.specs.declared.rows.ShelfRow.{ShelfRow}
+use Rattle.plant_model.specs.{Histories.{same_number}, declared.rows.{AlarmRow.{AlarmRow}, ShelfRow.{ShelfRow}}}
 use Rattle.plant_types.specs.Names.{Name, same_name}
-use Rattle.plant_columns.specs.Kept.{is_of}
-use Rattle.plant_columns.proofs.public.Keys.{equal_is}
-use Rattle.plant_columns.proofs.public.Shapes.{finds_rows, shown_kept}
-use Rattle.plant_columns.specs.Codes.{number}
-use Rattle.plant_columns.specs.Shown.{columns}
-use Rattle.plant_columns.specs.Tables.{AreBooks, Kept, KeyOf, RowOf, books_schema, shape, rows_seen, grant_shape, alarm_shape, shelf_shape, band_shape, cell_shape, record_shape, change_shape}
+use Rattle.plant_columns.specs.{Codes.{number}, Kept.{is_of}, Shown.{columns}}
 use Rattle.plant_columns.specs.Tables.Kept.{UnitKept, GrantKept, AlarmKept, ShelfKept, BandKept, CellKept, RecordKept, ChangeKept}
+use Rattle.plant_columns.specs.Tables.{AreBooks, Kept, KeyOf, RowOf, books_schema, shape, rows_seen, grant_shape, alarm_shape, shelf_shape, band_shape, cell_shape, record_shape, change_shape}
+use Rattle.plant_columns.proofs.public.{Keys.{equal_is}, ShapeLaws.{good, numbers}, Shapes.{finds_rows, shown_kept}}
 use Rattle.plant_store.specs.Statements.{Reads}
 use Rattle.plant_store.specs.Texts.{own_grants_text, alarm_at_text, shelf_at_text, tags_of_text, shelf_tags_text, record_at_text, bands_at_text, cells_at_text, change_at_text, rows_text}
 use Rattle.plant_store.proofs.Meanings.{by_key, by_unit, lists_alarm, lists_all, lists_bands, lists_cells, lists_change, lists_own_grants, lists_record, lists_shelf, shelf_tags, tags_of}
 use Rattle.plant_store.proofs.Reading.{reads_all, reads_some}
-use Rattle.plant_columns.proofs.public.ShapeLaws.{good, numbers}
 
 pub if_ok : {A E : Type 0} {P Q : A → Type 0} (r : Result A E) → ((x : A) → P x → Q x) → IfOk r P → IfOk r Q
 if_ok (Ok x) f h = f x h

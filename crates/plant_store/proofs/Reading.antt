@@ -1,28 +1,12 @@
 -- What the queries of one table read: all rows of a unit, or those with a value in the second column of the key.
-use Rattle.std.proofs.Common.{◌≡◌, ℕ, Bool, ◌&&◌, List, [], ◌∷◌, map, filter, refl, sym, ap, ap₂, ◌∙◌, subst}
-use Rattle.std.specs.declared.cmp.Ordering.{Ordering}
-use Rattle.sqlite.specs.Command.{Command}
-use Rattle.sqlite.specs.Effect.{Database, Reads as Answers}
-use Rattle.sqlite.specs.Listing.{understood}
-use Rattle.sqlite.specs.Query.{inner, end, output_cmp}
-use Rattle.sqlite.specs.Schema.{Schema}
-use Rattle.sqlite.specs.State.{State, Shown}
-use Rattle.sqlite.specs.Term.{Term}
-use Rattle.sqlite.specs.Tree.{Trees}
-use Rattle.sqlite.proofs.Callers.{command_of, reads_as}
-use Rattle.sqlite_keyed.specs.Lists.{sort_by}
-use Rattle.sqlite_keyed.proofs.ListLemmas.{filter_same}
-use Rattle.sqlite_value.specs.declared.value.Value.{Value}
-use Rattle.sqlite_value.specs.declared.value.Value.TheVariants.{Null, Text}
-use Rattle.sqlite_value.specs.Order.{Row}
-use Rattle.plant_columns.specs.Shown.{columns}
-use Rattle.plant_columns.specs.Tables.{Kept}
-use Rattle.plant_store.specs.Statements.{ReadsIn}
-use Rattle.plant_store.proofs.Meanings.{Lists, by_key, by_two, by_unit, own_columns}
-use Rattle.plant_columns.specs.Kept.{by_columns, is_of, plain_query}
-use Rattle.plant_columns.specs.Shape.{AreTables, Shape, row_in, rows_passing, seen}
-use Rattle.plant_columns.proofs.public.Laws.{one_answer, passes, reads, shows}
-use Rattle.plant_columns.proofs.public.Shapes.{IsShape, shown_kept, some_kept}
+use Rattle.std.proofs.Common.{◌≡◌, ℕ, Bool, ◌&&◌, List, [], ◌∷◌, map, filter, refl, sym, ap, ap₂, ◌∙◌, subst, Ordering}
+use Rattle.sqlite.specs.{Command.{Command}, Effect.{Database, Reads as Answers}, Listing.{understood}, Query.{inner, end, output_cmp}}
+use Rattle.sqlite.{specs.{Schema.{Schema}, State.{State, Shown}, Term.{Term}, Tree.{Trees}}, proofs.Callers.{command_of, reads_as}}
+use Rattle.sqlite_keyed.{specs.Lists.{sort_by}, proofs.ListLemmas.{filter_same}}
+use Rattle.sqlite_value.specs.{Order.{Row}, declared.value.Value.{Value, TheVariants.{Null, Text}}}
+use Rattle.plant_columns.specs.{Kept.{by_columns, is_of, plain_query}, Shape.{AreTables, Shape, row_in, rows_passing, seen}, Shown.{columns}}
+use Rattle.plant_columns.{specs.Tables.{Kept}, proofs.public.{Laws.{one_answer, passes, reads, shows}, Shapes.{IsShape, shown_kept, some_kept}}}
+use Rattle.plant_store.{specs.Statements.{ReadsIn}, proofs.Meanings.{Lists, by_key, by_two, by_unit, own_columns}}
 use Rattle.plant_types.specs.Names.{Name}
 
 -- ---- what was shown is read back

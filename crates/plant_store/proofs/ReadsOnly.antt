@@ -1,14 +1,8 @@
 -- What was only read: by one query that writes nothing, and by reads one after another.
 use Rattle.std.proofs.Common.{◌≡◌, List, ℕ, refl, sym, subst, ◌∙◌}
-use Rattle.sqlite.specs.Effect.{Database}
-use Rattle.sqlite.specs.Listing.{understood}
-use Rattle.sqlite.specs.Schema.{Schema}
-use Rattle.sqlite.specs.State.{State}
-use Rattle.sqlite.proofs.Callers.{IsPlain}
+use Rattle.sqlite.{specs.{Effect.{Database}, Listing.{understood}, Schema.{Schema}, State.{State}}, proofs.Callers.{IsPlain}}
 use Rattle.plant_columns.specs.Tables.{AreBooks, books_schema}
-use Rattle.plant_store.specs.Changes.{IsHonest}
-use Rattle.plant_store.specs.OldTables.{old_books_schema}
-use Rattle.plant_store.specs.OnlyReads.{OnlyReads, OnlyReadsIn, OnlyReadsOld}
+use Rattle.plant_store.specs.{Changes.{IsHonest}, OldTables.{old_books_schema}, OnlyReads.{OnlyReads, OnlyReadsIn, OnlyReadsOld}}
 
 -- what was only read twice was only read
 pub reads_then : {AreIts : Database → Type 0} {first mid last : State} → OnlyReadsIn AreIts first mid → OnlyReadsIn AreIts mid last → OnlyReadsIn AreIts first last

@@ -1,7 +1,6 @@
 -- What a statement said, said again by the books.
+use Rattle.std.proofs.Common.{subst, sym, Err, IfOk, Ok, OnErr, OnOk, Result}
 use Rattle.sqlite.specs.declared.error.Error.{Error}
-use Rattle.std.proofs.Common.{subst, sym}
-use Rattle.std.specs.Prelude.{Err, IfOk, Ok, OnErr, OnOk, Result}
 use Rattle.plant_store.specs.Counting.{SaysAgain}
 use Rattle.plant_types.specs.declared.fault.Fault.{Fault}
 

@@ -1,51 +1,25 @@
 -- The part of a unit's rows that a call looks at, from the lists that were read.
-use Rattle.std.proofs.Common.{◌≡◌, ℕ, Bool, true, false, List, filter, Option, None, Some, sym, ap, ◌∙◌}
-use Rattle.std.specs.Prelude.{if◌then◌else◌, option_map, ◌||◌}
+use Rattle.std.specs.List.{slice_get}
+use Rattle.std.proofs.Common.{◌≡◌, ℕ, Bool, true, false, List, filter, Option, None, Some, sym, ap, ◌∙◌, [], arith, length, refl, ◌∷◌, if◌then◌else◌, option_map, ◌||◌, nat_cmp}
 use Rattle.sqlite.specs.State.{State}
 use Rattle.sqlite_keyed.proofs.ListLemmas.{filter_same}
-use Rattle.plant_books.specs.Contents.{Content, part_in, rows_in}
-use Rattle.plant_alarm.specs.declared.event.Event.{Event}
-use Rattle.plant_model.specs.Scopes.{looks_at_events}
-use Rattle.plant_model.specs.declared.call.Call.{Call}
-use Rattle.plant_model.specs.declared.rows.AlarmRow.{AlarmRow}
-use Rattle.plant_model.specs.declared.rows.BandRow.{BandRow}
-use Rattle.plant_model.specs.declared.rows.CellRow.{CellRow}
-use Rattle.plant_model.specs.declared.rows.ChangeEntry.{ChangeEntry}
-use Rattle.plant_model.specs.declared.rows.GrantRow.{GrantRow}
-use Rattle.plant_model.specs.declared.rows.RecordEntry.{RecordEntry}
-use Rattle.plant_model.specs.declared.rows.ShelfRow.{ShelfRow}
-use Rattle.plant_model.specs.declared.rows.UnitPart.{UnitPart}
-use Rattle.plant_model.specs.declared.rows.UnitRow.{UnitRow}
-use Rattle.plant_model.specs.declared.rows.UnitRows.{UnitRows}
-use Rattle.plant_model.proofs.public.PartLaws.{own_holds}
-use Rattle.plant_model.proofs.public.ReadLaws.{left_in_order}
-use Rattle.plant_model.specs.Order.{TagsRise}
-use Rattle.plant_model.specs.Histories.{same_number}
+use Rattle.plant_books.specs.{Asking.{HasTheirShelves, is_alarm_wanted, is_wanted}, Contents.{Content, part_in, rows_in}, Found.{shelved}}
+use Rattle.plant_books.specs.declared.asking.{Wanted.{Wanted, TheVariants.{Every, Nothing, One}}, WantedAlarms.{WantedAlarms}}
+use Rattle.plant_books.{specs.declared.asking.WantedAlarms.TheVariants.{Shelved, Those}, proofs.public.EventLaws.{none_asked}}
+use Rattle.plant_alarm.specs.declared.event.{Event.{Event}, EventKind.TheVariants.{Act}}
+use Rattle.plant_model.specs.{Histories.{same_number}, Order.{TagsRise}}
 use Rattle.plant_model.specs.Parts.{Selection, counted_for, has_shelf, part_of, part_of_holder, part_of_stranger, rows_selected, selected}
 use Rattle.plant_model.specs.RowChanges.{no_rows}
 use Rattle.plant_model.specs.RowFacts.{alarm_tag, change_found, change_number, event_number, holds_by, pair_of, record_tag, shelf_tag}
-use Rattle.plant_types.specs.KeyedRows.{IsInOrder, row_at}
-use Rattle.std.specs.Ordering.{nat_cmp}
-use Rattle.plant_types.specs.Names.{Name, name_cmp, same_name}
-use Rattle.plant_types.specs.Roles.{Pair}
-use Rattle.plant_books.proofs.public.EventLaws.{none_asked}
-use Rattle.plant_books.specs.Asking.{HasTheirShelves, is_alarm_wanted, is_wanted}
-use Rattle.plant_books.specs.Found.{shelved}
-use Rattle.plant_books.specs.declared.asking.WantedAlarms.{WantedAlarms}
-use Rattle.plant_books.specs.declared.asking.WantedAlarms.TheVariants.{Shelved, Those}
-use Rattle.plant_books.specs.declared.asking.Wanted.{Wanted}
-use Rattle.plant_books.specs.declared.asking.Wanted.TheVariants.{Every, Nothing, One}
-use Rattle.plant_store.specs.Keeping.{HasContent, has_any}
-use Rattle.plant_columns.specs.Tables.{rows_seen}
+use Rattle.plant_model.specs.{Scopes.{looks_at_events}, declared.call.{Call.{Call}, Request.{Request, TheVariants.{Floods, Import}}}}
+use Rattle.plant_model.specs.declared.rows.{AlarmRow.{AlarmRow}, BandRow.{BandRow}, CellRow.{CellRow}, ChangeEntry.{ChangeEntry}, GrantRow.{GrantRow}}
+use Rattle.plant_model.specs.declared.rows.{RecordEntry.{RecordEntry}, ShelfRow.{ShelfRow}, UnitPart.{UnitPart}, UnitRow.{UnitRow}}
+use Rattle.plant_model.{specs.declared.rows.UnitRows.{UnitRows}, proofs.public.{PartLaws.{own_holds}, ReadLaws.{left_in_order}}}
+use Rattle.plant_types.specs.{KeyedRows.{IsInOrder, row_at}, Names.{Name, name_cmp, same_name}, Roles.{Pair}}
+use Rattle.plant_store.specs.{Keeping.{HasContent, has_any}, Wanted.{alarms_left, alarms_with, events_with, rows_with}}
+use Rattle.plant_store.proofs.{Queries.{passing_all, passing_none}, public.Contents.{kept_rows, never_opened}}
 use Rattle.plant_columns.specs.Tables.Kept.{UnitKept, GrantKept, AlarmKept, ShelfKept, BandKept, CellKept, EventKept, RecordKept, ChangeKept}
-use Rattle.plant_store.specs.Wanted.{alarms_left, alarms_with, events_with, rows_with}
-use Rattle.plant_alarm.specs.declared.event.EventKind.TheVariants.{Act}
-use Rattle.plant_model.specs.declared.call.Request.{Request}
-use Rattle.plant_model.specs.declared.call.Request.TheVariants.{Floods, Import}
-use Rattle.std.specs.List.{slice_get}
-use Rattle.std.proofs.Common.{[], arith, length, refl, ◌∷◌}
-use Rattle.plant_store.proofs.public.Contents.{kept_rows, never_opened}
-use Rattle.plant_store.proofs.Queries.{passing_all, passing_none}
+use Rattle.plant_columns.specs.Tables.{rows_seen}
 
 -- rows that are wanted are those that pass a test which says so
 rows_are : {X : Type 0} (tag_of : X → Name) (test : Name → Bool) (w : Wanted) → ((a : Name) → test a ≡ is_wanted w a) → (rows : List X) → rows_with tag_of w rows ≡ filter (λ r. test (tag_of r)) rows

@@ -1,8 +1,6 @@
 -- Steps within a transaction, one after another.
 use Rattle.std.proofs.Common.{Ok, Result, arith}
-use Rattle.sqlite.specs.State.{HasCleanDisk, State}
-use Rattle.sqlite.specs.declared.error.Error.{Error}
-use Rattle.sqlite.proofs.StateLemmas.{survives_then}
+use Rattle.sqlite.{specs.{State.{HasCleanDisk, State}, declared.error.Error.{Error}}, proofs.StateLemmas.{survives_then}}
 use Rattle.plant_store.specs.StaysInside.{StaysInside}
 use Rattle.plant_columns.proofs.public.Asking.{keeps_then}
 

@@ -1,44 +1,25 @@
 -- What a query means that shows three columns of one table, under any schema that has the table with these columns.
-use Rattle.std.proofs.Common.{◌≡◌, refl, ◌∙◌, ℕ, List, [], ◌∷◌, ◌++◌, false, true, Some, None, Ok, Err, slice_get, pos, negsuc, ◌-◌}
-use Rattle.std.specs.Prelude.{nat_lt}
-use Rattle.sqlite_ast.specs.declared.Expr.{Expr, out-Expr}
-use Rattle.sqlite_ast.specs.declared.Expr.TheOpen.{Expr-F, Shown-F}
-use Rattle.sqlite_ast.specs.declared.Shown as written
+use Rattle.std.proofs.Common.{◌≡◌, refl, ◌∙◌, ℕ, List, [], ◌∷◌, ◌++◌, false, true, Some, None, Ok, Err, slice_get, pos, negsuc, ◌-◌, nat_lt}
+use Rattle.sqlite_ast.specs.declared.{Core.{Core, out-Core}, Expr.{Expr, out-Expr, TheOpen.{Expr-F, Shown-F}}, Select.{Select, out-Select}}
 use Rattle.sqlite_ast.specs.declared.Source.{Source, out-Source}
-use Rattle.sqlite_ast.specs.declared.Core.{Core, out-Core}
-use Rattle.sqlite_ast.specs.declared.Origin.TheVariants as origin
-use Rattle.sqlite_draft.specs.declared.join.Step.TheVariants.{Inner}
-use Rattle.sqlite_schema.specs.declared.schema.Column.{Column}
-use Rattle.sqlite_schema.specs.declared.schema.Schema.{Schema}
-use Rattle.sqlite_schema.specs.declared.schema.Table.{Table}
-use Rattle.sqlite_schema.specs.Names.{table_named, column_named, place_of}
-use Rattle.sqlite_sql.specs.Term.{Term, col, lit}
-use Rattle.sqlite_resolve.specs.declared.scope.Bound.{Bound}
-use Rattle.sqlite_resolve.specs.declared.scope.Output.{Output}
-use Rattle.sqlite_resolve.specs.declared.scope.Level.{Level}
-use Rattle.sqlite_resolve.specs.declared.scope.Found.TheVariants as found
-use Rattle.sqlite_resolve.specs.declared.select.Clauses.{Clauses}
-use Rattle.sqlite_resolve.specs.declared.state.Carried.{Carried}
-use Rattle.sqlite_resolve.specs.declared.state.State.{State}
-use Rattle.sqlite_resolve.specs.Lowering.{Lowering, fresh, nothing, max_budget}
+use Rattle.sqlite_draft.specs.{Query.{query_of}, declared.{join.Step.TheVariants.{Inner}, query.Draft.{Draft}}}
+use Rattle.sqlite_schema.specs.{Names.{table_named, column_named, place_of}, declared.{program.Program.{Program}, schema.Column.{Column}}}
+use Rattle.sqlite_schema.specs.declared.schema.{Schema.{Schema}, Table.{Table}}
+use Rattle.sqlite_sql.specs.{Query.{inner, end}, Term.{Term, col, lit}}
+use Rattle.sqlite_resolve.specs.{Expr.{node, opened, lower_to, lower}, Lowering.{Lowering, fresh, nothing, max_budget}, Program.{query_to, query}}
 use Rattle.sqlite_resolve.specs.Scope.{Name, Context, column_in, hit, only, in_level, find, declared, column_at, term_of, column}
-use Rattle.sqlite_resolve.specs.Body as body
-use Rattle.sqlite_resolve.specs.Expr.{node, opened, lower_to, lower}
-use Rattle.sqlite_resolve.specs.Select.{parts, named, outermost, assembled, ungrouped, paging, constant_or}
-use Rattle.sqlite_resolve.specs.Terms.{number}
-use Rattle.sqlite_resolve.specs.Program as program
-use Rattle.sqlite_resolve.specs.Program.{query_to, query}
-use Rattle.sqlite_resolve.specs.Compile as compile
-use Rattle.sqlite_resolve.proofs.ProgramLemmas.{single_named}
-use Rattle.sqlite_ast.specs.declared.Select.{Select, out-Select}
-use Rattle.sqlite_draft.specs.declared.query.Draft.{Draft}
-use Rattle.sqlite_draft.specs.Query.{query_of}
-use Rattle.sqlite_schema.specs.declared.command.Command.TheVariants as command
-use Rattle.sqlite_schema.specs.declared.program.Program.{Program}
-use Rattle.sqlite_resolve.specs.declared.error.CompileError.TheVariants.{Mismatch}
-use Rattle.sqlite_sql.specs.Query.{inner, end}
+use Rattle.sqlite_resolve.specs.{Select.{parts, named, outermost, assembled, ungrouped, paging, constant_or}, Terms.{number}}
+use Rattle.sqlite_resolve.specs.declared.{error.CompileError.TheVariants.{Mismatch}, scope.{Bound.{Bound}, Level.{Level}, Output.{Output}}}
+use Rattle.sqlite_resolve.{specs.declared.{select.Clauses.{Clauses}, state.{Carried.{Carried}, State.{State}}}, proofs.ProgramLemmas.{single_named}}
 use Rattle.sqlite_typing.specs.Types.{accepts_program}
 use Rattle.sqlite_value.specs.declared.value.Value.TheVariants.{Int}
+use Rattle.sqlite_ast.specs.declared.Shown as written
+use Rattle.sqlite_ast.specs.declared.Origin.TheVariants as origin
+use Rattle.sqlite_resolve.specs.declared.scope.Found.TheVariants as found
+use Rattle.sqlite_resolve.specs.Body as body
+use Rattle.sqlite_resolve.specs.Program as program
+use Rattle.sqlite_resolve.specs.Compile as compile
+use Rattle.sqlite_schema.specs.declared.command.Command.TheVariants as command
 
 -- a column of a table
 pub record IsColumn (t : Table) (n : Name) : Type 0 where

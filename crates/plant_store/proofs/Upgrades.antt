@@ -1,62 +1,30 @@
 -- Rows that rise are the same after they were put into tables without rows; and units are taken over one after another.
-use Rattle.std.proofs.Common.{◌≡◌, ◌≢◌, ℕ, ◌<◌, ◌+◌, get_or, zero, suc, Bool, true, false, cond, List, [], ◌∷◌, ◌++◌, map, filter, take, length, Option, None, Some, refl, sym, ap, ap₂, ◌∙◌, subst, true≢false, Ordering, Less, Equal, Greater, is_eq, nat_cmp, T, ◌&&◌, arith}
-use Rattle.std.specs.Cmp.{IsTotalOrder}
-use Rattle.std.specs.Cmp.Lexicographic.{nat_list_cmp_total}
-use Rattle.std.specs.FinMap.{contains_key, get}
-use Rattle.std.specs.FinMap.Entries.{below_all}
-use Rattle.std.specs.List.{AllByRecursion, flat_map}
-use Rattle.std.specs.Ordering.{is_lt, ordering_reverse}
-use Rattle.std.specs.Prelude.{is_some, unwrap_or, ◌||◌}
-use Rattle.std.proofs.lemmas.Cmp.{tied_itself}
-use Rattle.std.proofs.lemmas.List.{append-nil, append_assoc, take_more}
-use Rattle.sqlite.specs.Effect.{Database}
-use Rattle.sqlite.specs.Tree.{Trees}
-use Rattle.sqlite_keyed.specs.Lists.{sort_by}
-use Rattle.sqlite_keyed.proofs.ListLemmas.{all-append, ascending-map}
+use Rattle.std.specs.{Cmp.{IsTotalOrder, Lexicographic.{nat_list_cmp_total}}, FinMap.{contains_key, get, Entries.{below_all}}, List.{AllByRecursion}}
+use Rattle.std.specs.Ordering.{ordering_reverse}
+use Rattle.std.proofs.Common.{◌≡◌, ◌≢◌, ℕ, ◌<◌, ◌+◌, get_or, zero, suc, Bool, true, false, cond, List, [], ◌∷◌, ◌++◌, map, filter, take, length, Option, None, Some, refl, sym, ap, ap₂, ◌∙◌, subst, true≢false, Ordering, Less, Equal, Greater, is_eq, nat_cmp, T, arith, flat_map, is_lt, is_some, unwrap_or, ◌||◌}
+use Rattle.std.proofs.lemmas.{Cmp.{tied_itself}, List.{append-nil, append_assoc, take_more}}
+use Rattle.sqlite.specs.{Effect.{Database}, Tree.{Trees}}
+use Rattle.sqlite_keyed.{specs.Lists.{sort_by}, proofs.ListLemmas.{all-append, ascending-map}}
 use Rattle.sqlite_trees.specs.Tree.{IsAscending}
-use Rattle.sqlite_value.specs.declared.value.Value.TheVariants.{Text}
-use Rattle.sqlite_value.specs.Order.{Row, bytes, column, value_cmp}
+use Rattle.sqlite_value.specs.{Order.{Row, bytes, column, value_cmp}, declared.value.Value.TheVariants.{Text}}
 use Rattle.sqlite_value.proofs.OrderLemmas.{then-Equal, value_cmp-Text}
 use Rattle.plant_books.specs.Contents.{Content, rows_in}
-use Rattle.plant_columns.specs.Tables.{AreSeen, Kept, RowOf, rows_at, shape}
+use Rattle.plant_columns.specs.{Kept.{by_columns, is_of}, Shape.{IsRowIn, rows_in as rows_of}}
 use Rattle.plant_columns.specs.Tables.Kept.{AlarmKept, BandKept, CellKept, ChangeKept, EventKept, GrantKept, RecordKept, ShelfKept, UnitKept}
-use Rattle.plant_model.specs.declared.rows.RowEdit.{RowEdit}
-use Rattle.plant_model.specs.declared.rows.RowEdit.TheVariants.{Put}
-use Rattle.plant_model.specs.declared.rows.Row.TheVariants.{Unit as UnitPut}
-use Rattle.plant_model.specs.declared.rows.UnitRow.{UnitRow}
-use Rattle.plant_model.specs.declared.rows.UnitRows.{UnitRows}
-use Rattle.plant_model.specs.RowChanges.{changed_by, no_rows}
-use Rattle.plant_model.specs.RowFacts.{pair_of}
-use Rattle.plant_store.specs.declared.make.TableKind.TheVariants.{Alarms, Bands, Cells, Changes, Events, Grants, Records, Shelves, Units}
-use Rattle.plant_store.specs.declared.old_rows.CodeLine.{CodeLine}
-use Rattle.plant_store.specs.Changes.{Applies, IsOfficeOf}
-use Rattle.plant_store.specs.Keeping.{HaveRows, has_any}
-use Rattle.plant_store.specs.Making.{AreNew}
+use Rattle.plant_columns.{specs.Tables.{AreSeen, Kept, RowOf, rows_at, shape}, proofs.public.{Joins.{strict-sort}, Kept.{all-sort, sort-filter}}}
+use Rattle.plant_columns.proofs.public.{Keys.{by_columns_total}, ShapeLaws.{good}, Shapes.{named, rises}}
+use Rattle.plant_model.specs.{RowChanges.{changed_by, no_rows}, RowFacts.{pair_of}, declared.rows.Row.TheVariants.{Unit as UnitPut}}
+use Rattle.plant_model.specs.declared.rows.{RowEdit.{RowEdit, TheVariants.{Put}}, UnitRow.{UnitRow}, UnitRows.{UnitRows}}
+use Rattle.plant_store.specs.{Changes.{Applies, IsOfficeOf}, Keeping.{HaveRows, has_any}, Making.{AreNew}}
 use Rattle.plant_store.specs.OldTables.{AreOldBooks, old_pair_of, old_own_key, old_rows, old_unit_shape}
 use Rattle.plant_store.specs.Upgrading.{AreTakenOver, HaveOldRows, all_kinds, is_among, old_codes, puts_all, puts_of, upgraded_grant, upgraded_rows, upgraded_unit}
-use Rattle.plant_store.proofs.public.Contents.{nothing_at, same_codes}
-use Rattle.plant_store.proofs.OldQueries.{old_good, old_unit_good}
-use Rattle.plant_store.proofs.Writes.{as_row, changed_by-append, with_rows}
-use Rattle.plant_columns.specs.Kept.{by_columns, is_of}
-use Rattle.plant_columns.specs.Shape.{IsRowIn, rows_in as rows_of}
-use Rattle.plant_columns.proofs.public.Joins.{strict-sort}
-use Rattle.plant_columns.proofs.public.Kept.{all-sort, sort-filter}
-use Rattle.plant_columns.proofs.public.Keys.{by_columns_total}
-use Rattle.plant_columns.proofs.public.ShapeLaws.{good}
-use Rattle.plant_columns.proofs.public.Shapes.{named, rises}
-use Rattle.plant_types.specs.Names.{Name, name_cmp, same_name}
-use Rattle.plant_types.specs.Roles.{pair_cmp}
-use Rattle.plant_types.specs.KeyedRows.{IsInOrder, put_row}
+use Rattle.plant_store.specs.declared.make.TableKind.TheVariants.{Alarms, Bands, Cells, Changes, Events, Grants, Records, Shelves, Units}
+use Rattle.plant_store.{specs.declared.old_rows.CodeLine.{CodeLine}, proofs.OldQueries.{old_good, old_unit_good}}
+use Rattle.plant_store.proofs.{Writes.{as_row, changed_by-append, with_rows}, public.Contents.{nothing_at, same_codes}}
+use Rattle.plant_types.specs.{KeyedRows.{IsInOrder, put_row}, Names.{Name, name_cmp, same_name}, Roles.{pair_cmp}}
+use Rattle.plant_types.proofs.public.Halves.{first, second}
 
 -- ---- rows that rise, put one after another
-
-first : (a b : Bool) → T (a && b) → T a
-first true b p = tt
-first false b p = absurd p
-
-second : (a b : Bool) → T (a && b) → T b
-second true b p = p
-second false b p = absurd p
 
 less_by : (o : Ordering) → T (is_lt o) → o ≡ Less
 less_by Less h = refl

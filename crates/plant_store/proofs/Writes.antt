@@ -1,38 +1,23 @@
 -- The statements that write, table by table.
 use Rattle.std.proofs.Common.{◌≡◌, ◌≢◌, ◌⊎◌, inl, inr, ℕ, ◌/◌, length, List, [], ◌∷◌, ◌++◌, Ok, refl, sym, ap, ◌∙◌, subst, arith, nat_cmp, false}
 use Rattle.std.proofs.lemmas.List.Sums.{fold-append}
-use Rattle.sqlite.specs.Effect.{Database, value_rows}
-use Rattle.sqlite.specs.Rows.{stamped}
-use Rattle.sqlite.specs.State.{State, Executes}
-use Rattle.sqlite_value.specs.declared.value.Value.TheVariants.{Null, Text}
-use Rattle.sqlite_value.specs.Keys.{first_key}
+use Rattle.sqlite.specs.{Effect.{Database, value_rows}, Rows.{stamped}, State.{State, Executes}}
+use Rattle.sqlite_value.specs.{Keys.{first_key}, declared.value.Value.TheVariants.{Null, Text}}
 use Rattle.plant_alarm.specs.declared.event.Event.{Event}
 use Rattle.plant_import.specs.Numbers.{event_number, with_events}
-use Rattle.plant_model.specs.declared.rows.RowEdit.{RowEdit}
-use Rattle.plant_model.specs.declared.rows.RowEdit.TheVariants.{Put, PutEvents, Remove}
-use Rattle.plant_model.specs.declared.rows.GrantRow.{GrantRow}
-use Rattle.plant_model.specs.declared.rows.Key.TheVariants.{Grant as GrantKey, Shelf as ShelfKey}
+use Rattle.plant_model.specs.{RowChanges.{changed_by}, declared.rows.{GrantRow.{GrantRow}, Key.TheVariants.{Grant as GrantKey, Shelf as ShelfKey}}}
 use Rattle.plant_model.specs.declared.rows.Row.{Row as AnyRow}
 use Rattle.plant_model.specs.declared.rows.Row.TheVariants.{Alarm as AlarmPut, Band as BandPut, Cell as CellPut, Change as ChangePut, Event as EventPut, Grant as GrantPut, Record as RecordPut, Shelf as ShelfPut, Unit as UnitPut}
-use Rattle.plant_model.specs.declared.rows.ShelfRow.{ShelfRow}
-use Rattle.plant_model.specs.declared.rows.UnitRow.{UnitRow}
+use Rattle.plant_model.specs.declared.rows.{RowEdit.{RowEdit, TheVariants.{Put, PutEvents, Remove}}, ShelfRow.{ShelfRow}, UnitRow.{UnitRow}}
 use Rattle.plant_model.specs.declared.rows.UnitRows.{UnitRows}
-use Rattle.plant_model.specs.RowChanges.{changed_by}
-use Rattle.plant_types.specs.declared.role.Role.{Role}
-use Rattle.plant_types.specs.Names.{Name}
-use Rattle.plant_types.specs.KeyedRows.{IsInOrder, put_row}
-use Rattle.plant_columns.specs.Shape.{rows_in, row_in, table_in}
-use Rattle.plant_columns.proofs.public.Changes.{HasNoReferences}
-use Rattle.plant_columns.proofs.public.Family.{Edits, kept_at, put_edits, remove_edits, same_table}
-use Rattle.plant_columns.proofs.public.Inserted.{adds_row}
-use Rattle.plant_columns.proofs.public.Shapes.{removes_row, rises}
-use Rattle.plant_columns.specs.Codes.{role}
-use Rattle.plant_store.specs.Changes.{Applies}
-use Rattle.plant_columns.specs.Tables.{AreBooks, AreSeen, Kept, KeyOf, RowOf, books_schema, office_table, own_key, rows_at, rows_seen, shape, unit_shape}
+use Rattle.plant_types.specs.{KeyedRows.{IsInOrder, put_row}, Names.{Name}, declared.role.Role.{Role}}
+use Rattle.plant_columns.specs.{Codes.{role}, Shape.{rows_in, row_in, table_in}}
 use Rattle.plant_columns.specs.Tables.Kept.{UnitKept, GrantKept, AlarmKept, ShelfKept, BandKept, CellKept, EventKept, RecordKept, ChangeKept}
-use Rattle.plant_store.specs.Texts.{remove_grant_text, remove_shelf_text, put_text}
+use Rattle.plant_columns.specs.Tables.{AreBooks, AreSeen, Kept, KeyOf, RowOf, books_schema, office_table, own_key, rows_at, rows_seen, shape, unit_shape}
+use Rattle.plant_columns.proofs.public.{Changes.{HasNoReferences}, Family.{Edits, kept_at, put_edits, remove_edits, same_table}, Inserted.{adds_row}}
+use Rattle.plant_columns.proofs.public.{ShapeLaws.{all_listed, good, listed}, Shapes.{removes_row, rises}}
+use Rattle.plant_store.specs.{Changes.{Applies}, Texts.{remove_grant_text, remove_shelf_text, put_text}}
 use Rattle.plant_store.proofs.Meanings.{by_two, by_three, put_terms, put_width, puts, remove_grant, remove_shelf}
-use Rattle.plant_columns.proofs.public.ShapeLaws.{all_listed, good, listed}
 
 pub free : HasNoReferences books_schema
 free = (refl, (refl, (refl, (refl, (refl, (refl, (refl, (refl, (refl, (refl, tt))))))))))

@@ -1,42 +1,21 @@
 -- A row is written over the one of its key where there is one, and put anew where there is none.
-use Rattle.std.proofs.Common.{arith, ◌≡◌, ℕ, zero, suc, true, false, List, [], ◌∷◌, Ok, refl, sym, ap, ap₂, ◌∙◌, subst, is_eq, Ordering, Less, Equal, Greater, true≢false}
+use Rattle.std.specs.{FinMap.{slice_cmp-IsAntisymmetric, nat_cmp-IsAntisymmetric}, Ordering.{ordering_then}}
+use Rattle.std.proofs.Common.{arith, ◌≡◌, ℕ, zero, suc, true, false, List, [], ◌∷◌, Ok, refl, sym, ap, ap₂, ◌∙◌, subst, is_eq, Ordering, Less, Equal, Greater, true≢false, nat_eq}
 use Rattle.std.proofs.lemmas.Bool.Decides.{nat_tests}
-use Rattle.std.specs.FinMap.{slice_cmp-IsAntisymmetric, nat_cmp-IsAntisymmetric}
-use Rattle.std.specs.Ordering.{ordering_then}
-use Rattle.std.specs.Prelude.{nat_eq}
-use Rattle.sqlite.specs.State.{State, Executes}
-use Rattle.sqlite.specs.Term.{Term}
+use Rattle.sqlite.specs.{Effect.{Database}, State.{State, Executes}, Term.{Term}}
 use Rattle.sqlite_schema.specs.Rules.{agree}
-use Rattle.sqlite_value.specs.declared.value.Value.{Value}
-use Rattle.sqlite_value.specs.declared.value.Value.TheVariants.{Text}
-use Rattle.sqlite_value.specs.Keys.{first_key, plain}
-use Rattle.sqlite_value.specs.Order.{Row, value_cmp}
+use Rattle.sqlite_value.specs.{Keys.{first_key, plain}, Order.{Row, value_cmp}, declared.value.Value.{Value, TheVariants.{Text}}}
 use Rattle.sqlite_value.proofs.OrderLemmas.{value_cmp-Text}
-use Rattle.plant_model.specs.declared.rows.AlarmRow.{AlarmRow}
-use Rattle.plant_model.specs.declared.rows.RowEdit.{RowEdit}
-use Rattle.plant_model.specs.declared.rows.RowEdit.TheVariants.{Put}
-use Rattle.plant_model.specs.declared.rows.ChangeEntry.{ChangeEntry}
-use Rattle.plant_model.specs.declared.rows.GrantRow.{GrantRow}
-use Rattle.plant_model.specs.declared.rows.RecordEntry.{RecordEntry}
+use Rattle.plant_model.specs.declared.rows.{AlarmRow.{AlarmRow}, ChangeEntry.{ChangeEntry}, GrantRow.{GrantRow}, RecordEntry.{RecordEntry}}
 use Rattle.plant_model.specs.declared.rows.Row.TheVariants.{Alarm as AlarmPut, Change as ChangePut, Grant as GrantPut, Record as RecordPut, Shelf as ShelfPut, Unit as UnitPut}
-use Rattle.plant_model.specs.declared.rows.ShelfRow.{ShelfRow}
-use Rattle.plant_model.specs.declared.rows.UnitRow.{UnitRow}
-use Rattle.plant_types.specs.Names.{Name}
-use Rattle.plant_types.specs.Roles.{role_no}
-use Rattle.plant_types.specs.KeyedRows.{put_row}
-use Rattle.plant_columns.specs.Kept.{by_columns}
-use Rattle.plant_columns.specs.Shape.{row_in}
-use Rattle.sqlite.specs.Effect.{Database}
-use Rattle.plant_columns.proofs.public.Family.{Edits, no_edits, set_edits}
-use Rattle.plant_columns.proofs.public.Keys.{agree_is}
-use Rattle.plant_columns.proofs.public.Laws.{passes, shows}
-use Rattle.plant_columns.proofs.public.Updated.{equal_when, leaves, sets_some}
-use Rattle.plant_columns.specs.Codes.{number, open_number, role}
-use Rattle.plant_columns.specs.Tables.{AreBooks, Kept, KeyOf, RowOf, alarm_shape, books_schema, change_shape, grant_shape, record_shape, shape, shelf_shape, unit_shape}
+use Rattle.plant_model.specs.declared.rows.{RowEdit.{RowEdit, TheVariants.{Put}}, ShelfRow.{ShelfRow}, UnitRow.{UnitRow}}
+use Rattle.plant_types.specs.{KeyedRows.{put_row}, Names.{Name}, Roles.{role_no}}
+use Rattle.plant_columns.specs.{Codes.{number, open_number, role}, Kept.{by_columns}, Shape.{row_in}}
 use Rattle.plant_columns.specs.Tables.Kept.{AlarmKept, ChangeKept, GrantKept, RecordKept, ShelfKept, UnitKept}
-use Rattle.plant_columns.proofs.public.ShapeLaws.{all_listed, good, listed, numbers}
-use Rattle.plant_store.specs.Changes.{Applies}
-use Rattle.plant_store.specs.Statements.{changes_written}
+use Rattle.plant_columns.specs.Tables.{AreBooks, Kept, KeyOf, RowOf, alarm_shape, books_schema, change_shape, grant_shape, record_shape, shape, shelf_shape, unit_shape}
+use Rattle.plant_columns.proofs.public.{Family.{Edits, no_edits, set_edits}, Keys.{agree_is}, Laws.{passes, shows}}
+use Rattle.plant_columns.proofs.public.{ShapeLaws.{all_listed, good, listed, numbers}, Updated.{equal_when, leaves, sets_some}}
+use Rattle.plant_store.specs.{Changes.{Applies}, Statements.{changes_written}}
 use Rattle.plant_store.specs.Texts.{over_alarm_text, over_change_text, over_grant_text, over_record_text, over_shelf_text, over_unit_text}
 use Rattle.plant_store.proofs.Meanings.{Updates, by_three, by_two, by_unit, over_alarm, over_change, over_grant, over_grant_shows, over_record, over_shelf, over_two_shows, over_unit, over_unit_shows}
 use Rattle.plant_store.proofs.Writes.{as_row, edited, edits_apply, free}

@@ -1,10 +1,7 @@
 -- What changes of a unit's rows do to the tables.
-use Rattle.sqlite.specs.Effect.{Database}
-use Rattle.sqlite.specs.State.{HasCleanDisk, State}
 use Rattle.std.specs.Prelude.{IsTrue, List, [], ◌∷◌, ◌≡◌, ◌≢◌}
-use Rattle.plant_model.specs.declared.rows.RowEdit.{RowEdit}
-use Rattle.plant_model.specs.declared.rows.UnitRows.{UnitRows}
-use Rattle.plant_model.specs.RowChanges.{changed_by}
+use Rattle.sqlite.specs.{Effect.{Database}, State.{HasCleanDisk, State}}
+use Rattle.plant_model.specs.{RowChanges.{changed_by}, declared.rows.{RowEdit.{RowEdit}, UnitRows.{UnitRows}}}
 use Rattle.plant_columns.specs.Tables.{AreBooks, AreSeen, Kept, office_row, rows_seen}
 use Rattle.plant_types.specs.Names.{Name}
 

@@ -1,10 +1,7 @@
 -- Which fault an error of the database is.
-use Rattle.sqlite.specs.declared.error.Error.{Error}
-use Rattle.sqlite.specs.declared.error.Error.TheVariants.{SqliteFailure}
-use Rattle.sqlite.specs.declared.error.ErrorCode.TheVariants.{OutOfMemory}
 use Rattle.std.specs.Prelude.{Err, IsErrAnd, Ok, Result, ◌≡◌, ◌≢◌}
-use Rattle.plant_types.specs.declared.fault.Fault.{Fault}
-use Rattle.plant_types.specs.declared.fault.Fault.TheVariants.{Memory, Store}
+use Rattle.sqlite.specs.declared.error.{Error.{Error, TheVariants.{SqliteFailure}}, ErrorCode.TheVariants.{OutOfMemory}}
+use Rattle.plant_types.specs.declared.fault.Fault.{Fault, TheVariants.{Memory, Store}}
 
 -- an error of the database is a fault of memory where memory ran out, else one of the store
 abbrev pub Names : Error → Fault → Type 0

@@ -1,8 +1,6 @@
 -- What it is for a connection to keep a content of the books.
-use Rattle.sqlite.specs.Effect.{Database}
-use Rattle.sqlite.specs.State.{State}
-use Rattle.std.specs.FinMap.{contains_key}
-use Rattle.std.specs.Prelude.{Bool, List, [], false, true, ◌∷◌, ◌≡◌}
+use Rattle.std.specs.{FinMap.{contains_key}, Prelude.{Bool, List, [], false, true, ◌∷◌, ◌≡◌}}
+use Rattle.sqlite.specs.{Effect.{Database}, State.{State}}
 use Rattle.plant_books.specs.Contents.{Content, rows_in}
 use Rattle.plant_store.specs.Changes.{IsHonest, IsOfficeOf}
 use Rattle.plant_columns.specs.Tables.{AreBooks, AreSeen}

@@ -1,16 +1,10 @@
 -- Whether rows of a unit have one with the key of another.
-use Rattle.std.specs.List.{list_any}
-use Rattle.std.specs.Ordering.{eq_by_cmp}
-use Rattle.std.specs.Prelude.{Bool}
-use Rattle.plant_model.specs.Histories.{same_number}
-use Rattle.plant_model.specs.Matrices.{band_cmp, cell_cmp}
-use Rattle.plant_model.specs.RowFacts.{band_key, cell_key, pair_of}
-use Rattle.plant_model.specs.declared.rows.Row.{Row}
+use Rattle.std.specs.{List.{list_any}, Ordering.{eq_by_cmp}, Prelude.{Bool}}
+use Rattle.plant_model.specs.{Histories.{same_number}, Matrices.{band_cmp, cell_cmp}, RowFacts.{band_key, cell_key, pair_of}, declared.rows.Row.{Row}}
 use Rattle.plant_model.specs.declared.rows.Row.TheVariants.{Alarm, Band, Cell, Change, Event, Grant, Record, Shelf, Unit as UnitRow}
 use Rattle.plant_model.specs.declared.rows.UnitRows.{UnitRows}
 use Rattle.plant_store.specs.Keeping.{has_any}
-use Rattle.plant_types.specs.Names.{same_name}
-use Rattle.plant_types.specs.Roles.{same_pair}
+use Rattle.plant_types.specs.{Names.{same_name}, Roles.{same_pair}}
 
 -- one of the rows has the key of this row
 abbrev pub has_key : Row → UnitRows → Bool

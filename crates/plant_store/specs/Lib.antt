@@ -6,7 +6,6 @@ pub mod Wanted
 pub mod Keys
 pub mod Making
 pub mod Mine
-pub mod Shelves
 pub mod Counting
 pub mod Opening
 pub mod OldTables

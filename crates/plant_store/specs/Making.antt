@@ -1,13 +1,10 @@
 -- The tables while they are made.
-use Rattle.sqlite.specs.Effect.{Database}
-use Rattle.sqlite.specs.Schema.{Schema}
-use Rattle.std.specs.List.{AllByRecursion}
-use Rattle.std.specs.Prelude.{[], ◌≡◌}
-use Rattle.plant_store.specs.Changes.{IsOfficeOf}
-use Rattle.plant_store.specs.declared.make.TableKind.{TableKind}
+use Rattle.std.specs.{List.{AllByRecursion}, Prelude.{[], ◌≡◌}}
+use Rattle.sqlite.specs.{Effect.{Database}, Schema.{Schema}}
+use Rattle.plant_store.specs.{Changes.{IsOfficeOf}, declared.make.TableKind.{TableKind}}
 use Rattle.plant_store.specs.declared.make.TableKind.TheVariants.{Alarms, Bands, Cells, Changes, Events, Grants, Records, Shelves, Units}
-use Rattle.plant_columns.specs.Tables.{AreBooks, Kept, alarms_schema, bands_schema, cells_schema, changes_schema, events_schema, grants_schema, office_schema, records_schema, shape, shelves_schema, units_schema}
 use Rattle.plant_columns.specs.Tables.Kept.{UnitKept, GrantKept, AlarmKept, ShelfKept, BandKept, CellKept, EventKept, RecordKept, ChangeKept}
+use Rattle.plant_columns.specs.Tables.{AreBooks, Kept, alarms_schema, bands_schema, cells_schema, changes_schema, events_schema, grants_schema, office_schema, records_schema, shape, shelves_schema, units_schema}
 use Rattle.plant_types.specs.Names.{Name}
 
 -- the tables of this schema are there, and have no row

@@ -1,19 +1,13 @@
 -- A person's grants in all units, each beside its unit's last moment, and what they come to unit by unit.
-use Rattle.sqlite.specs.Tree.{Trees}
-use Rattle.sqlite_value.specs.declared.value.Value.TheVariants.{Text}
-use Rattle.sqlite_value.specs.Order.{Row, bytes, column, value_cmp}
-use Rattle.std.specs.List.{slice_get}
-use Rattle.std.specs.Ordering.{is_eq}
+use Rattle.std.specs.{List.{slice_get}, Ordering.{is_eq}}
 use Rattle.std.specs.Prelude.{Bool, List, None, Option, Some, [], filter, if◌then◌else◌, map, unwrap_or, ℕ, ◌++◌, ◌∷◌, ◌≡◌}
+use Rattle.sqlite.specs.Tree.{Trees}
+use Rattle.sqlite_value.specs.{Order.{Row, bytes, column, value_cmp}, declared.value.Value.TheVariants.{Text}}
 use Rattle.plant_books.specs.declared.books.MineUnit.{MineUnit}
-use Rattle.plant_model.specs.declared.rows.UnitRow.{UnitRow}
-use Rattle.plant_model.specs.Grants.{is_before}
-use Rattle.plant_model.specs.RowFacts.{no_unit}
+use Rattle.plant_model.specs.{Grants.{is_before}, RowFacts.{no_unit}, declared.rows.UnitRow.{UnitRow}}
 use Rattle.plant_store.specs.declared.mine.Line.{Line}
-use Rattle.plant_columns.specs.Codes.{number, open_number, open_number_in, role, role_in}
+use Rattle.plant_columns.specs.{Codes.{number, open_number, open_number_in, role, role_in}, Kept.{by_columns, kept}, Tables.Kept.{UnitKept}}
 use Rattle.plant_columns.specs.Tables.{grant_shape, rows_seen}
-use Rattle.plant_columns.specs.Tables.Kept.{UnitKept}
-use Rattle.plant_columns.specs.Kept.{by_columns, kept}
 use Rattle.plant_types.specs.Names.{Name, same_name}
 
 -- the second column has this name

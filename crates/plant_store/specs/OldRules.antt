@@ -1,26 +1,14 @@
 -- The rules of schema 1: no quota limits the shelved alarms, no grant has an end, and a role is held as long as its grant stands.
-use Rattle.plant_model.specs.Calls.{own_refusals, reply}
-use Rattle.plant_alarm.specs.Shelves.{is_one_shot, is_timed}
-use Rattle.plant_model.specs.Facts.{Facts, facts, last_of, limit_of, shelf_now}
-use Rattle.plant_model.specs.Histories.{Said, same_number}
-use Rattle.plant_model.specs.Legality.{IsLegal, has_matrix}
-use Rattle.plant_model.specs.Kinds.{Opening, role_needed, says}
-use Rattle.plant_model.specs.Laws.{is_for_good}
-use Rattle.plant_model.specs.Refusals.{first_refusal, unknown}
-use Rattle.plant_model.specs.Verdicts.{changes_history, is_opening, refused_or, verdict}
-use Rattle.plant_model.specs.declared.call.Call.{Call}
-use Rattle.plant_model.specs.declared.call.Request.{Request}
-use Rattle.plant_model.specs.declared.call.Request.TheVariants.{Grant, OneShotShelve, TimedShelve}
-use Rattle.plant_model.specs.declared.reply.Full.TheVariants.{Grants as TooManyGrants}
-use Rattle.plant_model.specs.declared.reply.Refused.{Refused}
+use Rattle.std.specs.{List.{list_any}, Prelude.{Bool, IsTrue, List, None, Option, Result, Some, [], nat_le, nat_lt, not, ℕ, ◌&&◌, ◌++◌, ◌∷◌, ◌≡◌}}
+use Rattle.plant_model.specs.{Calls.{own_refusals, reply}, Facts.{Facts, facts, last_of, limit_of, shelf_now}, Histories.{Said, same_number}}
+use Rattle.plant_model.specs.{Kinds.{Opening, role_needed, says}, Laws.{is_for_good}, Legality.{IsLegal, has_matrix}}
+use Rattle.plant_model.specs.{Refusals.{first_refusal, unknown}, Verdicts.{changes_history, is_opening, refused_or, verdict}}
+use Rattle.plant_model.specs.declared.call.{Call.{Call}, Request.{Request, TheVariants.{Grant, OneShotShelve, TimedShelve}}}
+use Rattle.plant_model.specs.declared.reply.{Full.TheVariants.{Grants as TooManyGrants}, Refused.{Refused}}
 use Rattle.plant_model.specs.declared.reply.Refused.TheVariants.{AlreadyHeld, ConditionAlreadyShelved, MomentBehind, NotGranted, RoleLacking, ShelvingTimeOutOfRange, UnitFull}
 use Rattle.plant_model.specs.declared.reply.Reply.{Reply}
-use Rattle.plant_types.specs.Limits.{max_grants, max_quota}
-use Rattle.plant_types.specs.Names.{Name}
-use Rattle.plant_types.specs.Roles.{Pair, all_roles}
-use Rattle.plant_types.specs.declared.role.Role.{Role}
-use Rattle.std.specs.List.{list_any}
-use Rattle.std.specs.Prelude.{Bool, IsTrue, List, None, Option, Result, Some, [], nat_le, nat_lt, not, ℕ, ◌&&◌, ◌++◌, ◌∷◌, ◌≡◌}
+use Rattle.plant_alarm.specs.Shelves.{is_one_shot, is_timed}
+use Rattle.plant_types.specs.{Limits.{max_grants, max_quota}, Names.{Name}, Roles.{Pair, all_roles}, declared.role.Role.{Role}}
 
 -- the refusals of a request; shelving is not refused for a quota, nor a grant for its end
 abbrev pub old_own_refusals : Facts → Name → ℕ → Request → List (Bool × Refused)

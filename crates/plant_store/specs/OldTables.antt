@@ -1,19 +1,11 @@
 -- The tables of schema 1, from which a plant may come: those of this schema, but that a unit's row has no quota, and a grant no end.
-use Rattle.sqlite.specs.Effect.{Database}
-use Rattle.sqlite.specs.Schema.{Schema}
-use Rattle.sqlite.specs.Tree.{Trees}
-use Rattle.sqlite_value.specs.declared.value.Value.TheVariants.{Null, Text}
-use Rattle.sqlite_value.specs.Order.{Row, bytes, column}
-use Rattle.std.specs.Ordering.{nat_cmp}
-use Rattle.std.specs.Prelude.{List, [], codes, ℕ, ◌∷◌}
-use Rattle.plant_columns.specs.Codes.{number, number_in, role, role_in}
+use Rattle.std.specs.{Ordering.{nat_cmp}, Prelude.{List, [], codes, ℕ, ◌∷◌}}
+use Rattle.sqlite.specs.{Effect.{Database}, Schema.{Schema}, Tree.{Trees}}
+use Rattle.sqlite_value.specs.{Order.{Row, bytes, column}, declared.value.Value.TheVariants.{Null, Text}}
+use Rattle.plant_columns.specs.{Codes.{number, number_in, role, role_in}, Shape.{AreTables, Shape, seen, table_in}, Tables.Kept.{GrantKept, UnitKept}}
 use Rattle.plant_columns.specs.Tables.{Kept, KeyOf, RowOf, alarm_shape, band_shape, by_person, cell_shape, change_shape, event_shape, key_index, number_column, office_table, record_shape, shape, shelf_shape, text_column}
-use Rattle.plant_columns.specs.Tables.Kept.{GrantKept, UnitKept}
-use Rattle.plant_store.specs.declared.old_rows.OldGrantRow.{OldGrantRow}
-use Rattle.plant_store.specs.declared.old_rows.OldUnitRow.{OldUnitRow}
-use Rattle.plant_columns.specs.Shape.{AreTables, Shape, seen, table_in}
-use Rattle.plant_types.specs.Names.{Name}
-use Rattle.plant_types.specs.Roles.{Pair, pair_cmp}
+use Rattle.plant_store.specs.declared.old_rows.{OldGrantRow.{OldGrantRow}, OldUnitRow.{OldUnitRow}}
+use Rattle.plant_types.specs.{Names.{Name}, Roles.{Pair, pair_cmp}}
 
 abbrev pub old_schema_no : ℕ
 old_schema_no = 1

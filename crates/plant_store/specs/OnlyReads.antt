@@ -1,10 +1,8 @@
 -- What a connection that was only read is afterwards.
-use Rattle.sqlite.specs.Effect.{Database}
-use Rattle.sqlite.specs.State.{State}
 use Rattle.std.specs.Prelude.{◌≡◌}
+use Rattle.sqlite.specs.{Effect.{Database}, State.{State}}
 use Rattle.plant_columns.specs.Tables.{AreBooks}
-use Rattle.plant_store.specs.Changes.{IsHonest}
-use Rattle.plant_store.specs.OldTables.{AreOldBooks}
+use Rattle.plant_store.specs.{Changes.{IsHonest}, OldTables.{AreOldBooks}}
 
 -- reading changes nothing: the tables are the same, and if the disk is honest and the store open now, they were before
 pub record OnlyReadsIn (AreIts : Database → Type 0) (before after : State) : Type 0 where

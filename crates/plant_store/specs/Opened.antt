@@ -1,14 +1,10 @@
 -- What a connection was that is taken or refused as an office's books, and what it keeps.
+use Rattle.std.specs.Prelude.{Bool, IfErr, IfOk, IsTrue, Result, false, ℕ, ◌↔◌, ◌≡◌}
 use Rattle.sqlite.specs.Held.{Held, state}
 use Rattle.sqlite_trees.specs.declared.store.Store.{Ghosts}
-use Rattle.std.specs.Prelude.{Bool, IfErr, IfOk, IsTrue, Result, false, ℕ, ◌↔◌, ◌≡◌}
 use Rattle.plant_books.specs.Contents.{Content}
-use Rattle.plant_store.specs.declared.tables.StoreFault.{StoreFault}
-use Rattle.plant_store.specs.declared.tables.StoreFault.TheVariants.{NotThisStore}
-use Rattle.plant_store.specs.Changes.{IsHonest}
-use Rattle.plant_store.specs.Keeping.{Represents}
-use Rattle.plant_store.specs.OldTables.{AreOldBooks}
-use Rattle.plant_store.specs.Opening.{IsOffice, has_office}
+use Rattle.plant_store.specs.{Changes.{IsHonest}, Keeping.{Represents}, OldTables.{AreOldBooks}, Opening.{IsOffice, has_office}}
+use Rattle.plant_store.specs.declared.tables.StoreFault.{StoreFault, TheVariants.{NotThisStore}}
 use Rattle.plant_types.specs.Names.{Name}
 
 -- the schema has no table `office` with the columns that an office has

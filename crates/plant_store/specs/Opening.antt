@@ -1,13 +1,9 @@
 -- Which databases are this office's books.
-use Rattle.sqlite.specs.Effect.{Database}
-use Rattle.sqlite.specs.Schema.{Schema}
-use Rattle.sqlite.specs.Table.{Table}
-use Rattle.sqlite_schema.specs.Names.{column_named, place_of, table_named}
-use Rattle.sqlite_value.specs.declared.value.Value.TheVariants.{Text}
-use Rattle.sqlite_value.specs.Order.{Row, column}
 use Rattle.std.specs.Prelude.{Bool, List, Option, Some, [], codes, is_some, map, option_and_then, option_map, false, slice_get, true, unwrap_or, ℕ, ◌&&◌, ◌∷◌, ◌≡◌}
-use Rattle.plant_columns.specs.Codes.{number}
-use Rattle.plant_columns.specs.Tables.{schema_no}
+use Rattle.sqlite.specs.{Effect.{Database}, Schema.{Schema}, Table.{Table}}
+use Rattle.sqlite_schema.specs.Names.{column_named, place_of, table_named}
+use Rattle.sqlite_value.specs.{Order.{Row, column}, declared.value.Value.TheVariants.{Text}}
+use Rattle.plant_columns.specs.{Codes.{number}, Tables.{schema_no}}
 use Rattle.plant_types.specs.Names.{Name}
 
 -- the table of this name, wherever it stands; SQL does not distinguish upper and lower case

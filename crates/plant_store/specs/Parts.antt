@@ -1,31 +1,16 @@
 -- What the reads of a part return: the rows of a unit that a call looks at.
-use Rattle.sqlite.specs.Held.{Held, state}
-use Rattle.sqlite.specs.State.{HasCleanDisk}
-use Rattle.sqlite.specs.Tree.{Trees}
+use Rattle.std.specs.{BTreeSet.{BTreeSet}, Prelude.{Bool, IfOk, List, Result, Some, filter, length, true, ℕ, ◌||◌, ◌≡◌}}
+use Rattle.sqlite.specs.{Held.{Held, state}, State.{HasCleanDisk}, Tree.{Trees}}
 use Rattle.sqlite_trees.specs.declared.store.Store.{Ghosts}
-use Rattle.std.specs.BTreeSet.{BTreeSet}
-use Rattle.std.specs.Prelude.{Bool, IfOk, List, Result, Some, filter, length, true, ℕ, ◌||◌, ◌≡◌}
 use Rattle.plant_alarm.specs.declared.event.Event.{Event}
-use Rattle.plant_model.specs.declared.kinds.Scope.{Scope}
-use Rattle.plant_books.specs.Numbered.{NumbersRise, of_numbers}
-use Rattle.plant_books.specs.declared.asking.WantedAlarms.{WantedAlarms}
-use Rattle.plant_columns.specs.Tables.{AreBooks, Kept, rows_seen}
-use Rattle.plant_columns.specs.Tables.Kept.{AlarmKept, BandKept, CellKept, ChangeKept, EventKept, GrantKept, ShelfKept}
-use Rattle.plant_model.specs.Scopes.{is_shelving, looks_at_events, number_approved, selection_by}
-use Rattle.plant_model.specs.declared.call.Request.{Request}
-use Rattle.plant_model.specs.declared.rows.AlarmRow.{AlarmRow}
-use Rattle.plant_model.specs.declared.rows.BandRow.{BandRow}
-use Rattle.plant_model.specs.declared.rows.CellRow.{CellRow}
-use Rattle.plant_model.specs.declared.rows.ChangeEntry.{ChangeEntry}
-use Rattle.plant_model.specs.declared.rows.GrantRow.{GrantRow}
-use Rattle.plant_model.specs.declared.rows.RecordEntry.{RecordEntry}
-use Rattle.plant_model.specs.declared.rows.UnitRow.{UnitRow}
+use Rattle.plant_model.specs.{Histories.{same_number}, Parts.{counted_for, is_crowded}, RowFacts.{last_number}}
+use Rattle.plant_model.specs.{Scopes.{is_shelving, looks_at_events, number_approved, selection_by}, declared.call.Request.{Request}}
+use Rattle.plant_model.specs.declared.{kinds.Scope.{Scope}, rows.{AlarmRow.{AlarmRow}, BandRow.{BandRow}, CellRow.{CellRow}}}
+use Rattle.plant_model.specs.declared.rows.{ChangeEntry.{ChangeEntry}, GrantRow.{GrantRow}, RecordEntry.{RecordEntry}, UnitRow.{UnitRow}}
 use Rattle.plant_model.specs.declared.rows.UnitRows.{UnitRows}
-use Rattle.plant_model.specs.Histories.{same_number}
-use Rattle.plant_model.specs.Parts.{counted_for, is_crowded}
-use Rattle.plant_model.specs.RowFacts.{last_number}
-use Rattle.plant_store.specs.Changes.{IsHonest}
-use Rattle.plant_store.specs.Wanted.{alarms_with, events_with}
+use Rattle.plant_books.specs.{Numbered.{NumbersRise, of_numbers}, declared.asking.WantedAlarms.{WantedAlarms}}
+use Rattle.plant_columns.specs.Tables.{AreBooks, Kept, rows_seen, Kept.{AlarmKept, BandKept, CellKept, ChangeKept, EventKept, GrantKept, ShelfKept}}
+use Rattle.plant_store.specs.{Changes.{IsHonest}, Wanted.{alarms_with, events_with}}
 use Rattle.plant_types.specs.Names.{Name, same_name}
 
 -- ---- of the tables

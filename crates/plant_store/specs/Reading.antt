@@ -1,26 +1,15 @@
 -- What a read returns, and what it leaves of the tables. Each word takes the connection before and after. A disk is clean
 -- if it has returned what was written, and honest if besides no failure has shut the database.
-use Rattle.sqlite.specs.Held.{Held, state}
-use Rattle.sqlite.specs.Listing.{understood}
-use Rattle.sqlite.specs.Schema.{Schema}
-use Rattle.sqlite.specs.State.{HasCleanDisk, Shown as IsShown}
-use Rattle.sqlite.specs.Tree.{Trees}
-use Rattle.sqlite.specs.Values.{bound}
-use Rattle.sqlite.proofs.Callers.{IsPlain}
-use Rattle.sqlite_trees.specs.declared.store.Store.{Ghosts}
-use Rattle.sqlite_value.specs.declared.value.ValueRef.{ValueRef}
-use Rattle.sqlite_value.specs.Order.{Row as Line}
 use Rattle.std.specs.Prelude.{IfOk, List, Result, false, filter, map, ℕ, ◌≡◌}
+use Rattle.sqlite.specs.{Held.{Held, state}, Listing.{understood}, Schema.{Schema}, State.{HasCleanDisk, Shown as IsShown}, Tree.{Trees}}
+use Rattle.sqlite.{specs.Values.{bound}, proofs.Callers.{IsPlain}}
+use Rattle.sqlite_trees.specs.declared.store.Store.{Ghosts}
+use Rattle.sqlite_value.specs.{Order.{Row as Line}, declared.value.ValueRef.{ValueRef}}
 use Rattle.plant_books.specs.Contents.{Content}
-use Rattle.plant_columns.specs.Shown.{columns}
-use Rattle.plant_columns.specs.Tables.{AreBooks}
+use Rattle.plant_columns.specs.{Shown.{columns}, Tables.{AreBooks}}
 use Rattle.plant_model.specs.Histories.{same_number}
-use Rattle.plant_store.specs.declared.old_rows.CodeLine.{CodeLine}
-use Rattle.plant_store.specs.Changes.{IsHonest}
-use Rattle.plant_store.specs.Keeping.{HasContent}
-use Rattle.plant_store.specs.OldTables.{AreOldBooks}
-use Rattle.plant_store.specs.OnlyReads.{OnlyReads, OnlyReadsOld}
-use Rattle.plant_store.specs.Upgrading.{old_codes}
+use Rattle.plant_store.specs.{Changes.{IsHonest}, Keeping.{HasContent}, OldTables.{AreOldBooks}, OnlyReads.{OnlyReads, OnlyReadsOld}}
+use Rattle.plant_store.specs.{Upgrading.{old_codes}, declared.old_rows.CodeLine.{CodeLine}}
 use Rattle.plant_types.specs.Names.{Name, same_name}
 
 -- the tables of the books are only read

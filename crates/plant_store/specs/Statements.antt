@@ -1,19 +1,13 @@
 -- What the text of a query reads, and what a statement has written.
-use Rattle.sqlite.specs.Effect.{Database, Reads as Answers}
-use Rattle.sqlite.specs.Listing.{reads_listing, understood}
-use Rattle.sqlite.specs.Schema.{Schema}
-use Rattle.sqlite.specs.Tree.{Trees}
-use Rattle.sqlite.proofs.Callers.{IsPlain, command_of}
-use Rattle.sqlite_value.specs.declared.value.Value.TheVariants.{Text}
-use Rattle.sqlite_value.specs.Order.{Row as Line}
 use Rattle.std.specs.Prelude.{List, [], false, filter, map, suc, zero, ℕ, ◌∷◌, ◌≡◌}
-use Rattle.plant_columns.specs.Codes as codes
-use Rattle.plant_columns.specs.Shown.{columns}
-use Rattle.plant_columns.specs.Tables.{AreBooks, books_schema}
-use Rattle.plant_model.specs.declared.rows.RowEdit.{RowEdit}
-use Rattle.plant_model.specs.Histories.{same_number}
+use Rattle.sqlite.specs.{Effect.{Database, Reads as Answers}, Listing.{reads_listing, understood}, Schema.{Schema}, Tree.{Trees}}
+use Rattle.sqlite.proofs.Callers.{IsPlain, command_of}
+use Rattle.sqlite_value.specs.{Order.{Row as Line}, declared.value.Value.TheVariants.{Text}}
+use Rattle.plant_columns.specs.{Shown.{columns}, Tables.{AreBooks, books_schema}}
+use Rattle.plant_model.specs.{Histories.{same_number}, declared.rows.RowEdit.{RowEdit}}
 use Rattle.plant_store.specs.OldTables.{AreOldBooks, old_books_schema}
 use Rattle.plant_types.specs.Names.{Name, same_name}
+use Rattle.plant_columns.specs.Codes as codes
 
 -- the text of a query under this schema, whose answers in its databases are decoded to these rows
 pub record ReadsIn (schema : Schema) (AreIts : Database → Type 0) {X : Type 0} (width : ℕ) (cells : X → Line) (rows : Trees → List X) (params : Line) (text : List ℕ) : Type 0 where

@@ -1,7 +1,6 @@
 -- What a step within a transaction leaves of it.
-use Rattle.sqlite.specs.State.{HasCleanDisk, KeepsCommit, State, Survives}
-use Rattle.sqlite.specs.declared.error.Error.{Error}
 use Rattle.std.specs.Prelude.{IsTrue, OnOk, Result}
+use Rattle.sqlite.specs.{State.{HasCleanDisk, KeepsCommit, State, Survives}, declared.error.Error.{Error}}
 
 -- after a successful step the transaction is still open; nothing is committed, so a crash loses what the step wrote
 pub record StaysInside {V : Type 0} (result : Result V Error) (before after : State) : Type 0 where

@@ -1,18 +1,10 @@
 -- What of a store of schema 1 is written into the books, read from one connection and written by a transaction of another.
-use Rattle.sqlite.specs.declared.transaction.Transaction.{Transaction}
-use Rattle.sqlite.specs.Held.{Held, state}
-use Rattle.sqlite.specs.State.{HasCleanDisk}
-use Rattle.sqlite.specs.Tree.{Trees}
-use Rattle.sqlite_trees.specs.declared.store.Store.{Ghosts}
 use Rattle.std.specs.Prelude.{IsTrue, List, OnOk, Result, [], map, ◌≡◌}
-use Rattle.plant_model.specs.declared.rows.Row.{Row}
-use Rattle.plant_model.specs.declared.rows.RowEdit.TheVariants.{Put}
-use Rattle.plant_store.specs.declared.make.TableKind.{TableKind}
-use Rattle.plant_store.specs.declared.old_rows.CodeLine.{CodeLine}
-use Rattle.plant_store.specs.Changes.{IsHonest}
-use Rattle.plant_store.specs.OldTables.{AreOldBooks}
-use Rattle.plant_store.specs.Upgrading.{AreTakenOver, old_codes, puts_all, puts_of, upgraded_rows}
-use Rattle.plant_store.specs.Writing.{Writes}
+use Rattle.sqlite.specs.{Held.{Held, state}, State.{HasCleanDisk}, Tree.{Trees}, declared.transaction.Transaction.{Transaction}}
+use Rattle.sqlite_trees.specs.declared.store.Store.{Ghosts}
+use Rattle.plant_model.specs.declared.rows.{Row.{Row}, RowEdit.TheVariants.{Put}}
+use Rattle.plant_store.specs.{Changes.{IsHonest}, OldTables.{AreOldBooks}, Upgrading.{AreTakenOver, old_codes, puts_all, puts_of, upgraded_rows}}
+use Rattle.plant_store.specs.{Writing.{Writes}, declared.{make.TableKind.{TableKind}, old_rows.CodeLine.{CodeLine}}}
 use Rattle.plant_types.specs.Names.{Name}
 
 -- on an honest disk this holds of the tables of schema 1

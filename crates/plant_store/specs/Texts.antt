@@ -1,7 +1,6 @@
 -- The texts of the schema and of the statements, each fixed.
 use Rattle.std.specs.Prelude.{List, codes, ℕ}
-use Rattle.plant_columns.specs.Tables.{Kept}
-use Rattle.plant_columns.specs.Tables.Kept.{UnitKept, GrantKept, AlarmKept, ShelfKept, BandKept, CellKept, EventKept, RecordKept, ChangeKept}
+use Rattle.plant_columns.specs.Tables.{Kept, Kept.{UnitKept, GrantKept, AlarmKept, ShelfKept, BandKept, CellKept, EventKept, RecordKept, ChangeKept}}
 
 -- what makes the schema
 abbrev pub office_text : List ℕ
@@ -114,10 +113,6 @@ last_change_text = codes "SELECT number FROM changes WHERE unit = ?1 ORDER BY un
 -- a person's grants in all units, each beside its unit's last moment
 abbrev pub mine_text : List ℕ
 mine_text = codes "SELECT grants.unit, grants.role_no, grants.end_s, units.last_s FROM grants INNER JOIN units ON units.unit = grants.unit WHERE grants.person = ?1 ORDER BY grants.unit, grants.person, grants.role_no"
-
--- the shelves of the units in which a person has grants, each beside the end of each of these grants
-abbrev pub mine_shelves_text : List ℕ
-mine_shelves_text = codes "SELECT shelves.unit, shelves.tag, shelves.one_shot, shelves.start_s, shelves.until_s, shelves.person, shelves.words, grants.end_s FROM grants INNER JOIN shelves ON grants.unit = shelves.unit WHERE grants.person = ?1 ORDER BY shelves.unit, shelves.tag, grants.role_no"
 
 -- what is read of schema 1 alone: the codes of all units, and a unit's own row and its grants
 abbrev pub old_codes_text : List ℕ

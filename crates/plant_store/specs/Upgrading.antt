@@ -1,30 +1,19 @@
 -- A plant's rows taken over from schema 1: each unit may shelve as many alarms as a unit can have, no grant ends, and
 -- all else stays.
-use Rattle.plant_types.specs.Limits.{max_quota}
-use Rattle.sqlite.specs.Effect.{Database}
-use Rattle.sqlite.specs.Tree.{Trees}
+use Rattle.std.specs.{FinMap.{contains_key}, List.{list_any}, Prelude.{flat_map, Bool, List, None, [], false, map, true, ◌∷◌, ◌≡◌}}
+use Rattle.plant_types.specs.{Limits.{max_quota}, Names.{Name, same_name}}
+use Rattle.sqlite.specs.{Effect.{Database}, Tree.{Trees}}
 use Rattle.sqlite_value.specs.Order.{bytes, column}
-use Rattle.std.specs.FinMap.{contains_key}
-use Rattle.std.specs.List.{flat_map, list_any}
-use Rattle.std.specs.Prelude.{Bool, List, None, [], false, map, true, ◌∷◌, ◌≡◌}
 use Rattle.plant_books.specs.Contents.{Content, rows_in}
-use Rattle.plant_columns.specs.Tables.{AreBooks, AreSeen}
-use Rattle.plant_columns.specs.Tables.Kept.{AlarmKept, BandKept, CellKept, ChangeKept, EventKept, GrantKept, RecordKept, ShelfKept, UnitKept}
-use Rattle.plant_model.specs.declared.rows.RowEdit.{RowEdit}
-use Rattle.plant_model.specs.declared.rows.RowEdit.TheVariants.{Put}
-use Rattle.plant_model.specs.declared.rows.GrantRow.{GrantRow}
-use Rattle.plant_model.specs.declared.rows.Row.TheVariants.{Alarm as AlarmPut, Band as BandPut, Cell as CellPut, Change as ChangePut, Event as EventPut, Grant as GrantPut, Record as RecordPut, Shelf as ShelfPut, Unit as UnitPut}
-use Rattle.plant_model.specs.declared.rows.UnitRow.{UnitRow}
-use Rattle.plant_model.specs.declared.rows.UnitRows.{UnitRows}
-use Rattle.plant_model.specs.RowChanges.{no_rows}
-use Rattle.plant_store.specs.declared.make.TableKind.{TableKind}
-use Rattle.plant_store.specs.declared.make.TableKind.TheVariants.{Alarms, Bands, Cells, Changes, Events, Grants, Records, Shelves, Units}
-use Rattle.plant_store.specs.declared.old_rows.OldGrantRow.{OldGrantRow}
-use Rattle.plant_store.specs.declared.old_rows.OldUnitRow.{OldUnitRow}
-use Rattle.plant_store.specs.Keeping.{has_any}
-use Rattle.plant_store.specs.OldTables.{AreOldBooks, old_office_row, old_rows}
 use Rattle.plant_columns.specs.Kept.{by_columns, kept}
-use Rattle.plant_types.specs.Names.{Name, same_name}
+use Rattle.plant_columns.specs.Tables.Kept.{AlarmKept, BandKept, CellKept, ChangeKept, EventKept, GrantKept, RecordKept, ShelfKept, UnitKept}
+use Rattle.plant_columns.specs.Tables.{AreBooks, AreSeen}
+use Rattle.plant_model.specs.{RowChanges.{no_rows}, declared.rows.GrantRow.{GrantRow}}
+use Rattle.plant_model.specs.declared.rows.Row.TheVariants.{Alarm as AlarmPut, Band as BandPut, Cell as CellPut, Change as ChangePut, Event as EventPut, Grant as GrantPut, Record as RecordPut, Shelf as ShelfPut, Unit as UnitPut}
+use Rattle.plant_model.specs.declared.rows.{RowEdit.{RowEdit, TheVariants.{Put}}, UnitRow.{UnitRow}, UnitRows.{UnitRows}}
+use Rattle.plant_store.specs.{Keeping.{has_any}, OldTables.{AreOldBooks, old_office_row, old_rows}, declared.make.TableKind.{TableKind}}
+use Rattle.plant_store.specs.declared.make.TableKind.TheVariants.{Alarms, Bands, Cells, Changes, Events, Grants, Records, Shelves, Units}
+use Rattle.plant_store.specs.declared.old_rows.{OldGrantRow.{OldGrantRow}, OldUnitRow.{OldUnitRow}}
 
 abbrev pub upgraded_unit : OldUnitRow → UnitRow
 upgraded_unit r = record { last_s = r.last_s; matrix_no = r.matrix_no; matrix_rev = r.matrix_rev; quota = max_quota }

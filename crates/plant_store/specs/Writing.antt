@@ -1,18 +1,12 @@
 -- What a statement or several write, within a transaction and as a transaction.
-use Rattle.sqlite.specs.declared.error.Error.{Error}
-use Rattle.sqlite.specs.declared.transaction.Transaction.{Transaction}
-use Rattle.sqlite.specs.Effect.{Database}
-use Rattle.sqlite.specs.Held.{Held, state}
-use Rattle.sqlite.specs.State.{Executes, HasCleanDisk, KeepsCommit, Survives}
-use Rattle.sqlite.specs.Values.{bound}
+use Rattle.std.specs.Prelude.{IfOk, IsTrue, List, Ok, OnErr, OnOk, Result, ℕ, ◌≡◌}
+use Rattle.sqlite.specs.{Effect.{Database}, Held.{Held, state}, State.{Executes, HasCleanDisk, KeepsCommit, Survives}, Values.{bound}}
+use Rattle.sqlite.specs.declared.{error.Error.{Error}, transaction.Transaction.{Transaction}}
 use Rattle.sqlite_trees.specs.declared.store.Store.{Ghosts}
 use Rattle.sqlite_value.specs.declared.value.ValueRef.{ValueRef}
-use Rattle.std.specs.Prelude.{IfOk, IsTrue, List, Ok, OnErr, OnOk, Result, ℕ, ◌≡◌}
 use Rattle.plant_columns.specs.Tables.{AreBooks, no_schema}
 use Rattle.plant_model.specs.declared.rows.RowEdit.{RowEdit}
-use Rattle.plant_store.specs.Changes.{Applies, IsHonest}
-use Rattle.plant_store.specs.StaysInside.{StaysInside}
-use Rattle.plant_store.specs.Statements.{changes_written}
+use Rattle.plant_store.specs.{Changes.{Applies, IsHonest}, Statements.{changes_written}, StaysInside.{StaysInside}}
 use Rattle.plant_types.specs.Names.{Name}
 
 -- the database has no table, no index and no view

@@ -3,12 +3,10 @@
 ghost use Rattle.std.specs.Prelude.{◌≡◌, OnOk};
 ghost use Rattle.sqlite.specs.Held.{state};
 ghost use Rattle.plant_books.specs.Books.{WasHonest};
-ghost use Rattle.plant_store.specs.Changes.{IsHonest};
-ghost use Rattle.plant_store.specs.Making.{AreEmpty, AreNew, kept_as, schema_before, schema_with};
+ghost use Rattle.plant_store.specs.{Changes.{IsHonest}, Making.{AreEmpty, AreNew, kept_as, schema_before, schema_with}};
+ghost use Rattle.plant_store.specs.{Reading.{HasNoTransaction, IsHonestIn}, Writing.{IsBlank, LeadsTo, SameOnErr, SameReference, StaysOpen}};
 ghost use Rattle.plant_columns.specs.Tables.{no_schema, office_schema, shelves_schema, changes_schema};
 ghost use Rattle.plant_store.specs.Texts as texts;
-ghost use Rattle.plant_store.specs.Reading.{HasNoTransaction, IsHonestIn};
-ghost use Rattle.plant_store.specs.Writing.{IsBlank, LeadsTo, SameOnErr, SameReference, StaysOpen};
 
 use crate::write::run;
 use plant_columns::encode::single;

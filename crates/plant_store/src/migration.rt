@@ -1,21 +1,15 @@
 //! A plant's rows taken over from a store of schema 1 into new tables of this schema.
 
 ghost use Rattle.std.specs.Prelude.{◌≡◌, ◌≢◌, false, map, IfErr, IfOk, IsErrAnd, IsTrue, OnOk, Err};
-ghost use Rattle.sqlite.specs.Held.{state};
-ghost use Rattle.sqlite.specs.State.{HasCleanDisk};
+ghost use Rattle.sqlite.specs.{Held.{state}, State.{HasCleanDisk}};
 ghost use Rattle.plant_books.specs.Contents.{Content};
 ghost use Rattle.plant_columns.specs.Tables.{no_schema};
 ghost use Rattle.plant_model.specs.declared.rows.RowEdit.TheVariants.{Put};
 ghost use Rattle.plant_types.specs.declared.fault.Fault.TheVariants.{Store};
-ghost use Rattle.plant_store.specs.Changes.{IsHonest};
-ghost use Rattle.plant_store.specs.Keeping.{HaveRows, Represents};
-ghost use Rattle.plant_store.specs.OldTables.{old_schema_no};
-ghost use Rattle.plant_store.specs.Opening.{IsOffice};
-ghost use Rattle.plant_store.specs.Upgrading.{HaveOldRows, all_kinds};
-ghost use Rattle.plant_store.specs.Opened.{HasNoOffice, HasOldBooks, IsAnothers, WasOffice};
-ghost use Rattle.plant_store.specs.Reading.{HasNoTransaction, ReadsOldBooks};
-ghost use Rattle.plant_store.specs.TakingOver.{Takes, TakesTable, TakesTables, TakesUnits};
-ghost use Rattle.plant_store.specs.Writing.{IsBlank, SameDatabase, SameOnErr, SameReference, StaysOpen, Writes};
+ghost use Rattle.plant_store.specs.{Changes.{IsHonest}, Keeping.{HaveRows, Represents}, OldTables.{old_schema_no}};
+ghost use Rattle.plant_store.specs.{Opened.{HasNoOffice, HasOldBooks, IsAnothers, WasOffice}, Opening.{IsOffice}};
+ghost use Rattle.plant_store.specs.{Reading.{HasNoTransaction, ReadsOldBooks}, TakingOver.{Takes, TakesTable, TakesTables, TakesUnits}};
+ghost use Rattle.plant_store.specs.{Upgrading.{HaveOldRows, all_kinds}, Writing.{IsBlank, SameDatabase, SameOnErr, SameReference, StaysOpen, Writes}};
 ghost use Rattle.plant_store.specs.declared.tables.StoreFault.TheVariants.{NotThisStore};
 
 use crate::make::{TableKind, make_tables};

@@ -1,8 +1,7 @@
 //! The rows of the matrices and the changes that a scope takes in.
 
-ghost use Rattle.plant_store.specs.Parts.{LoadsBands, LoadsCells, LoadsChanges, LoadsNumbers};
-ghost use Rattle.plant_store.specs.Reading.{HasNoTransaction, ReadsBooks};
 ghost use Rattle.std.specs.Prelude.{◌≡◌, ◌++◌, OnOk};
+ghost use Rattle.plant_store.specs.{Parts.{LoadsBands, LoadsCells, LoadsChanges, LoadsNumbers}, Reading.{HasNoTransaction, ReadsBooks}};
 
 use crate::read::rows_of_number;
 use crate::stored::Numbered;

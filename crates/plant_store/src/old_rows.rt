@@ -4,15 +4,11 @@ ghost use Rattle.std.specs.Prelude.{◌∷◌, [], List};
 ghost use Rattle.sqlite.specs.Tree.{Trees};
 ghost use Rattle.sqlite_value.specs.declared.value.Value.TheVariants.{Text as TextValue};
 ghost use Rattle.plant_columns.specs.Tables.Kept.{AlarmKept, BandKept, CellKept, ChangeKept, EventKept, GrantKept, RecordKept, ShelfKept, UnitKept};
-ghost use Rattle.plant_model.specs.declared.rows.RowEdit.TheVariants.{Put};
-ghost use Rattle.plant_model.specs.declared.rows.Row.{Row as AnyRow};
-ghost use Rattle.plant_model.specs.declared.rows.Row.TheVariants.{Grant as GrantPut, Unit as UnitPut};
+ghost use Rattle.plant_model.specs.declared.rows.{Row.{Row as AnyRow, TheVariants.{Grant as GrantPut, Unit as UnitPut}}, RowEdit.TheVariants.{Put}};
 ghost use Rattle.plant_store.specs.OldTables.{old_grant_shape, old_rows, old_unit_shape};
-ghost use Rattle.plant_store.specs.Statements.{ReadsOldUnit};
-ghost use Rattle.plant_store.specs.Upgrading.{upgraded_grant, upgraded_unit};
+ghost use Rattle.plant_store.specs.{Reading.{HasNoTransaction, LoadsOld, LoadsOldCodes, ReadsOldBooks}, Statements.{ReadsOldUnit}};
+ghost use Rattle.plant_store.specs.{Upgrading.{upgraded_grant, upgraded_unit}, Writing.{SameReference, StaysOpen, Writes}};
 ghost use Rattle.plant_types.specs.Names.{Name};
-ghost use Rattle.plant_store.specs.Reading.{HasNoTransaction, LoadsOld, LoadsOldCodes, ReadsOldBooks};
-ghost use Rattle.plant_store.specs.Writing.{SameReference, StaysOpen, Writes};
 
 use crate::read::read_rows;
 use crate::stored::Stored;

@@ -2,15 +2,12 @@
 
 ghost use Rattle.std.specs.Prelude.{◌≡◌, ◌↔◌, [], ◌∷◌, false, map, true, IsTrue, IfOk, Ok};
 ghost use Rattle.sqlite.specs.Held.{state};
-ghost use Rattle.sqlite_value.specs.Order.{column};
-ghost use Rattle.sqlite_value.specs.declared.value.Value.TheVariants.{Text as TextValue};
-ghost use Rattle.plant_store.specs.Changes.{IsHonest};
+ghost use Rattle.sqlite_value.specs.{Order.{column}, declared.value.Value.TheVariants.{Text as TextValue}};
+ghost use Rattle.plant_store.specs.{Changes.{IsHonest}, Opened.{FindsOffice, HasNoOffice}, Opening.{IsOffice, office_cells}};
+ghost use Rattle.plant_store.specs.Reading.{HasNoTransaction, ReadsBooks, ReadsOldBooks};
+ghost use Rattle.plant_columns.specs.Shown.{columns};
 ghost use Rattle.plant_columns.specs.Codes as codings;
 ghost use Rattle.plant_store.specs.Opening as opening;
-ghost use Rattle.plant_store.specs.Opening.{IsOffice, office_cells};
-ghost use Rattle.plant_columns.specs.Shown.{columns};
-ghost use Rattle.plant_store.specs.Opened.{FindsOffice, HasNoOffice};
-ghost use Rattle.plant_store.specs.Reading.{HasNoTransaction, ReadsBooks, ReadsOldBooks};
 
 use crate::read::ask;
 use plant_types::Person;

@@ -1,22 +1,14 @@
 //! The part of a unit's rows that a call looks at.
 
-ghost use Rattle.std.specs.Prelude.{◌≡◌, false, IfOk, None, Some};
+ghost use Rattle.std.specs.{Ordering.{nat_cmp}, Prelude.{◌≡◌, false, IfOk, None, Some}};
 ghost use Rattle.sqlite.specs.Held.{state};
-ghost use Rattle.plant_model.specs.Parts.{part_of_holder};
-ghost use Rattle.plant_model.specs.Worlds.{unit_named};
-ghost use Rattle.plant_types.specs.Names.{Name};
+ghost use Rattle.plant_model.specs.{Order.{TagsRise}, Parts.{part_of_holder}, RowFacts.{alarm_tag, event_number, shelf_tag}, Worlds.{unit_named}};
+ghost use Rattle.plant_types.specs.{KeyedRows.{IsInOrder}, Names.{Name}};
 ghost use Rattle.plant_books.specs.Contents.{Content, part_in, rows_in};
-ghost use Rattle.plant_store.specs.Changes.{IsHonest};
-ghost use Rattle.plant_store.specs.Keeping.{HasContent};
-ghost use Rattle.plant_columns.specs.Tables.{rows_seen};
-ghost use Rattle.plant_columns.specs.Tables.Kept.{UnitKept};
-ghost use Rattle.plant_model.specs.Order.{TagsRise};
-ghost use Rattle.plant_model.specs.RowFacts.{alarm_tag, event_number, shelf_tag};
-ghost use Rattle.plant_types.specs.KeyedRows.{IsInOrder};
-ghost use Rattle.std.specs.Ordering.{nat_cmp};
+ghost use Rattle.plant_store.specs.{Changes.{IsHonest}, Keeping.{HasContent}};
 ghost use Rattle.plant_store.specs.Parts.{AreAskedBy, LoadsApproved, LoadsCount, LoadsCrowding, LoadsGrants, alarms_seen, events_seen, grants_of};
-ghost use Rattle.plant_store.specs.Wanted.{alarms_left, rows_with};
-ghost use Rattle.plant_store.specs.Reading.{HasNoTransaction, Loads, ReadsBooks, ReadsContent};
+ghost use Rattle.plant_store.specs.{Reading.{HasNoTransaction, Loads, ReadsBooks, ReadsContent}, Wanted.{alarms_left, rows_with}};
+ghost use Rattle.plant_columns.specs.Tables.{rows_seen, Kept.{UnitKept}};
 
 use crate::numbers::{some_bands, some_cells, some_changes};
 use crate::read::{

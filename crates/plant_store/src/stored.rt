@@ -2,18 +2,14 @@
 
 ghost use Rattle.std.specs.Prelude.{◌≡◌, ◌∷◌, [], ℕ, List, true};
 ghost use Rattle.sqlite.specs.Tree.{Trees};
-ghost use Rattle.plant_columns.specs.Tables.{rows_seen};
 ghost use Rattle.plant_columns.specs.Tables.Kept.{AlarmKept, BandKept, CellKept, ChangeKept, EventKept, GrantKept, RecordKept, ShelfKept, UnitKept};
-ghost use Rattle.plant_model.specs.Order.{AreInOrder};
-ghost use Rattle.plant_model.specs.RowFacts.{change_number};
-ghost use Rattle.plant_model.specs.declared.rows.RowEdit.TheVariants.{Put};
-ghost use Rattle.plant_model.specs.declared.rows.Row.{Row as AnyRow};
+ghost use Rattle.plant_columns.specs.Tables.{rows_seen};
+ghost use Rattle.plant_model.specs.{Order.{AreInOrder}, RowFacts.{change_number}, declared.rows.Row.{Row as AnyRow}};
 ghost use Rattle.plant_model.specs.declared.rows.Row.TheVariants.{Alarm as AlarmPut, Band as BandPut, Cell as CellPut, Change as ChangePut, Event as EventPut, Grant as GrantPut, Record as RecordPut, Shelf as ShelfPut, Unit as UnitPut};
-ghost use Rattle.plant_store.specs.Keys.{has_key};
-ghost use Rattle.plant_store.specs.Statements.{ReadsNumber, ReadsTag, ReadsUnit};
-ghost use Rattle.plant_store.specs.Texts.{rows_text};
-ghost use Rattle.plant_types.specs.Names.{Name};
+ghost use Rattle.plant_model.specs.declared.rows.RowEdit.TheVariants.{Put};
+ghost use Rattle.plant_store.specs.{Keys.{has_key}, Statements.{ReadsNumber, ReadsTag, ReadsUnit}, Texts.{rows_text}};
 ghost use Rattle.plant_store.specs.Writing.{SameReference, StaysOpen, Updates, Writes};
+ghost use Rattle.plant_types.specs.Names.{Name};
 
 use crate::write::{run, run_counting};
 use plant_alarm::Event;

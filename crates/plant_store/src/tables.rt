@@ -2,18 +2,13 @@
 
 ghost use Rattle.std.specs.Prelude.{◌≡◌, ◌≢◌, ◌↔◌, ℕ, false, IsTrue, IsErrAnd, IfOk, IfErr};
 ghost use Rattle.sqlite.specs.Held.{state};
-ghost use Rattle.plant_books.specs.Books.{WasHonest};
-ghost use Rattle.plant_books.specs.Contents.{Content, no_units};
-ghost use Rattle.plant_books.specs.Counting.{Counts, CountsFault};
-ghost use Rattle.plant_store.specs.Changes.{IsHonest};
-ghost use Rattle.plant_store.specs.Counting.{Names, SaysAgain};
-ghost use Rattle.plant_store.specs.Keeping.{Represents};
+ghost use Rattle.plant_books.specs.{Books.{WasHonest}, Contents.{Content, no_units}, Counting.{Counts, CountsFault}};
+ghost use Rattle.plant_store.specs.{Changes.{IsHonest}, Counting.{Names, SaysAgain}, Keeping.{Represents}};
+ghost use Rattle.plant_store.specs.Opened.{HasNoOffice, IsAnothers, KeepsAll, KeepsIfErr, KeepsIfOk, WasOffice};
+ghost use Rattle.plant_store.specs.{Reading.{HasNoTransaction, IsHonestIn}, Writing.{SameDatabase}};
+ghost use Rattle.plant_store.specs.declared.tables.StoreFault.TheVariants.{NotThisStore};
 ghost use Rattle.plant_columns.specs.Tables.{no_schema, schema_no};
 ghost use Rattle.plant_types.specs.declared.fault.Fault.TheVariants.{Store};
-ghost use Rattle.plant_store.specs.Opened.{HasNoOffice, IsAnothers, KeepsAll, KeepsIfErr, KeepsIfOk, WasOffice};
-ghost use Rattle.plant_store.specs.Reading.{HasNoTransaction, IsHonestIn};
-ghost use Rattle.plant_store.specs.Writing.{SameDatabase};
-ghost use Rattle.plant_store.specs.declared.tables.StoreFault.TheVariants.{NotThisStore};
 
 use crate::make::make_all;
 use crate::opening::is_office_of;
@@ -103,8 +98,7 @@ pub struct Tables<S: Alter> {
 }
 
 impl<S: Alter> Model for Tables<S> {
-    ghost use Rattle.std.specs.Prelude.{ℕ, List};
-    ghost use Rattle.std.specs.Coded.{coded×, coded_ℕ, coded_list};
+    ghost use Rattle.std.specs.{Coded.{coded×, coded_ℕ, coded_list}, Prelude.{ℕ, List}};
     ghost use Rattle.sqlite.specs.Held.{Held, held_code};
     ghost use Rattle.plant_store.specs.Reading.{HasNoTransaction};
 

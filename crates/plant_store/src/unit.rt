@@ -1,10 +1,8 @@
 //! The rows of one unit: all of them, or all but its events, or its events alone.
 
-ghost use Rattle.std.specs.FinMap.{contains_key, get};
-ghost use Rattle.std.specs.Prelude.{◌≡◌};
+ghost use Rattle.std.specs.{FinMap.{contains_key, get}, Prelude.{◌≡◌}};
 ghost use Rattle.plant_books.specs.Contents.{events_in, rows_but_events as all_but_events};
-ghost use Rattle.plant_store.specs.Keeping.{has_any};
-ghost use Rattle.plant_store.specs.Reading.{HasNoTransaction, ReadsBooks, ReadsContent};
+ghost use Rattle.plant_store.specs.{Keeping.{has_any}, Reading.{HasNoTransaction, ReadsBooks, ReadsContent}};
 
 use crate::read::all_rows;
 use plant_alarm::Event;

@@ -2,8 +2,8 @@
 
 ghost use Rattle.std.specs.Prelude.{[], ◌∷◌, IsTrue};
 ghost use Rattle.plant_books.specs.Books.{WasHonest};
-ghost use Rattle.plant_model.specs.declared.rows.RowEdit.TheVariants.{Put, PutEvents, Remove};
 ghost use Rattle.plant_model.specs.declared.rows.Key.TheVariants.{Grant as GrantKey, Shelf as ShelfKey};
+ghost use Rattle.plant_model.specs.declared.rows.RowEdit.TheVariants.{Put, PutEvents, Remove};
 ghost use Rattle.plant_store.specs.Reading.{HasNoTransaction, IsHonestIn};
 ghost use Rattle.plant_store.specs.Writing.{Commits, CommitsNothing, CrashLoses, IsOpenIfOk, RunsCounting, RunsStatement, SameOnErr, SameReference, StaysOpen, Updates, Writes, WritesOpen};
 

@@ -1,8 +1,6 @@
 -- Moments computed by their definition.
-use Rattle.std.proofs.Common.{◌≡◌, refl, Some, None}
-use Rattle.std.specs.Prelude.{codes}
-use Rattle.plant_types.specs.Moment.{moment_of}
-use Rattle.plant_types.proofs.public.Days.{day_count-2000, day_count-2099}
+use Rattle.std.proofs.Common.{◌≡◌, refl, Some, None, codes}
+use Rattle.plant_types.{specs.Moment.{moment_of}, proofs.public.Days.{day_count-2000, day_count-2099}}
 
 pub no_such_day : moment_of (codes "2026-02-29T00:00:00Z") ≡ None
 unfolding moment_of

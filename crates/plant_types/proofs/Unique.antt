@@ -1,16 +1,11 @@
 -- A moment has one text: two texts that are read as one moment are the same.
-use Rattle.std.proofs.Common.{◌≡◌, ℕ, ◌+◌, ◌*◌, ◌/◌, ◌%◌, ◌≤◌, ◌<◌, ◌⊎◌, inl, inr, refl, sym, ap, ◌∙◌, arith, Bool, true, false, Some, None, cond, List, [], ◌∷◌, length, pos, subst}
-use Rattle.std.proofs.lemmas.Bool.{leb-true, eqb-true, cases_lt}
-use Rattle.std.proofs.lemmas.Int.{ints}
-use Rattle.jiff_core.specs.Calendar.{day_count, IsCivilDate}
-use Rattle.jiff_core.proofs.CalendarLemmas.{day_count-lt_year, day_count-lt_month, day_count-day}
-use Rattle.std.specs.Prelude.{◌==◌}
-use Rattle.std.specs.List.{list_all, zip}
-use Rattle.plant_types.specs.Text.{is_digit}
+use Rattle.std.specs.List.{list_all}
+use Rattle.std.proofs.Common.{◌≡◌, ℕ, ◌+◌, ◌*◌, ◌/◌, ◌%◌, ◌≤◌, ◌<◌, ◌⊎◌, inl, inr, refl, sym, ap, ◌∙◌, arith, Bool, true, false, Some, None, cond, List, [], ◌∷◌, length, pos, subst, ◌==◌, zip}
+use Rattle.std.proofs.lemmas.{Bool.{leb-true, eqb-true, cases_lt}, Int.{ints}}
+use Rattle.jiff_core.{specs.Calendar.{day_count, IsCivilDate}, proofs.CalendarLemmas.{day_count-lt_year, day_count-lt_month, day_count-day}}
 use Rattle.plant_types.specs.Moment.{decimal_value, form, fits_at, has_form, Civil, civil_of, is_civil, is_date, days_since_2000, seconds_since_2000, moment_of}
-use Rattle.plant_types.specs.Spelling.{digit, spelled}
-use Rattle.plant_types.proofs.public.DateTests.{left, right, date_is, IsTime, time_is}
-use Rattle.plant_types.proofs.public.Days.{day_count-2000, since-2000}
+use Rattle.plant_types.{specs.{Spelling.{digit, spelled}, Text.{is_digit}}, proofs.public.DateTests.{date_is, IsTime, time_is}}
+use Rattle.plant_types.proofs.public.{Days.{day_count-2000, since-2000}, Halves.{left, right}}
 
 -- what a digit is
 low_digit : (b : ℕ) → is_digit b ≡ true → 48 ≤ b

@@ -1,5 +1,6 @@
 pub mod KeyedRowLaws
 pub mod Orders
+pub mod Halves
 pub mod DateTests
 pub mod Days
 pub mod Round

@@ -1,12 +1,8 @@
 -- Names that are the same feed a hasher alike.
-use Rattle.std.proofs.Common.{ap}
-use Rattle.std.specs.FinMap.{nat_cmp-IsAntisymmetric, slice_cmp-IsAntisymmetric}
-use Rattle.std.specs.Hash as fed
-use Rattle.std.specs.Ordering.{is_eq}
-use Rattle.std.specs.Prelude.{refl, true, ◌≡◌}
-use Rattle.std.specs.declared.cmp.Ordering.{Ordering}
-use Rattle.std.specs.declared.cmp.Ordering.TheVariants.{Equal, Greater, Less}
+use Rattle.std.specs.{FinMap.{nat_cmp-IsAntisymmetric, slice_cmp-IsAntisymmetric}, Ordering.{is_eq}, Prelude.{refl, true, ◌≡◌}}
+use Rattle.std.{specs.declared.cmp.Ordering.{Ordering, TheVariants.{Equal, Greater, Less}}, proofs.Common.{ap}}
 use Rattle.plant_types.specs.Names.{Name, name_cmp, same_name}
+use Rattle.std.specs.Hash as fed
 
 equal_if : (o : Ordering) → is_eq o ≡ true → o ≡ Equal
 equal_if Less h = cc

@@ -1,7 +1,6 @@
 -- What a function gives that may answer a fault.
-use Rattle.plant_types.specs.declared.fault.Fault.{Fault}
-use Rattle.plant_types.specs.declared.fault.Fault.TheVariants.{Memory}
 use Rattle.std.specs.Prelude.{IfErr, IfOk, Result, ◌≡◌}
+use Rattle.plant_types.specs.declared.fault.Fault.{Fault, TheVariants.{Memory}}
 
 -- if it succeeds, it gives this
 abbrev pub Gives : {A E : Type 0} → Result A E → A → Type 0

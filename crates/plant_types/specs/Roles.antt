@@ -1,10 +1,7 @@
 -- Roles, by their numbers, and pairs of a person and a role.
-use Rattle.std.specs.Ordering.{eq_by_cmp, nat_cmp, ordering_then}
-use Rattle.std.specs.Prelude.{Bool, List, [], ℕ, ◌∷◌}
-use Rattle.std.specs.declared.cmp.Ordering.{Ordering}
-use Rattle.plant_types.specs.declared.role.Role.{Role}
+use Rattle.std.specs.{Ordering.{eq_by_cmp, nat_cmp, ordering_then}, Prelude.{Bool, List, [], ℕ, ◌∷◌}, declared.cmp.Ordering.{Ordering}}
+use Rattle.plant_types.specs.{Names.{Name, name_cmp}, declared.role.Role.{Role}}
 use Rattle.plant_types.specs.declared.role.Role.TheVariants.{Approver, Engineer, Maintainer, Operator, Steward, Viewer}
-use Rattle.plant_types.specs.Names.{Name, name_cmp}
 
 -- the number of a role
 abbrev pub role_no : Role → ℕ

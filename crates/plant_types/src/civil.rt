@@ -1,12 +1,9 @@
 //! The calendar and the clock behind the texts of moments.
 
-ghost use Rattle.std.specs.Prelude.{◌≡◌, ◌≤◌, ◌<◌, ◌+◌, ◌*◌, true, IfSome, length};
-ghost use Rattle.std.specs.List.{list_all, zip};
-ghost use Rattle.plant_types.specs.Numbers.{number_if};
+ghost use Rattle.std.specs.{List.{list_all}, Prelude.{◌≡◌, ◌≤◌, ◌<◌, ◌+◌, ◌*◌, true, IfSome, length, zip}};
+ghost use Rattle.plant_types.specs.{Moment.{fits_at, decimal_value, is_date, is_time, days_since_2000}, Numbers.{number_if}, Spelling.{spelled}};
 ghost use Rattle.plant_types.specs.Spelling as spelling;
-ghost use Rattle.plant_types.specs.Spelling.{spelled};
 ghost use Rattle.plant_types.specs.Moment as moment;
-ghost use Rattle.plant_types.specs.Moment.{fits_at, decimal_value, is_date, is_time, days_since_2000};
 
 use jiff::civil::Date;
 

@@ -1,6 +1,5 @@
 ghost use Rattle.std.specs.Prelude.{◌≡◌, if◌then◌else◌, Some, None};
-ghost use Rattle.plant_types.specs.Tenure.{is_tenure};
-ghost use Rattle.plant_types.specs.Roles.{role_no, same_role};
+ghost use Rattle.plant_types.specs.{Roles.{role_no, same_role}, Tenure.{is_tenure}};
 
 use crate::Moment;
 use std::marker::Model;
@@ -55,8 +54,7 @@ pub struct Tenure {
 
 impl Model for Tenure {
     ghost use Rattle.std.specs.Prelude.{ℕ, Option, IsTrue};
-    ghost use Rattle.plant_types.specs.declared.role.Role.{Role};
-    ghost use Rattle.plant_types.specs.Tenure.{is_tenure};
+    ghost use Rattle.plant_types.specs.{Tenure.{is_tenure}, declared.role.Role.{Role}};
 
     ghost Value = { Role × Option ℕ };
 

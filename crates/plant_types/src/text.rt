@@ -1,14 +1,9 @@
-ghost use Rattle.std.specs.Prelude.{Ok, Some, None, refl};
-ghost use Rattle.std.specs.Cmp.Lexicographic.{slice_cmp, nat_list_cmp_total};
-ghost use Rattle.plant_types.specs.Names.{same_name};
-ghost use Rattle.std.specs.Ordering.{nat_cmp};
+ghost use Rattle.std.specs.{Cmp.Lexicographic.{slice_cmp, nat_list_cmp_total}, List.{list_all}, Ordering.{nat_cmp}};
+ghost use Rattle.std.specs.Prelude.{Ok, Some, None, refl, ◌≡◌, ℕ, Bool, IfOk, IsTrue};
+ghost use Rattle.plant_types.specs.{Names.{same_name}, Results.{OnlyMemory}, Text.{is_text, text_of}};
 ghost use Rattle.std.specs.Cmp;
 ghost use Rattle.std.specs.Hash as fed;
-ghost use Rattle.std.specs.Prelude.{◌≡◌, ℕ, Bool, IfOk, IsTrue};
-ghost use Rattle.std.specs.List.{list_all};
-ghost use Rattle.plant_types.specs.Results.{OnlyMemory};
 ghost use Rattle.plant_types.specs.Text as text;
-ghost use Rattle.plant_types.specs.Text.{is_text, text_of};
 
 use crate::Fault;
 use smallvec::SmallVec;

@@ -1,30 +1,21 @@
 -- The summaries of alarms in the order of their tags, with one more event.
-use Rattle.std.proofs.Common.{ap, arith, cond, get_or, refl, set, subst, sym, ◌∙◌}
-use Rattle.std.specs.Ordering.{is_eq, is_lt}
-use Rattle.std.specs.Prelude.{List, None, Option, Some, [], false, length, option_map, slice_get, suc, true, zero, ℕ, ◌++◌, ◌<◌, ◌∷◌, ◌≡◌}
-use Rattle.std.specs.declared.cmp.Ordering.TheVariants.{Less}
-use Rattle.plant_alarm.specs.States.{summary}
-use Rattle.plant_alarm.specs.declared.event.Event.{Event}
-use Rattle.plant_alarm.specs.declared.summary.Summary.{Summary}
+use Rattle.std.proofs.Common.{ap, arith, cond, get_or, refl, set, subst, sym, ◌∙◌, is_eq, is_lt, List, None, Option, Some, [], false, length, option_map, slice_get, suc, true, zero, ℕ, ◌++◌, ◌<◌, ◌∷◌, ◌≡◌, Less}
+use Rattle.plant_alarm.specs.{States.{summary}, declared.{event.Event.{Event}, summary.Summary.{Summary}}}
 use Rattle.plant_floods.specs.Activations.{of_alarm}
-use Rattle.plant_model.specs.RowChanges.{with_state}
-use Rattle.plant_model.specs.RowFacts.{alarm_tag}
-use Rattle.plant_model.specs.declared.rows.AlarmRow.{AlarmRow}
-use Rattle.plant_types.proofs.public.Orders.{same_names}
-use Rattle.plant_types.proofs.public.KeyedRowLaws.{tied}
-use Rattle.plant_types.specs.Names.{Name, name_cmp, same_name}
-use Rattle.plant_types.specs.KeyedRows.{IsInOrder}
+use Rattle.plant_model.specs.{RowChanges.{with_state}, RowFacts.{alarm_tag}, declared.rows.AlarmRow.{AlarmRow}}
 use Rattle.plant_model.proofs.public.RowsFound.{After as TagsAfter, Ordered as TagsOrdered, Parts as TagsParts, after_more, greater, later, lesser, ordered, turned, back}
+use Rattle.plant_types.{specs.{KeyedRows.{IsInOrder}, Names.{Name, name_cmp, same_name}}, proofs.public.KeyedRowLaws.{tied}}
+use Rattle.plant_types.proofs.public.Orders.{same_names, name_total}
 use Rattle.plant_unit.specs.Summaries.{summaries, summary_of, with_summary}
 
 abbrev After : Name → List AlarmRow → Type 0
-After = TagsAfter alarm_tag
+After = TagsAfter name_cmp alarm_tag
 
 abbrev pub Ordered : List AlarmRow → Type 0
-Ordered = TagsOrdered alarm_tag
+Ordered = TagsOrdered name_cmp alarm_tag
 
 abbrev pub Parts : Name → List AlarmRow → ℕ → Type 0
-Parts = TagsParts alarm_tag
+Parts = TagsParts name_cmp alarm_tag
 
 -- the events of an alarm, with one more
 of_alarm-append : (a : Name) (xs ys : List Event) → of_alarm a (xs ++ ys) ≡ of_alarm a xs ++ of_alarm a ys
@@ -49,7 +40,7 @@ module _ (es : List Event) (e : Event) where
   -- alarms after its tag keep their summaries
   all_after : (rows : List AlarmRow) → After e.tag rows → summaries rows (es ++ e ∷ []) ≡ summaries rows es
   all_after [] h = refl
-  all_after (r ∷ rows) h = λ i. others es e r (ap is_eq (turned e.tag r.tag h.0)) i ∷ all_after rows h.1 i
+  all_after (r ∷ rows) h = λ i. others es e r (ap is_eq (turned name_total e.tag r.tag h.0)) i ∷ all_after rows h.1 i
 
   -- the alarm of its tag stands at the place
   pub set_own : (rows : List AlarmRow) (p : ℕ) (r : AlarmRow) → Ordered rows → Parts e.tag rows p → Some r ≡ slice_get rows p → same_name r.tag e.tag ≡ true
@@ -63,7 +54,7 @@ module _ (es : List Event) (e : Event) where
       λ i. here i ∷ rest i
   set_own (x ∷ rows) (suc p) r order h is t =
       let here : summary_of es x ≡ summary_of (es ++ e ∷ []) x = sym (others es e x (before_it x (h.0 0 x (omega arith) (omega arith)))) in
-      let rest = set_own rows p r order.1 (later alarm_tag e.tag x rows p h) is t in
+      let rest = set_own rows p r order.1 (later name_cmp alarm_tag e.tag x rows p h) is t in
       λ i. here i ∷ rest i
 
   -- no alarm has its tag
@@ -71,11 +62,11 @@ module _ (es : List Event) (e : Event) where
   none_own [] p order h away = refl
   none_own (x ∷ rows) zero order h away =
       let other : same_name x.tag e.tag ≡ false = away x refl in
-      let below : name_cmp e.tag x.tag ≡ Less = back x.tag e.tag (greater (name_cmp x.tag e.tag) (h.1 0 x (omega arith) (omega arith)) other) in
-      λ i. sym (others es e x other) i ∷ sym (all_after rows (after_more alarm_tag e.tag x.tag rows below order.0)) i
+      let below : name_cmp e.tag x.tag ≡ Less = back name_total x.tag e.tag (greater (name_cmp x.tag e.tag) (h.1 0 x (omega arith) (omega arith)) other) in
+      λ i. sym (others es e x other) i ∷ sym (all_after rows (after_more name_cmp alarm_tag name_total e.tag x.tag rows below order.0)) i
   none_own (x ∷ rows) (suc p) order h away =
       let here : summary_of es x ≡ summary_of (es ++ e ∷ []) x = sym (others es e x (before_it x (h.0 0 x (omega arith) (omega arith)))) in
-      let rest = none_own rows p order.1 (later alarm_tag e.tag x rows p h) away in
+      let rest = none_own rows p order.1 (later name_cmp alarm_tag e.tag x rows p h) away in
       λ i. here i ∷ rest i
 
 pub summary_at : (es : List Event) (rows : List AlarmRow) (p : ℕ) (r : AlarmRow) → Some r ≡ slice_get rows p → slice_get (summaries rows es) p ≡ Some (summary_of es r)
@@ -104,12 +95,12 @@ pub added_own : (alarms : List AlarmRow) (es : List Event) (e : Event) (old new 
     → ((fs : List Event) → slice_get old p ≡ Some (summary r.latching fs) → new ≡ set old p (summary r.latching (fs ++ e ∷ []))) → new ≡ summaries alarms (es ++ e ∷ [])
 added_own alarms es e old new p r order parts is t so adds =
     adds (of_alarm r.tag es) (ap (λ l. slice_get l p) so ∙ summary_at es alarms p r is)
-    ∙ ap (λ l. set l p (summary r.latching (of_alarm r.tag es ++ e ∷ []))) so ∙ set_own es e alarms p r (ordered alarm_tag alarms order) (parts order) is t
+    ∙ ap (λ l. set l p (summary r.latching (of_alarm r.tag es ++ e ∷ []))) so ∙ set_own es e alarms p r (ordered name_cmp alarm_tag alarms order) (parts order) is t
 
 pub added_other : (alarms : List AlarmRow) (es : List Event) (e : Event) (old : List Summary) (p : ℕ) (r : AlarmRow) → IsInOrder name_cmp alarm_tag alarms → (IsInOrder name_cmp alarm_tag alarms → Parts e.tag alarms p)
     → Some r ≡ slice_get alarms p → same_name r.tag e.tag ≡ false → old ≡ summaries alarms es → old ≡ summaries alarms (es ++ e ∷ [])
 added_other alarms es e old p r order parts is f so =
-    so ∙ none_own es e alarms p (ordered alarm_tag alarms order) (parts order) (λ x there. let same : x ≡ r = some_same x r (there ∙ sym is) in ap (λ (y : AlarmRow). same_name y.tag e.tag) same ∙ f)
+    so ∙ none_own es e alarms p (ordered name_cmp alarm_tag alarms order) (parts order) (λ x there. let same : x ≡ r = some_same x r (there ∙ sym is) in ap (λ (y : AlarmRow). same_name y.tag e.tag) same ∙ f)
   where
     some_same : (x y : AlarmRow) → Some x ≡ Some y → x ≡ y
     some_same x y e = cc
@@ -117,7 +108,7 @@ added_other alarms es e old p r order parts is f so =
 pub added_none : (alarms : List AlarmRow) (es : List Event) (e : Event) (old : List Summary) (p : ℕ) → IsInOrder name_cmp alarm_tag alarms → (IsInOrder name_cmp alarm_tag alarms → Parts e.tag alarms p)
     → None ≡ slice_get alarms p → old ≡ summaries alarms es → old ≡ summaries alarms (es ++ e ∷ [])
 added_none alarms es e old p order parts is so =
-    so ∙ none_own es e alarms p (ordered alarm_tag alarms order) (parts order) (λ x there. absurd (none_some x (is ∙ sym there)))
+    so ∙ none_own es e alarms p (ordered name_cmp alarm_tag alarms order) (parts order) (λ x there. absurd (none_some x (is ∙ sym there)))
   where
     none_some : (x : AlarmRow) → None ≡ Some x → ⊥
     none_some x e = cc

@@ -1,38 +1,16 @@
 -- Calls on changes: what a decision makes.
-use Rattle.plant_model.specs.Calls.{changes_for, own_refusals}
-use Rattle.std.proofs.Common.{ap, refl, subst, sym, ◌∙◌}
-use Rattle.std.specs.Prelude.{Bool, Err, IfOk, List, None, Ok, Option, Result, Some, [], false, if◌then◌else◌, is_ok, option_map, true, ℕ, ◌&&◌, ◌∷◌, ◌≡◌}
-use Rattle.plant_model.specs.Facts.{Facts}
-use Rattle.plant_model.specs.Refusals.{first_refusal, kind_refusals, of_change}
+use Rattle.std.proofs.Common.{ap, refl, subst, sym, ◌∙◌, Bool, Err, IfOk, List, None, Ok, Option, Result, Some, [], false, if◌then◌else◌, is_ok, option_map, true, ℕ, ◌&&◌, ◌∷◌, ◌≡◌, nat_cmp}
+use Rattle.plant_model.specs.{Calls.{changes_for, own_refusals}, Facts.{Facts}, Refusals.{first_refusal, kind_refusals, of_change}}
 use Rattle.plant_model.specs.RowChanges.{approval_changes, approved_row, decision_change, for_change, in_force, kind_row}
-use Rattle.plant_model.specs.RowFacts.{change_found, change_number, change_read}
-use Rattle.plant_model.specs.Rows.{change_entry}
-use Rattle.plant_model.specs.Verdicts.{refused_or}
-use Rattle.plant_model.specs.declared.call.Call.{Call}
-use Rattle.plant_model.specs.declared.call.Request.TheVariants.{Approve}
-use Rattle.plant_model.specs.declared.call.Request.{Request}
-use Rattle.plant_model.specs.declared.reply.ChangeRow.{ChangeRow}
-use Rattle.plant_model.specs.declared.reply.Refused.TheVariants.{SamePerson}
-use Rattle.plant_model.specs.declared.reply.Refused.{Refused}
-use Rattle.plant_model.specs.declared.reply.Reply.TheVariants.{Done}
-use Rattle.plant_model.specs.declared.reply.Reply.{Reply}
-use Rattle.plant_model.specs.declared.rows.RowEdit.TheVariants.{Put}
-use Rattle.plant_model.specs.declared.rows.RowEdit.{RowEdit}
-use Rattle.plant_model.specs.declared.rows.ChangeEntry.{ChangeEntry}
-use Rattle.plant_model.specs.declared.rows.Row.TheVariants.{Change as ChangePut, Unit as UnitPut}
-use Rattle.plant_model.specs.declared.rows.UnitPart.{UnitPart}
-use Rattle.plant_model.specs.declared.rows.UnitRows.{UnitRows}
-use Rattle.plant_model.specs.declared.rows.Verdict.{Verdict}
-use Rattle.plant_ration.specs.declared.change.ChangeState.TheVariants.{Approved}
-use Rattle.plant_ration.specs.declared.change.ChangeState.{ChangeState}
-use Rattle.plant_types.specs.Names.{Name, same_name}
-use Rattle.plant_types.specs.Options.{when}
-use Rattle.plant_types.specs.KeyedRows.{row_at}
-use Rattle.plant_unit.proofs.ProposalLaws.{not_rejected}
-use Rattle.plant_unit.specs.Additions.{AreKept}
-use Rattle.plant_unit.specs.Readings.{change_whole, has_kind}
-use Rattle.std.specs.Ordering.{nat_cmp}
-use Rattle.plant_unit.specs.Judged.{IsApproved, IsJudgedOwn, decided_or, decided_row, own_answer}
+use Rattle.plant_model.specs.{RowFacts.{change_found, change_number, change_read}, Rows.{change_entry}, Verdicts.{refused_or}}
+use Rattle.plant_model.specs.declared.{call.{Call.{Call}, Request.{Request, TheVariants.{Approve}}}, reply.{ChangeRow.{ChangeRow}, Refused.{Refused}}}
+use Rattle.plant_model.specs.declared.{reply.{Refused.TheVariants.{SamePerson}, Reply.{Reply, TheVariants.{Done}}}, rows.ChangeEntry.{ChangeEntry}}
+use Rattle.plant_model.specs.declared.rows.{Row.TheVariants.{Change as ChangePut, Unit as UnitPut}, RowEdit.{RowEdit, TheVariants.{Put}}}
+use Rattle.plant_model.{specs.declared.rows.{UnitPart.{UnitPart}, UnitRows.{UnitRows}, Verdict.{Verdict}}, proofs.public.HistoryLaws.{when_Some}}
+use Rattle.plant_ration.specs.declared.change.ChangeState.{ChangeState, TheVariants.{Approved}}
+use Rattle.plant_types.specs.{KeyedRows.{row_at}, Names.{Name, same_name}}
+use Rattle.plant_unit.specs.{Additions.{AreKept}, Judged.{IsApproved, IsJudgedOwn, decided_or, decided_row, own_answer}}
+use Rattle.plant_unit.{specs.Readings.{change_whole, has_kind}, proofs.ProposalLaws.{not_rejected}}
 
 -- the row of a change that was found, and the change that is read from it
 pub found_there : (rows : UnitRows) (n : ℕ) (changes : List ChangeEntry) (found : Option ChangeEntry) (e : ChangeEntry) → found ≡ Some e → found ≡ row_at nat_cmp change_number n changes → changes ≡ rows.changes → Some e ≡ change_found rows n
@@ -41,13 +19,9 @@ found_there rows n changes found e is at same = sym is ∙ at ∙ ap (row_at nat
 pub change_there : (rows : UnitRows) (n : ℕ) (e : ChangeEntry) → Some e ≡ change_found rows n → Some (change_read rows e) ≡ option_map (change_read rows) (change_found rows n)
 change_there rows n e found = ap (option_map (change_read rows)) found
 
-when_true : {A : Type 0} (b : Bool) (x y : A) → b ≡ true → Some x ≡ when b y → x ≡ y
-when_true true x y e is = cc
-when_true false x y e is = cc
-
 -- in a legal history all of a change is there
 pub whole_read : {part : UnitPart} (n : ℕ) (e : ChangeEntry) (c : ChangeRow) → AreKept part → Some e ≡ change_found part.rows n → Some c ≡ change_whole part.rows e → c ≡ change_read part.rows e
-whole_read {part} n e c kept found is = when_true (has_kind part.rows e e.kind_no) c (change_read part.rows e) (kept.changes_whole n e (sym found)) is
+whole_read {part} n e c kept found is = sym (when_Some (has_kind part.rows e e.kind_no) (change_read part.rows e) c (sym is))
 
 -- a decision on a change that is there
 pub refused_change : (o : Option ChangeRow) (c : ChangeRow) → Some c ≡ o → (k : ChangeRow → List (Bool × Refused)) (made : ChangeRow → List RowEdit) (x : Refused) → Some x ≡ first_refusal (of_change (Some c) k)

@@ -1,15 +1,9 @@
 -- The lines of floods.
-use Rattle.std.proofs.Common.{ap, arith, get_or, subst, sym, take, ◌∙◌}
-use Rattle.std.proofs.lemmas.Bool.{lt-ltb, ltb-true}
-use Rattle.std.proofs.lemmas.List.{map-append, take_more}
-use Rattle.std.specs.Prelude.{All, IfOk, IsTrue, List, Ok, Result, Err, [], length, map, ℕ, ◌*◌, ◌++◌, ◌+◌, ◌<◌, ◌∷◌, ◌≡◌, ◌≤◌}
+use Rattle.std.proofs.Common.{ap, arith, get_or, subst, sym, take, ◌∙◌, All, IfOk, IsTrue, List, Ok, Result, Err, [], length, map, ℕ, ◌*◌, ◌++◌, ◌+◌, ◌<◌, ◌∷◌, ◌≡◌, ◌≤◌}
+use Rattle.std.proofs.lemmas.{Bool.{lt-ltb, ltb-true}, List.{map-append, take_more}}
 use Rattle.plant_alarm.specs.declared.event.Event.{Event}
-use Rattle.plant_floods.proofs.public.Inside.{ends_within, run_at}
-use Rattle.plant_floods.specs.Activations.{period_counts}
-use Rattle.plant_floods.specs.Floods.{floods}
-use Rattle.plant_floods.specs.declared.run.Run.{Run}
-use Rattle.plant_model.specs.Events.{flood_line, flood_lines}
-use Rattle.plant_model.specs.declared.reply.FloodLine.{FloodLine}
+use Rattle.plant_floods.{specs.{Activations.{period_counts}, Floods.{floods}, declared.run.Run.{Run}}, proofs.public.Inside.{ends_within, run_at}}
+use Rattle.plant_model.specs.{Events.{flood_line, flood_lines}, declared.reply.FloodLine.{FloodLine}}
 use Rattle.plant_types.specs.Moment.{is_moment}
 use Rattle.plant_unit.specs.Floods.{EndsBy}
 

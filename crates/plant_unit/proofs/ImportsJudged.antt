@@ -1,39 +1,20 @@
 -- The judgement of an import.
-use Rattle.plant_model.specs.Calls.{changes_for, own_refusals, reply, unit_after}
-use Rattle.plant_types.specs.Limits.{max_events}
-use Rattle.std.proofs.Common.{ap, append_assoc, arith, refl, subst, sym, ◌∙◌}
+use Rattle.std.proofs.Common.{ap, append_assoc, arith, refl, subst, sym, ◌∙◌, Bool, Err, IfOk, List, None, Ok, Option, Result, Some, [], false, if◌then◌else◌, length, nat_lt, not, true, ℕ, ◌++◌, ◌+◌, ◌∷◌, ◌≡◌, ◌≤◌}
 use Rattle.std.proofs.lemmas.Bool.{ltb-false}
-use Rattle.std.specs.Prelude.{Bool, Err, IfOk, List, None, Ok, Option, Result, Some, [], false, if◌then◌else◌, length, nat_lt, not, true, ℕ, ◌++◌, ◌+◌, ◌∷◌, ◌≡◌, ◌≤◌}
+use Rattle.plant_model.specs.{Calls.{changes_for, own_refusals, reply, unit_after}, Facts.{Facts}, Kinds.{role_needed}}
+use Rattle.plant_model.specs.{Refusals.{fault_entries, file_refusals, first_refusal, holds_some, lacks_role, tags_of}, RowChanges.{import_changes}}
+use Rattle.plant_model.specs.{Verdicts.{changes_history, refusals, refused_or, verdict_of}, declared.call.{Call.{Call}, Request.{Request}}}
+use Rattle.plant_model.specs.declared.{call.Request.TheVariants.{Import}, reply.{Full.TheVariants.{Events as TooManyEvents}, Refused.{Refused}}}
+use Rattle.plant_model.specs.declared.reply.{Refused.TheVariants.{BadFile as FileRefused, MomentBehind, NotGranted, UnitFull}, Reply.{Reply}}
+use Rattle.plant_model.specs.declared.{reply.Reply.TheVariants.{Imported}, rows.{Row.TheVariants.{Unit as UnitPut}, RowEdit.{RowEdit}}}
+use Rattle.plant_model.specs.declared.rows.{RowEdit.TheVariants.{Put}, Verdict.{Verdict, TheVariants.{Accepted as IsAccepted, Refused as IsRefused}}}
+use Rattle.plant_types.specs.{Limits.{max_events}, Names.{Name}, Options.{or_else}}
 use Rattle.plant_alarm.specs.declared.event.Event.{Event}
-use Rattle.plant_import.proofs.public.Counted.{fresh_count}
-use Rattle.plant_import.specs.Merging.{IsRising, first_fault, fresh, merge, merged_or}
+use Rattle.plant_import.specs.{Merging.{IsRising, first_fault, fresh, merge, merged_or}, Needed.{needed}, Numbers.{new_numbers}}
+use Rattle.plant_import.{specs.declared.{bad_file.BadFile.{BadFile}, merging.Merged.{Merged}}, proofs.public.Counted.{fresh_count}}
 use Rattle.plant_import.proofs.public.NeededLaws.{needed_merge, needed_numbers, needed_rises}
-use Rattle.plant_import.specs.Needed.{needed}
-use Rattle.plant_import.specs.Numbers.{new_numbers}
-use Rattle.plant_import.specs.declared.bad_file.BadFile.{BadFile}
-use Rattle.plant_import.specs.declared.merging.Merged.{Merged}
-use Rattle.plant_model.specs.Facts.{Facts}
-use Rattle.plant_model.specs.Kinds.{role_needed}
-use Rattle.plant_model.specs.Refusals.{fault_entries, file_refusals, first_refusal, holds_some, lacks_role, tags_of}
-use Rattle.plant_model.specs.RowChanges.{import_changes}
-use Rattle.plant_model.specs.Verdicts.{changes_history, is_read, refusals, refused_or, verdict_of}
-use Rattle.plant_model.specs.declared.call.Call.{Call}
-use Rattle.plant_model.specs.declared.call.Request.TheVariants.{Import}
-use Rattle.plant_model.specs.declared.call.Request.{Request}
-use Rattle.plant_model.specs.declared.reply.Full.TheVariants.{Events as TooManyEvents}
-use Rattle.plant_model.specs.declared.reply.Refused.TheVariants.{BadFile as FileRefused, MomentBehind, NotGranted, UnitFull}
-use Rattle.plant_model.specs.declared.reply.Refused.{Refused}
-use Rattle.plant_model.specs.declared.reply.Reply.TheVariants.{Imported}
-use Rattle.plant_model.specs.declared.reply.Reply.{Reply}
-use Rattle.plant_model.specs.declared.rows.RowEdit.TheVariants.{Put}
-use Rattle.plant_model.specs.declared.rows.RowEdit.{RowEdit}
-use Rattle.plant_model.specs.declared.rows.Row.TheVariants.{Unit as UnitPut}
-use Rattle.plant_model.specs.declared.rows.Verdict.TheVariants.{Accepted as IsAccepted, Refused as IsRefused}
-use Rattle.plant_model.specs.declared.rows.Verdict.{Verdict}
-use Rattle.plant_types.specs.Names.{Name}
-use Rattle.plant_types.specs.Options.{or_else}
-use Rattle.plant_unit.specs.Additions.{AreAdded, addition, addition_or, rows_added}
-use Rattle.plant_unit.specs.Judged.{IsJudged, IsJudgedOwn, holder_refusals}
+use Rattle.plant_unit.specs.{Additions.{AreAdded, addition, addition_or, rows_added}, Judged.{IsJudged, IsJudgedOwn, holder_refusals}}
+use Rattle.plant_unit.proofs.VerdictLaws.{refused_own, made_own}
 
 -- the refusals of a call: those of its caller, and then its own
 first_of : (xs ys : List (Bool × Refused)) → first_refusal (xs ++ ys) ≡ or_else (first_refusal xs) (first_refusal ys)
@@ -59,24 +40,6 @@ pub own_judged : (f : Facts) (c : Call) (v : Verdict) → first_refusal (holder_
 own_judged f c v none j =
     let verdict : refused_or (first_refusal (own_refusals f c.person c.moment c.request)) (reply f c.moment c.request) ≡ verdict_of f c = sym (ap (λ o. refused_or o (reply f c.moment c.request)) (all_refusals f c ∙ ap (λ o. or_else o (first_refusal (own_refusals f c.person c.moment c.request))) none)) in
     record { answer = j.answer ∙ verdict; changes = j.changes ∙ ap (λ v. if changes_history v c then changes_for f c else []) verdict }
-
-pub own_refused : (f : Facts) (c : Call) (r : Refused) → first_refusal (own_refusals f c.person c.moment c.request) ≡ Some r → IsJudgedOwn f c (IsRefused r)
-own_refused f c r is =
-    record {
-      answer = sym (ap (λ o. refused_or o (reply f c.moment c.request)) is);
-      changes = sym (ap (λ o. if changes_history (refused_or o (reply f c.moment c.request)) c then changes_for f c else []) is);
-    }
-
-if_not : {A : Type 0} (b : Bool) (x y : A) → (if not b then x else y) ≡ (if b then y else x)
-if_not true x y = refl
-if_not false x y = refl
-
-pub own_accepted : (f : Facts) (c : Call) (r : Reply) (cs : List RowEdit) → first_refusal (own_refusals f c.person c.moment c.request) ≡ None → r ≡ reply f c.moment c.request → cs ≡ (if is_read c.request then [] else changes_for f c) → IsJudgedOwn f c (IsAccepted r cs)
-own_accepted f c r cs none er ec =
-    record {
-      answer = ap Ok er ∙ sym (ap (λ o. refused_or o (reply f c.moment c.request)) none);
-      changes = ec ∙ sym (if_not (is_read c.request) (changes_for f c) []) ∙ sym (ap (λ o. if changes_history (refused_or o (reply f c.moment c.request)) c then changes_for f c else []) none);
-    }
 
 -- what a file adds
 abbrev refused_by : Result Merged BadFile → Result Merged Refused
@@ -130,7 +93,7 @@ asked : (c : Call) (q : Request) → c.request ≡ q → record { person = c.per
 asked c q e = λ i. record { person = c.person; moment = c.moment; request = sym e i }
 
 pub import_refused : (f : Facts) (c : Call) (u : Name) (rows : List Event) (r : Refused) → c.request ≡ Import u (Ok rows) → Err r ≡ addition f c.moment rows → IsJudgedOwn f c (IsRefused r)
-import_refused f c u rows r e is = own_refused f c r (ap (λ q. first_refusal (own_refusals f c.person c.moment q)) e ∙ not_added f c.moment rows r (sym is))
+import_refused f c u rows r e is = refused_own f c r (ap (λ q. first_refusal (own_refusals f c.person c.moment q)) e ∙ not_added f c.moment rows r (sym is))
 
 pub import_fresh : (f : Facts) (t : ℕ) (rows : List Event) (m : Merged) → Ok m ≡ addition f t rows → m.fresh ≡ fresh f.events rows
 import_fresh f t rows m is = ap (λ (x : Merged). x.fresh) ((adds f t rows m (sym is)).is)
@@ -142,7 +105,7 @@ import_judged f c u rows m r cs e is er ec =
     let few : length m.fresh ≤ 4294967295 = subst (λ (x : Merged). length x.fresh ≤ 4294967295) (sym so.is) (let n = so.few in omega (arith, n)) in
     let q : Request = Import u (Ok rows) in
     subst (λ (x : Call). IsJudgedOwn f x (IsAccepted r cs)) (asked c q e)
-    (own_accepted f (record { person = c.person; moment = c.moment; request = q }) r cs so.none (er few ∙ ap (λ (x : Merged). Imported (length x.fresh) x.repeated) so.is) ec)
+    (made_own f (record { person = c.person; moment = c.moment; request = q }) r cs so.none (er few ∙ ap (λ (x : Merged). Imported (length x.fresh) x.repeated) so.is) refl ec)
 
 -- the rows of a file that adds some are new
 none_fault : (b : Bool) (r : Refused) (o : Option BadFile) → first_refusal ((b, r) ∷ fault_entries o) ≡ None → o ≡ None

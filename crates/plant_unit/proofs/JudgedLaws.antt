@@ -1,39 +1,21 @@
 -- From the facts of a part to the history whose rows it is of.
-use Rattle.plant_model.specs.Calls.{changes_for}
-use Rattle.std.proofs.Common.{ap, refl, subst, sym, ◌∙◌}
 use Rattle.std.specs.List.{slice_get}
-use Rattle.std.specs.Prelude.{Bool, Err, IfOk, List, None, Ok, Option, Result, Some, [], false, if◌then◌else◌, true, ℕ, ◌∷◌, ◌≡◌}
-use Rattle.plant_model.specs.declared.call.Call.{Call}
-use Rattle.plant_model.specs.declared.call.Request.TheVariants.{Floods, Import, OpenUnit}
-use Rattle.plant_model.specs.declared.call.Request.{Request}
-use Rattle.plant_model.specs.declared.reply.Refused.TheVariants.{NotGranted}
-use Rattle.plant_model.specs.declared.reply.Reply.TheVariants.{Done}
-use Rattle.plant_model.specs.declared.rows.RowEdit.{RowEdit}
-use Rattle.plant_model.specs.declared.rows.UnitPart.{UnitPart}
-use Rattle.plant_model.specs.declared.rows.Verdict.TheVariants.{Accepted as IsAccepted, Refused as IsRefused}
-use Rattle.plant_model.specs.declared.rows.Verdict.{Verdict}
-use Rattle.plant_types.specs.declared.fault.Fault.{Fault}
-use Rattle.plant_model.proofs.public.AcceptLaws.{accepted_turns}
-use Rattle.plant_model.proofs.public.ChangeLaws.{opening_turns}
-use Rattle.plant_model.proofs.public.FactLaws.{not_true}
-use Rattle.plant_model.proofs.public.ReadLaws.{facts-rows}
+use Rattle.std.proofs.Common.{ap, refl, subst, sym, ◌∙◌, Bool, Err, IfOk, List, None, Ok, Option, Result, Some, [], false, if◌then◌else◌, true, ℕ, ◌∷◌, ◌≡◌}
+use Rattle.std.proofs.lemmas.Bool.{false_from_ne_true}
+use Rattle.plant_model.specs.{Calls.{changes_for}, Events.{events}, Facts.{Facts, facts}, Legality.{IsLegal}}
+use Rattle.plant_model.specs.{Parts.{none, part_of, part_of_holder, part_of_stranger}, Refusals.{holds_some}}
+use Rattle.plant_model.specs.{RowChanges.{changed_by, no_rows, puts_unit}, RowFacts.{facts_among, facts_in, holds_by}, Rows.{rows_of, unit_row}}
+use Rattle.plant_model.specs.{Verdicts.{changes_history, is_opening, verdict, verdict_of}, declared.call.{Call.{Call}, Request.{Request}}}
+use Rattle.plant_model.specs.declared.{call.Request.TheVariants.{Floods, Import, OpenUnit}, reply.Refused.TheVariants.{NotGranted}}
+use Rattle.plant_model.specs.declared.{reply.Reply.TheVariants.{Done}, rows.{RowEdit.{RowEdit}, UnitPart.{UnitPart}, UnitRows.{UnitRows}}}
+use Rattle.plant_model.specs.declared.rows.Verdict.{Verdict, TheVariants.{Accepted as IsAccepted, Refused as IsRefused}}
+use Rattle.plant_model.proofs.public.{AcceptLaws.{accepted_turns}, ChangeLaws.{opening_turns}}
+use Rattle.plant_model.proofs.public.{PartLaws.{part_changes, part_verdict, stranger_verdict}, ReadLaws.{facts-rows}}
+use Rattle.plant_model.proofs.public.WorldLaws.{not_granted, refused_changes}
+use Rattle.plant_types.specs.{Names.{Name}, declared.fault.Fault.{Fault}}
+use Rattle.plant_unit.specs.{Additions.{AreEventsFor, AreKept}, Judged.{IsJudged, IsOpening, IsPartOf, IsVerdictOn, is_import}}
 use Rattle.plant_unit.proofs.KeptLaws.{part_events, part_kept_of}
 use Rattle.plant_alarm.specs.declared.event.Event.{Event}
-use Rattle.plant_model.specs.Events.{events}
-use Rattle.plant_model.specs.Refusals.{holds_some}
-use Rattle.plant_model.proofs.public.PartLaws.{part_changes, part_verdict, stranger_verdict}
-use Rattle.plant_model.proofs.public.WorldLaws.{not_granted, refused_changes}
-use Rattle.plant_unit.specs.Additions.{AreEventsFor, AreKept}
-use Rattle.plant_model.specs.Facts.{Facts, facts}
-use Rattle.plant_model.specs.Legality.{IsLegal}
-use Rattle.plant_model.specs.Parts.{none, part_of, part_of_holder, part_of_stranger}
-use Rattle.plant_model.specs.RowChanges.{changed_by, no_rows, puts_unit}
-use Rattle.plant_model.specs.RowFacts.{facts_among, facts_in, holds_by}
-use Rattle.plant_model.specs.declared.rows.UnitRows.{UnitRows}
-use Rattle.plant_model.specs.Rows.{rows_of, unit_row}
-use Rattle.plant_model.specs.Verdicts.{changes_history, is_opening, verdict, verdict_of}
-use Rattle.plant_types.specs.Names.{Name}
-use Rattle.plant_unit.specs.Judged.{IsJudged, IsOpening, IsPartOf, IsVerdictOn, is_import}
 
 changed_if : (h : List Call) (c : Call) (b : Bool) → (b ≡ true → changed_by (changes_for (facts h) c) (rows_of h) ≡ rows_of (c ∷ h)) → changed_by (if b then changes_for (facts h) c else []) (rows_of h) ≡ rows_of (if b then c ∷ h else h)
 changed_if h c true turns = turns refl
@@ -74,7 +56,7 @@ part_judged h legal c v j = by (holds_by (rows_of h).grants c.moment c.person) r
       }
   by false none =
       let refused : verdict h c ≡ Err NotGranted = sym (ap (λ f. verdict_of f c) (facts-rows h legal)) ∙ stranger_verdict rows c.person c.moment c.request none in
-      let unchanged : changes_history (verdict h c) c ≡ false = not_true _ (refused_changes (verdict h c) c NotGranted refused) in
+      let unchanged : changes_history (verdict h c) c ≡ false = false_from_ne_true _ (refused_changes (verdict h c) c NotGranted refused) in
       record {
         answer = j.answer ∙ verdicts;
         changes = j.changes ∙ none_if (changes_for (facts_among (part_of c rows) (events h)) c) (changes_history (verdict_of (facts_among (part_of c rows) (events h)) c) c) (ap (λ x. changes_history x c) verdicts ∙ unchanged) ∙ sym (none_if (changes_for (facts h) c) (changes_history (verdict h c) c) unchanged);
@@ -84,7 +66,7 @@ part_judged h legal c v j = by (holds_by (rows_of h).grants c.moment c.person) r
 judged_unopened : (c : Call) → IsVerdictOn [] c (IsRefused NotGranted)
 judged_unopened c =
     let answer : verdict [] c ≡ Err NotGranted = not_granted [] c refl in
-    let unchanged : changes_history (verdict [] c) c ≡ false = not_true _ (refused_changes (verdict [] c) c NotGranted answer) in
+    let unchanged : changes_history (verdict [] c) c ≡ false = false_from_ne_true _ (refused_changes (verdict [] c) c NotGranted answer) in
     record {
       answer = sym answer;
       changes = sym (ap (λ b. rows_of (if b then c ∷ [] else [])) unchanged);

@@ -1,67 +1,39 @@
 -- What the parts of a legal history keep.
-use Rattle.plant_alarm.specs.declared.event.Event.{Event}
-use Rattle.plant_model.proofs.public.CountLaws.{few_limits, few_matrices, few_proposals, few_records}
-use Rattle.plant_model.proofs.public.FactLaws.{alarm_in, change_entry_in, not_true, revision_in, same_number_of, sheet_source}
-use Rattle.plant_model.proofs.public.HistoryLaws.{alarm_of, alarms_told, change_with, changes_told, number_of_change, numbers_of_changes, record_with, records_told, shelves_told, tag_of_record, tags_of_alarms, tags_of_records, tags_of_shelves}
-use Rattle.plant_model.proofs.public.PartLaws.{matrix_there, own_holds}
-use Rattle.plant_alarm.specs.States.{summary}
+use Rattle.std.specs.{FinMap.Entries.{below_all}, List.{cons_option, list_all, list_any}}
+use Rattle.std.proofs.Common.{ap, arith, cond, inl, inr, refl, subst, sym, ◌∙◌, ◌⊎◌, is_lt, nat_cmp, Ordering, Bool, List, None, Option, Some, T, [], false, filter, filter_map, if◌then◌else◌, is_some, length, map, max, option_map, true, unwrap_or, ℕ, ◌&&◌, ◌<◌, ◌==◌, ◌||◌, ◌∷◌, ◌≡◌, ◌≤◌}
+use Rattle.std.proofs.lemmas.Bool.{and_parts, false_from_ne_true, or_left, or_right, or_cases}
+use Rattle.plant_alarm.specs.{States.{summary}, declared.event.Event.{Event}}
+use Rattle.plant_model.specs.{Alarms.{latching}, Changes.{Draft, change, draft, kind_of_change, matrix, matrix_revision, record_of, sheet}}
+use Rattle.plant_model.specs.{Events.{events}, Histories.{same_number}}
 use Rattle.plant_model.specs.Kinds.{AllEvents, AllRecords, Approval, File, OneChange, OneRecord, Scope, scope_of, scope_of_proposal}
-use Rattle.plant_types.specs.Limits.{max_changes, max_events}
-use Rattle.plant_unit.specs.Summaries.{summary_in, summary_of}
-use Rattle.plant_model.proofs.public.PartLists.{or_later, or_true}
-use Rattle.plant_model.proofs.public.QuotaLaws.{few_alarms}
-use Rattle.plant_model.proofs.public.ReadLaws.{change_count, in_force_numbered, left_in_order, proposed_matrix, read_back, row_at-left, shaped}
-use Rattle.plant_model.proofs.public.ServiceLaws.{both_true}
-use Rattle.plant_model.specs.Alarms.{latching}
-use Rattle.plant_model.specs.Changes.{Draft, change, draft, kind_of_change, matrix, matrix_revision, record_of, sheet}
-use Rattle.plant_model.specs.Events.{events}
-use Rattle.plant_model.specs.Histories.{same_number}
-use Rattle.plant_model.specs.Legality.{IsLegal}
-use Rattle.plant_model.specs.Matrices.{matrix_numbered}
+use Rattle.plant_model.specs.{Legality.{IsLegal}, Matrices.{matrix_numbered}}
 use Rattle.plant_model.specs.Parts.{Selection, counted_for, every, is_source, none, of_approved, of_topic, part_of, part_of_holder, part_of_stranger, rows_selected, selected, selection}
 use Rattle.plant_model.specs.RowFacts.{alarm_tag, cells_at, change_found, change_number, change_read, has_cells, holds_by, matrix_read, record_found, record_tag, shelf_tag}
 use Rattle.plant_model.specs.Rows.{alarm_row, alarm_rows, cell_rows, change_entry, change_rows, changes_of, max_of_kind, record_entry, record_rows, records_of, revision_of_limit, rows_of, shelf_rows, sheet_of_kind, tag_of_kind, topic}
-use Rattle.plant_model.specs.declared.call.Call.{Call}
-use Rattle.plant_model.specs.declared.call.Request.{Request}
-use Rattle.plant_model.specs.declared.call.Request.TheVariants.{Floods, Import, Propose, Register}
-use Rattle.plant_model.specs.declared.reply.RecordRow.{RecordRow}
-use Rattle.plant_model.specs.declared.rows.AlarmRow.{AlarmRow}
-use Rattle.plant_model.specs.declared.rows.CellRow.{CellRow}
-use Rattle.plant_model.specs.declared.rows.ChangeEntry.{ChangeEntry}
-use Rattle.plant_model.specs.declared.rows.ChangeTopic.{ChangeTopic}
-use Rattle.plant_model.specs.declared.rows.ChangeTopic.TheVariants.{Limit as LimitTopic, Matrix as MatrixTopic, Record as RecordTopic}
-use Rattle.plant_model.specs.declared.rows.RecordEntry.{RecordEntry}
-use Rattle.plant_model.specs.declared.rows.UnitRows.{UnitRows}
-use Rattle.plant_ration.specs.Grid.{Grid}
-use Rattle.plant_ration.specs.Matrix.{is_matrix}
-use Rattle.plant_model.specs.declared.rows.UnitPart.{UnitPart}
-use Rattle.plant_ration.specs.declared.change.ChangeKind.{ChangeKind}
-use Rattle.plant_ration.specs.declared.change.ChangeKind.TheVariants.{Limit, Matrix, Rationale}
+use Rattle.plant_model.specs.{Shelves.{shelf}, declared.call.{Call.{Call}, Request.{Request, TheVariants.{Floods, Import, Propose, Register}}}}
+use Rattle.plant_model.specs.declared.{reply.RecordRow.{RecordRow}, rows.{AlarmRow.{AlarmRow}, CellRow.{CellRow}, ChangeEntry.{ChangeEntry}}}
+use Rattle.plant_model.specs.declared.rows.ChangeTopic.{ChangeTopic, TheVariants.{Limit as LimitTopic, Matrix as MatrixTopic, Record as RecordTopic}}
+use Rattle.plant_model.specs.declared.rows.{RecordEntry.{RecordEntry}, UnitPart.{UnitPart}, UnitRows.{UnitRows}}
+use Rattle.plant_model.proofs.public.{CountLaws.{few_limits, few_matrices, few_proposals, few_records}, EventLaws.{events_rise}}
+use Rattle.plant_model.proofs.public.FactLaws.{alarm_in, change_entry_in, revision_in, same_number_of, sheet_source}
+use Rattle.plant_model.proofs.public.HistoryLaws.{alarm_of, alarms_told, change_with, changes_told, number_of_change, numbers_of_changes, record_with, records_told, shelves_told, tag_of_record, tags_of_alarms, tags_of_records, tags_of_shelves}
+use Rattle.plant_model.proofs.public.{PartLaws.{matrix_there, own_holds}, QuotaLaws.{few_alarms}}
+use Rattle.plant_model.proofs.public.ReadLaws.{change_count, in_force_numbered, left_in_order, proposed_matrix, read_back, row_at-left, shaped}
+use Rattle.plant_model.proofs.public.RowsFound.{both, first, second}
+use Rattle.plant_types.specs.{KeyedRows.{IsInOrder, in_order, row_at}, Limits.{max_changes, max_events}, Names.{Name, name_cmp, same_name}}
+use Rattle.plant_types.proofs.public.{KeyedRowLaws.{IsInOrder-rows}, Orders.{name_total, number_total, same_names, same_numbers}}
+use Rattle.plant_unit.specs.{Additions.{AreEventsFor, AreEventsIn, AreKept}, Readings.{has_its_sheet, has_kind, has_sheet, is_left_out, is_matrix_at}}
+use Rattle.plant_unit.{specs.Summaries.{summary_in, summary_of}, proofs.EventBounds.{few_events}}
+use Rattle.plant_ration.specs.{Grid.{Grid}, Matrix.{is_matrix}, declared.change.ChangeKind.{ChangeKind, TheVariants.{Limit, Matrix, Rationale}}}
 use Rattle.plant_ration.specs.declared.change.Sheet.{Sheet}
-use Rattle.plant_types.proofs.public.Orders.{name_total, number_total, same_names, same_numbers}
-use Rattle.plant_types.proofs.public.KeyedRowLaws.{IsInOrder-rows}
-use Rattle.plant_types.specs.Names.{Name, name_cmp, same_name}
-use Rattle.plant_model.specs.Shelves.{shelf}
-use Rattle.plant_types.specs.KeyedRows.{IsInOrder, in_order, row_at}
-use Rattle.std.specs.FinMap.Entries.{below_all}
-use Rattle.plant_unit.proofs.EventBounds.{few_events}
-use Rattle.plant_unit.specs.Additions.{AreEventsFor, AreEventsIn, AreKept}
-use Rattle.plant_unit.specs.Readings.{has_its_sheet, has_kind, has_sheet, is_left_out, is_matrix_at}
-use Rattle.std.proofs.Common.{ap, arith, cond, inl, inr, refl, subst, sym, ◌∙◌, ◌⊎◌}
-use Rattle.std.specs.List.{cons_option, list_all, list_any}
-use Rattle.std.specs.Ordering.{is_lt, nat_cmp}
-use Rattle.std.specs.declared.cmp.Ordering.{Ordering}
-use Rattle.std.specs.Prelude.{Bool, List, None, Option, Some, T, [], false, filter, filter_map, if◌then◌else◌, is_some, length, map, max, option_map, true, unwrap_or, ℕ, ◌&&◌, ◌<◌, ◌==◌, ◌||◌, ◌∷◌, ◌≡◌, ◌≤◌}
-use Rattle.plant_import.specs.Merging.{IsRising}
-use Rattle.plant_import.proofs.public.NeededLaws.{needed_few, needed_rises}
-use Rattle.plant_model.proofs.public.EventLaws.{events_rise}
+use Rattle.plant_import.{specs.Merging.{IsRising}, proofs.public.NeededLaws.{needed_few, needed_rises}}
 
 -- Tests of rows that pass a wider one
 filter-none : {X : Type 0} (narrow wide : X → Bool) → ((x : X) → narrow x ≡ true → wide x ≡ false) → (xs : List X) → filter narrow (filter wide xs) ≡ []
 filter-none narrow wide never [] = refl
 filter-none narrow wide never (x ∷ xs) =
     elim (wide x) as (λ b. wide x ≡ b → filter narrow (cond b (x ∷ filter wide xs) (filter wide xs)) ≡ []) [
-      | true ↦ λ is. ap (λ b. cond b (x ∷ filter narrow (filter wide xs)) (filter narrow (filter wide xs))) (not_true (narrow x) (λ e. let no : true ≡ false = sym is ∙ never x e in cc)) ∙ filter-none narrow wide never xs
+      | true ↦ λ is. ap (λ b. cond b (x ∷ filter narrow (filter wide xs)) (filter narrow (filter wide xs))) (false_from_ne_true (narrow x) (λ e. let no : true ≡ false = sym is ∙ never x e in cc)) ∙ filter-none narrow wide never xs
       | false ↦ λ _. filter-none narrow wide never xs
     ] refl
 
@@ -74,10 +46,8 @@ RiseAndAreFew es = IsRising es × (length es ≤ 4294967295)
 
 few_of_topic : (rows : UnitRows) (tag : Option Name) (k : ChangeTopic) (es : List Event) → RiseAndAreFew ((of_topic rows tag k).events es)
 few_of_topic rows tag MatrixTopic es = (no_event_rises, omega arith)
-few_of_topic rows (Some a) RecordTopic es = (no_event_rises, omega arith)
-few_of_topic rows (Some a) LimitTopic es = (no_event_rises, omega arith)
-few_of_topic rows None RecordTopic es = (no_event_rises, omega arith)
-few_of_topic rows None LimitTopic es = (no_event_rises, omega arith)
+few_of_topic rows None _ es = (no_event_rises, omega arith)
+few_of_topic rows _ _ es = (no_event_rises, omega arith)
 
 few_of_approved : (rows : UnitRows) (n : ℕ) (o : Option ChangeEntry) (es : List Event) → RiseAndAreFew ((of_approved rows n o).events es)
 few_of_approved rows n None es = (no_event_rises, omega arith)
@@ -92,10 +62,6 @@ few_of rows _ es h few = (no_event_rises, omega arith)
 events_left : (rows : UnitRows) (q : Request) (es : List Event) → IsRising es → length es ≤ max_events → IsRising ((selected rows q).events es) × (length ((selected rows q).events es) ≤ 4294967295)
 events_left rows q es h few = few_of rows (scope_of q) es h few
 
-or_either : (a b : Bool) → (a || b) ≡ true → (a ≡ true) ⊎ (b ≡ true)
-or_either true b e = inl refl
-or_either false b e = inr e
-
 fits_most : (n : ℕ) → n ≤ max_events → n < 4294967295
 fits_most n few = omega (arith, few)
 
@@ -103,18 +69,6 @@ fits : (n : ℕ) → n ≤ max_changes → n < 4294967295
 fits n few = omega (arith, few)
 
 -- the records of a history stand in the order of their tags
-both : (a b : Bool) → T a → T b → T (a && b)
-both true b p q = q
-both false b p q = p
-
-first : (a b : Bool) → T (a && b) → T a
-first true b p = tt
-first false b p = p
-
-second : (a b : Bool) → T (a && b) → T b
-second true b p = p
-second false b p = absurd p
-
 module _ {K X Y : Type 0} (R : K → K → Ordering) (key : X → K) (row : X → Y) (read : Y → K) (same : (x : X) → key x ≡ read (row x)) where
   below_rows : (k : K) (xs : List X) → T (below_all R k (map (λ x. (key x, x)) xs)) → T (below_all R k (map (λ y. (read y, y)) (map row xs)))
   below_rows k [] h = tt
@@ -135,10 +89,10 @@ changes_rise h = rows_rise nat_cmp number_of_change change_entry change_number (
 module _ (h : List Call) (n : ℕ) (m : Grid) (is : kind_of_change h n ≡ Some (Matrix m)) where
   no_source_of : (tags : Name → Bool) (a : Name) (o : Option (ℕ × Sheet)) → sheet h a ≡ o → (rest : List RecordRow) → (list_any (λ (r : RecordEntry). tags r.tag && same_number n r.change_no) (map record_entry rest) ≡ true → ⊥) → list_any (λ (r : RecordEntry). tags r.tag && same_number n r.change_no) (map record_entry (cons_option (option_map (record_with h a) o) rest)) ≡ true → ⊥
   no_source_of tags a None e rest none there = none there
-  no_source_of tags a (Some x) e rest none there = by (or_either (tags a && same_number n x.0) _ there) where
+  no_source_of tags a (Some x) e rest none there = by (or_cases (tags a && same_number n x.0) _ there) where
     by : ((tags a && same_number n x.0) ≡ true) ⊎ (list_any (λ (r : RecordEntry). tags r.tag && same_number n r.change_no) (map record_entry rest) ≡ true) → ⊥
     by (inl here) =
-        let number : n ≡ x.0 = same_number_of n x.0 (both_true (tags a) (same_number n x.0) here).1 in
+        let number : n ≡ x.0 = same_number_of n x.0 (and_parts (tags a) (same_number n x.0) here).1 in
         let clash : Some (Matrix m) ≡ Some (Rationale a x.1) = sym is ∙ ap (kind_of_change h) number ∙ sheet_source h a x.0 x.1 e in
         let no : Matrix m ≡ Rationale a x.1 = cc in
         cc
@@ -149,7 +103,7 @@ module _ (h : List Call) (n : ℕ) (m : Grid) (is : kind_of_change h n ≡ Some 
   no_source_among tags (a ∷ names) there = no_source_of tags a (sheet h a) refl (filter_map (record_of h) names) (no_source_among tags names) there
 
   no_source : (tags : Name → Bool) → is_source (rows_of h) tags n ≡ false
-  no_source tags = not_true (is_source (rows_of h) tags n) (λ e. no_source_among tags (in_order name_cmp (tags_of_records h)) e)
+  no_source tags = false_from_ne_true (is_source (rows_of h) tags n) (λ e. no_source_among tags (in_order name_cmp (tags_of_records h)) e)
 
   -- a matrix that is selected is there with its rows
   no_source_named : (tags : Name → Bool) (A : Type 0) → is_source (rows_of h) tags n ≡ true → A
@@ -164,10 +118,10 @@ module _ (h : List Call) (n : ℕ) (m : Grid) (is : kind_of_change h n ≡ Some 
 
   approved_matrix : (k : ℕ) (o : Option ChangeEntry) → (of_approved (rows_of h) k o).change n ≡ true → (of_approved (rows_of h) k o).matrix n ≡ true
   approved_matrix k None e = e
-  approved_matrix k (Some c) e = by (or_either ((of_topic (rows_of h) c.tag c.kind_no).change n) (same_number k n) e) where
+  approved_matrix k (Some c) e = by (or_cases ((of_topic (rows_of h) c.tag c.kind_no).change n) (same_number k n) e) where
     by : ((of_topic (rows_of h) c.tag c.kind_no).change n ≡ true) ⊎ (same_number k n ≡ true) → ((of_topic (rows_of h) c.tag c.kind_no).matrix n || same_number k n) ≡ true
-    by (inl source) = or_true _ _ (topic_matrix c.tag c.kind_no source)
-    by (inr named) = or_later _ _ named
+    by (inl source) = or_left _ _ (topic_matrix c.tag c.kind_no source)
+    by (inr named) = or_right _ _ named
 
   scope_matrix : (s : Scope) → (selection (rows_of h) s).change n ≡ true → (selection (rows_of h) s).matrix n ≡ true
   scope_matrix (OneChange k) e = e
@@ -203,7 +157,7 @@ module _ (h : List Call) (legal : IsLegal h) (p : Name) (t : ℕ) (q : Request) 
   cells_gone n out severity =
       ap (map (λ (c : CellRow). c.cell_no))
       (filter-none (λ (c : CellRow). same_number n c.matrix_no && same_number severity c.severity) (λ (c : CellRow). s.matrix c.matrix_no)
-      (λ c e. ap s.matrix (sym (same_number_of n c.matrix_no (both_true (same_number n c.matrix_no) (same_number severity c.severity) e).0)) ∙ out) (cell_rows h))
+      (λ c e. ap s.matrix (sym (same_number_of n c.matrix_no (and_parts (same_number n c.matrix_no) (same_number severity c.severity) e).0)) ∙ out) (cell_rows h))
 
   left_out : (n : ℕ) → s.matrix n ≡ false → is_left_out part n ≡ true
   left_out n out = λ i. length (filter has_cells (cells_gone n out 1 i ∷ cells_gone n out 2 i ∷ cells_gone n out 3 i ∷ cells_gone n out 4 i ∷ cells_gone n out 5 i ∷ [])) == 0
@@ -211,8 +165,8 @@ module _ (h : List Call) (legal : IsLegal h) (p : Name) (t : ℕ) (q : Request) 
   matrix_whole : (is_left_out part (matrix h).0 || is_matrix_at part (matrix h).0) ≡ true
   matrix_whole = by (s.matrix (matrix h).0) refl where
     by : (b : Bool) → s.matrix (matrix h).0 ≡ b → (is_left_out part (matrix h).0 || is_matrix_at part (matrix h).0) ≡ true
-    by true holds = or_later _ _ (matrix_is (matrix h).0 (matrix h).1 (in_force_numbered h legal) holds)
-    by false out = or_true _ _ (left_out (matrix h).0 out)
+    by true holds = or_right _ _ (matrix_is (matrix h).0 (matrix h).1 (in_force_numbered h legal) holds)
+    by false out = or_left _ _ (left_out (matrix h).0 out)
 
   -- a change of the part is one of the history
   change_left : (n : ℕ) → change_found part n ≡ cond (s.change n) (option_map change_entry (change h n)) None

@@ -1,18 +1,11 @@
 -- The rows of a matrix, one after another as its limits and cells stand.
-use Rattle.std.proofs.Common.{eqb→eq, ap, append_assoc, arith, get_or, length-append, refl, subst, sym, ◌∙◌}
-use Rattle.std.proofs.lemmas.Bool.Decides.{nat_tests}
-use Rattle.std.proofs.lemmas.List.Elements.{filter_map-append}
 use Rattle.std.specs.List.{enumerate_from, list_all, range_with_len}
-use Rattle.std.specs.Prelude.{Bool, Err, List, Ok, OnOk, Result, Some, T, [], false, filter_map, flat_map, length, map, nat_le, not, option_and_then, option_map, suc, true, zero, ℕ, ◌&&◌, ◌++◌, ◌+◌, ◌<◌, ◌==◌, ◌∷◌, ◌≡◌, ◌≤◌}
+use Rattle.std.proofs.Common.{eqb→eq, ap, append_assoc, arith, get_or, length-append, refl, subst, sym, ◌∙◌, Bool, Err, List, Ok, OnOk, Result, Some, T, [], false, filter_map, flat_map, length, map, nat_le, not, option_and_then, option_map, suc, true, zero, ℕ, ◌++◌, ◌+◌, ◌<◌, ◌==◌, ◌∷◌, ◌≡◌, ◌≤◌}
+use Rattle.std.proofs.lemmas.{Bool.{and_parts, Decides.{nat_tests}}, List.Elements.{filter_map-append}}
+use Rattle.plant_model.specs.{Matrices.{at_place, band_at, cell_of, cells_of_row}, RowChanges.{bands_of, cells_of, matrix_changes}}
+use Rattle.plant_model.specs.declared.rows.{Row.TheVariants.{Band as BandPut, Cell as CellPut}, RowEdit.{RowEdit, TheVariants.{Put}}}
 use Rattle.plant_model.proofs.public.ReadLaws.{filter_map-map, listed, place-after}
-use Rattle.plant_model.specs.declared.rows.RowEdit.{RowEdit}
-use Rattle.plant_model.specs.declared.rows.RowEdit.TheVariants.{Put}
-use Rattle.plant_model.specs.declared.rows.Row.TheVariants.{Band as BandPut, Cell as CellPut}
-use Rattle.plant_ration.specs.declared.cell.Cell.{Cell}
-use Rattle.plant_model.specs.Matrices.{at_place, band_at, cell_of, cells_of_row}
-use Rattle.plant_model.specs.RowChanges.{bands_of, cells_of, matrix_changes}
-use Rattle.plant_ration.specs.Grid.{Grid}
-use Rattle.plant_ration.specs.Matrix.{is_matrix}
+use Rattle.plant_ration.specs.{Grid.{Grid}, Matrix.{is_matrix}, declared.cell.Cell.{Cell}}
 use Rattle.plant_unit.specs.MatrixRows.{band_row_of, row_of_cells}
 
 pub bands_listed : (n : ℕ) (m : Grid) → bands_of n m ≡ map (λ r. Put (BandPut r)) (map (band_row_of n) (enumerate_from 1 m.limits))
@@ -35,27 +28,23 @@ pub cells_listed : (n : ℕ) (m : Grid) → cells_of n m ≡ map (λ r. Put (Cel
 cells_listed n m = ap (map (λ r. Put (CellPut r))) (rows_listed n m [] m.cells 1 refl refl)
 
 -- what the shape of a matrix bounds
-parts : (a b : Bool) → (a && b) ≡ true → (a ≡ true) × (b ≡ true)
-parts true b e = (refl, e)
-parts false b e = cc
-
 le_of : (m n : ℕ) → nat_le m n ≡ true → m ≤ n
 le_of m n e = grind (arith, nat_tests)
 
 pub few_limits : (limits : List ℕ) (rows : List (List Cell)) → is_matrix limits rows ≡ true → length limits ≤ 4
 few_limits limits rows e =
-    let shape = (parts _ _ (parts _ _ e).0).0 in
-    le_of (length limits) 4 (parts _ _ (parts _ _ (parts _ _ shape).0).0).1
+    let shape = (and_parts _ _ (and_parts _ _ e).0).0 in
+    le_of (length limits) 4 (and_parts _ _ (and_parts _ _ (and_parts _ _ shape).0).0).1
 
 each_wide : {V : Type 0} (items : V → List Cell) (width : ℕ) (rows : List V) (k : ℕ) (d : V) → list_all (λ row. length row == width) (map items rows) ≡ true → k < length rows → length (items (get_or rows k d)) ≡ width
 each_wide items width [] k d e lt = absurd (omega arith)
-each_wide items width (row ∷ rows) zero d e lt = eqb→eq (length (items row)) width (subst T (sym (parts _ _ e).0) tt)
-each_wide items width (row ∷ rows) (suc k) d e lt = each_wide items width rows k d (parts _ _ e).1 (let less : k < length rows = omega (arith, lt) in less)
+each_wide items width (row ∷ rows) zero d e lt = eqb→eq (length (items row)) width (subst T (sym (and_parts _ _ e).0) tt)
+each_wide items width (row ∷ rows) (suc k) d e lt = each_wide items width rows k d (and_parts _ _ e).1 (let less : k < length rows = omega (arith, lt) in less)
 
 pub short_rows : {V : Type 0} (items : V → List Cell) (limits : List ℕ) (rows : List V) → is_matrix limits (map items rows) ≡ true → (k : ℕ) (d : V) → k < length rows → length (items (get_or rows k d)) ≤ 5
 short_rows items limits rows e k d lt =
-    let shape = (parts _ _ (parts _ _ e).0).0 in
-    let wide = each_wide items (length limits + 1) rows k d (parts _ _ (parts _ _ shape).0).1 lt in
+    let shape = (and_parts _ _ (and_parts _ _ e).0).0 in
+    let wide = each_wide items (length limits + 1) rows k d (and_parts _ _ (and_parts _ _ shape).0).1 lt in
     let few = few_limits limits (map items rows) e in
     omega (arith, wide, few)
 

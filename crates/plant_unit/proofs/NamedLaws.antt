@@ -1,30 +1,14 @@
 -- The tags that events name, and states that go on from those in the alarms' rows.
-use Rattle.std.proofs.Common.{List, ap, append_assoc, arith, cond, false, get_or, length, refl, subst, sym, take, true, ◌++◌, ◌+◌, ◌<◌, ◌∙◌, ◌∷◌, ◌≡◌, []}
-use Rattle.std.proofs.lemmas.List.{take_more}
-use Rattle.std.proofs.lemmas.List.Folds.{list_any-append}
-use Rattle.std.specs.BTreeMap.{is_at}
-use Rattle.std.specs.BTreeSet.{BTreeSet, UpdatesBy, btree_set_len, contains}
-use Rattle.std.specs.Cmp.{eq_by_cmp_equiv}
-use Rattle.std.specs.Cmp.Lexicographic.{nat_list_cmp_total}
-use Rattle.std.specs.List.{list_any}
-use Rattle.std.specs.Prelude.{Bool, if◌then◌else◌, ℕ, ◌||◌}
-use Rattle.plant_alarm.specs.States.{summary}
-use Rattle.plant_alarm.specs.declared.event.Event.{Event}
-use Rattle.plant_alarm.specs.declared.summary.Summary.{Summary}
+use Rattle.std.specs.{BTreeMap.{is_at}, BTreeSet.{UpdatesBy, contains}, Cmp.{eq_by_cmp_equiv, Lexicographic.{nat_list_cmp_total}}, List.{list_any}}
+use Rattle.std.proofs.Common.{List, ap, append_assoc, arith, cond, false, get_or, length, refl, subst, sym, take, true, ◌++◌, ◌+◌, ◌<◌, ◌∙◌, ◌∷◌, ◌≡◌, [], BTreeSet, btree_set_len, Bool, if◌then◌else◌, ℕ, ◌||◌, nat_cmp}
+use Rattle.std.proofs.lemmas.List.{take_more, Folds.{list_any-append}}
+use Rattle.plant_alarm.specs.{States.{summary}, declared.{event.Event.{Event}, summary.Summary.{Summary}}}
 use Rattle.plant_floods.specs.Activations.{of_alarm}
-use Rattle.plant_import.proofs.public.LaterLaws.{fresh_after}
-use Rattle.plant_import.proofs.public.NeededLaws.{needed_late, needed_rises}
-use Rattle.plant_import.proofs.public.Risings.{in_number_order}
-use Rattle.plant_import.specs.Needed.{from_last_before, has_late, needed}
-use Rattle.plant_import.specs.Numbers.{event_number, with_events}
-use Rattle.plant_types.proofs.public.KeyedRowLaws.{tied}
-use Rattle.plant_types.proofs.public.Orders.{same_names}
-use Rattle.plant_types.specs.KeyedRows.{IsInOrder}
-use Rattle.std.specs.Ordering.{nat_cmp}
+use Rattle.plant_import.specs.{Needed.{from_last_before, has_late, needed}, Numbers.{event_number, with_events}}
+use Rattle.plant_import.proofs.public.{LaterLaws.{fresh_after}, NeededLaws.{needed_late, needed_rises}, Risings.{in_number_order}}
+use Rattle.plant_types.{specs.{KeyedRows.{IsInOrder}, Names.{Name, name_cmp, same_name}}, proofs.public.{KeyedRowLaws.{tied}, Orders.{same_names}}}
 use Rattle.plant_model.specs.declared.rows.AlarmRow.{AlarmRow}
-use Rattle.plant_types.specs.Names.{Name, name_cmp, same_name}
-use Rattle.plant_unit.specs.Additions.{AreAdded}
-use Rattle.plant_unit.specs.Summaries.{AreNamed, summaries}
+use Rattle.plant_unit.specs.{Additions.{AreAdded}, Summaries.{AreNamed, summaries}}
 
 or_swap : (a b : Bool) → cond a true b ≡ (b || (a || false))
 or_swap true true = refl

@@ -1,22 +1,13 @@
 -- The refusals of calls on changes.
-use Rattle.std.proofs.Common.{ap, cond, refl, sym, ◌∙◌}
-use Rattle.std.specs.Prelude.{Bool, Err, List, None, Ok, Option, Some, [], false, is_some, not, true, ℕ, ◌∷◌, ◌≡◌}
 use Rattle.std.specs.Result.{result_err}
-use Rattle.plant_model.proofs.public.FactLaws.{is_same_number, same_number_of}
-use Rattle.plant_model.specs.Changes.{priority_by}
-use Rattle.plant_model.specs.Facts.{Facts}
-use Rattle.plant_model.specs.Histories.{same_number}
-use Rattle.plant_model.specs.Refusals.{first_refusal, is_not_needed, is_open, of_change}
-use Rattle.plant_model.specs.declared.reply.ChangeRow.{ChangeRow}
+use Rattle.std.proofs.Common.{ap, cond, refl, sym, ◌∙◌, Bool, Err, List, None, Ok, Option, Some, [], false, is_some, not, true, ℕ, ◌∷◌, ◌≡◌}
+use Rattle.plant_model.specs.{Changes.{priority_by}, Facts.{Facts}, Histories.{same_number}}
+use Rattle.plant_model.specs.{Refusals.{first_refusal, is_not_needed, is_open, of_change}, declared.reply.{ChangeRow.{ChangeRow}, Refused.{Refused}}}
 use Rattle.plant_model.specs.declared.reply.Refused.TheVariants.{BaseChanged, NotAnAlarm, NotProposed, OutsideMatrix, SamePerson}
-use Rattle.plant_model.specs.declared.reply.Refused.{Refused}
-use Rattle.plant_ration.specs.Grid.{Grid}
-use Rattle.plant_ration.specs.Matrix.{priority_of}
-use Rattle.plant_ration.specs.declared.cell.Cell.{Cell}
-use Rattle.plant_ration.specs.declared.change.Sheet.{Sheet}
+use Rattle.plant_model.proofs.public.FactLaws.{is_same_number, same_number_of}
+use Rattle.plant_ration.specs.{Grid.{Grid}, Matrix.{priority_of}, declared.{cell.Cell.{Cell}, change.Sheet.{Sheet}}}
 use Rattle.plant_types.specs.Names.{Name}
-use Rattle.plant_unit.proofs.ReadingLaws.{no_row}
-use Rattle.plant_unit.specs.Judged.{decided_or, record_decision, sheet_decision, sheet_refusals}
+use Rattle.plant_unit.{specs.Judged.{decided_or, record_decision, sheet_decision, sheet_refusals}, proofs.ReadingLaws.{no_row}}
 
 -- of a record whose base is the revision in force, its sheet is decided by the matrix in force
 pub base_decided : (f : Facts) (base revision : ℕ) (a : Name) (s : Sheet) → base ≡ revision → revision ≡ f.revision a → sheet_decision f.matrix s.severity s.response ≡ record_decision f base a s

@@ -1,36 +1,19 @@
 -- What is read from rows.
-use Rattle.plant_model.specs.RowFacts.{change_found, facts_in, record_found, record_from, record_read, sheet_read, unit_read}
-use Rattle.plant_model.specs.declared.reply.RecordRow.{RecordRow}
-use Rattle.plant_model.specs.declared.rows.ChangeEntry.{ChangeEntry}
-use Rattle.plant_model.specs.declared.rows.RecordEntry.{RecordEntry}
-use Rattle.plant_model.specs.declared.rows.UnitPart.{UnitPart}
-use Rattle.plant_model.specs.declared.rows.UnitRow.{UnitRow}
-use Rattle.plant_ration.specs.Matrix.{row_of}
-use Rattle.plant_types.specs.Names.{Name, same_name}
+use Rattle.std.specs.{List.{cons_option, list_all, list_any, slice_get, range_with_len}, Result.{result_ok}}
+use Rattle.std.proofs.Common.{find, IfOk, filter_map, option_and_then, option_map, option_to_list, unwrap_or, ◌-◌, ◌||◌, Bool, List, None, Option, Result, Some, T, [], false, filter, length, map, not, true, ℕ, ◌&&◌, ◌++◌, ◌+◌, ◌==◌, ◌∷◌, ◌≡◌, ap, arith, cond, eqb→eq, get_or, refl, subst, sym, take, ◌<◌, ◌∙◌}
+use Rattle.std.proofs.lemmas.{Bool.{and_parts}, List.{map-append, nil_from_length, FromFn.{filter_of_map_range_with_len_more}}}
+use Rattle.std.proofs.lemmas.List.Sums.{AllPass-from_list_all}
+use Rattle.plant_model.specs.{Histories.{same_number}, Refusals.{has_row}}
+use Rattle.plant_model.specs.RowFacts.{change_found, facts_in, record_found, record_from, record_read, sheet_read, unit_read, cells_at, has_cells, matrix_read}
+use Rattle.plant_model.specs.declared.{reply.RecordRow.{RecordRow}, rows.{BandRow.{BandRow}, CellRow.{CellRow}, ChangeEntry.{ChangeEntry}}}
+use Rattle.plant_model.specs.declared.rows.{RecordEntry.{RecordEntry}, UnitPart.{UnitPart}, UnitRow.{UnitRow}, UnitRows.{UnitRows}}
+use Rattle.plant_model.proofs.public.HistoryLaws.{when_Some}
+use Rattle.plant_ration.specs.{Grid.{Grid}, Matrix.{row_of, has_shape, is_matrix, is_ordered, is_rising, made_or, matrix_of}}
+use Rattle.plant_ration.specs.declared.cell.{Cell.{Cell}, MatrixFault.{MatrixFault, TheVariants.{BandsNotRising, NotOrdered, Shape}}}
+use Rattle.plant_types.specs.{Names.{Name, same_name}, Options.{when}}
 use Rattle.plant_unit.specs.Additions.{AreKept}
-use Rattle.plant_model.specs.Refusals.{has_row}
-use Rattle.plant_unit.specs.Readings.{has_its_sheet, has_sheet, is_left_out, is_matrix_at, is_outside, sheet_found}
-use Rattle.std.specs.List.{cons_option, find, list_all, list_any, slice_get}
-use Rattle.std.specs.Prelude.{IfOk, filter_map, option_and_then, option_map, option_to_list, suc, unwrap_or, zero, ◌-◌, ◌||◌}
+use Rattle.plant_unit.specs.Readings.{has_its_sheet, has_sheet, is_left_out, is_matrix_at, is_outside, sheet_found, matrix_found}
 use Rattle.plant_unit.proofs.public.Loops.{append-[], filter_map_more}
-use Rattle.std.proofs.Common.{ap, arith, cond, eqb→eq, get_or, refl, subst, sym, take, ◌<◌, ◌∙◌}
-use Rattle.std.proofs.lemmas.List.{map-append}
-use Rattle.std.proofs.lemmas.List.FromFn.{filter_of_map_range_with_len_more}
-use Rattle.std.specs.List.{range_with_len}
-use Rattle.std.specs.Result.{result_ok}
-use Rattle.std.specs.Prelude.{Bool, List, None, Option, Result, Some, T, [], false, filter, length, map, not, true, ℕ, ◌&&◌, ◌++◌, ◌+◌, ◌==◌, ◌∷◌, ◌≡◌}
-use Rattle.plant_model.specs.Histories.{same_number}
-use Rattle.plant_model.specs.RowFacts.{cells_at, has_cells, matrix_read}
-use Rattle.plant_model.specs.declared.rows.BandRow.{BandRow}
-use Rattle.plant_model.specs.declared.rows.CellRow.{CellRow}
-use Rattle.plant_model.specs.declared.rows.UnitRows.{UnitRows}
-use Rattle.plant_unit.specs.Readings.{matrix_found}
-use Rattle.plant_ration.specs.Grid.{Grid}
-use Rattle.plant_ration.specs.Matrix.{has_shape, is_matrix, is_ordered, is_rising, made_or, matrix_of}
-use Rattle.plant_ration.specs.declared.cell.Cell.{Cell}
-use Rattle.plant_ration.specs.declared.cell.MatrixFault.{MatrixFault}
-use Rattle.plant_ration.specs.declared.cell.MatrixFault.TheVariants.{BandsNotRising, NotOrdered, Shape}
-use Rattle.plant_types.specs.Options.{when}
 
 -- one more row of a matrix, where there are cells
 filled : (row : List Cell) → (length row == 0) ≡ false → has_cells row ≡ true
@@ -82,21 +65,13 @@ mapped_when f true x = refl
 mapped_when f false x = refl
 
 -- the matrix in force: what is found is what is read, and where none is found no cell is there
-grid_read : (b : Bool) (m g : Grid) → Some m ≡ when b g → m ≡ g
-grid_read true m g e = cc
-grid_read false m g e = cc
-
 no_cells : (out whole : Bool) (g : Grid) → (length g.cells == 0) ≡ out → None ≡ when whole g → (out || whole) ≡ true → g.cells ≡ []
-no_cells true whole g e none h = nothing g.cells (eqb→eq (length g.cells) 0 (subst T (sym e) tt))
-  where
-    nothing : (rows : List (List Cell)) → length rows ≡ 0 → rows ≡ []
-    nothing [] e = refl
-    nothing (row ∷ rows) e = absurd (omega (arith, e))
+no_cells true whole g e none h = nil_from_length g.cells (eqb→eq (length g.cells) 0 (subst T (sym e) tt))
 no_cells false true g e none h = cc
 no_cells false false g e none h = cc
 
 pub in_force_read : (part : UnitPart) (u : UnitRow) (m : Grid) → unit_read part.rows ≡ u → Some m ≡ matrix_found part.rows u.matrix_no → m ≡ (facts_in part).matrix
-in_force_read part u m is found = grid_read (is_matrix_at part.rows u.matrix_no) m (matrix_read part.rows u.matrix_no) found ∙ ap (λ (x : UnitRow). matrix_read part.rows x.matrix_no) (sym is)
+in_force_read part u m is found = sym (when_Some (is_matrix_at part.rows u.matrix_no) (matrix_read part.rows u.matrix_no) m (sym found)) ∙ ap (λ (x : UnitRow). matrix_read part.rows x.matrix_no) (sym is)
 
 pub in_force_none : (part : UnitPart) (u : UnitRow) → AreKept part → unit_read part.rows ≡ u → None ≡ matrix_found part.rows u.matrix_no → (facts_in part).matrix.cells ≡ []
 in_force_none part u kept is none =
@@ -126,12 +101,8 @@ outside_told m rows records = any_told (λ r. not (has_row m r.severity)) (recor
 -- a row that is found in a list passes what all of it pass
 pub found_passes : {X : Type 0} (p q : X → Bool) (xs : List X) (x : X) → list_all q xs ≡ true → find p xs ≡ Some x → q x ≡ true
 found_passes p q [] x all is = cc
-found_passes {X = X} p q (y ∷ ys) x all is = by (p y) (parts (q y) (list_all q ys) all) is (found_passes p q ys x)
+found_passes {X = X} p q (y ∷ ys) x all is = by (p y) (and_parts (q y) (list_all q ys) all) is (found_passes p q ys x)
   where
-    parts : (a b : Bool) → (a && b) ≡ true → (a ≡ true) × (b ≡ true)
-    parts true b e = (refl, e)
-    parts false b e = cc
-
     by : (b : Bool) → (q y ≡ true) × (list_all q ys ≡ true) → cond b (Some y) (find p ys) ≡ Some x → (list_all q ys ≡ true → find p ys ≡ Some x → q x ≡ true) → q x ≡ true
     by true both e rest = let same : y ≡ x = cc in ap q (sym same) ∙ both.0
     by false both e rest = rest both.1 e
@@ -151,16 +122,7 @@ rationale_read part a r c x kept row source told =
     rw (← read) (sheeted r c (has_sheet c) x whole told)
 
 pub each_passes : {X : Type 0} (q : X → Bool) (xs : List X) (i : ℕ) (x : X) → list_all q xs ≡ true → i < length xs → x ≡ get_or xs i x → q x ≡ true
-each_passes {X = X} q xs i x all lt is = ap q is ∙ by xs i all lt
-  where
-    parts : (a b : Bool) → (a && b) ≡ true → (a ≡ true) × (b ≡ true)
-    parts true b e = (refl, e)
-    parts false b e = cc
-
-    by : (ys : List X) (k : ℕ) → list_all q ys ≡ true → k < length ys → q (get_or ys k x) ≡ true
-    by [] k all lt = absurd (omega arith)
-    by (y ∷ ys) zero all lt = (parts (q y) (list_all q ys) all).0
-    by (y ∷ ys) (suc k) all lt = by ys k (parts (q y) (list_all q ys) all).1 (omega arith)
+each_passes q xs i x all lt is = ap q is ∙ AllPass-from_list_all q xs all i x lt
 
 -- one more record with its priority
 pub told_more : {X Y E C : Type 0} (f : X → Option Y) (g : Y → E) (put : E → C) (xs : List X) (i : ℕ) (x : X) (o : Option E) → i < length xs → o ≡ option_map g (f x) → x ≡ get_or xs i x

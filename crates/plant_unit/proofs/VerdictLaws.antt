@@ -1,20 +1,10 @@
 -- Verdicts, from what was decided about a call.
-use Rattle.plant_model.specs.Calls.{changes_for, own_changes, own_refusals, reply, unit_after}
-use Rattle.std.proofs.Common.{ap, refl, subst, sym, ◌∙◌}
-use Rattle.std.specs.Prelude.{Bool, Err, IfOk, IsOkAnd, List, None, Ok, Option, Result, Some, [], false, if◌then◌else◌, is_ok, not, true, ◌&&◌, ◌∷◌, ◌≡◌}
-use Rattle.plant_model.specs.Facts.{Facts}
-use Rattle.plant_model.specs.Refusals.{first_refusal}
-use Rattle.plant_model.specs.Verdicts.{changes_history, is_read, refused_or}
-use Rattle.plant_model.specs.declared.call.Call.{Call}
-use Rattle.plant_model.specs.declared.call.Request.{Request}
-use Rattle.plant_model.specs.declared.reply.Refused.{Refused}
-use Rattle.plant_model.specs.declared.reply.Reply.{Reply}
-use Rattle.plant_model.specs.declared.reply.Reply.TheVariants.{Done}
-use Rattle.plant_model.specs.declared.rows.RowEdit.{RowEdit}
-use Rattle.plant_model.specs.declared.rows.RowEdit.TheVariants.{Put}
-use Rattle.plant_model.specs.declared.rows.Row.TheVariants.{Unit as UnitPut}
-use Rattle.plant_model.specs.declared.rows.UnitRow.{UnitRow}
-use Rattle.plant_model.specs.declared.rows.Verdict.{Verdict}
+use Rattle.std.proofs.Common.{ap, refl, subst, sym, ◌∙◌, Err, IfOk, IsOkAnd, List, None, Ok, Option, Result, Some, [], false, if◌then◌else◌, is_ok, not, true, ◌&&◌, ◌∷◌, ◌≡◌}
+use Rattle.std.proofs.lemmas.Bool.{and_right}
+use Rattle.plant_model.specs.{Calls.{changes_for, own_changes, own_refusals, reply, unit_after}, Facts.{Facts}, Refusals.{first_refusal}}
+use Rattle.plant_model.specs.{Verdicts.{changes_history, is_read, refused_or}, declared.call.{Call.{Call}, Request.{Request}}}
+use Rattle.plant_model.specs.declared.{reply.{Refused.{Refused}, Reply.{Reply, TheVariants.{Done}}}, rows.Row.TheVariants.{Unit as UnitPut}}
+use Rattle.plant_model.specs.declared.rows.{RowEdit.{RowEdit, TheVariants.{Put}}, UnitRow.{UnitRow}, Verdict.{Verdict}}
 use Rattle.plant_model.specs.declared.rows.Verdict.TheVariants.{Accepted as IsAccepted, Refused as IsRefused}
 use Rattle.plant_unit.specs.Judged.{IsJudgedOwn, answered_as, decided_or, decision, done_as, one_change, own_answer}
 
@@ -38,15 +28,11 @@ made_own f c said cs none is changing made = record {
   changes = made ∙ sym (ap (λ o. if changes_history (refused_or o (says f c)) c then changes_for f c else []) none ∙ ap (λ b. if not b then changes_for f c else []) changing);
 }
 
-nothing : (b : Bool) (cs : List RowEdit) → (if b && false then cs else []) ≡ []
-nothing true cs = refl
-nothing false cs = refl
-
 -- a read is answered and changes nothing
 pub read_own : (f : Facts) (c : Call) (a : Result Reply Refused) → is_read c.request ≡ true → a ≡ own_answer f c.person c.moment c.request → IsJudgedOwn f c (answered_as a)
 read_own f c a reads is = by a is where
   none : [] ≡ (if changes_history (own_answer f c.person c.moment c.request) c then changes_for f c else [])
-  none = sym (ap (λ b. if is_ok (own_answer f c.person c.moment c.request) && not b then changes_for f c else []) reads ∙ nothing (is_ok (own_answer f c.person c.moment c.request)) (changes_for f c))
+  none = sym (ap (λ b. if is_ok (own_answer f c.person c.moment c.request) && not b then changes_for f c else []) reads ∙ ap (λ b. if b then changes_for f c else []) (and_right (is_ok (own_answer f c.person c.moment c.request)) false refl))
 
   by : (a : Result Reply Refused) → a ≡ own_answer f c.person c.moment c.request → IsJudgedOwn f c (answered_as a)
   by (Err x) is = record { answer = is; changes = none }

@@ -1,33 +1,17 @@
 -- What a file adds to a unit, or why it is refused.
-use Rattle.plant_model.specs.Calls.{unit_after}
-use Rattle.plant_alarm.specs.declared.event.Event.{Event}
-use Rattle.plant_import.specs.Merging.{IsRising, first_fault, fresh}
-use Rattle.plant_import.specs.Needed.{needed}
-use Rattle.plant_model.specs.Kinds.{Scope, scope_of, AllAlarms, AllEvents, AllGrants, AllRecords, AllShelves, Approval, Content, File, NothingElse, OneAlarm, OneChange, OneRecord, Shelving}
-use Rattle.plant_model.specs.declared.call.Request.{Request}
-use Rattle.plant_model.specs.declared.call.Request.TheVariants.{Import}
-use Rattle.plant_model.specs.declared.reply.Reply.{Reply}
-use Rattle.plant_model.specs.declared.reply.Reply.TheVariants.{Imported}
-use Rattle.plant_model.specs.declared.rows.Row.TheVariants.{Unit as UnitPut}
-use Rattle.plant_model.specs.declared.rows.RowEdit.{RowEdit}
-use Rattle.plant_model.specs.declared.rows.RowEdit.TheVariants.{Put}
-use Rattle.plant_types.specs.Results.{Gives}
-use Rattle.plant_unit.specs.Summaries.{HaveSummaries}
-use Rattle.plant_import.specs.declared.merging.Merged.{Merged}
-use Rattle.plant_model.specs.Facts.{Facts, limit_revision_of}
-use Rattle.plant_model.specs.Refusals.{file_refusals, first_refusal}
-use Rattle.plant_model.specs.RowChanges.{import_changes}
-use Rattle.plant_model.specs.RowFacts.{alarm_tag, change_found, change_number, change_read, facts_among, facts_in, record_tag, shelf_tag, unit_read}
-use Rattle.plant_model.specs.Rows.{change_entry}
-use Rattle.plant_model.specs.declared.reply.Refused.{Refused}
-use Rattle.plant_model.specs.declared.rows.ChangeEntry.{ChangeEntry}
-use Rattle.plant_model.specs.declared.rows.UnitPart.{UnitPart}
-use Rattle.plant_types.specs.Names.{Name, name_cmp}
-use Rattle.plant_types.specs.KeyedRows.{IsInOrder}
-use Rattle.plant_unit.specs.Readings.{has_its_sheet, has_kind, is_left_out, is_matrix_at}
-use Rattle.std.specs.List.{list_all}
-use Rattle.std.specs.Ordering.{nat_cmp}
+use Rattle.std.specs.{List.{list_all}, Ordering.{nat_cmp}}
 use Rattle.std.specs.Prelude.{Err, List, None, Ok, Option, Result, Some, length, true, ℕ, ◌-◌, ◌<◌, ◌||◌, ◌∷◌, ◌≡◌, ◌≤◌}
+use Rattle.plant_model.specs.{Calls.{unit_after}, Facts.{Facts, limit_revision_of}}
+use Rattle.plant_model.specs.Kinds.{Scope, scope_of, AllAlarms, AllEvents, AllGrants, AllRecords, AllShelves, Approval, Content, File, NothingElse, OneAlarm, OneChange, OneRecord, Shelving}
+use Rattle.plant_model.specs.{Refusals.{file_refusals, first_refusal}, RowChanges.{import_changes}}
+use Rattle.plant_model.specs.RowFacts.{alarm_tag, change_found, change_number, change_read, facts_among, facts_in, record_tag, shelf_tag, unit_read}
+use Rattle.plant_model.specs.{Rows.{change_entry}, declared.{call.Request.{Request, TheVariants.{Import}}, reply.{Refused.{Refused}, Reply.{Reply}}}}
+use Rattle.plant_model.specs.declared.{reply.Reply.TheVariants.{Imported}, rows.{ChangeEntry.{ChangeEntry}, Row.TheVariants.{Unit as UnitPut}}}
+use Rattle.plant_model.specs.declared.rows.{RowEdit.{RowEdit, TheVariants.{Put}}, UnitPart.{UnitPart}}
+use Rattle.plant_alarm.specs.declared.event.Event.{Event}
+use Rattle.plant_import.specs.{Merging.{IsRising, first_fault, fresh}, Needed.{needed}, declared.merging.Merged.{Merged}}
+use Rattle.plant_types.specs.{KeyedRows.{IsInOrder}, Names.{Name, name_cmp}, Results.{Gives}}
+use Rattle.plant_unit.specs.{Readings.{has_its_sheet, has_kind, is_left_out, is_matrix_at}, Summaries.{HaveSummaries}}
 
 abbrev pub addition_or : Option Refused → Merged → Result Merged Refused
 addition_or None added = Ok added

@@ -1,22 +1,11 @@
 -- What an import's new events change in summaries and in the rows of alarms.
 use Rattle.std.specs.BTreeSet.{BTreeSet}
-use Rattle.std.specs.Option.{option_to_list}
-use Rattle.std.specs.Prelude.{Bool, IfOk, List, OnOk, Option, Result, Some, [], filter, if◌then◌else◌, map, slice_get, slice_set, ℕ, ◌++◌, ◌∷◌, ◌≡◌}
-use Rattle.plant_alarm.specs.States.{summary}
-use Rattle.plant_alarm.specs.declared.event.Event.{Event}
-use Rattle.plant_alarm.specs.declared.summary.Summary.{Summary}
-use Rattle.plant_import.specs.Merging.{IsRising}
-use Rattle.plant_import.specs.Needed.{needed}
-use Rattle.plant_import.specs.Numbers.{with_events}
-use Rattle.plant_model.specs.RowChanges.{state_put}
-use Rattle.plant_model.specs.RowFacts.{alarm_tag}
-use Rattle.plant_model.specs.declared.rows.AlarmRow.{AlarmRow}
-use Rattle.plant_model.specs.declared.rows.RowEdit.{RowEdit}
-use Rattle.plant_types.specs.KeyedRows.{IsInOrder}
-use Rattle.plant_types.specs.Names.{Name, name_cmp}
-use Rattle.plant_types.specs.Results.{Gives}
-use Rattle.plant_unit.specs.Additions.{AreAdded}
-use Rattle.plant_unit.specs.Summaries.{AreNamed, HaveSummaries, is_named, summaries, summary_of}
+use Rattle.std.specs.Prelude.{option_to_list, Bool, IfOk, List, OnOk, Option, Result, Some, [], filter, if◌then◌else◌, map, slice_get, slice_set, ℕ, ◌++◌, ◌∷◌, ◌≡◌}
+use Rattle.plant_alarm.specs.{States.{summary}, declared.{event.Event.{Event}, summary.Summary.{Summary}}}
+use Rattle.plant_import.specs.{Merging.{IsRising}, Needed.{needed}, Numbers.{with_events}}
+use Rattle.plant_model.specs.{RowChanges.{state_put}, RowFacts.{alarm_tag}, declared.rows.{AlarmRow.{AlarmRow}, RowEdit.{RowEdit}}}
+use Rattle.plant_types.specs.{KeyedRows.{IsInOrder}, Names.{Name, name_cmp}, Results.{Gives}}
+use Rattle.plant_unit.specs.{Additions.{AreAdded}, Summaries.{AreNamed, HaveSummaries, is_named, summaries, summary_of}}
 
 -- the summary at a place, of some events, becomes that of these events and one more
 abbrev pub AddsAt : ℕ → Event → Bool → List Summary → List Summary → Type 0

@@ -1,23 +1,12 @@
 -- The rows that proposals and decisions about changes put.
 use Rattle.std.specs.Prelude.{List, None, Option, Result, map, option_map, true, ◌≡◌}
-use Rattle.plant_model.specs.Facts.{Facts}
-use Rattle.plant_model.specs.RowChanges.{rerated}
-use Rattle.plant_model.specs.RowFacts.{record_read}
-use Rattle.plant_model.specs.Rows.{change_entry}
-use Rattle.plant_model.specs.declared.call.Call.{Call}
-use Rattle.plant_model.specs.declared.reply.ChangeRow.{ChangeRow}
-use Rattle.plant_model.specs.declared.rows.ChangeEntry.{ChangeEntry}
-use Rattle.plant_model.specs.declared.rows.RecordEntry.{RecordEntry}
-use Rattle.plant_model.specs.declared.rows.Row.TheVariants.{Change as ChangePut, Record as RecordPut}
-use Rattle.plant_model.specs.declared.rows.RowEdit.{RowEdit}
-use Rattle.plant_model.specs.declared.rows.RowEdit.TheVariants.{Put}
+use Rattle.plant_model.specs.{Facts.{Facts}, RowChanges.{rerated}, RowFacts.{record_read}, Rows.{change_entry}, declared.call.Call.{Call}}
+use Rattle.plant_model.specs.declared.{reply.ChangeRow.{ChangeRow}, rows.{ChangeEntry.{ChangeEntry}, RecordEntry.{RecordEntry}}}
+use Rattle.plant_model.specs.declared.rows.{Row.TheVariants.{Change as ChangePut, Record as RecordPut}, RowEdit.{RowEdit, TheVariants.{Put}}}
 use Rattle.plant_model.specs.declared.rows.UnitPart.{UnitPart}
-use Rattle.plant_ration.specs.Grid.{Grid}
-use Rattle.plant_ration.specs.declared.change.ChangeState.{ChangeState}
+use Rattle.plant_ration.specs.{Grid.{Grid}, declared.change.ChangeState.{ChangeState}}
 use Rattle.plant_types.specs.Results.{Gives}
-use Rattle.plant_unit.specs.Additions.{AreKept}
-use Rattle.plant_unit.specs.Judged.{decided_row}
-use Rattle.plant_unit.specs.Readings.{has_its_sheet}
+use Rattle.plant_unit.specs.{Additions.{AreKept}, Judged.{decided_row}, Readings.{has_its_sheet}}
 
 -- the row of a change, without the columns of its kind
 abbrev pub bare_entry : ChangeRow → ChangeEntry

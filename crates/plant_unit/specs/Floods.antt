@@ -1,8 +1,7 @@
 -- The lines of floods, whose moments can be written.
 use Rattle.std.specs.Prelude.{IsTrue, ℕ, ◌*◌, ◌+◌, ◌≡◌, ◌≤◌}
 use Rattle.plant_floods.specs.declared.run.Run.{Run}
-use Rattle.plant_model.specs.Events.{flood_line}
-use Rattle.plant_model.specs.declared.reply.FloodLine.{FloodLine}
+use Rattle.plant_model.specs.{Events.{flood_line}, declared.reply.FloodLine.{FloodLine}}
 use Rattle.plant_types.specs.Moment.{is_moment}
 
 -- the line of a run, if it starts and ends at moments

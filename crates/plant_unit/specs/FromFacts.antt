@@ -1,27 +1,14 @@
 -- What a function gives, decides or answers by the facts of a part.
-use Rattle.plant_model.specs.Calls.{own_changes, own_refusals}
 use Rattle.std.specs.Prelude.{IfOk, List, OnOk, Option, Result, ℕ, ◌++◌, ◌≡◌}
+use Rattle.plant_model.specs.{Calls.{own_changes, own_refusals}, Facts.{Facts}, Refusals.{first_refusal, kind_refusals}}
+use Rattle.plant_model.specs.{RowFacts.{facts_among, facts_in}, declared.call.{Call.{Call}, Request.{Request, TheVariants.{Import, Propose}}}}
+use Rattle.plant_model.specs.declared.{reply.{ChangeRow.{ChangeRow}, Refused.{Refused}, Reply.{Reply}}, rows.ChangeEntry.{ChangeEntry}}
+use Rattle.plant_model.specs.declared.rows.{RowEdit.{RowEdit}, UnitPart.{UnitPart}, Verdict.{Verdict}}
 use Rattle.plant_alarm.specs.declared.event.Event.{Event}
 use Rattle.plant_import.specs.declared.bad_file.BadFile.{BadFile}
-use Rattle.plant_model.specs.Facts.{Facts}
-use Rattle.plant_model.specs.Refusals.{first_refusal, kind_refusals}
-use Rattle.plant_model.specs.RowFacts.{facts_among, facts_in}
-use Rattle.plant_model.specs.declared.call.Call.{Call}
-use Rattle.plant_model.specs.declared.call.Request.{Request}
-use Rattle.plant_model.specs.declared.call.Request.TheVariants.{Import, Propose}
-use Rattle.plant_model.specs.declared.reply.ChangeRow.{ChangeRow}
-use Rattle.plant_model.specs.declared.reply.Refused.{Refused}
-use Rattle.plant_model.specs.declared.reply.Reply.{Reply}
-use Rattle.plant_model.specs.declared.rows.ChangeEntry.{ChangeEntry}
-use Rattle.plant_model.specs.declared.rows.RowEdit.{RowEdit}
-use Rattle.plant_model.specs.declared.rows.UnitPart.{UnitPart}
-use Rattle.plant_model.specs.declared.rows.Verdict.{Verdict}
-use Rattle.plant_ration.specs.declared.change.ChangeKind.{ChangeKind}
-use Rattle.plant_ration.specs.declared.change.Proposal.{Proposal}
-use Rattle.plant_types.specs.Names.{Name}
-use Rattle.plant_types.specs.Results.{Gives}
-use Rattle.plant_unit.specs.Additions.{AreEventsFor, AreKept}
-use Rattle.plant_unit.specs.Judged.{IsApproved, IsJudgedOwn, decision, one_change, own_answer}
+use Rattle.plant_ration.specs.declared.change.{ChangeKind.{ChangeKind}, Proposal.{Proposal}}
+use Rattle.plant_types.specs.{Names.{Name}, Results.{Gives}}
+use Rattle.plant_unit.specs.{Additions.{AreEventsFor, AreKept}, Judged.{IsApproved, IsJudgedOwn, decision, one_change, own_answer}}
 
 -- from a part of a legal history: if it succeeds, it gives this of the part's facts
 abbrev pub GivesFrom : {A E : Type 0} → UnitPart → Result A E → (Facts → A) → Type 0

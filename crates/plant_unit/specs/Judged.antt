@@ -1,41 +1,19 @@
 -- What a judgement says.
-use Rattle.plant_model.specs.Calls.{changes_for, own_changes, own_refusals, reply}
 use Rattle.std.specs.Prelude.{Bool, Err, IsOkAnd, List, None, Ok, Option, Result, Some, [], false, if◌then◌else◌, is_ok, is_some, nat_lt, not, true, ℕ, ◌++◌, ◌∷◌, ◌≡◌}
-use Rattle.plant_model.specs.Changes.{priority_by}
-use Rattle.plant_model.specs.declared.call.Call.{Call}
-use Rattle.plant_model.specs.declared.call.Request.{Request}
-use Rattle.plant_model.specs.declared.reply.Refused.{Refused}
-use Rattle.plant_model.specs.declared.reply.Reply.{Reply}
-use Rattle.plant_model.specs.declared.reply.Reply.TheVariants.{Done}
-use Rattle.plant_model.specs.declared.rows.RowEdit.{RowEdit}
-use Rattle.plant_model.specs.declared.rows.RowEdit.TheVariants.{Put}
-use Rattle.plant_model.specs.declared.reply.ChangeRow.{ChangeRow}
-use Rattle.plant_model.specs.declared.rows.ChangeEntry.{ChangeEntry}
-use Rattle.plant_model.specs.declared.rows.Row.TheVariants.{Change as ChangePut, Unit as UnitPut}
-use Rattle.plant_ration.specs.Grid.{Grid}
-use Rattle.plant_ration.specs.Matrix.{priority_of}
-use Rattle.plant_ration.specs.declared.cell.Cell.{Cell}
-use Rattle.plant_ration.specs.declared.change.ChangeKind.TheVariants.{Rationale}
-use Rattle.plant_ration.specs.declared.change.ChangeState.{ChangeState}
-use Rattle.plant_ration.specs.declared.change.ChangeState.TheVariants.{Approved}
-use Rattle.plant_ration.specs.declared.change.Sheet.{Sheet}
-use Rattle.plant_model.specs.declared.rows.UnitPart.{UnitPart}
-use Rattle.plant_model.specs.declared.rows.UnitRow.{UnitRow}
-use Rattle.plant_model.specs.declared.rows.Verdict.{Verdict}
-use Rattle.plant_model.specs.declared.rows.Verdict.TheVariants.{Accepted as IsAccepted, Refused as IsRefused}
-use Rattle.plant_model.specs.Facts.{Facts, last_of}
-use Rattle.plant_model.specs.Legality.{IsLegal}
-use Rattle.plant_model.specs.Parts.{part_of}
-use Rattle.plant_model.specs.Kinds.{role_needed, says}
+use Rattle.plant_model.specs.{Calls.{changes_for, own_changes, own_refusals, reply}, Changes.{priority_by}, Facts.{Facts, last_of}}
+use Rattle.plant_model.specs.{Kinds.{role_needed, says}, Legality.{IsLegal}, Parts.{part_of}}
 use Rattle.plant_model.specs.Refusals.{base_changed, first_refusal, has_row, holds_some, is_not_needed, kind_refusals, lacks_role, of_change}
+use Rattle.plant_model.specs.{RowChanges.{changed_by, in_force, kind_row, no_rows, puts_unit}, RowFacts.{change_read, facts_in}, Rows.{rows_of}}
+use Rattle.plant_model.specs.{Verdicts.{after, changes_history, refused_or, verdict, verdict_of}, Worlds.{opening}, declared.call.Call.{Call}}
+use Rattle.plant_model.specs.declared.{call.Request.{Request}, reply.{ChangeRow.{ChangeRow}, Refused.{Refused}}}
 use Rattle.plant_model.specs.declared.reply.Refused.TheVariants.{MomentBehind, NotAnAlarm, NotGranted, NotProposer, OutsideMatrix, SamePerson}
-use Rattle.plant_model.specs.RowChanges.{changed_by, in_force, kind_row, no_rows, puts_unit}
-use Rattle.plant_model.specs.RowFacts.{change_read, facts_in}
-use Rattle.plant_model.specs.Rows.{rows_of}
-use Rattle.plant_model.specs.Verdicts.{after, changes_history, refused_or, verdict, verdict_of}
-use Rattle.plant_model.specs.Worlds.{opening}
+use Rattle.plant_model.specs.declared.{reply.Reply.{Reply, TheVariants.{Done}}, rows.ChangeEntry.{ChangeEntry}}
+use Rattle.plant_model.specs.declared.rows.{Row.TheVariants.{Change as ChangePut, Unit as UnitPut}, RowEdit.{RowEdit, TheVariants.{Put}}}
+use Rattle.plant_model.specs.declared.rows.{UnitPart.{UnitPart}, UnitRow.{UnitRow}, UnitRows.{UnitRows}, Verdict.{Verdict}}
+use Rattle.plant_model.specs.declared.rows.Verdict.TheVariants.{Accepted as IsAccepted, Refused as IsRefused}
+use Rattle.plant_ration.specs.{Grid.{Grid}, Matrix.{priority_of}, declared.{cell.Cell.{Cell}, change.ChangeKind.TheVariants.{Rationale}}}
+use Rattle.plant_ration.specs.declared.change.{ChangeState.{ChangeState, TheVariants.{Approved}}, Sheet.{Sheet}}
 use Rattle.plant_alarm.specs.declared.event.Event.{Event}
-use Rattle.plant_model.specs.declared.rows.UnitRows.{UnitRows}
 use Rattle.plant_types.specs.Names.{Name, same_name}
 use Rattle.plant_unit.specs.Additions.{AreEventsFor}
 

@@ -1,20 +1,11 @@
 -- What is read from rows, where all of it is there.
-use Rattle.std.specs.List.{list_any}
-use Rattle.plant_model.specs.Facts.{Facts}
-use Rattle.plant_model.specs.Refusals.{has_row}
+use Rattle.std.specs.{List.{list_any}, Prelude.{Bool, Option, false, not, is_some, length, option_map, true, unwrap_or, ℕ, ◌&&◌, ◌==◌}}
+use Rattle.plant_model.specs.{Facts.{Facts}, Refusals.{has_row}}
 use Rattle.plant_model.specs.RowFacts.{change_found, change_read, record_read, kind_read, matrix_read, sheet_read}
-use Rattle.plant_model.specs.declared.reply.ChangeRow.{ChangeRow}
-use Rattle.plant_model.specs.declared.rows.ChangeEntry.{ChangeEntry}
-use Rattle.plant_model.specs.declared.rows.ChangeTopic.{ChangeTopic}
-use Rattle.plant_model.specs.declared.rows.ChangeTopic.TheVariants.{Limit, Matrix, Record}
-use Rattle.plant_model.specs.declared.rows.RecordEntry.{RecordEntry}
-use Rattle.plant_model.specs.declared.rows.UnitRows.{UnitRows}
-use Rattle.plant_ration.specs.Grid.{Grid}
-use Rattle.plant_ration.specs.Matrix.{is_matrix}
-use Rattle.plant_ration.specs.declared.change.ChangeKind.{ChangeKind}
-use Rattle.plant_ration.specs.declared.change.Sheet.{Sheet}
+use Rattle.plant_model.specs.declared.{reply.ChangeRow.{ChangeRow}, rows.{ChangeEntry.{ChangeEntry}, ChangeTopic.{ChangeTopic}}}
+use Rattle.plant_model.specs.declared.rows.{ChangeTopic.TheVariants.{Limit, Matrix, Record}, RecordEntry.{RecordEntry}, UnitRows.{UnitRows}}
+use Rattle.plant_ration.specs.{Grid.{Grid}, Matrix.{is_matrix}, declared.change.{ChangeKind.{ChangeKind}, Sheet.{Sheet}}}
 use Rattle.plant_types.specs.Options.{when}
-use Rattle.std.specs.Prelude.{Bool, Option, false, not, is_some, length, option_map, true, unwrap_or, ℕ, ◌&&◌, ◌==◌}
 
 -- the matrix of a number
 abbrev pub is_matrix_at : UnitRows → ℕ → Bool

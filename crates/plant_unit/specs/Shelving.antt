@@ -1,25 +1,13 @@
 -- What shelving an alarm changes, and by which result name it is refused (OPC 10000-9).
 use Rattle.std.specs.Prelude.{Bool, List, Option, Result, Some, [], false, not, true, ℕ, ◌&&◌, ◌∷◌}
-use Rattle.plant_alarm.specs.Shelves.{is_unshelved, shelf_state}
-use Rattle.plant_alarm.specs.declared.shelf.Shelf.{Shelf}
-use Rattle.plant_alarm.specs.declared.shelf.Shelf.TheVariants.{Clear, OneShot, Timed}
+use Rattle.plant_alarm.specs.{Shelves.{is_unshelved, shelf_state}, declared.shelf.Shelf.{Shelf, TheVariants.{Clear, OneShot, Timed}}}
 use Rattle.plant_alarm.specs.declared.shelf.ShelfRefused.{ShelfRefused}
 use Rattle.plant_alarm.specs.declared.shelf.ShelfRefused.TheVariants.{ConditionAlreadyShelved, ConditionNotShelved, ShelvingTimeOutOfRange}
-use Rattle.plant_model.specs.Facts.{Facts, returned}
-use Rattle.plant_model.specs.Refusals.{first_refusal, over_quota}
-use Rattle.plant_model.specs.Replies.{line_of}
-use Rattle.plant_model.specs.RowFacts.{facts_in}
-use Rattle.plant_model.specs.Shelves.{shelf_left, shelf_row_as}
-use Rattle.plant_model.specs.declared.call.Call.{Call}
-use Rattle.plant_model.specs.declared.reply.Refused.{Refused}
-use Rattle.plant_model.specs.declared.reply.ShelfLine.{ShelfLine}
+use Rattle.plant_model.specs.{Facts.{Facts, returned}, Refusals.{first_refusal, over_quota}, Replies.{line_of}, RowFacts.{facts_in}}
+use Rattle.plant_model.specs.{Shelves.{shelf_left, shelf_row_as}, declared.{call.Call.{Call}, reply.Refused.{Refused}}}
 use Rattle.plant_model.specs.declared.reply.Refused.TheVariants.{ConditionAlreadyShelved as IsShelved, ConditionNotShelved as IsUnshelved, ShelvingTimeOutOfRange as IsOutOfRange}
-use Rattle.plant_model.specs.declared.rows.RowEdit.{RowEdit}
-use Rattle.plant_model.specs.declared.rows.RowEdit.TheVariants.{Put, Remove}
-use Rattle.plant_model.specs.declared.rows.Key.TheVariants.{Shelf as ShelfKey}
-use Rattle.plant_model.specs.declared.rows.Row.TheVariants.{Shelf as ShelfPut}
-use Rattle.plant_model.specs.declared.rows.AlarmRow.{AlarmRow}
-use Rattle.plant_model.specs.declared.rows.ShelfRow.{ShelfRow}
+use Rattle.plant_model.specs.declared.{reply.ShelfLine.{ShelfLine}, rows.{AlarmRow.{AlarmRow}, Key.TheVariants.{Shelf as ShelfKey}}}
+use Rattle.plant_model.specs.declared.rows.{Row.TheVariants.{Shelf as ShelfPut}, RowEdit.{RowEdit, TheVariants.{Put, Remove}}, ShelfRow.{ShelfRow}}
 use Rattle.plant_model.specs.declared.rows.UnitPart.{UnitPart}
 use Rattle.plant_types.specs.Names.{Name, same_name}
 use Rattle.plant_unit.specs.Judged.{decided_or}

@@ -1,13 +1,9 @@
 -- The state of each alarm, computed from the events of all.
-use Rattle.plant_alarm.specs.States.{summary}
-use Rattle.plant_alarm.specs.declared.event.Event.{Event}
-use Rattle.plant_alarm.specs.declared.summary.Summary.{Summary}
+use Rattle.std.specs.{BTreeSet.{BTreeSet, contains}, List.{list_any}, Prelude.{Bool, List, map, ◌≡◌}}
+use Rattle.plant_alarm.specs.{States.{summary}, declared.{event.Event.{Event}, summary.Summary.{Summary}}}
 use Rattle.plant_floods.specs.Activations.{of_alarm}
 use Rattle.plant_model.specs.declared.rows.AlarmRow.{AlarmRow}
 use Rattle.plant_types.specs.Names.{Name, name_cmp, same_name}
-use Rattle.std.specs.BTreeSet.{BTreeSet, contains}
-use Rattle.std.specs.List.{list_any}
-use Rattle.std.specs.Prelude.{Bool, List, map, ◌≡◌}
 
 -- what an alarm's own events come to
 abbrev pub summary_of : List Event → AlarmRow → Summary

@@ -4,8 +4,8 @@ ghost use Rattle.std.specs.Prelude.{◌≡◌, ◌++◌, ◌∷◌, [], IfOk, On
 ghost use Rattle.plant_types.specs.Results.{Gives, OnlyMemory};
 ghost use Rattle.plant_import.specs.Numbers.{with_events};
 ghost use Rattle.plant_unit.specs.Alarms.{AddsEvents, AddsAt, ForImport, GivesAnew, GivesNamed, GivesOn, PushesNamed, states_after};
-ghost use Rattle.plant_unit.specs.Summaries as states;
 ghost use Rattle.plant_unit.specs.Summaries.{AreNamed};
+ghost use Rattle.plant_unit.specs.Summaries as states;
 
 use plant_alarm::{Event, Summary};
 use plant_import::{events_after, has_late, rise};

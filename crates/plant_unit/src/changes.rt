@@ -1,10 +1,8 @@
 //! The changes of an opening, and which requests change nothing.
 
-ghost use Rattle.plant_model.specs.Calls.{changes_for};
 ghost use Rattle.std.specs.Prelude.{◌≡◌, [], IfOk, true};
+ghost use Rattle.plant_model.specs.{Calls.{changes_for}, Facts.{facts}, Verdicts.{is_opening, is_read}};
 ghost use Rattle.plant_types.specs.Results.{OnlyMemory};
-ghost use Rattle.plant_model.specs.Facts.{facts};
-ghost use Rattle.plant_model.specs.Verdicts.{is_opening, is_read};
 
 use crate::matrices::push_matrix;
 use plant_model::{Call, Effect, GrantRow, Request, Row, RowEdit, UnitRow};

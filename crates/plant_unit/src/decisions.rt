@@ -3,16 +3,12 @@
 ghost use Rattle.std.specs.Prelude.{◌≡◌, ◌<◌, ◌+◌, ◌++◌, IfOk, None};
 ghost use Rattle.plant_types.specs.Results.{Gives, OnlyMemory};
 ghost use Rattle.plant_ration.specs.declared.change.ChangeKind.TheVariants.{Limit, Matrix as MatrixKind, Rationale};
-ghost use Rattle.plant_model.specs.Changes.{priority_by};
-ghost use Rattle.plant_model.specs.RowChanges.{in_force, kind_row};
-ghost use Rattle.plant_model.specs.RowFacts.{facts_in, unit_read};
-ghost use Rattle.plant_model.specs.Rows as rows;
-ghost use Rattle.plant_model.specs.Rows.{change_entry};
+ghost use Rattle.plant_model.specs.{Changes.{priority_by}, RowChanges.{in_force, kind_row}, RowFacts.{facts_in, unit_read}, Rows.{change_entry}};
 ghost use Rattle.plant_model.specs.declared.call.Request.TheVariants.{Approve, Propose, Reject, WithdrawChange};
-ghost use Rattle.plant_unit.specs.Additions.{AreKept};
-ghost use Rattle.plant_unit.specs.Deciding as deciding;
-ghost use Rattle.plant_unit.specs.Deciding.{GivesRerated, decided_put, rerated_puts};
+ghost use Rattle.plant_unit.specs.{Additions.{AreKept}, Deciding.{GivesRerated, decided_put, rerated_puts}};
 ghost use Rattle.plant_unit.specs.FromFacts.{AddsFrom, AddsProposal, ApprovesFrom, DecidesFrom, JudgesFrom, RefusesFrom, refusal_of_kind};
+ghost use Rattle.plant_model.specs.Rows as rows;
+ghost use Rattle.plant_unit.specs.Deciding as deciding;
 
 use crate::matrices::push_matrix;
 use crate::proposals::{

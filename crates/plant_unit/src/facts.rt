@@ -1,14 +1,12 @@
 //! The facts that a verdict looks at, read from the rows of a part.
 
 ghost use Rattle.std.specs.Prelude.{◌≡◌, count_by, option_copied};
-ghost use Rattle.plant_types.specs.Names.{name_cmp};
-ghost use Rattle.plant_types.specs.KeyedRows.{row_at};
+ghost use Rattle.plant_types.specs.{KeyedRows.{row_at}, Names.{name_cmp}};
 ghost use Rattle.plant_alarm.specs.Shelves.{is_unshelved, shelf_state};
-ghost use Rattle.plant_model.specs.Shelves as shelves;
-ghost use Rattle.plant_model.specs.Facts.{is_steward_row, others_shelved, returned, shelf_now};
-ghost use Rattle.plant_model.specs.Refusals.{holds_some};
+ghost use Rattle.plant_model.specs.{Facts.{is_steward_row, others_shelved, returned, shelf_now}, Refusals.{holds_some}};
 ghost use Rattle.plant_model.specs.RowFacts.{facts_in, shelf_tag};
 ghost use Rattle.plant_unit.specs.Additions.{AreKept};
+ghost use Rattle.plant_model.specs.Shelves as shelves;
 ghost use Rattle.plant_unit.specs.Shelving as shelving;
 
 use plant_alarm::{Shelf, ShelfState, shelf_at};

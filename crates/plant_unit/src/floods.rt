@@ -1,11 +1,9 @@
 //! The floods of alarms in a range of moments.
 
 ghost use Rattle.std.specs.Prelude.{◌≡◌, ◌+◌, ◌*◌, All, IsTrue, map, ℕ};
-ghost use Rattle.plant_types.specs.Moment.{is_moment};
-ghost use Rattle.plant_types.specs.Results.{Gives, OnlyMemory};
+ghost use Rattle.plant_types.specs.{Moment.{is_moment}, Results.{Gives, OnlyMemory}};
+ghost use Rattle.plant_unit.specs.{Additions.{AreFew}, Floods.{EndsBy, IsLineOf}};
 ghost use Rattle.plant_model.specs.Events as flood;
-ghost use Rattle.plant_unit.specs.Additions.{AreFew};
-ghost use Rattle.plant_unit.specs.Floods.{EndsBy, IsLineOf};
 
 use plant_alarm::Event;
 use plant_floods::{Run, floods, period_counts};

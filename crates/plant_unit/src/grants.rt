@@ -1,8 +1,7 @@
 //! Granting roles and withdrawing them.
 
 ghost use Rattle.std.specs.Prelude.{◌≡◌};
-ghost use Rattle.plant_types.specs.Names.{Name};
-ghost use Rattle.plant_types.specs.Results.{OnlyMemory};
+ghost use Rattle.plant_types.specs.{Names.{Name}, Results.{OnlyMemory}};
 ghost use Rattle.plant_model.specs.declared.call.Request.TheVariants.{Grant, Withdraw};
 ghost use Rattle.plant_unit.specs.FromFacts.{DecidesAlways, DecidesAs};
 

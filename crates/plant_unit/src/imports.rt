@@ -3,8 +3,7 @@
 ghost use Rattle.std.specs.Prelude.{◌≡◌, ◌+◌, IfOk, map, nat_lt};
 ghost use Rattle.plant_types.specs.Results.{OnlyMemory};
 ghost use Rattle.plant_model.specs.RowFacts.{alarm_tag, unit_read};
-ghost use Rattle.plant_unit.specs.Additions.{AreFew, GivesAddition, GivesImport, import_reply};
-ghost use Rattle.plant_unit.specs.FromFacts.{JudgesImport};
+ghost use Rattle.plant_unit.specs.{Additions.{AreFew, GivesAddition, GivesImport, import_reply}, FromFacts.{JudgesImport}};
 
 use crate::alarms::push_alarms;
 use plant_alarm::Event;

@@ -1,16 +1,11 @@
 //! Records and changes, read from the rows of a part.
 
-ghost use Rattle.std.specs.Prelude.{◌≡◌, IfOk, option_copied, option_map};
-ghost use Rattle.std.specs.Ordering.{nat_cmp};
-ghost use Rattle.plant_types.specs.Names.{name_cmp};
-ghost use Rattle.plant_types.specs.KeyedRows.{row_at};
-ghost use Rattle.plant_types.specs.Results.{Gives, OnlyMemory};
+ghost use Rattle.std.specs.{Ordering.{nat_cmp}, Prelude.{◌≡◌, IfOk, option_copied, option_map}};
+ghost use Rattle.plant_types.specs.{KeyedRows.{row_at}, Names.{name_cmp}, Results.{Gives, OnlyMemory}};
 ghost use Rattle.plant_model.specs.RowFacts.{change_number, facts_in, record_from, record_tag};
 ghost use Rattle.plant_model.specs.declared.rows.ChangeTopic.TheVariants.{Limit as LimitTopic, Matrix as MatrixTopic, Record as RecordTopic};
 ghost use Rattle.plant_model.specs.declared.rows.UnitRows.{UnitRows as TheRows};
-ghost use Rattle.plant_unit.specs.Additions.{AreKept};
-ghost use Rattle.plant_unit.specs.FromFacts.{GivesFrom};
-ghost use Rattle.plant_unit.specs.Readings.{change_whole, kind_found, sheet_found, source_found};
+ghost use Rattle.plant_unit.specs.{Additions.{AreKept}, FromFacts.{GivesFrom}, Readings.{change_whole, kind_found, sheet_found, source_found}};
 
 use crate::matrices::matrix_of;
 use plant_model::{

@@ -1,8 +1,7 @@
 //! The refusals of a caller who may not make the call, whatever it asks for.
 
 ghost use Rattle.std.specs.Prelude.{◌≡◌};
-ghost use Rattle.plant_model.specs.RowFacts.{facts_in, unit_read};
-ghost use Rattle.plant_model.specs.Refusals.{first_refusal};
+ghost use Rattle.plant_model.specs.{Refusals.{first_refusal}, RowFacts.{facts_in, unit_read}};
 ghost use Rattle.plant_unit.specs.Judged.{holder_refusals};
 
 use crate::facts::{holds_any, is_held};

@@ -1,16 +1,12 @@
 //! The answers to calls that only ask.
 
 ghost use Rattle.std.specs.Prelude.{◌≡◌, ℕ};
-ghost use Rattle.plant_types.specs.Names.{Name};
-ghost use Rattle.plant_types.specs.Results.{Gives, OnlyMemory};
-ghost use Rattle.plant_model.specs.Facts.{returned};
-ghost use Rattle.plant_model.specs.Replies as replies;
-ghost use Rattle.plant_model.specs.Replies.{shelf_lines};
-ghost use Rattle.plant_model.specs.RowFacts.{facts_in};
-ghost use Rattle.plant_unit.specs.Additions.{AreFew, AreKept};
-ghost use Rattle.plant_unit.specs.FromFacts.{Answers, AnswersAlways, AnswersAnyone, GivesFrom};
-ghost use Rattle.plant_unit.specs.Shelving.{is_shelved, line_at};
+ghost use Rattle.plant_types.specs.{Names.{Name}, Results.{Gives, OnlyMemory}};
+ghost use Rattle.plant_model.specs.{Facts.{returned}, Replies.{shelf_lines}, RowFacts.{facts_in}};
 ghost use Rattle.plant_model.specs.declared.call.Request.TheVariants.{Alarms as AlarmsCall, ChangeOf as ChangeCall, Floods as FloodsCall, RecordOf as RecordCall, Shelves as ShelvesCall, Standing as StandingCall, Status as StatusCall};
+ghost use Rattle.plant_unit.specs.{Additions.{AreFew, AreKept}, FromFacts.{Answers, AnswersAlways, AnswersAnyone, GivesFrom}};
+ghost use Rattle.plant_unit.specs.Shelving.{is_shelved, line_at};
+ghost use Rattle.plant_model.specs.Replies as replies;
 
 use crate::facts::{returned_near, state_now, state_of};
 use crate::floods::{flood_lines, is_aligned};

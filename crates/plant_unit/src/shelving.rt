@@ -1,14 +1,10 @@
 //! Shelving and unshelving an alarm: `plant_alarm` decides, and after it the unit's quota.
 
 ghost use Rattle.std.specs.Prelude.{◌≡◌};
-ghost use Rattle.plant_types.specs.Names.{Name};
-ghost use Rattle.plant_types.specs.Results.{Gives, OnlyMemory};
-ghost use Rattle.plant_model.specs.RowFacts.{unit_read};
-ghost use Rattle.plant_model.specs.declared.call.Request.TheVariants.{OneShotShelve, TimedShelve, Unshelve};
-ghost use Rattle.plant_unit.specs.Additions.{AreKept};
-ghost use Rattle.plant_unit.specs.FromFacts.{DecidesAs, DecidesFrom, GivesOne};
+ghost use Rattle.plant_types.specs.{Names.{Name}, Results.{Gives, OnlyMemory}};
+ghost use Rattle.plant_model.specs.{RowFacts.{unit_read}, declared.call.Request.TheVariants.{OneShotShelve, TimedShelve, Unshelve}};
+ghost use Rattle.plant_unit.specs.{Additions.{AreKept}, FromFacts.{DecidesAs, DecidesFrom, GivesOne}, Shelving.{shelf_decision}};
 ghost use Rattle.plant_unit.specs.Shelving as shelving;
-ghost use Rattle.plant_unit.specs.Shelving.{shelf_decision};
 
 use crate::facts::{others_shelved, shelf_left, shelf_of};
 use plant_alarm::{Shelf, ShelfRefused, one_shot, timed, unshelve};

@@ -1,10 +1,8 @@
 //! Verdicts, from what was decided about a call.
 
 ghost use Rattle.std.specs.Prelude.{◌≡◌, ◌∷◌, [], IfErr, IfOk, IsOkAnd};
-ghost use Rattle.plant_types.specs.Results.{OnlyMemory};
-ghost use Rattle.plant_types.specs.declared.fault.Fault.TheVariants.{Memory};
-ghost use Rattle.plant_model.specs.declared.rows.RowEdit.TheVariants.{Put};
-ghost use Rattle.plant_model.specs.declared.rows.Row.TheVariants.{Unit as UnitPut};
+ghost use Rattle.plant_types.specs.{Results.{OnlyMemory}, declared.fault.Fault.TheVariants.{Memory}};
+ghost use Rattle.plant_model.specs.declared.rows.{Row.TheVariants.{Unit as UnitPut}, RowEdit.TheVariants.{Put}};
 ghost use Rattle.plant_unit.specs.Judged.{IsDone, answered_as};
 
 use plant_model::{Refused, Reply, Row, RowEdit, UnitRow, Verdict};

@@ -1,22 +1,16 @@
 -- One run of answers after another is one run.
-use Rattle.std.proofs.Common.{◌≡◌, ℕ, ◌+◌, List, [], ◌∷◌, ◌++◌, take, drop, map, Option, refl, sym, ap, subst, ◌∙◌, append_assoc, append-nil}
-use Rattle.std.specs.Prelude.{Result, Ok, Err, IfErr}
 use Rattle.std.specs.Io.KnownBytes.{Appends}
-use Rattle.plant_model.specs.declared.call.Call.{Call}
-use Rattle.plant_types.specs.declared.fault.Fault as faults
-use Rattle.plant_model.specs.declared.reply.Answer.{Answer}
-use Rattle.plant_model.specs.declared.reply.Answer.TheVariants as answers
+use Rattle.std.proofs.Common.{◌≡◌, ℕ, ◌+◌, List, [], ◌∷◌, ◌++◌, take, drop, map, Option, refl, sym, ap, subst, ◌∙◌, append_assoc, append-nil, Result, Ok, Err, IfErr}
+use Rattle.plant_model.specs.declared.{call.Call.{Call}, reply.Answer.{Answer}}
 use Rattle.plant_answer.specs.Answers.{text_of}
-use Rattle.plant_call.specs.Front.{Item, waits, whole, broken, StandsAtFront, Parsed}
-use Rattle.plant_call.specs.Cut.{WaitsBelow}
-use Rattle.plant_call.specs.declared.causes.Cause.{Cause}
+use Rattle.plant_call.specs.{Cut.{WaitsBelow}, Front.{Item, waits, whole, broken, StandsAtFront, Parsed}, declared.causes.Cause.{Cause}}
 use Rattle.plant_wire.specs.Causes.{cause_text}
 use Rattle.plant_wire.specs.Marks.{Mark, said, malformed, item_of, mark_text, out_of, calls_of, answers_of, Last, nothing, begun, breaking, last_text, last_marks, IsSaid, IsFaultless}
-use Rattle.plant_wire.specs.declared.step.Stop.{Stop}
-use Rattle.plant_wire.specs.declared.step.Stop.TheVariants.{WriteFailed, Fault}
-use Rattle.plant_wire.specs.Step.{IsPut, IsAnswer, IsStopped, StopsFor, AnswersFront, ServesBroken}
-use Rattle.plant_wire.proofs.public.Growing.{Appends-none, Appends-append, drop-add}
+use Rattle.plant_wire.specs.{Step.{IsPut, IsAnswer, IsStopped, StopsFor, AnswersFront, ServesBroken}, declared.step.Stop.{Stop}}
+use Rattle.plant_wire.{specs.declared.step.Stop.TheVariants.{WriteFailed, Fault}, proofs.public.Growing.{Appends-none, Appends-append, drop-add}}
 use Rattle.plant_wire.proofs.public.Running.{Joins}
+use Rattle.plant_types.specs.declared.fault.Fault as faults
+use Rattle.plant_model.specs.declared.reply.Answer.TheVariants as answers
 
 -- a session may stop within an answer that is none by a fault, whatever the cause
 pub stops_for : (last : Last) (stop : Stop) → IsFaultless last → StopsFor last stop

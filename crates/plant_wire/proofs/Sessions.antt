@@ -1,19 +1,12 @@
 -- The ways in which a session goes on or ends, from where it stands.
-use Rattle.std.proofs.Common.{◌≡◌, ◌⊎◌, ◌<◌, ℕ, List, [], ◌∷◌, ◌++◌, length, drop, map, Bool, false, ◌==◌, Option, refl, sym, ap, subst, inl, inr, append-nil, arith}
-use Rattle.std.specs.Prelude.{IsTrue}
 use Rattle.std.specs.Io.KnownBytes.{Consumes, IsAtEnd}
-use Rattle.plant_model.specs.declared.call.Call.{Call}
-use Rattle.plant_model.specs.declared.reply.Answer.{Answer}
-use Rattle.plant_call.specs.Front.{waits, body_length, item_of as item_from_head, StandsAtFront}
-use Rattle.plant_call.proofs.public.Cuts.{Parses-append}
-use Rattle.plant_wire.specs.Marks.{item_of}
-use Rattle.plant_wire.specs.Step.{IsStopped, AnswersFront, ServesBroken}
-use Rattle.plant_wire.specs.declared.step.Stop.{Stop}
+use Rattle.std.proofs.Common.{◌≡◌, ◌⊎◌, ◌<◌, ℕ, List, [], ◌∷◌, ◌++◌, length, drop, map, Bool, false, ◌==◌, Option, refl, sym, ap, subst, inl, inr, append-nil, arith, IsTrue}
+use Rattle.plant_model.specs.declared.{call.Call.{Call}, reply.Answer.{Answer}}
+use Rattle.plant_call.{specs.Front.{waits, body_length, item_of as item_from_head, StandsAtFront}, proofs.public.Cuts.{Parses-append}}
+use Rattle.plant_wire.specs.{Marks.{item_of}, Session.{IsIdle, IsCutShort}, Step.{IsStopped, AnswersFront, ServesBroken}, declared.step.Stop.{Stop}}
 use Rattle.plant_wire.specs.declared.step.Stop.TheVariants.{Fault}
-use Rattle.plant_wire.specs.Session.{IsIdle, IsCutShort}
-use Rattle.plant_wire.proofs.public.Growing.{Consumes-none, Consumes-append}
-use Rattle.plant_wire.proofs.public.Running.{Joins}
 use Rattle.plant_wire.proofs.Serving.{serves_none, serves_more, serves_then_broken, serves_then_part, serves_part}
+use Rattle.plant_wire.proofs.public.{Growing.{Consumes-none, Consumes-append}, Running.{Joins}}
 
 pub some_left : (buffer seen : List ℕ) (b : Bool) → seen ≡ buffer → b ≡ (length seen == 0) → b ≡ false → 0 < length buffer
 some_left buffer [] b is e none = cc

@@ -1,8 +1,6 @@
 -- The answer to a malformed request.
 use Rattle.std.specs.Prelude.{ℕ, List, ◌++◌, codes, decimal}
-use Rattle.plant_answer.specs.Json.{quoted}
-use Rattle.plant_answer.specs.Response.{response}
-use Rattle.plant_answer.specs.declared.responses.Media.TheVariants.{Json}
+use Rattle.plant_answer.specs.{Json.{quoted}, Response.{response}, declared.responses.Media.TheVariants.{Json}}
 use Rattle.plant_call.specs.declared.causes.Cause.{Cause}
 use Rattle.plant_call.specs.declared.causes.Cause.TheVariants.{HeadSyntax, HeadTooLong, LengthWrong, BodyTooLong, Chunked, NoRoute, BadPerson, BadMoment, BadPath, BadBody, MatrixShape, BandsNotRising, NotOrdered}
 

@@ -1,12 +1,10 @@
 -- What is written for a list of requests.
 use Rattle.std.specs.Prelude.{ℕ, List, [], ◌∷◌, ◌++◌}
-use Rattle.plant_model.specs.declared.call.Call.{Call}
-use Rattle.plant_model.specs.declared.reply.Answer.{Answer}
-use Rattle.plant_model.specs.declared.reply.Answer.TheVariants as answer
+use Rattle.plant_model.specs.declared.{call.Call.{Call}, reply.Answer.{Answer}}
 use Rattle.plant_answer.specs.Answers.{text_of}
-use Rattle.plant_call.specs.Front.{Item, asked, bad}
-use Rattle.plant_call.specs.declared.causes.Cause.{Cause}
+use Rattle.plant_call.specs.{Front.{Item, asked, bad}, declared.causes.Cause.{Cause}}
 use Rattle.plant_wire.specs.Causes.{cause_text}
+use Rattle.plant_model.specs.declared.reply.Answer.TheVariants as answer
 
 -- a request with its answer: a call with the answer of the office, or the cause for which it is malformed
 pub data Mark : Type 0 where

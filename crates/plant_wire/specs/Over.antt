@@ -1,14 +1,10 @@
 -- The words of a session, said of a reader, a writer and an office's books before and after.
+use Rattle.std.specs.Prelude.{List, ℕ}
+use Rattle.plant_model.specs.declared.{call.Call.{Call}, reply.Answer.{Answer}}
+use Rattle.plant_wire.specs.{Ran.{Ran}, Session.{IsRead, IsSession, StopsAs}, declared.reads.{End.{End}, Read.{Read}}}
 use Rattle.plant_books.specs.declared.books.Books as books
-use Rattle.plant_model.specs.declared.call.Call.{Call}
-use Rattle.plant_model.specs.declared.reply.Answer.{Answer}
-use Rattle.plant_wire.specs.Ran.{Ran}
-use Rattle.plant_wire.specs.Session.{IsRead, IsSession, StopsAs}
-use Rattle.plant_wire.specs.declared.reads.End.{End}
-use Rattle.plant_wire.specs.declared.reads.Read.{Read}
 use Rattle.plant_wire.specs.declared.streams.Inlet as inlet
 use Rattle.plant_wire.specs.declared.streams.Outlet as outlet
-use Rattle.std.specs.Prelude.{List, ℕ}
 
 -- the office ran these calls, with these answers, on its books
 abbrev pub RanOn : {B : Type 0} → books.Ghosts B → B → B → List Call → List Answer → Type 0

@@ -1,11 +1,8 @@
 -- What the office did.
 use Rattle.std.specs.Prelude.{◌≡◌, ◌<◌, ◌+◌, ◌^◌, ℕ, List}
-use Rattle.plant_model.specs.declared.call.Call.{Call}
-use Rattle.plant_model.specs.declared.reply.Answer.{Answer}
-use Rattle.plant_model.specs.Worlds.{World, IsLegalWorld}
+use Rattle.plant_model.specs.{Worlds.{World, IsLegalWorld}, declared.{call.Call.{Call}, reply.Answer.{Answer}}}
 use Rattle.plant_books.specs.Contents.{Content}
-use Rattle.plant_office.specs.Served.{Holds}
-use Rattle.plant_office.specs.Runs.{IsRun, stores_in}
+use Rattle.plant_office.specs.{Runs.{IsRun, stores_in}, Served.{Holds}}
 
 -- From any world whose rows the books held, the calls got these answers, and the books hold the rows of the world
 -- after them. A call that was answered by a fault counts as never made. `premise` is the keeper's premise at the end. The

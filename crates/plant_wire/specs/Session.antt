@@ -1,17 +1,12 @@
 -- What a session did, by how it ended. `unread` is what the reader has left, where that is known, and `written` what the
 -- writer holds; `failed` counts failed reads, `lost` failed writes, `reads` all reads, each before and after. `ended` says
 -- whether the input's end was seen.
+use Rattle.std.specs.{Io.KnownBytes.{Consumes, IsAtEnd}, Prelude.{◌≡◌, ◌⊎◌, ◌<◌, ◌≤◌, ◌+◌, ℕ, List, [], ◌++◌, length, Bool, IsTrue, Option}}
 use Rattle.plant_types.specs.Limits.{max_reads}
-use Rattle.std.specs.Prelude.{◌≡◌, ◌⊎◌, ◌<◌, ◌≤◌, ◌+◌, ℕ, List, [], ◌++◌, length, Bool, IsTrue, Option}
-use Rattle.std.specs.Io.KnownBytes.{Consumes, IsAtEnd}
-use Rattle.plant_model.specs.declared.call.Call.{Call}
-use Rattle.plant_model.specs.declared.reply.Answer.{Answer}
+use Rattle.plant_model.specs.declared.{call.Call.{Call}, reply.Answer.{Answer}}
 use Rattle.plant_call.specs.Front.{waits, StandsAtFront}
-use Rattle.plant_wire.specs.Step.{AnswersFront, ServesBroken, ServesPart}
-use Rattle.plant_wire.specs.Marks.{IsFaultless}
-use Rattle.plant_wire.specs.declared.reads.End.{End}
-use Rattle.plant_wire.specs.declared.reads.End.TheVariants.{Closed, BrokenInput, ReadFailed, WriteFailed, Fault}
-use Rattle.plant_wire.specs.declared.reads.Read.{Read}
+use Rattle.plant_wire.specs.{Marks.{IsFaultless}, Step.{AnswersFront, ServesBroken, ServesPart}, declared.reads.End.{End}}
+use Rattle.plant_wire.specs.declared.reads.{End.TheVariants.{Closed, BrokenInput, ReadFailed, WriteFailed, Fault}, Read.{Read}}
 use Rattle.plant_wire.specs.declared.reads.Read.TheVariants as read
 
 -- how one read went, and the buffer before and after

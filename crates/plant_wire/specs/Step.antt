@@ -1,20 +1,12 @@
 -- What the steps of a session do. `written` is what the writer holds and `lost` counts failed writes, each before and
 -- after; `ran` says what the office did.
-use Rattle.std.specs.Prelude.{◌≡◌, ◌<◌, ◌≤◌, ℕ, List, [], ◌∷◌, ◌++◌, length, take, drop, map, Option, Result, Ok, Err}
-use Rattle.std.specs.Io.KnownBytes.{Appends}
-use Rattle.plant_model.specs.declared.call.Call.{Call}
-use Rattle.plant_model.specs.declared.reply.Answer.{Answer}
+use Rattle.std.specs.{Io.KnownBytes.{Appends}, Prelude.{◌≡◌, ◌<◌, ◌≤◌, ℕ, List, [], ◌∷◌, ◌++◌, length, take, drop, map, Option, Result, Ok, Err}}
+use Rattle.plant_model.specs.declared.{call.Call.{Call}, reply.Answer.{Answer}}
 use Rattle.plant_answer.specs.Answers.{text_of}
-use Rattle.plant_call.specs.Front.{waits, whole, broken, StandsAtFront, Parsed}
-use Rattle.plant_call.specs.Cut.{WaitsBelow}
-use Rattle.plant_call.specs.declared.causes.Cause.{Cause}
+use Rattle.plant_call.specs.{Cut.{WaitsBelow}, Front.{waits, whole, broken, StandsAtFront, Parsed}, declared.causes.Cause.{Cause}}
 use Rattle.plant_wire.specs.Causes.{cause_text}
 use Rattle.plant_wire.specs.Marks.{Mark, said, item_of, out_of, calls_of, answers_of, Last, nothing, begun, breaking, last_text, last_marks, IsFaultless}
-use Rattle.plant_wire.specs.declared.step.Step.{Step}
-use Rattle.plant_wire.specs.declared.step.Step.TheVariants.{Waits, Took, Broken}
-use Rattle.plant_wire.specs.declared.step.Stop.{Stop}
-use Rattle.plant_wire.specs.declared.step.Stop.TheVariants.{WriteFailed, Fault}
-use Rattle.plant_wire.specs.declared.step.Rest.{Rest}
+use Rattle.plant_wire.specs.declared.step.{Rest.{Rest}, Step.{Step, TheVariants.{Waits, Took, Broken}}, Stop.{Stop, TheVariants.{WriteFailed, Fault}}}
 use Rattle.plant_wire.specs.declared.step.Rest.TheVariants as left
 
 -- the count of failed writes, by how a step ended

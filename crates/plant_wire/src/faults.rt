@@ -1,6 +1,6 @@
 ghost use Rattle.std.specs.Prelude.{◌≡◌};
-ghost use Rattle.plant_model.specs.declared.reply.Answer.TheVariants as answers;
 ghost use Rattle.plant_answer.specs.Answers.{text_of};
+ghost use Rattle.plant_model.specs.declared.reply.Answer.TheVariants as answers;
 
 use plant_types::Fault;
 

@@ -1,5 +1,4 @@
-ghost use Rattle.std.specs.Prelude.{◌≡◌, ◌≤◌, ◌-◌, ◌+◌, ℕ, length, drop, take as first, OnErr, OnOk};
-ghost use Rattle.std.specs.Io.KnownBytes.{Appends};
+ghost use Rattle.std.specs.{Io.KnownBytes.{Appends}, Prelude.{◌≡◌, ◌≤◌, ◌-◌, ◌+◌, ℕ, length, drop, take as first, OnErr, OnOk}};
 
 use crate::streams::{Failed, Outlet};
 

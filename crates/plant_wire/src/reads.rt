@@ -1,8 +1,6 @@
 ghost use Rattle.std.specs.Prelude.{◌≡◌, ◌≤◌, length, drop, OnOk};
 ghost use Rattle.plant_books.specs.Books.{WasHonest};
-ghost use Rattle.plant_wire.specs.Limits.{least_room};
-ghost use Rattle.plant_wire.specs.Session.{IsFewReads, IsIdle};
-ghost use Rattle.plant_wire.specs.Over.{IsSessionOn, RanOn, ReadsOn, StopsOn};
+ghost use Rattle.plant_wire.specs.{Limits.{least_room}, Over.{IsSessionOn, RanOn, ReadsOn, StopsOn}, Session.{IsFewReads, IsIdle}};
 
 use crate::put::bytes_from;
 use crate::step::{Rest, Stop, answer_all};

@@ -1,8 +1,5 @@
+ghost use Rattle.std.specs.{Io.{ReadsAtMost, WritesAtMost, KnownBytes.{ReadConsumes, WriteAppends}}, IoError.{error_kind}, Option.{is_some}};
 ghost use Rattle.std.specs.Prelude.{◌≡◌, ◌≢◌, ◌<◌, ◌-◌, ◌^◌, if◌then◌else◌, None, Some, IfErr, IsSome, false, true};
-ghost use Rattle.std.specs.Io.{ReadsAtMost, WritesAtMost};
-ghost use Rattle.std.specs.Io.KnownBytes.{ReadConsumes, WriteAppends};
-ghost use Rattle.std.specs.IoError.{error_kind};
-ghost use Rattle.std.specs.Option.{is_some};
 
 use crate::streams::{Failed, Inlet, Outlet};
 use std::io;

@@ -1,11 +1,10 @@
 ghost use Rattle.std.specs.Prelude.{◌≡◌, IfErr, List, ℕ};
 ghost use Rattle.plant_books.specs.Books.{WasHonest};
-ghost use Rattle.plant_model.specs.declared.reply.Answer.TheVariants as answers;
 ghost use Rattle.plant_answer.specs.Answers.{text_of};
 ghost use Rattle.plant_call.specs.Cut.{IsCutOf, WaitsBelow};
+ghost use Rattle.plant_wire.specs.{Over.{RanOn}, Step.{Stalls, IsPut, IsAnswer, IsStep, IsRest}};
+ghost use Rattle.plant_model.specs.declared.reply.Answer.TheVariants as answers;
 ghost use Rattle.plant_wire.specs.Causes as spec;
-ghost use Rattle.plant_wire.specs.Step.{Stalls, IsPut, IsAnswer, IsStep, IsRest};
-ghost use Rattle.plant_wire.specs.Over.{RanOn};
 
 use crate::causes::cause_text;
 use crate::faults::fault_text;

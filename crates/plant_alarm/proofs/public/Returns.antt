@@ -1,17 +1,13 @@
 -- Where moments do not fall, some return comes after a moment where the last return does.
-use Rattle.std.proofs.Common.{◌≡◌, ℕ, suc, ◌≤◌, ◌<◌, refl, sym, ap, ◌∙◌, List, [], ◌∷◌, ◌++◌, length, get_or, Option, Bool, true, false, cond, ◌&&◌, ◌||◌, arith, subst}
-use Rattle.std.specs.Prelude.{nat_lt, nat_le}
 use Rattle.std.specs.List.{list_any, list_all}
-use Rattle.std.proofs.Math.ListN.{get_or-append}
-use Rattle.std.proofs.Math.Seq.{take-append_seam, get_or-append_seam}
-use Rattle.std.proofs.lemmas.Bool.{false≢true, le-leb, leb-true, lt-ltb, ltb-true}
-use Rattle.std.proofs.lemmas.List.{append-nil, length-append}
+use Rattle.std.proofs.Common.{◌≡◌, ℕ, suc, ◌≤◌, ◌<◌, refl, sym, ap, ◌∙◌, List, [], ◌∷◌, ◌++◌, length, get_or, Option, Bool, true, false, cond, ◌&&◌, ◌||◌, arith, subst, nat_lt, nat_le}
+use Rattle.std.proofs.Math.{ListN.{get_or-append}, Seq.{take-append_seam, get_or-append_seam}}
+use Rattle.std.proofs.lemmas.{Bool.{false≢true, le-leb, leb-true, lt-ltb, ltb-true, and_from}, List.{append-nil, length-append}}
 use Rattle.std.proofs.lemmas.List.Sorted.{IsNonDecreasingBy-take}
-use Rattle.plant_alarm.specs.declared.event.Event.{Event}
-use Rattle.plant_alarm.specs.declared.shelf.Shelf.{Shelf}
-use Rattle.plant_alarm.specs.States.{passing, is_return, returns, last_moment, last_return, IsInTime}
 use Rattle.plant_alarm.specs.Shelves.{shelf_while, start_of, is_after, returns_after, shelf_of, shelf_state}
-use Rattle.plant_alarm.proofs.public.Push.{by_last, list_any-push, passing-push, last_moment-push}
+use Rattle.plant_alarm.specs.{States.{passing, is_return, returns, last_moment, last_return, IsInTime}, declared.event.Event.{Event}}
+use Rattle.plant_alarm.{specs.declared.shelf.Shelf.{Shelf}, proofs.public.Push.{by_last, list_any-push, passing-push, last_moment-push}}
+use Rattle.plant_types.proofs.public.Halves.{left, right}
 
 abbrev is_late : ℕ → Event → Bool
 is_late s e = nat_lt s e.moment
@@ -19,21 +15,9 @@ is_late s e = nat_lt s e.moment
 abbrev is_within : ℕ → Event → Bool
 is_within b e = nat_le e.moment b
 
-both : (a b : Bool) → a ≡ true → b ≡ true → (a && b) ≡ true
-both true b p q = q
-both false b p q = p
-
-left : (a b : Bool) → (a && b) ≡ true → a ≡ true
-left true b e = refl
-left false b e = e
-
-right : (a b : Bool) → (a && b) ≡ true → b ≡ true
-right true b e = e
-right false b e = absurd (false≢true e)
-
 within : (b : ℕ) (es : List Event) → ((k : ℕ) (d : Event) → k < length es → (get_or es k d).moment ≤ b) → list_all (is_within b) es ≡ true
 within b [] h = refl
-within b (x ∷ es) h = both _ _ (le-leb x.moment b (h 0 x (omega arith))) (within b es (λ k d lt. h (suc k) d (omega arith)))
+within b (x ∷ es) h = and_from _ _ (le-leb x.moment b (h 0 x (omega arith))) (within b es (λ k d lt. h (suc k) d (omega arith)))
 
 -- what passes is among the events
 passing_within : (b : ℕ) (test : List Event → Event → Bool) (before es : List Event) → list_all (is_within b) es ≡ true → list_all (is_within b) (passing test before es) ≡ true
@@ -41,7 +25,7 @@ passing_within b test before [] h = refl
 passing_within b test before (x ∷ es) h =
     let rest = passing_within b test (before ++ x ∷ []) es (right (is_within b x) (list_all (is_within b) es) h) in
     elim (test before x) as (λ v. list_all (is_within b) (cond v (x ∷ []) [] ++ passing test (before ++ x ∷ []) es) ≡ true) [
-      | true ↦ both _ _ (left (is_within b x) (list_all (is_within b) es) h) rest
+      | true ↦ and_from _ _ (left (is_within b x) (list_all (is_within b) es) h) rest
       | false ↦ rest
     ]
 

@@ -1,63 +1,37 @@
 -- A unit's rows with and without its events: the part of a call that looks at none, and changes that put none.
-use Rattle.std.proofs.Common.{List, None, Option, Some, [], ap, cond, false, refl, sym, true, ℕ, ◌∙◌, ◌∷◌, ◌≡◌}
-use Rattle.std.specs.Prelude.{◌||◌}
-use Rattle.plant_model.specs.Kinds.{AllAlarms, AllEvents, AllGrants, AllRecords, AllShelves, Approval, Content, File, NothingElse, OneAlarm, OneChange, OneRecord, Scope, Shelving, scope_of}
-use Rattle.plant_model.specs.Scopes.{has_events, looks_at_events}
-use Rattle.plant_alarm.specs.declared.event.Event.{Event}
-use Rattle.plant_books.specs.Changing.{is_event_put, puts_event}
-use Rattle.plant_books.specs.Contents.{without_events}
+use Rattle.std.proofs.Common.{List, None, Option, Some, [], ap, cond, false, refl, sym, true, ℕ, ◌∙◌, ◌∷◌, ◌≡◌, ◌||◌}
+use Rattle.plant_model.specs.Kinds.{AllEvents, Approval, File, Scope, scope_of}
 use Rattle.plant_model.specs.Parts.{Selection, counted_for, of_approved, of_topic, part_of, part_of_holder, part_of_stranger, rows_selected, selected, selection, with_number}
-use Rattle.plant_model.specs.RowChanges.{changed, changed_by}
-use Rattle.plant_model.specs.RowFacts.{change_found, holds_by}
-use Rattle.plant_model.specs.declared.call.Call.{Call}
-use Rattle.plant_model.specs.declared.call.Request.{Request}
-use Rattle.plant_model.specs.declared.call.Request.TheVariants.{Floods, Import}
-use Rattle.plant_model.specs.declared.rows.RowEdit.{RowEdit}
-use Rattle.plant_model.specs.declared.rows.RowEdit.TheVariants.{Put, PutEvents, Remove}
-use Rattle.plant_model.specs.declared.rows.ChangeEntry.{ChangeEntry}
-use Rattle.plant_model.specs.declared.rows.ChangeTopic.{ChangeTopic}
-use Rattle.plant_model.specs.declared.rows.ChangeTopic.TheVariants.{Limit as LimitTopic, Matrix as MatrixTopic, Record as RecordTopic}
-use Rattle.plant_model.specs.declared.rows.Key.TheVariants.{Grant as GrantKey, Shelf as ShelfKey}
-use Rattle.plant_model.specs.declared.rows.Row.TheVariants.{Alarm as AlarmPut, Band as BandPut, Cell as CellPut, Change as ChangePut, Event as EventPut, Grant as GrantPut, Record as RecordPut, Shelf as ShelfPut, Unit as UnitPut}
+use Rattle.plant_model.specs.{RowChanges.{changed, changed_by}, RowFacts.{change_found, holds_by}, Scopes.{has_events, looks_at_events}}
+use Rattle.plant_model.specs.declared.{call.{Call.{Call}, Request.{Request, TheVariants.{Floods, Import}}}, rows.ChangeEntry.{ChangeEntry}}
+use Rattle.plant_model.specs.declared.rows.{ChangeTopic.{ChangeTopic, TheVariants.{Matrix as MatrixTopic}}, Key.TheVariants.{Grant as GrantKey}}
+use Rattle.plant_model.specs.declared.rows.{Row.TheVariants.{Event as EventPut}, RowEdit.{RowEdit, TheVariants.{Put, PutEvents, Remove}}}
 use Rattle.plant_model.specs.declared.rows.UnitRows.{UnitRows}
+use Rattle.plant_alarm.specs.declared.event.Event.{Event}
+use Rattle.plant_books.specs.{Changing.{is_event_put, puts_event}, Contents.{without_events}}
 use Rattle.plant_types.specs.Names.{Name}
 
 -- ---- what is selected of a unit's rows does not depend on its events
 
 topic_without : (rows : UnitRows) (tag : Option Name) (k : ChangeTopic) → of_topic (without_events rows) tag k ≡ of_topic rows tag k
 topic_without rows tag MatrixTopic = refl
-topic_without rows (Some a) RecordTopic = refl
-topic_without rows (Some a) LimitTopic = refl
-topic_without rows None RecordTopic = refl
-topic_without rows None LimitTopic = refl
+topic_without rows None _ = refl
+topic_without rows _ _ = refl
 
 approved_without : (rows : UnitRows) (n : ℕ) (o : Option ChangeEntry) → of_approved (without_events rows) n o ≡ of_approved rows n o
 approved_without rows n None = refl
 approved_without rows n (Some c) = ap (with_number n) (topic_without rows c.tag c.kind_no)
 
 selection_without : (rows : UnitRows) (s : Scope) → selection (without_events rows) s ≡ selection rows s
-selection_without rows NothingElse = refl
-selection_without rows AllGrants = refl
-selection_without rows (OneAlarm a) = refl
-selection_without rows (Shelving a) = refl
-selection_without rows (OneRecord a) = refl
-selection_without rows (OneChange n) = refl
 selection_without rows (Approval n) = approved_without rows n (change_found rows n)
-selection_without rows (Content a) = refl
-selection_without rows AllRecords = refl
-selection_without rows (File es) = refl
-selection_without rows AllShelves = refl
-selection_without rows AllAlarms = refl
-selection_without rows AllEvents = refl
+selection_without rows _ = refl
 
 -- ---- of events nothing is selected for a request that does not look at them
 
 no_topic_events : (rows : UnitRows) (tag : Option Name) (k : ChangeTopic) (es : List Event) → (of_topic rows tag k).events es ≡ []
 no_topic_events rows tag MatrixTopic es = refl
-no_topic_events rows (Some a) RecordTopic es = refl
-no_topic_events rows (Some a) LimitTopic es = refl
-no_topic_events rows None RecordTopic es = refl
-no_topic_events rows None LimitTopic es = refl
+no_topic_events rows None _ es = refl
+no_topic_events rows _ _ es = refl
 
 no_approved_events : (rows : UnitRows) (n : ℕ) (o : Option ChangeEntry) (es : List Event) → (of_approved rows n o).events es ≡ []
 no_approved_events rows n None es = refl
@@ -96,18 +70,10 @@ part_without c rows none = ap (λ part. cond (holds_by rows.grants c.moment c.pe
 -- ---- changes that put no event
 
 put_no_event : (c : RowEdit) (rows : UnitRows) → is_event_put c ≡ false → changed c (without_events rows) ≡ without_events (changed c rows)
-put_no_event (Put (UnitPut r)) rows none = refl
-put_no_event (Put (GrantPut r)) rows none = refl
-put_no_event (Put (AlarmPut r)) rows none = refl
-put_no_event (Put (ShelfPut r)) rows none = refl
 put_no_event (Put (EventPut e)) rows none = absurd (let no : true ≡ false = none in cc)
-put_no_event (Put (BandPut r)) rows none = refl
-put_no_event (Put (CellPut r)) rows none = refl
-put_no_event (Put (RecordPut r)) rows none = refl
-put_no_event (Put (ChangePut r)) rows none = refl
 put_no_event (PutEvents es) rows none = absurd (let no : true ≡ false = none in cc)
 put_no_event (Remove (GrantKey p r)) rows none = refl
-put_no_event (Remove (ShelfKey a)) rows none = refl
+put_no_event _ rows none = refl
 
 pub changed_without : (cs : List RowEdit) (rows : UnitRows) → puts_event cs ≡ false → changed_by cs (without_events rows) ≡ without_events (changed_by cs rows)
 changed_without [] rows none = refl

@@ -1,16 +1,9 @@
 -- Rows put in the order of their keys.
-use Rattle.std.proofs.Common.{◌≡◌, ℕ, ◌<◌, List, [], ◌∷◌, ◌++◌, arith, refl, sym, ap, ◌∙◌, length, take, drop, false, get_or, set, suc, true, zero}
-use Rattle.std.proofs.Math.Seq.{drop-cons}
-use Rattle.std.proofs.lemmas.List.{set_split}
-use Rattle.std.specs.Cmp.{IsTotalOrder}
-use Rattle.std.specs.FinMap.Entries.{below_all, by_order}
-use Rattle.std.specs.List.Sorted.{IsPartitionPoint, IsPartitionedBy}
-use Rattle.std.specs.Ordering.{is_eq, is_lt, ordering_reverse}
-use Rattle.std.specs.Prelude.{T, insert, map, ◌≤◌}
-use Rattle.std.specs.declared.cmp.Ordering.{Ordering}
-use Rattle.std.specs.declared.cmp.Ordering.TheVariants.{Equal, Greater, Less}
-use Rattle.plant_model.proofs.public.RowsFound.{first, less, lesser, second}
-use Rattle.plant_types.specs.KeyedRows.{IsInOrder, put_row}
+use Rattle.std.specs.{Cmp.{IsTotalOrder}, FinMap.Entries.{by_order}}
+use Rattle.std.proofs.Common.{◌≡◌, ℕ, ◌<◌, List, [], ◌∷◌, ◌++◌, arith, refl, sym, ap, ◌∙◌, length, take, drop, false, get_or, set, suc, true, zero, is_eq, is_lt, insert, Ordering, Equal, Greater, Less}
+use Rattle.std.proofs.{Math.Seq.{drop-cons}, lemmas.List.{set_split}}
+use Rattle.plant_model.proofs.public.RowsFound.{Parts as PartsBy, back, later, lesser, turned}
+use Rattle.plant_types.specs.KeyedRows.{put_row}
 
 module _ {X : Type 0} (o : X → X → Ordering) where
   abbrev put_in : X → List X → List X
@@ -42,38 +35,16 @@ module _ {X : Type 0} (o : X → X → Ordering) where
   -- ---- rows in order, whose place is found by halving
 
   module _ (total : IsTotalOrder o) where
-    turned : (x y : X) → o x y ≡ Less → o y x ≡ Greater
-    turned x y e = total.antisymm y x ∙ ap ordering_reverse e
-
-    back : (x y : X) → o x y ≡ Greater → o y x ≡ Less
-    back x y e = total.antisymm y x ∙ ap ordering_reverse e
-
-    below_at : (x : X) (rows : List X) → T (below_all o x (map (λ r. (r, r)) rows)) → (k : ℕ) (d : X) → k < length rows → o x (get_or rows k d) ≡ Less
-    below_at x [] h k d lt = absurd (omega arith)
-    below_at x (r ∷ rows) h zero d lt = less (o x r) (first _ _ h)
-    below_at x (r ∷ rows) h (suc k) d lt = below_at x rows (second _ _ h) k d (omega arith)
-
-    -- the rows before a row's place are smaller, and the others aren't
-    pub sorted_parted : (r : X) (rows : List X) → IsInOrder o (λ x. x) rows → IsPartitionedBy (λ x. is_lt (o x r)) rows
-    sorted_parted r rows order = by rows order
-      where
-        by : (xs : List X) → IsInOrder o (λ x. x) xs → (i j : ℕ) (d : X) → i ≤ j → j < length xs → is_lt (o (get_or xs j d) r) ≡ true → is_lt (o (get_or xs i d) r) ≡ true
-        by [] h i j d le lt e = absurd (omega arith)
-        by (x ∷ xs) h zero zero d le lt e = e
-        by (x ∷ xs) h zero (suc j) d le lt e = ap is_lt (total.trans x (get_or xs j d) r (below_at x xs (first _ _ h) j d (omega arith)) (lesser (o (get_or xs j d) r) e))
-        by (x ∷ xs) h (suc i) zero d le lt e = absurd (omega arith)
-        by (x ∷ xs) h (suc i) (suc j) d le lt e = by xs (second _ _ h) i j d (omega arith) (omega arith) e
-
     abbrev pub Parts : X → List X → ℕ → Type 0
-    Parts r rows p = IsPartitionPoint (λ x. is_lt (o x r) ≡ true) (λ x. is_lt (o x r) ≡ false) rows p
+    Parts = PartsBy o (λ x. x)
 
     pub comes_after : (r : X) (rows : List X) (p : ℕ) → Parts r rows p → ComesAfter r rows p
     comes_after r rows zero h = refl
     comes_after r [] (suc p) h = refl
     comes_after r (x ∷ rows) (suc p) h =
         let low : o x r ≡ Less = lesser (o x r) (h.0 0 x (omega arith) (omega arith)) in
-        ap (λ v. by_order v (r ∷ x ∷ rows) (r ∷ rows) (x ∷ put_in r rows)) (turned x r low)
-        ∙ ap (λ xs. x ∷ xs) (comes_after r rows p (λ k d low high. h.0 (suc k) d (omega arith) (omega arith), λ k d low high. h.1 (suc k) d (omega arith) (omega arith)))
+        ap (λ v. by_order v (r ∷ x ∷ rows) (r ∷ rows) (x ∷ put_in r rows)) (turned total x r low)
+        ∙ ap (λ xs. x ∷ xs) (comes_after r rows p (later o (λ x. x) r x rows p h))
 
     -- a row at the place that has another key comes after
     pub other_after : (r e : X) (rows : List X) (p : ℕ) → Parts r rows p → p < length rows → e ≡ get_or rows p e → is_eq (o r e) ≡ false → o r e ≡ Less
@@ -84,4 +55,4 @@ module _ {X : Type 0} (o : X → X → Ordering) where
         by Equal same differs = absurd (let it : true ≡ false = differs in cc)
         by Greater same differs =
             let high : is_lt (o e r) ≡ false = ap (λ x. is_lt (o x r)) is ∙ h.1 p e (omega arith) (omega (arith, within)) in
-            absurd (let it : true ≡ false = ap is_lt (sym (back r e same)) ∙ high in cc)
+            absurd (let it : true ≡ false = ap is_lt (sym (back total r e same)) ∙ high in cc)

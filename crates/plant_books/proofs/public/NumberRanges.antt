@@ -1,27 +1,15 @@
 -- The rows of a number among rows whose numbers do not fall: where they begin and end, and those of several numbers.
-use Rattle.std.proofs.Common.{Bool, List, [], ap, arith, cond, drop, false, get_or, inl, inr, length, not, refl, subst, suc, sym, take, true, zero, ℕ, ◌++◌, ◌<◌, ◌∙◌, ◌∷◌, ◌≡◌, ◌≤◌, ◌⊎◌}
-use Rattle.std.proofs.lemmas.Bool.{cases_order, leb-true, ltb-true, le-leb, lt-ltb}
+use Rattle.std.specs.{Cmp.{ranked}, FinMap.Entries.{below_all}}
+use Rattle.std.specs.{List.Sorted.{IsNonDecreasingBy, IsPartitionPoint, IsPartitionedBy, IsStrictlySortedBy}, Ordering.{ordering_then}}
+use Rattle.std.proofs.Common.{Bool, List, [], ap, arith, cond, drop, false, get_or, inl, inr, length, not, refl, subst, suc, sym, take, true, zero, ℕ, ◌++◌, ◌<◌, ◌∙◌, ◌∷◌, ◌≡◌, ◌≤◌, ◌⊎◌, nat_cmp, Ordering, Equal, Greater, Less, T, filter, map, nat_le, nat_lt, ◌||◌, BTreeSet}
+use Rattle.std.proofs.lemmas.Bool.{cases_order, leb-true, ltb-true, le-leb, lt-ltb, or_right}
 use Rattle.std.proofs.lemmas.List.Sorted.{IsPartitionedBy-leb, IsPartitionedBy-ltb}
-use Rattle.std.specs.List.Sorted.{IsNonDecreasingBy, IsPartitionPoint, IsPartitionedBy, IsStrictlySortedBy}
-use Rattle.std.specs.Ordering.{nat_cmp, ordering_then}
-use Rattle.std.specs.declared.cmp.Ordering.{Ordering}
-use Rattle.std.specs.declared.cmp.Ordering.TheVariants.{Equal, Greater, Less}
-use Rattle.std.specs.Cmp.{ranked}
-use Rattle.std.specs.FinMap.Entries.{below_all}
-use Rattle.std.specs.Prelude.{T, filter, map, nat_le, nat_lt, ◌||◌}
-use Rattle.plant_books.proofs.NumbersAmong.{among, among_more, none_among, or_none, or_true, smaller}
+use Rattle.plant_books.{specs.Numbered.{NumbersRise, of_numbers}, proofs.NumbersAmong.{among, among_more, none_among, or_none, smaller}}
 use Rattle.plant_import.proofs.public.Placed.{AllBelow, other, other_above}
-use Rattle.std.specs.BTreeSet.{BTreeSet}
-use Rattle.plant_books.specs.Numbered.{NumbersRise, of_numbers}
-use Rattle.plant_model.proofs.public.ChangesFound.{tied, ties}
-use Rattle.plant_model.proofs.public.RowsFound.{first, less, second}
-use Rattle.plant_model.specs.Matrices.{band_cmp, cell_cmp}
-use Rattle.plant_model.specs.RowFacts.{band_key, cell_key, change_number}
-use Rattle.plant_model.specs.declared.rows.BandRow.{BandRow}
-use Rattle.plant_model.specs.declared.rows.CellRow.{CellRow}
-use Rattle.plant_model.specs.declared.rows.ChangeEntry.{ChangeEntry}
-use Rattle.plant_types.proofs.public.Orders.{same_numbers}
-use Rattle.plant_types.specs.KeyedRows.{IsInOrder}
+use Rattle.plant_model.specs.{Matrices.{band_cmp, cell_cmp}, RowFacts.{band_key, cell_key, change_number}, declared.rows.BandRow.{BandRow}}
+use Rattle.plant_model.specs.declared.rows.{CellRow.{CellRow}, ChangeEntry.{ChangeEntry}}
+use Rattle.plant_model.proofs.public.RowsFound.{tied_numbers, ties, first, less, second}
+use Rattle.plant_types.{specs.KeyedRows.{IsInOrder}, proofs.public.Orders.{same_numbers}}
 
 -- ---- what stands before the place where a test changes, and what stands from it on
 
@@ -117,7 +105,7 @@ module _ {X : Type 0} (number : X → ℕ) where
           ap (λ b. upto n (cond (not b) (x ∷ from_on n xs) (from_on n xs))) (not_below (number x) n (omega (arith, same)))
           ∙ ap (λ b. cond b (x ∷ upto n (from_on n xs)) (upto n (from_on n xs))) (le-leb (number x) n (omega (arith, same)))
           ∙ ap (λ l. x ∷ l) rest
-          ∙ ap (λ b. cond b (x ∷ those_of n xs) (those_of n xs)) (sym (tied (number x) n same))
+          ∙ ap (λ b. cond b (x ∷ those_of n xs) (those_of n xs)) (sym (tied_numbers (number x) n same))
       by (inr (inl lt)) rest =
           ap (λ b. upto n (cond (not b) (x ∷ from_on n xs) (from_on n xs))) (lt-ltb (number x) n lt)
           ∙ rest
@@ -154,10 +142,10 @@ module _ {X : Type 0} (number : X → ℕ) where
       by : (number x ≡ n) ⊎ ((number x < n) ⊎ (n < number x)) → more ≡ those_among ks xs ++ those_of n xs → those_among (ks ++ n ∷ []) (x ∷ xs) ≡ those_among ks (x ∷ xs) ++ those_of n (x ∷ xs)
       by (inl same) rest =
           let none : those_among ks xs ≡ [] = none_from ks n xs low (subst (λ m. From m xs) same h.0) in
-          ap (λ b. cond b (x ∷ more) more) (among_more ks n (number x) ∙ ap (λ b. among ks (number x) || (b || false)) (tied (number x) n same) ∙ or_true (among ks (number x)))
+          ap (λ b. cond b (x ∷ more) more) (among_more ks n (number x) ∙ ap (λ b. among ks (number x) || (b || false)) (tied_numbers (number x) n same) ∙ or_right (among ks (number x)) true refl)
           ∙ ap (λ l. x ∷ l) (rest ∙ ap (λ l. l ++ those_of n xs) none)
           ∙ sym (ap (λ b. cond b (x ∷ those_among ks xs) (those_among ks xs) ++ those_of n (x ∷ xs)) (none_among ks n (number x) low (omega (arith, same)))
-          ∙ (λ i. none i ++ cond (tied (number x) n same i) (x ∷ those_of n xs) (those_of n xs)))
+          ∙ (λ i. none i ++ cond (tied_numbers (number x) n same i) (x ∷ those_of n xs) (those_of n xs)))
       by (inr (inl lt)) rest =
           ap (λ b. cond b (x ∷ more) more) (among_more ks n (number x) ∙ ap (λ b. among ks (number x) || (b || false)) (other_above (number x) n lt) ∙ or_none (among ks (number x)))
           ∙ elim (among ks (number x)) as (λ b. cond b (x ∷ more) more ≡ cond b (x ∷ those_among ks xs) (those_among ks xs) ++ those_of n xs) [

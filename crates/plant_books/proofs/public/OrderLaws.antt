@@ -1,44 +1,20 @@
 -- Rows stay in the order of their keys.
-use Rattle.std.proofs.Common.{Bool, List, None, Some, T, [], ap, arith, cond, false, get_or, length, map, refl, subst, suc, sym, true, ℕ, ◌&&◌, ◌+◌, ◌<◌, ◌∙◌, ◌∷◌, ◌≡◌}
-use Rattle.std.specs.Cmp.{IsTotalOrder, nat_cmp_total}
-use Rattle.std.specs.FinMap.{nat_cmp-IsAntisymmetric}
-use Rattle.std.specs.FinMap.Entries.{below_all, by_order, is_sorted}
-use Rattle.std.specs.Option.{option_to_list}
-use Rattle.std.specs.Ordering.{is_eq, is_lt, nat_cmp}
-use Rattle.std.specs.Prelude.{Err, IfSome, Ok, OnOk, Option, Result, filter, option_map, unwrap_or}
-use Rattle.std.specs.declared.cmp.Ordering.{Ordering}
-use Rattle.std.specs.declared.cmp.Ordering.TheVariants.{Equal, Greater, Less}
-use Rattle.plant_model.proofs.public.RowsFound.{After, Ordered, less, lesser, second}
-use Rattle.plant_books.specs.Listed.{AllInOrder, rows_at, unit_cmp}
+use Rattle.std.specs.{Cmp.{IsTotalOrder, nat_cmp_total}, FinMap.{nat_cmp-IsAntisymmetric, Entries.{below_all, by_order, is_sorted}}}
+use Rattle.std.proofs.Common.{List, None, Some, T, [], ap, arith, cond, false, get_or, length, map, refl, subst, suc, sym, true, ℕ, ◌&&◌, ◌+◌, ◌<◌, ◌∙◌, ◌∷◌, ◌≡◌, option_to_list, is_eq, is_lt, nat_cmp, Err, IfSome, Ok, OnOk, Option, Result, filter, option_map, unwrap_or, Ordering, Equal, Greater, Less}
+use Rattle.plant_model.specs.{Matrices.{band_cmp, cell_cmp}, Order.{AreInOrder, EventsRise}, RowChanges.{changed, changed_by, no_rows, put, removed}}
+use Rattle.plant_model.specs.{RowFacts.{alarm_tag, band_key, cell_key, change_number, event_number, record_tag, shelf_tag}, declared.rows.Key.{Key}}
+use Rattle.plant_model.specs.declared.rows.{Key.TheVariants.{Grant as GrantKey, Shelf as ShelfKey}, Row.{Row}}
+use Rattle.plant_model.specs.declared.rows.Row.TheVariants.{Alarm as AlarmPut, Band as BandPut, Cell as CellPut, Change as ChangePut, Event as EventPut, Grant as GrantPut, Record as RecordPut, Shelf as ShelfPut, Unit as UnitPut}
+use Rattle.plant_model.specs.declared.rows.{RowEdit.{RowEdit, TheVariants.{Put, PutEvents, Remove}}, UnitRows.{UnitRows}}
+use Rattle.plant_model.proofs.public.PlaceOrders.{band_total, cell_total, same_bands, same_cells}
+use Rattle.plant_model.proofs.public.RowsFound.{After, Ordered, less, lesser, second, first, both}
+use Rattle.plant_books.specs.{Listed.{AllInOrder, rows_at, unit_cmp}, declared.opened.OpenedUnit.{OpenedUnit}}
 use Rattle.plant_alarm.specs.declared.event.Event.{Event}
 use Rattle.plant_import.specs.Numbers.{with_events}
-use Rattle.plant_model.specs.Order.{AreInOrder, EventsRise}
-use Rattle.plant_books.specs.declared.opened.OpenedUnit.{OpenedUnit}
-use Rattle.plant_model.specs.RowChanges.{changed, changed_by, no_rows, put, removed}
-use Rattle.plant_model.proofs.public.PlaceOrders.{band_total, cell_total, same_bands, same_cells}
-use Rattle.plant_model.specs.Matrices.{band_cmp, cell_cmp}
-use Rattle.plant_model.specs.RowFacts.{alarm_tag, band_key, cell_key, change_number, event_number, record_tag, shelf_tag}
-use Rattle.plant_model.specs.declared.rows.RowEdit.{RowEdit}
-use Rattle.plant_model.specs.declared.rows.RowEdit.TheVariants.{Put, PutEvents, Remove}
-use Rattle.plant_model.specs.declared.rows.Key.{Key}
-use Rattle.plant_model.specs.declared.rows.Key.TheVariants.{Grant as GrantKey, Shelf as ShelfKey}
-use Rattle.plant_model.specs.declared.rows.Row.{Row}
-use Rattle.plant_model.specs.declared.rows.Row.TheVariants.{Alarm as AlarmPut, Band as BandPut, Cell as CellPut, Change as ChangePut, Event as EventPut, Grant as GrantPut, Record as RecordPut, Shelf as ShelfPut, Unit as UnitPut}
-use Rattle.plant_model.specs.declared.rows.UnitRows.{UnitRows}
-use Rattle.plant_types.proofs.public.Orders.{name_total, same_names}
-use Rattle.plant_types.proofs.public.KeyedRowLaws.{IsInOrder-put_row, IsInOrder-remove_row}
-use Rattle.plant_types.specs.Names.{Name, name_cmp, same_name}
-use Rattle.plant_types.specs.KeyedRows.{IsInOrder, put_row, row_at}
+use Rattle.plant_types.specs.{KeyedRows.{IsInOrder, put_row, row_at}, Names.{Name, name_cmp, same_name}}
+use Rattle.plant_types.proofs.public.{KeyedRowLaws.{IsInOrder-put_row, IsInOrder-remove_row}, Orders.{name_total, same_names}}
 
 -- ---- rows whose neighbours rise
-
-first : (a b : Bool) → T (a && b) → T a
-first true b p = tt
-first false b p = absurd p
-
-both : (a b : Bool) → T a → T b → T (a && b)
-both true b p q = q
-both false b p q = absurd p
 
 module _ {X : Type 0} (R : X → X → Ordering) (total : IsTotalOrder R) where
   abbrev pairs : List X → List (X × X)
@@ -148,14 +124,14 @@ put_all_in_order o (e ∷ es) is h =
 -- ---- of rows in order those of one tag are the one that is found
 
 module _ {X : Type 0} (key : X → Name) where
-  none_passes : (t : Name) (rows : List X) → After key t rows → filter (λ r. same_name t (key r)) rows ≡ []
+  none_passes : (t : Name) (rows : List X) → After name_cmp key t rows → filter (λ r. same_name t (key r)) rows ≡ []
   none_passes t [] h = refl
   none_passes t (r ∷ rows) h = ap (λ o. cond (is_eq o) (r ∷ filter (λ x. same_name t (key x)) rows) (filter (λ x. same_name t (key x)) rows)) h.0 ∙ none_passes t rows h.1
 
-  after_same : (s t : Name) (rows : List X) → s ≡ t → After key s rows → After key t rows
-  after_same s t rows e h = subst (λ (n : Name). After key n rows) e h
+  after_same : (s t : Name) (rows : List X) → s ≡ t → After name_cmp key s rows → After name_cmp key t rows
+  after_same s t rows e h = subst (λ (n : Name). After name_cmp key n rows) e h
 
-  pub one_passes : (t : Name) (rows : List X) → Ordered key rows → filter (λ r. same_name t (key r)) rows ≡ option_to_list (row_at name_cmp key t rows)
+  pub one_passes : (t : Name) (rows : List X) → Ordered name_cmp key rows → filter (λ r. same_name t (key r)) rows ≡ option_to_list (row_at name_cmp key t rows)
   one_passes t [] h = refl
   one_passes t (r ∷ rows) h = by (name_cmp t (key r)) refl (one_passes t rows h.1)
     where

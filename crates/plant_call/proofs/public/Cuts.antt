@@ -1,14 +1,11 @@
 -- What the front shows doesn't change when more bytes come, unless it waits.
-use Rattle.plant_types.specs.Limits.{max_head}
 use Rattle.std.proofs.Common.{◌≡◌, ◌≢◌, ◌⊎◌, ℕ, zero, suc, ◌+◌, ◌<◌, ◌≤◌, List, [], ◌∷◌, ◌++◌, length, take, drop, Result, Ok, Err, Bool, true, false, cond, refl, sym, ap, subst, ◌∙◌, inl, inr, arith, append_assoc, append-nil, length-append, length-drop, ltb}
-use Rattle.std.proofs.lemmas.List.{take-append-le, drop-append-le, length-take}
-use Rattle.std.proofs.lemmas.Bool.{ltb-false, le-ltb}
+use Rattle.std.proofs.lemmas.{Bool.{ltb-false, le-ltb}, List.{take-append-le, drop-append-le, length-take}}
+use Rattle.plant_types.specs.Limits.{max_head}
 use Rattle.httparse.specs.Grammar.{RequestHead, print_request, ReadsRequest, NeverHasRequest, HasNoRequest, MayBecomeRequest, EndsInTarget}
 use Rattle.httparse.proofs.GrammarLemmas.{ReadsRequest-append, request_unique}
-use Rattle.plant_head.proofs.public.Room.{head_length}
-use Rattle.plant_head.specs.Head.{front, BeginsWith, IsHopeless, IsUnfinished}
-use Rattle.plant_call.specs.Front.{Item, Front, waits, whole, broken, with_length, of_head, IsFront, Parses}
-use Rattle.plant_call.specs.declared.causes.Cause.{Cause}
+use Rattle.plant_head.{specs.Head.{front, BeginsWith, IsHopeless, IsUnfinished}, proofs.public.Room.{head_length}}
+use Rattle.plant_call.specs.{Front.{Item, Front, waits, whole, broken, with_length, of_head, IsFront, Parses}, declared.causes.Cause.{Cause}}
 use Rattle.plant_call.specs.declared.causes.Cause.TheVariants.{HeadTooLong}
 
 -- the first bytes of more are the first bytes, and some of the rest

@@ -1,14 +1,10 @@
 -- A request whose head is whole waits for its body.
 use Rattle.std.proofs.Common.{◌≡◌, ℕ, ◌+◌, ◌<◌, List, [], ◌++◌, length, drop, Ok, sym, subst, inl, arith, append_assoc, append-nil, length-drop}
-use Rattle.httparse.specs.Grammar.{RequestHead, print_request}
-use Rattle.httparse.specs.declared.spans.HeaderSpan.{HeaderSpan}
+use Rattle.httparse.specs.{Grammar.{RequestHead, print_request}, Spans.{IsRequestAt}, declared.spans.HeaderSpan.{HeaderSpan}}
 use Rattle.httparse.specs.declared.spans.RequestSpans.{RequestSpans}
-use Rattle.httparse.specs.Spans.{IsRequestAt}
 use Rattle.plant_head.specs.Head.{front, BeginsWith}
-use Rattle.plant_call.specs.Front.{waits, body_length, StandsAtFront}
-use Rattle.plant_call.specs.Cut.{WaitsBelow, IsLengthOf}
+use Rattle.plant_call.{specs.{Cut.{WaitsBelow, IsLengthOf}, Front.{waits, body_length, StandsAtFront}}, proofs.Shown.{answers_waits}}
 use Rattle.plant_call.proofs.public.Cuts.{begins-append, head_fits}
-use Rattle.plant_call.proofs.Shown.{answers_waits}
 
 -- whatever follows, as long as the body isn't whole
 pub waits_on : (bytes more : List ℕ) (head : RequestHead) (n : ℕ) → BeginsWith bytes head → body_length head ≡ Ok n

@@ -1,15 +1,10 @@
 -- Rows in the order of their keys: to put in and take out by an order of rows is to put and remove by key.
-use Rattle.std.proofs.Common.{◌≡◌, ℕ, pos, Bool, true, false, not, cond, List, [], ◌∷◌, map, refl, sym, ap, ◌∙◌, subst, Ordering, Less, Equal, Greater, is_lt, is_eq, T, nat_cmp, int_cmp}
-use Rattle.std.specs.Prelude.{◌&&◌}
-use Rattle.std.specs.List.{AllByRecursion}
-use Rattle.std.specs.Cmp.{IsTotalOrder, alike_right, int_cmp_is, ranks}
+use Rattle.std.specs.{Cmp.{IsTotalOrder, alike_right, int_cmp_is, ranks}, FinMap.Entries.{by_order, below_all}, List.{AllByRecursion}}
 use Rattle.std.specs.Ordering.{ordering_reverse, MatchOrdering}
-use Rattle.std.proofs.Common.{◌<◌, ◌<ℤ◌, lt→ltb}
-use Rattle.std.specs.FinMap.Entries.{by_order, below_all}
+use Rattle.std.proofs.Common.{◌≡◌, ℕ, pos, not, cond, List, [], ◌∷◌, map, refl, sym, ap, ◌∙◌, subst, Ordering, Less, Equal, Greater, is_lt, is_eq, T, nat_cmp, int_cmp, ◌<◌, ◌<ℤ◌, lt→ltb}
 use Rattle.sqlite_trees.specs.Tree.{IsAscending}
-use Rattle.sqlite_keyed.specs.Lists.{insert_sorted}
-use Rattle.sqlite_keyed.proofs.ListLemmas.{all_weaker}
-use Rattle.plant_types.specs.KeyedRows.{put_row, remove_row, IsInOrder}
+use Rattle.sqlite_keyed.{specs.Lists.{insert_sorted}, proofs.ListLemmas.{all_weaker}}
+use Rattle.plant_types.{specs.KeyedRows.{put_row, remove_row, IsInOrder}, proofs.public.Halves.{both}}
 use Rattle.plant_columns.specs.Kept.{taken_out, put_in}
 
 module _ {K X : Type 0} (R : K → K → Ordering) (key : X → K) where
@@ -47,10 +42,6 @@ module _ {K X : Type 0} (R : K → K → Ordering) (key : X → K) where
             let above : AllByRecursion (λ y. R (key x) (key y) ≡ Less) es = all_weaker _ (λ y. R (key x) (key y) ≡ Less) (λ y k. alike_left (key x) (key e) (key y) h ∙ k) es up.0 in
             ap (insert_sorted (λ a b. R (key a) (key b)) x) (none_tied x es above) ∙ at_front x es above
         go Greater h more = rw h (ap (λ l. e ∷ l) more)
-
-  both : (a b : Bool) → T a → T b → T (a && b)
-  both true b p q = q
-  both false b p q = p
 
   below : (x : X) (rows : List X) → AllByRecursion (λ y. R (key x) (key y) ≡ Less) rows → T (below_all R (key x) (map (λ r. (key r, r)) rows))
   below x [] all = tt

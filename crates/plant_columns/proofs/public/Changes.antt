@@ -1,31 +1,14 @@
 -- What DELETE and the statements that make the schema do to the trees, whatever the table.
-use Rattle.std.proofs.Common.{◌≡◌, ◌≢◌, ◌⊎◌, inl, inr, ℕ, List, [], ◌∷◌, slice_get, None, Some, Ok, Err, Result, refl, sym, ap, subst, ◌∙◌}
-use Rattle.std.specs.List.{AllByRecursion, filter_map}
-use Rattle.std.proofs.Common.{flat_map, ◌++◌}
-use Rattle.sqlite_rules.specs.Action.{works, work_for, Writes as Edits}
-use Rattle.sqlite_schema.specs.declared.schema.Keys.{Keys}
-use Rattle.sqlite.specs.Order.{Row}
-use Rattle.sqlite.specs.Query.{Query, IsAnswer}
-use Rattle.sqlite.specs.Program.{overlay}
-use Rattle.sqlite.specs.Table.{Table}
-use Rattle.sqlite.specs.Tree.{Trees}
-use Rattle.sqlite.specs.Command.TheVariants.{Delete, CreateTable, CreateIndex}
-use Rattle.sqlite.specs.Edit.{edit_of}
-use Rattle.sqlite.specs.Rowids.TheVariants.{Given}
-use Rattle.sqlite_rules.specs.Edit.{Edit, taken_by, Applies, without_all}
-use Rattle.sqlite_rules.specs.Calls.{ids_of}
+use Rattle.std.specs.List.{AllByRecursion}
+use Rattle.std.proofs.Common.{◌≡◌, ◌≢◌, ◌⊎◌, inl, inr, ℕ, List, [], ◌∷◌, slice_get, None, Some, Ok, Err, Result, refl, sym, ap, subst, ◌∙◌, flat_map, ◌++◌, false, filter_map}
+use Rattle.sqlite_rules.specs.{Action.{works, work_for, Writes as Edits}, Calls.{ids_of}, Edit.{Edit, taken_by, Applies, without_all}}
+use Rattle.sqlite_schema.specs.declared.schema.{Index.{Index}, Keys.{Keys}}
+use Rattle.sqlite.specs.{Change.{created, indexed, next_tree, KeepsRows}, Command.TheVariants.{Delete, CreateTable, CreateIndex}}
+use Rattle.sqlite.specs.{Compile.{table_defined_by, index_defined_by}, Does.{Tally, Does, OnRows, AtPlace, Defines, MakesIndex, lacks_sequence}}
+use Rattle.sqlite.specs.{Edit.{edit_of}, Effect.{Database}, Listing.{understood}, Order.{Row}, Program.{overlay}, Query.{Query, IsAnswer}}
+use Rattle.sqlite.specs.{Rowids.TheVariants.{Given}, Rows.{Written}, Schema.{Schema}, State.{State, mode_of, Writes, Executes}, Table.{Table}}
+use Rattle.sqlite.{specs.Tree.{Trees}, proofs.Callers.{IsPlain, command_of, statement_of, runs_as, one_step}}
 use Rattle.sqlite_value.specs.declared.value.Value.TheVariants.{Null}
-use Rattle.std.proofs.Common.{false}
-use Rattle.sqlite.specs.Change.{created, indexed, next_tree, KeepsRows}
-use Rattle.sqlite.specs.Compile.{table_defined_by, index_defined_by}
-use Rattle.sqlite.specs.Schema.{Schema}
-use Rattle.sqlite_schema.specs.declared.schema.Index.{Index}
-use Rattle.sqlite.specs.Does.{Tally, Does, OnRows, AtPlace, Defines, MakesIndex, lacks_sequence}
-use Rattle.sqlite.specs.Rows.{Written}
-use Rattle.sqlite.specs.Listing.{understood}
-use Rattle.sqlite.specs.Effect.{Database}
-use Rattle.sqlite.specs.State.{State, mode_of, Writes, Executes}
-use Rattle.sqlite.proofs.Callers.{IsPlain, command_of, statement_of, runs_as, one_step}
 
 -- a part that gave a value did not stop on the way
 pub went : {B E R : Type 0} {b : B} {Stops : E → Type 0} → ((stop : E) × Stops stop × (Ok b ≡ Err stop)) ⊎ R → R

@@ -1,19 +1,12 @@
 -- Several tables, each with its shape, in one schema: what a put into one, a change of a row or a remove out of one leaves of all.
+use Rattle.std.specs.{Cmp.{ranks}, Ordering.{MatchOrdering}}
 use Rattle.std.proofs.Common.{◌≡◌, ◌≢◌, ◌⊎◌, inl, inr, ℕ, ◌<◌, zero, suc, List, [], ◌∷◌, slice_get, Some, sym, ap, ◌∙◌, subst, Ordering, Less, Equal, Greater, nat_cmp, arith}
-use Rattle.std.specs.Cmp.{ranks}
-use Rattle.std.specs.Ordering.{MatchOrdering}
-use Rattle.sqlite.specs.Effect.{Database}
-use Rattle.sqlite.specs.Schema.{Schema}
-use Rattle.sqlite.specs.Table.{Table}
-use Rattle.sqlite.specs.Tree.{Trees}
-use Rattle.sqlite_rules.specs.Lists.{Has}
-use Rattle.sqlite_rules.proofs.ListLemmas.{all_has}
+use Rattle.sqlite.specs.{Effect.{Database}, Schema.{Schema}, Table.{Table}, Tree.{Trees}}
+use Rattle.sqlite_rules.{specs.Lists.{Has}, proofs.ListLemmas.{all_has}}
 use Rattle.plant_types.specs.KeyedRows.{put_row, remove_row}
-use Rattle.plant_columns.specs.Shape.{Shape, table_in, IsRowIn, rows_in, seen, AreTables}
-use Rattle.plant_columns.specs.Tidy.{IsTidy}
-use Rattle.plant_columns.proofs.public.Changes.{KeepsOthers}
-use Rattle.plant_columns.proofs.public.Updated.{Leaves, SetsRow, mine_after_set, others_after_set, tidy_after_set}
+use Rattle.plant_columns.{specs.{Shape.{Shape, table_in, IsRowIn, rows_in, seen, AreTables}, Tidy.{IsTidy}}, proofs.public.Changes.{KeepsOthers}}
 use Rattle.plant_columns.proofs.public.Shapes.{IsShape, PutsRow, RemovesRow, tidy_after_put, mine_after_put, others_after_put, tidy_after_out, mine_after_out, others_after_out}
+use Rattle.plant_columns.proofs.public.Updated.{Leaves, SetsRow, mine_after_set, others_after_set, tidy_after_set}
 
 same_or_not : (m n : ℕ) → (m ≡ n) ⊎ (m ≢ n)
 same_or_not m n = go (nat_cmp m n) (ranks m n)

@@ -1,50 +1,23 @@
 -- What a plain INSERT of one row does: where it succeeds, no row had the key.
-use Rattle.std.proofs.Common.{◌≡◌, ◌≢◌, inl, ℕ, ℤ, ◌/◌, length, Bool, true, false, not, ◌&&◌, ◌||◌, fold, List, [], ◌∷◌, ◌++◌, slice_get, None, Some, Ok, refl, sym, ap, ap₂, subst, ◌∙◌, true≢false, is_eq, Less}
 use Rattle.std.specs.List.{AllByRecursion, list_any}
-use Rattle.std.proofs.lemmas.Bool.{false_from_ne_true}
-use Rattle.sqlite.specs.Cast.{cast, cast_row}
-use Rattle.sqlite.specs.Collation.TheVariants.{Binary}
-use Rattle.sqlite.specs.Command.TheVariants.{Insert}
-use Rattle.sqlite.specs.Does.{Tally, Does, OnRows, AtPlace}
-use Rattle.sqlite.specs.Edit.{edit_of}
-use Rattle.sqlite.specs.Effect.{Database, value_rows}
-use Rattle.sqlite.specs.Kind.TheVariants.{Integer}
-use Rattle.sqlite.specs.Listing.{understood}
-use Rattle.sqlite.specs.Order.{Row}
-use Rattle.sqlite.specs.Rowids.TheVariants.{Chosen}
-use Rattle.sqlite.specs.Rows.{Written, Task, Then, Gives, Edited, Counts, count_of, higher, last_id, stamped}
-use Rattle.sqlite.specs.Schema.{Schema}
-use Rattle.sqlite.specs.Source.TheVariants.{Values}
-use Rattle.sqlite.specs.State.{State, mode_of, Executes}
-use Rattle.sqlite.specs.Table.{Table}
-use Rattle.sqlite.specs.Term.{Term}
-use Rattle.sqlite.specs.Tree.{Trees, rowid, put_row, IsTable}
-use Rattle.sqlite.proofs.Callers.{IsPlain, command_of, statement_of, runs_as}
+use Rattle.std.proofs.Common.{◌≡◌, ◌≢◌, inl, ℕ, ℤ, ◌/◌, length, Bool, true, false, not, ◌&&◌, ◌||◌, fold, List, [], ◌∷◌, ◌++◌, slice_get, None, Some, Ok, refl, sym, ap, ap₂, subst, ◌∙◌, true≢false, is_eq, Less}
+use Rattle.std.proofs.lemmas.Bool.{false_from_ne_true, and_from}
+use Rattle.sqlite.specs.{Cast.{cast, cast_row}, Collation.TheVariants.{Binary}, Command.TheVariants.{Insert}, Does.{Tally, Does, OnRows, AtPlace}}
+use Rattle.sqlite.specs.{Edit.{edit_of}, Effect.{Database, value_rows}, Kind.TheVariants.{Integer}, Listing.{understood}, Order.{Row}}
+use Rattle.sqlite.specs.{Rowids.TheVariants.{Chosen}, Rows.{Written, Task, Then, Gives, Edited, Counts, count_of, higher, last_id, stamped}}
+use Rattle.sqlite.specs.{Schema.{Schema}, Source.TheVariants.{Values}, State.{State, mode_of, Executes}, Table.{Table}, Term.{Term}}
+use Rattle.sqlite.{specs.Tree.{Trees, rowid, put_row, IsTable}, proofs.Callers.{IsPlain, command_of, statement_of, runs_as}}
 use Rattle.sqlite_keyed.proofs.ListLemmas.{all-append, filter_all}
-use Rattle.sqlite_rules.specs.Edit.{id_in, next_rowid, with_rowid}
-use Rattle.sqlite_rules.specs.Keys.{shares}
-use Rattle.sqlite_rules.specs.Lists.{Has}
-use Rattle.sqlite_rules.proofs.ListLemmas.{all_has, all_from, some_has, some_from, test_has, has_got, has_left, has_right}
-use Rattle.sqlite_rules.proofs.TableLemmas.{int_is}
-use Rattle.sqlite_schema.specs.Rules.{agree, clashes, differ, equal, guards, passes, Fits}
-use Rattle.sqlite_schema.specs.declared.schema.Column.{Column}
+use Rattle.sqlite_rules.specs.{Edit.{id_in, next_rowid, with_rowid}, Keys.{shares}, Lists.{Has}}
+use Rattle.sqlite_rules.proofs.{ListLemmas.{all_has, all_from, some_has, some_from, test_has, has_got, has_left, has_right}, TableLemmas.{int_is}}
+use Rattle.sqlite_schema.specs.{Rules.{agree, clashes, differ, equal, guards, passes, Fits}, declared.schema.Column.{Column}}
 use Rattle.sqlite_schema.specs.declared.schema.Constraint.TheVariants.{Unique, ForeignKey}
 use Rattle.sqlite_sql.specs.Ops.{binary}
-use Rattle.sqlite_trees.proofs.TreeLemmas.{IsTable-put_row}
-use Rattle.sqlite_trees.specs.View.{is_int}
-use Rattle.sqlite_value.specs.declared.value.Value.{Value}
-use Rattle.sqlite_value.specs.declared.value.Value.TheVariants.{Null, Int, Text}
-use Rattle.sqlite_value.specs.Keys.{plain, first_key}
-use Rattle.sqlite_value.specs.Order.{value_cmp}
-use Rattle.plant_columns.specs.Kept.{taken_out, by_columns}
-use Rattle.plant_columns.specs.Shape.{Shape, table_in, row_in}
-use Rattle.plant_columns.specs.Forms.{table_of}
-use Rattle.plant_columns.specs.Tidy.{AreRows}
-use Rattle.plant_columns.proofs.public.Changes.{went, same_value, KeepsOthers, HasNoReferences, lone_step}
-use Rattle.plant_columns.proofs.public.Keys.{agree_is, equal_is}
-use Rattle.plant_columns.proofs.public.Laws.{cast_null}
-use Rattle.plant_columns.proofs.Rows.{below_next, put_last}
-use Rattle.plant_columns.proofs.public.Shapes.{IsShape, IsListed, PutsRow}
+use Rattle.sqlite_trees.{specs.View.{is_int}, proofs.TreeLemmas.{IsTable-put_row}}
+use Rattle.sqlite_value.specs.{Keys.{plain, first_key}, Order.{value_cmp}, declared.value.Value.{Value, TheVariants.{Null, Int, Text}}}
+use Rattle.plant_columns.specs.{Forms.{table_of}, Kept.{taken_out, by_columns}, Shape.{Shape, table_in, row_in}, Tidy.{AreRows}}
+use Rattle.plant_columns.proofs.{Rows.{below_next, put_last}, public.Changes.{went, same_value, KeepsOthers, HasNoReferences, lone_step}}
+use Rattle.plant_columns.proofs.public.{Keys.{agree_is, equal_is}, Laws.{cast_null}, Shapes.{IsShape, IsListed, PutsRow}}
 
 -- The new row is put in with the next rowid, and each rule holds of what is then there.
 record HasInserted (schema : Schema) (table : Table) (source : Row) (old new : Database) : Type 0 where
@@ -97,9 +70,6 @@ or_last : (a b : Bool) → a ≡ false → (a || b) ≡ true → b ≡ true
 or_last true b e h = absurd (true≢false e)
 or_last false b e h = h
 
-both_are : (a b : Bool) → a ≡ true → b ≡ true → (a && b) ≡ true
-both_are a b h k = rw (h, k) refl
-
 -- no rule is broken, so no two rows that a unique index guards agree
 none_agrees : (schema : Schema) (table : Table) (trees : Trees) → Fits schema trees → Has schema.tables table → (row r : Row) → Has (trees table.tree) row → Has (trees table.tree) r → differ (rowid r) (rowid row) ≡ true
     → list_any (shares None table row r) schema.indexes ≡ true → ⊥
@@ -110,8 +80,8 @@ none_agrees schema table trees fits listed row r has_row has_r apart met =
     let lone = test_has (λ i. not (guards i table && clashes i.order i.columns (trees table.tree) row)) schema.indexes one.0 kept one.1 in
     let i = one.0 in
     let split = sharing (guards one.0 table) (agree one.0.order one.0.columns r one.0.columns row) one.2 in
-    let clash = some_from (λ other. agree one.0.order one.0.columns other one.0.columns row && differ (rowid other) (rowid row)) (trees table.tree) r has_r (both_are _ _ split.1 apart) in
-    true≢false (sym lone ∙ ap not (both_are (guards one.0 table) _ split.0 clash))
+    let clash = some_from (λ other. agree one.0.order one.0.columns other one.0.columns row && differ (rowid other) (rowid row)) (trees table.tree) r has_r (and_from _ _ split.1 apart) in
+    true≢false (sym lone ∙ ap not (and_from (guards one.0 table) _ split.0 clash))
 
 differs : (m n : ℤ) → value_cmp (Int m) (Int n) ≡ Less → differ (Int m) (Int n) ≡ true
 unfolding binary

@@ -1,24 +1,15 @@
 -- An inner join of two shared tables in the order of the first one's key, whose rows meet one row of the second at most.
-use Rattle.std.proofs.Common.{◌≡◌, ℕ, Bool, true, false, ◌&&◌, cond, List, [], ◌∷◌, ◌++◌, map, flat_map, refl, sym, ap, ◌∙◌, subst, Ordering, Less, Equal, Greater, is_eq, true≢false, IsPermutation}
-use Rattle.std.specs.List.{AllByRecursion, list_all}
-use Rattle.std.specs.Cmp.{IsTotalOrder}
-use Rattle.std.specs.Ordering.{ordering_reverse}
-use Rattle.sqlite.specs.Program.{overlay}
-use Rattle.sqlite.specs.Query.{Query, IsAnswer, Output, output, output_cmp, inner, end}
-use Rattle.sqlite.specs.Tree.{Trees, IsAscending}
+use Rattle.std.specs.{Cmp.{IsTotalOrder}, List.{AllByRecursion, list_all}, Ordering.{ordering_reverse}}
+use Rattle.std.proofs.Common.{◌≡◌, ℕ, Bool, true, false, cond, List, [], ◌∷◌, ◌++◌, map, flat_map, refl, sym, ap, ◌∙◌, subst, Ordering, Less, Equal, Greater, is_eq, true≢false, IsPermutation}
+use Rattle.std.proofs.lemmas.List.Sorted.{IsPermutation-trans}
+use Rattle.sqlite.specs.{Program.{overlay}, Query.{Query, IsAnswer, Output, output, output_cmp, inner, end}, Tree.{Trees, IsAscending}}
 use Rattle.sqlite_keyed.specs.Lists.{insert_sorted, sort_by}
 use Rattle.sqlite_keyed.proofs.ListLemmas.{all_weaker, all-flat_map, ascending-append, map-flat_map, flat_map_same_on, IsPermutation-flat_map}
 use Rattle.sqlite_keyed.proofs.SortLemmas.{sorted_unique, IsPermutation-sort_by}
-use Rattle.std.proofs.lemmas.List.Sorted.{IsPermutation-trans}
-use Rattle.sqlite_sql.specs.Term.{Term, holds}
-use Rattle.sqlite_sql.proofs.QueryLemmas.{output_cmp_total}
-use Rattle.sqlite_value.specs.declared.keys.Key.{Key}
-use Rattle.sqlite_value.specs.Order.{Row}
-use Rattle.plant_columns.specs.Kept.{by_columns, plain_query}
-use Rattle.plant_columns.specs.Tidy.{AreApart}
-use Rattle.plant_columns.proofs.public.Keys.{by_columns_total}
-use Rattle.plant_columns.proofs.public.Kept.{all-insert, all-sort}
-use Rattle.plant_columns.proofs.public.Laws.{overlay_none}
+use Rattle.sqlite_sql.{specs.Term.{Term, holds}, proofs.QueryLemmas.{output_cmp_total}}
+use Rattle.sqlite_value.specs.{Order.{Row}, declared.keys.Key.{Key}}
+use Rattle.plant_columns.{specs.{Kept.{by_columns, plain_query}, Tidy.{AreApart}}, proofs.public.Kept.{all-insert, all-sort}}
+use Rattle.plant_columns.proofs.public.{Keys.{by_columns_total}, Laws.{overlay_none}}
 
 module _ {X : Type 0} (cmp : X → X → Ordering) (total : IsTotalOrder cmp) where
   strict-insert : (new : X) (xs : List X) → AllByRecursion (λ y. is_eq (cmp new y) ≡ false) xs → IsAscending (λ a b. cmp a b ≡ Less) xs → IsAscending (λ a b. cmp a b ≡ Less) (insert_sorted cmp new xs)
@@ -35,7 +26,7 @@ module _ {X : Type 0} (cmp : X → X → Ordering) (total : IsTotalOrder cmp) wh
   strict-sort [] apart = tt
   strict-sort (x ∷ xs) apart = strict-insert x _ (all-sort cmp total _ xs apart.0) (strict-sort xs apart.1)
 
-pub ascending-flat_map : {A B : Type 0} (S : A → A → Type 0) (R : B → B → Type 0) (f : A → List B) → ((a : A) → IsAscending R (f a)) → ((a b : A) → S a b → AllByRecursion (λ x. AllByRecursion (R x) (f b)) (f a))
+ascending-flat_map : {A B : Type 0} (S : A → A → Type 0) (R : B → B → Type 0) (f : A → List B) → ((a : A) → IsAscending R (f a)) → ((a b : A) → S a b → AllByRecursion (λ x. AllByRecursion (R x) (f b)) (f a))
     → (xs : List A) → IsAscending S xs → IsAscending R (flat_map f xs)
 ascending-flat_map S R f inside across [] up = tt
 ascending-flat_map {A} {B} S R f inside across (x ∷ xs) up = ascending-append R (f x) (flat_map f xs) (inside x) (ascending-flat_map S R f inside across xs up.1) (far (f x) (λ b h. across x b h) xs up.0)
@@ -63,7 +54,7 @@ module _ {A B : Type 0} (t : A → Bool) (out : A → B) where
           let none : picked us ≡ [] = none_picked us (all_weaker _ (λ v. t v ≡ false) (λ v h. Rattle.std.proofs.lemmas.Bool.false_from_ne_true _ (λ k. true≢false (sym (tie u v e k) ∙ h))) us apart.0) in
           rw none (tt, tt)
 
-  pub all_picked : (P : B → Type 0) → ((u : A) → P (out u)) → (us : List A) → AllByRecursion P (picked us)
+  all_picked : (P : B → Type 0) → ((u : A) → P (out u)) → (us : List A) → AllByRecursion P (picked us)
   all_picked P h [] = tt
   all_picked P h (u ∷ us) = elim (t u) as (λ b. AllByRecursion P (cond b (out u ∷ []) [] ++ picked us)) [ true ↦ (h u, all_picked P h us) | false ↦ all_picked P h us ]
 
@@ -80,7 +71,7 @@ module _ (first second : ℕ) (tests project : List Term) (order : List (Term ×
   abbrev pub met : List Row → Row → List Output
   met us g = picked (meets g) (pair_shown g) us
 
-  pub shown_each : (us : List Row) (g : Row) → map (output (plain_query (inner first (inner second end)) tests project order)) (flat_map (λ u. cond (meets g u) ((params ∷ g ∷ u ∷ []) ∷ []) []) us) ≡ met us g
+  shown_each : (us : List Row) (g : Row) → map (output (plain_query (inner first (inner second end)) tests project order)) (flat_map (λ u. cond (meets g u) ((params ∷ g ∷ u ∷ []) ∷ []) []) us) ≡ met us g
   shown_each [] g = refl
   shown_each (u ∷ us) g = elim (meets g u) as (λ b. map (output (plain_query (inner first (inner second end)) tests project order)) (cond b ((params ∷ g ∷ u ∷ []) ∷ []) [] ++ flat_map (λ u. cond (meets g u) ((params ∷ g ∷ u ∷ []) ∷ []) []) us) ≡ cond b (pair_shown g u ∷ []) [] ++ met us g)
       [ true ↦ ap (λ l. pair_shown g u ∷ l) (shown_each us g) | false ↦ shown_each us g ]

@@ -1,12 +1,9 @@
 -- A table as it lies, in the order of its rowids, against the same in the order of its keys.
+use Rattle.std.specs.{Cmp.{IsTotalOrder}, List.{AllByRecursion}, Ordering.{ordering_reverse}}
 use Rattle.std.proofs.Common.{◌≡◌, Bool, true, false, not, cond, List, [], ◌∷◌, ◌++◌, filter, map, refl, sym, ap, ◌∙◌, Ordering, Less, Equal, Greater, is_gt, is_eq, true≢false}
-use Rattle.std.specs.List.{AllByRecursion}
-use Rattle.std.specs.Cmp.{IsTotalOrder}
-use Rattle.std.specs.Ordering.{ordering_reverse}
 use Rattle.std.proofs.lemmas.Cmp.{upto}
 use Rattle.sqlite_trees.specs.Tree.{IsAscending}
-use Rattle.sqlite_keyed.specs.Lists.{insert_sorted, sort_by}
-use Rattle.sqlite_keyed.proofs.ListLemmas.{all_weaker, all-filter, ascending-filter}
+use Rattle.sqlite_keyed.{specs.Lists.{insert_sorted, sort_by}, proofs.ListLemmas.{all_weaker, all-filter, ascending-filter}}
 use Rattle.plant_columns.specs.Kept.{taken_out, put_in, kept}
 
 module _ {X : Type 0} (cmp : X → X → Ordering) (total : IsTotalOrder cmp) where

@@ -1,17 +1,11 @@
 -- When SQL takes two keys for one.
-use Rattle.std.proofs.Common.{◌≡◌, ℕ, Bool, true, false, ◌&&◌, ◌||◌, List, [], ◌∷◌, ◌++◌, refl, sym, ap, ap₂, ◌∙◌, Ordering, Less, Equal, Greater, is_eq, true≢false}
-use Rattle.std.specs.List.{AllByRecursion}
-use Rattle.std.specs.Cmp.{IsTotalOrder}
-use Rattle.std.specs.Ordering.{ordering_then, ordering_reverse}
+use Rattle.std.specs.{Cmp.{IsTotalOrder}, List.{AllByRecursion}, Ordering.{ordering_then, ordering_reverse}}
+use Rattle.std.proofs.Common.{◌≡◌, ℕ, Bool, true, false, ◌&&◌, List, [], ◌∷◌, refl, sym, ap, ap₂, ◌∙◌, Ordering, Less, Equal, Greater, is_eq, true≢false}
 use Rattle.std.proofs.lemmas.Cmp.{on_total, then_total}
 use Rattle.sqlite.specs.Collation.TheVariants.{Binary}
-use Rattle.sqlite_value.specs.declared.value.Value.{Value}
-use Rattle.sqlite_value.specs.declared.value.Value.TheVariants.{Null, Int, Real, Text, Blob}
-use Rattle.sqlite_value.specs.Order.{Row, column, value_cmp}
-use Rattle.sqlite_value.specs.Keys.{plain, first_key}
-use Rattle.sqlite_value.proofs.OrderLemmas.{value_cmp_total, value_cmp-Null}
-use Rattle.sqlite_sql.specs.Ops.{binary, is_null, is_true, from_truth}
-use Rattle.sqlite_sql.proofs.QueryLemmas.{key_cmp_total}
+use Rattle.sqlite_value.specs.{Keys.{plain, first_key}, Order.{Row, column, value_cmp}, declared.value.Value.{Value}}
+use Rattle.sqlite_value.{specs.declared.value.Value.TheVariants.{Null, Int, Real, Text, Blob}, proofs.OrderLemmas.{value_cmp_total, value_cmp-Null}}
+use Rattle.sqlite_sql.{specs.Ops.{binary, is_null, is_true, from_truth}, proofs.QueryLemmas.{key_cmp_total}}
 use Rattle.sqlite_schema.specs.Rules.{equal, agree}
 use Rattle.plant_columns.specs.Kept.{by_columns}
 
@@ -60,7 +54,3 @@ agree_is [] r new h = refl
 agree_is (k ∷ ks) r new h =
     ap₂ ◌&&◌ (equal_is (column r k) (column new k) h.0 ∙ tied_either_way (column r k) (column new k)) (agree_is ks r new h.1)
     ∙ sym (then_tied (value_cmp (column new k) (column r k)) (by_columns ks new r))
-
-or_false : (b : Bool) → (b || false) ≡ b
-or_false true = refl
-or_false false = refl

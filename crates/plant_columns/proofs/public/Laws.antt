@@ -1,33 +1,18 @@
 -- The laws of a table that is written by its key and read in the order of its key, whatever the table.
-use Rattle.std.proofs.Common.{◌≡◌, ℕ, ℤ, ◌-◌, ◌^◌, nat_le, unwrap_or, Bool, true, false, not, cond, List, [], ◌∷◌, ◌++◌, map, filter, flat_map, refl, sym, ap, ◌∙◌, subst, Ordering, is_eq, IsPermutation, IsSorted, None, inl, inr, slice_get}
 use Rattle.std.specs.List.{list_all}
+use Rattle.std.proofs.Common.{◌≡◌, ℕ, ℤ, ◌-◌, ◌^◌, nat_le, unwrap_or, Bool, true, false, not, cond, List, [], ◌∷◌, ◌++◌, map, filter, flat_map, refl, sym, ap, ◌∙◌, subst, Ordering, is_eq, IsPermutation, IsSorted, None, inl, inr, slice_get}
 use Rattle.std.proofs.lemmas.List.Sorted.{Contains-permutation, IsPermutation-sym}
-use Rattle.sqlite.specs.Cast.{cast}
-use Rattle.sqlite.specs.Effect.{Database}
-use Rattle.sqlite.specs.Kind.TheVariants.{Integer}
-use Rattle.sqlite.specs.Program.{overlay, given_at}
-use Rattle.sqlite.specs.Query.{Query, IsAnswer, Output, output, output_cmp, inner, end}
-use Rattle.sqlite.specs.Tree.{Trees, rowid}
-use Rattle.sqlite_keyed.proofs.ListLemmas.{all-filter, ascending-filter}
-use Rattle.sqlite_rules.specs.Lists.{Has}
-use Rattle.sqlite_rules.proofs.ListLemmas.{has_filtered, has_kept, has_contained, contains_had}
-use Rattle.sqlite_schema.specs.declared.schema.Column.{Column}
-use Rattle.sqlite_sql.specs.Ops.{unary}
-use Rattle.sqlite_sql.specs.Term.{Term, holds}
-use Rattle.sqlite_value.specs.declared.keys.Key.{Key}
-use Rattle.sqlite_value.specs.declared.value.Value.{Value}
-use Rattle.sqlite_value.specs.declared.value.Value.TheVariants.{Null, Int}
-use Rattle.sqlite_value.specs.Order.{Row}
-use Rattle.plant_columns.specs.Kept.{by_columns, plain_query, kept}
-use Rattle.sqlite_keyed.specs.Lists.{sort_by}
+use Rattle.sqlite.specs.{Cast.{cast}, Effect.{Database}, Kind.TheVariants.{Integer}, Program.{overlay, given_at}}
+use Rattle.sqlite.specs.{Query.{Query, IsAnswer, Output, output, output_cmp, inner, end}, Tree.{Trees, rowid}}
+use Rattle.sqlite_keyed.{specs.Lists.{sort_by}, proofs.ListLemmas.{all-filter, ascending-filter, ascending-map, map-map}}
 use Rattle.sqlite_keyed.proofs.SortLemmas.{sorted_is-sort_by, sort_by-map}
-use Rattle.sqlite_keyed.proofs.ListLemmas.{ascending-map, map-map}
-use Rattle.sqlite_sql.proofs.QueryLemmas.{output_cmp_total}
-use Rattle.sqlite_trees.specs.Tree.{IsAscending}
-use Rattle.plant_columns.specs.Forms.{table_of}
-use Rattle.plant_columns.specs.Tidy.{AreRows}
-use Rattle.plant_columns.proofs.Rows.{AreFound, without_found}
+use Rattle.sqlite_rules.{specs.Lists.{Has}, proofs.ListLemmas.{has_filtered, has_kept, has_contained, contains_had}}
+use Rattle.sqlite_schema.specs.declared.schema.Column.{Column}
+use Rattle.sqlite_sql.{specs.{Ops.{unary}, Term.{Term, holds}}, proofs.QueryLemmas.{output_cmp_total}}
+use Rattle.sqlite_value.specs.{Order.{Row}, declared.{keys.Key.{Key}, value.Value.{Value, TheVariants.{Null, Int}}}}
+use Rattle.plant_columns.{specs.{Forms.{table_of}, Kept.{by_columns, plain_query, kept}, Tidy.{AreRows}}, proofs.Rows.{AreFound, without_found}}
 use Rattle.plant_columns.proofs.public.Changes.{HasDeleted}
+use Rattle.sqlite_trees.specs.Tree.{IsAscending}
 
 -- ---- reading
 

@@ -1,45 +1,23 @@
 -- The shape of each table is a shape, and the schema lists each.
-use Rattle.std.proofs.Common.{◌≡◌, ℕ, pos, Bool, true, false, ◌&&◌, ◌||◌, List, [], ◌∷◌, Option, None, Some, refl, ap₂, sym, ◌∙◌, nat_cmp}
-use Rattle.std.specs.Cmp.Lexicographic.{nat_list_cmp_total}
-use Rattle.std.specs.Ordering.{ordering_then}
-use Rattle.std.specs.declared.cmp.Ordering.{Ordering}
-use Rattle.std.specs.declared.cmp.Ordering.TheVariants.{Equal}
+use Rattle.std.specs.{Cmp.Lexicographic.{nat_list_cmp_total}, Ordering.{ordering_then}}
+use Rattle.std.proofs.Common.{◌≡◌, ℕ, pos, Bool, true, false, ◌&&◌, ◌||◌, List, [], ◌∷◌, Option, None, Some, refl, ap₂, sym, ◌∙◌, nat_cmp, Ordering, Equal}
 use Rattle.std.proofs.lemmas.Cmp.{nat_cmp_total}
-use Rattle.sqlite.specs.Cast.{cast}
-use Rattle.sqlite.specs.Collation.TheVariants.{Binary}
-use Rattle.sqlite.specs.Kind.TheVariants.{Integer, Text as TextKind}
-use Rattle.sqlite.specs.Tree.{rowid}
+use Rattle.sqlite.specs.{Cast.{cast}, Collation.TheVariants.{Binary}, Kind.TheVariants.{Integer, Text as TextKind}, Tree.{rowid}}
 use Rattle.sqlite_rules.specs.Keys.{conflicts}
 use Rattle.sqlite_schema.specs.Rules.{equal, agree}
 use Rattle.sqlite_sql.specs.Ops.{unary}
-use Rattle.sqlite_value.specs.declared.value.Value.{Value}
-use Rattle.sqlite_value.specs.declared.value.Value.TheVariants.{Text}
-use Rattle.sqlite_value.specs.Keys.{plain, first_key}
-use Rattle.sqlite_value.specs.Order.{Row, value_cmp}
+use Rattle.sqlite_value.specs.{Keys.{plain, first_key}, Order.{Row, value_cmp}, declared.value.Value.{Value, TheVariants.{Text}}}
 use Rattle.sqlite_value.proofs.OrderLemmas.{value_cmp-Int, value_cmp-Text, then-Equal}
-use Rattle.plant_alarm.specs.declared.event.EventKind.{EventKind}
-use Rattle.plant_alarm.specs.declared.event.EventKind.TheVariants.{Act}
-use Rattle.plant_alarm.specs.declared.summary.AlarmState.{AlarmState}
-use Rattle.plant_alarm.specs.declared.summary.AlarmState.TheVariants.{Normal}
-use Rattle.plant_ration.specs.declared.cell.Cell.{Cell}
-use Rattle.plant_ration.specs.declared.cell.Cell.TheVariants.{N}
-use Rattle.plant_ration.specs.declared.change.ChangeState.{ChangeState}
-use Rattle.plant_ration.specs.declared.change.ChangeState.TheVariants.{Proposed}
-use Rattle.plant_types.specs.declared.role.Role.{Role}
-use Rattle.plant_types.specs.declared.role.Role.TheVariants.{Viewer}
-use Rattle.plant_types.specs.Roles.{role_no}
-use Rattle.plant_types.proofs.public.Orders.{pair_total}
+use Rattle.plant_alarm.specs.declared.{event.EventKind.{EventKind, TheVariants.{Act}}, summary.AlarmState.{AlarmState, TheVariants.{Normal}}}
+use Rattle.plant_ration.specs.declared.{cell.Cell.{Cell, TheVariants.{N}}, change.ChangeState.{ChangeState, TheVariants.{Proposed}}}
+use Rattle.plant_types.{specs.{Roles.{role_no}, declared.role.Role.{Role, TheVariants.{Viewer}}}, proofs.public.Orders.{pair_total}}
+use Rattle.plant_model.specs.declared.rows.ChangeTopic.{ChangeTopic, TheVariants.{Record as RecordTopic}}
 use Rattle.plant_model.proofs.public.PlaceOrders.{band_total, cell_total}
-use Rattle.plant_model.specs.declared.rows.ChangeTopic.{ChangeTopic}
-use Rattle.plant_model.specs.declared.rows.ChangeTopic.TheVariants.{Record as RecordTopic}
-use Rattle.plant_columns.specs.Shape.{table_in}
-use Rattle.plant_columns.proofs.public.Bridge.{int_cmp-pos}
-use Rattle.plant_columns.proofs.public.Family.{AreListed}
-use Rattle.plant_columns.proofs.public.Laws.{cast_int, cast_null}
-use Rattle.plant_columns.proofs.public.Shapes.{IsListed, IsShape}
 use Rattle.plant_columns.specs.Codes.{cell_no, cell_numbered, decision_no, decision_numbered, flag, flag_in, kind_no, kind_numbered, number, open_number, open_number_in, open_text, open_text_in, role_numbered, state_no, state_numbered, topic_no, topic_numbered}
-use Rattle.plant_columns.specs.Tables.{Kept, RowOf, KeyOf, alarm_shape, band_shape, books_schema, cell_shape, change_shape, event_shape, grant_shape, record_shape, shape, shelf_shape, unit_shape}
+use Rattle.plant_columns.specs.Shape.{table_in}
 use Rattle.plant_columns.specs.Tables.Kept.{UnitKept, GrantKept, AlarmKept, ShelfKept, BandKept, CellKept, EventKept, RecordKept, ChangeKept}
+use Rattle.plant_columns.specs.Tables.{Kept, RowOf, KeyOf, alarm_shape, band_shape, books_schema, cell_shape, change_shape, event_shape, grant_shape, record_shape, shape, shelf_shape, unit_shape}
+use Rattle.plant_columns.proofs.public.{Bridge.{int_cmp-pos}, Family.{AreListed}, Laws.{cast_int, cast_null}, Shapes.{IsListed, IsShape}}
 
 -- ---- what is written is read back
 

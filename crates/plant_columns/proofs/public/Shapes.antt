@@ -1,36 +1,20 @@
 -- What the statements of one table do, whatever its shape.
+use Rattle.std.specs.{Cmp.{IsTotalOrder}, List.{AllByRecursion}}
 use Rattle.std.proofs.Common.{◌≡◌, ◌≢◌, ℕ, ℤ, Bool, true, false, not, ◌&&◌, cond, List, [], ◌∷◌, ◌++◌, map, filter, slice_get, None, Some, Ok, refl, sym, ap, ap₂, ◌∙◌, subst, Ordering, is_eq}
-use Rattle.std.specs.List.{AllByRecursion}
-use Rattle.std.specs.Cmp.{IsTotalOrder}
-use Rattle.sqlite.specs.Cast.{cast_all}
-use Rattle.sqlite.specs.Collation.TheVariants.{Binary}
-use Rattle.sqlite.specs.Command.TheVariants.{Delete, Select}
-use Rattle.sqlite.specs.Effect.{Database}
-use Rattle.sqlite.specs.Listing.{understood, reads_listing}
-use Rattle.sqlite.specs.Query.{inner, end, output_cmp}
-use Rattle.sqlite.specs.Schema.{Schema}
-use Rattle.sqlite.specs.State.{State, Executes, Shown}
-use Rattle.sqlite.specs.Term.{Term, col}
-use Rattle.sqlite.specs.Tree.{rowid}
-use Rattle.sqlite.proofs.Callers.{IsPlain, command_of, reads_as}
-use Rattle.sqlite_keyed.specs.Lists.{sort_by}
-use Rattle.sqlite_keyed.proofs.ListLemmas.{filter_same}
+use Rattle.sqlite.specs.{Cast.{cast_all}, Collation.TheVariants.{Binary}, Command.TheVariants.{Delete, Select}, Effect.{Database}}
+use Rattle.sqlite.specs.{Listing.{understood, reads_listing}, Query.{inner, end, output_cmp}, Schema.{Schema}, State.{State, Executes, Shown}}
+use Rattle.sqlite.{specs.{Term.{Term, col}, Tree.{rowid}}, proofs.Callers.{IsPlain, command_of, reads_as}}
+use Rattle.sqlite_keyed.{specs.Lists.{sort_by}, proofs.ListLemmas.{filter_same}}
 use Rattle.sqlite_rules.specs.Keys.{conflicts}
 use Rattle.sqlite_schema.specs.Rules.{equal, agree}
-use Rattle.sqlite_value.specs.declared.keys.Key.{Key}
-use Rattle.sqlite_value.specs.declared.value.Value.{Value}
+use Rattle.sqlite_value.specs.{Keys.{plain}, Order.{Row, column, bytes}, declared.{keys.Key.{Key}, value.Value.{Value}}}
 use Rattle.sqlite_value.specs.declared.value.Value.TheVariants.{Null, Int, Text}
-use Rattle.sqlite_value.specs.Keys.{plain}
-use Rattle.sqlite_value.specs.Order.{Row, column, bytes}
 use Rattle.plant_types.specs.KeyedRows.{put_row, remove_row, IsInOrder}
 use Rattle.plant_columns.specs.Kept.{taken_out, by_columns, plain_query, kept, is_of}
-use Rattle.plant_columns.specs.Shape.{Shape, table_in, row_in, IsRowIn, rows_in, rows_passing}
-use Rattle.plant_columns.specs.Tidy.{AreRows, AreApart, IsTidy}
-use Rattle.plant_columns.proofs.public.Changes.{HasNoReferences, KeepsOthers, deletes}
-use Rattle.plant_columns.proofs.public.Keys.{HasKey, agree_is, by_columns_total}
-use Rattle.plant_columns.proofs.public.Kept.{all-kept, sort-filter}
-use Rattle.plant_columns.proofs.public.Laws.{removes, passes, shows, reads, one_answer}
+use Rattle.plant_columns.specs.{Shape.{Shape, table_in, row_in, IsRowIn, rows_in, rows_passing}, Tidy.{AreRows, AreApart, IsTidy}}
 use Rattle.plant_columns.proofs.Shared.{tidy-put, tidy-out, put_mine, put_other, out_mine, out_other, in_order}
+use Rattle.plant_columns.proofs.public.{Changes.{HasNoReferences, KeepsOthers, deletes}, Kept.{all-kept, sort-filter}}
+use Rattle.plant_columns.proofs.public.{Keys.{HasKey, agree_is, by_columns_total}, Laws.{removes, passes, shows, reads, one_answer}}
 
 -- what is to be shown of one shape
 pub record IsShape {X K : Type 0} (s : Shape X K) : Type 0 where

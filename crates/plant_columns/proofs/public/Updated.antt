@@ -1,55 +1,23 @@
 -- What an UPDATE of the one row of a key does.
-use Rattle.std.proofs.Common.{◌≡◌, ◌≢◌, ◌⊎◌, inl, inr, ℕ, Bool, true, false, not, ◌&&◌, cond, List, [], ◌∷◌, ◌++◌, append-nil, map, filter, slice_get, None, Some, Ok, refl, sym, ap, ap₂, subst, ◌∙◌, true≢false, is_eq, Ordering, Less, Equal, Greater, IsPermutation}
-use Rattle.std.proofs.lemmas.List.{length-map}
-use Rattle.std.proofs.lemmas.List.Sorted.{length_permutation}
-use Rattle.std.specs.Cmp.{IsTotalOrder}
-use Rattle.std.specs.Prelude.{length, nat_eq, unwrap_or}
-use Rattle.std.specs.List.{AllByRecursion}
-use Rattle.std.specs.Ordering.{match_ordering, ordering_reverse}
-use Rattle.std.proofs.lemmas.Bool.{false_from_ne_true}
-use Rattle.std.proofs.lemmas.Cmp.{alike_right}
-use Rattle.sqlite.specs.Cast.{cast, cast_row}
-use Rattle.sqlite.specs.Command.TheVariants.{Update}
-use Rattle.sqlite.specs.Does.{Tally, Does, OnRows, AtPlace}
-use Rattle.sqlite.specs.Edit.{edit_of}
-use Rattle.sqlite.specs.Effect.{Database}
-use Rattle.sqlite.specs.Kind.TheVariants.{Integer}
-use Rattle.sqlite.specs.Listing.{understood}
-use Rattle.sqlite.specs.Order.{Row}
-use Rattle.sqlite.specs.Program.{overlay}
-use Rattle.sqlite.specs.Query.{Query, IsAnswer, Output, inner, end}
-use Rattle.sqlite.specs.Rowids.TheVariants.{Given}
-use Rattle.sqlite.specs.Rows.{Written}
-use Rattle.sqlite.specs.Schema.{Schema}
-use Rattle.sqlite.specs.State.{State, mode_of, Executes}
-use Rattle.sqlite.specs.Table.{Table}
-use Rattle.sqlite.specs.Term.{Term}
-use Rattle.sqlite.specs.Tree.{Trees, rowid, put_row}
+use Rattle.std.specs.{Cmp.{IsTotalOrder}, List.{AllByRecursion}, Ordering.{match_ordering, ordering_reverse}}
+use Rattle.std.proofs.Common.{◌≡◌, ◌≢◌, inl, inr, ℕ, Bool, true, false, not, cond, List, [], ◌∷◌, ◌++◌, append-nil, map, filter, slice_get, None, Some, Ok, refl, sym, ap, ap₂, subst, ◌∙◌, true≢false, is_eq, Ordering, Less, Equal, Greater, IsPermutation, length, nat_eq, unwrap_or}
+use Rattle.std.proofs.lemmas.{Bool.{false_from_ne_true, not-true}, Cmp.{alike_right}, List.{length-map, Sorted.{length_permutation}}}
+use Rattle.sqlite.specs.{Cast.{cast, cast_row}, Command.TheVariants.{Update}, Does.{Tally, Does, OnRows, AtPlace}, Edit.{edit_of}, Effect.{Database}}
+use Rattle.sqlite.specs.{Kind.TheVariants.{Integer}, Listing.{understood}, Order.{Row}, Program.{overlay}}
+use Rattle.sqlite.specs.{Query.{Query, IsAnswer, Output, inner, end}, Rowids.TheVariants.{Given}, Rows.{Written}, Schema.{Schema}}
+use Rattle.sqlite.specs.{State.{State, mode_of, Executes}, Table.{Table}, Term.{Term}, Tree.{Trees, rowid, put_row}}
 use Rattle.sqlite.proofs.Callers.{IsPlain, command_of, statement_of, runs_as, one_permutation}
-use Rattle.sqlite_keyed.specs.Lists.{sort_by, insert_sorted}
-use Rattle.sqlite_keyed.proofs.ListLemmas.{all-filter, all_weaker, ascending-filter, filter_none, filter_same}
-use Rattle.sqlite_rules.specs.Calls.{ids_of}
-use Rattle.sqlite_rules.specs.Edit.{id_in, numbered, put_all, without_all}
-use Rattle.sqlite_rules.specs.Lists.{Has}
-use Rattle.sqlite_rules.proofs.ListLemmas.{all_has, all_from, has_kept, has_filtered}
-use Rattle.sqlite_rules.proofs.PlaceLemmas.{given, tied_same}
-use Rattle.sqlite_rules.proofs.TableLemmas.{int_is}
-use Rattle.sqlite_trees.proofs.TreeLemmas.{IsTable-put_row, all-put_row}
-use Rattle.sqlite_trees.specs.View.{is_int}
-use Rattle.sqlite_value.specs.declared.value.Value.{Value}
-use Rattle.sqlite_value.specs.declared.value.Value.TheVariants.{Null}
-use Rattle.sqlite_value.specs.Order.{bytes, column, value_cmp}
-use Rattle.plant_types.specs.KeyedRows as model
-use Rattle.plant_columns.specs.Kept.{taken_out, by_columns, is_of, kept, plain_query}
-use Rattle.plant_columns.specs.Shape.{Shape, table_in, row_in, IsRowIn, rows_in}
-use Rattle.plant_columns.specs.Tidy.{AreRows, AreApart, IsTidy}
-use Rattle.plant_columns.proofs.public.Changes.{went, same_value, KeepsOthers, HasNoReferences, lone_step}
-use Rattle.plant_columns.proofs.public.Keys.{by_columns_total}
-use Rattle.plant_columns.proofs.public.Kept.{HasNoTies, sort_push, no_ties-out}
-use Rattle.plant_columns.proofs.public.Laws.{cast_int, reads, passes, shows}
-use Rattle.plant_columns.proofs.Rows.{AreFound, without_found}
+use Rattle.sqlite_keyed.{specs.Lists.{sort_by, insert_sorted}, proofs.ListLemmas.{all-filter, all_weaker, ascending-filter, filter_none, filter_same}}
+use Rattle.sqlite_rules.specs.{Calls.{ids_of}, Edit.{id_in, numbered, put_all, without_all}, Lists.{Has}}
+use Rattle.sqlite_rules.proofs.{ListLemmas.{all_has, all_from, has_kept, has_filtered}, PlaceLemmas.{given, tied_same}, TableLemmas.{int_is}}
+use Rattle.sqlite_trees.{specs.View.{is_int}, proofs.TreeLemmas.{IsTable-put_row, all-put_row}}
+use Rattle.sqlite_value.specs.{Order.{bytes, column, value_cmp}, declared.value.Value.{Value, TheVariants.{Null}}}
+use Rattle.plant_columns.specs.{Kept.{taken_out, by_columns, is_of, kept, plain_query}, Shape.{Shape, table_in, row_in, IsRowIn, rows_in}}
+use Rattle.plant_columns.{specs.Tidy.{AreRows, AreApart, IsTidy}, proofs.{Rows.{AreFound, without_found}, Shared.{put_mine, put_other}}}
+use Rattle.plant_columns.proofs.public.{Changes.{went, same_value, KeepsOthers, HasNoReferences, lone_step}, Kept.{HasNoTies, sort_push, no_ties-out}}
+use Rattle.plant_columns.proofs.public.{Keys.{by_columns_total}, Laws.{cast_int, reads, passes, shows}}
 use Rattle.plant_columns.proofs.public.Shapes.{IsShape, IsListed, agrees_in, is_row, named}
-use Rattle.plant_columns.proofs.Shared.{put_mine, put_other}
+use Rattle.plant_types.specs.KeyedRows as model
 
 -- The rows that are answered are taken out by their rowids, and what is to stand for them is put in.
 pub record HasUpdated (schema : Schema) (table : Table) (q : Query) (params : Row) (count : ℕ) (old new : Database) : Type 0 where
@@ -197,7 +165,7 @@ module _ {X K : Type 0} (s : Shape X K) (good : IsShape s) (schema : Schema) (fr
         id = rowid r;
         far = all_from _ (filter (λ y. not (p y)) rows) (λ y e.
             let k = has_filtered (λ y. not (p y)) rows y e in
-            false_from_ne_true _ (λ q. true≢false (sym tie ∙ ap p (sym (tied_same rows y r are.rise k.0 there (equal_when _ q))) ∙ not_true (p y) k.1)));
+            false_from_ne_true _ (λ q. true≢false (sym tie ∙ ap p (sym (tied_same rows y r are.rise k.0 there (equal_when _ q))) ∙ not-true (p y) k.1)));
         rows = whole;
         are = subst AreRows (sym whole) (record {
           rise = IsTable-put_row (row_in s (rowid r) u x) _ kept_are.rise;
@@ -210,10 +178,6 @@ module _ {X K : Type 0} (s : Shape X K) (good : IsShape s) (schema : Schema) (fr
       from_one : (y z : Row) → Has (z ∷ []) y → y ≡ z
       from_one y z (inl e) = e
       from_one y z (inr h) = absurd h
-
-      not_true : (b : Bool) → not b ≡ true → b ≡ false
-      not_true true h = absurd (true≢false (sym h))
-      not_true false h = refl
 
 -- ---- where no row passes, none is changed
 

@@ -1,13 +1,9 @@
 -- Each run of floods lies among the periods that are counted.
-use Rattle.std.proofs.Common.{arith, cond, get_or, refl, subst, sym, ◌∙◌}
-use Rattle.std.proofs.lemmas.List.{length-map}
-use Rattle.std.proofs.lemmas.List.FromFn.{length-range_with_len}
 use Rattle.std.specs.List.{onto_first, range_with_len, slice_split}
-use Rattle.std.specs.Prelude.{Bool, List, [], false, filter_map, length, not, suc, true, zero, ℕ, ◌*◌, ◌++◌, ◌+◌, ◌-◌, ◌/◌, ◌<◌, ◌∷◌, ◌≡◌, ◌≤◌}
-use Rattle.std.proofs.lemmas.List.{length-append}
+use Rattle.std.proofs.Common.{arith, cond, get_or, refl, subst, sym, ◌∙◌, Bool, List, [], false, filter_map, length, not, suc, true, zero, ℕ, ◌*◌, ◌++◌, ◌+◌, ◌-◌, ◌/◌, ◌<◌, ◌∷◌, ◌≡◌, ◌≤◌}
+use Rattle.std.proofs.lemmas.List.{length-map, length-append, FromFn.{length-range_with_len}}
 use Rattle.plant_alarm.specs.declared.event.Event.{Event}
-use Rattle.plant_floods.specs.Activations.{activations_from, period_counts}
-use Rattle.plant_floods.specs.Floods.{Period, floods, period, periods_after, run_of}
+use Rattle.plant_floods.specs.{Activations.{activations_from, period_counts}, Floods.{Period, floods, period, periods_after, run_of}}
 use Rattle.plant_floods.specs.declared.run.Run.{Run}
 
 -- a part of the periods, below number n: the first part begins at number k

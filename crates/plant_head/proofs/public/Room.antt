@@ -1,9 +1,7 @@
 -- A head of so many bytes has no more fields than the room: a field takes three bytes at least.
+use Rattle.std.{specs.List.{AllByRecursion}, proofs.Common.{ℕ, ◌+◌, ◌*◌, ◌<◌, ◌≤◌, List, [], ◌∷◌, length, ap, arith, length-append, flat_map}}
+use Rattle.std.proofs.lemmas.List.{length-take, Elements.{recursion_from_All}}
 use Rattle.plant_types.specs.Limits.{max_head}
-use Rattle.std.proofs.Common.{ℕ, ◌+◌, ◌*◌, ◌<◌, ◌≤◌, List, [], ◌∷◌, length, ap, arith, length-append}
-use Rattle.std.specs.List.{flat_map, AllByRecursion}
-use Rattle.std.proofs.lemmas.List.Elements.{recursion_from_All}
-use Rattle.std.proofs.lemmas.List.{length-take}
 use Rattle.httparse.specs.Grammar.{LineEnd, crlf, lf, print_end, Field, IsField, print_field, RequestHead, IsRequestHead, print_request}
 use Rattle.httparse.specs.Spans.{RequestExceeds}
 use Rattle.plant_head.specs.Head.{front}

@@ -1,30 +1,17 @@
 -- New numbers, each counted once, and events put twice.
-use Rattle.std.proofs.Common.{ap, arith, cond, drop, get_or, refl, subst, sym, ◌∙◌}
-use Rattle.std.specs.BTreeSet.{insert_key}
-use Rattle.std.specs.Cmp.{eq_by_cmp_equiv, nat_cmp_total, ranked, unsigned_tied}
-use Rattle.std.specs.FinMap.Entries.{by_order}
-use Rattle.std.specs.List.{list_any}
-use Rattle.std.specs.Ordering.{eq_by_cmp, match_ordering, nat_cmp}
-use Rattle.std.specs.declared.cmp.Ordering.TheVariants.{Equal, Greater, Less}
-use Rattle.std.specs.Prelude.{Bool, Err, IfOk, List, None, Ok, Option, Result, Some, [], nat_lt, false, filter, if◌then◌else◌, length, not, option_map, suc, true, ℕ, ◌&&◌, ◌++◌, ◌+◌, ◌-◌, ◌<◌, ◌==◌, ◌∷◌, ◌≡◌, ◌≤◌, ◌||◌}
-use Rattle.std.proofs.lemmas.List.{drop_more}
-use Rattle.std.proofs.lemmas.List.Folds.{list_any-append}
+use Rattle.std.specs.{BTreeSet.{insert_key}, Cmp.{eq_by_cmp_equiv, nat_cmp_total, ranked, unsigned_tied}, FinMap.Entries.{by_order}, List.{list_any}}
+use Rattle.std.specs.Ordering.{eq_by_cmp, match_ordering}
+use Rattle.std.proofs.Common.{ap, arith, cond, drop, get_or, refl, subst, sym, ◌∙◌, inl, inr, ◌⊎◌, nat_cmp, Equal, Greater, Less, Bool, Err, IfOk, List, None, Ok, Option, Result, Some, [], nat_lt, false, filter, if◌then◌else◌, length, not, option_map, suc, true, ℕ, ◌&&◌, ◌++◌, ◌+◌, ◌-◌, ◌<◌, ◌==◌, ◌∷◌, ◌≡◌, ◌≤◌, ◌||◌}
+use Rattle.std.proofs.lemmas.{Bool.{cases_lt, or_parts}, List.{drop_more, Folds.{list_any-append}}}
 use Rattle.plant_alarm.specs.declared.event.Event.{Event}
-use Rattle.plant_import.specs.Fields.{first_cause}
-use Rattle.plant_import.specs.Merging.{clashes, first_fault, fresh, merge_fault, out_of_order, same_event}
-use Rattle.plant_import.specs.Numbers.{event_number, has_number, new_numbers, numbers_of, with_events}
-use Rattle.plant_import.specs.Reading.{bad}
-use Rattle.plant_import.specs.declared.bad_file.BadFile.{BadFile}
-use Rattle.plant_import.specs.declared.bad_file.Cause.{Cause}
+use Rattle.plant_import.specs.{Fields.{first_cause}, Merging.{clashes, first_fault, fresh, merge_fault, out_of_order, same_event}}
+use Rattle.plant_import.specs.{Numbers.{event_number, has_number, new_numbers, numbers_of, with_events}, Reading.{bad}}
+use Rattle.plant_import.specs.declared.bad_file.{BadFile.{BadFile}, Cause.{Cause}}
 use Rattle.plant_import.specs.declared.bad_file.Cause.TheVariants.{MomentAhead, MomentOutOfOrder, SequenceClash, TagUnknown}
 use Rattle.plant_import.proofs.public.Placed.{AllAbove, Rises, above_it, other_above, put_before, put_behind, put_over, rises_of}
-use Rattle.std.proofs.Common.{inl, inr, ◌⊎◌}
-use Rattle.std.proofs.lemmas.Bool.{cases_lt}
-use Rattle.plant_types.proofs.public.Orders.{same_numbers}
+use Rattle.plant_types.specs.{KeyedRows.{IsInOrder, in_order, put_row, remove_row, row_at}, Names.{Name, same_name}, Options.{or_else, when}}
 use Rattle.plant_types.proofs.public.KeyedRowLaws.{IsInOrder-put_row, IsInOrder-remove_row, row_at-put_row, row_at-remove_row, same_rows, tied}
-use Rattle.plant_types.specs.Names.{Name, same_name}
-use Rattle.plant_types.specs.Options.{or_else, when}
-use Rattle.plant_types.specs.KeyedRows.{IsInOrder, in_order, put_row, remove_row, row_at}
+use Rattle.plant_types.proofs.public.Orders.{same_numbers}
 
 abbrev ties : ℕ → ℕ → Bool
 ties m n = eq_by_cmp nat_cmp m n
@@ -147,10 +134,6 @@ whole_or_none true true false k h = cc
 whole_or_none true false t k h = cc
 whole_or_none false m t k h = refl
 
-pub or_parts : (a b : Bool) → (a || b) ≡ false → (a ≡ false) × (b ≡ false)
-or_parts true b e = cc
-or_parts false b e = (refl, e)
-
 pub same_by_number : (e : Event) (others : List Event) → list_any (clashes e) others ≡ false → list_any (same_event e) others ≡ list_any (has_number e.seq) others
 same_by_number e [] h = refl
 same_by_number e (x ∷ xs) h =
@@ -158,35 +141,21 @@ same_by_number e (x ∷ xs) h =
     let here : same_event e x ≡ has_number e.seq x = whole_or_none (e.seq == x.seq) _ _ _ parts.0 ∙ sym (unsigned_tied e.seq x.seq) in
     λ i. here i || same_by_number e xs parts.1 i
 
--- what no fault of the rows says of the first
-pub none_first : (o p : Option BadFile) → or_else o p ≡ None → (o ≡ None) × (p ≡ None)
-none_first None p h = (refl, h)
-none_first (Some x) p h = cc
+-- a row without fault clashes with none and is in order with all
+no_cause : (a b c d : Bool) → first_cause ((a, TagUnknown) ∷ (b, MomentAhead) ∷ (c, SequenceClash) ∷ (d, MomentOutOfOrder) ∷ []) ≡ None → (c ≡ false) × (d ≡ false)
+no_cause true b c d e = cc
+no_cause false true c d e = cc
+no_cause false false true d e = cc
+no_cause false false false true e = cc
+no_cause false false false false e = (refl, refl)
 
-pub none_mapped : (line : ℕ) (o : Option Cause) → option_map (bad line) o ≡ None → o ≡ None
-none_mapped line None h = refl
-none_mapped line (Some x) h = cc
-
-third_none : (a b c : Bool) (x y z : Cause) (rest : List (Bool × Cause)) → first_cause ((a, x) ∷ (b, y) ∷ (c, z) ∷ rest) ≡ None → c ≡ false
-third_none true b c x y z rest h = cc
-third_none false true c x y z rest h = cc
-third_none false false true x y z rest h = cc
-third_none false false false x y z rest h = refl
-
-pub no_clash : (tags : List Name) (now : ℕ) (others : List Event) (e : Event) → merge_fault tags now others e ≡ None → list_any (clashes e) others ≡ false
+pub row_fits : (tags : List Name) (now : ℕ) (others : List Event) (e : Event) → merge_fault tags now others e ≡ None → (list_any (clashes e) others ≡ false) × (list_any (out_of_order e) others ≡ false)
 unfolding merge_fault
-no_clash tags now others e h = third_none (not (list_any (same_name e.tag) tags)) (nat_lt now e.moment) (list_any (clashes e) others) TagUnknown MomentAhead SequenceClash ((list_any (out_of_order e) others, MomentOutOfOrder) ∷ []) h
+row_fits tags now others e h = no_cause (not (list_any (same_name e.tag) tags)) (nat_lt now e.moment) (list_any (clashes e) others) (list_any (out_of_order e) others) h
 
-fourth_none : (a b c d : Bool) (w x y z : Cause) → first_cause ((a, w) ∷ (b, x) ∷ (c, y) ∷ (d, z) ∷ []) ≡ None → d ≡ false
-fourth_none true b c d w x y z h = cc
-fourth_none false true c d w x y z h = cc
-fourth_none false false true d w x y z h = cc
-fourth_none false false false true w x y z h = cc
-fourth_none false false false false w x y z h = refl
-
-pub no_disorder : (tags : List Name) (now : ℕ) (others : List Event) (e : Event) → merge_fault tags now others e ≡ None → list_any (out_of_order e) others ≡ false
-unfolding merge_fault
-no_disorder tags now others e h = fourth_none (not (list_any (same_name e.tag) tags)) (nat_lt now e.moment) (list_any (clashes e) others) (list_any (out_of_order e) others) TagUnknown MomentAhead SequenceClash MomentOutOfOrder h
+pub no_first : (line : ℕ) (o : Option Cause) (rest : Option BadFile) → or_else (option_map (bad line) o) rest ≡ None → (o ≡ None) × (rest ≡ None)
+no_first line None rest e = (refl, e)
+no_first line (Some c) rest e = cc
 
 -- rows by their numbers, beside one more event
 abbrev is_other : List Event → Event → Bool
@@ -238,8 +207,8 @@ known_beside kept rows e h = ap (λ l. in_order nat_cmp (numbers_of l)) (same_fi
 pub fresh_count : (tags : List Name) (now line : ℕ) (kept rows : List Event) → first_fault tags now line kept rows ≡ None → length (fresh kept rows) ≡ length (new_numbers kept rows)
 fresh_count tags now line kept [] none = refl
 fresh_count tags now line kept (e ∷ rows) none =
-    let parts = none_first (option_map (bad line) (merge_fault tags now kept e)) _ none in
-    let same = same_by_number e kept (no_clash tags now kept e (none_mapped line (merge_fault tags now kept e) parts.0)) in
+    let parts = no_first line (merge_fault tags now kept e) _ none in
+    let same = same_by_number e kept (row_fits tags now kept e parts.0).0 in
     let rest = fresh_count tags now (line + 1) (kept ++ e ∷ []) rows parts.1 in
     ap (λ b. length ((if not b then e ∷ [] else []) ++ fresh (kept ++ e ∷ []) rows)) same
     ∙ elim (list_any (has_number e.seq) kept) as (λ b. list_any (has_number e.seq) kept ≡ b → length ((if not b then e ∷ [] else []) ++ fresh (kept ++ e ∷ []) rows) ≡ length (new_numbers kept (e ∷ rows))) [

@@ -1,50 +1,15 @@
 -- Files that bring the same rows leave the same events.
-use Rattle.std.proofs.lemmas.Bool.Decides.{nat_tests}
-use Rattle.std.proofs.Common.{Some, [], ap, append-nil, append_assoc, arith, cond, false, length, length-append, refl, sym, true, ◌++◌, ◌+◌, ◌∙◌, ◌∷◌, ◌≡◌, ◌≤◌}
-use Rattle.std.proofs.lemmas.Bool.{eq-eqb, eqb-true}
-use Rattle.std.proofs.lemmas.List.Folds.{list_any-append}
-use Rattle.std.specs.Cmp.{eq_by_cmp_equiv}
-use Rattle.std.specs.List.{list_all, list_any}
-use Rattle.std.specs.Prelude.{Bool, List, None, Option, filter, if◌then◌else◌, is_none, nat_lt, not, option_map, ℕ, ◌&&◌, ◌==◌, ◌||◌}
-use Rattle.plant_alarm.specs.declared.event.Event.{Event}
-use Rattle.plant_alarm.specs.declared.event.EventKind.TheVariants.{Ack, Act, Reset, Rtn, Sup, Unsup}
-use Rattle.plant_alarm.specs.declared.event.EventKind.{EventKind}
-use Rattle.plant_import.specs.declared.bad_file.BadFile.{BadFile}
-use Rattle.plant_import.specs.declared.bad_file.Cause.TheVariants.{MomentAhead, MomentOutOfOrder, SequenceClash, TagUnknown}
-use Rattle.plant_import.specs.declared.bad_file.Cause.{Cause}
-use Rattle.plant_alarm.specs.States.{passing}
-use Rattle.plant_import.proofs.public.Nearest.{same_any, same_is}
+use Rattle.std.specs.{Cmp.{eq_by_cmp_equiv}, List.{list_all, list_any}}
+use Rattle.std.proofs.Common.{Some, [], ap, append-nil, append_assoc, arith, cond, false, length, length-append, refl, sym, true, ◌++◌, ◌+◌, ◌∙◌, ◌∷◌, ◌≡◌, ◌≤◌, Bool, List, None, Option, filter, if◌then◌else◌, is_none, nat_lt, not, option_map, ℕ, ◌&&◌, ◌==◌, ◌||◌}
+use Rattle.std.proofs.{Math.Bool.{or-false, and-false}, lemmas.Bool.Decides.{nat_tests}}
+use Rattle.std.proofs.lemmas.{Bool.{eq-eqb, eqb-true, or_left, or_right, and_parts, not-true, false_from_ne_true}, List.Folds.{list_any-append}}
+use Rattle.plant_alarm.specs.{States.{passing}, declared.event.{Event.{Event}, EventKind.{EventKind, TheVariants.{Ack, Act, Reset, Rtn, Sup, Unsup}}}}
 use Rattle.plant_import.specs.Fields.{first_cause}
 use Rattle.plant_import.specs.Files.{Brought, FilesAgree, SameMembers, TakenFilesFit, are_known, are_taken, is_fit, kept_after, new_rows, none_ahead, rows_brought}
-use Rattle.plant_import.specs.Merging.{clashes, first_fault, fresh, is_new, kind_no, merge_fault, out_of_order, same_event}
-use Rattle.plant_import.specs.Reading.{bad}
-use Rattle.plant_types.proofs.public.Orders.{name_total}
-use Rattle.plant_types.specs.Names.{Name, same_name}
-use Rattle.plant_types.specs.Options.{or_else}
-
-pub or_left : (a b : Bool) → a ≡ true → (a || b) ≡ true
-or_left true b e = refl
-or_left false b e = cc
-
-pub or_right : (a b : Bool) → b ≡ true → (a || b) ≡ true
-or_right true b e = refl
-or_right false b e = e
-
-pub or_false : (a : Bool) → (a || false) ≡ a
-or_false true = refl
-or_false false = refl
-
-pub and_parts : (a b : Bool) → (a && b) ≡ true → (a ≡ true) × (b ≡ true)
-and_parts true b e = (refl, e)
-and_parts false b e = cc
-
-pub not_so : (b : Bool) → not b ≡ true → b ≡ false
-not_so true e = cc
-not_so false e = refl
-
-pub not_true : (b : Bool) → (b ≡ true → ⊥) → b ≡ false
-not_true true h = absurd (h refl)
-not_true false h = refl
+use Rattle.plant_import.specs.{Merging.{clashes, first_fault, fresh, is_new, kind_no, merge_fault, out_of_order, same_event}, Reading.{bad}}
+use Rattle.plant_import.specs.declared.bad_file.Cause.TheVariants.{MomentAhead, MomentOutOfOrder, SequenceClash, TagUnknown}
+use Rattle.plant_import.proofs.public.{Counted.{no_first, row_fits}, Nearest.{same_any, same_is}}
+use Rattle.plant_types.{specs.{Names.{Name, same_name}, Options.{or_else}}, proofs.public.Orders.{name_total}}
 
 pub both_ways : (a b : Bool) → (a ≡ true → b ≡ true) → (b ≡ true → a ≡ true) → a ≡ b
 both_ways true b f g = sym (f refl)
@@ -92,7 +57,7 @@ pub any_within : (p : Event → Bool) (xs ys : List Event) → Within xs ys → 
 any_within p xs ys within h = let found = finds p xs h in same_any p found.0 ys (within found.0 found.2) found.1
 
 pub none_within : (p : Event → Bool) (xs ys : List Event) → Within xs ys → list_any p ys ≡ false → list_any p xs ≡ false
-none_within p xs ys within none = not_true (list_any p xs) (λ h. clash_of (list_any p ys) (any_within p xs ys within h) none)
+none_within p xs ys within none = false_from_ne_true (list_any p xs) (λ h. clash_of (list_any p ys) (any_within p xs ys within h) none)
 
 pub all_member : (p : Event → Bool) (xs : List Event) (e : Event) → list_all p xs ≡ true → member e xs ≡ true → p e ≡ true
 all_member p [] e all h = cc
@@ -123,7 +88,7 @@ back_within xs ys zs within e h = within e (list_any-append (same_event e) xs ys
 
 one_within : (e : Event) (zs : List Event) → member e zs ≡ true → Within (e ∷ []) zs
 one_within e zs there q h =
-    let same : q ≡ e = same_is q e (sym (or_false (same_event q e)) ∙ h) in
+    let same : q ≡ e = same_is q e (sym (or-false (same_event q e)) ∙ h) in
     ap (λ x. member x zs) same ∙ there
 
 -- what is new depends on the members of what is kept alone
@@ -148,7 +113,7 @@ known_adds : (kept : List Event) (e q : Event) → member e kept ≡ true → (m
 known_adds kept e q known =
     elim (same_event q e) as (λ b. same_event q e ≡ b → (member q kept || (b || false)) ≡ member q kept) [
       | true ↦ λ is. let there : member q kept ≡ true = ap (λ x. member x kept) (same_is q e is) ∙ known in or_left (member q kept) true there ∙ sym there
-      | false ↦ λ _. or_false (member q kept)
+      | false ↦ λ _. or-false (member q kept)
     ] refl
 
 pub kept_fresh : (kept file : List Event) → SameMembers (kept ++ fresh kept file) (kept ++ file)
@@ -194,7 +159,7 @@ no_fault tags now line all others (e ∷ rows) known ahead fit o w =
     let a = and_parts (not (nat_lt now e.moment)) (list_all (λ e. not (nat_lt now e.moment)) rows) ahead in
     let there : member e all ≡ true = w e (first_member e rows) in
     let f = and_parts (not (list_any (clashes e) all)) (not (list_any (out_of_order e) all)) (all_member (λ x. not (list_any (clashes x) all) && not (list_any (out_of_order x) all)) all e fit there) in
-    let here : merge_fault tags now others e ≡ None = fault_none tags now others all e k.0 (not_so (nat_lt now e.moment) a.0) o (not_so (list_any (clashes e) all) f.0) (not_so (list_any (out_of_order e) all) f.1) in
+    let here : merge_fault tags now others e ≡ None = fault_none tags now others all e k.0 (not-true (nat_lt now e.moment) a.0) o (not-true (list_any (clashes e) all) f.0) (not-true (list_any (out_of_order e) all) f.1) in
     let rest : first_fault tags now (line + 1) (others ++ e ∷ []) rows ≡ None = no_fault tags now (line + 1) all (others ++ e ∷ []) rows k.1 a.1 fit (within_both others (e ∷ []) all o (one_within e all there)) (λ q h. w q (or_right (same_event q e) (member q rows) h)) in
     λ i. or_else (option_map (bad line) (here i)) (rest i)
 
@@ -244,7 +209,7 @@ stays_in x q (y ∷ ys) other e =
     ] refl
 
 not_the : (x q : Event) (xs : List Event) → member x xs ≡ false → member q xs ≡ true → same_event x q ≡ false
-not_the x q xs away there = not_true (same_event x q) (λ is. clash_of (member q xs) there (ap (λ y. member y xs) (sym (same_is x q is)) ∙ away))
+not_the x q xs away there = false_from_ne_true (same_event x q) (λ is. clash_of (member q xs) there (ap (λ y. member y xs) (sym (same_is x q is)) ∙ away))
 
 pub no_more : (xs ys : List Event) → AreDistinct xs → Within xs ys → length xs ≤ length ys
 no_more [] ys distinct among = omega arith
@@ -262,7 +227,7 @@ away q kept (e ∷ file) there =
     elim (member e kept) as (λ b. member e kept ≡ b → member q ((if not b then e ∷ [] else []) ++ fresh (kept ++ e ∷ []) file) ≡ false) [
       | true ↦ λ _. rest
       | false ↦ λ new.
-          let other : same_event q e ≡ false = not_true (same_event q e) (λ is. clash_of (member e kept) (ap (λ x. member x kept) (sym (same_is q e is)) ∙ there) new) in
+          let other : same_event q e ≡ false = false_from_ne_true (same_event q e) (λ is. clash_of (member e kept) (ap (λ x. member x kept) (sym (same_is q e is)) ∙ there) new) in
           λ i. other i || rest i
     ] refl
 
@@ -278,7 +243,7 @@ distinct_fresh kept (e ∷ file) =
 -- rows with the same members bring the same new ones
 pub fresh_within : (kept xs ys : List Event) → Within xs ys → Within (fresh kept xs) (fresh kept ys)
 fresh_within kept xs ys within q there =
-    let not_kept : member q kept ≡ false = not_true (member q kept) (λ h. clash_of (member q (fresh kept xs)) there (away q kept xs h)) in
+    let not_kept : member q kept ≡ false = false_from_ne_true (member q kept) (λ h. clash_of (member q (fresh kept xs)) there (away q kept xs h)) in
     let kept_or : (zs : List Event) → member q (kept ++ zs) ≡ member q zs = λ zs. list_any-append (same_event q) kept zs ∙ ap (λ b. b || member q zs) not_kept in
     let brought : member q xs ≡ true = sym (kept_or xs) ∙ sym (kept_fresh kept xs q) ∙ kept_or (fresh kept xs) ∙ there in
     sym (kept_or (fresh kept ys)) ∙ kept_fresh kept ys q ∙ kept_or ys ∙ within q brought
@@ -313,7 +278,7 @@ all_from p (x ∷ xs) each =
     λ i. each x (first_member x xs) i && rest i
 
 pub none_member : (p : Event → Bool) (xs : List Event) (e : Event) → list_any p xs ≡ false → member e xs ≡ true → p e ≡ false
-none_member p xs e none there = not_true (p e) (λ h. clash_of (list_any p xs) (same_any p e xs there h) none)
+none_member p xs e none there = false_from_ne_true (p e) (λ h. clash_of (list_any p xs) (same_any p e xs there h) none)
 
 -- a row that fits among events
 abbrev pub fits_in : List Event → Event → Bool
@@ -322,7 +287,7 @@ fits_in es e = not (list_any (clashes e) es) && not (list_any (out_of_order e) e
 pub fit_parts : (es : List Event) (e : Event) → fits_in es e ≡ true → (list_any (clashes e) es ≡ false) × (list_any (out_of_order e) es ≡ false)
 fit_parts es e h =
     let parts = and_parts (not (list_any (clashes e) es)) (not (list_any (out_of_order e) es)) h in
-    (not_so (list_any (clashes e) es) parts.0, not_so (list_any (out_of_order e) es) parts.1)
+    (not-true (list_any (clashes e) es) parts.0, not-true (list_any (out_of_order e) es) parts.1)
 
 fit_from : (es : List Event) (e : Event) → list_any (clashes e) es ≡ false → list_any (out_of_order e) es ≡ false → fits_in es e ≡ true
 fit_from es e clash order = λ i. not (clash i) && not (order i)
@@ -363,11 +328,7 @@ not_below n = grind (arith, nat_tests)
 
 never_itself : (e : Event) → (clashes e e ≡ false) × (out_of_order e e ≡ false)
 never_itself e =
-    (ap (λ b. (e.seq == e.seq) && not b) (itself e) ∙ and_false (e.seq == e.seq), λ i. less i || less i) where
-      and_false : (b : Bool) → (b && false) ≡ false
-      and_false true = refl
-      and_false false = refl
-
+    (ap (λ b. (e.seq == e.seq) && not b) (itself e) ∙ and-false (e.seq == e.seq), λ i. less i || less i) where
       less : (nat_lt e.seq e.seq && nat_lt e.moment e.moment) ≡ false
       less = ap (λ b. b && nat_lt e.moment e.moment) (not_below e.seq)
 
@@ -384,25 +345,9 @@ fit_more others e fit clash order =
       by_place : (x : Event) (b : Bool) → member x others ≡ b → (b || member x (e ∷ [])) ≡ true → fits_in (others ++ e ∷ []) x ≡ true
       by_place x true known there = old x known
       by_place x false known there =
-          let same : x ≡ e = same_is x e (sym (or_false (same_event x e)) ∙ there) in
+          let same : x ≡ e = same_is x e (sym (or-false (same_event x e)) ∙ there) in
           ap (fits_in (others ++ e ∷ [])) same
           ∙ fit_from (others ++ e ∷ []) e (one_test (clashes e) others e clash (never_itself e).0) (one_test (out_of_order e) others e order (never_itself e).1)
-
--- a row without fault clashes with none and is in order with all
-no_cause : (a b c d : Bool) → first_cause ((a, TagUnknown) ∷ (b, MomentAhead) ∷ (c, SequenceClash) ∷ (d, MomentOutOfOrder) ∷ []) ≡ None → (c ≡ false) × (d ≡ false)
-no_cause true b c d e = cc
-no_cause false true c d e = cc
-no_cause false false true d e = cc
-no_cause false false false true e = cc
-no_cause false false false false e = (refl, refl)
-
-row_fits : (tags : List Name) (now : ℕ) (others : List Event) (e : Event) → merge_fault tags now others e ≡ None → (list_any (clashes e) others ≡ false) × (list_any (out_of_order e) others ≡ false)
-unfolding merge_fault
-row_fits tags now others e h = no_cause (not (list_any (same_name e.tag) tags)) (nat_lt now e.moment) (list_any (clashes e) others) (list_any (out_of_order e) others) h
-
-pub no_first : (line : ℕ) (o : Option Cause) (rest : Option BadFile) → or_else (option_map (bad line) o) rest ≡ None → (o ≡ None) × (rest ≡ None)
-no_first line None rest e = (refl, e)
-no_first line (Some c) rest e = cc
 
 pub file_fits : (tags : List Name) (now line : ℕ) (others rows : List Event) → is_fit others ≡ true → first_fault tags now line others rows ≡ None → is_fit (others ++ rows) ≡ true
 file_fits tags now line others [] fit h = ap is_fit (append-nil others) ∙ fit

@@ -1,25 +1,15 @@
 -- New rows that come after all kept events of their alarms: they are put behind these.
-use Rattle.std.proofs.Common.{ap, append-nil, append_assoc, arith, refl, subst, sym, ◌∙◌, ◌⊎◌, inl, inr}
-use Rattle.std.proofs.lemmas.Bool.{cases_lt, le-ltb, lt-ltb}
-use Rattle.std.proofs.lemmas.List.Folds.{list_any-append}
-use Rattle.std.specs.List.{list_any}
-use Rattle.std.specs.Ordering.{nat_cmp}
-use Rattle.std.specs.Prelude.{Bool, List, None, [], false, filter, if◌then◌else◌, nat_lt, not, option_map, true, ℕ, ◌&&◌, ◌++◌, ◌+◌, ◌<◌, ◌∷◌, ◌≡◌, ◌≤◌, ◌||◌}
+use Rattle.std.specs.{Cmp.{nat_cmp_total}, FinMap.Entries.{by_order}, List.{list_any}}
+use Rattle.std.proofs.Common.{ap, append-nil, append_assoc, arith, refl, subst, sym, ◌∙◌, ◌⊎◌, inl, inr, nat_cmp, Bool, List, None, [], false, filter, if◌then◌else◌, nat_lt, not, true, ℕ, ◌&&◌, ◌++◌, ◌+◌, ◌<◌, ◌∷◌, ◌≡◌, ◌≤◌, ◌||◌, Equal, Greater, Less}
+use Rattle.std.proofs.{Math.Bool.{and-false}, lemmas.{Bool.{cases_lt, le-ltb, lt-ltb, or_parts}, List.Folds.{list_any-append}}}
 use Rattle.plant_alarm.specs.declared.event.Event.{Event}
-use Rattle.plant_import.proofs.public.Counted.{no_clash, none_first, none_mapped, or_parts, order_puts, put_twice, same_by_number, turned}
+use Rattle.plant_import.specs.{Merging.{IsRising, first_fault, fresh, is_new, merge_fault, same_event}, Needed.{has_late, is_late, is_overtaken}}
+use Rattle.plant_import.specs.Numbers.{event_number, has_number, with_events}
+use Rattle.plant_import.proofs.public.Counted.{no_first, order_puts, put_twice, row_fits, same_by_number, turned}
 use Rattle.plant_import.proofs.public.Placed.{AllAbove, Rises, above_it, other, put_before, put_behind, rises_of}
 use Rattle.plant_import.proofs.public.Risings.{Each, each_append, each_not, in_number_order}
-use Rattle.plant_import.specs.Merging.{IsRising, first_fault, fresh, is_new, merge_fault, same_event}
-use Rattle.plant_import.specs.Needed.{has_late, is_late, is_overtaken}
-use Rattle.plant_import.specs.Numbers.{event_number, has_number, with_events}
-use Rattle.plant_import.specs.Reading.{bad}
-use Rattle.plant_types.proofs.public.Orders.{same_names, same_numbers}
-use Rattle.plant_types.proofs.public.KeyedRowLaws.{IsInOrder-put_row, tied}
-use Rattle.plant_types.specs.Names.{Name, name_cmp, same_name}
-use Rattle.plant_types.specs.KeyedRows.{IsInOrder, put_row}
-use Rattle.std.specs.Cmp.{nat_cmp_total}
-use Rattle.std.specs.FinMap.Entries.{by_order}
-use Rattle.std.specs.declared.cmp.Ordering.TheVariants.{Equal, Greater, Less}
+use Rattle.plant_types.specs.{KeyedRows.{IsInOrder, put_row}, Names.{Name, name_cmp, same_name}}
+use Rattle.plant_types.proofs.public.{KeyedRowLaws.{IsInOrder-put_row, tied}, Orders.{same_names, same_numbers}}
 
 abbrev own : Name → List Event → List Event
 own a es = filter (λ e. same_name a e.tag) es
@@ -88,17 +78,13 @@ any_put p r (e ∷ es) new = by (cases_lt r.seq e.seq) (any_put p r es parts.1) 
   by (inl lt) rest = ap (list_any p) (put_before event_number r e es lt)
   by (inr le) rest = ap (list_any p) (put_behind event_number r e es (above_it e.seq r.seq le (turned e.seq r.seq ∙ parts.0))) ∙ ap (λ b. p e || b) rest ∙ swap (p e) (p r) (list_any p es)
 
-and_false : (b : Bool) → (b && false) ≡ false
-and_false true = refl
-and_false false = refl
-
 later_put : (r s : Event) (es : List Event) → list_any (has_number r.seq) es ≡ false → r.seq < s.seq → IsLater es s → IsLater (put_row nat_cmp event_number r es) s
 later_put r s es new lt later =
     record {
       number = any_put (has_number s.seq) r es new ∙ ap (λ b. b || list_any (has_number s.seq) es) (other s.seq r.seq lt) ∙ later.number;
       last =
           any_put (λ k. same_name s.tag k.tag && nat_lt s.seq k.seq) r es new
-          ∙ ap (λ b. (same_name s.tag r.tag && b) || is_overtaken es s) (le-ltb s.seq r.seq (omega (arith, lt))) ∙ ap (λ b. b || is_overtaken es s) (and_false (same_name s.tag r.tag)) ∙ later.last;
+          ∙ ap (λ b. (same_name s.tag r.tag && b) || is_overtaken es s) (le-ltb s.seq r.seq (omega (arith, lt))) ∙ ap (λ b. b || is_overtaken es s) (and-false (same_name s.tag r.tag)) ∙ later.last;
     }
 
 all_later_put : (r : Event) (rs es : List Event) → list_any (has_number r.seq) es ≡ false → AllAbove event_number r.seq rs → Each (IsLater es) rs → Each (IsLater (put_row nat_cmp event_number r es)) rs
@@ -137,8 +123,8 @@ late_not kept e late new = record { number = new; last = by (is_overtaken kept e
 all_later : (tags : List Name) (now line : ℕ) (kept seen rows : List Event) → first_fault tags now line (kept ++ seen) rows ≡ None → Each (λ e. is_late kept e ≡ false) rows → Each (IsLater kept) (fresh (kept ++ seen) rows)
 all_later tags now line kept seen [] none late = tt
 all_later tags now line kept seen (e ∷ rows) none late =
-    let parts = none_first (option_map (bad line) (merge_fault tags now (kept ++ seen) e)) _ none in
-    let same = same_by_number e (kept ++ seen) (no_clash tags now (kept ++ seen) e (none_mapped line (merge_fault tags now (kept ++ seen) e) parts.0)) in
+    let parts = no_first line (merge_fault tags now (kept ++ seen) e) _ none in
+    let same = same_by_number e (kept ++ seen) (row_fits tags now (kept ++ seen) e parts.0).0 in
     let rest : Each (IsLater kept) (fresh ((kept ++ seen) ++ e ∷ []) rows) =
     subst (λ (l : List Event). Each (IsLater kept) (fresh l rows)) (sym (append_assoc kept seen (e ∷ [])))
     (all_later tags now (line + 1) kept (seen ++ e ∷ []) rows (ap (λ l. first_fault tags now (line + 1) l rows) (sym (append_assoc kept seen (e ∷ []))) ∙ parts.1) late.1) in

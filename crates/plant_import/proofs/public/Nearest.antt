@@ -1,19 +1,11 @@
 -- An event next to those of smaller and those of greater numbers.
-use Rattle.std.proofs.Common.{◌≡◌, ℕ, ◌+◌, ◌<◌, ◌≤◌, refl, sym, ap, ◌∙◌, subst, arith, List, [], ◌∷◌, ◌++◌, length, take, drop, ◌⊎◌, inl, inr, Bool, true, false, ◌&&◌, ◌||◌, not, Option, Some, None}
-use Rattle.std.specs.Prelude.{nat_lt, ◌==◌, if◌then◌else◌, slice_get, MatchOption}
-use Rattle.std.specs.List.{list_any}
-use Rattle.std.specs.List.Sorted.{IsPartitionPoint}
-use Rattle.std.proofs.lemmas.List.{take-append-drop, length-take-le, length-drop, get_or-take, get_or-drop}
-use Rattle.std.proofs.lemmas.Bool.{le-ltb, lt-ltb, ne_eqb, eqb-true, eq-eqb, false≢true, cases_lt}
-use Rattle.std.proofs.lemmas.List.Folds.{list_any-append}
-use Rattle.plant_types.specs.Names.{name_cmp}
-use Rattle.plant_types.proofs.public.Orders.{same_names}
-use Rattle.plant_types.proofs.public.KeyedRowLaws.{tied}
-use Rattle.plant_alarm.specs.declared.event.Event.{Event}
-use Rattle.plant_alarm.specs.declared.event.EventKind.{EventKind}
-use Rattle.plant_alarm.specs.declared.event.EventKind.TheVariants.{Act, Rtn, Ack, Reset, Sup, Unsup}
-use Rattle.plant_import.specs.Merging.{IsRising, same_event, clashes, out_of_order, kind_no}
-use Rattle.plant_import.specs.Relation.{RelatesSo}
+use Rattle.std.specs.List.{list_any, Sorted.{IsPartitionPoint}}
+use Rattle.std.proofs.Common.{◌≡◌, ℕ, ◌+◌, ◌<◌, ◌≤◌, refl, sym, ap, ◌∙◌, subst, arith, List, [], ◌∷◌, ◌++◌, length, take, drop, ◌⊎◌, inl, inr, Bool, true, false, ◌&&◌, ◌||◌, not, Option, Some, None, nat_lt, ◌==◌, if◌then◌else◌, slice_get, MatchOption}
+use Rattle.std.proofs.{Math.Bool.{or-true, or-false, and-false}, lemmas.Bool.{le-ltb, lt-ltb, ne_eqb, eqb-true, eq-eqb, false≢true, cases_lt}}
+use Rattle.std.proofs.lemmas.List.{take-append-drop, length-take-le, length-drop, get_or-take, get_or-drop, Folds.{list_any-append}}
+use Rattle.plant_types.{specs.Names.{name_cmp}, proofs.public.{Halves.{left, right}, KeyedRowLaws.{tied}, Orders.{same_names}}}
+use Rattle.plant_alarm.specs.declared.event.{Event.{Event}, EventKind.{EventKind, TheVariants.{Act, Rtn, Ack, Reset, Sup, Unsup}}}
+use Rattle.plant_import.specs.{Merging.{IsRising, same_event, clashes, out_of_order, kind_no}, Relation.{RelatesSo}}
 use Rattle.plant_import.proofs.public.Risings.{Each, each_of, each_weaker, each_append, each_back, Before, Rising, rising_of, is_rising, rising_front, rising_back, any_none, any_same, any_there}
 
 -- events that are the same
@@ -28,14 +20,6 @@ kind_of_no-kind_no Ack = refl
 kind_of_no-kind_no Reset = refl
 kind_of_no-kind_no Sup = refl
 kind_of_no-kind_no Unsup = refl
-
-left : (a b : Bool) → (a && b) ≡ true → a ≡ true
-left true b e = refl
-left false b e = e
-
-right : (a b : Bool) → (a && b) ≡ true → b ≡ true
-right true b e = e
-right false b e = absurd (false≢true e)
 
 pub same_is : (a b : Event) → same_event a b ≡ true → a ≡ b
 same_is a b e =
@@ -53,25 +37,17 @@ same_any p e (x ∷ xs) h t = by (same_event e x) refl h (same_any p e xs)
   where
     by : (b : Bool) → same_event e x ≡ b → (b || list_any (same_event e) xs) ≡ true → (list_any (same_event e) xs ≡ true → p e ≡ true → list_any p xs ≡ true) → (p x || list_any p xs) ≡ true
     by true is h more = ap (λ y. p y || list_any p xs) (sym (same_is e x is)) ∙ ap (λ b. b || list_any p xs) t
-    by false is h more = ap (λ b. p x || b) (more h t) ∙ or_true (p x)
-      where
-        or_true : (a : Bool) → (a || true) ≡ true
-        or_true true = refl
-        or_true false = refl
+    by false is h more = ap (λ b. p x || b) (more h t) ∙ or-true (p x)
 
 -- one event of another number
 pub other_number : (e x : Event) → (e.seq ≡ x.seq → ⊥) → (same_event e x ≡ false) × (clashes e x ≡ false)
 other_number e x h = (rw (ne_eqb e.seq x.seq h) refl, rw (ne_eqb e.seq x.seq h) refl)
 
-or_none : (b : Bool) → (b || false) ≡ b
-or_none true = refl
-or_none false = refl
-
 pub order_below : (e x : Event) → x.seq < e.seq → out_of_order e x ≡ nat_lt e.moment x.moment
 order_below e x lt = rw (le-ltb e.seq x.seq (omega arith), lt-ltb x.seq e.seq lt) refl
 
 pub order_above : (e x : Event) → e.seq < x.seq → out_of_order e x ≡ nat_lt x.moment e.moment
-order_above e x lt = rw (lt-ltb e.seq x.seq lt, le-ltb x.seq e.seq (omega arith)) (or_none (nat_lt x.moment e.moment))
+order_above e x lt = rw (lt-ltb e.seq x.seq lt, le-ltb x.seq e.seq (omega arith)) (or-false (nat_lt x.moment e.moment))
 
 order_same : (e x : Event) → e.seq ≡ x.seq → out_of_order e x ≡ false
 order_same e x same = rw (le-ltb e.seq x.seq (omega arith), le-ltb x.seq e.seq (omega arith)) refl
@@ -98,12 +74,8 @@ pub before_it : (below rest : List Event) (e : Event) → Rising (below ++ e ∷
 before_it [] rest e h = tt
 before_it (x ∷ xs) rest e h = ((each_back (Before x) xs (e ∷ rest) h.0).0, before_it xs rest e h.1)
 
-and_no : (b : Bool) → (b && false) ≡ false
-and_no true = refl
-and_no false = refl
-
 no_clash_with_itself : (e : Event) → same_event e e ≡ true → clashes e e ≡ false
-no_clash_with_itself e s = ap (λ b. (e.seq == e.seq) && not b) s ∙ and_no (e.seq == e.seq)
+no_clash_with_itself e s = ap (λ b. (e.seq == e.seq) && not b) s ∙ and-false (e.seq == e.seq)
 
 known_itself : (below rest : List Event) (e : Event) → same_event e e ≡ true → Rising (below ++ e ∷ rest) → RelatesSo (below ++ e ∷ rest) e true false false
 known_itself below rest e s rising =

@@ -1,33 +1,19 @@
 -- The events that a file needs give the same result as all events.
-use Rattle.std.proofs.Common.{ap, append-nil, append_assoc, arith, drop, get_or, length-append, refl, subst, suc, sym, take, zero, ◌∙◌, ◌⊎◌, inl, inr}
-use Rattle.std.proofs.lemmas.Bool.{cases_lt, le-ltb, lt-ltb, ltb-false, ltb-true}
-use Rattle.std.proofs.lemmas.List.Folds.{list_any-append}
-use Rattle.std.specs.List.{list_any}
-use Rattle.std.specs.List.Sorted.{IsPartitionPoint}
-use Rattle.std.specs.Prelude.{Bool, List, None, Option, [], cond, false, filter, if◌then◌else◌, length, nat_lt, not, option_map, true, ℕ, ◌&&◌, ◌++◌, ◌+◌, ◌-◌, ◌<◌, ◌∷◌, ◌≡◌, ◌≤◌, ◌||◌}
+use Rattle.std.specs.{BTreeMap.{Updates, get}, Cmp.{eq_by_cmp_equiv, Lexicographic.{nat_list_cmp_total}}, List.{list_any, Sorted.{IsPartitionPoint}}}
+use Rattle.std.proofs.Common.{ap, append-nil, append_assoc, arith, drop, get_or, length-append, refl, subst, suc, sym, take, zero, ◌∙◌, ◌⊎◌, inl, inr, Bool, List, None, Option, [], cond, false, filter, if◌then◌else◌, length, nat_lt, not, option_map, true, ℕ, ◌&&◌, ◌++◌, ◌+◌, ◌-◌, ◌<◌, ◌∷◌, ◌≡◌, ◌≤◌, ◌||◌, Ok, Result, Some, unwrap_or, nat_cmp, BTreeMap}
+use Rattle.std.proofs.{Math.Bool.{and-false, or-false, or-true}, lemmas.{Bool.{le-ltb, lt-ltb, ltb-false, ltb-true}, List.Folds.{list_any-append}}}
+use Rattle.std.proofs.lemmas.List.{drop_more, take-append-drop, take_all, take_more}
 use Rattle.plant_alarm.specs.declared.event.Event.{Event}
-use Rattle.plant_import.proofs.public.Nearest.{order_below, other_number}
-use Rattle.plant_import.proofs.public.Placed.{AllAbove, Rises, in_order_of, other, rises_of}
-use Rattle.plant_import.proofs.public.Risings.{Before, Each, Rising, any_none, any_there, each_both, each_of, each_weaker, is_rising, rising_back, rising_of}
+use Rattle.plant_import.specs.Fields.{first_cause}
 use Rattle.plant_import.specs.Merging.{IsRising, clashes, first_fault, fresh, merge, merge_fault, merged_or, out_of_order, same_event}
 use Rattle.plant_import.specs.Needed.{from_last_before, has_late, is_before_all, is_late, is_overtaken, needed}
-use Rattle.plant_import.specs.Numbers.{event_number, has_number, new_numbers, numbers_of}
-use Rattle.plant_import.specs.Reading.{bad}
-use Rattle.plant_import.specs.declared.bad_file.BadFile.{BadFile}
-use Rattle.plant_import.specs.declared.merging.Merged.{Merged}
-use Rattle.plant_types.specs.Names.{Name, same_name}
-use Rattle.plant_types.specs.Options.{or_else}
-use Rattle.plant_types.specs.KeyedRows.{IsInOrder, in_order}
-use Rattle.std.specs.Ordering.{nat_cmp}
-use Rattle.std.specs.Prelude.{Ok, Result, Some, unwrap_or}
-use Rattle.std.specs.BTreeMap.{BTreeMap, Updates, get}
-use Rattle.std.specs.Cmp.{eq_by_cmp_equiv}
-use Rattle.std.specs.Cmp.Lexicographic.{nat_list_cmp_total}
-use Rattle.std.proofs.lemmas.List.{drop_more, take-append-drop, take_all, take_more}
-use Rattle.plant_import.specs.Reached.{AreReached}
-use Rattle.plant_types.specs.Names.{name_cmp}
-use Rattle.plant_import.specs.Fields.{first_cause}
-use Rattle.plant_import.specs.declared.bad_file.Cause.TheVariants.{MomentAhead, MomentOutOfOrder, SequenceClash, TagUnknown}
+use Rattle.plant_import.specs.{Numbers.{event_number, has_number, new_numbers, numbers_of}, Reached.{AreReached}, Reading.{bad}}
+use Rattle.plant_import.specs.declared.bad_file.{BadFile.{BadFile}, Cause.TheVariants.{MomentAhead, MomentOutOfOrder, SequenceClash, TagUnknown}}
+use Rattle.plant_import.{specs.declared.merging.Merged.{Merged}, proofs.public.Nearest.{order_below, other_number}}
+use Rattle.plant_import.proofs.public.Placed.{AllAbove, Rises, in_order_of, other, rises_of}
+use Rattle.plant_import.proofs.public.Risings.{Before, Each, Rising, any_none, any_there, each_both, each_of, each_weaker, is_rising, rising_back, rising_of}
+use Rattle.plant_types.specs.{KeyedRows.{IsInOrder, in_order}, Names.{Name, same_name, name_cmp}, Options.{or_else}}
+use Rattle.plant_types.proofs.public.Halves.{left, right}
 
 -- as many pass as stand before the place where they end
 pub parted_count : {X : Type 0} (q : X → Bool) (xs : List X) (p : ℕ) → IsPartitionPoint (λ x. q x ≡ true) (λ x. q x ≡ false) xs p → p ≤ length xs → p ≡ length (filter q xs)
@@ -40,20 +26,12 @@ parted_count q (x ∷ xs) (suc p) h le =
     let rest : p ≡ length (filter q xs) = parted_count q xs p ((λ k d low high. h.0 (suc k) d (omega arith) (omega (arith, high))), (λ k d low high. h.1 (suc k) d (omega (arith, low)) (omega (arith, high)))) (omega (arith, le)) in
     ap suc rest ∙ sym (ap (λ b. length (cond b (x ∷ filter q xs) (filter q xs))) (h.0 0 x (omega arith) (omega arith)))
 
-and_left : (a b : Bool) → (a && b) ≡ true → a ≡ true
-and_left true b e = refl
-and_left false b e = e
-
-and_right : (a b : Bool) → (a && b) ≡ true → b ≡ true
-and_right true b e = e
-and_right false b e = cc
-
 -- what comes before one that is before all is before all too
 pub before_more : (rows : List Event) (a b : Event) → a.seq ≤ b.seq → is_before_all rows b ≡ true → is_before_all rows a ≡ true
 before_more [] a b le h = refl
 before_more (e ∷ rows) a b le h =
-    let lt = ltb-true b.seq e.seq (and_left _ _ h) in
-    (λ i. lt-ltb a.seq e.seq (omega (arith, le, lt)) i && before_more rows a b le (and_right _ _ h) i)
+    let lt = ltb-true b.seq e.seq (left _ _ h) in
+    (λ i. lt-ltb a.seq e.seq (omega (arith, le, lt)) i && before_more rows a b le (right _ _ h) i)
 
 number_at : (n : ℕ) (es : List Event) → AllAbove event_number n es → (k : ℕ) (d : Event) → k < length es → n < (get_or es k d).seq
 number_at n [] h k d lt = absurd (omega arith)
@@ -62,7 +40,7 @@ number_at n (x ∷ es) h (suc k) d lt = number_at n es h.1 k d (omega arith)
 
 above_all : (rows : List Event) (k : Event) → is_before_all rows k ≡ true → Each (λ e. k.seq < e.seq) rows
 above_all [] k h = tt
-above_all (e ∷ rows) k h = (ltb-true k.seq e.seq (and_left _ _ h), above_all rows k (and_right _ _ h))
+above_all (e ∷ rows) k h = (ltb-true k.seq e.seq (left _ _ h), above_all rows k (right _ _ h))
 
 none_counted : (rows : List Event) (k : Event) (ks : List Event) → Each (Before k) ks → is_before_all rows k ≡ false → length (filter (is_before_all rows) ks) ≡ 0
 none_counted rows k [] h f = refl
@@ -149,10 +127,6 @@ pub record SeenSame (kept near : List Event) (e : Event) : Type 0 where
 no_more : (p : Event → Bool) (pre near : List Event) → list_any p pre ≡ false → list_any p (pre ++ near) ≡ list_any p near
 no_more p pre near f = list_any-append p pre near ∙ ap (λ b. b || list_any p near) f
 
-and_false : (b : Bool) → (b && false) ≡ false
-and_false true = refl
-and_false false = refl
-
 order_led : (e : Event) (pre : List Event) (first : Event) (rest : List Event) → Each (λ k. k.seq < e.seq) pre → first.seq < e.seq → Each (λ k. k.moment ≤ first.moment) pre
     → list_any (out_of_order e) (pre ++ first ∷ rest) ≡ list_any (out_of_order e) (first ∷ rest)
 order_led e pre first rest low lt after = by (nat_lt e.moment first.moment) refl where
@@ -174,7 +148,7 @@ seen e pre near low order =
       number = no_more (has_number e.seq) pre near (any_none (has_number e.seq) pre (each_weaker (λ k. k.seq < e.seq) (λ k. has_number e.seq k ≡ false) (λ k lt. other e.seq k.seq lt) pre low));
       overtaken =
           no_more (λ k. same_name e.tag k.tag && nat_lt e.seq k.seq) pre near
-          (any_none (λ k. same_name e.tag k.tag && nat_lt e.seq k.seq) pre (each_weaker (λ k. k.seq < e.seq) (λ k. (same_name e.tag k.tag && nat_lt e.seq k.seq) ≡ false) (λ k lt. ap (λ b. same_name e.tag k.tag && b) (le-ltb e.seq k.seq (omega (arith, lt))) ∙ and_false _) pre low));
+          (any_none (λ k. same_name e.tag k.tag && nat_lt e.seq k.seq) pre (each_weaker (λ k. k.seq < e.seq) (λ k. (same_name e.tag k.tag && nat_lt e.seq k.seq) ≡ false) (λ k lt. ap (λ b. same_name e.tag k.tag && b) (le-ltb e.seq k.seq (omega (arith, lt))) ∙ and-false _) pre low));
     }
 
 all_lower : (rows pre : List Event) → Each (λ k. is_before_all rows k ≡ true) pre → Each (λ e. Each (λ k. k.seq < e.seq) pre) rows
@@ -304,7 +278,7 @@ late_alike pre near e low =
     let number : list_any (has_number e.seq) (pre ++ near) ≡ list_any (has_number e.seq) near = no_more (has_number e.seq) pre near (any_none (has_number e.seq) pre (each_weaker (λ k. k.seq < e.seq) (λ k. has_number e.seq k ≡ false) (λ k lt. other e.seq k.seq lt) pre low)) in
     let overtaken : is_overtaken (pre ++ near) e ≡ is_overtaken near e =
     no_more (λ k. same_name e.tag k.tag && nat_lt e.seq k.seq) pre near
-    (any_none (λ k. same_name e.tag k.tag && nat_lt e.seq k.seq) pre (each_weaker (λ k. k.seq < e.seq) (λ k. (same_name e.tag k.tag && nat_lt e.seq k.seq) ≡ false) (λ k lt. ap (λ b. same_name e.tag k.tag && b) (le-ltb e.seq k.seq (omega (arith, lt))) ∙ and_false _) pre low)) in
+    (any_none (λ k. same_name e.tag k.tag && nat_lt e.seq k.seq) pre (each_weaker (λ k. k.seq < e.seq) (λ k. (same_name e.tag k.tag && nat_lt e.seq k.seq) ≡ false) (λ k lt. ap (λ b. same_name e.tag k.tag && b) (le-ltb e.seq k.seq (omega (arith, lt))) ∙ and-false _) pre low)) in
     λ i. overtaken i && not (number i)
 
 pub near_late : (kept rows : List Event) → IsInOrder nat_cmp event_number kept → has_late (from_last_before kept rows) rows ≡ has_late kept rows
@@ -325,23 +299,16 @@ near_ordered kept rows h =
 
 -- the last number of each alarm, one event after another
 overtaken_more : (a : Name) (n : ℕ) (es : List Event) (e : Event) → list_any (λ k. same_name a k.tag && nat_lt n k.seq) (es ++ e ∷ []) ≡ (list_any (λ k. same_name a k.tag && nat_lt n k.seq) es || (same_name a e.tag && nat_lt n e.seq))
-overtaken_more a n es e = list_any-append (λ k. same_name a k.tag && nat_lt n k.seq) es (e ∷ []) ∙ ap (λ b. list_any (λ k. same_name a k.tag && nat_lt n k.seq) es || b) (or_none (same_name a e.tag && nat_lt n e.seq)) where
-  or_none : (b : Bool) → (b || false) ≡ b
-  or_none true = refl
-  or_none false = refl
+overtaken_more a n es e = list_any-append (λ k. same_name a k.tag && nat_lt n k.seq) es (e ∷ []) ∙ ap (λ b. list_any (λ k. same_name a k.tag && nat_lt n k.seq) es || b) (or-false (same_name a e.tag && nat_lt n e.seq))
 
 -- of the alarm's own events the last has the greatest number
-or_true : (b : Bool) → (b || true) ≡ true
-or_true true = refl
-or_true false = refl
-
 lt_last : (a : Name) (n : ℕ) (es : List Event) (e : Event) → Each (λ k. k.seq < e.seq) es → (list_any (λ k. same_name a k.tag && nat_lt n k.seq) es || nat_lt n e.seq) ≡ nat_lt n e.seq
 lt_last a n es e h = by (nat_lt n e.seq) refl where
   by : (b : Bool) → nat_lt n e.seq ≡ b → (list_any (λ k. same_name a k.tag && nat_lt n k.seq) es || b) ≡ b
-  by true t = or_true (list_any (λ k. same_name a k.tag && nat_lt n k.seq) es)
+  by true t = or-true (list_any (λ k. same_name a k.tag && nat_lt n k.seq) es)
   by false f =
       let le = ltb-false n e.seq f in
-      ap (λ b. b || false) (any_none (λ k. same_name a k.tag && nat_lt n k.seq) es (each_weaker (λ k. k.seq < e.seq) (λ k. (same_name a k.tag && nat_lt n k.seq) ≡ false) (λ k lt. ap (λ b. same_name a k.tag && b) (le-ltb n k.seq (omega (arith, lt, le))) ∙ and_false _) es h))
+      ap (λ b. b || false) (any_none (λ k. same_name a k.tag && nat_lt n k.seq) es (each_weaker (λ k. k.seq < e.seq) (λ k. (same_name a k.tag && nat_lt n k.seq) ≡ false) (λ k lt. ap (λ b. same_name a k.tag && b) (le-ltb n k.seq (omega (arith, lt, le))) ∙ and-false _) es h))
 
 reached_more : (old new : BTreeMap Name ℕ) (es : List Event) (e : Event) (t : Name) → t ≡ e.tag → Each (λ k. k.seq < e.seq) es → Updates name_cmp old new t (Some e.seq) → AreReached old es → AreReached new (es ++ e ∷ [])
 reached_more old new es e t own h put are a n =
@@ -349,13 +316,9 @@ reached_more old new es e t own h put are a n =
     ∙ (λ i. unwrap_or (option_map (nat_lt n) (cond ((ap (λ x. same_name x a) own ∙ (eq_by_cmp_equiv nat_list_cmp_total).symm e.tag a) i) (Some e.seq) (get name_cmp old a))) false)
     ∙ elim (same_name a e.tag) as (λ b. unwrap_or (option_map (nat_lt n) (cond b (Some e.seq) (get name_cmp old a))) false ≡ (list_any (λ k. same_name a k.tag && nat_lt n k.seq) es || (b && nat_lt n e.seq))) [
       | true ↦ sym (lt_last a n es e h)
-      | false ↦ are a n ∙ or_none (list_any (λ k. same_name a k.tag && nat_lt n k.seq) es)
+      | false ↦ are a n ∙ sym (or-false (list_any (λ k. same_name a k.tag && nat_lt n k.seq) es))
     ]
     ∙ sym (overtaken_more a n es e)
-  where
-    or_none : (b : Bool) → b ≡ (b || false)
-    or_none true = refl
-    or_none false = refl
 
 -- the events before a place of rising events have smaller numbers
 lower_at : (es : List Event) (i : ℕ) (d : Event) → Rises event_number es → i < length es → Each (λ k. k.seq < (get_or es i d).seq) (take i es)

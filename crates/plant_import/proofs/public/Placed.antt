@@ -1,28 +1,9 @@
 -- Rows in the order of their numbers: the place of a number among them, and rows put among them.
-use Rattle.std.proofs.lemmas.Bool.{ltb-false, ltb-true}
-use Rattle.std.proofs.Common.{ap, append_assoc, arith, drop, get_or, nat_lt, refl, subst, sym, take, ◌∙◌}
-use Rattle.std.specs.Cmp.{nat_cmp_is, ranked}
-use Rattle.std.specs.FinMap.Entries.{below_all, by_order}
-use Rattle.std.specs.List.{IsAllAdjacentAnswer, list_any}
-use Rattle.std.specs.Ordering.{eq_by_cmp, is_eq, is_lt, nat_cmp}
-use Rattle.std.specs.Prelude.{Bool, IsTrue, List, T, [], false, filter, fold, if◌then◌else◌, length, map, option_map, slice_get, suc, true, unwrap_or, zero, ℕ, ◌&&◌, ◌++◌, ◌+◌, ◌<◌, ◌∷◌, ◌≡◌, ◌≤◌, ◌||◌, ◌↔◌}
-use Rattle.std.specs.declared.cmp.Ordering.TheVariants.{Equal, Greater, Less}
-use Rattle.std.specs.List.Sorted.{IsNonDecreasingBy, IsPartitionPoint, IsPartitionedBy}
-use Rattle.std.proofs.lemmas.List.Sorted.{IsPartitionedBy-ltb}
-use Rattle.std.proofs.lemmas.List.{drop_more}
-use Rattle.plant_types.specs.KeyedRows.{IsInOrder, in_order, put_row}
-
-both : (a b : Bool) → T a → T b → T (a && b)
-both true b p q = q
-both false b p q = p
-
-first : (a b : Bool) → T (a && b) → T a
-first true b p = tt
-first false b p = p
-
-second : (a b : Bool) → T (a && b) → T b
-second true b p = p
-second false b p = absurd p
+use Rattle.std.specs.{Cmp.{nat_cmp_is, ranked}, FinMap.Entries.{below_all, by_order}, List.{IsAllAdjacentAnswer, list_any}}
+use Rattle.std.specs.{List.Sorted.{IsNonDecreasingBy, IsPartitionPoint, IsPartitionedBy}, Ordering.{eq_by_cmp}}
+use Rattle.std.proofs.Common.{ap, append_assoc, arith, drop, get_or, nat_lt, refl, subst, sym, take, ◌∙◌, is_eq, is_lt, nat_cmp, Bool, IsTrue, List, T, [], false, filter, fold, if◌then◌else◌, length, map, option_map, slice_get, suc, true, unwrap_or, zero, ℕ, ◌++◌, ◌+◌, ◌<◌, ◌∷◌, ◌≡◌, ◌≤◌, ◌||◌, ◌↔◌, Equal, Greater, Less}
+use Rattle.std.proofs.{Math.Bool.{or-false}, lemmas.{Bool.{ltb-false, ltb-true}, List.{drop_more, Sorted.{IsPartitionedBy-ltb}}}}
+use Rattle.plant_types.{specs.KeyedRows.{IsInOrder, in_order, put_row}, proofs.public.Halves.{both, first, second}}
 
 less_of : (m n : ℕ) → T (is_lt (nat_cmp m n)) → m < n
 less_of m n h =
@@ -137,15 +118,11 @@ module _ {X : Type 0} (key : X → ℕ) where
   higher m n [] le h = tt
   higher m n (x ∷ xs) le h = (omega (arith, le, h.0), higher m n xs le h.1)
 
-  or_false : (b : Bool) → (b || false) ≡ b
-  or_false true = refl
-  or_false false = refl
-
   pub there : (n : ℕ) (xs : List X) (p : ℕ) → Rises xs → Parts n xs p → p ≤ length xs → list_any (λ x. eq_by_cmp nat_cmp n (key x)) xs ≡ is_at xs p n
   there n [] zero rises h le = refl
   there n [] (suc p) rises h le = absurd (omega arith)
   there n (x ∷ xs) zero rises h le =
-      ap (λ b. eq_by_cmp nat_cmp n (key x) || b) (none_above n xs (higher n (key x) xs (h.1 0 x (omega arith) (omega arith)) rises.0)) ∙ or_false _
+      ap (λ b. eq_by_cmp nat_cmp n (key x) || b) (none_above n xs (higher n (key x) xs (h.1 0 x (omega arith) (omega arith)) rises.0)) ∙ or-false _
   there n (x ∷ xs) (suc p) rises h le =
       ap (λ b. b || list_any (λ y. eq_by_cmp nat_cmp n (key y)) xs) (other n (key x) (h.0 0 x (omega arith) (omega arith))) ∙ there n xs p rises.1 (later n x xs p h) (omega arith)
 

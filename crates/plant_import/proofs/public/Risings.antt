@@ -1,17 +1,11 @@
 -- Events in rising number, whose moments don't fall: as a list that is gone through, its parts, and what they are next to one more.
-use Rattle.std.proofs.Common.{◌≡◌, ℕ, zero, suc, ◌+◌, ◌-◌, ◌<◌, ◌≤◌, refl, sym, ap, ◌∙◌, subst, arith, List, [], ◌∷◌, ◌++◌, length, take, drop, get_or, Bool, true, false, ◌||◌, Some, None}
-use Rattle.std.specs.Prelude.{nat_lt, slice_get}
-use Rattle.std.proofs.lemmas.List.{take_more, take_all}
-use Rattle.std.proofs.lemmas.Option.{get_or_from_slice_get, slice_get-get_or}
 use Rattle.std.specs.List.{list_any}
-use Rattle.std.proofs.lemmas.Bool.{le-ltb, ltb-false}
-use Rattle.std.proofs.lemmas.List.Kept.{AllPairs-cons}
+use Rattle.std.proofs.Common.{◌≡◌, ℕ, zero, suc, ◌+◌, ◌-◌, ◌<◌, ◌≤◌, refl, sym, ap, ◌∙◌, subst, arith, List, [], ◌∷◌, ◌++◌, length, take, drop, get_or, Bool, true, false, ◌||◌, Some, None, nat_lt, slice_get, nat_cmp}
+use Rattle.std.proofs.{Math.Bool.{or-true}, lemmas.{Bool.{le-ltb, ltb-false, or_parts}, List.{take_more, take_all, Kept.{AllPairs-cons}}}}
+use Rattle.std.proofs.lemmas.Option.{get_or_from_slice_get, slice_get-get_or}
 use Rattle.plant_alarm.specs.declared.event.Event.{Event}
-use Rattle.plant_import.specs.Merging.{IsRising}
-use Rattle.plant_import.specs.Numbers.{event_number}
-use Rattle.plant_import.proofs.public.Placed.{AllAbove, Rises, in_order_of}
+use Rattle.plant_import.{specs.{Merging.{IsRising}, Numbers.{event_number}}, proofs.public.Placed.{AllAbove, Rises, in_order_of}}
 use Rattle.plant_types.specs.KeyedRows.{IsInOrder}
-use Rattle.std.specs.Ordering.{nat_cmp}
 
 -- P holds of each
 abbrev pub Each : (Event → Type 0) → List Event → Type 0
@@ -80,21 +74,13 @@ pub any_same : (p q : Event → Bool) (xs : List Event) → Each (λ x. p x ≡ 
 any_same p q [] h = refl
 any_same p q (x ∷ xs) h = ap (λ b. b || list_any p xs) h.0 ∙ ap (λ b. q x || b) (any_same p q xs h.1)
 
-or_false : (a b : Bool) → (a || b) ≡ false → (a ≡ false) × (b ≡ false)
-or_false true b e = cc
-or_false false b e = (refl, e)
-
 pub each_not : (p : Event → Bool) (xs : List Event) → list_any p xs ≡ false → Each (λ x. p x ≡ false) xs
 each_not p [] e = tt
-each_not p (x ∷ xs) e = let both = or_false (p x) (list_any p xs) e in (both.0, each_not p xs both.1)
-
-or_true : (a : Bool) → (a || true) ≡ true
-or_true true = refl
-or_true false = refl
+each_not p (x ∷ xs) e = let both = or_parts (p x) (list_any p xs) e in (both.0, each_not p xs both.1)
 
 pub any_there : (p : Event → Bool) (xs ys : List Event) (y : Event) → p y ≡ true → list_any p (xs ++ y ∷ ys) ≡ true
 any_there p [] ys y e = ap (λ b. b || list_any p ys) e
-any_there p (x ∷ xs) ys y e = ap (λ b. p x || b) (any_there p xs ys y e) ∙ or_true (p x)
+any_there p (x ∷ xs) ys y e = ap (λ b. p x || b) (any_there p xs ys y e) ∙ or-true (p x)
 
 -- a test that the first or the last of rising events settles
 pub first_settles : (m : ℕ) (x : Event) (xs : List Event) → Rising (x ∷ xs) → nat_lt x.moment m ≡ list_any (λ e. nat_lt e.moment m) (x ∷ xs)

@@ -1,58 +1,25 @@
 -- What the acceptance of a call says, and that an accepted call's changes turn the rows of the history.
-use Rattle.std.specs.Option.{option_to_list}
-use Rattle.plant_types.specs.declared.role.Role.{Role}
-use Rattle.plant_types.specs.Roles.{Pair, same_pair}
-use Rattle.plant_types.specs.Options.{or_else, when}
-use Rattle.plant_types.proofs.public.Orders.{same_names}
-use Rattle.plant_model.specs.declared.rows.UnitRows.{UnitRows}
-use Rattle.plant_model.specs.declared.rows.ShelfRow.{ShelfRow}
-use Rattle.plant_model.specs.declared.rows.Row.TheVariants.{Alarm as AlarmPut, Shelf as ShelfPut, Unit as UnitPut}
-use Rattle.plant_model.specs.declared.rows.RowEdit.TheVariants.{Put}
-use Rattle.plant_model.specs.declared.rows.AlarmRow.{AlarmRow}
-use Rattle.plant_model.specs.Shelves.{shelf, shelf_row_as}
-use Rattle.plant_model.specs.Service.{Outage, outage, said_of_outage}
-use Rattle.plant_model.specs.RowChanges.{changed_by, placed_in, taken_out}
-use Rattle.plant_model.specs.Events.{events_of}
-use Rattle.plant_model.proofs.public.HistoryLaws.{alarm_of, alarms_told, grants_told, pairs_of, shelves_told, tags_of_alarms, tags_of_shelves}
-use Rattle.plant_types.proofs.public.KeyedRowLaws.{put-rows, remove-rows, tied}
-use Rattle.plant_model.proofs.public.Base.{base, x}
+use Rattle.std.proofs.Common.{option_to_list, Bool, None, Option, Some, cond, map, option_map, unwrap_or, ◌+◌, Err, List, Ok, Result, [], false, max, true, ℕ, ◌∷◌, ◌≡◌, ap, refl, ◌∙◌, is_none, is_ok}
+use Rattle.std.proofs.lemmas.Bool.{and_parts}
+use Rattle.plant_types.specs.{Names.{name_cmp, same_name, Name}, Options.{or_else, when}, Roles.{Pair, same_pair}, declared.role.Role.{Role}}
+use Rattle.plant_types.proofs.public.{KeyedRowLaws.{put-rows, remove-rows, tied}, Orders.{same_names}}
+use Rattle.plant_model.specs.{Alarms.{latching, limit}, Changes.{draft, limit_revision, sheet}, Events.{events_of}, Facts.{facts, limit_of}}
+use Rattle.plant_model.specs.{Histories.{Begins, Over, Said, latest, still, what_stands}, Legality.{IsLegal}}
+use Rattle.plant_model.specs.{RowChanges.{changed_by, placed_in, taken_out}, Rows.{alarm_as, alarm_row, grant_as, grant_row, rows_of, unit_row}}
+use Rattle.plant_model.specs.{Service.{Outage, outage, said_of_outage}, Shelves.{shelf, shelf_row_as}}
+use Rattle.plant_model.specs.{Verdicts.{changes_history, is_opening, verdict}, declared.call.{Call.{Call}, Request.{Request}}}
+use Rattle.plant_model.specs.declared.call.Request.TheVariants.{Approve, Propose, Reject, WithdrawChange, Grant, Import, OneShotShelve, OpenUnit, PlaceInService, Register, RemoveFromService, TimedShelve, Unshelve, Withdraw}
+use Rattle.plant_model.specs.declared.rows.{AlarmRow.{AlarmRow}, Row.TheVariants.{Alarm as AlarmPut, Shelf as ShelfPut, Unit as UnitPut}}
+use Rattle.plant_model.specs.declared.rows.{RowEdit.TheVariants.{Put}, ShelfRow.{ShelfRow}, UnitRows.{UnitRows}}
 use Rattle.plant_model.proofs.DecisionLaws.{approve_limit_turns, approve_matrix_turns, approve_sheet_turns, propose_limit_turns, propose_matrix_turns, propose_sheet_turns, reject_turns, withdraw_change_turns}
-use Rattle.plant_model.proofs.ProposalLaws.{accepted_change, drafted, limit_there, next_undecided}
-use Rattle.plant_model.specs.Changes.{draft, limit_revision, sheet}
-use Rattle.plant_model.specs.Refusals.{kind_refusals}
-use Rattle.plant_model.specs.declared.call.Request.TheVariants.{Approve, Propose, Reject, WithdrawChange}
-use Rattle.plant_model.specs.declared.reply.Refused.TheVariants.{NotProposer, SamePerson}
-use Rattle.plant_ration.specs.declared.change.ChangeKind.{ChangeKind}
-use Rattle.plant_ration.specs.declared.change.ChangeKind.TheVariants.{Limit, Matrix, Rationale}
-use Rattle.plant_ration.specs.declared.change.Proposal.{Proposal}
-use Rattle.plant_types.specs.Names.{name_cmp, same_name}
-use Rattle.plant_types.specs.declared.role.Role.TheVariants.{Approver, Engineer}
-use Rattle.std.specs.Prelude.{Bool, None, Option, Some, cond, map, option_map, unwrap_or, ◌+◌}
-use Rattle.plant_alarm.specs.Shelves.{is_one_shot}
-use Rattle.plant_alarm.specs.declared.event.Event.{Event}
-use Rattle.plant_import.specs.declared.bad_file.BadFile.{BadFile}
-use Rattle.plant_model.proofs.public.Base.{plain}
+use Rattle.plant_model.proofs.{ProposalLaws.{drafted, limit_there, next_undecided}, public.Accepted.{IsEntry, made, unrefused}}
 use Rattle.plant_model.proofs.public.ChangeLaws.{Turns, now_stands, register_turns, said_anew, with_request}
 use Rattle.plant_model.proofs.public.EventLaws.{import_accepted, legal_kept, unspoken}
-use Rattle.plant_model.proofs.public.ImportLaws.{import_turns}
-use Rattle.plant_model.proofs.public.ServiceLaws.{both_true, known_alarm, registered, registered_anew}
-use Rattle.plant_model.specs.Alarms.{latching, limit}
-use Rattle.plant_model.specs.Facts.{facts, is_out, limit_of, shelf_now}
-use Rattle.plant_model.specs.Grants.{held}
-use Rattle.plant_model.specs.Histories.{Begins, Over, Said, last_moment, latest, still, what_stands}
-use Rattle.plant_model.specs.Legality.{IsLegal}
-use Rattle.plant_model.specs.Refusals.{holds_some, over_quota}
-use Rattle.plant_model.specs.Rows.{alarm_as, alarm_row, grant_as, grant_row, rows_of, unit_row}
-use Rattle.plant_model.specs.Verdicts.{changes_history, is_opening, verdict}
-use Rattle.plant_model.specs.declared.call.Call.{Call}
-use Rattle.plant_model.specs.declared.call.Request.{Request}
-use Rattle.plant_model.specs.declared.call.Request.TheVariants.{Grant, Import, OneShotShelve, OpenUnit, PlaceInService, Register, RemoveFromService, TimedShelve, Unshelve, Withdraw}
-use Rattle.plant_model.specs.declared.reply.Refused.TheVariants.{AlreadyOutOfService, ConditionAlreadyShelved, MomentBehind, NotGranted, NotOutOfService, RoleLacking}
-use Rattle.plant_model.specs.declared.reply.Reply.TheVariants.{Done}
-use Rattle.plant_types.specs.Names.{Name}
-use Rattle.plant_types.specs.declared.role.Role.TheVariants.{Maintainer, Operator}
-use Rattle.std.proofs.Common.{ap, refl, ◌∙◌}
-use Rattle.std.specs.Prelude.{Err, List, Ok, Result, [], false, is_ok, max, nat_lt, not, true, ℕ, ◌∷◌, ◌≡◌}
+use Rattle.plant_model.proofs.public.HistoryLaws.{alarm_of, alarms_told, grants_told, pairs_of, shelves_told, tags_of_alarms, tags_of_shelves}
+use Rattle.plant_model.proofs.public.{ImportLaws.{import_turns}, ServiceLaws.{registered, registered_anew, what_is}}
+use Rattle.plant_ration.specs.declared.change.{ChangeKind.{ChangeKind, TheVariants.{Limit, Matrix, Rationale}}, Proposal.{Proposal}}
+use Rattle.plant_alarm.specs.declared.event.Event.{Event}
+use Rattle.plant_import.specs.declared.bad_file.BadFile.{BadFile}
 
 -- pairs
 no_more_stands : (k x : Pair) (rest : Option (Said (Option ℕ))) → option_map (grant_as k) (still (or_else (when (same_pair k x) Over) rest)) ≡ cond (same_pair k x) None (option_map (grant_as k) (still rest))
@@ -138,29 +105,15 @@ module _ (h : List Call) (p : Name) (t : ℕ) where
 
 module _ (h : List Call) (p : Name) (t : ℕ) where
   abbrev pub made_by : Request → Call
-  made_by q = record { person = p; moment = t; request = q }
+  made_by q = made p t q
 
-  one_shot_accepted : (u a w : Name) → changes_history (verdict h (made_by (OneShotShelve u a w))) (made_by (OneShotShelve u a w)) ≡ true → Turns h p t (OneShotShelve u a w)
-  one_shot_accepted u a w accepted =
-      let there = known_alarm (not (holds_some (facts h) t p)) (not (held h t (p, Operator))) (nat_lt t (last_moment h)) NotGranted (RoleLacking Operator) (MomentBehind (last_moment h)) (alarm_row h a) ((is_one_shot (shelf_now (facts h) a t), ConditionAlreadyShelved) ∷ over_quota (facts h) a t ∷ []) Done (both_true (is_ok (verdict h (made_by (OneShotShelve u a w)))) true accepted).0 in
-      let known = registered h a (latching h a) refl there in
-      one_shot_turns h p t u a w known.0 known.1
+  -- of an alarm that has a row, it is known whether it latches
+  latches : (a : Name) → is_none (alarm_row h a) ≡ false → (l : Bool) × (latching h a ≡ Some l)
+  latches a there = what_is (latching h a) (registered h a there)
 
-  remove_accepted : (u a w : Name) → changes_history (verdict h (made_by (RemoveFromService u a w))) (made_by (RemoveFromService u a w)) ≡ true → Turns h p t (RemoveFromService u a w)
-  remove_accepted u a w accepted =
-      let there = known_alarm (not (holds_some (facts h) t p)) (not (held h t (p, Maintainer))) (nat_lt t (last_moment h)) NotGranted (RoleLacking Maintainer) (MomentBehind (last_moment h)) (alarm_row h a) ((is_out (facts h) a, AlreadyOutOfService) ∷ []) Done (both_true (is_ok (verdict h (made_by (RemoveFromService u a w)))) true accepted).0 in
-      let known = registered h a (latching h a) refl there in
-      remove_turns h p t u a w known.0 known.1
-
-  place_accepted : (u a : Name) → changes_history (verdict h (made_by (PlaceInService u a))) (made_by (PlaceInService u a)) ≡ true → Turns h p t (PlaceInService u a)
-  place_accepted u a accepted =
-      let there = known_alarm (not (holds_some (facts h) t p)) (not (held h t (p, Maintainer))) (nat_lt t (last_moment h)) NotGranted (RoleLacking Maintainer) (MomentBehind (last_moment h)) (alarm_row h a) ((not (is_out (facts h) a), NotOutOfService) ∷ []) Done (both_true (is_ok (verdict h (made_by (PlaceInService u a)))) true accepted).0 in
-      let known = registered h a (latching h a) refl there in
-      place_turns h p t u a known.0 known.1
-
-  file_turns : (u : Name) (file : Result (List Event) BadFile) → IsLegal h → changes_history (verdict h (made_by (Import u file))) (made_by (Import u file)) ≡ true → Turns h p t (Import u file)
-  file_turns u (Err fault) legal accepted = absurd (import_accepted h p t u (Err fault) accepted)
-  file_turns u (Ok rows) legal accepted = import_turns h p t u rows (legal_kept h legal) (import_accepted h p t u (Ok rows) accepted).1
+  file_turns : (u : Name) (file : Result (List Event) BadFile) → IsLegal h → IsEntry h (made_by (Import u file)) → Turns h p t (Import u file)
+  file_turns u (Err fault) legal entry = absurd (import_accepted h p t u (Err fault) entry)
+  file_turns u (Ok rows) legal entry = import_turns h p t u rows (legal_kept h legal) (import_accepted h p t u (Ok rows) entry).1
 
   propose_accepted : (u : Name) (x : Proposal) → IsLegal h → Turns h p t (Propose u x)
   propose_accepted u x legal = by x.kind x.base where
@@ -169,22 +122,9 @@ module _ (h : List Call) (p : Name) (t : ℕ) where
     by (Matrix m) base = propose_matrix_turns h p t u m base (next_undecided h legal)
     by (Limit a max) base = propose_limit_turns h p t u a max base (next_undecided h legal)
 
-  withdraw_change_accepted : (u : Name) (n : ℕ) → changes_history (verdict h (made_by (WithdrawChange u n))) (made_by (WithdrawChange u n)) ≡ true → Turns h p t (WithdrawChange u n)
-  withdraw_change_accepted u n accepted =
-      let there = accepted_change h p t n Engineer (λ c. (not (same_name p c.proposer), NotProposer) ∷ []) (both_true (is_ok (verdict h (made_by (WithdrawChange u n)))) true accepted).0 in
-      let known = drafted h n (draft h n) refl there in
-      withdraw_change_turns h p t u n known.0 known.1
-
-  reject_accepted : (u : Name) (n : ℕ) → changes_history (verdict h (made_by (Reject u n))) (made_by (Reject u n)) ≡ true → Turns h p t (Reject u n)
-  reject_accepted u n accepted =
-      let there = accepted_change h p t n Approver (λ c. (same_name p c.proposer, SamePerson) ∷ []) (both_true (is_ok (verdict h (made_by (Reject u n)))) true accepted).0 in
-      let known = drafted h n (draft h n) refl there in
-      reject_turns h p t u n known.0 known.1
-
-  approve_accepted : (u : Name) (n : ℕ) → IsLegal h → changes_history (verdict h (made_by (Approve u n))) (made_by (Approve u n)) ≡ true → Turns h p t (Approve u n)
-  approve_accepted u n legal accepted =
-      let there = accepted_change h p t n Approver (λ c. (same_name p c.proposer, SamePerson) ∷ kind_refusals (facts h) c.base c.kind) (both_true (is_ok (verdict h (made_by (Approve u n)))) true accepted).0 in
-      let known = drafted h n (draft h n) refl there in
+  approve_accepted : (u : Name) (n : ℕ) → IsLegal h → IsEntry h (made_by (Approve u n)) → Turns h p t (Approve u n)
+  approve_accepted u n legal entry =
+      let known = drafted h n _ (unrefused h (made_by (Approve u n)) entry).1.1.1 in
       by known.0.proposer known.0.proposed known.0.kind known.0.base known.1 where
         by : (q : Name) (s : ℕ) (k : ChangeKind) (base : ℕ) → draft h n ≡ Some (record { proposer = q; proposed = s; kind = k; base = base }) → Turns h p t (Approve u n)
         by q s (Rationale a sheet) base known = approve_sheet_turns h p t u n q s a sheet base known
@@ -201,12 +141,12 @@ module _ (h : List Call) (p : Name) (t : ℕ) where
   accepted_turns legal (Register u a l max) plain accepted = register_turns h p t u a l max (unspoken h legal a (registered_anew h p t u a l max accepted))
   accepted_turns legal (Import u file) plain accepted = file_turns u file legal accepted
   accepted_turns legal (TimedShelve u a d w) plain accepted = timed_turns h p t u a d w
-  accepted_turns legal (OneShotShelve u a w) plain accepted = one_shot_accepted u a w accepted
+  accepted_turns legal (OneShotShelve u a w) plain accepted = let known = latches a (unrefused h (made_by (OneShotShelve u a w)) accepted).1.1.1.0 in one_shot_turns h p t u a w known.0 known.1
   accepted_turns legal (Unshelve u a) plain accepted = unshelve_turns h p t u a
-  accepted_turns legal (RemoveFromService u a w) plain accepted = remove_accepted u a w accepted
-  accepted_turns legal (PlaceInService u a) plain accepted = place_accepted u a accepted
+  accepted_turns legal (RemoveFromService u a w) plain accepted = let known = latches a (unrefused h (made_by (RemoveFromService u a w)) accepted).1.1.1.0 in remove_turns h p t u a w known.0 known.1
+  accepted_turns legal (PlaceInService u a) plain accepted = let known = latches a (unrefused h (made_by (PlaceInService u a)) accepted).1.1.1.0 in place_turns h p t u a known.0 known.1
   accepted_turns legal (Propose u x) plain accepted = propose_accepted u x legal
-  accepted_turns legal (WithdrawChange u n) plain accepted = withdraw_change_accepted u n accepted
+  accepted_turns legal (WithdrawChange u n) plain accepted = let known = drafted h n _ (unrefused h (made_by (WithdrawChange u n)) accepted).1.1.1 in withdraw_change_turns h p t u n known.0 known.1
   accepted_turns legal (Approve u n) plain accepted = approve_accepted u n legal accepted
-  accepted_turns legal (Reject u n) plain accepted = reject_accepted u n accepted
-  accepted_turns legal q plain accepted = absurd (let no : false ≡ true = (both_true (is_ok (verdict h (made_by q))) false accepted).1 in cc)
+  accepted_turns legal (Reject u n) plain accepted = let known = drafted h n _ (unrefused h (made_by (Reject u n)) accepted).1.1.1 in reject_turns h p t u n known.0 known.1
+  accepted_turns legal q plain accepted = absurd (let no : false ≡ true = (and_parts (is_ok (verdict h (made_by q))) false accepted).1 in cc)

@@ -1,25 +1,12 @@
 -- The unit of the worked examples: opened, staffed, and with two alarms.
-use Rattle.plant_alarm.specs.Shelves.{is_unshelved}
-use Rattle.plant_alarm.specs.declared.event.Event.{Event}
-use Rattle.plant_alarm.specs.declared.event.EventKind.{EventKind}
-use Rattle.plant_alarm.specs.declared.shelf.ShelfState.{ShelfState}
+use Rattle.std.proofs.Common.{Err, List, None, Ok, Result, [], codes, false, max, not, true, ℕ, ◌*◌, ◌+◌, ◌∷◌, ◌≡◌}
+use Rattle.plant_alarm.specs.{Shelves.{is_unshelved}, declared.{event.{Event.{Event}, EventKind.{EventKind}}, shelf.ShelfState.{ShelfState}}}
 use Rattle.plant_alarm.specs.declared.summary.AlarmState.{AlarmState}
-use Rattle.plant_model.specs.Alarms.{limit}
-use Rattle.plant_model.specs.Shelves.{shelf}
-use Rattle.plant_model.specs.Verdicts.{verdict}
-use Rattle.plant_model.specs.declared.call.Call.{Call}
-use Rattle.plant_model.specs.declared.call.Request.{Request}
-use Rattle.plant_model.specs.declared.call.Request.TheVariants.{Grant, OpenUnit, Register, Status}
-use Rattle.plant_model.specs.declared.reply.Refused.{Refused}
-use Rattle.plant_model.specs.declared.reply.Reply.{Reply}
+use Rattle.plant_model.specs.{Alarms.{limit}, Shelves.{shelf}, Verdicts.{verdict}, declared.call.{Call.{Call}, Request.{Request}}}
+use Rattle.plant_model.specs.declared.{call.Request.TheVariants.{Grant, OpenUnit, Register, Status}, reply.{Refused.{Refused}, Reply.{Reply}}}
 use Rattle.plant_model.specs.declared.reply.Reply.TheVariants.{Done, Status as StatusOf}
-use Rattle.plant_ration.specs.Grid.{Grid}
-use Rattle.plant_ration.specs.declared.cell.Cell.{Cell}
-use Rattle.plant_ration.specs.declared.cell.Cell.TheVariants.{P1, P2, P3, P4}
-use Rattle.plant_types.specs.Names.{Name}
-use Rattle.plant_types.specs.declared.role.Role.{Role}
-use Rattle.plant_types.specs.declared.role.Role.TheVariants.{Approver, Engineer, Maintainer, Operator, Viewer}
-use Rattle.std.specs.Prelude.{Err, List, None, Ok, Result, [], codes, false, max, not, true, ℕ, ◌*◌, ◌+◌, ◌∷◌, ◌≡◌}
+use Rattle.plant_ration.specs.{Grid.{Grid}, declared.cell.Cell.{Cell, TheVariants.{P1, P2, P3, P4}}}
+use Rattle.plant_types.specs.{Names.{Name}, declared.role.Role.{Role, TheVariants.{Approver, Engineer, Maintainer, Operator, Viewer}}}
 
 abbrev pub u1 : Name
 u1 = codes "U1"

@@ -1,44 +1,19 @@
 -- The changes that a call makes turn the rows of the history into those of the history with the call.
-use Rattle.plant_model.specs.Calls.{changes_for}
-use Rattle.plant_types.proofs.public.KeyedRowLaws.{IsInOrder-rows, Tells, row_at-rows, same_rows}
-use Rattle.plant_model.proofs.public.Base.{x}
-use Rattle.plant_model.specs.Changes.{limit_revision}
-use Rattle.plant_types.specs.KeyedRows.{in_order, put_row}
-use Rattle.std.proofs.Common.{sym}
-use Rattle.std.specs.FinMap.Entries.{by_order}
-use Rattle.std.specs.declared.cmp.Ordering.TheVariants.{Greater, Less}
-use Rattle.plant_model.proofs.public.Base.{base}
-use Rattle.plant_model.proofs.public.HistoryLaws.{alarms_told, grants_told, pairs_of, tags_of_alarms}
+use Rattle.std.specs.{FinMap.Entries.{by_order}, Ordering.{eq_by_cmp}}
+use Rattle.std.proofs.Common.{sym, ap, refl, ◌∙◌, Greater, Less, Equal, Bool, List, None, Option, Some, [], cond, false, filter_map, map, max, option_map, true, unwrap_or, ℕ, ◌∷◌, ◌≡◌, Ordering}
+use Rattle.plant_model.specs.{Alarms.{latching, limit}, Calls.{changes_for}, Changes.{limit_revision}, Events.{events_of}, Facts.{facts}}
+use Rattle.plant_model.specs.{Histories.{Begins, Said, still}, Matrices.{band_at, band_cmp, band_places, cell_of, cell_places}}
+use Rattle.plant_model.specs.{RowChanges.{cells_of, changed_by, no_rows, put}, RowFacts.{band_key}}
+use Rattle.plant_model.specs.{Rows.{alarm_as, alarm_row, band_row, band_rows, cell_row, grant_as, grant_row, rows_of, unit_row}, Service.{outage}}
+use Rattle.plant_model.specs.declared.{call.{Call.{Call}, Request.{Request, TheVariants.{OpenUnit, Register}}}, rows.BandRow.{BandRow}}
+use Rattle.plant_model.specs.declared.rows.{CellRow.{CellRow}, Row.TheVariants.{Grant as GrantPut, Unit as UnitPut}, UnitRows.{UnitRows}}
 use Rattle.plant_model.proofs.MatrixLaws.{band_keys, bands_anew, bands_told, cell_keys, cells_anew, cells_told}
+use Rattle.plant_model.proofs.public.HistoryLaws.{alarms_told, grants_told, pairs_of, tags_of_alarms}
 use Rattle.plant_model.proofs.public.PutLaws.{put_bands, put_cells, puts, puts-rows}
-use Rattle.plant_model.specs.Alarms.{latching, limit}
-use Rattle.plant_model.specs.Events.{events_of}
-use Rattle.plant_model.specs.Facts.{facts}
-use Rattle.plant_model.specs.Histories.{Begins, Said, still}
-use Rattle.plant_model.specs.Matrices.{band_at, band_cmp, band_places, cell_of, cell_places}
-use Rattle.plant_model.specs.RowChanges.{cells_of, changed_by, no_rows, put}
-use Rattle.plant_model.specs.RowFacts.{band_key}
-use Rattle.plant_model.specs.Rows.{alarm_as, alarm_row, band_row, band_rows, cell_row, grant_as, grant_row, rows_of, unit_row}
-use Rattle.plant_model.specs.Service.{outage}
-use Rattle.plant_model.specs.declared.call.Call.{Call}
-use Rattle.plant_model.specs.declared.call.Request.{Request}
-use Rattle.plant_model.specs.declared.call.Request.TheVariants.{OpenUnit, Register}
-use Rattle.plant_model.specs.declared.rows.BandRow.{BandRow}
-use Rattle.plant_model.specs.declared.rows.CellRow.{CellRow}
-use Rattle.plant_model.specs.declared.rows.Row.TheVariants.{Grant as GrantPut, Unit as UnitPut}
-use Rattle.plant_model.specs.declared.rows.UnitRows.{UnitRows}
-use Rattle.plant_ration.specs.Grid.{Grid}
-use Rattle.plant_types.proofs.public.Orders.{same_names, same_pairs}
-use Rattle.plant_types.proofs.public.KeyedRowLaws.{put-rows, tied}
-use Rattle.plant_types.specs.Names.{Name, same_name}
-use Rattle.plant_types.specs.Options.{or_else, when}
-use Rattle.plant_types.specs.Roles.{Pair, same_pair}
+use Rattle.plant_types.specs.{KeyedRows.{in_order, put_row}, Names.{Name, same_name}, Options.{or_else, when}, Roles.{Pair, same_pair}}
 use Rattle.plant_types.specs.declared.role.Role.TheVariants.{Steward}
-use Rattle.std.proofs.Common.{ap, refl, ◌∙◌}
-use Rattle.std.specs.Ordering.{eq_by_cmp}
-use Rattle.std.specs.Prelude.{Bool, List, None, Option, Some, [], cond, false, filter_map, map, max, option_map, true, unwrap_or, ℕ, ◌∷◌, ◌≡◌}
-use Rattle.std.specs.declared.cmp.Ordering.{Ordering}
-use Rattle.std.specs.declared.cmp.Ordering.TheVariants.{Equal}
+use Rattle.plant_types.proofs.public.{KeyedRowLaws.{IsInOrder-rows, Tells, row_at-rows, same_rows, put-rows, tied}, Orders.{same_names, same_pairs}}
+use Rattle.plant_ration.specs.Grid.{Grid}
 
 -- rows that are made of other rows
 pub put_row-map : {A X K : Type 0} (R : K → K → Ordering) (key : X → K) (f : A → X) (r : A) (xs : List A) → put_row R key (f r) (map f xs) ≡ map f (put_row R (λ x. key (f x)) r xs)

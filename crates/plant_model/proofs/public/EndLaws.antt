@@ -1,17 +1,11 @@
 -- Without ends, standing is holding.
-use Rattle.std.proofs.Common.{refl}
 use Rattle.std.specs.List.{list_all}
-use Rattle.std.specs.Prelude.{Bool, List, None, Option, Some, [], false, is_none, is_some, option_map, true, unwrap_or, ℕ, ◌∷◌, ◌≡◌}
-use Rattle.plant_model.specs.declared.call.Call.{Call}
-use Rattle.plant_model.specs.declared.call.Request.{Request}
+use Rattle.std.proofs.Common.{refl, Bool, List, None, Option, Some, [], false, is_none, is_some, option_map, true, unwrap_or, ℕ, ◌∷◌, ◌≡◌}
+use Rattle.std.proofs.lemmas.Bool.{and_parts}
+use Rattle.plant_model.specs.{Grants.{is_before, said_of_pair}, Histories.{Begins, Over, Said, latest, still}}
+use Rattle.plant_model.specs.{Laws.{WithoutEndsStandingIsHolding, has_no_end}, declared.call.{Call.{Call}, Request.{Request}}}
 use Rattle.plant_model.specs.declared.call.Request.TheVariants.{Grant, OpenUnit, Withdraw}
-use Rattle.plant_types.specs.declared.role.Role.TheVariants.{Steward}
-use Rattle.plant_model.proofs.public.ServiceLaws.{both_true}
-use Rattle.plant_model.specs.Grants.{is_before, said_of_pair}
-use Rattle.plant_model.specs.Histories.{Begins, Over, Said, latest, still}
-use Rattle.plant_model.specs.Laws.{WithoutEndsStandingIsHolding, has_no_end}
-use Rattle.plant_types.specs.Options.{or_else, when}
-use Rattle.plant_types.specs.Roles.{Pair, same_pair}
+use Rattle.plant_types.specs.{Options.{or_else, when}, Roles.{Pair, same_pair}, declared.role.Role.TheVariants.{Steward}}
 
 -- what is said of a pair gives it no end
 abbrev NoEnd : Option (Said (Option ℕ)) → Type 0
@@ -39,7 +33,7 @@ or_else_without (Some v) b x y = x
 latest_without : (k : Pair) (h : List Call) → list_all (λ c. has_no_end c.request) h ≡ true → NoEnd (latest (λ c before. said_of_pair k c.request) h)
 latest_without k [] e = tt
 latest_without k (c ∷ h) e =
-    let parts = both_true (has_no_end c.request) (list_all (λ c. has_no_end c.request) h) e in
+    let parts = and_parts (has_no_end c.request) (list_all (λ c. has_no_end c.request) h) e in
     or_else_without (said_of_pair k c.request) _ (said_without_end k c.request parts.0) (latest_without k h parts.1)
 
 held_for_good : (t : ℕ) (o : Option (Said (Option ℕ))) → NoEnd o → unwrap_or (option_map (is_before t) (still o)) false ≡ is_some (still o)

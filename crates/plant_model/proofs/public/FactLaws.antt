@@ -1,57 +1,22 @@
 -- The rows of a history give its facts.
-use Rattle.plant_types.proofs.public.Orders.{same_names}
-use Rattle.plant_model.proofs.public.Base.{x}
-use Rattle.plant_model.proofs.public.HistoryLaws.{change_with, changes_told, numbers_of_changes, record_with, records_told, tags_of_records, when_Some}
+use Rattle.std.specs.{Cmp.{eq_by_cmp_equiv}, List.{cons_option, list_any}, Ordering.{eq_by_cmp}}
+use Rattle.std.proofs.Common.{sym, ap, arith, refl, ◌∙◌, nat_cmp, filter_map, if◌then◌else◌, length, max, option_and_then, ◌+◌, ◌≤◌, Bool, List, None, Option, Some, [], cond, false, is_some, map, option_map, true, unwrap_or, ℕ, ◌<◌, ◌∷◌, ◌≡◌, Ordering}
+use Rattle.std.proofs.lemmas.Bool.{false_from_ne_true}
+use Rattle.plant_types.specs.{KeyedRows.{in_order, row_at}, Names.{same_name, Name, name_cmp}, Options.{or_else, when}}
+use Rattle.plant_types.{specs.Roles.{Pair, pair_cmp, same_pair}, proofs.public.KeyedRowLaws.{row_at-rows, tied}}
+use Rattle.plant_types.proofs.public.Orders.{same_names, number_total, same_numbers}
 use Rattle.plant_model.specs.Changes.{Draft, approved_sheet, change, draft, is_proposal, kind_of_change, matrix, proposals, record_of, record_revision, said_of_draft, sheet, sheet_in}
-use Rattle.plant_model.specs.Histories.{counted, latest}
-use Rattle.plant_model.specs.RowFacts.{change_found, change_number, change_read, facts_from, kind_read, matrix_read, record_found, record_from, record_read, record_tag, sheet_read}
-use Rattle.plant_model.specs.Rows.{change_entry, changes_of, max_of_kind, record_entry, records_of, sheet_of_kind, tag_of_kind, topic}
-use Rattle.plant_model.specs.declared.call.Request.{Request}
-use Rattle.plant_model.specs.declared.call.Request.TheVariants.{Approve, Propose}
-use Rattle.plant_model.specs.declared.reply.ChangeRow.{ChangeRow}
-use Rattle.plant_model.specs.declared.reply.RecordRow.{RecordRow}
-use Rattle.plant_model.specs.declared.rows.ChangeEntry.{ChangeEntry}
+use Rattle.plant_model.specs.{Facts.{facts}, Grants.{held, is_before, standing, stands}, Histories.{counted, latest, same_number}}
+use Rattle.plant_model.specs.RowFacts.{change_found, change_number, change_read, facts_from, kind_read, matrix_read, record_found, record_from, record_read, record_tag, sheet_read, alarm_tag, pair_of, shelf_tag}
+use Rattle.plant_model.specs.Rows.{change_entry, changes_of, max_of_kind, record_entry, records_of, sheet_of_kind, tag_of_kind, topic, alarm_row, alarm_rows, grant_as, grant_row, grant_rows, rows_of, shelf_rows}
+use Rattle.plant_model.specs.{Shelves.{shelf}, declared.call.{Call.{Call}, Request.{Request, TheVariants.{Approve, Propose}}}}
+use Rattle.plant_model.specs.declared.{reply.{ChangeRow.{ChangeRow}, RecordRow.{RecordRow}}, rows.{ChangeEntry.{ChangeEntry}, GrantRow.{GrantRow}}}
 use Rattle.plant_model.specs.declared.rows.RecordEntry.{RecordEntry}
-use Rattle.plant_ration.specs.Grid.{Grid}
-use Rattle.plant_ration.specs.declared.change.ChangeKind.{ChangeKind}
-use Rattle.plant_ration.specs.declared.change.ChangeKind.TheVariants.{Limit, Matrix, Rationale}
-use Rattle.plant_ration.specs.declared.change.Sheet.{Sheet}
-use Rattle.plant_types.specs.Names.{same_name}
-use Rattle.plant_types.specs.Options.{or_else, when}
-use Rattle.plant_types.specs.KeyedRows.{in_order}
-use Rattle.std.proofs.Common.{sym}
-use Rattle.std.specs.List.{cons_option}
-use Rattle.std.specs.Ordering.{eq_by_cmp, nat_cmp}
-use Rattle.std.specs.Prelude.{filter_map, if◌then◌else◌, length, max, option_and_then, ◌+◌, ◌≤◌}
-use Rattle.std.specs.declared.cmp.Ordering.{Ordering}
-use Rattle.std.proofs.Common.{ap, arith, refl, ◌∙◌}
-use Rattle.std.specs.Cmp.{eq_by_cmp_equiv}
-use Rattle.std.specs.List.{list_any}
-use Rattle.std.specs.Prelude.{Bool, List, None, Option, Some, [], cond, false, is_some, map, option_map, true, unwrap_or, ℕ, ◌<◌, ◌||◌, ◌∷◌, ◌≡◌}
-use Rattle.plant_model.specs.declared.call.Call.{Call}
-use Rattle.plant_model.specs.declared.rows.GrantRow.{GrantRow}
-use Rattle.plant_model.proofs.public.HistoryLaws.{alarms_told, grants_told, pairs_of, shelves_told, tags_of_alarms, tags_of_shelves}
-use Rattle.plant_model.specs.Facts.{facts}
-use Rattle.plant_model.specs.Grants.{held, is_before, standing, stands}
-use Rattle.plant_model.specs.Histories.{same_number}
-use Rattle.plant_model.specs.RowFacts.{alarm_tag, pair_of, shelf_tag}
-use Rattle.plant_model.specs.Rows.{alarm_row, alarm_rows, grant_as, grant_row, grant_rows, rows_of, shelf_rows}
-use Rattle.plant_model.specs.Shelves.{shelf}
-use Rattle.plant_types.proofs.public.Orders.{number_total, same_numbers}
-use Rattle.plant_types.proofs.public.KeyedRowLaws.{row_at-rows, tied}
-use Rattle.plant_types.specs.Names.{Name, name_cmp}
-use Rattle.plant_types.specs.Roles.{Pair, pair_cmp, same_pair}
-use Rattle.plant_types.specs.KeyedRows.{row_at}
+use Rattle.plant_model.proofs.public.HistoryLaws.{change_with, changes_told, numbers_of_changes, record_with, records_told, tags_of_records, when_Some, alarms_told, grants_told, pairs_of, shelves_told, tags_of_alarms, tags_of_shelves}
+use Rattle.plant_model.proofs.public.PutLaws.{is_some-find}
+use Rattle.plant_ration.specs.{Grid.{Grid}, declared.change.{ChangeKind.{ChangeKind, TheVariants.{Limit, Matrix, Rationale}}, Sheet.{Sheet}}}
 
-abbrev mapped : {A B : Type 0} → (A → B) → List A → List B
-mapped f xs = map f xs
-
-any_found : (k : Pair) (rows : List GrantRow) → list_any (λ g. same_pair k (pair_of g)) rows ≡ is_some (row_at pair_cmp pair_of k rows)
-any_found k [] = refl
-any_found k (g ∷ rows) =
-    elim (same_pair k (pair_of g)) as (λ b. (b || list_any (λ g. same_pair k (pair_of g)) rows) ≡ is_some (cond b (Some g) (row_at pair_cmp pair_of k rows))) [ true ↦ refl | false ↦ any_found k rows ]
-
-is_some-map : {A B : Type 0} (f : A → B) (o : Option A) → is_some (option_map f o) ≡ is_some o
+pub is_some-map : {A B : Type 0} (f : A → B) (o : Option A) → is_some (option_map f o) ≡ is_some o
 is_some-map f None = refl
 is_some-map f (Some x) = refl
 
@@ -59,13 +24,9 @@ pub map-map : {A B C : Type 0} (g : B → C) (f : A → B) (o : Option A) → op
 map-map g f None = refl
 map-map g f (Some x) = refl
 
-pub map-itself : {A : Type 0} (o : Option A) → option_map (λ x. x) o ≡ o
-map-itself None = refl
-map-itself (Some x) = refl
-
 -- Grants
 stands_in : (h : List Call) (k : Pair) → list_any (λ g. same_pair k (pair_of g)) (grant_rows h) ≡ stands h k
-stands_in h k = any_found k (grant_rows h) ∙ ap is_some (row_at-rows (grant_row h) (pairs_of h) (grants_told h) k) ∙ is_some-map (grant_as k) (standing h k)
+stands_in h k = sym (is_some-find (λ g. same_pair k (pair_of g)) (grant_rows h)) ∙ ap is_some (row_at-rows (grant_row h) (pairs_of h) (grants_told h) k) ∙ is_some-map (grant_as k) (standing h k)
 
 pub held_in : (h : List Call) (t : ℕ) (k : Pair) → unwrap_or (option_map (λ (g : GrantRow). is_before t g.end_s) (row_at pair_cmp pair_of k (grant_rows h))) false ≡ held h t k
 held_in h t k =
@@ -76,7 +37,7 @@ held_in h t k =
 pub alarm_in : (h : List Call) (a : Name) → row_at name_cmp alarm_tag a (alarm_rows h) ≡ alarm_row h a
 alarm_in h a = row_at-rows (alarm_row h) (tags_of_alarms h) (alarms_told h) a
 
-shelf_in : (h : List Call) (a : Name) → row_at name_cmp shelf_tag a (shelf_rows h) ≡ shelf h a
+pub shelf_in : (h : List Call) (a : Name) → row_at name_cmp shelf_tag a (shelf_rows h) ≡ shelf h a
 shelf_in h a = row_at-rows (shelf h) (tags_of_shelves h) (shelves_told h) a
 
 -- numbers
@@ -86,12 +47,8 @@ same_number_of m n e = same_numbers m n (tied _ true e refl)
 pub is_same_number : (n : ℕ) → same_number n n ≡ true
 is_same_number n = (eq_by_cmp_equiv number_total).refl n
 
-pub not_true : (b : Bool) → (b ≡ true → ⊥) → b ≡ false
-not_true true h = absurd (h refl)
-not_true false h = refl
-
-pub other_number : (m n : ℕ) → m < n → same_number m n ≡ false
-other_number m n less = not_true (same_number m n) (λ e. let is : m ≡ n = same_number_of m n e in omega (arith, less, is))
+other_number : (m n : ℕ) → m < n → same_number m n ≡ false
+other_number m n less = false_from_ne_true (same_number m n) (λ e. let is : m ≡ n = same_number_of m n e in omega (arith, less, is))
 
 -- Records and changes: rows that are made of other rows
 pub row_at-map : {A X K : Type 0} (R : K → K → Ordering) (key : X → K) (f : A → X) (k : K) (xs : List A) → row_at R key k (map f xs) ≡ option_map f (row_at R (λ x. key (f x)) k xs)

@@ -1,27 +1,14 @@
 -- The roles that a person's grant rows show are those of the history.
-use Rattle.std.proofs.Common.{ap, refl, subst, sym, ◌∙◌}
-use Rattle.std.specs.Cmp.{IsTotalOrder, nat_cmp_total, on_total}
-use Rattle.std.specs.FinMap.Entries.{below_all}
-use Rattle.std.specs.List.{cons_option, list_any, slice_get}
-use Rattle.std.specs.Ordering.{eq_by_cmp, is_eq, is_lt, nat_cmp, ordering_then}
-use Rattle.std.specs.Prelude.{Bool, List, None, Option, Some, T, [], cond, false, filter, filter_map, if◌then◌else◌, is_some, map, option_map, true, unwrap_or, ℕ, ◌&&◌, ◌||◌, ◌∷◌, ◌≡◌}
-use Rattle.std.specs.declared.cmp.Ordering.{Ordering}
-use Rattle.std.specs.declared.cmp.Ordering.TheVariants.{Equal, Greater, Less}
-use Rattle.plant_model.specs.declared.call.Call.{Call}
-use Rattle.plant_model.specs.declared.rows.GrantRow.{GrantRow}
-use Rattle.plant_types.specs.declared.role.Role.{Role}
+use Rattle.std.specs.{Cmp.{IsTotalOrder, nat_cmp_total, on_total}, FinMap.Entries.{below_all}, List.{cons_option, list_any, slice_get}}
+use Rattle.std.specs.Ordering.{eq_by_cmp, ordering_then}
+use Rattle.std.proofs.Common.{ap, refl, subst, sym, ◌∙◌, is_eq, is_lt, nat_cmp, Bool, List, None, Option, Some, T, [], cond, false, filter, filter_map, if◌then◌else◌, is_some, map, option_map, true, unwrap_or, ℕ, ◌||◌, ◌∷◌, ◌≡◌, Ordering, Equal, Greater, Less}
+use Rattle.plant_model.specs.{Grants.{held, holds_any, is_before, roles_held}, RowFacts.{pair_of}, Rows.{grant_row, grant_rows}}
+use Rattle.plant_model.{specs.declared.{call.Call.{Call}, rows.GrantRow.{GrantRow}}, proofs.public.FactLaws.{held_in}}
+use Rattle.plant_model.proofs.public.{HistoryLaws.{grants_told, pairs_of, when_Some}, RowsFound.{both, first, second}}
+use Rattle.plant_types.specs.{KeyedRows.{IsInOrder, row_at}, Names.{Name, name_cmp, same_name}, Options.{when}}
+use Rattle.plant_types.specs.{Roles.{Pair, all_roles, pair_cmp, role_no}, declared.role.Role.{Role}}
 use Rattle.plant_types.specs.declared.role.Role.TheVariants.{Approver, Engineer, Maintainer, Operator, Steward, Viewer}
-use Rattle.plant_model.proofs.public.FactLaws.{held_in}
-use Rattle.plant_model.proofs.public.HistoryLaws.{grants_told, pairs_of, when_Some}
-use Rattle.plant_model.specs.Grants.{held, holds_any, is_before, roles_held}
-use Rattle.plant_model.specs.RowFacts.{pair_of}
-use Rattle.plant_model.specs.Rows.{grant_row, grant_rows}
-use Rattle.plant_types.proofs.public.Orders.{same_names, same_roles}
-use Rattle.plant_types.proofs.public.KeyedRowLaws.{IsInOrder-rows, IsInOrder-told, row_at-told, same_rows}
-use Rattle.plant_types.specs.Names.{Name, name_cmp, same_name}
-use Rattle.plant_types.specs.Options.{when}
-use Rattle.plant_types.specs.Roles.{Pair, all_roles, pair_cmp, role_no}
-use Rattle.plant_types.specs.KeyedRows.{IsInOrder, row_at}
+use Rattle.plant_types.proofs.public.{KeyedRowLaws.{IsInOrder-rows, IsInOrder-told, row_at-told, same_rows}, Orders.{same_names, same_roles}}
 
 abbrev pub role_cmp : Role → Role → Ordering
 role_cmp r s = nat_cmp (role_no r) (role_no s)
@@ -45,18 +32,6 @@ keyed_grants rows = map (λ g. (pair_of g, g)) rows
 abbrev keyed_roles : List Role → List (Role × Role)
 keyed_roles rs = map (λ r. (r, r)) rs
 
-both : (a b : Bool) → T a → T b → T (a && b)
-both true b p q = q
-both false b p q = p
-
-first_of_both : (a b : Bool) → T (a && b) → T a
-first_of_both true b p = tt
-first_of_both false b p = p
-
-second_of_both : (a b : Bool) → T (a && b) → T b
-second_of_both true b p = p
-second_of_both false b p = absurd p
-
 -- of two grants of one person the one with the greater pair has the greater role
 less_role : (a b : Ordering) → a ≡ Equal → T (is_lt (ordering_then a b)) → T (is_lt b)
 less_role a b e h = subst (λ x. T (is_lt (ordering_then x b))) e h
@@ -71,18 +46,18 @@ one_person p a b x y = subst (λ n. name_cmp n b ≡ Equal) (same_names p a x) y
 below_held : (t : ℕ) (p : Name) (x : GrantRow) (rows : List GrantRow) → is_held_row t p x ≡ true → T (below_all pair_cmp (pair_of x) (keyed_grants rows)) → T (below_all role_cmp (role_in x) (keyed_roles (map role_in (filter (is_held_row t p) rows))))
 below_held t p x [] held h = tt
 below_held t p x (g ∷ rows) held h =
-    let rest = below_held t p x rows held (second_of_both _ _ h) in
+    let rest = below_held t p x rows held (second _ _ h) in
     elim (is_held_row t p g) as (λ b. is_held_row t p g ≡ b → T (below_all role_cmp (role_in x) (keyed_roles (map role_in (cond b (g ∷ filter (is_held_row t p) rows) (filter (is_held_row t p) rows)))))) [
-      | true ↦ λ e. both _ _ (less_role (name_cmp x.person g.person) (role_cmp x.role_no g.role_no) (one_person p x.person g.person (held_person t p x held) (held_person t p g e)) (first_of_both _ _ h)) rest
+      | true ↦ λ e. both _ _ (less_role (name_cmp x.person g.person) (role_cmp x.role_no g.role_no) (one_person p x.person g.person (held_person t p x held) (held_person t p g e)) (first _ _ h)) rest
       | false ↦ λ _. rest
     ] refl
 
 roles_rise : (t : ℕ) (p : Name) (rows : List GrantRow) → IsInOrder pair_cmp pair_of rows → IsInOrder role_cmp (λ r. r) (map role_in (filter (is_held_row t p) rows))
 roles_rise t p [] h = tt
 roles_rise t p (g ∷ rows) h =
-    let rest = roles_rise t p rows (second_of_both _ _ h) in
+    let rest = roles_rise t p rows (second _ _ h) in
     elim (is_held_row t p g) as (λ b. is_held_row t p g ≡ b → IsInOrder role_cmp (λ r. r) (map role_in (cond b (g ∷ filter (is_held_row t p) rows) (filter (is_held_row t p) rows)))) [
-      | true ↦ λ e. both _ _ (below_held t p g rows e (first_of_both _ _ h)) rest
+      | true ↦ λ e. both _ _ (below_held t p g rows e (first _ _ h)) rest
       | false ↦ λ _. rest
     ] refl
 
@@ -90,7 +65,7 @@ roles_rise t p (g ∷ rows) h =
 none_above : (t : ℕ) (p : Name) (r : Role) (rows : List GrantRow) → T (below_all pair_cmp (p, r) (keyed_grants rows)) → row_at role_cmp role_in r (filter (is_held_row t p) rows) ≡ None
 none_above t p r [] h = refl
 none_above t p r (g ∷ rows) h =
-    let rest = none_above t p r rows (second_of_both _ _ h) in
+    let rest = none_above t p r rows (second _ _ h) in
     elim (name_cmp p g.person) as (λ o. T (is_lt (ordering_then o (role_cmp r g.role_no))) → row_at role_cmp role_in r (cond (if is_eq o then is_before t g.end_s else false) (g ∷ filter (is_held_row t p) rows) (filter (is_held_row t p) rows)) ≡ None) [
       | Less ↦ λ _. rest
       | Greater ↦ λ _. rest
@@ -98,13 +73,13 @@ none_above t p r (g ∷ rows) h =
         | true ↦ elim (role_cmp r g.role_no) as (λ o. T (is_lt o) → cond (is_eq o) (Some g) (row_at role_cmp role_in r (filter (is_held_row t p) rows)) ≡ None) [ Less ↦ λ _. rest | Equal ↦ λ x. absurd x | Greater ↦ λ x. absurd x ] lt
         | false ↦ rest
       ]
-    ] (first_of_both _ _ h)
+    ] (first _ _ h)
 
 -- the row of a role among the person's is that of the pair, where its end is not yet there
 held_at : (t : ℕ) (p : Name) (r : Role) (rows : List GrantRow) → IsInOrder pair_cmp pair_of rows → option_map role_in (row_at role_cmp role_in r (filter (is_held_row t p) rows)) ≡ cond (held_by t (row_at pair_cmp pair_of (p, r) rows)) (Some r) None
 held_at t p r [] h = refl
 held_at t p r (g ∷ rows) h =
-    let rest = held_at t p r rows (second_of_both _ _ h) in
+    let rest = held_at t p r rows (second _ _ h) in
     elim (name_cmp p g.person) as (λ o. name_cmp p g.person ≡ o → option_map role_in (row_at role_cmp role_in r (cond (if is_eq o then is_before t g.end_s else false) (g ∷ filter (is_held_row t p) rows) (filter (is_held_row t p) rows))) ≡ cond (held_by t (cond (is_eq (ordering_then o (role_cmp r g.role_no))) (Some g) (row_at pair_cmp pair_of (p, r) rows))) (Some r) None) [
       | Less ↦ λ _. rest
       | Greater ↦ λ _. rest
@@ -121,7 +96,7 @@ held_at t p r (g ∷ rows) h =
               let names = sym (same_names p g.person e) in
               let roles = sym (same_roles r g.role_no same) in
               let pair : pair_of g ≡ (p, r) = λ i. (names i, roles i) in
-              ap (option_map role_in) (none_above t p r rows (subst (λ (k : Pair). T (below_all pair_cmp k (keyed_grants rows))) pair (first_of_both _ _ h))) ∙ sym (ap (λ b. cond b (Some r) None) ended)
+              ap (option_map role_in) (none_above t p r rows (subst (λ (k : Pair). T (below_all pair_cmp k (keyed_grants rows))) pair (first _ _ h))) ∙ sym (ap (λ b. cond b (Some r) None) ended)
         ] refl
       ] refl
     ] refl

@@ -1,42 +1,22 @@
 -- A function gives each table of a history: its rows are at keys that the history names, and have their keys.
-use Rattle.plant_import.proofs.public.Placed.{there}
-use Rattle.plant_model.proofs.public.Base.{x}
-use Rattle.plant_model.specs.Changes.{Draft, approved_sheet, change, change_as, decision, draft, kind_of_change, limit_revision, matrix, proposals, record_as, record_of, record_revision, said_of_draft, sheet, sheet_in}
-use Rattle.plant_model.specs.Rows.{numbers_proposed, tag_rationalised, tags_approved}
-use Rattle.plant_model.specs.declared.call.Request.TheVariants.{Approve, Propose}
-use Rattle.plant_model.specs.declared.reply.ChangeRow.{ChangeRow}
-use Rattle.plant_model.specs.declared.reply.RecordRow.{RecordRow}
-use Rattle.plant_ration.specs.declared.change.ChangeKind.{ChangeKind}
-use Rattle.plant_ration.specs.declared.change.ChangeKind.TheVariants.{Limit, Matrix, Rationale}
-use Rattle.plant_ration.specs.declared.change.Sheet.{Sheet}
-use Rattle.std.specs.Prelude.{max, ◌+◌}
-use Rattle.plant_alarm.specs.declared.event.Event.{Event}
-use Rattle.plant_model.specs.Alarms.{latching, limit, said_of_latching}
+use Rattle.std.specs.{List.{list_any}, Ordering.{eq_by_cmp}}
+use Rattle.std.proofs.Common.{◌+◌, Bool, List, None, Option, Some, [], false, option_map, true, unwrap_or, ℕ, ◌++◌, ◌||◌, ◌∷◌, ◌≡◌, ◌⊎◌, ap, cond, inl, inr, refl, subst, sym, ◌∙◌, find, nat_cmp, Ordering}
+use Rattle.std.proofs.lemmas.{Bool.{or_left, or_right}, List.Folds.{list_any-append}}
 use Rattle.plant_import.specs.Numbers.{has_number, numbers_of}
-use Rattle.plant_model.specs.Events.{event_numbered, events_of, imported}
-use Rattle.plant_model.specs.Grants.{said_of_pair, standing}
-use Rattle.plant_model.specs.Histories.{Begins, Over, Said, all_named, latest, same_number, still, what_stands}
-use Rattle.plant_model.specs.Parts.{none, nothing}
+use Rattle.plant_model.specs.Alarms.{latching, limit, said_of_latching}
+use Rattle.plant_model.specs.Changes.{Draft, approved_sheet, change, change_as, decision, draft, kind_of_change, limit_revision, matrix, proposals, record_as, record_of, record_revision, said_of_draft, sheet, sheet_in}
+use Rattle.plant_model.specs.{Events.{event_numbered, events_of, imported}, Grants.{said_of_pair, standing}}
+use Rattle.plant_model.specs.{Histories.{Begins, Over, Said, all_named, latest, same_number, still}, Parts.{none, nothing}}
 use Rattle.plant_model.specs.RowFacts.{alarm_tag, event_number, pair_of, shelf_tag}
-use Rattle.plant_model.specs.Rows.{alarm_as, alarm_row, grant_as, grant_row, pairs_named, tags_registered, tags_shelved}
-use Rattle.plant_model.specs.Service.{outage}
-use Rattle.plant_model.specs.Shelves.{said_of_shelf, shelf}
-use Rattle.plant_model.specs.declared.call.Call.{Call}
-use Rattle.plant_model.specs.declared.call.Request.{Request}
-use Rattle.plant_model.specs.declared.call.Request.TheVariants.{Grant, OneShotShelve, OpenUnit, Register, TimedShelve, Unshelve, Withdraw}
-use Rattle.plant_model.specs.declared.rows.AlarmRow.{AlarmRow}
-use Rattle.plant_model.specs.declared.rows.ShelfRow.{ShelfRow}
+use Rattle.plant_model.specs.Rows.{numbers_proposed, tag_rationalised, tags_approved, alarm_as, alarm_row, grant_as, grant_row, pairs_named, tags_registered, tags_shelved}
+use Rattle.plant_model.specs.{Service.{outage}, Shelves.{said_of_shelf, shelf}, declared.call.{Call.{Call}, Request.{Request}}}
+use Rattle.plant_model.specs.declared.call.Request.TheVariants.{Approve, Propose, Grant, OneShotShelve, OpenUnit, Register, TimedShelve, Unshelve, Withdraw}
+use Rattle.plant_model.specs.declared.{reply.{ChangeRow.{ChangeRow}, RecordRow.{RecordRow}}, rows.{AlarmRow.{AlarmRow}, ShelfRow.{ShelfRow}}}
+use Rattle.plant_ration.specs.declared.change.{ChangeKind.{ChangeKind, TheVariants.{Rationale}}, Sheet.{Sheet}}
+use Rattle.plant_alarm.specs.declared.event.Event.{Event}
+use Rattle.plant_types.specs.{Names.{Name, name_cmp, same_name}, Options.{or_else, when}, Roles.{Pair, pair_cmp}}
+use Rattle.plant_types.{specs.declared.role.Role.TheVariants.{Steward}, proofs.public.KeyedRowLaws.{Tells, tied}}
 use Rattle.plant_types.proofs.public.Orders.{name_total, number_total, pair_total, same_names, same_numbers, same_pairs}
-use Rattle.plant_types.proofs.public.KeyedRowLaws.{Tells, tied}
-use Rattle.plant_types.specs.Names.{Name, name_cmp, same_name}
-use Rattle.plant_types.specs.Options.{or_else, when}
-use Rattle.plant_types.specs.Roles.{Pair, pair_cmp}
-use Rattle.plant_types.specs.declared.role.Role.TheVariants.{Steward}
-use Rattle.std.proofs.Common.{ap, cond, inl, inr, refl, subst, sym, ◌∙◌}
-use Rattle.std.specs.List.{find, list_any}
-use Rattle.std.specs.Ordering.{eq_by_cmp, nat_cmp}
-use Rattle.std.specs.Prelude.{Bool, List, None, Option, Some, [], false, option_and_then, option_map, true, unwrap_or, ℕ, ◌++◌, ◌||◌, ◌∷◌, ◌≡◌, ◌⊎◌}
-use Rattle.std.specs.declared.cmp.Ordering.{Ordering}
 
 pub when_or : {A : Type 0} (b : Bool) (x : A) → (when b x ≡ None) ⊎ (b ≡ true)
 when_or true x = inr refl
@@ -46,32 +26,21 @@ pub when_Some : {A : Type 0} (b : Bool) (x y : A) → when b x ≡ Some y → x 
 when_Some true x y e = cc
 when_Some false x y e = cc
 
-pub any-append-left : {K : Type 0} (p : K → Bool) (xs ys : List K) → list_any p xs ≡ true → list_any p (xs ++ ys) ≡ true
-any-append-left p [] ys e = cc
-any-append-left p (x ∷ xs) ys e =
-    elim (p x) as (λ b. (b || list_any p xs) ≡ true → (b || list_any p (xs ++ ys)) ≡ true) [ true ↦ λ _. refl | false ↦ λ rest. any-append-left p xs ys rest ] e
+pub when_same : {A : Type 0} (a b : Name) (x y : A) → when (same_name a b) x ≡ Some y → a ≡ b
+when_same a b x y e = elim (when_or (same_name a b) x) [ inl none ↦ let no = sym none ∙ e in cc | inr same ↦ same_names a b (tied _ true same refl) ]
 
-pub any-append-right : {K : Type 0} (p : K → Bool) (xs ys : List K) → list_any p ys ≡ true → list_any p (xs ++ ys) ≡ true
-any-append-right p [] ys e = e
-any-append-right p (x ∷ xs) ys e = elim (p x) as (λ b. (b || list_any p (xs ++ ys)) ≡ true) [ true ↦ refl | false ↦ any-append-right p xs ys e ]
+-- where each entry speaks of keys alone that it names, what is read of what the newest says is of keys that are named
+module _ {A X K : Type 0} (R : K → K → Ordering) (says : Call → List Call → Option A) (read : Option A → Option X) (names : Call → List Call → List K) (k : K) where
+  abbrev IsNamed : Option X → List K → Type 0
+  IsNamed o ks = (o ≡ None) ⊎ (list_any (eq_by_cmp R k) ks ≡ true)
 
--- where each entry speaks of keys alone that it names, what the newest says is of keys that are named
-module _ {A X K : Type 0} (R : K → K → Ordering) (says : Call → List Call → Option A) (g : A → Option X) (names : Call → List Call → List K) (k : K) where
-  abbrev IsNamed : Call → List Call → A → Type 0
-  IsNamed c before x = (g x ≡ None) ⊎ (list_any (eq_by_cmp R k) (names c before) ≡ true)
-
-  pub latest-named : ((c : Call) (before : List Call) (x : A) → says c before ≡ Some x → IsNamed c before x) → (h : List Call) → (option_and_then g (latest says h) ≡ None) ⊎ (list_any (eq_by_cmp R k) (all_named names h) ≡ true)
-  latest-named each [] = inl refl
-  latest-named each (c ∷ h) =
-      elim (says c h) as (λ o. says c h ≡ o → (option_and_then g (or_else o (latest says h)) ≡ None) ⊎ (list_any (eq_by_cmp R k) (names c h ++ all_named names h) ≡ true)) [
-        | None ↦ λ none. elim (latest-named each h) [
-          | inl rest ↦ inl rest
-          | inr there ↦ inr (any-append-right _ (names c h) _ there)
-        ]
-        | Some x ↦ λ some. elim (each c h x some) [
-          | inl nothing ↦ inl nothing
-          | inr here ↦ inr (any-append-left _ (names c h) _ here)
-        ]
+  pub latest-named : read None ≡ None → ((c : Call) (before : List Call) (x : A) → says c before ≡ Some x → IsNamed (read (Some x)) (names c before)) → (h : List Call) → IsNamed (read (latest says h)) (all_named names h)
+  latest-named none each [] = inl none
+  latest-named none each (c ∷ h) =
+      let both = list_any-append (eq_by_cmp R k) (names c h) (all_named names h) in
+      elim (says c h) as (λ o. says c h ≡ o → IsNamed (read (or_else o (latest says h))) (names c h ++ all_named names h)) [
+        | None ↦ λ _. elim (latest-named none each h) [ inl rest ↦ inl rest | inr there ↦ inr (both ∙ or_right _ _ there) ]
+        | Some x ↦ λ some. elim (each c h x some) [ inl nothing ↦ inl nothing | inr here ↦ inr (both ∙ or_left _ _ here) ]
       ] refl
 
 -- what each entry says holds of what the newest says
@@ -83,28 +52,19 @@ latest-holds says P each (c ∷ h) x e =
       | Some y ↦ λ some is. each c h x (some ∙ is)
     ] refl e
 
-mapped_none : {A X : Type 0} (f : A → X) (o : Option A) → option_and_then (λ x. Some (f x)) o ≡ None → option_map f o ≡ None
-mapped_none f None e = refl
-mapped_none f (Some x) e = cc
-
 pub mapped_key : {A X K : Type 0} (key : X → K) (f : A → X) (k : K) (o : Option A) (r : X) → ((x : A) → key (f x) ≡ k) → option_map f o ≡ Some r → key r ≡ k
 mapped_key key f k None r is e = cc
 mapped_key key f k (Some x) r is e = let same : f x ≡ r = cc in ap key (sym same) ∙ is x
 
 -- a request that names one key
-one_named : {A X K : Type 0} (R : K → K → Ordering) (g : A → Option X) (k x : K) (v y : A) → when (eq_by_cmp R k x) v ≡ Some y → (g y ≡ None) ⊎ (list_any (eq_by_cmp R k) (x ∷ []) ≡ true)
-one_named R g k x v y e =
-    elim (when_or (eq_by_cmp R k x) v) [ inl none ↦ absurd (let no : None ≡ Some y = sym none ∙ e in cc) | inr same ↦ inr (ap (λ b. b || false) same) ]
+one_named : {A K : Type 0} (R : K → K → Ordering) (k x : K) (v y : A) → when (eq_by_cmp R k x) v ≡ Some y → list_any (eq_by_cmp R k) (x ∷ []) ≡ true
+one_named R k x v y e = elim (when_or (eq_by_cmp R k x) v) [ inl none ↦ let no = sym none ∙ e in cc | inr same ↦ ap (λ b. b || false) same ]
 
 -- Grants
-flat_none : {A X : Type 0} (f : A → X) (o : Option (Said A)) → option_and_then (λ x. option_map f (what_stands x)) o ≡ None → option_map f (still o) ≡ None
-flat_none f None e = refl
-flat_none f (Some x) e = e
-
-pair_is_named : (k : Pair) (q : Request) (v : Said (Option ℕ)) → said_of_pair k q ≡ Some v → (option_map (grant_as k) (what_stands v) ≡ None) ⊎ (list_any (eq_by_cmp pair_cmp k) (pairs_named q) ≡ true)
-pair_is_named k (OpenUnit u s m q) v e = one_named pair_cmp (λ x. option_map (grant_as k) (what_stands x)) k (s, Steward) (Begins None) v e
-pair_is_named k (Grant u p t) v e = one_named pair_cmp (λ x. option_map (grant_as k) (what_stands x)) k (p, t.0) (Begins t.1) v e
-pair_is_named k (Withdraw u p r) v e = one_named pair_cmp (λ x. option_map (grant_as k) (what_stands x)) k (p, r) Over v e
+pair_is_named : (k : Pair) (q : Request) (v : Said (Option ℕ)) → said_of_pair k q ≡ Some v → list_any (eq_by_cmp pair_cmp k) (pairs_named q) ≡ true
+pair_is_named k (OpenUnit u s m q) v e = one_named pair_cmp k (s, Steward) _ v e
+pair_is_named k (Grant u p t) v e = one_named pair_cmp k (p, t.0) _ v e
+pair_is_named k (Withdraw u p r) v e = one_named pair_cmp k (p, r) _ v e
 pair_is_named k _ v e = cc
 
 abbrev pub pairs_of : List Call → List Pair
@@ -116,16 +76,13 @@ grants_told h =
       order = pair_total;
       same = same_pairs;
       at_key = λ k r e. mapped_key pair_of (grant_as k) k (standing h k) r (λ x. refl) e;
-      among = λ k. elim (latest-named pair_cmp (λ c before. said_of_pair k c.request) (λ x. option_map (grant_as k) (what_stands x)) (λ c before. pairs_named c.request) k (λ c before x. pair_is_named k c.request x) h) [
-        | inl none ↦ inl (flat_none (grant_as k) (latest (λ c before. said_of_pair k c.request) h) none)
-        | inr there ↦ inr there
-      ];
+      among = λ k. latest-named pair_cmp (λ c before. said_of_pair k c.request) (λ o. option_map (grant_as k) (still o)) (λ c before. pairs_named c.request) k refl (λ c before x e. inr (pair_is_named k c.request x e)) h;
     }
 
 -- Alarms
-tag_is_registered : (a : Name) (g : Bool → Option AlarmRow) (q : Request) (l : Bool) → said_of_latching a q ≡ Some l → (g l ≡ None) ⊎ (list_any (eq_by_cmp name_cmp a) (tags_registered q) ≡ true)
-tag_is_registered a g (Register u b l m) v e = one_named name_cmp g a b l v e
-tag_is_registered a g _ v e = cc
+tag_is_registered : (a : Name) (q : Request) (l : Bool) → said_of_latching a q ≡ Some l → list_any (eq_by_cmp name_cmp a) (tags_registered q) ≡ true
+tag_is_registered a (Register u b l m) v e = one_named name_cmp a b l v e
+tag_is_registered a _ v e = cc
 
 abbrev pub tags_of_alarms : List Call → List Name
 tags_of_alarms h = all_named (λ c before. tags_registered c.request) h
@@ -139,17 +96,14 @@ alarms_told h =
       order = name_total;
       same = same_names;
       at_key = λ a r e. mapped_key alarm_tag (alarm_of h a) a (latching h a) r (λ x. refl) e;
-      among = λ a. elim (latest-named name_cmp (λ c before. said_of_latching a c.request) (λ l. Some (alarm_of h a l)) (λ c before. tags_registered c.request) a (λ c before x. tag_is_registered a (λ l. Some (alarm_of h a l)) c.request x) h) [
-        | inl none ↦ inl (mapped_none (alarm_of h a) (latching h a) none)
-        | inr there ↦ inr there
-      ];
+      among = λ a. latest-named name_cmp (λ c before. said_of_latching a c.request) (option_map (alarm_of h a)) (λ c before. tags_registered c.request) a refl (λ c before x e. inr (tag_is_registered a c.request x e)) h;
     }
 
 -- Shelves
-tag_is_shelved : (a p : Name) (t : ℕ) (before : List Call) (q : Request) (v : Said ShelfRow) → said_of_shelf a p t before q ≡ Some v → (what_stands v ≡ None) ⊎ (list_any (eq_by_cmp name_cmp a) (tags_shelved q) ≡ true)
-tag_is_shelved a p t before (TimedShelve u b d w) v e = one_named name_cmp what_stands a b _ v e
-tag_is_shelved a p t before (OneShotShelve u b w) v e = one_named name_cmp what_stands a b _ v e
-tag_is_shelved a p t before (Unshelve u b) v e = one_named name_cmp what_stands a b _ v e
+tag_is_shelved : (a p : Name) (t : ℕ) (before : List Call) (q : Request) (v : Said ShelfRow) → said_of_shelf a p t before q ≡ Some v → list_any (eq_by_cmp name_cmp a) (tags_shelved q) ≡ true
+tag_is_shelved a p t before (TimedShelve u b d w) v e = one_named name_cmp a b _ v e
+tag_is_shelved a p t before (OneShotShelve u b w) v e = one_named name_cmp a b _ v e
+tag_is_shelved a p t before (Unshelve u b) v e = one_named name_cmp a b _ v e
 tag_is_shelved a p t before _ v e = cc
 
 -- a shelf that is said of an alarm has its tag
@@ -171,10 +125,6 @@ shelf_row_tag a None r has e = cc
 shelf_row_tag a (Some Over) r has e = cc
 shelf_row_tag a (Some (Begins s)) r has e = let same : s ≡ r = cc in sym (ap (λ (x : ShelfRow). x.tag) same) ∙ has (Begins s) refl
 
-flat_same : {X : Type 0} (o : Option (Said X)) → option_and_then what_stands o ≡ None → still o ≡ None
-flat_same None e = refl
-flat_same (Some x) e = e
-
 abbrev pub tags_of_shelves : List Call → List Name
 tags_of_shelves h = all_named (λ c before. tags_shelved c.request) h
 
@@ -184,10 +134,7 @@ shelves_told h =
       order = name_total;
       same = same_names;
       at_key = λ a r e. shelf_row_tag a _ r (latest-holds (λ c before. said_of_shelf a c.person c.moment before c.request) (HasTag a) (λ c before x said. shelf_has_tag a c.person c.moment before c.request x said) h) e;
-      among = λ a. elim (latest-named name_cmp (λ c before. said_of_shelf a c.person c.moment before c.request) what_stands (λ c before. tags_shelved c.request) a (λ c before x. tag_is_shelved a c.person c.moment before c.request x) h) [
-        | inl none ↦ inl (flat_same (latest (λ c before. said_of_shelf a c.person c.moment before c.request) h) none)
-        | inr there ↦ inr there
-      ];
+      among = λ a. latest-named name_cmp (λ c before. said_of_shelf a c.person c.moment before c.request) still (λ c before. tags_shelved c.request) a refl (λ c before x e. inr (tag_is_shelved a c.person c.moment before c.request x e)) h;
     }
 
 -- Events
@@ -207,32 +154,23 @@ find_any n (x ∷ es) e is =
 abbrev pub numbers_of_events : List Call → List ℕ
 numbers_of_events h = all_named (λ c before. numbers_of (imported c.request)) h
 
-itself : {X : Type 0} (o : Option X) → option_and_then (λ x. Some x) o ≡ None → o ≡ None
-itself None e = refl
-itself (Some x) e = cc
-
 pub events_told : (h : List Call) → Tells nat_cmp event_number (event_numbered h) (numbers_of_events h)
 events_told h =
     record {
       order = number_total;
       same = same_numbers;
       at_key = λ n r e. sym (same_numbers n r.seq (tied _ _ (latest-holds (λ c before. find (has_number n) (imported c.request)) (λ x. same_number n x.seq ≡ true) (λ c before x. find_holds n (imported c.request) x) h r e) refl));
-      among = λ n. elim (latest-named nat_cmp (λ c before. find (has_number n) (imported c.request)) (λ x. Some x) (λ c before. numbers_of (imported c.request)) n (λ c before x is. inr (find_any n (imported c.request) x is)) h) [
-        | inl none ↦ inl (itself _ none)
-        | inr there ↦ inr there
-      ];
+      among = λ n. latest-named nat_cmp (λ c before. find (has_number n) (imported c.request)) (λ o. o) (λ c before. numbers_of (imported c.request)) n refl (λ c before x is. inr (find_any n (imported c.request) x is)) h;
     }
 
 -- Records
-sheet_is_named : (a : Name) (n : ℕ) (g : ℕ × Sheet → Option RecordRow) (k : Option ChangeKind) (x : ℕ × Sheet) → sheet_in a n k ≡ Some x → (g x ≡ None) ⊎ (list_any (eq_by_cmp name_cmp a) (tag_rationalised k) ≡ true)
-sheet_is_named a n g None x e = cc
-sheet_is_named a n g (Some (Rationale b s)) x e = one_named name_cmp g a b (n, s) x e
-sheet_is_named a n g (Some (Matrix m)) x e = cc
-sheet_is_named a n g (Some (Limit b max)) x e = cc
+sheet_is_named : (a : Name) (n : ℕ) (k : Option ChangeKind) (x : ℕ × Sheet) → sheet_in a n k ≡ Some x → list_any (eq_by_cmp name_cmp a) (tag_rationalised k) ≡ true
+sheet_is_named a n (Some (Rationale b s)) x e = one_named name_cmp a b (n, s) x e
+sheet_is_named a n _ x e = cc
 
-sheet_is_approved : (a : Name) (g : ℕ × Sheet → Option RecordRow) (before : List Call) (q : Request) (x : ℕ × Sheet) → approved_sheet a before q ≡ Some x → (g x ≡ None) ⊎ (list_any (eq_by_cmp name_cmp a) (tags_approved before q) ≡ true)
-sheet_is_approved a g before (Approve u n) x e = sheet_is_named a n g (kind_of_change before n) x e
-sheet_is_approved a g before _ x e = cc
+sheet_is_approved : (a : Name) (before : List Call) (q : Request) (x : ℕ × Sheet) → approved_sheet a before q ≡ Some x → list_any (eq_by_cmp name_cmp a) (tags_approved before q) ≡ true
+sheet_is_approved a before (Approve u n) x e = sheet_is_named a n (kind_of_change before n) x e
+sheet_is_approved a before _ x e = cc
 
 abbrev pub tags_of_records : List Call → List Name
 tags_of_records h = all_named (λ c before. tags_approved before c.request) h
@@ -249,16 +187,13 @@ records_told h =
       order = name_total;
       same = same_names;
       at_key = λ a r e. mapped_key tag_of_record (record_with h a) a (sheet h a) r (λ x. refl) e;
-      among = λ a. elim (latest-named name_cmp (λ c before. approved_sheet a before c.request) (λ x. Some (record_with h a x)) (λ c before. tags_approved before c.request) a (λ c before x. sheet_is_approved a (λ y. Some (record_with h a y)) before c.request x) h) [
-        | inl none ↦ inl (mapped_none (record_with h a) (sheet h a) none)
-        | inr there ↦ inr there
-      ];
+      among = λ a. latest-named name_cmp (λ c before. approved_sheet a before c.request) (option_map (record_with h a)) (λ c before. tags_approved before c.request) a refl (λ c before x e. inr (sheet_is_approved a before c.request x e)) h;
     }
 
 -- Changes
-draft_is_named : (n : ℕ) (p : Name) (t : ℕ) (g : Draft → Option ChangeRow) (before : List Call) (q : Request) (x : Draft) → said_of_draft n p t before q ≡ Some x → (g x ≡ None) ⊎ (list_any (eq_by_cmp nat_cmp n) (numbers_proposed before q) ≡ true)
-draft_is_named n p t g before (Propose u y) x e = one_named nat_cmp g n (proposals before + 1) _ x e
-draft_is_named n p t g before _ x e = cc
+draft_is_named : (n : ℕ) (p : Name) (t : ℕ) (before : List Call) (q : Request) (x : Draft) → said_of_draft n p t before q ≡ Some x → list_any (eq_by_cmp nat_cmp n) (numbers_proposed before q) ≡ true
+draft_is_named n p t before (Propose u y) x e = one_named nat_cmp n (proposals before + 1) _ x e
+draft_is_named n p t before _ x e = cc
 
 abbrev pub numbers_of_changes : List Call → List ℕ
 numbers_of_changes h = all_named (λ c before. numbers_proposed before c.request) h
@@ -275,8 +210,5 @@ changes_told h =
       order = number_total;
       same = same_numbers;
       at_key = λ n r e. mapped_key number_of_change (change_with h n) n (draft h n) r (λ x. refl) e;
-      among = λ n. elim (latest-named nat_cmp (λ c before. said_of_draft n c.person c.moment before c.request) (λ x. Some (change_with h n x)) (λ c before. numbers_proposed before c.request) n (λ c before x. draft_is_named n c.person c.moment (λ y. Some (change_with h n y)) before c.request x) h) [
-        | inl none ↦ inl (mapped_none (change_with h n) (draft h n) none)
-        | inr there ↦ inr there
-      ];
+      among = λ n. latest-named nat_cmp (λ c before. said_of_draft n c.person c.moment before c.request) (option_map (change_with h n)) (λ c before. numbers_proposed before c.request) n refl (λ c before x e. inr (draft_is_named n c.person c.moment before c.request x e)) h;
     }

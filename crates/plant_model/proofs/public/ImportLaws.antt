@@ -1,43 +1,21 @@
 -- An import turns the rows into those of the history with it.
-use Rattle.plant_import.proofs.public.Placed.{there}
-use Rattle.plant_model.proofs.public.Base.{x}
-use Rattle.plant_model.specs.Changes.{limit_revision}
-use Rattle.plant_model.specs.Parts.{none}
-use Rattle.plant_model.specs.declared.rows.Row.TheVariants.{Unit as UnitPut}
-use Rattle.plant_model.specs.declared.rows.RowEdit.TheVariants.{PutEvents}
-use Rattle.plant_model.proofs.public.EventLaws.{now}
-use Rattle.plant_alarm.specs.declared.event.Event.{Event}
-use Rattle.plant_floods.specs.Activations.{of_alarm}
-use Rattle.plant_import.proofs.public.Counted.{put_twice}
+use Rattle.std.specs.List.{cons_option, list_any}
+use Rattle.std.proofs.Common.{ap, cond, inl, inr, refl, subst, sym, true, ◌∙◌, ◌≡◌, find, nat_cmp, Bool, List, None, Ok, Option, Some, [], false, filter, filter_map, map, option_and_then, option_map, unwrap_or, ℕ, ◌∷◌}
+use Rattle.plant_import.{specs.{Merging.{first_fault, fresh}, Numbers.{has_number, with_events}}, proofs.public.Counted.{put_twice}}
 use Rattle.plant_import.proofs.public.FileLaws.{member, none_member}
-use Rattle.plant_import.specs.Merging.{first_fault, fresh}
-use Rattle.plant_model.proofs.public.ChangeLaws.{Turns}
-use Rattle.plant_model.proofs.public.EventLaws.{Kept, found_event, is_of}
-use Rattle.plant_model.proofs.EventLists.{IsOf, new_alone, new_rows_say, of_said, only, only_told}
+use Rattle.plant_model.specs.{Alarms.{latching, limit}, Changes.{limit_revision}, Events.{event_numbered, events, events_of}, Facts.{facts}}
+use Rattle.plant_model.specs.{Parts.{none}, Refusals.{tags_of}, RowChanges.{all_events, is_touched, new_events, put, with_state}}
+use Rattle.plant_model.specs.{RowFacts.{alarm_tag, event_number}, Rows.{alarm_as, alarm_row, alarm_rows, rows_of, unit_row}, Service.{outage}}
+use Rattle.plant_model.specs.declared.{call.{Call.{Call}, Request.TheVariants.{Import}}, rows.AlarmRow.{AlarmRow}}
+use Rattle.plant_model.specs.declared.rows.{Row.TheVariants.{Unit as UnitPut}, RowEdit.TheVariants.{PutEvents}, UnitRows.{UnitRows}}
+use Rattle.plant_model.proofs.{EventLists.{IsOf, new_alone, new_rows_say, of_said, only, only_told}, public.ChangeLaws.{Turns}}
+use Rattle.plant_model.proofs.public.EventLaws.{now, Kept, found_event, is_of}
 use Rattle.plant_model.proofs.public.HistoryLaws.{alarm_of, alarms_told, events_told, numbers_of_events, tags_of_alarms, when_Some}
 use Rattle.plant_model.proofs.public.PutLaws.{put_alarms, puts, puts-rows, said, said-rows}
-use Rattle.plant_model.specs.Alarms.{latching, limit}
-use Rattle.plant_import.specs.Numbers.{has_number, with_events}
-use Rattle.plant_model.specs.Events.{event_numbered, events, events_of}
-use Rattle.plant_model.specs.Facts.{facts}
-use Rattle.plant_model.specs.Refusals.{tags_of}
-use Rattle.plant_model.specs.RowChanges.{all_events, is_touched, new_events, put, with_state}
-use Rattle.plant_model.specs.RowFacts.{alarm_tag, event_number}
-use Rattle.plant_model.specs.Rows.{alarm_as, alarm_row, alarm_rows, rows_of, unit_row}
-use Rattle.plant_model.specs.Service.{outage}
-use Rattle.plant_model.specs.declared.call.Call.{Call}
-use Rattle.plant_model.specs.declared.call.Request.TheVariants.{Import}
-use Rattle.plant_model.specs.declared.rows.AlarmRow.{AlarmRow}
-use Rattle.plant_model.specs.declared.rows.UnitRows.{UnitRows}
-use Rattle.plant_types.proofs.public.Orders.{number_total, same_numbers}
-use Rattle.plant_types.proofs.public.KeyedRowLaws.{IsInOrder-rows, Tells, row_at-rows, same_rows}
-use Rattle.plant_types.specs.Names.{Name, name_cmp, same_name}
-use Rattle.plant_types.specs.Options.{or_else, when}
-use Rattle.plant_types.specs.KeyedRows.{in_order}
-use Rattle.std.proofs.Common.{ap, cond, inl, inr, refl, subst, sym, true, ◌∙◌, ◌≡◌}
-use Rattle.std.specs.List.{cons_option, find, list_any}
-use Rattle.std.specs.Ordering.{nat_cmp}
-use Rattle.std.specs.Prelude.{Bool, List, None, Ok, Option, Some, [], false, filter, filter_map, map, option_and_then, option_map, unwrap_or, ℕ, ◌∷◌}
+use Rattle.plant_alarm.specs.declared.event.Event.{Event}
+use Rattle.plant_floods.specs.Activations.{of_alarm}
+use Rattle.plant_types.specs.{KeyedRows.{in_order}, Names.{Name, name_cmp, same_name}, Options.{or_else, when}}
+use Rattle.plant_types.proofs.public.{KeyedRowLaws.{IsInOrder-rows, Tells, row_at-rows, same_rows}, Orders.{number_total, same_numbers}}
 
 module _ (h : List Call) (p : Name) (t : ℕ) (u : Name) (rows : List Event) (kept : Kept h) (clean : first_fault (tags_of (facts h)) t 2 (events h) rows ≡ None) where
   abbrev after : List Call

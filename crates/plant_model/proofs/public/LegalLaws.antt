@@ -1,22 +1,16 @@
 -- The next world of a world of legal histories is one.
-use Rattle.std.proofs.Common.{ap, refl, subst, sym, ◌∙◌}
 use Rattle.std.specs.FinMap.{get, get-empty, get-insert}
-use Rattle.std.specs.Prelude.{Bool, List, None, Option, Some, [], cond, false, if◌then◌else◌, is_some, not, true, unwrap_or, ℕ, ◌&&◌, ◌∷◌, ◌≡◌}
-use Rattle.plant_model.specs.declared.call.Call.{Call}
-use Rattle.plant_model.specs.declared.reply.Refused.TheVariants.{NotGranted}
-use Rattle.plant_model.proofs.public.FactLaws.{not_true}
-use Rattle.plant_model.proofs.public.WorldLaws.{Alike, not_granted, own_answer, own_histories, refused_changes, seen_history, seen_holds}
-use Rattle.plant_model.specs.Grants.{holds_any}
-use Rattle.plant_model.specs.Laws.{NextWorldsAreLegal}
-use Rattle.plant_model.specs.Legality.{IsLegal, has_matrix, may_follow}
-use Rattle.plant_model.specs.Parts.{none}
+use Rattle.std.proofs.Common.{ap, refl, subst, sym, ◌∙◌, Bool, List, None, Option, Some, [], cond, false, if◌then◌else◌, is_some, not, true, unwrap_or, ℕ, ◌&&◌, ◌∷◌, ◌≡◌}
+use Rattle.std.proofs.lemmas.Bool.{false_from_ne_true}
+use Rattle.plant_model.specs.{Grants.{holds_any}, Laws.{NextWorldsAreLegal}, Legality.{IsLegal, has_matrix, may_follow}, Parts.{none}}
 use Rattle.plant_model.specs.Verdicts.{changes_history, is_opening, verdict}
 use Rattle.plant_model.specs.Worlds.{IsLegalWorld, World, answer_at, by_admin, empty_world, history, next, next_at, opening, unit_answer, unit_named, unit_seen, with_call}
-use Rattle.plant_types.proofs.public.Orders.{name_total}
-use Rattle.plant_types.specs.Names.{Name, name_cmp, same_name}
+use Rattle.plant_model.specs.declared.{call.Call.{Call}, reply.Refused.TheVariants.{NotGranted}}
+use Rattle.plant_model.proofs.public.WorldLaws.{Alike, not_granted, own_answer, own_histories, refused_changes, seen_history, seen_holds}
+use Rattle.plant_types.{specs.Names.{Name, name_cmp, same_name}, proofs.public.Orders.{name_total}}
 
 no_change : (h : List Call) (c : Call) → holds_any h c.moment c.person ≡ false → changes_history (verdict h c) c ≡ false
-no_change h c none = not_true _ (refused_changes (verdict h c) c NotGranted (not_granted h c none))
+no_change h c none = false_from_ne_true _ (refused_changes (verdict h c) c NotGranted (not_granted h c none))
 
 opening_of : (by_admin taken : Bool) (c : Call) → changes_history (opening by_admin taken) c ≡ true → taken ≡ false
 opening_of true true c e = cc

@@ -1,64 +1,34 @@
 -- The part that a call looks at gives the verdict, the reply and the changes of all rows.
-use Rattle.plant_model.specs.Calls.{changes_for, own_refusals, record_reply, reply}
-use Rattle.plant_alarm.specs.Shelves.{is_one_shot, is_timed, is_unshelved, shelf_state}
-use Rattle.plant_alarm.specs.declared.event.Event.{Event}
-use Rattle.plant_alarm.specs.declared.shelf.ShelfState.{ShelfState}
-use Rattle.plant_model.proofs.public.PartLists.{cells_within, filter-true, itself_name, itself_number, limits_within, map-same, or_later, or_true, passes_name, passes_number, row_at-filter, row_at-key, source_found, then-same}
-use Rattle.plant_model.specs.Facts.{Facts, others_shelved}
-use Rattle.plant_model.specs.Grants.{is_before}
-use Rattle.plant_model.specs.Histories.{same_number}
-use Rattle.plant_model.specs.Changes.{no_matrix}
+use Rattle.std.specs.List.{cons_option, list_any, range_with_len}
+use Rattle.std.proofs.Common.{ap, arith, refl, sym, ◌∙◌, ◌≤◌, option_to_list, is_eq, nat_cmp, Bool, Err, List, None, Option, Some, [], cond, count_by, false, filter, filter_map, if◌then◌else◌, is_none, is_some, length, map, nat_le, nat_lt, not, option_and_then, option_map, true, unwrap_or, ℕ, ◌++◌, ◌+◌, ◌||◌, ◌∷◌, ◌≡◌}
+use Rattle.std.proofs.lemmas.{Bool.{or_left, or_right, Decides.{nat_tests}}, List.Sums.{count_by-le-length, length-filter}}
+use Rattle.plant_model.specs.{Calls.{changes_for, own_refusals, record_reply, reply}, Changes.{no_matrix}, Facts.{Facts, others_shelved}}
+use Rattle.plant_model.specs.{Grants.{is_before}, Histories.{same_number}, Kinds.{role_needed}}
 use Rattle.plant_model.specs.Parts.{Selection, every, has_shelf, is_crowded, is_source, of_approved, of_content, of_number, of_records, of_topic, part_of, part_of_holder, part_of_stranger, rows_selected, selected, with_number}
-use Rattle.plant_model.specs.Kinds.{role_needed}
 use Rattle.plant_model.specs.Refusals.{first_refusal, holds_some, is_open, kind_refusals, lacks_role, of_change}
 use Rattle.plant_model.specs.Replies.{change_reply, line_of, status_reply}
 use Rattle.plant_model.specs.RowChanges.{approval_changes, approved_row, decision_change, for_change, in_force, placed_in, taken_out}
 use Rattle.plant_model.specs.RowFacts.{alarm_tag, change_found, change_number, change_read, facts_among, facts_from, facts_of, has_cells, held_by, holds_by, kind_read, last_number, last_return, matrix_read, pair_of, record_found, record_from, record_read, record_tag, sheet_read, shelf_tag, unit_read}
-use Rattle.plant_model.specs.Shelves.{shelf_left, shelf_row_as}
-use Rattle.plant_model.specs.Verdicts.{refusals_of_holder, refused_or, verdict_of}
-use Rattle.plant_model.specs.declared.call.Call.{Call}
+use Rattle.plant_model.specs.{Shelves.{shelf_left, shelf_row_as}, Verdicts.{refusals_of_holder, refused_or, verdict_of}, declared.call.Call.{Call}}
 use Rattle.plant_model.specs.declared.call.Request.{Request}
 use Rattle.plant_model.specs.declared.call.Request.TheVariants.{Alarms, Approve, ChangeOf, Grant, Import, OneShotShelve, PlaceInService, Propose, RecordOf, Register, Reject, RemoveFromService, Shelves, Standing, Status, TimedShelve, Unshelve, Withdraw, WithdrawChange}
-use Rattle.plant_model.specs.declared.reply.ChangeRow.{ChangeRow}
-use Rattle.plant_model.specs.declared.reply.Full.TheVariants.{Alarms as TooManyAlarms}
-use Rattle.plant_model.specs.declared.reply.RecordRow.{RecordRow}
-use Rattle.plant_model.specs.declared.reply.Reply.TheVariants.{Shelves as ShelvesOf}
-use Rattle.plant_model.specs.declared.reply.ShelfLine.{ShelfLine}
-use Rattle.plant_model.specs.declared.reply.Refused.TheVariants.{AlarmTaken, AlarmUnknown, AlreadyOutOfService, ConditionAlreadyShelved, ConditionNotShelved, MomentBehind, NotGranted, NotOutOfService, NotProposed, RecordUnknown, RoleLacking, SamePerson, ShelfQuota, ShelvingTimeOutOfRange, UnitFull}
-use Rattle.plant_model.specs.declared.rows.AlarmRow.{AlarmRow}
-use Rattle.plant_model.specs.declared.rows.RowEdit.{RowEdit}
-use Rattle.plant_model.specs.declared.rows.RowEdit.TheVariants.{Put}
-use Rattle.plant_model.specs.declared.rows.ChangeEntry.{ChangeEntry}
-use Rattle.plant_model.specs.declared.rows.ChangeTopic.{ChangeTopic}
-use Rattle.plant_model.specs.declared.rows.ChangeTopic.TheVariants.{Limit as LimitTopic, Matrix as MatrixTopic, Record as RecordTopic}
-use Rattle.plant_model.specs.declared.rows.GrantRow.{GrantRow}
-use Rattle.plant_model.specs.declared.rows.RecordEntry.{RecordEntry}
-use Rattle.plant_model.specs.declared.rows.Row.TheVariants.{Alarm as AlarmPut, Shelf as ShelfPut, Unit as UnitPut}
-use Rattle.plant_model.specs.declared.rows.ShelfRow.{ShelfRow}
-use Rattle.plant_model.specs.declared.rows.UnitPart.{UnitPart}
-use Rattle.plant_model.specs.declared.rows.UnitRows.{UnitRows}
-use Rattle.plant_ration.specs.Grid.{Grid}
-use Rattle.plant_ration.specs.declared.change.ChangeKind.{ChangeKind}
-use Rattle.plant_ration.specs.declared.change.ChangeKind.TheVariants.{Limit, Matrix, Rationale}
+use Rattle.plant_model.specs.declared.reply.{ChangeRow.{ChangeRow}, Full.TheVariants.{Alarms as TooManyAlarms}, RecordRow.{RecordRow}}
 use Rattle.plant_model.specs.declared.reply.Refused.{Refused}
-use Rattle.plant_ration.specs.declared.change.ChangeState.TheVariants.{Approved}
-use Rattle.plant_ration.specs.declared.change.Proposal.{Proposal}
-use Rattle.plant_ration.specs.declared.change.Sheet.{Sheet}
-use Rattle.plant_types.proofs.public.Orders.{then_Equal}
-use Rattle.plant_types.proofs.public.KeyedRowLaws.{tied}
-use Rattle.plant_types.specs.Limits.{max_alarms}
-use Rattle.plant_types.specs.Names.{Name, name_cmp, same_name}
-use Rattle.plant_types.specs.Roles.{pair_cmp, role_no}
-use Rattle.plant_types.specs.KeyedRows.{row_at}
-use Rattle.plant_types.specs.declared.role.Role.{Role}
-use Rattle.plant_types.specs.declared.role.Role.TheVariants.{Approver, Engineer, Maintainer, Operator, Steward, Viewer}
-use Rattle.std.proofs.Common.{ap, arith, refl, sym, ◌∙◌, ◌≤◌}
-use Rattle.std.proofs.lemmas.Bool.Decides.{nat_tests}
-use Rattle.std.proofs.lemmas.List.Sums.{count_by-le-length, length-filter}
-use Rattle.std.specs.List.{cons_option, list_any, range_with_len}
-use Rattle.std.specs.Option.{option_to_list}
-use Rattle.std.specs.Ordering.{is_eq, nat_cmp}
-use Rattle.std.specs.Prelude.{Bool, Err, List, None, Option, Some, [], cond, count_by, false, filter, filter_map, if◌then◌else◌, is_none, is_some, length, map, nat_le, nat_lt, not, option_and_then, option_map, true, unwrap_or, ℕ, ◌++◌, ◌+◌, ◌||◌, ◌∷◌, ◌≡◌}
+use Rattle.plant_model.specs.declared.reply.Refused.TheVariants.{AlarmTaken, AlarmUnknown, AlreadyOutOfService, ConditionAlreadyShelved, ConditionNotShelved, MomentBehind, NotGranted, NotOutOfService, NotProposed, RecordUnknown, RoleLacking, SamePerson, ShelfQuota, ShelvingTimeOutOfRange, UnitFull}
+use Rattle.plant_model.specs.declared.{reply.{Reply.TheVariants.{Shelves as ShelvesOf}, ShelfLine.{ShelfLine}}, rows.AlarmRow.{AlarmRow}}
+use Rattle.plant_model.specs.declared.rows.{ChangeEntry.{ChangeEntry}, ChangeTopic.{ChangeTopic}}
+use Rattle.plant_model.specs.declared.rows.ChangeTopic.TheVariants.{Limit as LimitTopic, Matrix as MatrixTopic, Record as RecordTopic}
+use Rattle.plant_model.specs.declared.rows.{GrantRow.{GrantRow}, RecordEntry.{RecordEntry}}
+use Rattle.plant_model.specs.declared.rows.{Row.TheVariants.{Alarm as AlarmPut, Shelf as ShelfPut, Unit as UnitPut}, RowEdit.{RowEdit}}
+use Rattle.plant_model.specs.declared.rows.{RowEdit.TheVariants.{Put}, ShelfRow.{ShelfRow}, UnitPart.{UnitPart}, UnitRows.{UnitRows}}
+use Rattle.plant_model.proofs.public.PartLists.{cells_within, filter-true, itself_name, itself_number, limits_within, map-same, passes_name, passes_number, row_at-filter, row_at-key, source_found, then-same}
+use Rattle.plant_alarm.specs.{Shelves.{is_one_shot, is_timed, is_unshelved, shelf_state}, declared.event.Event.{Event}}
+use Rattle.plant_alarm.specs.declared.shelf.ShelfState.{ShelfState}
+use Rattle.plant_ration.specs.{Grid.{Grid}, declared.change.ChangeKind.{ChangeKind, TheVariants.{Limit, Matrix, Rationale}}}
+use Rattle.plant_ration.specs.declared.change.{ChangeState.TheVariants.{Approved}, Proposal.{Proposal}, Sheet.{Sheet}}
+use Rattle.plant_types.specs.{KeyedRows.{row_at}, Limits.{max_alarms}, Names.{Name, name_cmp, same_name}, Roles.{pair_cmp, role_no}}
+use Rattle.plant_types.specs.declared.role.Role.{Role, TheVariants.{Approver, Engineer, Maintainer, Operator, Steward, Viewer}}
+use Rattle.plant_types.proofs.public.{KeyedRowLaws.{tied}, Orders.{then_Equal}}
 
 -- fewer rows than the quota, fewer of any kind
 fewer : (q n k : ℕ) → nat_le q n ≡ false → k ≤ n → nat_le q k ≡ false
@@ -71,20 +41,16 @@ few_kept p q xs =
     let all = count_by-le-length p xs in
     omega (arith, some, kept, all)
 
-or_every : (a : Bool) → (a || true) ≡ true
-or_every true = refl
-or_every false = refl
-
 -- all grants pass where every pair is selected
 all_grants : (p : Name) (grants : List GrantRow) → filter (λ g. same_name p g.person || true) grants ≡ grants
 all_grants p [] = refl
-all_grants p (g ∷ grants) = ap (λ b. cond b (g ∷ filter (λ g. same_name p g.person || true) grants) (filter (λ g. same_name p g.person || true) grants)) (or_every (same_name p g.person)) ∙ ap (λ gs. g ∷ gs) (all_grants p grants)
+all_grants p (g ∷ grants) = ap (λ b. cond b (g ∷ filter (λ g. same_name p g.person || true) grants) (filter (λ g. same_name p g.person || true) grants)) (or_right (same_name p g.person) true refl) ∙ ap (λ gs. g ∷ gs) (all_grants p grants)
 
 -- the caller's own grants are in every part
 own_grant : (p : Name) (s : Selection) (r : Role) (grants : List GrantRow) → row_at pair_cmp pair_of (p, r) (filter (λ g. same_name p g.person || s.pair (pair_of g)) grants) ≡ row_at pair_cmp pair_of (p, r) grants
 own_grant p s r grants =
     row_at-filter pair_cmp pair_of (p, r) (λ g. same_name p g.person || s.pair (pair_of g))
-    (λ g e. or_true _ _ (ap is_eq (then_Equal (name_cmp p g.person) (nat_cmp (role_no r) (role_no g.role_no)) (tied _ true e refl)).0)) grants
+    (λ g e. or_left _ _ (ap is_eq (then_Equal (name_cmp p g.person) (nat_cmp (role_no r) (role_no g.role_no)) (tied _ true e refl)).0)) grants
 
 abbrev held_by_row : ℕ → Option GrantRow → Bool
 held_by_row t o = unwrap_or (option_map (λ (g : GrantRow). is_before t g.end_s) o) false
@@ -160,18 +126,18 @@ module _ (rows : UnitRows) (p : Name) (t : ℕ) where
     records_read : (records : List RecordEntry) → ((n : ℕ) → list_any (λ (r : RecordEntry). same_number n r.change_no) records ≡ true → s.change n ≡ true) → filter_map (record_read within) records ≡ filter_map (record_read rows) records
     records_read [] chosen = refl
     records_read (r ∷ records) chosen =
-        ap (λ o. cons_option o (filter_map (record_read within) records)) (record_there r (chosen r.change_no (or_true _ _ (itself_number r.change_no))))
-        ∙ ap (cons_option (record_read rows r)) (records_read records (λ n e. chosen n (or_later _ _ e)))
+        ap (λ o. cons_option o (filter_map (record_read within) records)) (record_there r (chosen r.change_no (or_left _ _ (itself_number r.change_no))))
+        ∙ ap (cons_option (record_read rows r)) (records_read records (λ n e. chosen n (or_right _ _ e)))
 
     records_there : ((n : ℕ) → is_source rows every n ≡ true → s.change n ≡ true) → filter_map (record_read within) (filter (λ (r : RecordEntry). true) rows.records) ≡ filter_map (record_read rows) rows.records
     records_there chosen = ap (filter_map (record_read within)) (filter-true rows.records) ∙ records_read rows.records chosen
 
   -- a shelving's own alarm and shelf, and how the others stand to the quota
   own_alarm : (m : Bool) (a : Name) → row_at name_cmp alarm_tag a (filter (λ (r : AlarmRow). m || same_name a r.tag) rows.alarms) ≡ row_at name_cmp alarm_tag a rows.alarms
-  own_alarm m a = row_at-filter name_cmp alarm_tag a (λ r. m || same_name a r.tag) (λ r e. or_later m _ e) rows.alarms
+  own_alarm m a = row_at-filter name_cmp alarm_tag a (λ r. m || same_name a r.tag) (λ r e. or_right m _ e) rows.alarms
 
   own_shelf : (m : Bool) (a : Name) → row_at name_cmp shelf_tag a (filter (λ (r : ShelfRow). m || same_name a r.tag) rows.shelves) ≡ row_at name_cmp shelf_tag a rows.shelves
-  own_shelf m a = row_at-filter name_cmp shelf_tag a (λ r. m || same_name a r.tag) (λ r e. or_later m _ e) rows.shelves
+  own_shelf m a = row_at-filter name_cmp shelf_tag a (λ r. m || same_name a r.tag) (λ r e. or_right m _ e) rows.shelves
 
   -- with these alarms and shelves the quota is used up by others than the tag's
   abbrev quota_used : List AlarmRow → List ShelfRow → Name → Bool
@@ -205,8 +171,8 @@ module _ (rows : UnitRows) (p : Name) (t : ℕ) where
   lines_there : (test : Name → Bool) (shelves : List ShelfRow) → ((a : Name) → has_shelf shelves a ≡ true → test a ≡ true) → filter_map (line_by (passing test)) shelves ≡ filter_map (line_by rows.alarms) shelves
   lines_there test [] chosen = refl
   lines_there test (s ∷ shelves) chosen =
-      ap (λ o. cons_option o (filter_map (line_by (passing test)) shelves)) (line_there test s (chosen s.tag (or_true _ _ (itself_name s.tag))))
-      ∙ ap (cons_option (line_by rows.alarms s)) (lines_there test shelves (λ a e. chosen a (or_later _ _ e)))
+      ap (λ o. cons_option o (filter_map (line_by (passing test)) shelves)) (line_there test s (chosen s.tag (or_left _ _ (itself_name s.tag))))
+      ∙ ap (cons_option (line_by rows.alarms s)) (lines_there test shelves (λ a e. chosen a (or_right _ _ e)))
 
   -- the facts of these grants, alarms, shelves and records among the rows
   abbrev with_grants : List GrantRow → Facts
@@ -251,10 +217,10 @@ module _ (rows : UnitRows) (p : Name) (t : ℕ) where
   approved n tag k = with_number n (of_topic rows tag k)
 
   matrix_in_force : (n : ℕ) (s : Selection) → s.matrix (unit_read rows).matrix_no ≡ true → matrix_read (within (with_number n s)) (unit_read rows).matrix_no ≡ matrix_read rows (unit_read rows).matrix_no
-  matrix_in_force n s holds = matrix_there (with_number n s) (unit_read rows).matrix_no (or_true _ _ holds)
+  matrix_in_force n s holds = matrix_there (with_number n s) (unit_read rows).matrix_no (or_left _ _ holds)
 
   sources_there : (n : ℕ) → filter_map (record_read (within (with_number n (of_records rows)))) (filter (λ (r : RecordEntry). true) rows.records) ≡ filter_map (record_read rows) rows.records
-  sources_there n = records_there (with_number n (of_records rows)) (λ m e. or_true _ _ e)
+  sources_there n = records_there (with_number n (of_records rows)) (λ m e. or_left _ _ e)
 
   -- the refusals of a change's kind, and what it brings into force, from what its topic looks at
   kind_same : (n base : ℕ) (tag : Option Name) (k : ChangeTopic) (s : Sheet) (m : Grid) (max : ℕ) → kind_refusals (chosen (approved n tag k)) base (kind_as k (unwrap_or tag []) s m max) ≡ kind_refusals (facts_of rows) base (kind_as k (unwrap_or tag []) s m max)
@@ -293,7 +259,7 @@ module _ (rows : UnitRows) (p : Name) (t : ℕ) where
 
   approved_there : (n : ℕ) (o : Option ChangeEntry) → change_found rows n ≡ o → (chosen (of_approved rows n o)).change n ≡ option_map (change_read rows) o
   approved_there n None e = numbered_there n ∙ ap (option_map (change_read rows)) e
-  approved_there n (Some c) e = change_there (approved n c.tag c.kind_no) n (or_later _ _ (itself_number n)) (or_later _ _ (itself_number n)) ∙ ap (option_map (change_read rows)) e
+  approved_there n (Some c) e = change_there (approved n c.tag c.kind_no) n (or_right _ _ (itself_number n)) (or_right _ _ (itself_number n)) ∙ ap (option_map (change_read rows)) e
 
   abbrev row_after : Option ChangeRow → RowEdit
   row_after c = Put (UnitPut (approved_row t (unit_read rows) c))

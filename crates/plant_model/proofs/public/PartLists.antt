@@ -1,28 +1,11 @@
 -- Rows that pass a test: what is found or read where the test holds is what all rows give.
-use Rattle.plant_model.proofs.public.FactLaws.{not_true, same_number_of}
-use Rattle.plant_model.specs.Histories.{same_number}
-use Rattle.plant_model.specs.RowFacts.{cells_at, record_tag}
-use Rattle.plant_model.specs.declared.rows.BandRow.{BandRow}
-use Rattle.plant_model.specs.declared.rows.CellRow.{CellRow}
-use Rattle.plant_model.specs.declared.rows.RecordEntry.{RecordEntry}
-use Rattle.plant_types.proofs.public.KeyedRowLaws.{tied}
+use Rattle.std.specs.{Cmp.{eq_by_cmp_equiv}, List.{list_any}, Ordering.{eq_by_cmp}}
+use Rattle.std.proofs.Common.{ap, cond, refl, sym, ◌∙◌, Bool, List, None, Option, Some, [], false, filter, map, option_and_then, option_map, true, ℕ, ◌&&◌, ◌||◌, ◌∷◌, ◌≡◌, Ordering}
+use Rattle.std.proofs.lemmas.Bool.{or_left, false_from_ne_true}
+use Rattle.plant_model.specs.{Histories.{same_number}, RowFacts.{cells_at, record_tag}, declared.rows.{BandRow.{BandRow}, CellRow.{CellRow}}}
+use Rattle.plant_model.{specs.declared.rows.RecordEntry.{RecordEntry}, proofs.public.FactLaws.{same_number_of}}
+use Rattle.plant_types.{specs.{KeyedRows.{row_at}, Names.{Name, name_cmp, same_name}}, proofs.public.KeyedRowLaws.{tied}}
 use Rattle.plant_types.proofs.public.Orders.{name_total, number_total, same_names}
-use Rattle.plant_types.specs.Names.{Name, name_cmp, same_name}
-use Rattle.plant_types.specs.KeyedRows.{row_at}
-use Rattle.std.proofs.Common.{ap, cond, refl, sym, ◌∙◌}
-use Rattle.std.specs.Cmp.{eq_by_cmp_equiv}
-use Rattle.std.specs.List.{list_any}
-use Rattle.std.specs.Ordering.{eq_by_cmp}
-use Rattle.std.specs.Prelude.{Bool, List, None, Option, Some, [], false, filter, map, option_and_then, option_map, true, ℕ, ◌&&◌, ◌||◌, ◌∷◌, ◌≡◌}
-use Rattle.std.specs.declared.cmp.Ordering.{Ordering}
-
-pub or_true : (a b : Bool) → a ≡ true → (a || b) ≡ true
-or_true true b e = refl
-or_true false b e = cc
-
-pub or_later : (a b : Bool) → b ≡ true → (a || b) ≡ true
-or_later true b e = refl
-or_later false b e = e
 
 pub filter-true : {X : Type 0} (xs : List X) → filter (λ x. true) xs ≡ xs
 filter-true [] = refl
@@ -34,7 +17,7 @@ filter-within narrow wide passes [] = refl
 filter-within narrow wide passes (x ∷ xs) =
     elim (wide x) as (λ b. wide x ≡ b → filter narrow (cond b (x ∷ filter wide xs) (filter wide xs)) ≡ cond (narrow x) (x ∷ filter narrow xs) (filter narrow xs)) [
       | true ↦ λ _. ap (λ ys. cond (narrow x) (x ∷ ys) ys) (filter-within narrow wide passes xs)
-      | false ↦ λ no. filter-within narrow wide passes xs ∙ sym (ap (λ b. cond b (x ∷ filter narrow xs) (filter narrow xs)) (not_true (narrow x) (λ e. let t : true ≡ false = sym (passes x e) ∙ no in cc)))
+      | false ↦ λ no. filter-within narrow wide passes xs ∙ sym (ap (λ b. cond b (x ∷ filter narrow xs) (filter narrow xs)) (false_from_ne_true (narrow x) (λ e. let t : true ≡ false = sym (passes x e) ∙ no in cc)))
     ] refl
 
 -- a row stays where its key's rows pass
@@ -43,7 +26,7 @@ row_at-filter R key k test passes [] = refl
 row_at-filter R key k test passes (r ∷ rows) =
     elim (test r) as (λ b. test r ≡ b → row_at R key k (cond b (r ∷ filter test rows) (filter test rows)) ≡ cond (eq_by_cmp R k (key r)) (Some r) (row_at R key k rows)) [
       | true ↦ λ _. ap (cond (eq_by_cmp R k (key r)) (Some r)) (row_at-filter R key k test passes rows)
-      | false ↦ λ no. row_at-filter R key k test passes rows ∙ sym (ap (λ b. cond b (Some r) (row_at R key k rows)) (not_true (eq_by_cmp R k (key r)) (λ e. let t : true ≡ false = sym (passes r e) ∙ no in cc)))
+      | false ↦ λ no. row_at-filter R key k test passes rows ∙ sym (ap (λ b. cond b (Some r) (row_at R key k rows)) (false_from_ne_true (eq_by_cmp R k (key r)) (λ e. let t : true ≡ false = sym (passes r e) ∙ no in cc)))
     ] refl
 
 -- the row that is found has the key
@@ -96,6 +79,6 @@ pub source_found : (a : Name) (records : List RecordEntry) (r : RecordEntry) →
 source_found a [] r e = cc
 source_found a (x ∷ records) r e =
     elim (same_name a x.tag) as (λ b. cond b (Some x) (row_at name_cmp record_tag a records) ≡ Some r → ((b && same_number r.change_no x.change_no) || list_any (λ (x : RecordEntry). same_name a x.tag && same_number r.change_no x.change_no) records) ≡ true) [
-      | true ↦ λ some. let same : x ≡ r = cc in or_true _ _ (ap (λ (y : RecordEntry). same_number r.change_no y.change_no) same ∙ itself_number r.change_no)
+      | true ↦ λ some. let same : x ≡ r = cc in or_left _ _ (ap (λ (y : RecordEntry). same_number r.change_no y.change_no) same ∙ itself_number r.change_no)
       | false ↦ λ rest. source_found a records r rest
     ] e

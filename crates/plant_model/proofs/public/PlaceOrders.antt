@@ -1,8 +1,5 @@
 -- The orders of places in matrices: total, and equal only at equal places.
-use Rattle.std.specs.Cmp.{IsTotalOrder, nat_cmp_total, on_total, then_total}
-use Rattle.std.specs.Ordering.{nat_cmp, ordering_then}
-use Rattle.std.specs.Prelude.{◌≡◌}
-use Rattle.std.specs.declared.cmp.Ordering.TheVariants.{Equal}
+use Rattle.std.{specs.{Cmp.{IsTotalOrder, nat_cmp_total, on_total, then_total}, Ordering.{ordering_then}}, proofs.Common.{nat_cmp, ◌≡◌, Equal}}
 use Rattle.plant_model.specs.Matrices.{BandKey, CellKey, band_cmp, cell_cmp}
 use Rattle.plant_types.proofs.public.Orders.{same_numbers, then_Equal}
 

@@ -1,30 +1,25 @@
 -- Rows that are put one after another.
-use Rattle.plant_model.proofs.public.Base.{x}
-use Rattle.plant_model.specs.RowFacts.{record_tag}
-use Rattle.plant_model.specs.declared.reply.RecordRow.{RecordRow}
+use Rattle.std.specs.{Cmp.{IsTotalOrder}, List.{cons_option, list_any}, Ordering.{eq_by_cmp}}
+use Rattle.std.proofs.Common.{ap, refl, sym, ◌∙◌, Bool, List, None, Option, Some, [], cond, false, filter_map, fold, is_some, map, true, ◌++◌, ◌∷◌, ◌≡◌, Ordering, Equal, find, ◌||◌}
+use Rattle.plant_model.specs.{Matrices.{band_cmp, cell_cmp}, RowChanges.{changed_by, put}, RowFacts.{record_tag, alarm_tag, band_key, cell_key}}
+use Rattle.plant_model.specs.declared.{reply.RecordRow.{RecordRow}, rows.{AlarmRow.{AlarmRow}, BandRow.{BandRow}, CellRow.{CellRow}}}
 use Rattle.plant_model.specs.declared.rows.RecordEntry.{RecordEntry}
-use Rattle.plant_model.specs.declared.rows.Row.TheVariants.{Record as RecordPut}
-use Rattle.plant_model.specs.Matrices.{band_cmp, cell_cmp}
-use Rattle.plant_model.specs.RowChanges.{changed_by, put}
-use Rattle.plant_model.specs.RowFacts.{alarm_tag, band_key, cell_key}
-use Rattle.plant_model.specs.declared.rows.AlarmRow.{AlarmRow}
-use Rattle.plant_model.specs.declared.rows.BandRow.{BandRow}
-use Rattle.plant_model.specs.declared.rows.CellRow.{CellRow}
-use Rattle.plant_model.specs.declared.rows.RowEdit.{RowEdit}
-use Rattle.plant_model.specs.declared.rows.RowEdit.TheVariants.{Put}
-use Rattle.plant_model.specs.declared.rows.Row.TheVariants.{Alarm as AlarmPut, Band as BandPut, Cell as CellPut}
-use Rattle.plant_model.specs.declared.rows.UnitRows.{UnitRows}
+use Rattle.plant_model.specs.declared.rows.Row.TheVariants.{Record as RecordPut, Alarm as AlarmPut, Band as BandPut, Cell as CellPut}
+use Rattle.plant_model.specs.declared.rows.{RowEdit.{RowEdit, TheVariants.{Put}}, UnitRows.{UnitRows}}
+use Rattle.plant_types.specs.{KeyedRows.{IsInOrder, in_order, put_row, row_at}, Names.{name_cmp}, Options.{or_else, when}}
 use Rattle.plant_types.proofs.public.KeyedRowLaws.{IsInOrder-put_row, IsInOrder-rows, Tells, row_at-in_order, row_at-put_row, row_at-rows, same_rows, settled, tied}
-use Rattle.plant_types.specs.Names.{name_cmp}
-use Rattle.plant_types.specs.Options.{or_else, when}
-use Rattle.plant_types.specs.KeyedRows.{IsInOrder, in_order, put_row, row_at}
-use Rattle.std.proofs.Common.{ap, refl, sym, ◌∙◌}
-use Rattle.std.specs.Cmp.{IsTotalOrder}
-use Rattle.std.specs.List.{cons_option}
-use Rattle.std.specs.Ordering.{eq_by_cmp}
-use Rattle.std.specs.Prelude.{Bool, List, None, Option, Some, [], cond, false, filter_map, fold, is_some, map, true, ◌++◌, ◌∷◌, ◌≡◌}
-use Rattle.std.specs.declared.cmp.Ordering.{Ordering}
-use Rattle.std.specs.declared.cmp.Ordering.TheVariants.{Equal}
+
+pub is_some-find : {X : Type 0} (p : X → Bool) (xs : List X) → is_some (find p xs) ≡ list_any p xs
+is_some-find p [] = refl
+is_some-find p (x ∷ xs) = elim (p x) as (λ b. is_some (cond b (Some x) (find p xs)) ≡ (b || list_any p xs)) [ true ↦ refl | false ↦ is_some-find p xs ]
+
+pub key_in : {K X : Type 0} (R : K → K → Ordering) (key : X → K) (q : K) (rows : List X) → list_any (eq_by_cmp R q) (map key rows) ≡ is_some (row_at R key q rows)
+key_in R key q [] = refl
+key_in R key q (r ∷ rows) = elim (eq_by_cmp R q (key r)) as (λ b. (b || list_any (eq_by_cmp R q) (map key rows)) ≡ is_some (cond b (Some r) (row_at R key q rows))) [ true ↦ refl | false ↦ key_in R key q rows ]
+
+pub never_some : {A : Type 0} (o : Option A) → ((x : A) → o ≡ Some x → ⊥) → o ≡ None
+never_some None never = refl
+never_some (Some x) never = absurd (never x refl)
 
 pub else_none : {A : Type 0} (o : Option A) → or_else o None ≡ o
 else_none None = refl

@@ -1,55 +1,24 @@
 -- The matrices of a legal history are read back from the rows of their bands and cells, each at its number.
-use Rattle.plant_model.proofs.public.Base.{plain}
-use Rattle.plant_model.proofs.public.FactLaws.{AreReadable, draft_bound, facts_told, not_true}
-use Rattle.plant_model.proofs.public.HistoryLaws.{change_with, changes_told, numbers_of_changes, when_Some}
-use Rattle.plant_model.proofs.MatrixLaws.{number_bound}
+use Rattle.std.specs.{Cmp.{IsTotalOrder, nat_cmp_is}, FinMap.{get, Entries.{by_order, below_all}}}
+use Rattle.std.specs.{List.{cons_option, enumerate_from, list_all, list_any, range_with_len, slice_get}, Ordering.{eq_by_cmp, ordering_then}}
+use Rattle.std.proofs.Common.{is_some, max, ◌-◌, Bool, List, None, Option, Some, [], false, filter, filter_map, length, map, nat_le, nat_lt, option_and_then, option_map, suc, true, unwrap_or, zero, ℕ, ◌&&◌, ◌++◌, ◌+◌, ◌<◌, ◌==◌, ◌∷◌, ◌≡◌, ◌≤◌, eqb→eq, T, ap, append_assoc, arith, cond, inl, inr, length-append, refl, subst, sym, ◌∙◌, ◌⊎◌, is_lt, nat_cmp, Ordering, Equal, Greater, Less}
+use Rattle.std.proofs.lemmas.Bool.{and_parts, not-true, false_from_ne_true, Decides.{nat_tests}}
 use Rattle.plant_model.specs.Changes.{Draft, change, draft, kind_of_change, matrix, matrix_in, no_matrix, proposals, said_of_draft, said_of_matrix}
-use Rattle.plant_model.specs.Facts.{facts}
-use Rattle.plant_model.specs.Histories.{latest}
-use Rattle.plant_model.specs.Legality.{IsLegal, has_matrix, is_matrix_kind, may_follow}
-use Rattle.plant_model.specs.Matrices.{numbered_matrix, when_number}
-use Rattle.plant_model.specs.RowFacts.{change_number, facts_from, facts_of, last_number}
-use Rattle.plant_model.specs.Rows.{alarm_rows, change_entry, change_rows}
-use Rattle.plant_model.specs.Verdicts.{is_opening}
-use Rattle.plant_model.specs.declared.call.Request.{Request}
-use Rattle.plant_model.specs.declared.call.Request.TheVariants.{Approve, OpenUnit, Propose}
-use Rattle.plant_ration.specs.declared.change.ChangeKind.{ChangeKind}
-use Rattle.plant_ration.specs.declared.change.ChangeKind.TheVariants.{Limit, Matrix, Rationale}
-use Rattle.plant_types.proofs.public.KeyedRowLaws.{put-rows}
-use Rattle.plant_types.specs.Names.{Name}
-use Rattle.plant_types.specs.Options.{or_else, when}
-use Rattle.plant_types.specs.KeyedRows.{put_row}
-use Rattle.std.specs.FinMap.Entries.{by_order}
-use Rattle.std.specs.Prelude.{is_some, max, not, ◌-◌}
-use Rattle.plant_import.proofs.public.Placed.{there}
-use Rattle.plant_model.proofs.public.Base.{at, x}
-use Rattle.plant_model.proofs.public.FactLaws.{is_same_number, same_number_of}
-use Rattle.plant_model.proofs.public.HistoryLaws.{mapped_key}
-use Rattle.plant_model.proofs.MatrixLaws.{band_here, band_key_of, band_keys, bands_told, cell_key_of, cell_keys, cells_told, found_any, row_here}
-use Rattle.plant_model.proofs.public.PlaceOrders.{band_total, cell_total, same_bands, same_cells}
-use Rattle.plant_model.proofs.public.ServiceLaws.{both_true}
-use Rattle.plant_model.specs.Histories.{same_number}
-use Rattle.plant_model.specs.Matrices.{BandKey, CellKey, at_place, band_at, band_cmp, band_places, cell_cmp, cell_of, matrix_numbered}
-use Rattle.plant_model.specs.RowFacts.{band_key, cell_key, cells_at, has_cells, matrix_read}
-use Rattle.plant_model.specs.Rows.{band_row, band_rows, cell_row, cell_rows, rows_of}
-use Rattle.plant_model.specs.declared.call.Call.{Call}
-use Rattle.plant_model.specs.declared.rows.BandRow.{BandRow}
+use Rattle.plant_model.specs.{Facts.{facts}, Histories.{latest, same_number}, Legality.{IsLegal, has_matrix, is_matrix_kind}}
+use Rattle.plant_model.specs.Matrices.{numbered_matrix, when_number, BandKey, CellKey, at_place, band_at, band_cmp, band_places, cell_cmp, cell_of, matrix_numbered}
+use Rattle.plant_model.specs.RowFacts.{change_number, facts_from, facts_of, last_number, band_key, cell_key, cells_at, has_cells, matrix_read}
+use Rattle.plant_model.specs.{Rows.{alarm_rows, change_entry, change_rows, band_row, band_rows, cell_row, cell_rows, rows_of}, Verdicts.{is_opening}}
+use Rattle.plant_model.specs.declared.{call.{Call.{Call}, Request.{Request, TheVariants.{Approve, OpenUnit, Propose}}}, rows.BandRow.{BandRow}}
 use Rattle.plant_model.specs.declared.rows.CellRow.{CellRow}
-use Rattle.plant_ration.specs.Grid.{Grid}
-use Rattle.plant_ration.specs.Matrix.{is_matrix}
-use Rattle.plant_ration.specs.declared.cell.Cell.{Cell}
-use Rattle.plant_types.proofs.public.KeyedRowLaws.{IsInOrder-rows, IsInOrder-told, Tells, row_at-rows, row_at-told, same_rows, settled, tied}
-use Rattle.plant_types.specs.KeyedRows.{IsInOrder, in_order, row_at}
-use Rattle.std.proofs.Common.{eqb→eq, T, ap, append_assoc, arith, cond, inl, inr, length-append, refl, subst, sym, ◌∙◌, ◌⊎◌}
-use Rattle.std.proofs.lemmas.Bool.Decides.{nat_tests}
-use Rattle.std.specs.Cmp.{IsTotalOrder, nat_cmp_is}
-use Rattle.std.specs.FinMap.{get}
-use Rattle.std.specs.FinMap.Entries.{below_all}
-use Rattle.std.specs.List.{cons_option, enumerate_from, list_all, list_any, range_with_len, slice_get}
-use Rattle.std.specs.Ordering.{eq_by_cmp, is_lt, nat_cmp, ordering_then}
-use Rattle.std.specs.Prelude.{Bool, List, None, Option, Some, [], false, filter, filter_map, length, map, nat_le, nat_lt, option_and_then, option_map, suc, true, unwrap_or, zero, ℕ, ◌&&◌, ◌++◌, ◌+◌, ◌<◌, ◌==◌, ◌∷◌, ◌≡◌, ◌≤◌}
-use Rattle.std.specs.declared.cmp.Ordering.{Ordering}
-use Rattle.std.specs.declared.cmp.Ordering.TheVariants.{Equal, Greater, Less}
+use Rattle.plant_model.proofs.MatrixLaws.{number_bound, band_here, band_key_of, band_keys, bands_told, cell_key_of, cell_keys, cells_told, row_here}
+use Rattle.plant_model.proofs.public.{Accepted.{by_legal, latest_legal}, FactLaws.{AreReadable, facts_told, is_same_number, same_number_of}}
+use Rattle.plant_model.proofs.public.HistoryLaws.{change_with, changes_told, numbers_of_changes, when_Some, mapped_key}
+use Rattle.plant_model.proofs.public.{PlaceOrders.{band_total, cell_total, same_bands, same_cells}, PutLaws.{is_some-find}}
+use Rattle.plant_model.proofs.public.RowsFound.{both, first, second}
+use Rattle.plant_ration.specs.{Grid.{Grid}, Matrix.{is_matrix}, declared.{cell.Cell.{Cell}, change.ChangeKind.{ChangeKind}}}
+use Rattle.plant_ration.specs.declared.change.ChangeKind.TheVariants.{Limit, Matrix, Rationale}
+use Rattle.plant_types.specs.{KeyedRows.{put_row, IsInOrder, in_order, row_at}, Names.{Name}, Options.{or_else, when}}
+use Rattle.plant_types.proofs.public.KeyedRowLaws.{put-rows, IsInOrder-rows, IsInOrder-told, Tells, row_at-rows, row_at-told, same_rows, settled, tied}
 
 no_row : {X : Type 0} (b : Bool) (o : Option X) → o ≡ None → o ≡ cond b o None
 no_row true o e = refl
@@ -57,18 +26,6 @@ no_row false o e = e
 
 -- The rows of a table whose keys pass a test
 module _ {K X : Type 0} (R : K → K → Ordering) (key : X → K) where
-  both : (a b : Bool) → T a → T b → T (a && b)
-  both true b p q = q
-  both false b p q = p
-
-  first : (a b : Bool) → T (a && b) → T a
-  first true b p = tt
-  first false b p = p
-
-  second : (a b : Bool) → T (a && b) → T b
-  second true b p = p
-  second false b p = absurd p
-
   below_left : (p : X → Bool) (k : K) (rows : List X) → T (below_all R k (map (λ r. (key r, r)) rows)) → T (below_all R k (map (λ r. (key r, r)) (filter p rows)))
   below_left p k [] h = tt
   below_left p k (r ∷ rows) h =
@@ -103,7 +60,7 @@ module _ {K X : Type 0} (R : K → K → Ordering) (key : X → K) where
     left_rows told ks t row places at_key rise among is =
         same_rows R key o same _ _ (left_in_order (λ r. test (key r)) _ (IsInOrder-rows told ks t)) (IsInOrder-told R key o same row at_key places rise)
         (λ q. row_at-left q _ ∙ ap (λ x. cond (test q) x None) (row_at-rows told ks t q) ∙ is q
-        ∙ sym (row_at-told R key o same row at_key q places ∙ ap (λ b. cond b (row q) None) (found_any R q places) ∙ settled _ _ (among q)))
+        ∙ sym (row_at-told R key o same row at_key q places ∙ ap (λ b. cond b (row q) None) (is_some-find (eq_by_cmp R q) places) ∙ settled _ _ (among q)))
 
 -- The elements of a list, one for each of its places
 get-after : {A : Type 0} (pre : List A) (x : A) (post : List A) → slice_get (pre ++ x ∷ post) (length pre) ≡ Some x
@@ -148,11 +105,11 @@ cell_below n s a b less = (λ i. is_lt (ordering_then (level n i) (ordering_then
 module _ {K : Type 0} (R : K → K → Ordering) (place : ℕ → K) (below : (a b : ℕ) → a < b → is_lt (R (place a) (place b)) ≡ true) where
   below_range : (a s len : ℕ) → a < s → T (below_all R (place a) (map (λ k. (k, k)) (map place (range_with_len s len))))
   below_range a s zero less = tt
-  below_range a s (suc len) less = both R (λ k. k) _ _ (subst T (sym (below a s less)) tt) (below_range a (s + 1) len (omega (arith, less)))
+  below_range a s (suc len) less = both _ _ (subst T (sym (below a s less)) tt) (below_range a (s + 1) len (omega (arith, less)))
 
   places_rise : (s len : ℕ) → IsInOrder R (λ k. k) (map place (range_with_len s len))
   places_rise s zero = tt
-  places_rise s (suc len) = both R (λ k. k) _ _ (below_range s (s + 1) len (omega arith)) (places_rise (s + 1) len)
+  places_rise s (suc len) = both _ _ (below_range s (s + 1) len (omega arith)) (places_rise (s + 1) len)
 
 -- The limits and the cells of a matrix
 module _ (h : List Call) (n : ℕ) (m : Grid) (numbered : matrix_numbered h n ≡ Some m) where
@@ -210,7 +167,7 @@ module _ (h : List Call) (n : ℕ) (m : Grid) (numbered : matrix_numbered h n �
     ] e
 
     cell_keyed : (q : CellKey) → is_cell q ≡ true → (n ≡ q.0) × (s ≡ q.1)
-    cell_keyed q e = let parts = both_true (same_number n q.0) (same_number s q.1) e in (same_number_of n q.0 parts.0, same_number_of s q.1 parts.1)
+    cell_keyed q e = let parts = and_parts (same_number n q.0) (same_number s q.1) e in (same_number_of n q.0 parts.0, same_number_of s q.1 parts.1)
 
     abbrev cell_made : CellKey → Option CellRow
     cell_made q = option_map (λ c. record { matrix_no = q.0; severity = q.1; band_no = q.2; cell_no = c }) (at_place row_there q.2)
@@ -265,10 +222,10 @@ AllFull (row ∷ rows) = (has_cells row ≡ true) × AllFull rows
 
 wide_full : (width : ℕ) (rows : List (List Cell)) → list_all (λ row. length row == width + 1) rows ≡ true → AllFull rows
 wide_full width [] e = tt
-wide_full width ([] ∷ rows) e = absurd (none width (both_true (0 == width + 1) _ e).0) where
+wide_full width ([] ∷ rows) e = absurd (none width (and_parts (0 == width + 1) _ e).0) where
   none : (w : ℕ) → (0 == w + 1) ≡ true → ⊥
   none w t = let same : 0 ≡ w + 1 = eqb→eq 0 (w + 1) (subst T (sym t) tt) in omega (arith, same)
-wide_full width ((c ∷ row) ∷ rows) e = (refl, wide_full width rows (both_true _ _ e).1)
+wide_full width ((c ∷ row) ∷ rows) e = (refl, wide_full width rows (and_parts _ _ e).1)
 
 five_rows : (rows : List (List Cell)) → length rows ≤ 5 → AllFull rows → filter has_cells (map (λ s. unwrap_or (at_place rows s) []) (range_with_len 1 5)) ≡ rows
 five_rows [] few full = refl
@@ -296,10 +253,10 @@ five_rows (a ∷ b ∷ c ∷ d ∷ e ∷ f ∷ rest) few full = absurd (omega (a
 
 pub read_back : (h : List Call) (n : ℕ) (m : Grid) → matrix_numbered h n ≡ Some m → is_matrix m.limits m.cells ≡ true → matrix_read (rows_of h) n ≡ m
 read_back h n m numbered shape =
-    let has = (both_true _ _ (both_true _ _ shape).0).0 in
-    let most = (both_true _ _ has).0 in
-    let few = le_of (length m.cells) 5 (both_true _ _ (both_true _ _ (both_true _ _ most).0).0).1 in
-    let full = wide_full (length m.limits) m.cells (both_true _ _ most).1 in
+    let has = (and_parts _ _ (and_parts _ _ shape).0).0 in
+    let most = (and_parts _ _ has).0 in
+    let few = le_of (length m.cells) 5 (and_parts _ _ (and_parts _ _ (and_parts _ _ most).0).0).1 in
+    let full = wide_full (length m.limits) m.cells (and_parts _ _ most).1 in
     λ i. record {
       limits = limits_back h n m numbered i;
       cells = ((λ j. filter has_cells (cells_back h n m numbered 1 j ∷ cells_back h n m numbered 2 j ∷ cells_back h n m numbered 3 j ∷ cells_back h n m numbered 4 j ∷ cells_back h n m numbered 5 j ∷ [])) ∙ five_rows m.cells few full) i;
@@ -335,7 +292,7 @@ own_matrix n k (Rationale a s) m rest own e = cc
 own_matrix n k (Limit a max) m rest own e = cc
 
 numbered_step : (h : List Call) (n : ℕ) (m : Grid) (p : Name) (t : ℕ) (q : Request) → 1 ≤ n → (kind_of_change h n ≡ Some (Matrix m) → matrix_numbered h n ≡ Some m) → option_map (λ (d : Draft). d.kind) (or_else (said_of_draft n p t h q) (draft h n)) ≡ Some (Matrix m) → or_else (when_number n (numbered_matrix h q)) (matrix_numbered h n) ≡ Some m
-numbered_step h n m p t (OpenUnit u s x k) above before e = ap (λ b. or_else (when b x) (matrix_numbered h n)) (not_true (same_number n 0) (λ z. let is : n ≡ 0 = same_number_of n 0 z in omega (arith, above, is))) ∙ before e
+numbered_step h n m p t (OpenUnit u s x k) above before e = ap (λ b. or_else (when b x) (matrix_numbered h n)) (false_from_ne_true (same_number n 0) (λ z. let is : n ≡ 0 = same_number_of n 0 z in omega (arith, above, is))) ∙ before e
 numbered_step h n m p t (Propose u x) above before e =
     elim (same_number n (proposals h + 1)) as (λ b. same_number n (proposals h + 1) ≡ b → option_map (λ (d : Draft). d.kind) (or_else (when b (record { proposer = p; proposed = t; kind = x.kind; base = x.base })) (draft h n)) ≡ Some (Matrix m) → or_else (when_number n (matrix_in (proposals h + 1) (Some x.kind))) (matrix_numbered h n) ≡ Some m) [
       | true ↦ λ s here. own_matrix n (proposals h + 1) x.kind m (matrix_numbered h n) s here
@@ -358,17 +315,9 @@ shape_here h n (Propose u x) m has e = by x.kind has e where
 shape_here h n _ m has e = cc
 
 pub shaped : (h : List Call) → IsLegal h → (n : ℕ) (m : Grid) → matrix_numbered h n ≡ Some m → is_matrix m.limits m.cells ≡ true
-shaped [] legal n m e = absurd legal
-shaped (c ∷ []) legal n m e =
-    elim (when_number n (numbered_matrix [] c.request)) as (λ o. when_number n (numbered_matrix [] c.request) ≡ o → or_else o None ≡ Some m → is_matrix m.limits m.cells ≡ true) [
-      | None ↦ λ _ no. cc
-      | Some x ↦ λ some is. shape_here [] n c.request m legal.1 (some ∙ is)
-    ] refl e
-shaped (c ∷ b ∷ h) legal n m e =
-    elim (when_number n (numbered_matrix (b ∷ h) c.request)) as (λ o. when_number n (numbered_matrix (b ∷ h) c.request) ≡ o → or_else o (matrix_numbered (b ∷ h) n) ≡ Some m → is_matrix m.limits m.cells ≡ true) [
-      | None ↦ λ _ rest. shaped (b ∷ h) legal.2 n m rest
-      | Some x ↦ λ some is. shape_here (b ∷ h) n c.request m legal.1 (some ∙ is)
-    ] refl e
+shaped h legal n =
+    latest_legal (λ c before. when_number n (numbered_matrix before c.request)) (λ h m. is_matrix m.limits m.cells ≡ true) (λ p t u s x k shape m e. shape_here [] n (OpenUnit u s x k) m shape e)
+    (λ h c f m e. shape_here h n c.request m f.matrix e) (λ h c f m e. e) h legal
 
 -- the matrix in force has its number
 abbrev matrix_said : List Call → Option (ℕ × Grid)
@@ -377,7 +326,7 @@ matrix_said h = latest (λ c before. said_of_matrix before c.request) h
 matrix_stays : (h : List Call) (q : Request) (k : ℕ) (m : Grid) → is_opening q ≡ false → matrix_numbered h k ≡ Some m → or_else (when_number k (numbered_matrix h q)) (matrix_numbered h k) ≡ Some m
 matrix_stays h (OpenUnit u s x n) k m plain e = cc
 matrix_stays h (Propose u x) k m plain e =
-    other_matrix k (proposals h + 1) x.kind (matrix_numbered h k) (not_true (same_number k (proposals h + 1)) (λ z. let is : k ≡ proposals h + 1 = same_number_of k (proposals h + 1) z in let less : k ≤ proposals h = number_bound h k m e in omega (arith, is, less))) ∙ e
+    other_matrix k (proposals h + 1) x.kind (matrix_numbered h k) (false_from_ne_true (same_number k (proposals h + 1)) (λ z. let is : k ≡ proposals h + 1 = same_number_of k (proposals h + 1) z in let less : k ≤ proposals h = number_bound h k m e in omega (arith, is, less))) ∙ e
 matrix_stays h _ k m plain e = e
 
 matrix_approved : (n : ℕ) (k : Option ChangeKind) (x : ℕ × Grid) → matrix_in n k ≡ Some x → (n ≡ x.0) × (k ≡ Some (Matrix x.1))
@@ -395,42 +344,18 @@ said_numbered h (Approve u n) x e =
     proposed_matrix h x.0 x.1 (ap (kind_of_change h) (sym known.0) ∙ known.1)
 said_numbered h _ x e = cc
 
-plain_of : (h : List Call) (c : Call) → may_follow h c ≡ true → is_opening c.request ≡ false
-plain_of h c may = by (is_opening c.request) (both_true (not (is_opening c.request)) _ may).0 where
-  by : (b : Bool) → not b ≡ true → b ≡ false
-  by true e = cc
-  by false e = refl
-
 matrix_in_force : (h : List Call) → IsLegal h → (x : ℕ × Grid) → matrix_said h ≡ Some x → matrix_numbered h x.0 ≡ Some x.1
-matrix_in_force [] legal x e = absurd legal
-matrix_in_force (c ∷ []) legal x e =
-    elim (said_of_matrix [] c.request) as (λ o. said_of_matrix [] c.request ≡ o → or_else o None ≡ Some x → matrix_numbered (c ∷ []) x.0 ≡ Some x.1) [
-      | None ↦ λ _ no. cc
-      | Some y ↦ λ some is. said_numbered [] c.request x (some ∙ is)
-    ] refl e
-matrix_in_force (c ∷ b ∷ h) legal x e =
-    elim (said_of_matrix (b ∷ h) c.request) as (λ o. said_of_matrix (b ∷ h) c.request ≡ o → or_else o (matrix_said (b ∷ h)) ≡ Some x → matrix_numbered (c ∷ b ∷ h) x.0 ≡ Some x.1) [
-      | None ↦ λ _ rest. matrix_stays (b ∷ h) c.request x.0 x.1 (plain_of (b ∷ h) c legal.0) (matrix_in_force (b ∷ h) legal.2 x rest)
-      | Some y ↦ λ some is. said_numbered (b ∷ h) c.request x (some ∙ is)
-    ] refl e
+matrix_in_force =
+    latest_legal (λ c before. said_of_matrix before c.request) (λ h x. matrix_numbered h x.0 ≡ Some x.1) (λ p t u s m k shape x e. said_numbered [] (OpenUnit u s m k) x e)
+    (λ h c f x e. said_numbered h c.request x e) (λ h c f x e. matrix_stays h c.request x.0 x.1 (not-true _ f.plain) e)
 
 -- there is one
-opening_says : (q : Request) → is_opening q ≡ true → is_some (said_of_matrix [] q) ≡ true
-opening_says (OpenUnit u s m k) e = refl
-opening_says _ e = cc
-
-else_some : {A : Type 0} (o p : Option A) → is_some p ≡ true → is_some (or_else o p) ≡ true
+pub else_some : {A : Type 0} (o p : Option A) → is_some p ≡ true → is_some (or_else o p) ≡ true
 else_some None p e = e
 else_some (Some x) p e = refl
 
-else_first : {A : Type 0} (o : Option A) → is_some o ≡ true → is_some (or_else o None) ≡ true
-else_first None e = e
-else_first (Some x) e = refl
-
 matrix_there : (h : List Call) → IsLegal h → is_some (matrix_said h) ≡ true
-matrix_there [] legal = absurd legal
-matrix_there (c ∷ []) legal = else_first (said_of_matrix [] c.request) (opening_says c.request legal.0)
-matrix_there (c ∷ b ∷ h) legal = else_some (said_of_matrix (b ∷ h) c.request) (matrix_said (b ∷ h)) (matrix_there (b ∷ h) legal.2)
+matrix_there = by_legal (λ h. is_some (matrix_said h) ≡ true) (λ p t u s m k shape. refl) (λ h c f. else_some (said_of_matrix h c.request) (matrix_said h))
 
 pub in_force_numbered : (h : List Call) → IsLegal h → matrix_numbered h (matrix h).0 ≡ Some (matrix h).1
 in_force_numbered h legal = by (matrix_said h) refl (matrix_there h legal) where
@@ -465,13 +390,6 @@ numbers_told h =
 
 abbrev numbers_kept : List Call → List ℕ
 numbers_kept h = filter_map (numbered_draft h) (in_order nat_cmp (numbers_of_changes h))
-
-next_free : (h : List Call) → draft h (proposals h + 1) ≡ None
-next_free h =
-    elim (draft h (proposals h + 1)) as (λ o. draft h (proposals h + 1) ≡ o → o ≡ None) [
-      | None ↦ λ _. refl
-      | Some d ↦ λ e. let less : proposals h + 1 ≤ proposals h = draft_bound h (proposals h + 1) d e in absurd (omega (arith, less))
-    ] refl
 
 number_anew : (n k : ℕ) (d : Draft) (rest : Option Draft) → option_map (λ d. k) (or_else (when (same_number k n) d) rest) ≡ cond (same_number k n) (Some n) (option_map (λ d. k) rest)
 number_anew n k d rest =

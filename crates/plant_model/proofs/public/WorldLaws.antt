@@ -1,32 +1,19 @@
 -- What a call does to a world, and to what a person sees of it.
-use Rattle.plant_model.specs.Calls.{reply}
+use Rattle.std.specs.FinMap.{FinMap, get, contains_key, keys, entries, entries_sorted, get-insert, contains_key-keys, Entries.{is_sorted, below_all}}
+use Rattle.std.specs.{List.{list_any}, Ordering.{eq_by_cmp}}
+use Rattle.std.proofs.Common.{◌≡◌, ◌⊎◌, inl, inr, ℕ, List, [], ◌∷◌, Some, None, refl, sym, ap, subst, ◌∙◌, Bool, true, false, cond, T, ◌&&◌, ◌||◌, not, if◌then◌else◌, Option, Result, Ok, Err, is_some, unwrap_or, option_map, map, is_eq, is_lt}
+use Rattle.std.proofs.lemmas.Bool.{false_from_ne_true, true_from_ne_false}
+use Rattle.plant_model.specs.{Calls.{reply}, Facts.{facts}, Grants.{said_of_pair, is_before, held, holds_any}}
 use Rattle.plant_model.specs.Histories.{Over, Said as SaidOf, still}
-use Rattle.std.proofs.Common.{◌≡◌, ◌⊎◌, inl, inr, ℕ, List, [], ◌∷◌, Some, None, refl, sym, ap, subst, ◌∙◌, Bool, true, false, cond, T}
-use Rattle.std.specs.Prelude.{◌&&◌, ◌||◌, not, if◌then◌else◌, Option, Result, Ok, Err, is_some, unwrap_or, option_map, map}
-use Rattle.std.specs.List.{list_any}
-use Rattle.std.specs.Ordering.{eq_by_cmp, is_eq, is_lt}
-use Rattle.std.specs.FinMap.{FinMap, get, contains_key, keys, entries, entries_sorted, get-insert, contains_key-keys}
-use Rattle.std.specs.FinMap.Entries.{is_sorted, below_all}
-use Rattle.plant_types.specs.declared.role.Role.TheVariants.{Steward}
-use Rattle.plant_model.specs.declared.call.Call.{Call}
-use Rattle.plant_model.specs.declared.call.Request.{Request}
-use Rattle.plant_model.specs.declared.call.Request.TheVariants.{OpenUnit, Grant, Withdraw}
-use Rattle.plant_model.specs.declared.reply.Reply.{Reply}
-use Rattle.plant_model.specs.declared.reply.Refused.{Refused}
-use Rattle.plant_model.specs.declared.reply.Refused.TheVariants.{NotGranted}
-use Rattle.plant_types.specs.KeyedRows.{row_at, IsInOrder}
-use Rattle.plant_types.specs.Names.{Name, name_cmp, same_name}
-use Rattle.plant_types.specs.Options.{when, or_else}
-use Rattle.plant_types.specs.Roles.{Pair, same_pair, all_roles}
-use Rattle.plant_model.specs.Grants.{said_of_pair, is_before, held, holds_any}
-use Rattle.plant_model.specs.Facts.{facts}
-use Rattle.plant_model.specs.Refusals.{holds_some, first_refusal}
-use Rattle.plant_model.specs.Verdicts.{changes_history, is_opening, refusals_of_holder, refused_or, verdict}
-use Rattle.plant_model.specs.Worlds.{World, history, unit_named, unit_seen, units_held, opening, unit_answer, by_admin, is_taken, answer_at, answer, answer_of_units, with_call, next_at, next}
-use Rattle.plant_model.specs.Views.{codes_seen, view, grants_to}
 use Rattle.plant_model.specs.Laws.{UnseenCallsChangeNothing, CodesAreTheAdministrators, EqualViewsEqualAnswers, CallsToSeenUnits}
-use Rattle.plant_types.proofs.public.KeyedRowLaws.{tied, row_at-told, IsInOrder-told, same_rows}
-use Rattle.plant_types.proofs.public.Orders.{name_total, same_names, then_Equal}
+use Rattle.plant_model.specs.{Refusals.{holds_some, first_refusal}, Verdicts.{changes_history, is_opening, refusals_of_holder, refused_or, verdict}}
+use Rattle.plant_model.specs.Views.{codes_seen, view, grants_to}
+use Rattle.plant_model.specs.Worlds.{World, history, unit_named, unit_seen, units_held, opening, unit_answer, by_admin, is_taken, answer_at, answer, answer_of_units, with_call, next_at, next}
+use Rattle.plant_model.specs.declared.{call.{Call.{Call}, Request.{Request, TheVariants.{OpenUnit, Grant, Withdraw}}}, reply.Refused.{Refused}}
+use Rattle.plant_model.{specs.declared.reply.{Refused.TheVariants.{NotGranted}, Reply.{Reply}}, proofs.public.PutLaws.{is_some-find}}
+use Rattle.plant_types.specs.{KeyedRows.{row_at, IsInOrder}, Names.{Name, name_cmp, same_name}, Options.{when, or_else}}
+use Rattle.plant_types.specs.{Roles.{Pair, same_pair, all_roles}, declared.role.Role.TheVariants.{Steward}}
+use Rattle.plant_types.proofs.public.{KeyedRowLaws.{tied, row_at-told, IsInOrder-told, same_rows}, Orders.{name_total, same_names, then_Equal}}
 
 -- Keys of a map
 pub same_of : (a b : Name) → same_name a b ≡ true → a ≡ b
@@ -44,13 +31,8 @@ module _ {X : Type 0} (m : FinMap name_cmp X) where
   keys_rise : IsInOrder name_cmp (λ k. k) (keys m)
   keys_rise = subst T (sym (sorted-keys (entries m))) (entries_sorted m)
 
-  found_any : (q : Name) (ks : List Name) → is_some (row_at name_cmp (λ k. k) q ks) ≡ list_any (eq_by_cmp name_cmp q) ks
-  found_any q [] = refl
-  found_any q (k ∷ ks) =
-      elim (same_name q k) as (λ b. is_some (cond b (Some k) (row_at name_cmp (λ k. k) q ks)) ≡ (b || list_any (eq_by_cmp name_cmp q) ks)) [ true ↦ refl | false ↦ found_any q ks ]
-
   key_found : (q : Name) → is_some (row_at name_cmp (λ k. k) q (keys m)) ≡ contains_key m q
-  key_found q = found_any q (keys m) ∙ sym (contains_key-keys m q)
+  key_found q = is_some-find (eq_by_cmp name_cmp q) (keys m) ∙ sym (contains_key-keys m q)
 
   found_itself : (q : Name) (ks : List Name) → row_at name_cmp (λ k. k) q ks ≡ cond (list_any (eq_by_cmp name_cmp q) ks) (Some q) None
   found_itself q [] = refl
@@ -133,11 +115,6 @@ any-mono f g h (x ∷ xs) e =
       | false ↦ λ is rest. elim (g x) as (λ b. (b || list_any g xs) ≡ true) [ true ↦ refl | false ↦ any-mono f g h xs rest ]
     ] refl e
 
--- a test that cannot be true is false
-pub not_true : (b : Bool) → (b ≡ true → ⊥) → b ≡ false
-not_true true h = absurd (h refl)
-not_true false h = refl
-
 -- nothing is both true and false
 pub clash : {A : Type 0} (b : Bool) → b ≡ true → b ≡ false → A
 clash true t f = cc
@@ -167,7 +144,7 @@ stood t k _ rest other = λ h. h
 
 pub no_grant : (h : List Call) (c : Call) (t : ℕ) (p : Name) → grants_to p c.request ≡ false → holds_any h t p ≡ false → holds_any (c ∷ h) t p ≡ false
 no_grant h c t p other none =
-    not_true _ (λ e. clash (holds_any h t p) (any-mono (λ r. held (c ∷ h) t (p, r)) (λ r. held h t (p, r)) (λ r. stood t (p, r) c.request _ other) all_roles e) none)
+    false_from_ne_true _ (λ e. clash (holds_any h t p) (any-mono (λ r. held (c ∷ h) t (p, r)) (λ r. held h t (p, r)) (λ r. stood t (p, r) c.request _ other) all_roles e) none)
 
 -- Calls that the person does not see
 pub unseen_calls : UnseenCallsChangeNothing
@@ -189,13 +166,9 @@ unseen_calls w p t c unseen other = by_unit (unit_named c.request) unseen where
 abbrev pub Said : Type 0
 Said = Result Reply Refused
 
-first_refused : (b : Bool) (x : Refused) (rest : List (Bool × Refused)) (reply : Reply) → b ≡ false → refused_or (first_refusal ((not b, x) ∷ rest)) reply ≡ Err x
-first_refused true x rest reply e = cc
-first_refused false x rest reply e = refl
-
 pub not_granted : (h : List Call) (c : Call) → holds_any h c.moment c.person ≡ false → verdict h c ≡ Err NotGranted
 unfolding holds_some
-not_granted h c none = first_refused (holds_any h c.moment c.person) NotGranted (refusals_of_holder (facts h) c) (reply (facts h) c.moment c.request) none
+not_granted h c none = ap (λ b. refused_or (first_refusal ((not b, NotGranted) ∷ refusals_of_holder (facts h) c)) (reply (facts h) c.moment c.request)) none
 
 pub refused_changes : (v : Said) (c : Call) (x : Refused) → v ≡ Err x → changes_history v c ≡ true → ⊥
 refused_changes (Ok r) c x e t = cc
@@ -203,18 +176,7 @@ refused_changes (Err y) c x e t = cc
 
 -- who changes a unit holds a role in it, or is the administrator who opens it
 changes_held : (h : List Call) (c : Call) → changes_history (verdict h c) c ≡ true → holds_any h c.moment c.person ≡ true
-changes_held h c t =
-    elim (holds_any h c.moment c.person) as (λ b. holds_any h c.moment c.person ≡ b → b ≡ true) [
-      | true ↦ λ _. refl
-      | false ↦ λ e. absurd (refused_changes (verdict h c) c NotGranted (not_granted h c e) t)
-    ] refl
-
-choose : {A : Type 0} (b : Bool) (x y z : A) → (b ≡ true → x ≡ z) → (b ≡ false → y ≡ z) → (if b then x else y) ≡ z
-choose true x y z f g = f refl
-choose false x y z f g = g refl
-
-opening_by_other : (taken : Bool) (c : Call) → changes_history (opening false taken) c ≡ true → ⊥
-opening_by_other taken c t = cc
+changes_held h c t = true_from_ne_false _ (λ e. refused_changes (verdict h c) c NotGranted (not_granted h c e) t)
 
 pub opening_changes : (admin taken : Bool) (c : Call) → changes_history (opening admin taken) c ≡ true → (admin ≡ true) × (taken ≡ false)
 opening_changes true true c t = cc

@@ -1,19 +1,14 @@
 -- A run with one more call.
-use Rattle.std.proofs.Common.{ap, arith, refl, subst, sym, ◌∙◌}
+use Rattle.std.proofs.Common.{ap, arith, refl, subst, sym, ◌∙◌, List, [], cond, count_by, false, if◌then◌else◌, length, true, ℕ, ◌++◌, ◌+◌, ◌-◌, ◌<◌, ◌^◌, ◌∷◌, ◌≡◌, ◌≤◌}
 use Rattle.std.proofs.lemmas.List.Sums.{count_by-le-length, sum_by-append}
-use Rattle.std.specs.Prelude.{List, [], cond, count_by, false, if◌then◌else◌, length, true, ℕ, ◌++◌, ◌+◌, ◌-◌, ◌<◌, ◌^◌, ◌∷◌, ◌≡◌, ◌≤◌}
-use Rattle.plant_model.specs.declared.call.Call.{Call}
-use Rattle.plant_model.specs.declared.reply.Answer.{Answer}
+use Rattle.plant_model.specs.{Worlds.{IsLegalWorld, World, answer, answers}, declared.{call.Call.{Call}, reply.Answer.{Answer}}}
 use Rattle.plant_model.specs.declared.reply.Answer.TheVariants.{Fault as Faulted, Refused as WasRefused, Reply as Replied}
-use Rattle.plant_types.specs.declared.fault.Fault.TheVariants.{Memory, Store}
-use Rattle.plant_books.specs.Contents.{Content}
 use Rattle.plant_model.proofs.public.PutLaws.{said}
-use Rattle.plant_model.specs.Worlds.{IsLegalWorld, World, answer, answers}
-use Rattle.plant_office.proofs.Serving.{alike_if}
+use Rattle.plant_types.{specs.declared.fault.Fault.TheVariants.{Memory, Store}, proofs.public.Halves.{left}}
+use Rattle.plant_books.specs.Contents.{Content}
 use Rattle.plant_office.specs.Answers.{CountsAnswer, IfSaid, OnFault}
 use Rattle.plant_office.specs.Runs.{AreAnswers, AreIsolated, IsAlike, IsRun, after_answer, is_store, stores_in, world_after}
-use Rattle.plant_office.specs.Served.{Holds, IsServed}
-use Rattle.plant_types.proofs.public.DateTests.{left}
+use Rattle.plant_office.{specs.Served.{Holds, IsServed}, proofs.Serving.{alike_if}}
 
 runs_more : (w : World) (calls : List Call) (answers : List Answer) (c : Call) (a : Answer) → AreAnswers w calls answers → IfSaid a (λ x. x ≡ answer (world_after w calls answers) c) → AreAnswers w (calls ++ c ∷ []) (answers ++ a ∷ [])
 runs_more w [] [] c a h said = (said, tt)

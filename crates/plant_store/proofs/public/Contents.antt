@@ -1,25 +1,17 @@
 -- What the tables have of units, and the content of the books.
-use Rattle.std.proofs.Common.{◌≡◌, ◌≢◌, ◌⊎◌, inl, inr, Bool, true, false, cond, List, [], ◌∷◌, Option, None, Some, refl, sym, ap, ◌∙◌, subst, true≢false}
-use Rattle.std.specs.Prelude.{unwrap_or, is_some}
-use Rattle.std.specs.FinMap.{get, contains_key, get-empty, get-insert}
-use Rattle.std.specs.Cmp.Lexicographic.{nat_list_cmp_total}
+use Rattle.std.specs.{Cmp.Lexicographic.{nat_list_cmp_total}, FinMap.{get, contains_key, get-empty, get-insert}}
+use Rattle.std.proofs.Common.{◌≡◌, ◌≢◌, ◌⊎◌, inl, inr, Bool, true, false, cond, List, [], ◌∷◌, Option, None, Some, refl, sym, ap, ◌∙◌, subst, true≢false, unwrap_or, is_some}
 use Rattle.sqlite.specs.State.{State}
 use Rattle.plant_books.specs.Contents.{Content, IsKnownTo, after_changes, no_units, rows_in}
-use Rattle.plant_model.specs.declared.rows.RowEdit.{RowEdit}
-use Rattle.plant_model.specs.declared.rows.RowEdit.TheVariants.{Put, PutEvents, Remove}
+use Rattle.plant_model.specs.RowChanges.{changed, changed_by, no_rows, puts_unit}
 use Rattle.plant_model.specs.declared.rows.Key.TheVariants.{Grant as GrantKey, Shelf as ShelfKey}
 use Rattle.plant_model.specs.declared.rows.Row.TheVariants.{Alarm as AlarmPut, Band as BandPut, Cell as CellPut, Change as ChangePut, Event as EventPut, Grant as GrantPut, Record as RecordPut, Shelf as ShelfPut, Unit as UnitPut}
-use Rattle.plant_model.specs.declared.rows.UnitRows.{UnitRows}
-use Rattle.plant_model.specs.RowChanges.{changed, changed_by, no_rows, puts_unit}
-use Rattle.plant_types.specs.Names.{Name, name_cmp, same_name}
-use Rattle.plant_types.proofs.public.Orders.{same_names}
-use Rattle.plant_types.proofs.public.KeyedRowLaws.{tied}
-use Rattle.plant_store.specs.Changes.{Applies, IsOfficeOf}
-use Rattle.plant_store.specs.Keeping.{HasContent, has_any}
-use Rattle.plant_store.specs.Making.{AreNew}
-use Rattle.plant_columns.specs.Tables.{AreBooks, AreSeen, Kept, rows_at, rows_seen, shape}
+use Rattle.plant_model.specs.declared.rows.{RowEdit.{RowEdit, TheVariants.{Put, PutEvents, Remove}}, UnitRows.{UnitRows}}
+use Rattle.plant_types.{specs.Names.{Name, name_cmp, same_name}, proofs.public.{KeyedRowLaws.{tied}, Orders.{same_names}}}
+use Rattle.plant_store.specs.{Changes.{Applies, IsOfficeOf}, Keeping.{HasContent, has_any}, Making.{AreNew}}
 use Rattle.plant_columns.specs.Shape.{rows_in as rows_of}
 use Rattle.plant_columns.specs.Tables.Kept.{UnitKept, GrantKept, AlarmKept, ShelfKept, BandKept, CellKept, EventKept, RecordKept, ChangeKept}
+use Rattle.plant_columns.specs.Tables.{AreBooks, AreSeen, Kept, rows_at, rows_seen, shape}
 
 pub same_codes : (a b : Name) → same_name a b ≡ true → a ≡ b
 same_codes a b h = same_names a b (tied _ _ h refl)

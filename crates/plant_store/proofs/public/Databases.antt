@@ -1,9 +1,7 @@
 -- The trees of a database tell its schema.
 use Rattle.std.proofs.Common.{◌≡◌, sym, subst}
-use Rattle.sqlite.specs.Effect.{Database, IsDatabase}
-use Rattle.sqlite.specs.Tree.{Trees}
-use Rattle.sqlite_catalog.proofs.ReadLemmas.{lists_once}
-use Rattle.sqlite_catalog.specs.Listing.{Lists}
+use Rattle.sqlite.specs.{Effect.{Database, IsDatabase}, Tree.{Trees}}
+use Rattle.sqlite_catalog.{specs.Listing.{Lists}, proofs.ReadLemmas.{lists_once}}
 use Rattle.sqlite_trees.specs.Objects.{catalog_tree}
 
 same_schema : (a b : Database) → IsDatabase a → IsDatabase b → a.trees ≡ b.trees → a.schema ≡ b.schema

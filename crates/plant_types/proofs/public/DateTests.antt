@@ -1,16 +1,7 @@
 -- What the tests of a date and of a time say.
-use Rattle.std.proofs.Common.{◌≡◌, ℕ, ◌≤◌, ◌<◌, refl, Bool, true, false, ◌&&◌, pos}
-use Rattle.std.proofs.lemmas.Bool.{leb-true, ltb-true, false≢true}
+use Rattle.std.proofs.{Common.{◌≡◌, ℕ, ◌≤◌, ◌<◌, true, pos}, lemmas.Bool.{leb-true, ltb-true}}
 use Rattle.jiff_core.specs.Calendar.{days_in_month}
-use Rattle.plant_types.specs.Moment.{is_date, is_time}
-
-pub left : (a b : Bool) → (a && b) ≡ true → a ≡ true
-left true b e = refl
-left false b e = e
-
-pub right : (a b : Bool) → (a && b) ≡ true → b ≡ true
-right true b e = e
-right false b e = absurd (false≢true e)
+use Rattle.plant_types.{specs.Moment.{is_date, is_time}, proofs.public.Halves.{left, right}}
 
 pub record IsDate (y m d : ℕ) : Type 0 where
   pub low : 2000 ≤ y

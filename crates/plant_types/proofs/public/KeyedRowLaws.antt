@@ -1,13 +1,9 @@
 -- Rows in the order of their keys: what is at a key after a change, and that what is at each key settles the rows.
-use Rattle.std.proofs.Common.{◌⊎◌, inl, inr, ◌≡◌, List, [], ◌∷◌, Some, None, refl, sym, ap, subst, ◌∙◌, Bool, true, false, cond, T}
-use Rattle.std.specs.Prelude.{◌||◌, ◌&&◌, not, Option, filter, filter_map, map, is_some}
-use Rattle.std.specs.List.{list_any, cons_option}
-use Rattle.std.specs.declared.cmp.Ordering.{Ordering}
-use Rattle.std.specs.declared.cmp.Ordering.TheVariants.{Less, Equal, Greater}
-use Rattle.std.specs.Ordering.{eq_by_cmp, is_eq, is_lt}
 use Rattle.std.specs.Cmp.{IsTotalOrder, alike_right, eq_by_cmp_equiv}
 use Rattle.std.specs.FinMap.Entries.{by_order, is_sorted, below_all, put, where_key, find as found, is_sorted-put, is_sorted-where_key, find-put, find-where_key, same_entries}
-use Rattle.plant_types.specs.KeyedRows.{row_at, put_row, remove_row, in_order, IsInOrder}
+use Rattle.std.specs.{List.{list_any, cons_option}, Ordering.{eq_by_cmp}}
+use Rattle.std.proofs.Common.{◌⊎◌, inl, inr, ◌≡◌, List, [], ◌∷◌, Some, None, refl, sym, ap, subst, ◌∙◌, Bool, true, false, cond, T, ◌||◌, not, Option, filter, filter_map, map, is_some, Ordering, Less, Equal, Greater, is_eq, is_lt}
+use Rattle.plant_types.{specs.KeyedRows.{row_at, put_row, remove_row, in_order, IsInOrder}, proofs.public.Halves.{both, first, second}}
 
 pub tied : (r : Ordering) (b : Bool) → is_eq r ≡ b → b ≡ true → r ≡ Equal
 tied Less b e t = cc
@@ -88,18 +84,6 @@ module _ {K X : Type 0} (R : K → K → Ordering) (key : X → K) where
                   | false ↦ λ t. rest
                 ] refl
           ] refl
-
-      both : (a b : Bool) → T a → T b → T (a && b)
-      both true b p q = q
-      both false b p q = p
-
-      first : (a b : Bool) → T (a && b) → T a
-      first true b p = tt
-      first false b p = p
-
-      second : (a b : Bool) → T (a && b) → T b
-      second true b p = p
-      second false b p = absurd p
 
       below_told : (x : K) (ks : List K) → T (below_all R x (map (λ k. (k, k)) ks)) → T (below_all R x (keyed (filter_map row ks)))
       below_told x [] h = tt

@@ -1,16 +1,9 @@
 -- The orders of keys: total, and equal only at equal keys.
-use Rattle.std.proofs.Common.{◌≡◌, ℕ, refl, sym, ap, ◌∙◌}
-use Rattle.std.specs.Prelude.{◌==◌, if◌then◌else◌}
-use Rattle.std.specs.declared.cmp.Ordering.{Ordering}
-use Rattle.std.specs.declared.cmp.Ordering.TheVariants.{Less, Equal, Greater}
-use Rattle.std.specs.Ordering.{nat_cmp, ordering_then}
-use Rattle.std.specs.Cmp.{IsTotalOrder, nat_cmp_total, then_total, on_total}
-use Rattle.std.specs.Cmp.Lexicographic.{nat_list_cmp_total}
-use Rattle.std.specs.FinMap.{nat_cmp-IsAntisymmetric, slice_cmp-IsAntisymmetric}
-use Rattle.plant_types.specs.declared.role.Role.{Role}
+use Rattle.std.specs.Cmp.{IsTotalOrder, nat_cmp_total, then_total, on_total, Lexicographic.{nat_list_cmp_total}}
+use Rattle.std.specs.{FinMap.{nat_cmp-IsAntisymmetric, slice_cmp-IsAntisymmetric}, Ordering.{ordering_then}}
+use Rattle.std.proofs.Common.{◌≡◌, ℕ, refl, sym, ap, ◌∙◌, ◌==◌, if◌then◌else◌, Ordering, Less, Equal, Greater, nat_cmp}
+use Rattle.plant_types.specs.{Names.{Name, name_cmp}, Roles.{role_no, Pair, pair_cmp}, declared.role.Role.{Role}}
 use Rattle.plant_types.specs.declared.role.Role.TheVariants.{Viewer, Operator, Maintainer, Engineer, Approver, Steward}
-use Rattle.plant_types.specs.Names.{Name, name_cmp}
-use Rattle.plant_types.specs.Roles.{role_no, Pair, pair_cmp}
 
 -- names and pairs
 pub name_total : IsTotalOrder name_cmp

@@ -2,10 +2,8 @@
 use Rattle.std.proofs.Common.{◌≡◌, ℕ, ◌+◌, ◌*◌, ◌/◌, ◌%◌, ◌<◌, refl, ap, ◌∙◌, arith, Bool, true, ◌&&◌, Some, None, cond, List, [], ◌∷◌, pos}
 use Rattle.std.proofs.lemmas.Bool.{le-leb, lt-ltb}
 use Rattle.jiff_core.proofs.CalendarLemmas.{days_in_month_bounds}
-use Rattle.plant_types.specs.Text.{is_digit}
-use Rattle.plant_types.specs.Moment.{decimal_value, has_form, is_date, is_time, days_since_2000, moment_of}
-use Rattle.plant_types.proofs.public.DateTests.{date_is}
-use Rattle.plant_types.specs.Spelling.{digit, spelled}
+use Rattle.plant_types.specs.{Moment.{decimal_value, has_form, is_date, is_time, days_since_2000, moment_of}, Spelling.{digit, spelled}}
+use Rattle.plant_types.{specs.Text.{is_digit}, proofs.public.DateTests.{date_is}}
 
 two : {a b : Bool} → a ≡ true → b ≡ true → (a && b) ≡ true
 two {a} {b} p q = ap (λ x. x && b) p ∙ q

@@ -1,11 +1,8 @@
 -- Lists that a loop makes, one element after another.
-use Rattle.std.proofs.Common.{subst, ◌≡◌, ℕ, ◌+◌, ◌<◌, ◌≤◌, List, [], ◌∷◌, ◌++◌, Some, None, refl, ap, sym, ◌∙◌, length, get_or, take, arith, append_assoc}
-use Rattle.std.specs.Prelude.{Bool, Option, false, filter, filter_map, if◌then◌else◌, option_to_list, map, flat_map, true}
 use Rattle.std.specs.List.{enumerate_from, take-map}
+use Rattle.std.proofs.Common.{subst, ◌≡◌, ℕ, ◌+◌, ◌<◌, ◌≤◌, List, [], ◌∷◌, ◌++◌, Some, None, refl, ap, sym, ◌∙◌, length, get_or, take, arith, append_assoc, Bool, Option, false, filter, filter_map, if◌then◌else◌, option_to_list, map, flat_map, true}
+use Rattle.std.proofs.{Math.ListN.{get_or-map}, lemmas.{Grind.{flat_map-append}, List.Elements.{filter_map-append}}}
 use Rattle.std.proofs.lemmas.List.{take_more, map-append, length-take-le, length-map}
-use Rattle.std.proofs.Math.ListN.{get_or-map}
-use Rattle.std.proofs.lemmas.List.Elements.{filter_map-append}
-use Rattle.std.proofs.lemmas.Grind.{flat_map-append}
 
 one : {X Y : Type 0} (f : X → Option Y) (x : X) (o : Option Y) → f x ≡ o → filter_map f (x ∷ []) ≡ option_to_list o
 one f x None e = rw e refl

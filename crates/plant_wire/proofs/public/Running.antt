@@ -1,16 +1,11 @@
 -- What the office did in one step after another.
-use Rattle.std.proofs.Common.{◌≡◌, ◌<◌, ◌+◌, ℕ, List, [], ◌∷◌, ◌++◌, cond, refl, sym, subst, arith}
-use Rattle.std.specs.Prelude.{◌-◌, ◌^◌}
-use Rattle.std.proofs.lemmas.List.Sums.{sum_by-append}
-use Rattle.plant_model.specs.declared.call.Call.{Call}
-use Rattle.plant_model.specs.declared.reply.Answer.{Answer}
-use Rattle.plant_model.specs.Worlds.{World, IsLegalWorld}
-use Rattle.plant_books.specs.Contents.{Content}
+use Rattle.std.proofs.{Common.{◌≡◌, ◌<◌, ◌+◌, ℕ, List, [], ◌∷◌, ◌++◌, cond, refl, sym, subst, arith, ◌-◌, ◌^◌}, lemmas.List.Sums.{sum_by-append}}
+use Rattle.plant_model.specs.{Worlds.{World, IsLegalWorld}, declared.{call.Call.{Call}, reply.Answer.{Answer}}}
 use Rattle.plant_model.specs.declared.reply.Answer.TheVariants.{Fault as Faulted, Refused as WasRefused, Reply as Replied}
+use Rattle.plant_books.specs.Contents.{Content}
 use Rattle.plant_types.specs.declared.fault.Fault.TheVariants.{Memory, Store}
 use Rattle.plant_office.specs.Answers.{CountsAnswer, IfSaid, OnFault}
-use Rattle.plant_office.specs.Served.{Holds, IsServed}
-use Rattle.plant_office.specs.Runs.{AreAnswers, AreIsolated, IsRun, after_answer, is_store, stores_in, world_after}
+use Rattle.plant_office.specs.{Runs.{AreAnswers, AreIsolated, IsRun, after_answer, is_store, stores_in, world_after}, Served.{Holds, IsServed}}
 use Rattle.plant_office.proofs.public.Running.{run_more, run_none}
 use Rattle.plant_wire.specs.Ran.{Ran}
 

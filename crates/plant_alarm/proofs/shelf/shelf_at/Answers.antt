@@ -1,7 +1,6 @@
 -- What the last return says of the shelf is what the events say.
 use Rattle.std.proofs.Common.{rules, ◌≡◌, ◌-◌, ◌∙◌}
-use Rattle.plant_alarm.specs.declared.shelf.ShelfState.TheVariants.{Unshelved, OneShotShelved}
-use Rattle.plant_alarm.specs.Shelves.{shelf_state}
+use Rattle.plant_alarm.specs.{Shelves.{shelf_state}, declared.shelf.ShelfState.TheVariants.{Unshelved, OneShotShelved}}
 use Rattle.plant_alarm.proofs.public.Returns.{shelf_by_events}
 use Rattle.plant_alarm.proofs.shelf.shelf_at.Goals as goal
 

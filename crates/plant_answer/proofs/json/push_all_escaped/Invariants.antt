@@ -1,5 +1,4 @@
-use Rattle.std.proofs.Common.{◌≡◌, ◌++◌, take}
-use Rattle.std.specs.List.{flat_map}
+use Rattle.std.proofs.Common.{◌≡◌, ◌++◌, take, flat_map}
 use Rattle.plant_answer.specs.Json.{escaped}
 use Rattle.plant_answer.proofs.json.push_all_escaped.Given as goal
 

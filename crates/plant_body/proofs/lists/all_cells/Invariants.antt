@@ -1,5 +1,4 @@
-use Rattle.plant_body.specs.Lists.{cell_of}
-use Rattle.plant_body.proofs.Items.{IsReadTo}
+use Rattle.plant_body.{specs.Lists.{cell_of}, proofs.Items.{IsReadTo}}
 use Rattle.plant_body.proofs.lists.all_cells.Given as goal
 
 abbrev pub invariant-loop-item : goal.invariant-loop-item

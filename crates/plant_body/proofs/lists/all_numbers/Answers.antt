@@ -1,7 +1,6 @@
 use Rattle.std.proofs.Common.{refl, sym, ap, ◌∙◌}
 use Rattle.serde_json.specs.View.{view}
-use Rattle.plant_body.specs.Members.{number_of}
-use Rattle.plant_body.proofs.Items.{read_none, read_one, read_bad, read_all}
+use Rattle.plant_body.{specs.Members.{number_of}, proofs.Items.{read_none, read_one, read_bad, read_all}}
 use Rattle.plant_body.proofs.lists.all_numbers.Goals as goal
 
 pub loop-item-init : goal.loop-item-init

@@ -1,5 +1,4 @@
-use Rattle.plant_body.specs.Members.{number_of}
-use Rattle.plant_body.proofs.Items.{IsReadTo}
+use Rattle.plant_body.{specs.Members.{number_of}, proofs.Items.{IsReadTo}}
 use Rattle.plant_body.proofs.lists.all_numbers.Given as goal
 
 abbrev pub invariant-loop-item : goal.invariant-loop-item

@@ -1,11 +1,7 @@
-use Rattle.std.proofs.Common.{refl, sym, ap, ◌∙◌, map, Vec, Global, subst}
-use Rattle.std.proofs.lemmas.List.{map_push}
-use Rattle.serde_json.specs.View.{view}
-use Rattle.serde_json.specs.declared.value.Value.{Value}
+use Rattle.std.proofs.{Common.{refl, sym, ap, ◌∙◌, map, Vec, Global, subst}, lemmas.List.{map_push}}
+use Rattle.serde_json.specs.{View.{view}, declared.value.Value.{Value}}
 use Rattle.plant_ration.specs.declared.cell.Cell.{Cell}
-use Rattle.plant_body.specs.Members.{or_body, Fails}
-use Rattle.plant_body.specs.Lists.{row_of}
-use Rattle.plant_body.proofs.Items.{read_none, read_one, read_all, told_some, fails_with}
+use Rattle.plant_body.{specs.{Lists.{row_of}, Members.{or_body, Fails}}, proofs.Items.{read_none, read_one, read_all, told_some, fails_with}}
 use Rattle.plant_body.proofs.lists.all_rows.Goals as goal
 
 pub loop-item-init : goal.loop-item-init

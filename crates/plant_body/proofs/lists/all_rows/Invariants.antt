@@ -1,6 +1,5 @@
 use Rattle.std.proofs.Common.{map}
-use Rattle.plant_body.specs.Lists.{row_of}
-use Rattle.plant_body.proofs.Items.{IsReadTo}
+use Rattle.plant_body.{specs.Lists.{row_of}, proofs.Items.{IsReadTo}}
 use Rattle.plant_body.proofs.lists.all_rows.Given as goal
 
 abbrev pub invariant-loop-item : goal.invariant-loop-item

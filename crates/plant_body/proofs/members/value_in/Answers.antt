@@ -1,5 +1,4 @@
-use Rattle.std.proofs.Common.{refl}
-use Rattle.std.specs.Prelude.{IsTrue}
+use Rattle.std.proofs.Common.{refl, IsTrue}
 use Rattle.plant_body.proofs.Values.{value_found, value_missing}
 use Rattle.plant_body.proofs.members.value_in.Goals as goal
 

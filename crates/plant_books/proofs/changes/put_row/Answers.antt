@@ -1,12 +1,9 @@
-use Rattle.std.proofs.Common.{ap}
-use Rattle.std.specs.Cmp.{nat_cmp_total, on_total}
-use Rattle.std.specs.Ordering.{nat_cmp}
+use Rattle.std.{specs.Cmp.{nat_cmp_total, on_total}, proofs.Common.{ap, nat_cmp}}
 use Rattle.plant_books.proofs.public.OrderLaws.{put_by_keys, rows_rise}
-use Rattle.plant_model.proofs.public.PlaceOrders.{band_total, cell_total}
 use Rattle.plant_model.specs.Matrices.{band_cmp, cell_cmp}
 use Rattle.plant_model.specs.RowFacts.{alarm_tag, band_key, cell_key, change_number, event_number, record_tag, shelf_tag}
-use Rattle.plant_types.proofs.public.Orders.{name_total}
-use Rattle.plant_types.specs.Names.{name_cmp}
+use Rattle.plant_model.proofs.public.PlaceOrders.{band_total, cell_total}
+use Rattle.plant_types.{specs.Names.{name_cmp}, proofs.public.Orders.{name_total}}
 use Rattle.plant_books.proofs.changes.put_row.Goals as goal
 
 pub returns-in-Alarm-clause-ok : goal.returns-in-Alarm-clause-ok

@@ -1,5 +1,4 @@
-use Rattle.std.proofs.Common.{rules, ◌∙◌}
-use Rattle.std.proofs.lemmas.Fn.{filter_same}
+use Rattle.std.proofs.{Common.{rules, ◌∙◌}, lemmas.Fn.{filter_same}}
 use Rattle.plant_books.proofs.changes.without_grant.Goals as goal
 
 pub returns : goal.returns

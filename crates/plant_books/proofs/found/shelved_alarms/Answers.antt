@@ -1,8 +1,5 @@
-use Rattle.std.proofs.Common.{None, Some, [], ap, drop, sym, ◌+◌, ◌++◌, ◌∙◌, ◌∷◌}
-use Rattle.std.proofs.lemmas.List.{append-nil}
-use Rattle.std.specs.Prelude.{option_copied}
-use Rattle.plant_books.specs.Found.{shelved}
-use Rattle.plant_books.proofs.ShelvedLaws.{all_shelved, next_shelved}
+use Rattle.std.proofs.{Common.{None, Some, [], ap, drop, sym, ◌+◌, ◌++◌, ◌∙◌, ◌∷◌, option_copied}, lemmas.List.{append-nil}}
+use Rattle.plant_books.{specs.Found.{shelved}, proofs.ShelvedLaws.{all_shelved, next_shelved}}
 use Rattle.plant_books.proofs.found.shelved_alarms.Goals.{in-Some+in_ok-duplicate+in_ok-push, in_default}
 use Rattle.plant_books.proofs.found.shelved_alarms.Goals as goal
 

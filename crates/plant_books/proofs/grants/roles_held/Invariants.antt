@@ -1,5 +1,4 @@
-use Rattle.std.proofs.Common.{◌≡◌, map, take}
-use Rattle.std.specs.Prelude.{filter}
+use Rattle.std.proofs.Common.{◌≡◌, map, take, filter}
 use Rattle.plant_books.specs.Contents.{is_held_by}
 use Rattle.plant_books.proofs.grants.roles_held.Given as goal
 

@@ -1,6 +1,4 @@
-use Rattle.std.proofs.Common.{ap, drop, rules, take, ◌∙◌, ◌≡◌}
-use Rattle.std.proofs.lemmas.List.Sorted.{IsPartitionPoint-from_clause}
-use Rattle.std.specs.Prelude.{nat_le, nat_lt}
+use Rattle.std.proofs.{Common.{ap, drop, rules, take, ◌∙◌, ◌≡◌, nat_le, nat_lt}, lemmas.List.Sorted.{IsPartitionPoint-from_clause}}
 use Rattle.plant_books.proofs.public.NumberRanges.{Parted, cut_out, parted_below, parted_upto}
 use Rattle.plant_books.proofs.numbered.rows_of_number.Goals as goal
 

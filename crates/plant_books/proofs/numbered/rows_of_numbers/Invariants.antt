@@ -1,6 +1,5 @@
 use Rattle.std.proofs.Common.{List, ◌++◌, ◌≡◌, ℕ}
-use Rattle.plant_books.proofs.public.NumberRanges.{those_among}
-use Rattle.plant_books.specs.Numbered.{NumbersRise}
+use Rattle.plant_books.{specs.Numbered.{NumbersRise}, proofs.public.NumberRanges.{those_among}}
 use Rattle.plant_books.proofs.numbered.rows_of_numbers.Given as goal
 
 abbrev pub invariant-loop-number : goal.invariant-loop-number

@@ -1,14 +1,9 @@
-use Rattle.std.proofs.Common.{sym, ◌∙◌, ◌≡◌}
-use Rattle.std.specs.BTreeSet.{contains}
-use Rattle.std.specs.Ordering.{nat_cmp}
-use Rattle.std.specs.Prelude.{◌&&◌, ◌||◌}
-use Rattle.plant_model.specs.Parts.{is_source}
-use Rattle.plant_books.proofs.NumbersAmong.{left_out, taken, with_named, without_named}
-use Rattle.plant_books.specs.Asking.{is_number, is_wanted}
+use Rattle.std.{specs.BTreeSet.{contains}, proofs.Common.{sym, ◌∙◌, ◌≡◌, nat_cmp, ◌&&◌, ◌||◌}}
+use Rattle.plant_model.specs.{Parts.{is_source}, Scopes.{selection_by}}
+use Rattle.plant_books.{specs.Asking.{is_number, is_wanted}, proofs.NumbersAmong.{left_out, taken, with_named, without_named}}
+use Rattle.plant_books.proofs.numbers.change_numbers.Goals.{else-wants_sources, in-Some+in_ok-insert, in_default, then-wants_sources+in_ok-numbers}
 use Rattle.plant_books.specs.Asking as asked
 use Rattle.plant_books.proofs.numbers.change_numbers.Goals as goal
-use Rattle.plant_books.proofs.numbers.change_numbers.Goals.{else-wants_sources, in-Some+in_ok-insert, in_default, then-wants_sources+in_ok-numbers}
-use Rattle.plant_model.specs.Scopes.{selection_by}
 
 pub returns-clause-value : goal.returns-clause-value
 returns-clause-value c rows same n =

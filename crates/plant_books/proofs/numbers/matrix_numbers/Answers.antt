@@ -1,14 +1,9 @@
-use Rattle.std.proofs.Common.{ap, false, sym, ◌∙◌, ◌≡◌}
-use Rattle.std.specs.BTreeSet.{contains}
-use Rattle.std.specs.Ordering.{nat_cmp}
-use Rattle.std.specs.Prelude.{◌&&◌, ◌||◌}
-use Rattle.plant_model.specs.Histories.{same_number}
-use Rattle.plant_model.specs.Parts.{is_in_force}
-use Rattle.plant_books.proofs.NumbersAmong.{with_first, with_named, without_first, without_named}
-use Rattle.plant_books.specs.Asking.{is_number}
+use Rattle.std.{specs.BTreeSet.{contains}, proofs.Common.{ap, false, sym, ◌∙◌, ◌≡◌, nat_cmp, ◌&&◌, ◌||◌}}
+use Rattle.plant_model.specs.{Histories.{same_number}, Parts.{is_in_force}}
+use Rattle.plant_books.{specs.Asking.{is_number}, proofs.NumbersAmong.{with_first, with_named, without_first, without_named}}
+use Rattle.plant_books.proofs.numbers.matrix_numbers.Goals.{else-wants_matrix, in-Some+in_ok-insert-2, in_default, then-wants_matrix+in_ok-insert}
 use Rattle.plant_books.specs.Asking as asked
 use Rattle.plant_books.proofs.numbers.matrix_numbers.Goals as goal
-use Rattle.plant_books.proofs.numbers.matrix_numbers.Goals.{else-wants_matrix, in-Some+in_ok-insert-2, in_default, then-wants_matrix+in_ok-insert}
 
 pub returns-clause-value : goal.returns-clause-value
 returns-clause-value c rows same n =

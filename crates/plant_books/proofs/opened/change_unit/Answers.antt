@@ -1,10 +1,7 @@
-use Rattle.std.proofs.Common.{ap, subst, sym, ◌∙◌, ◌≡◌}
-use Rattle.std.specs.Prelude.{OnOk, unwrap_or}
-use Rattle.plant_books.specs.Listed.{rows_at, unit_cmp}
-use Rattle.plant_model.specs.Order.{AreInOrder}
-use Rattle.plant_books.specs.declared.opened.OpenedUnit.{OpenedUnit}
+use Rattle.std.proofs.Common.{ap, subst, sym, ◌∙◌, ◌≡◌, OnOk, unwrap_or}
+use Rattle.plant_books.specs.{Listed.{rows_at, unit_cmp}, declared.opened.OpenedUnit.{OpenedUnit}}
 use Rattle.plant_books.proofs.public.OrderLaws.{or_none_in_order, rows_in_order}
-use Rattle.plant_model.specs.RowChanges.{changed_by, no_rows}
+use Rattle.plant_model.specs.{Order.{AreInOrder}, RowChanges.{changed_by, no_rows}}
 use Rattle.plant_types.specs.KeyedRows.{put_row}
 use Rattle.plant_books.proofs.opened.change_unit.Goals as goal
 

@@ -1,5 +1,4 @@
-use Rattle.std.proofs.Common.{◌≡◌, ◌++◌, Some, drop}
-use Rattle.std.specs.Prelude.{filter_map}
+use Rattle.std.proofs.Common.{◌≡◌, ◌++◌, Some, drop, filter_map}
 use Rattle.plant_books.specs.Contents.{is_held_in}
 use Rattle.plant_types.specs.Options.{when}
 use Rattle.plant_books.proofs.opened.codes_held.Given as goal

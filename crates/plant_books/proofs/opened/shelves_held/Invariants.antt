@@ -1,7 +1,5 @@
-use Rattle.std.proofs.Common.{◌≡◌, ◌++◌, Some, drop}
-use Rattle.std.specs.Prelude.{flat_map}
-use Rattle.plant_books.specs.Contents.{shelves_mine}
-use Rattle.plant_books.specs.Listed.{AllInOrder}
+use Rattle.std.proofs.Common.{◌≡◌, ◌++◌, Some, drop, flat_map}
+use Rattle.plant_books.specs.{Contents.{shelves_mine}, Listed.{AllInOrder}}
 use Rattle.plant_books.proofs.opened.shelves_held.Given as goal
 
 abbrev pub invariant-loop-opened : goal.invariant-loop-opened

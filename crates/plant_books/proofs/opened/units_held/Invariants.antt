@@ -1,5 +1,4 @@
-use Rattle.std.proofs.Common.{◌≡◌, ◌++◌, Some, drop}
-use Rattle.std.specs.Prelude.{filter_map}
+use Rattle.std.proofs.Common.{◌≡◌, ◌++◌, Some, drop, filter_map}
 use Rattle.plant_books.specs.Contents.{mine_unit}
 use Rattle.plant_books.proofs.opened.units_held.Given as goal
 

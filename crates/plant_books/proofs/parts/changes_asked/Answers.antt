@@ -1,8 +1,6 @@
 use Rattle.std.proofs.Common.{Err, Ok, ap, sym, ◌∙◌}
-use Rattle.plant_books.proofs.PassingLaws.{passing_as}
+use Rattle.plant_books.{specs.{Asking.{changes_by, records_by}, Numbered.{NumbersRise, of_numbers}}, proofs.PassingLaws.{passing_as}}
 use Rattle.plant_books.proofs.public.NumberRanges.{changes_rise, taken}
-use Rattle.plant_books.specs.Asking.{changes_by, records_by}
-use Rattle.plant_books.specs.Numbered.{NumbersRise, of_numbers}
 use Rattle.plant_model.specs.RowFacts.{change_number}
 use Rattle.plant_types.specs.Results.{Gives}
 use Rattle.plant_books.proofs.parts.changes_asked.Goals as goal

@@ -1,7 +1,5 @@
-use Rattle.std.proofs.Common.{◌≡◌, take}
-use Rattle.std.specs.Prelude.{filter, ◌||◌}
-use Rattle.plant_model.specs.RowFacts.{pair_of}
-use Rattle.plant_model.specs.Scopes.{selection_by}
+use Rattle.std.proofs.Common.{◌≡◌, take, filter, ◌||◌}
+use Rattle.plant_model.specs.{RowFacts.{pair_of}, Scopes.{selection_by}}
 use Rattle.plant_types.specs.Names.{same_name}
 use Rattle.plant_books.proofs.parts.grants_asked.Given as goal
 

@@ -1,5 +1,4 @@
-use Rattle.std.proofs.Common.{◌≡◌, take}
-use Rattle.std.specs.Prelude.{filter}
+use Rattle.std.proofs.Common.{◌≡◌, take, filter}
 use Rattle.plant_types.specs.Names.{same_name}
 use Rattle.plant_books.proofs.parts.own_grants.Given as goal
 

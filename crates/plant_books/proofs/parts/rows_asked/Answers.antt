@@ -1,6 +1,5 @@
 use Rattle.std.proofs.Common.{refl, sym, ◌∙◌}
-use Rattle.plant_books.proofs.public.NumberRanges.{bands_rise, cells_rise, taken}
-use Rattle.plant_books.proofs.PassingLaws.{passing_as}
+use Rattle.plant_books.proofs.{PassingLaws.{passing_as}, public.NumberRanges.{bands_rise, cells_rise, taken}}
 use Rattle.plant_books.proofs.parts.rows_asked.Goals as goal
 
 pub returns-clause-value : goal.returns-clause-value

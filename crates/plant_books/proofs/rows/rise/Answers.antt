@@ -1,7 +1,4 @@
-use Rattle.std.proofs.Common.{rules, subst, sym, true, ◌≡◌}
-use Rattle.std.proofs.lemmas.List.Sorted.{answers_always}
-use Rattle.std.specs.List.{IsAllAdjacentAnswer}
-use Rattle.std.specs.Ordering.{is_lt}
+use Rattle.std.{specs.List.{IsAllAdjacentAnswer}, proofs.{Common.{rules, subst, sym, true, ◌≡◌, is_lt}, lemmas.List.Sorted.{answers_always}}}
 use Rattle.plant_books.proofs.public.OrderLaws.{neighbours_rise}
 use Rattle.plant_books.proofs.rows.rise.Goals as goal
 

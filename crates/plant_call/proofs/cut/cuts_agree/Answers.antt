@@ -1,5 +1,4 @@
-use Rattle.plant_call.specs.Front.{body_length, item_of}
-use Rattle.plant_call.proofs.public.Cuts.{front-stays}
+use Rattle.plant_call.{specs.Front.{body_length, item_of}, proofs.public.Cuts.{front-stays}}
 use Rattle.plant_call.proofs.cut.cuts_agree.Goals as goal
 
 pub returns : goal.returns

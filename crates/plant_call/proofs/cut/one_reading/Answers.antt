@@ -1,5 +1,4 @@
-use Rattle.plant_call.specs.Front.{body_length, item_of}
-use Rattle.plant_call.proofs.public.Cuts.{front_unique}
+use Rattle.plant_call.{specs.Front.{body_length, item_of}, proofs.public.Cuts.{front_unique}}
 use Rattle.plant_call.proofs.cut.one_reading.Goals as goal
 
 pub returns : goal.returns

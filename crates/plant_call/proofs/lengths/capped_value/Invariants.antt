@@ -1,6 +1,5 @@
+use Rattle.std.{specs.Str.Parse.{digits_value}, proofs.Common.{◌≡◌, ◌+◌, take, min}}
 use Rattle.plant_types.specs.Limits.{max_body}
-use Rattle.std.proofs.Common.{◌≡◌, ◌+◌, take, min}
-use Rattle.std.specs.Str.Parse.{digits_value}
 use Rattle.plant_call.proofs.lengths.capped_value.Given as goal
 
 abbrev pub invariant-loop-b : goal.invariant-loop-b

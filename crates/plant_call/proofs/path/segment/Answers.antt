@@ -1,6 +1,5 @@
 use Rattle.std.proofs.Common.{sym, ap, ◌∙◌}
-use Rattle.plant_call.specs.Path.{after_slash}
-use Rattle.plant_call.proofs.Slashes.{after_slashes-more, after_slashes-none}
+use Rattle.plant_call.{specs.Path.{after_slash}, proofs.Slashes.{after_slashes-more, after_slashes-none}}
 use Rattle.plant_call.proofs.path.segment.Goals as goal
 
 pub loop-slash-init : goal.loop-slash-init

@@ -1,6 +1,5 @@
 use Rattle.std.proofs.Common.{[], ◌∷◌, ◌∙◌, refl, arith}
-use Rattle.plant_wire.proofs.public.Growing.{Appends-none}
-use Rattle.plant_wire.proofs.public.Running.{ran_none}
+use Rattle.plant_wire.proofs.public.{Growing.{Appends-none}, Running.{ran_none}}
 use Rattle.plant_connections.proofs.Serving.{made, ran_more, tells_more}
 use Rattle.plant_connections.proofs.connections.serve_connections.Goals as goal
 

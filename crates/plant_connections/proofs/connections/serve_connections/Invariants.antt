@@ -1,8 +1,6 @@
 use Rattle.std.proofs.Common.{◌≡◌, ◌+◌, List, length}
-use Rattle.plant_model.specs.declared.call.Call.{Call}
-use Rattle.plant_model.specs.declared.reply.Answer.{Answer}
-use Rattle.plant_wire.specs.Ran.{Ran}
-use Rattle.plant_wire.specs.declared.reads.End.{End}
+use Rattle.plant_model.specs.declared.{call.Call.{Call}, reply.Answer.{Answer}}
+use Rattle.plant_wire.specs.{Ran.{Ran}, declared.reads.End.{End}}
 use Rattle.plant_connections.specs.Connections.{GoesThrough, Tells}
 use Rattle.plant_connections.proofs.connections.serve_connections.Given as goal
 

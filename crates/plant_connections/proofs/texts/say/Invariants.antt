@@ -1,5 +1,4 @@
-use Rattle.std.proofs.Common.{◌-◌, ◌≤◌, length, take}
-use Rattle.std.specs.Io.KnownBytes.{Appends}
+use Rattle.std.{specs.Io.KnownBytes.{Appends}, proofs.Common.{◌-◌, ◌≤◌, length, take}}
 use Rattle.plant_connections.proofs.texts.say.Given as goal
 
 abbrev pub invariant-writes : goal.invariant-writes

@@ -1,5 +1,4 @@
-use Rattle.std.proofs.Common.{◌≤◌, ◌*◌, take}
-use Rattle.std.specs.Prelude.{IfSome}
+use Rattle.std.proofs.Common.{◌≤◌, ◌*◌, take, IfSome}
 use Rattle.plant_floods.proofs.Passes.{Passed}
 use Rattle.plant_floods.proofs.pass.floods.Given as goal
 

@@ -1,7 +1,6 @@
 use Rattle.std.proofs.Common.{◌∙◌, ap, append-nil, cond, sym, take, ◌++◌, ◌∷◌, []}
-use Rattle.plant_floods.proofs.Active.{active_more, moments_more}
+use Rattle.plant_floods.proofs.{Active.{active_more, moments_more}, periods.activations.Goals.{then-branch+in_ok-push, else-branch}}
 use Rattle.plant_floods.proofs.periods.activations.Goals as goal
-use Rattle.plant_floods.proofs.periods.activations.Goals.{then-branch+in_ok-push, else-branch}
 
 pub loop-event-preserved : goal.loop-event-preserved
 loop-event-preserved c =

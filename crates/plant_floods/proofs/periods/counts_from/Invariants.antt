@@ -1,6 +1,4 @@
-use Rattle.std.proofs.Common.{◌≡◌, ◌+◌, ◌*◌, ◌≤◌, length, map, take}
-use Rattle.std.specs.List.{range_with_len}
-use Rattle.std.specs.Prelude.{count_by}
+use Rattle.std.{specs.List.{range_with_len}, proofs.Common.{◌≡◌, ◌+◌, ◌*◌, ◌≤◌, length, map, take, count_by}}
 use Rattle.plant_floods.specs.Activations.{is_in_period}
 use Rattle.plant_floods.proofs.periods.counts_from.Given as goal
 

@@ -1,7 +1,6 @@
 use Rattle.std.proofs.Common.{true, false, sym, ◌∙◌, append-nil}
-use Rattle.plant_head.proofs.Values.{values_more}
+use Rattle.plant_head.proofs.{Values.{values_more}, fields.field.Goals.{then-has_name, else-has_name}}
 use Rattle.plant_head.proofs.fields.field.Goals as goal
-use Rattle.plant_head.proofs.fields.field.Goals.{then-has_name, else-has_name}
 
 pub loop-header-preserved : goal.loop-header-preserved
 loop-header-preserved c =

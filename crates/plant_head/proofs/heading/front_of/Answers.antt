@@ -1,6 +1,5 @@
+use Rattle.std.proofs.{Common.{◌≤◌, length, sym, arith}, lemmas.List.{take_all}}
 use Rattle.plant_types.specs.Limits.{max_head}
-use Rattle.std.proofs.Common.{◌≤◌, length, sym, arith}
-use Rattle.std.proofs.lemmas.List.{take_all}
 use Rattle.plant_head.proofs.heading.front_of.Goals as goal
 
 pub returns-then-bytes-lt-MAX_HEAD-clause-value : goal.returns-then-bytes-lt-MAX_HEAD-clause-value

@@ -1,6 +1,5 @@
 use Rattle.std.proofs.Common.{ℕ, List, length, Err, ap, subst, ◌≤◌}
-use Rattle.httparse.specs.Spans.{RequestExceeds}
-use Rattle.httparse.specs.Grammar.{HasNoRequest, MayBecomeRequest, NeverHasRequest}
+use Rattle.httparse.specs.{Grammar.{HasNoRequest, MayBecomeRequest, NeverHasRequest}, Spans.{RequestExceeds}}
 use Rattle.plant_head.proofs.public.Room.{never_exceeds}
 use Rattle.plant_head.proofs.heading.read_head.Goals as goal
 

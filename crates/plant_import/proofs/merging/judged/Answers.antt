@@ -1,9 +1,5 @@
-use Rattle.std.proofs.Common.{◌≡◌, rules, sym, ◌∙◌, subst}
-use Rattle.std.specs.Prelude.{Bool, Result, nat_lt}
-use Rattle.std.proofs.lemmas.Bool.{ltb-true, ltb-false}
-use Rattle.plant_import.specs.declared.bad_file.Cause.{Cause}
-use Rattle.plant_import.specs.Relation.{JudgesRow}
-use Rattle.plant_import.proofs.Merges.{judged_unknown, judged_ahead, judged_so}
+use Rattle.std.proofs.{Common.{◌≡◌, rules, sym, ◌∙◌, subst, Bool, Result, nat_lt}, lemmas.Bool.{ltb-true, ltb-false}}
+use Rattle.plant_import.{specs.{Relation.{JudgesRow}, declared.bad_file.Cause.{Cause}}, proofs.Merges.{judged_unknown, judged_ahead, judged_so}}
 use Rattle.plant_import.proofs.merging.judged.Goals as goal
 
 pub returns-then-not-contains : goal.returns-then-not-contains

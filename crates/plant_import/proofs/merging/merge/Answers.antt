@@ -1,14 +1,10 @@
-use Rattle.std.proofs.Common.{List, Ok, [], ap, arith, drop, length, length-append, refl, rules, subst, sym, ◌++◌, ◌∷◌, ◌≡◌}
-use Rattle.std.specs.Prelude.{Bool, Result}
-use Rattle.plant_import.specs.declared.bad_file.Cause.{Cause}
-use Rattle.plant_alarm.specs.declared.event.Event.{Event}
-use Rattle.plant_import.specs.Merging.{IsRising}
-use Rattle.plant_import.specs.Relation.{JudgesRow}
-use Rattle.plant_import.proofs.BelowAll.{StandSo, stand_known, stand_nearest, stand_new, stand_none}
-use Rattle.plant_import.proofs.ByNumber.{put_in}
+use Rattle.std.proofs.Common.{List, Ok, [], ap, arith, drop, length, length-append, refl, rules, subst, sym, ◌++◌, ◌∷◌, ◌≡◌, Bool, Result}
+use Rattle.plant_import.specs.{Merging.{IsRising}, Relation.{JudgesRow}, declared.bad_file.Cause.{Cause}}
+use Rattle.plant_import.proofs.{BelowAll.{StandSo, stand_known, stand_nearest, stand_new, stand_none}, ByNumber.{put_in}}
 use Rattle.plant_import.proofs.Merges.{so_none, so_new_at, so_known_at, so_fault_at, so_all}
-use Rattle.plant_import.proofs.merging.merge.Goals as goal
 use Rattle.plant_import.proofs.merging.merge.Goals.{else-is_new, then-is_new+in_ok-add}
+use Rattle.plant_alarm.specs.declared.event.Event.{Event}
+use Rattle.plant_import.proofs.merging.merge.Goals as goal
 
 pub loop-i-init : goal.loop-i-init
 loop-i-init c = record { count = rw c.new-fresh.ensures refl; so = λ rising. ([], rw c.new-fresh.ensures (stand_none c.tree_for-rising.result c.args.file.now c.tree_for-rising.ensures), rw c.new-fresh.ensures (so_none c.args.tags.now c.args.now c.args.kept.now)) }

@@ -1,8 +1,6 @@
 use Rattle.std.proofs.Common.{List, ◌≡◌, ◌+◌, drop, length, take}
 use Rattle.plant_alarm.specs.declared.event.Event.{Event}
-use Rattle.plant_import.specs.Merging.{IsRising}
-use Rattle.plant_import.proofs.BelowAll.{StandSo}
-use Rattle.plant_import.proofs.Merges.{MergedSo}
+use Rattle.plant_import.{specs.Merging.{IsRising}, proofs.{BelowAll.{StandSo}, Merges.{MergedSo}}}
 use Rattle.plant_import.proofs.merging.merge.Given as goal
 
 abbrev pub invariant-loop-i : goal.invariant-loop-i

@@ -1,8 +1,5 @@
-use Rattle.std.proofs.Common.{arith, get_or, ◌∙◌}
-use Rattle.std.proofs.lemmas.Bool.{le-ltb, lt-ltb}
-use Rattle.std.specs.Prelude.{length}
-use Rattle.plant_import.specs.Needed.{is_before_all}
-use Rattle.plant_import.proofs.public.NeededLaws.{parted_count}
+use Rattle.std.proofs.{Common.{arith, get_or, ◌∙◌, length}, lemmas.Bool.{le-ltb, lt-ltb}}
+use Rattle.plant_import.{specs.Needed.{is_before_all}, proofs.public.NeededLaws.{parted_count}}
 use Rattle.plant_import.proofs.needs.count_before.Goals as goal
 
 pub returns-in-Some-clause-value : goal.returns-in-Some-clause-value

@@ -1,10 +1,8 @@
-use Rattle.std.proofs.Common.{List, ap, arith, subst, sym, ◌∙◌, ◌≡◌}
+use Rattle.std.proofs.Common.{List, ap, arith, subst, sym, ◌∙◌, ◌≡◌, nat_cmp}
 use Rattle.plant_alarm.specs.declared.event.Event.{Event}
-use Rattle.plant_import.specs.Numbers.{event_number}
+use Rattle.plant_import.{specs.Numbers.{event_number}, proofs.public.NeededLaws.{near_late, near_ordered, no_late_row, none_late_more, one_late}}
 use Rattle.plant_types.specs.KeyedRows.{IsInOrder}
-use Rattle.std.specs.Ordering.{nat_cmp}
 use Rattle.plant_import.specs.Needed as needs
-use Rattle.plant_import.proofs.public.NeededLaws.{near_late, near_ordered, no_late_row, none_late_more, one_late}
 use Rattle.plant_import.proofs.needs.has_late.Goals as goal
 
 near_is : (kept rows near : List Event) → (IsInOrder nat_cmp event_number kept → near ≡ needs.from_last_before kept rows) → IsInOrder nat_cmp event_number kept → IsInOrder nat_cmp event_number near

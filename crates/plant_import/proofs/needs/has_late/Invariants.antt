@@ -1,8 +1,6 @@
-use Rattle.std.proofs.Common.{take, ◌≡◌, false}
-use Rattle.plant_import.specs.Numbers.{event_number}
+use Rattle.std.proofs.Common.{take, ◌≡◌, false, nat_cmp}
+use Rattle.plant_import.specs.{Needed.{has_late}, Numbers.{event_number}}
 use Rattle.plant_types.specs.KeyedRows.{IsInOrder}
-use Rattle.std.specs.Ordering.{nat_cmp}
-use Rattle.plant_import.specs.Needed.{has_late}
 use Rattle.plant_import.proofs.needs.has_late.Given as goal
 
 abbrev pub invariant-loop-row : goal.invariant-loop-row

@@ -1,6 +1,5 @@
-use Rattle.std.specs.List.{list_any}
+use Rattle.std.{specs.List.{list_any}, proofs.Common.{ap, not, sym, ◌&&◌, ◌∙◌}}
 use Rattle.plant_import.specs.Numbers.{has_number}
-use Rattle.std.proofs.Common.{ap, not, sym, ◌&&◌, ◌∙◌}
 use Rattle.plant_import.proofs.needs.is_late.Goals as goal
 
 pub returns-then-is_overtaken : goal.returns-then-is_overtaken

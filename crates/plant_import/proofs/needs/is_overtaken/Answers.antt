@@ -1,5 +1,4 @@
-use Rattle.std.proofs.Common.{ap, false, nat_lt, rules, ◌∙◌, ◌≡◌}
-use Rattle.std.specs.Prelude.{option_map, unwrap_or}
+use Rattle.std.proofs.Common.{ap, false, nat_lt, rules, ◌∙◌, ◌≡◌, option_map, unwrap_or}
 use Rattle.plant_import.proofs.needs.is_overtaken.Goals as goal
 
 pub returns-in-Some : goal.returns-in-Some

@@ -1,8 +1,6 @@
-use Rattle.std.proofs.Common.{take}
-use Rattle.plant_import.specs.Numbers.{event_number}
+use Rattle.std.proofs.Common.{take, nat_cmp}
+use Rattle.plant_import.specs.{Numbers.{event_number}, Reached.{AreReached}}
 use Rattle.plant_types.specs.KeyedRows.{IsInOrder}
-use Rattle.std.specs.Ordering.{nat_cmp}
-use Rattle.plant_import.specs.Reached.{AreReached}
 use Rattle.plant_import.proofs.needs.last_numbers.Given as goal
 
 abbrev pub invariant-loop-event : goal.invariant-loop-event

@@ -1,5 +1,4 @@
-use Rattle.std.proofs.Common.{take, ◌≡◌}
-use Rattle.std.specs.Prelude.{nat_lt, option_map, true, unwrap_or}
+use Rattle.std.proofs.Common.{take, ◌≡◌, nat_lt, option_map, true, unwrap_or}
 use Rattle.plant_alarm.specs.declared.event.Event.{Event}
 use Rattle.plant_import.specs.Needed.{is_before_all}
 use Rattle.plant_import.proofs.needs.least_number.Given as goal

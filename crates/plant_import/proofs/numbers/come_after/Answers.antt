@@ -1,9 +1,5 @@
-use Rattle.std.proofs.Common.{ap, rules, sym, ◌∙◌, ◌≡◌}
-use Rattle.std.specs.List.{list_all}
-use Rattle.std.specs.Prelude.{nat_lt}
-use Rattle.plant_import.specs.Needed.{is_before_all}
-use Rattle.plant_import.proofs.Appended.{after_last, after_none}
-use Rattle.plant_import.proofs.public.Risings.{first_none, last_none}
+use Rattle.std.{specs.List.{list_all}, proofs.Common.{ap, rules, sym, ◌∙◌, ◌≡◌, nat_lt}}
+use Rattle.plant_import.{specs.Needed.{is_before_all}, proofs.{Appended.{after_last, after_none}, public.Risings.{first_none, last_none}}}
 use Rattle.plant_import.proofs.numbers.come_after.Goals as goal
 
 pub returns-in_default : goal.returns-in_default

@@ -1,8 +1,5 @@
-use Rattle.std.proofs.Common.{ap, arith, refl, rules, sym, ◌∙◌}
-use Rattle.std.specs.List.{list_any}
-use Rattle.plant_import.specs.Numbers.{has_number}
-use Rattle.plant_import.proofs.public.Counted.{count_known, count_put}
-use Rattle.plant_import.proofs.public.Risings.{in_number_order}
+use Rattle.std.{specs.List.{list_any}, proofs.Common.{ap, arith, refl, rules, sym, ◌∙◌}}
+use Rattle.plant_import.{specs.Numbers.{has_number}, proofs.public.{Counted.{count_known, count_put}, Risings.{in_number_order}}}
 use Rattle.plant_import.proofs.numbers.count_new.Goals as goal
 
 pub returns-then-rise-clause-value : goal.returns-then-rise-clause-value

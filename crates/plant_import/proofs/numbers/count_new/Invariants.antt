@@ -1,6 +1,5 @@
 use Rattle.std.proofs.Common.{drop, ◌≡◌}
-use Rattle.plant_import.specs.Merging.{IsRising}
-use Rattle.plant_import.specs.Numbers.{new_numbers}
+use Rattle.plant_import.specs.{Merging.{IsRising}, Numbers.{new_numbers}}
 use Rattle.plant_import.proofs.numbers.count_new.Given as goal
 
 abbrev pub invariant-loop-i : goal.invariant-loop-i

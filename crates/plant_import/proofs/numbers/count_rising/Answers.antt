@@ -1,6 +1,4 @@
-use Rattle.std.proofs.Common.{ap, arith, length, sym, ◌∙◌}
-use Rattle.std.proofs.lemmas.List.{take_all}
-use Rattle.std.specs.Prelude.{filter}
+use Rattle.std.proofs.{Common.{ap, arith, length, sym, ◌∙◌, filter}, lemmas.List.{take_all}}
 use Rattle.plant_import.proofs.CountedRising.{counted_after, counted_rising, is_other}
 use Rattle.plant_import.proofs.numbers.count_rising.Goals as goal
 

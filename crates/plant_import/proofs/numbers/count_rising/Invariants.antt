@@ -1,7 +1,5 @@
-use Rattle.std.proofs.Common.{length, take, ◌≡◌, ◌≤◌}
-use Rattle.std.specs.Prelude.{filter}
-use Rattle.plant_import.specs.Numbers.{AreNumbered}
-use Rattle.plant_import.proofs.CountedRising.{is_other}
+use Rattle.std.proofs.Common.{length, take, ◌≡◌, ◌≤◌, filter}
+use Rattle.plant_import.{specs.Numbers.{AreNumbered}, proofs.CountedRising.{is_other}}
 use Rattle.plant_import.proofs.numbers.count_rising.Given as goal
 
 abbrev pub invariant-loop-event : goal.invariant-loop-event

@@ -1,7 +1,5 @@
 use Rattle.std.proofs.Common.{[], ap, ◌∙◌}
-use Rattle.plant_import.specs.Numbers.{with_events}
-use Rattle.plant_import.proofs.public.Counted.{joined_twice}
-use Rattle.plant_import.proofs.public.Risings.{in_number_order}
+use Rattle.plant_import.{specs.Numbers.{with_events}, proofs.public.{Counted.{joined_twice}, Risings.{in_number_order}}}
 use Rattle.plant_import.proofs.numbers.events_after.Goals as goal
 
 pub returns-clause-value : goal.returns-clause-value

@@ -1,6 +1,5 @@
 use Rattle.std.proofs.Common.{sym, ◌∙◌}
-use Rattle.plant_import.specs.Numbers.{event_number}
-use Rattle.plant_import.proofs.public.Placed.{rises_of, there}
+use Rattle.plant_import.{specs.Numbers.{event_number}, proofs.public.Placed.{rises_of, there}}
 use Rattle.plant_import.proofs.numbers.has_number.Goals as goal
 
 pub returns : goal.returns

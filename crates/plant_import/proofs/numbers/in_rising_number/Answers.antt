@@ -1,10 +1,6 @@
-use Rattle.std.proofs.Common.{List, ap, refl, subst, sym, ◌++◌, ◌∙◌, []}
-use Rattle.std.specs.Prelude.{map}
-use Rattle.std.proofs.lemmas.List.{append-nil}
+use Rattle.std.proofs.{Common.{List, ap, refl, subst, sym, ◌++◌, ◌∙◌, [], map}, lemmas.List.{append-nil}}
 use Rattle.plant_alarm.specs.declared.event.Event.{Event}
-use Rattle.plant_import.specs.Numbers.{AreNumbered, event_number, with_events}
-use Rattle.plant_import.proofs.ByNumber.{values_are}
-use Rattle.plant_import.proofs.public.Placed.{puts_none, rises_of}
+use Rattle.plant_import.{specs.Numbers.{AreNumbered, event_number, with_events}, proofs.{ByNumber.{values_are}, public.Placed.{puts_none, rises_of}}}
 use Rattle.plant_import.proofs.numbers.in_rising_number.Goals as goal
 
 pub returns-then-rise-clause-value : goal.returns-then-rise-clause-value

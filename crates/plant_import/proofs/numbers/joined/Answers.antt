@@ -1,6 +1,5 @@
 use Rattle.std.proofs.Common.{refl, rules, ◌++◌, ◌∷◌, ◌≡◌, []}
-use Rattle.plant_import.specs.Numbers.{event_number, with_events}
-use Rattle.plant_import.proofs.public.Placed.{in_order_of, puts_next, rises_left, rises_of}
+use Rattle.plant_import.{specs.Numbers.{event_number, with_events}, proofs.public.Placed.{in_order_of, puts_next, rises_left, rises_of}}
 use Rattle.plant_import.proofs.numbers.joined.Goals as goal
 
 pub loop-event-init : goal.loop-event-init

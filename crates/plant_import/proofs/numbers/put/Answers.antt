@@ -1,6 +1,4 @@
-use Rattle.std.proofs.Common.{ap, ◌∙◌}
-use Rattle.std.specs.BTreeMap.{insert_entry}
-use Rattle.std.specs.Ordering.{nat_cmp}
+use Rattle.std.{specs.BTreeMap.{insert_entry}, proofs.Common.{ap, ◌∙◌, nat_cmp}}
 use Rattle.plant_import.proofs.ByNumber.{put_entry}
 use Rattle.plant_import.proofs.numbers.put.Goals as goal
 

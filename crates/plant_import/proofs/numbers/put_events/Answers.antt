@@ -1,12 +1,7 @@
-use Rattle.std.proofs.Common.{List, ap, refl, subst, sym, ◌++◌, ◌∙◌, ◌≡◌, true, []}
-use Rattle.std.specs.List.{list_all}
-use Rattle.std.specs.Prelude.{OnOk}
+use Rattle.std.{specs.List.{list_all}, proofs.Common.{List, ap, refl, subst, sym, ◌++◌, ◌∙◌, ◌≡◌, true, [], OnOk}}
 use Rattle.plant_alarm.specs.declared.event.Event.{Event}
-use Rattle.plant_import.specs.Needed.{is_before_all}
-use Rattle.plant_import.specs.Numbers.{AreNumbered, event_number, with_events}
-use Rattle.plant_import.proofs.Appended.{appended, sorted}
-use Rattle.plant_import.proofs.public.Counted.{put_twice}
-use Rattle.plant_import.proofs.public.Placed.{puts_none, rises_of}
+use Rattle.plant_import.{specs.{Needed.{is_before_all}, Numbers.{AreNumbered, event_number, with_events}}, proofs.Appended.{appended, sorted}}
+use Rattle.plant_import.proofs.public.{Counted.{put_twice}, Placed.{puts_none, rises_of}}
 use Rattle.plant_import.proofs.numbers.put_events.Goals as goal
 
 pub returns-then-come_after-clause-value : goal.returns-then-come_after-clause-value

@@ -1,8 +1,5 @@
-use Rattle.std.proofs.Common.{rules}
-use Rattle.std.proofs.lemmas.List.Sorted.{answers_always}
-use Rattle.std.specs.Prelude.{nat_lt}
-use Rattle.plant_import.specs.Numbers.{event_number}
-use Rattle.plant_import.proofs.public.Placed.{rise_is_told}
+use Rattle.std.proofs.{Common.{rules, nat_lt}, lemmas.List.Sorted.{answers_always}}
+use Rattle.plant_import.{specs.Numbers.{event_number}, proofs.public.Placed.{rise_is_told}}
 use Rattle.plant_import.proofs.numbers.rise.Goals as goal
 
 pub returns : goal.returns

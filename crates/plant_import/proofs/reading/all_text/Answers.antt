@@ -1,5 +1,4 @@
-use Rattle.std.proofs.Common.{sym, rules, arith}
-use Rattle.std.proofs.lemmas.List.{take_all}
+use Rattle.std.proofs.{Common.{sym, rules, arith}, lemmas.List.{take_all}}
 use Rattle.csv.specs.Records.{fields_of}
 use Rattle.plant_import.proofs.Places.{text_more, text_at}
 use Rattle.plant_import.proofs.reading.all_text.Goals as goal

@@ -1,6 +1,4 @@
-use Rattle.std.proofs.Common.{◌≡◌, take, true}
-use Rattle.std.specs.List.{list_all}
-use Rattle.std.specs.Str.{is_utf8}
+use Rattle.std.{specs.{List.{list_all}, Str.{is_utf8}}, proofs.Common.{◌≡◌, take, true}}
 use Rattle.csv.specs.Records.{fields_of}
 use Rattle.plant_import.proofs.reading.all_text.Given as goal
 

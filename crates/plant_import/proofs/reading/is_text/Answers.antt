@@ -1,6 +1,4 @@
-use Rattle.std.proofs.Common.{◌≡◌, List, ℕ, true, false, Bool, refl, Result, Ok, Err, sym, ◌∙◌}
-use Rattle.std.specs.Prelude.{IsUtf8, MatchResult, is_ok}
-use Rattle.std.specs.Str.{is_utf8}
+use Rattle.std.{specs.Str.{is_utf8}, proofs.Common.{◌≡◌, List, ℕ, true, false, Bool, refl, Result, Ok, Err, sym, ◌∙◌, IsUtf8, MatchResult, is_ok}}
 use Rattle.std.proofs.lemmas.Str.{is_utf8-from_IsUtf8, IsUtf8-from_is_utf8}
 use Rattle.plant_import.proofs.reading.is_text.Goals as goal
 

@@ -1,9 +1,7 @@
-use Rattle.plant_types.specs.Limits.{max_file_rows}
 use Rattle.std.proofs.Common.{◌≡◌, ◌≤◌, ◌∙◌, ◌++◌, ◌∷◌, [], sym, rules, arith, Ok}
+use Rattle.plant_types.specs.Limits.{max_file_rows}
 use Rattle.csv.specs.Records.{fields_of}
-use Rattle.plant_import.specs.Reading.{row_read}
-use Rattle.plant_import.proofs.Rows.{in_limit}
-use Rattle.plant_import.proofs.ReadsRecords.{reads_none, reads_more, reads_fault, reads_all}
+use Rattle.plant_import.{specs.Reading.{row_read}, proofs.{ReadsRecords.{reads_none, reads_more, reads_fault, reads_all}, Rows.{in_limit}}}
 use Rattle.plant_import.proofs.reading.read_rows.Goals as goal
 
 pub loop-row-init : goal.loop-row-init

@@ -1,6 +1,5 @@
 use Rattle.std.proofs.Common.{◌≤◌, ◌-◌, ℕ, List, ◌∷◌, []}
-use Rattle.plant_import.specs.Records.{HasRead}
-use Rattle.plant_import.proofs.ReadsRecords.{ReadsRows}
+use Rattle.plant_import.{specs.Records.{HasRead}, proofs.ReadsRecords.{ReadsRows}}
 use Rattle.plant_import.proofs.reading.read_rows.Given as goal
 
 abbrev pub invariant-loop-row : goal.invariant-loop-row

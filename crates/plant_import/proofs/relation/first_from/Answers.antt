@@ -1,9 +1,6 @@
-use Rattle.std.proofs.Common.{ap, sym, ◌∙◌}
-use Rattle.std.specs.BTreeMap.Range.{entries_between}
-use Rattle.std.specs.Ordering.{nat_cmp}
-use Rattle.std.specs.declared.ops.Bound.TheVariants.{Included, Unbounded}
-use Rattle.plant_import.specs.Relation as relation
+use Rattle.std.{specs.{BTreeMap.Range.{entries_between}, declared.ops.Bound.TheVariants.{Included, Unbounded}}, proofs.Common.{ap, sym, ◌∙◌, nat_cmp}}
 use Rattle.plant_import.proofs.ByNumber.{entries_from, first_value, no_first}
+use Rattle.plant_import.specs.Relation as relation
 use Rattle.plant_import.proofs.relation.first_from.Goals as goal
 
 pub returns-in-Some : goal.returns-in-Some

@@ -1,7 +1,4 @@
-use Rattle.std.proofs.Common.{ap, rules, sym, ◌∙◌, ◌≡◌}
-use Rattle.std.specs.List.{list_any}
-use Rattle.std.specs.Option.{option_copied}
-use Rattle.std.specs.Prelude.{nat_lt}
+use Rattle.std.{specs.List.{list_any}, proofs.Common.{ap, rules, sym, ◌∙◌, ◌≡◌, option_copied, nat_lt}}
 use Rattle.plant_import.proofs.public.Risings.{first_none, first_settles_at}
 use Rattle.plant_import.proofs.relation.is_after_first.Goals as goal
 

@@ -1,9 +1,6 @@
-use Rattle.std.proofs.Common.{ap, sym, ◌∙◌}
-use Rattle.std.specs.BTreeMap.Range.{entries_between}
-use Rattle.std.specs.Ordering.{nat_cmp}
-use Rattle.std.specs.declared.ops.Bound.TheVariants.{Excluded, Unbounded}
-use Rattle.plant_import.specs.Relation as relation
+use Rattle.std.{specs.{BTreeMap.Range.{entries_between}, declared.ops.Bound.TheVariants.{Excluded, Unbounded}}, proofs.Common.{ap, sym, ◌∙◌, nat_cmp}}
 use Rattle.plant_import.proofs.ByNumber.{entries_below, last_value, no_last}
+use Rattle.plant_import.specs.Relation as relation
 use Rattle.plant_import.proofs.relation.last_below.Goals as goal
 
 pub returns-in-Some : goal.returns-in-Some

@@ -1,8 +1,5 @@
-use Rattle.std.proofs.Common.{ap, ◌-◌, ◌∙◌, length}
-use Rattle.std.specs.Prelude.{slice_get}
-use Rattle.plant_import.proofs.ByNumber.{below_is, from_is}
-use Rattle.plant_import.proofs.public.Nearest.{parts}
-use Rattle.plant_import.proofs.public.Risings.{in_number_order}
+use Rattle.std.proofs.Common.{ap, ◌-◌, ◌∙◌, length, slice_get}
+use Rattle.plant_import.proofs.{ByNumber.{below_is, from_is}, public.{Nearest.{parts}, Risings.{in_number_order}}}
 use Rattle.plant_import.proofs.relation.nearest_among.Goals as goal
 
 pub returns : goal.returns

@@ -1,10 +1,6 @@
-use Rattle.std.proofs.Common.{rules}
-use Rattle.std.specs.Prelude.{nat_lt}
-use Rattle.std.proofs.lemmas.Bool.{ltb-true, ltb-false}
-use Rattle.std.proofs.lemmas.List.Sorted.{IsPartitionPoint-from_clause}
+use Rattle.std.proofs.{Common.{rules, nat_lt}, lemmas.{Bool.{ltb-true, ltb-false}, List.Sorted.{IsPartitionPoint-from_clause}}}
 use Rattle.plant_alarm.specs.declared.event.Event.{Event}
-use Rattle.plant_import.specs.Numbers.{event_number}
-use Rattle.plant_import.proofs.public.Placed.{parted}
+use Rattle.plant_import.{specs.Numbers.{event_number}, proofs.public.Placed.{parted}}
 use Rattle.plant_import.proofs.relation.place_of.Goals as goal
 
 pub returns-clause-place : goal.returns-clause-place

@@ -1,14 +1,9 @@
-use Rattle.std.proofs.Common.{ap, false, refl, rules, sym, true, Some, None, ◌<◌, ◌∙◌}
-use Rattle.std.specs.List.{list_any}
-use Rattle.std.specs.Option.{option_copied}
-use Rattle.std.specs.Prelude.{nat_lt}
+use Rattle.std.{specs.List.{list_any}, proofs.Common.{ap, false, refl, rules, sym, true, Some, None, ◌<◌, ◌∙◌, option_copied, nat_lt}}
 use Rattle.std.proofs.lemmas.Bool.{eqb-false}
-use Rattle.plant_import.specs.Relation.{below, from}
-use Rattle.plant_import.proofs.ByNumber.{halves}
+use Rattle.plant_import.{specs.Relation.{below, from}, proofs.ByNumber.{halves}}
 use Rattle.plant_import.proofs.public.Nearest.{above_rising, below_rising, higher, stands_apart, stands_clash, related_known}
-use Rattle.plant_import.proofs.public.Risings.{Each, rising_back}
+use Rattle.plant_import.proofs.{public.Risings.{Each, rising_back}, relation.relation_of.Goals.{in-Some+else-eq, in_default}}
 use Rattle.plant_import.proofs.relation.relation_of.Goals as goal
-use Rattle.plant_import.proofs.relation.relation_of.Goals.{in-Some+else-eq, in_default}
 
 pub returns-then-is_same : goal.returns-then-is_same
 returns-then-is_same c es rising near =

@@ -1,5 +1,4 @@
-use Rattle.std.proofs.Common.{◌≡◌, take}
-use Rattle.std.specs.Prelude.{fold, map, max}
+use Rattle.std.proofs.Common.{◌≡◌, take, fold, map, max}
 use Rattle.plant_office.proofs.office.latest.Given as goal
 
 abbrev pub invariant-loop-unit : goal.invariant-loop-unit

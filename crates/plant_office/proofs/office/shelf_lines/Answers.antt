@@ -1,12 +1,9 @@
-use Rattle.std.proofs.lemmas.Grind.{common_steps}
-use Rattle.std.proofs.Common.{◌≡◌, arith, sym, ap, ◌∙◌, get_or}
-use Rattle.std.specs.Prelude.{Option}
+use Rattle.std.proofs.{Common.{◌≡◌, arith, sym, ap, ◌∙◌, get_or, Option}, lemmas.Grind.{common_steps}}
 use Rattle.plant_books.specs.declared.books.MineRow.{MineRow}
 use Rattle.plant_model.specs.declared.reply.MineLine.{MineLine}
-use Rattle.plant_office.specs.Lines.{line_of_shelf}
+use Rattle.plant_office.{specs.Lines.{line_of_shelf}, proofs.office.shelf_lines.Goals.{in-Some+in_ok-push, in_default}}
 use Rattle.plant_unit.proofs.public.Loops.{filter_map_more}
 use Rattle.plant_office.proofs.office.shelf_lines.Goals as goal
-use Rattle.plant_office.proofs.office.shelf_lines.Goals.{in-Some+in_ok-push, in_default}
 
 pub loop-mine-preserved : goal.loop-mine-preserved
 loop-mine-preserved c =

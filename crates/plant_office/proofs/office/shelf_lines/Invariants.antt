@@ -1,5 +1,4 @@
-use Rattle.std.proofs.Common.{◌≡◌, take}
-use Rattle.std.specs.Prelude.{filter_map}
+use Rattle.std.proofs.Common.{◌≡◌, take, filter_map}
 use Rattle.plant_office.specs.Lines.{line_of_shelf}
 use Rattle.plant_office.proofs.office.shelf_lines.Given as goal
 

@@ -1,6 +1,5 @@
 use Rattle.std.proofs.Common.{sym}
-use Rattle.plant_ration.specs.Matrix.{is_no_lower_row}
-use Rattle.plant_ration.proofs.Neighbours.{neighbours_all, neighbours_not_at, not_above}
+use Rattle.plant_ration.{specs.Matrix.{is_no_lower_row}, proofs.Neighbours.{neighbours_all, neighbours_not_at, not_above}}
 use Rattle.plant_ration.proofs.shape.rows_rise.Goals as goal
 
 pub returns : goal.returns

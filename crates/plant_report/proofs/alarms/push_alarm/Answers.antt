@@ -1,9 +1,5 @@
-use Rattle.std.proofs.Common.{rules, ◌∷◌, []}
-use Rattle.std.specs.Prelude.{decimal}
-use Rattle.std.proofs.lemmas.Result.{on_ok_weaker}
-use Rattle.plant_report.specs.Columns.{left, right}
-use Rattle.plant_report.specs.Texts.{state_name, priority_name, flags}
-use Rattle.plant_report.proofs.ColumnLaws.{column_then}
+use Rattle.std.proofs.{Common.{rules, ◌∷◌, [], decimal}, lemmas.Result.{on_ok_weaker}}
+use Rattle.plant_report.{specs.{Columns.{left, right}, Texts.{state_name, priority_name, flags}}, proofs.ColumnLaws.{column_then}}
 use Rattle.plant_report.proofs.alarms.push_alarm.Goals as goal
 
 pub returns-clause-value : goal.returns-clause-value

@@ -1,9 +1,5 @@
-use Rattle.std.proofs.Common.{rules, ◌∷◌, []}
-use Rattle.std.proofs.lemmas.Result.{on_ok_weaker}
-use Rattle.plant_report.specs.Columns.{left}
-use Rattle.plant_report.specs.Moments.{moment_text}
-use Rattle.plant_report.specs.Texts.{state_name, priority_name, flags}
-use Rattle.plant_report.proofs.ColumnLaws.{column_then}
+use Rattle.std.proofs.{Common.{rules, ◌∷◌, []}, lemmas.Result.{on_ok_weaker}}
+use Rattle.plant_report.{specs.{Columns.{left}, Moments.{moment_text}, Texts.{state_name, priority_name, flags}}, proofs.ColumnLaws.{column_then}}
 use Rattle.plant_report.proofs.alarms.push_standing.Goals as goal
 
 pub returns-clause-value : goal.returns-clause-value

@@ -1,7 +1,5 @@
-use Rattle.std.proofs.Common.{◌≡◌, ◌++◌, take}
-use Rattle.std.specs.List.{flat_map}
-use Rattle.plant_report.specs.Columns.{line}
-use Rattle.plant_report.specs.Texts.{standing_columns}
+use Rattle.std.proofs.Common.{◌≡◌, ◌++◌, take, flat_map}
+use Rattle.plant_report.specs.{Columns.{line}, Texts.{standing_columns}}
 use Rattle.plant_report.proofs.alarms.standing_text.Given as goal
 
 abbrev pub invariant-loop-line : goal.invariant-loop-line

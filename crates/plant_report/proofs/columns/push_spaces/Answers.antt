@@ -1,5 +1,4 @@
-use Rattle.std.proofs.Common.{List, ◌++◌, ap, ℕ}
-use Rattle.std.proofs.lemmas.List.{take-replicate}
+use Rattle.std.proofs.{Common.{List, ◌++◌, ap, ℕ}, lemmas.List.{take-replicate}}
 use Rattle.plant_report.proofs.columns.push_spaces.Goals as goal
 
 pub returns-clause-value : goal.returns-clause-value

@@ -1,8 +1,5 @@
-use Rattle.std.proofs.Common.{rules, ◌∷◌, []}
-use Rattle.std.specs.Prelude.{decimal, codes}
-use Rattle.std.proofs.lemmas.Result.{on_ok_weaker}
-use Rattle.plant_report.specs.Moments.{moment_text}
-use Rattle.plant_report.proofs.ColumnLaws.{column_then}
+use Rattle.std.proofs.{Common.{rules, ◌∷◌, [], decimal, codes}, lemmas.Result.{on_ok_weaker}}
+use Rattle.plant_report.{specs.Moments.{moment_text}, proofs.ColumnLaws.{column_then}}
 use Rattle.plant_report.proofs.flood_lines.push_flood_heading.Goals as goal
 
 pub returns-clause-value : goal.returns-clause-value

@@ -1,10 +1,5 @@
-use Rattle.std.proofs.Common.{rules, ◌∷◌, []}
-use Rattle.std.specs.Prelude.{decimal}
-use Rattle.std.proofs.lemmas.Result.{on_ok_weaker}
-use Rattle.plant_report.specs.Columns.{left, right}
-use Rattle.plant_report.specs.Moments.{moment_text}
-use Rattle.plant_report.specs.Texts.{kind_of}
-use Rattle.plant_report.proofs.ColumnLaws.{column_then}
+use Rattle.std.proofs.{Common.{rules, ◌∷◌, [], decimal}, lemmas.Result.{on_ok_weaker}}
+use Rattle.plant_report.{specs.{Columns.{left, right}, Moments.{moment_text}, Texts.{kind_of}}, proofs.ColumnLaws.{column_then}}
 use Rattle.plant_report.proofs.shelves.push_shelf.Goals as goal
 
 pub returns-clause-value : goal.returns-clause-value

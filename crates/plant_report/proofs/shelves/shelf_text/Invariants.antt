@@ -1,7 +1,5 @@
-use Rattle.std.proofs.Common.{◌≡◌, ◌++◌, take}
-use Rattle.std.specs.List.{flat_map}
-use Rattle.plant_report.specs.Columns.{line}
-use Rattle.plant_report.specs.Texts.{shelf_columns}
+use Rattle.std.proofs.Common.{◌≡◌, ◌++◌, take, flat_map}
+use Rattle.plant_report.specs.{Columns.{line}, Texts.{shelf_columns}}
 use Rattle.plant_report.proofs.shelves.shelf_text.Given as goal
 
 abbrev pub invariant-loop-line : goal.invariant-loop-line

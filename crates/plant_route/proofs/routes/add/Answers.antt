@@ -1,6 +1,5 @@
+use Rattle.plant_route.proofs.{Inserts.{inserted}, routes.add.Goals.{in-Ok, in-Err}}
 use Rattle.plant_route.proofs.routes.add.Goals as goal
-use Rattle.plant_route.proofs.routes.add.Goals.{in-Ok, in-Err}
-use Rattle.plant_route.proofs.Inserts.{inserted}
 
 pub returns-clause-ok : goal.returns-clause-ok
 returns-clause-ok c =

@@ -1,5 +1,4 @@
-use Rattle.plant_server.proofs.Below.{ran_below}
-use Rattle.plant_server.proofs.Streamed.{served}
+use Rattle.plant_server.proofs.{Below.{ran_below}, Streamed.{served}}
 use Rattle.plant_server.proofs.commands.serve_at_hand.Goals as goal
 
 pub returns : goal.returns

@@ -1,6 +1,5 @@
 use Rattle.std.proofs.Common.{subst}
-use Rattle.sqlite.specs.Effect.{Database}
-use Rattle.sqlite.specs.Files.{file_state}
+use Rattle.sqlite.specs.{Effect.{Database}, Files.{file_state}}
 use Rattle.sqlite_wal.specs.Files.{image_at}
 use Rattle.plant_store.specs.Opening.{IsThisOffice}
 use Rattle.plant_server.proofs.Opened.{kept, same_now}

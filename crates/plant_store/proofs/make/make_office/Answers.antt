@@ -1,6 +1,5 @@
 use Rattle.sqlite.specs.Held.{state}
-use Rattle.plant_store.proofs.Makings.{makes_office}
-use Rattle.plant_store.proofs.Writes.{on_ok}
+use Rattle.plant_store.proofs.{Makings.{makes_office}, Writes.{on_ok}}
 use Rattle.plant_store.proofs.make.make_office.Goals as goal
 
 pub returns-clause-made : goal.returns-clause-made

@@ -1,7 +1,5 @@
 use Rattle.sqlite.specs.Held.{state}
-use Rattle.plant_store.specs.Making.{kept_as}
-use Rattle.plant_store.proofs.Makings.{makes_each}
-use Rattle.plant_store.proofs.Writes.{on_ok}
+use Rattle.plant_store.{specs.Making.{kept_as}, proofs.{Makings.{makes_each}, Writes.{on_ok}}}
 use Rattle.plant_store.proofs.make.make_table.Goals as goal
 
 pub returns-clause-made : goal.returns-clause-made

@@ -1,11 +1,7 @@
 use Rattle.std.proofs.Common.{◌≡◌, [], ◌∷◌, ap, arith, sym, subst, ◌∙◌}
-use Rattle.sqlite.specs.Effect.{Database}
-use Rattle.sqlite.specs.Held.{state}
-use Rattle.sqlite.specs.State.{HasCleanDisk}
+use Rattle.sqlite.specs.{Effect.{Database}, Held.{state}, State.{HasCleanDisk}}
 use Rattle.plant_columns.specs.Tables.{office_row}
-use Rattle.plant_store.specs.OldTables.{AreOldBooks}
-use Rattle.plant_store.specs.Upgrading.{AreTakenOver, old_codes}
-use Rattle.plant_store.proofs.Upgrades.{all_taken, none_taken, units_of}
+use Rattle.plant_store.{specs.{OldTables.{AreOldBooks}, Upgrading.{AreTakenOver, old_codes}}, proofs.Upgrades.{all_taken, none_taken, units_of}}
 use Rattle.plant_store.proofs.Writes.{on_ok}
 use Rattle.plant_types.specs.Names.{Name}
 use Rattle.plant_store.proofs.migration.fill.Goals as goal

@@ -1,13 +1,7 @@
-use Rattle.std.proofs.Common.{◌≡◌, sym, subst, arith, rules, take, List, Ok}
-use Rattle.std.proofs.lemmas.List.{take_all}
-use Rattle.sqlite.specs.State.{HasCleanDisk}
-use Rattle.sqlite.specs.Held.{state}
-use Rattle.plant_model.specs.declared.rows.RowEdit.{RowEdit}
-use Rattle.plant_model.specs.declared.rows.RowEdit.TheVariants.{Put}
-use Rattle.plant_store.specs.Changes.{Applies}
-use Rattle.plant_store.proofs.StepsInside.{stays_then}
-use Rattle.plant_store.proofs.Upgrades.{mapped_more}
-use Rattle.plant_store.proofs.Writes.{applies_then}
+use Rattle.std.proofs.{Common.{◌≡◌, sym, subst, arith, rules, take, List, Ok}, lemmas.List.{take_all}}
+use Rattle.sqlite.specs.{Held.{state}, State.{HasCleanDisk}}
+use Rattle.plant_model.specs.declared.rows.RowEdit.{RowEdit, TheVariants.{Put}}
+use Rattle.plant_store.{specs.Changes.{Applies}, proofs.{StepsInside.{stays_then}, Upgrades.{mapped_more}, Writes.{applies_then}}}
 use Rattle.plant_store.proofs.migration.put_rows.Goals as goal
 
 pub loop-row-preserved : goal.loop-row-preserved

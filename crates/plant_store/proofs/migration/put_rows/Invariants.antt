@@ -1,10 +1,8 @@
 use Rattle.std.proofs.Common.{◌≡◌, map, take, IsTrue, Ok}
-use Rattle.sqlite.specs.State.{HasCleanDisk}
-use Rattle.sqlite.specs.Held.{state}
+use Rattle.sqlite.specs.{Held.{state}, State.{HasCleanDisk}}
 use Rattle.plant_columns.specs.Tables.{AreBooks}
 use Rattle.plant_model.specs.declared.rows.RowEdit.TheVariants.{Put}
-use Rattle.plant_store.specs.Changes.{Applies}
-use Rattle.plant_store.specs.StaysInside.{StaysInside}
+use Rattle.plant_store.specs.{Changes.{Applies}, StaysInside.{StaysInside}}
 use Rattle.plant_store.proofs.migration.put_rows.Given as goal
 
 -- what has been put so far

@@ -1,6 +1,5 @@
 use Rattle.std.proofs.Common.{◌≡◌, rules, sym, subst, IsTrue}
-use Rattle.sqlite.specs.Held.{state}
-use Rattle.sqlite.specs.State.{HasCleanDisk}
+use Rattle.sqlite.specs.{Held.{state}, State.{HasCleanDisk}}
 use Rattle.plant_columns.specs.Tables.{no_schema}
 use Rattle.plant_store.specs.Keeping.{HaveRows}
 use Rattle.plant_store.proofs.migration.take_over.Goals as goal

@@ -2,15 +2,9 @@ use Rattle.std.proofs.Common.{List, sym, subst}
 use Rattle.sqlite.specs.Held.{state}
 use Rattle.sqlite_keyed.proofs.ListLemmas.{map-map}
 use Rattle.plant_columns.specs.Tables.Kept.{GrantKept, UnitKept}
-use Rattle.plant_model.specs.declared.rows.RowEdit.{RowEdit}
-use Rattle.plant_model.specs.declared.rows.RowEdit.TheVariants.{Put}
-use Rattle.plant_model.specs.declared.rows.GrantRow.{GrantRow}
-use Rattle.plant_model.specs.declared.rows.Row.TheVariants.{Grant as GrantPut, Unit as UnitPut}
-use Rattle.plant_model.specs.declared.rows.UnitRow.{UnitRow}
-use Rattle.plant_store.specs.Changes.{Applies}
-use Rattle.plant_store.specs.OldTables.{old_rows}
-use Rattle.plant_store.specs.Upgrading.{upgraded_grant, upgraded_unit}
-use Rattle.plant_store.proofs.Writes.{on_ok}
+use Rattle.plant_model.specs.declared.rows.{GrantRow.{GrantRow}, Row.TheVariants.{Grant as GrantPut, Unit as UnitPut}, RowEdit.{RowEdit}}
+use Rattle.plant_model.specs.declared.rows.{RowEdit.TheVariants.{Put}, UnitRow.{UnitRow}}
+use Rattle.plant_store.{specs.{Changes.{Applies}, OldTables.{old_rows}, Upgrading.{upgraded_grant, upgraded_unit}}, proofs.Writes.{on_ok}}
 use Rattle.plant_store.proofs.migration.take_table.Goals as goal
 
 pub returns-in-Units-clause-made : goal.returns-in-Units-clause-made

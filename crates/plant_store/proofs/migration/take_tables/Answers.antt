@@ -1,19 +1,9 @@
-use Rattle.std.proofs.Common.{◌≡◌, ap, sym, subst, ◌∙◌, arith, rules, List, ◌++◌, take, ◌+◌, get_or, Ok}
-use Rattle.std.proofs.lemmas.List.{take_more}
-use Rattle.std.specs.List.{flat_map}
-use Rattle.sqlite.specs.Effect.{Database}
-use Rattle.sqlite.specs.State.{HasCleanDisk}
-use Rattle.sqlite.specs.Held.{state}
+use Rattle.std.proofs.{Common.{◌≡◌, ap, sym, subst, ◌∙◌, arith, rules, List, ◌++◌, take, ◌+◌, get_or, Ok, flat_map}, lemmas.List.{take_more}}
+use Rattle.sqlite.specs.{Effect.{Database}, Held.{state}, State.{HasCleanDisk}}
 use Rattle.plant_model.specs.declared.rows.RowEdit.{RowEdit}
-use Rattle.plant_store.specs.declared.make.TableKind.{TableKind}
-use Rattle.plant_store.specs.declared.make.TableKind.TheVariants.{Units}
-use Rattle.plant_store.specs.Changes.{Applies}
-use Rattle.plant_store.specs.OldTables.{AreOldBooks}
-use Rattle.plant_store.specs.Upgrading.{puts_all, puts_of, upgraded_rows}
-use Rattle.plant_store.proofs.ReadsOnly.{reads_then}
-use Rattle.plant_store.proofs.StepsInside.{stays_then}
-use Rattle.plant_store.proofs.Upgrades.{joined}
-use Rattle.plant_store.proofs.Writes.{applies_then}
+use Rattle.plant_store.specs.{Changes.{Applies}, OldTables.{AreOldBooks}, Upgrading.{puts_all, puts_of, upgraded_rows}}
+use Rattle.plant_store.{specs.declared.make.TableKind.{TableKind, TheVariants.{Units}}, proofs.{ReadsOnly.{reads_then}, StepsInside.{stays_then}}}
+use Rattle.plant_store.proofs.{Upgrades.{joined}, Writes.{applies_then}}
 use Rattle.plant_store.proofs.migration.take_tables.Goals as goal
 
 pub loop-kind-preserved : goal.loop-kind-preserved

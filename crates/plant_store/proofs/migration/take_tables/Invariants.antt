@@ -1,12 +1,8 @@
 use Rattle.std.proofs.Common.{◌≡◌, false, take, IsTrue, Ok}
-use Rattle.sqlite.specs.State.{HasCleanDisk}
-use Rattle.sqlite.specs.Held.{state}
+use Rattle.sqlite.specs.{Held.{state}, State.{HasCleanDisk}}
 use Rattle.plant_columns.specs.Tables.{AreBooks}
-use Rattle.plant_store.specs.Changes.{Applies, IsHonest}
-use Rattle.plant_store.specs.OldTables.{AreOldBooks}
-use Rattle.plant_store.specs.OnlyReads.{OnlyReadsOld}
+use Rattle.plant_store.specs.{Changes.{Applies, IsHonest}, OldTables.{AreOldBooks}, OnlyReads.{OnlyReadsOld}, StaysInside.{StaysInside}}
 use Rattle.plant_store.specs.Upgrading.{puts_all, upgraded_rows}
-use Rattle.plant_store.specs.StaysInside.{StaysInside}
 use Rattle.plant_store.proofs.migration.take_tables.Given as goal
 
 -- what has been taken over so far

@@ -1,15 +1,8 @@
-use Rattle.std.proofs.Common.{◌≡◌, ap, sym, subst, ◌∙◌, arith, rules, List, ◌∷◌, [], ◌++◌, take, ◌+◌, false, Less, Ok}
-use Rattle.std.proofs.lemmas.List.{take_more}
-use Rattle.sqlite.specs.Effect.{Database}
-use Rattle.sqlite.specs.State.{HasCleanDisk}
-use Rattle.sqlite.specs.Held.{state}
+use Rattle.std.proofs.{Common.{◌≡◌, ap, sym, subst, ◌∙◌, arith, rules, List, ◌∷◌, [], ◌++◌, take, ◌+◌, false, Less, Ok}, lemmas.List.{take_more}}
+use Rattle.sqlite.specs.{Effect.{Database}, Held.{state}, State.{HasCleanDisk}}
 use Rattle.sqlite_trees.specs.Tree.{IsAscending}
-use Rattle.plant_store.specs.declared.old_rows.CodeLine.{CodeLine}
-use Rattle.plant_store.specs.Changes.{Applies}
-use Rattle.plant_store.specs.OldTables.{AreOldBooks}
-use Rattle.plant_store.specs.Upgrading.{AreTakenOver, all_kinds, is_among, puts_all, upgraded_rows}
-use Rattle.plant_store.proofs.ReadsOnly.{reads_then}
-use Rattle.plant_store.proofs.StepsInside.{stays_then}
+use Rattle.plant_store.specs.{Changes.{Applies}, OldTables.{AreOldBooks}, Upgrading.{AreTakenOver, all_kinds, is_among, puts_all, upgraded_rows}}
+use Rattle.plant_store.{specs.declared.old_rows.CodeLine.{CodeLine}, proofs.{ReadsOnly.{reads_then}, StepsInside.{stays_then}}}
 use Rattle.plant_store.proofs.Upgrades.{codes_rise, mapped, not_before, taken_next, units_of}
 use Rattle.plant_types.specs.Names.{Name, name_cmp}
 use Rattle.plant_store.proofs.migration.take_units.Goals as goal

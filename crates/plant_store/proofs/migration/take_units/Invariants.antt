@@ -1,12 +1,7 @@
 use Rattle.std.proofs.Common.{◌≡◌, [], false, take, IsTrue, Ok}
-use Rattle.sqlite.specs.State.{HasCleanDisk}
-use Rattle.sqlite.specs.Held.{state}
-use Rattle.plant_store.specs.Changes.{IsHonest}
-use Rattle.plant_store.specs.OldTables.{AreOldBooks}
-use Rattle.plant_store.specs.OnlyReads.{OnlyReadsOld}
-use Rattle.plant_store.specs.Upgrading.{AreTakenOver, old_codes}
-use Rattle.plant_store.specs.StaysInside.{StaysInside}
-use Rattle.plant_store.proofs.Upgrades.{units_of}
+use Rattle.sqlite.specs.{Held.{state}, State.{HasCleanDisk}}
+use Rattle.plant_store.specs.{Changes.{IsHonest}, OldTables.{AreOldBooks}, OnlyReads.{OnlyReadsOld}, StaysInside.{StaysInside}}
+use Rattle.plant_store.{specs.Upgrading.{AreTakenOver, old_codes}, proofs.Upgrades.{units_of}}
 use Rattle.plant_store.proofs.migration.take_units.Given as goal
 
 -- the units that have been taken over so far

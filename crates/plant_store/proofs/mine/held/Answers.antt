@@ -1,7 +1,6 @@
 use Rattle.std.proofs.Common.{◌∙◌, ap, map}
 use Rattle.plant_books.specs.declared.books.MineUnit.{MineUnit}
-use Rattle.plant_store.proofs.Mines.{codes_of_mine}
-use Rattle.plant_store.proofs.Queries.{if_ok}
+use Rattle.plant_store.proofs.{Mines.{codes_of_mine}, Queries.{if_ok}}
 use Rattle.plant_store.proofs.mine.held.Goals as goal
 
 pub returns-clause-found : goal.returns-clause-found

@@ -1,7 +1,6 @@
 use Rattle.std.proofs.Common.{[], ap, append_assoc, false, rules, sym, ◌++◌, ◌∙◌, ◌∷◌, ◌≡◌}
 use Rattle.plant_books.specs.declared.books.MineUnit.{MineUnit}
-use Rattle.plant_store.proofs.LineLaws.{other_run}
-use Rattle.plant_store.specs.Mine.{put_run, runs_after, runs_of, started}
+use Rattle.plant_store.{specs.Mine.{put_run, runs_after, runs_of, started}, proofs.LineLaws.{other_run}}
 use Rattle.plant_types.specs.Names.{same_name}
 use Rattle.plant_store.proofs.mine.join.Goals as goal
 

@@ -1,14 +1,9 @@
 use Rattle.std.proofs.Common.{◌≡◌, refl}
 use Rattle.sqlite.specs.Held.{state}
 use Rattle.sqlite_value.specs.Order.{Row, bytes, column}
-use Rattle.plant_store.specs.declared.mine.Line.{Line}
-use Rattle.plant_columns.specs.Codes.{number_in, open_number_in, role_in}
-use Rattle.plant_store.specs.Mine.{line_cells}
-use Rattle.plant_store.proofs.Joined.{find_mine}
-use Rattle.plant_store.proofs.Meanings.{mine}
-use Rattle.plant_store.proofs.Queries.{if_ok, told_by}
-use Rattle.plant_columns.proofs.public.ShapeLaws.{open_number_back, role_back}
+use Rattle.plant_store.{specs.{Mine.{line_cells}, declared.mine.Line.{Line}}, proofs.{Joined.{find_mine}, Meanings.{mine}, Queries.{if_ok, told_by}}}
 use Rattle.plant_store.proofs.ReadsOnly.{reads_plain}
+use Rattle.plant_columns.{specs.Codes.{number_in, open_number_in, role_in}, proofs.public.ShapeLaws.{open_number_back, role_back}}
 use Rattle.plant_store.proofs.mine.lines.Goals as goal
 
 line_back : Row → Line

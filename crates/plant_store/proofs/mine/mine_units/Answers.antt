@@ -1,8 +1,6 @@
 use Rattle.std.proofs.Common.{◌∙◌, ap}
 use Rattle.sqlite.specs.Held.{state}
-use Rattle.plant_store.specs.Mine.{runs_of, standing_lines}
-use Rattle.plant_store.proofs.Mines.{mine_found}
-use Rattle.plant_store.proofs.Queries.{if_ok}
+use Rattle.plant_store.{specs.Mine.{runs_of, standing_lines}, proofs.{Mines.{mine_found}, Queries.{if_ok}}}
 use Rattle.plant_store.proofs.mine.mine_units.Goals as goal
 
 pub returns-clause-found : goal.returns-clause-found

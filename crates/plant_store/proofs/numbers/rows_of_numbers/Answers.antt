@@ -2,8 +2,7 @@ use Rattle.std.proofs.Common.{[], ap, append_assoc, filter, refl, rules, subst, 
 use Rattle.sqlite.specs.Held.{state}
 use Rattle.plant_books.proofs.public.NumberRanges.{goes_on, of_none, those_of}
 use Rattle.plant_columns.specs.Tables.{AreBooks}
-use Rattle.plant_store.proofs.NumberLaws.{other_way}
-use Rattle.plant_store.proofs.ReadsOnly.{reads_then}
+use Rattle.plant_store.proofs.{NumberLaws.{other_way}, ReadsOnly.{reads_then}}
 use Rattle.plant_store.proofs.numbers.rows_of_numbers.Goals as goal
 
 pub loop-number-init : goal.loop-number-init

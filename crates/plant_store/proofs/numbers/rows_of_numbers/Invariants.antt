@@ -1,10 +1,8 @@
 use Rattle.std.proofs.Common.{List, ◌++◌, ◌≡◌, false, ℕ}
 use Rattle.sqlite.specs.Held.{state}
-use Rattle.plant_books.proofs.public.NumberRanges.{those_among}
-use Rattle.plant_books.specs.Numbered.{NumbersRise}
+use Rattle.plant_books.{specs.Numbered.{NumbersRise}, proofs.public.NumberRanges.{those_among}}
 use Rattle.plant_columns.specs.Tables.{AreBooks}
-use Rattle.plant_store.specs.Changes.{IsHonest}
-use Rattle.plant_store.specs.OnlyReads.{OnlyReads}
+use Rattle.plant_store.specs.{Changes.{IsHonest}, OnlyReads.{OnlyReads}}
 use Rattle.plant_store.proofs.numbers.rows_of_numbers.Given as goal
 
 -- what has been read so far: the rows of the numbers before

@@ -1,12 +1,9 @@
-use Rattle.std.proofs.Common.{◌∙◌, filter, subst}
-use Rattle.std.specs.Prelude.{IfOk}
+use Rattle.std.proofs.Common.{◌∙◌, filter, subst, IfOk}
 use Rattle.sqlite.specs.Held.{state}
 use Rattle.plant_books.specs.Asking.{HasNumbers}
-use Rattle.plant_columns.specs.Tables.{rows_seen}
-use Rattle.plant_columns.specs.Tables.Kept.{BandKept}
+use Rattle.plant_columns.specs.Tables.{rows_seen, Kept.{BandKept}}
 use Rattle.plant_model.specs.Scopes.{selection_by}
-use Rattle.plant_store.proofs.NumberLaws.{bands_climb}
-use Rattle.plant_store.proofs.Queries.{if_ok}
+use Rattle.plant_store.proofs.{NumberLaws.{bands_climb}, Queries.{if_ok}}
 use Rattle.plant_store.proofs.numbers.some_bands.Goals as goal
 
 pub returns-clause-rows : goal.returns-clause-rows

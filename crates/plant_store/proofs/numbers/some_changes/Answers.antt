@@ -1,14 +1,10 @@
-use Rattle.std.proofs.Common.{◌∙◌, ap, filter, subst, sym}
-use Rattle.std.specs.Prelude.{IfOk}
+use Rattle.std.proofs.Common.{◌∙◌, ap, filter, subst, sym, IfOk}
 use Rattle.sqlite.specs.Held.{state}
 use Rattle.sqlite_keyed.proofs.ListLemmas.{filter-filter}
 use Rattle.plant_books.specs.Asking.{HasNumbers}
-use Rattle.plant_columns.specs.Tables.{rows_seen}
-use Rattle.plant_columns.specs.Tables.Kept.{ChangeKept}
-use Rattle.plant_model.specs.Scopes.{selection_by}
-use Rattle.plant_model.specs.declared.rows.RecordEntry.{RecordEntry}
-use Rattle.plant_store.proofs.NumberLaws.{changes_climb}
-use Rattle.plant_store.proofs.Queries.{if_ok}
+use Rattle.plant_columns.specs.Tables.{rows_seen, Kept.{ChangeKept}}
+use Rattle.plant_model.specs.{Scopes.{selection_by}, declared.rows.RecordEntry.{RecordEntry}}
+use Rattle.plant_store.proofs.{NumberLaws.{changes_climb}, Queries.{if_ok}}
 use Rattle.plant_store.proofs.numbers.some_changes.Goals as goal
 
 pub returns-clause-rows : goal.returns-clause-rows

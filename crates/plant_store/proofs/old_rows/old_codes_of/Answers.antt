@@ -1,14 +1,10 @@
 use Rattle.std.proofs.Common.{◌≡◌, List, [], ◌∷◌, map, ap, refl, sym, ◌∙◌}
 use Rattle.sqlite.specs.Held.{state}
-use Rattle.sqlite_value.specs.declared.value.Value.TheVariants.{Text}
-use Rattle.sqlite_value.specs.Order.{Row, bytes, column}
-use Rattle.plant_store.specs.declared.old_rows.CodeLine.{CodeLine}
-use Rattle.plant_store.proofs.OldMeanings.{asks_codes}
-use Rattle.plant_store.proofs.OldQueries.{find_old_codes}
-use Rattle.plant_store.proofs.Queries.{if_ok}
+use Rattle.sqlite_value.specs.{Order.{Row, bytes, column}, declared.value.Value.TheVariants.{Text}}
+use Rattle.plant_store.{specs.declared.old_rows.CodeLine.{CodeLine}, proofs.{OldMeanings.{asks_codes}, OldQueries.{find_old_codes}, Queries.{if_ok}}}
+use Rattle.plant_store.proofs.ReadsOnly.{reads_plain_old}
 use Rattle.plant_columns.specs.Shown.{columns}
 use Rattle.plant_types.specs.Names.{Name}
-use Rattle.plant_store.proofs.ReadsOnly.{reads_plain_old}
 use Rattle.plant_store.proofs.old_rows.old_codes_of.Goals as goal
 
 codes_back : (rows : List Row) (cs : List Name) (lines : List CodeLine) → rows ≡ map (λ c. Text c ∷ []) cs → map (columns 1) rows ≡ map (λ (l : CodeLine). Text l.unit ∷ []) lines → map (λ (l : CodeLine). l.unit) lines ≡ cs

@@ -1,7 +1,5 @@
 use Rattle.sqlite.specs.Held.{state}
-use Rattle.plant_store.proofs.Queries.{if_ok}
-use Rattle.plant_store.proofs.Reading.{shown_decoded}
-use Rattle.plant_store.proofs.ReadsOnly.{reads_plain_old}
+use Rattle.plant_store.proofs.{Queries.{if_ok}, Reading.{shown_decoded}, ReadsOnly.{reads_plain_old}}
 use Rattle.plant_store.proofs.old_rows.old_rows_of.Goals as goal
 
 pub returns-clause-rows : goal.returns-clause-rows

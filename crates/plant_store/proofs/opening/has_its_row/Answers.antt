@@ -1,8 +1,6 @@
 use Rattle.sqlite.specs.Held.{state}
-use Rattle.plant_store.proofs.Meanings.{office_row_plain}
-use Rattle.plant_store.proofs.OldMeanings.{office_row_plain as old_office_row_plain}
-use Rattle.plant_store.proofs.OfficeRow.{office_there, office_told}
-use Rattle.plant_store.proofs.ReadsOnly.{reads_plain, reads_plain_old}
+use Rattle.plant_store.proofs.{Meanings.{office_row_plain}, OfficeRow.{office_there, office_told}}
+use Rattle.plant_store.proofs.{OldMeanings.{office_row_plain as old_office_row_plain}, ReadsOnly.{reads_plain, reads_plain_old}}
 use Rattle.plant_store.proofs.opening.has_its_row.Goals as goal
 
 pub returns-clause-row : goal.returns-clause-row

@@ -1,7 +1,5 @@
 use Rattle.std.proofs.Common.{ap, length, sym, ◌∙◌, ◌≡◌}
-use Rattle.plant_model.specs.Kinds.{count_of}
-use Rattle.plant_model.specs.Parts.{counted, counted_for}
-use Rattle.plant_model.specs.declared.rows.UnitRows.{UnitRows}
+use Rattle.plant_model.specs.{Kinds.{count_of}, Parts.{counted, counted_for}, declared.rows.UnitRows.{UnitRows}}
 use Rattle.plant_store.proofs.Selected.{counts_events}
 use Rattle.plant_store.proofs.part.count_for.Goals as goal
 

@@ -1,29 +1,14 @@
-use Rattle.std.proofs.Common.{◌≡◌, ap, sym, ◌∙◌, subst, ◌||◌, filter, rules}
-use Rattle.sqlite.specs.Effect.{Database}
-use Rattle.sqlite.specs.Held.{state}
+use Rattle.std.{specs.List.{slice_get}, proofs.Common.{◌≡◌, ap, sym, ◌∙◌, subst, ◌||◌, filter, rules, nat_cmp}}
+use Rattle.sqlite.specs.{Effect.{Database}, Held.{state}}
 use Rattle.plant_books.specs.Contents.{rows_in}
-use Rattle.plant_model.specs.Parts.{selected}
-use Rattle.plant_model.specs.Scopes.{IsSeenIn, selection_by}
-use Rattle.plant_model.specs.declared.rows.BandRow.{BandRow}
-use Rattle.plant_model.specs.declared.rows.CellRow.{CellRow}
-use Rattle.plant_model.specs.declared.rows.ChangeEntry.{ChangeEntry}
-use Rattle.plant_model.specs.declared.rows.GrantRow.{GrantRow}
-use Rattle.plant_model.specs.declared.rows.RecordEntry.{RecordEntry}
-use Rattle.plant_types.specs.Names.{same_name}
-use Rattle.plant_columns.specs.Tables.{rows_seen}
+use Rattle.plant_model.specs.{Histories.{same_number}, Order.{TagsRise}, Parts.{selected}, RowFacts.{alarm_tag, event_number, record_tag, shelf_tag}}
+use Rattle.plant_model.specs.{Scopes.{IsSeenIn, selection_by}, declared.rows.{BandRow.{BandRow}, CellRow.{CellRow}, ChangeEntry.{ChangeEntry}}}
+use Rattle.plant_model.specs.declared.rows.{GrantRow.{GrantRow}, RecordEntry.{RecordEntry}}
+use Rattle.plant_types.specs.{KeyedRows.{IsInOrder}, Names.{same_name}}
 use Rattle.plant_columns.specs.Tables.Kept.{UnitKept, GrantKept, AlarmKept, ShelfKept, BandKept, CellKept, EventKept, RecordKept, ChangeKept}
-use Rattle.plant_store.specs.Wanted.{alarms_left, alarms_with, events_with, rows_with}
-use Rattle.std.specs.List.{slice_get}
-use Rattle.plant_model.specs.Histories.{same_number}
-use Rattle.plant_store.proofs.ReadsOnly.{begins, goes_on}
+use Rattle.plant_columns.{specs.Tables.{rows_seen, alarm_shape, event_shape, shelf_shape}, proofs.public.{ShapeLaws.{good}, Shapes.{rises}}}
+use Rattle.plant_store.{specs.Wanted.{alarms_left, alarms_with, events_with, rows_with}, proofs.ReadsOnly.{begins, goes_on}}
 use Rattle.plant_store.proofs.Selected.{alarms_in_order, approved_found, part_found, read_in_order, records_asked, rows_in_order}
-use Rattle.plant_columns.proofs.public.ShapeLaws.{good}
-use Rattle.plant_columns.specs.Tables.{alarm_shape, event_shape, shelf_shape}
-use Rattle.plant_columns.proofs.public.Shapes.{rises}
-use Rattle.plant_model.specs.Order.{TagsRise}
-use Rattle.plant_model.specs.RowFacts.{alarm_tag, event_number, record_tag, shelf_tag}
-use Rattle.plant_types.specs.KeyedRows.{IsInOrder}
-use Rattle.std.specs.Ordering.{nat_cmp}
 use Rattle.plant_store.proofs.part.holders_part.Goals as goal
 
 pub returns-clause-found : goal.returns-clause-found

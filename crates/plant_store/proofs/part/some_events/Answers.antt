@@ -1,9 +1,7 @@
 use Rattle.std.proofs.Common.{ap, sym, ◌∙◌}
 use Rattle.sqlite.specs.Held.{state}
-use Rattle.plant_columns.specs.Tables.{rows_seen}
-use Rattle.plant_columns.specs.Tables.Kept.{EventKept}
-use Rattle.plant_store.specs.Wanted.{events_with}
-use Rattle.plant_store.proofs.Queries.{if_ok}
+use Rattle.plant_columns.specs.Tables.{rows_seen, Kept.{EventKept}}
+use Rattle.plant_store.{specs.Wanted.{events_with}, proofs.Queries.{if_ok}}
 use Rattle.plant_store.proofs.part.some_events.Goals as goal
 
 pub returns-then-wanted-clause-rows : goal.returns-then-wanted-clause-rows

@@ -1,14 +1,9 @@
 use Rattle.std.proofs.Common.{◌≡◌, ap, sym, ◌∙◌, subst, true, false, filter, rules}
-use Rattle.sqlite.specs.Effect.{Database}
-use Rattle.sqlite.specs.Held.{state}
-use Rattle.plant_model.specs.declared.rows.GrantRow.{GrantRow}
-use Rattle.plant_model.specs.RowFacts.{holds_by}
+use Rattle.sqlite.specs.{Effect.{Database}, Held.{state}}
+use Rattle.plant_model.specs.{RowFacts.{holds_by}, declared.rows.GrantRow.{GrantRow}}
 use Rattle.plant_types.specs.Names.{same_name}
-use Rattle.plant_store.specs.Keeping.{has_any}
-use Rattle.plant_columns.specs.Tables.{AreBooks, rows_seen}
-use Rattle.plant_columns.specs.Tables.Kept.{UnitKept, GrantKept}
-use Rattle.plant_store.proofs.public.Contents.{keeps_same}
-use Rattle.plant_store.proofs.Selected.{holder_found, no_part, stranger_found}
+use Rattle.plant_store.{specs.Keeping.{has_any}, proofs.{Selected.{holder_found, no_part, stranger_found}, public.Contents.{keeps_same}}}
+use Rattle.plant_columns.specs.Tables.{AreBooks, rows_seen, Kept.{UnitKept, GrantKept}}
 use Rattle.plant_store.proofs.part.unit_part.Goals as goal
 
 pub returns-then-not-has_row-clause-found : goal.returns-then-not-has_row-clause-found

@@ -1,12 +1,6 @@
-use Rattle.std.proofs.Common.{◌≡◌, ◌⊎◌, IsTrue, Ok, Err, Result, IfOk, IfErr, List, Vec, ℕ, arith, rules}
-use Rattle.std.specs.declared.alloc.Global.{Global}
-use Rattle.sqlite.specs.declared.error.Error.{Error}
-use Rattle.sqlite.specs.Held.{state}
-use Rattle.sqlite.specs.Listing.{understood}
-use Rattle.sqlite.specs.Order.{Row}
-use Rattle.sqlite.specs.Schema.{Schema}
-use Rattle.sqlite.specs.State.{State, Shown, FailsToQuery, IsUnchanged, IsRolledBack, HasCleanDisk}
-use Rattle.sqlite.specs.Values.{bound}
+use Rattle.std.{specs.declared.alloc.Global.{Global}, proofs.Common.{◌≡◌, ◌⊎◌, IsTrue, Ok, Err, Result, IfOk, IfErr, List, Vec, ℕ, arith, rules}}
+use Rattle.sqlite.specs.{Held.{state}, Listing.{understood}, Order.{Row}, Schema.{Schema}}
+use Rattle.sqlite.specs.{State.{State, Shown, FailsToQuery, IsUnchanged, IsRolledBack, HasCleanDisk}, Values.{bound}, declared.error.Error.{Error}}
 use Rattle.sqlite.proofs.Callers.{IsPlain}
 use Rattle.plant_columns.proofs.public.Asking.{asked, same_now, was_open}
 use Rattle.plant_store.proofs.read.ask.Goals as goal

@@ -1,8 +1,6 @@
 use Rattle.std.proofs.Common.{ap, ◌∙◌, length}
 use Rattle.sqlite.specs.Held.{state}
-use Rattle.plant_store.proofs.Meanings.{tags_of}
-use Rattle.plant_store.proofs.Queries.{find_tags, length_mapped}
-use Rattle.plant_store.proofs.ReadsOnly.{reads_plain}
+use Rattle.plant_store.proofs.{Meanings.{tags_of}, Queries.{find_tags, length_mapped}, ReadsOnly.{reads_plain}}
 use Rattle.plant_store.proofs.read.count_of_alarms.Goals as goal
 
 pub returns-clause-rows : goal.returns-clause-rows

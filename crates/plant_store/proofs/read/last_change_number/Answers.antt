@@ -1,10 +1,6 @@
-use Rattle.std.proofs.Common.{sym, ap, slice_get, ◌∙◌}
-use Rattle.std.specs.Option.{option_copied}
+use Rattle.std.proofs.Common.{sym, ap, slice_get, ◌∙◌, option_copied}
 use Rattle.sqlite.specs.Held.{state}
-use Rattle.plant_store.proofs.Lasts.{last_came, no_last_came}
-use Rattle.plant_store.proofs.Meanings.{last_change}
-use Rattle.plant_store.proofs.Queries.{if_ok}
-use Rattle.plant_store.proofs.ReadsOnly.{reads_plain}
+use Rattle.plant_store.proofs.{Lasts.{last_came, no_last_came}, Meanings.{last_change}, Queries.{if_ok}, ReadsOnly.{reads_plain}}
 use Rattle.plant_store.proofs.read.last_change_number.Goals as goal
 
 pub returns-in-Some-clause-rows : goal.returns-in-Some-clause-rows

@@ -1,7 +1,5 @@
 use Rattle.sqlite.specs.Held.{state}
-use Rattle.plant_store.proofs.Queries.{if_ok}
-use Rattle.plant_store.proofs.Reading.{shown_decoded}
-use Rattle.plant_store.proofs.ReadsOnly.{reads_plain}
+use Rattle.plant_store.proofs.{Queries.{if_ok}, Reading.{shown_decoded}, ReadsOnly.{reads_plain}}
 use Rattle.plant_store.proofs.read.rows_of_number.Goals as goal
 
 pub returns-clause-rows : goal.returns-clause-rows

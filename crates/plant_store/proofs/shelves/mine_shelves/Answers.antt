@@ -1,20 +1,36 @@
-use Rattle.std.proofs.Common.{◌∙◌, ap, map, None}
+use Rattle.std.{specs.FinMap.{get, keys}, proofs.Common.{◌∙◌, ◌++◌, ap, flat_map, refl}}
 use Rattle.sqlite.specs.Held.{state}
-use Rattle.plant_store.specs.Shelves.{all_shelves, merged_after, standing_shelf_lines, with_return}
-use Rattle.plant_store.proofs.public.Contents.{keeps_same}
-use Rattle.plant_store.proofs.JoinedShelves.{all_apart}
-use Rattle.plant_store.proofs.Queries.{if_ok}
-use Rattle.plant_store.proofs.ShelfLaws.{merged_held, mine_of_all, none_before}
+use Rattle.plant_books.{specs.Contents.{mine_shelves, shelves_there}, proofs.public.ShelfLists.{all_listed, held_shelves, more_listed}}
+use Rattle.plant_store.proofs.{ReadsOnly.{reads_then}, public.Contents.{keeps_same}}
 use Rattle.plant_store.proofs.shelves.mine_shelves.Goals as goal
+
+pub loop-unit-init : goal.loop-unit-init
+loop-unit-init g c =
+    record {
+      mode = c.held.ensures.mode;
+      found = λ honest m k.
+          let f = flat_map (λ u. shelves_there u (get m.units u)) in
+          ap (λ xs. xs ++ f c.as_slice-unit-items.result.now) c.new-mine.ensures
+          ∙ ap f (c.as_slice-unit-items.ensures ∙ c.in_ok-units.ensures.found honest m k)
+          ∙ held_shelves (get m.units) c.args.now c.args.person.now (keys m.units);
+      reads = c.held.ensures.reads;
+    }
+
+pub loop-unit-preserved : goal.loop-unit-preserved
+loop-unit-preserved g c =
+    let old = state g.S.Store c.args.conn.now in
+    let mid = state g.S.Store c.loop-unit.conn in
+    record {
+      mode = c.push_shelves.ensures.mode;
+      found = λ honest m k.
+          let before = c.push_shelves.ensures.reads.honest honest in
+          let k2 = keeps_same old mid m k (c.loop-unit.invariant.reads.same before k.books) in
+          let u = c.unit-item.result in
+          more_listed (flat_map (λ u. shelves_there u (get m.units u))) c.loop-unit.mine (mine_shelves m c.args.now c.args.person.now) c.as_slice-unit-items.result.now c.loop-unit.unit-index (shelves_there u (get m.units u)) c.push_shelves.new.mine
+          u c.loop-unit-test.true c.unit-item.is refl (c.in_ok-push_shelves.ensures.found honest m k2) (c.loop-unit.invariant.found before m k);
+      reads = reads_then c.loop-unit.invariant.reads c.push_shelves.ensures.reads;
+    }
 
 pub returns-clause-found : goal.returns-clause-found
 returns-clause-found g c honest m k =
-    let s0 = state g.S.Store c.args.conn.now in
-    let s1 = state g.S.Store c.lines.new.conn in
-    let t = c.args.now in
-    let p = c.args.person.now in
-    let t1 = c.all_returned.ensures.reads.honest honest in
-    let k1 = keeps_same s0 s1 m k (c.lines.ensures.reads.same t1 k.books) in
-    let lines = c.as_slice.ensures ∙ c.in_ok-lines.ensures.found t1 m k in
-    let listed = c.in_ok-shelves.ensures ∙ ap (λ ls. merged_after None (standing_shelf_lines t ls)) lines ∙ merged_held m t p None (all_shelves m) (none_before (all_shelves m)) (all_apart s0 m k) in
-    if_ok c.all_returned.result (λ mine h. h ∙ ap (map (with_return m)) (c.as_slice-2.ensures ∙ listed) ∙ mine_of_all m t p) (c.all_returned.ensures.found honest m k1)
+    all_listed (flat_map (λ u. shelves_there u (get m.units u))) c.loop-unit.mine (mine_shelves m c.args.now c.args.person.now) c.as_slice-unit-items.result.now c.loop-unit.unit-index refl c.loop-unit-test.false (c.loop-unit.invariant.found honest m k)

@@ -1,14 +1,10 @@
-use Rattle.std.proofs.Common.{◌≡◌, List, Some, ap, refl, sym, ◌∙◌, rules}
-use Rattle.std.specs.FinMap.{get}
-use Rattle.std.specs.Prelude.{option_map}
-use Rattle.sqlite.specs.Effect.{Database}
-use Rattle.sqlite.specs.Held.{state}
+use Rattle.std.{specs.FinMap.{get}, proofs.Common.{◌≡◌, List, Some, ap, refl, sym, ◌∙◌, rules, option_map}}
+use Rattle.sqlite.specs.{Effect.{Database}, Held.{state}}
 use Rattle.plant_books.specs.Contents.{without_events}
-use Rattle.plant_columns.specs.Tables.{AreSeen, rows_seen}
 use Rattle.plant_columns.specs.Tables.Kept.{UnitKept, GrantKept, AlarmKept, ShelfKept, BandKept, CellKept, EventKept, RecordKept, ChangeKept}
+use Rattle.plant_columns.specs.Tables.{AreSeen, rows_seen}
 use Rattle.plant_model.specs.declared.rows.UnitRows.{UnitRows}
-use Rattle.plant_store.proofs.public.Contents.{none_found, whole_found}
-use Rattle.plant_store.proofs.ReadsOnly.{begins, goes_on}
+use Rattle.plant_store.proofs.{ReadsOnly.{begins, goes_on}, public.Contents.{none_found, whole_found}}
 use Rattle.plant_store.proofs.unit.rows_but_events.Goals as goal
 
 -- each list was seen in a database that is the first one

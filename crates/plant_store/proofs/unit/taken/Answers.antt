@@ -1,7 +1,6 @@
 use Rattle.std.proofs.Common.{ap, sym, ◌∙◌}
 use Rattle.sqlite.specs.Held.{state}
-use Rattle.plant_store.specs.Keeping.{has_any}
-use Rattle.plant_store.proofs.public.Contents.{was_opened}
+use Rattle.plant_store.{specs.Keeping.{has_any}, proofs.public.Contents.{was_opened}}
 use Rattle.plant_store.proofs.unit.taken.Goals as goal
 
 pub returns-clause-found : goal.returns-clause-found

@@ -1,11 +1,7 @@
-use Rattle.std.proofs.Common.{◌≡◌, ap, sym, subst, ◌∙◌, arith, rules, List, ◌∷◌, [], ◌++◌, take, ◌+◌}
-use Rattle.std.proofs.lemmas.List.{take_more}
-use Rattle.sqlite.specs.State.{HasCleanDisk}
-use Rattle.sqlite.specs.Held.{state}
-use Rattle.sqlite.proofs.StateLemmas.{survives_then}
+use Rattle.std.proofs.{Common.{◌≡◌, ap, sym, subst, ◌∙◌, arith, rules, List, ◌∷◌, [], ◌++◌, take, ◌+◌}, lemmas.List.{take_more}}
+use Rattle.sqlite.{specs.{Held.{state}, State.{HasCleanDisk}}, proofs.StateLemmas.{survives_then}}
 use Rattle.plant_model.specs.declared.rows.RowEdit.{RowEdit}
-use Rattle.plant_store.specs.Changes.{Applies}
-use Rattle.plant_store.proofs.Writes.{applies_then}
+use Rattle.plant_store.{specs.Changes.{Applies}, proofs.Writes.{applies_then}}
 use Rattle.plant_columns.proofs.public.Asking.{keeps_then}
 use Rattle.plant_store.proofs.write.change_all.Goals as goal
 

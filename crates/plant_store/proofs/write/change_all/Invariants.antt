@@ -1,6 +1,5 @@
 use Rattle.std.proofs.Common.{◌≡◌, take, IsTrue}
-use Rattle.sqlite.specs.State.{HasCleanDisk, KeepsCommit, Survives}
-use Rattle.sqlite.specs.Held.{state}
+use Rattle.sqlite.specs.{Held.{state}, State.{HasCleanDisk, KeepsCommit, Survives}}
 use Rattle.plant_store.specs.Changes.{Applies}
 use Rattle.plant_columns.specs.Tables.{AreBooks}
 use Rattle.plant_store.proofs.write.change_all.Given as goal

@@ -1,9 +1,7 @@
 use Rattle.std.proofs.Common.{◌∷◌, [], arith, rules}
-use Rattle.sqlite.specs.Held.{state}
-use Rattle.sqlite.specs.State.{HasCleanDisk}
+use Rattle.sqlite.specs.{Held.{state}, State.{HasCleanDisk}}
 use Rattle.plant_model.specs.declared.rows.RowEdit.TheVariants.{Put}
-use Rattle.plant_store.proofs.Writes.{applies_then, on_ok}
-use Rattle.plant_store.proofs.WritesOver.{none_put, one_put}
+use Rattle.plant_store.proofs.{Writes.{applies_then, on_ok}, WritesOver.{none_put, one_put}}
 use Rattle.plant_store.proofs.write.put.Goals as goal
 
 pub returns-then-written-ne0-clause-made : goal.returns-then-written-ne0-clause-made

@@ -1,12 +1,8 @@
-use Rattle.std.proofs.Common.{◌≡◌, ◌∷◌, [], ◌++◌, ◌+◌, ◌∙◌, List, Ok, ap, arith, rules, subst, sym, take}
-use Rattle.std.proofs.lemmas.List.{take_all, take_more}
-use Rattle.sqlite.specs.State.{HasCleanDisk}
-use Rattle.sqlite.specs.Held.{state}
+use Rattle.std.proofs.{Common.{◌≡◌, ◌∷◌, [], ◌++◌, ◌+◌, ◌∙◌, List, Ok, ap, arith, rules, subst, sym, take}, lemmas.List.{take_all, take_more}}
+use Rattle.sqlite.specs.{Held.{state}, State.{HasCleanDisk}}
 use Rattle.plant_alarm.specs.declared.event.Event.{Event}
 use Rattle.plant_model.specs.declared.rows.RowEdit.TheVariants.{PutEvents}
-use Rattle.plant_store.specs.Changes.{Applies}
-use Rattle.plant_store.proofs.StepsInside.{stays_then}
-use Rattle.plant_store.proofs.Writes.{applies_event}
+use Rattle.plant_store.{specs.Changes.{Applies}, proofs.{StepsInside.{stays_then}, Writes.{applies_event}}}
 use Rattle.plant_store.proofs.write.put_events.Goals as goal
 
 pub loop-event-preserved : goal.loop-event-preserved

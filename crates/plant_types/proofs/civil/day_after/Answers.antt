@@ -1,11 +1,8 @@
-use Rattle.std.proofs.Common.{◌≡◌, ℕ, ◌<◌, ◌≤◌, ◌∙◌, arith, pos, to_z, of_z, w16, w64, FitsSigned, ℤ, Fits, subst, sym, true}
-use Rattle.std.specs.Prelude.{unsigned_abs}
-use Rattle.plant_types.specs.Moment.{is_date, days_since_2000}
+use Rattle.std.proofs.Common.{◌≡◌, ℕ, ◌<◌, ◌≤◌, ◌∙◌, arith, pos, to_z, of_z, w16, w64, FitsSigned, ℤ, Fits, subst, sym, true, unsigned_abs}
+use Rattle.std.proofs.lemmas.{Bool.{false≢true}, Int.{ints, to_z-of_z}}
+use Rattle.plant_types.{specs.Moment.{is_date, days_since_2000}, proofs.public.Days.{IsDayAfter, day_after, day_is_there}}
 use lib.Dec.{T}
 use lib.Signed.{non_neg}
-use Rattle.std.proofs.lemmas.Bool.{false≢true}
-use Rattle.std.proofs.lemmas.Int.{ints, to_z-of_z}
-use Rattle.plant_types.proofs.public.Days.{IsDayAfter, day_after, day_is_there}
 use Rattle.plant_types.proofs.civil.day_after.Goals as goal
 
 as_signed : (n : ℕ) → n < 36525 → to_z w64 n ≡ pos n

@@ -1,5 +1,4 @@
-use Rattle.std.proofs.Common.{refl, ◌≡◌, ◌<◌, ◌-◌, arith, pos, to_z, of_z, w32, FitsSigned, ◌∙◌}
-use Rattle.std.proofs.lemmas.Int.{ints, to_z-of_z}
+use Rattle.std.proofs.{Common.{refl, ◌≡◌, ◌<◌, ◌-◌, arith, pos, to_z, of_z, w32, FitsSigned, ◌∙◌}, lemmas.Int.{ints, to_z-of_z}}
 use Rattle.jiff_core.specs.Calendar.{IsCivilDate, day_count}
 use Rattle.plant_types.proofs.public.Days.{the_days, civil_at, is_date_true}
 use Rattle.plant_types.proofs.civil.days_of.Goals as goal

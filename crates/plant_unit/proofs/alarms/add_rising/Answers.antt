@@ -1,7 +1,6 @@
 use Rattle.std.proofs.Common.{List, refl, subst, sym}
 use Rattle.plant_alarm.specs.declared.event.Event.{Event}
-use Rattle.plant_import.proofs.public.Placed.{puts_none, rises_of}
-use Rattle.plant_import.specs.Numbers.{event_number}
+use Rattle.plant_import.{specs.Numbers.{event_number}, proofs.public.Placed.{puts_none, rises_of}}
 use Rattle.plant_unit.specs.Alarms.{AddsEvents}
 use Rattle.plant_unit.proofs.alarms.add_rising.Goals as goal
 

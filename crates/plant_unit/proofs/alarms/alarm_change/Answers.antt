@@ -1,10 +1,6 @@
-use Rattle.std.proofs.Common.{ap, rules, sym, true, ◌∙◌, ◌∷◌, ◌≡◌, []}
-use Rattle.std.specs.Prelude.{if◌then◌else◌}
-use Rattle.plant_model.specs.RowChanges.{state_put}
-use Rattle.plant_model.specs.declared.rows.AlarmRow.{AlarmRow}
+use Rattle.std.proofs.Common.{ap, rules, sym, true, ◌∙◌, ◌∷◌, ◌≡◌, [], if◌then◌else◌}
+use Rattle.plant_model.specs.{RowChanges.{state_put}, declared.rows.{AlarmRow.{AlarmRow}, Row.TheVariants.{Alarm as AlarmPut}, RowEdit.{RowEdit}}}
 use Rattle.plant_model.specs.declared.rows.RowEdit.TheVariants.{Put}
-use Rattle.plant_model.specs.declared.rows.RowEdit.{RowEdit}
-use Rattle.plant_model.specs.declared.rows.Row.TheVariants.{Alarm as AlarmPut}
 use Rattle.plant_unit.proofs.AlarmLists.{summary_state}
 use Rattle.plant_unit.specs.Summaries as summed
 use Rattle.plant_unit.proofs.alarms.alarm_change.Goals as goal

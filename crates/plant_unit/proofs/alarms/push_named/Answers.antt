@@ -1,13 +1,8 @@
-use Rattle.std.proofs.Common.{ap, sym, ◌∙◌, ◌≡◌}
-use Rattle.std.specs.Prelude.{List, Option, [], filter, if◌then◌else◌, map, option_to_list, take, ◌+◌, ◌++◌, ◌∷◌}
-use Rattle.plant_model.specs.RowChanges.{state_put}
-use Rattle.plant_model.specs.declared.rows.AlarmRow.{AlarmRow}
-use Rattle.plant_model.specs.declared.rows.RowEdit.{RowEdit}
-use Rattle.plant_unit.proofs.AlarmLists.{summarized}
+use Rattle.std.proofs.Common.{ap, sym, ◌∙◌, ◌≡◌, List, Option, [], filter, if◌then◌else◌, map, option_to_list, take, ◌+◌, ◌++◌, ◌∷◌}
+use Rattle.plant_model.specs.{RowChanges.{state_put}, declared.rows.{AlarmRow.{AlarmRow}, RowEdit.{RowEdit}}}
+use Rattle.plant_unit.{specs.Summaries.{is_named}, proofs.{AlarmLists.{summarized}, alarms.push_named.Goals.{in-Some+in_ok-push, in_default}}}
 use Rattle.plant_unit.proofs.public.Loops.{append-[], grown, passing_next}
-use Rattle.plant_unit.specs.Summaries.{is_named}
 use Rattle.plant_unit.proofs.alarms.push_named.Goals as goal
-use Rattle.plant_unit.proofs.alarms.push_named.Goals.{in-Some+in_ok-push, in_default}
 
 pub loop-i-preserved : goal.loop-i-preserved
 loop-i-preserved c es fresh named told =

@@ -1,5 +1,4 @@
-use Rattle.std.proofs.Common.{take, ◌++◌, ◌≡◌}
-use Rattle.std.specs.Prelude.{List, filter, map}
+use Rattle.std.proofs.Common.{take, ◌++◌, ◌≡◌, List, filter, map}
 use Rattle.plant_alarm.specs.declared.event.Event.{Event}
 use Rattle.plant_model.specs.RowChanges.{state_put}
 use Rattle.plant_unit.specs.Summaries as states

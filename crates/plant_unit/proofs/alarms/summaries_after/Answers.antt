@@ -1,7 +1,6 @@
 use Rattle.std.proofs.Common.{IfOk, List, subst, sym, ◌≡◌}
 use Rattle.plant_alarm.specs.declared.event.Event.{Event}
-use Rattle.plant_import.specs.Merging.{IsRising}
-use Rattle.plant_import.specs.Numbers.{with_events}
+use Rattle.plant_import.specs.{Merging.{IsRising}, Numbers.{with_events}}
 use Rattle.plant_unit.proofs.NamedLaws.{go_on, late_all, needed_ordered, none_late}
 use Rattle.plant_unit.specs.Summaries as states
 use Rattle.plant_unit.proofs.alarms.summaries_after.Goals as goal

@@ -1,5 +1,4 @@
-use Rattle.std.proofs.Common.{take, ◌≡◌}
-use Rattle.std.specs.Prelude.{map}
+use Rattle.std.proofs.Common.{take, ◌≡◌, map}
 use Rattle.plant_unit.specs.Summaries as states
 use Rattle.plant_unit.proofs.alarms.summaries_in.Given as goal
 

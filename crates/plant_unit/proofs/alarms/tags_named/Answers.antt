@@ -1,8 +1,6 @@
-use Rattle.std.proofs.Common.{arith, rules, subst, sym, take, true, ◌+◌, ◌≡◌}
-use Rattle.std.specs.BTreeSet.{contains}
+use Rattle.std.{specs.BTreeSet.{contains}, proofs.Common.{arith, rules, subst, sym, take, true, ◌+◌, ◌≡◌}}
 use Rattle.plant_types.specs.Names.{name_cmp}
-use Rattle.plant_unit.proofs.NamedLaws.{named_before, named_more, named_none}
-use Rattle.plant_unit.specs.Summaries.{AreNamed}
+use Rattle.plant_unit.{specs.Summaries.{AreNamed}, proofs.NamedLaws.{named_before, named_more, named_none}}
 use Rattle.plant_unit.proofs.alarms.tags_named.Goals.{else-not-contains, then-not-contains+in_ok-copy+in_ok-insert}
 use Rattle.plant_unit.proofs.alarms.tags_named.Goals as goal
 

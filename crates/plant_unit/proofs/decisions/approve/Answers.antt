@@ -1,14 +1,8 @@
-use Rattle.std.proofs.Common.{ap, sym, ◌∙◌}
-use Rattle.std.specs.Prelude.{Some, [], option_copied, ◌∷◌}
-use Rattle.plant_model.specs.Refusals.{first_refusal, kind_refusals, of_change}
-use Rattle.plant_model.specs.Rows.{change_entry}
-use Rattle.plant_model.specs.declared.reply.ChangeRow.{ChangeRow}
-use Rattle.plant_model.specs.declared.reply.Refused.TheVariants.{SamePerson}
-use Rattle.plant_model.specs.RowFacts.{change_read, facts_in}
-use Rattle.plant_model.specs.declared.call.Request.TheVariants.{Approve}
+use Rattle.std.proofs.Common.{ap, sym, ◌∙◌, Some, [], option_copied, ◌∷◌}
+use Rattle.plant_model.specs.{Refusals.{first_refusal, kind_refusals, of_change}, RowFacts.{change_read, facts_in}, Rows.{change_entry}}
+use Rattle.plant_model.specs.declared.{call.Request.TheVariants.{Approve}, reply.{ChangeRow.{ChangeRow}, Refused.TheVariants.{SamePerson}}}
 use Rattle.plant_types.specs.Names.{same_name}
-use Rattle.plant_unit.proofs.DecisionLaws.{approved_for, change_there, found_there, refused_there, whole_read}
-use Rattle.plant_unit.proofs.ProposalLaws.{as_rejected}
+use Rattle.plant_unit.proofs.{DecisionLaws.{approved_for, change_there, found_there, refused_there, whole_read}, ProposalLaws.{as_rejected}}
 use Rattle.plant_unit.proofs.VerdictLaws.{refused_for}
 use Rattle.plant_unit.proofs.decisions.approve.Goals as goal
 

@@ -1,13 +1,7 @@
-use Rattle.plant_model.specs.Calls.{own_changes}
-use Rattle.std.proofs.Common.{ap, refl, sym, ◌∙◌}
-use Rattle.std.specs.Prelude.{List, ◌++◌, ◌∷◌}
-use Rattle.plant_model.specs.RowFacts.{facts_in}
-use Rattle.plant_model.specs.declared.call.Request.TheVariants.{Propose}
-use Rattle.plant_model.specs.declared.reply.Reply.TheVariants.{Number}
-use Rattle.plant_model.specs.declared.rows.RowEdit.{RowEdit}
-use Rattle.plant_model.specs.declared.rows.RowEdit.TheVariants.{Put}
-use Rattle.plant_model.specs.declared.rows.Row.TheVariants.{Unit as UnitPut}
-use Rattle.plant_model.specs.declared.rows.UnitRow.{UnitRow}
+use Rattle.std.proofs.Common.{ap, refl, sym, ◌∙◌, List, ◌++◌, ◌∷◌}
+use Rattle.plant_model.specs.{Calls.{own_changes}, RowFacts.{facts_in}, declared.call.Request.TheVariants.{Propose}}
+use Rattle.plant_model.specs.declared.{reply.Reply.TheVariants.{Number}, rows.{Row.TheVariants.{Unit as UnitPut}, RowEdit.{RowEdit}}}
+use Rattle.plant_model.specs.declared.rows.{RowEdit.TheVariants.{Put}, UnitRow.{UnitRow}}
 use Rattle.plant_unit.proofs.VerdictLaws.{made_for, refused_for}
 use Rattle.plant_unit.proofs.decisions.propose.Goals as goal
 

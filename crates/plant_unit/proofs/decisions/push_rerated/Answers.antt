@@ -1,18 +1,9 @@
-use Rattle.plant_model.specs.declared.reply.RecordRow.{RecordRow}
-use Rattle.std.specs.List.{list_all}
-use Rattle.std.proofs.Common.{ap, sym, ◌∙◌, ◌≡◌}
-use Rattle.std.specs.Prelude.{List, Option, filter_map, map, option_to_list, take, true, ◌+◌, ◌++◌}
-use Rattle.plant_model.specs.RowChanges.{rerated}
-use Rattle.plant_model.specs.RowFacts.{record_read}
-use Rattle.plant_model.specs.declared.rows.RowEdit.{RowEdit}
-use Rattle.plant_model.specs.declared.rows.RowEdit.TheVariants.{Put}
-use Rattle.plant_model.specs.declared.rows.RecordEntry.{RecordEntry}
-use Rattle.plant_model.specs.declared.rows.Row.TheVariants.{Record as RecordPut}
-use Rattle.plant_unit.proofs.public.Loops.{append-[], grown}
-use Rattle.plant_unit.proofs.ReadingLaws.{each_passes, told_more}
-use Rattle.plant_unit.specs.Readings.{has_its_sheet}
+use Rattle.std.{specs.List.{list_all}, proofs.Common.{ap, sym, ◌∙◌, ◌≡◌, List, Option, filter_map, map, option_to_list, take, true, ◌+◌, ◌++◌}}
+use Rattle.plant_model.specs.{RowChanges.{rerated}, RowFacts.{record_read}, declared.{reply.RecordRow.{RecordRow}, rows.RecordEntry.{RecordEntry}}}
+use Rattle.plant_model.specs.declared.rows.{Row.TheVariants.{Record as RecordPut}, RowEdit.{RowEdit, TheVariants.{Put}}}
+use Rattle.plant_unit.{specs.Readings.{has_its_sheet}, proofs.ReadingLaws.{each_passes, told_more}}
+use Rattle.plant_unit.proofs.{decisions.push_rerated.Goals.{in-Some+in_ok-push, in_default}, public.Loops.{append-[], grown}}
 use Rattle.plant_unit.proofs.decisions.push_rerated.Goals as goal
-use Rattle.plant_unit.proofs.decisions.push_rerated.Goals.{in-Some+in_ok-push, in_default}
 
 pub loop-row-preserved : goal.loop-row-preserved
 loop-row-preserved c kept =

@@ -1,8 +1,5 @@
-use Rattle.std.proofs.Common.{ap, sym, ◌∙◌}
-use Rattle.std.specs.Prelude.{[], option_copied, ◌∷◌}
-use Rattle.plant_model.specs.RowChanges.{decision_change}
-use Rattle.plant_model.specs.RowFacts.{change_read, facts_in}
-use Rattle.plant_model.specs.declared.reply.Refused.TheVariants.{SamePerson}
+use Rattle.std.proofs.Common.{ap, sym, ◌∙◌, [], option_copied, ◌∷◌}
+use Rattle.plant_model.specs.{RowChanges.{decision_change}, RowFacts.{change_read, facts_in}, declared.reply.Refused.TheVariants.{SamePerson}}
 use Rattle.plant_ration.specs.declared.change.ChangeState.TheVariants.{Rejected}
 use Rattle.plant_types.specs.Names.{same_name}
 use Rattle.plant_unit.proofs.DecisionLaws.{change_there, decided_change, found_there, refused_change}

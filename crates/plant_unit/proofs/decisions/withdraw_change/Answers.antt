@@ -1,8 +1,5 @@
-use Rattle.std.proofs.Common.{ap, sym, ◌∙◌}
-use Rattle.std.specs.Prelude.{[], not, option_copied, ◌∷◌}
-use Rattle.plant_model.specs.RowChanges.{decision_change}
-use Rattle.plant_model.specs.RowFacts.{change_read, facts_in}
-use Rattle.plant_model.specs.declared.reply.Refused.TheVariants.{NotProposer}
+use Rattle.std.proofs.Common.{ap, sym, ◌∙◌, [], not, option_copied, ◌∷◌}
+use Rattle.plant_model.specs.{RowChanges.{decision_change}, RowFacts.{change_read, facts_in}, declared.reply.Refused.TheVariants.{NotProposer}}
 use Rattle.plant_ration.specs.declared.change.ChangeState.TheVariants.{Withdrawn}
 use Rattle.plant_types.specs.Names.{same_name}
 use Rattle.plant_unit.proofs.DecisionLaws.{change_there, decided_change, found_there, refused_change}

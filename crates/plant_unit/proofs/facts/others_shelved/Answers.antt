@@ -1,9 +1,5 @@
-use Rattle.std.proofs.Common.{Bool, ap, arith, length, ◌∙◌}
-use Rattle.std.proofs.lemmas.List.{take_all}
-use Rattle.std.proofs.lemmas.List.Sums.{length-filter}
-use Rattle.std.specs.Prelude.{filter}
-use Rattle.plant_model.specs.RowFacts.{facts_in}
-use Rattle.plant_model.specs.declared.rows.ShelfRow.{ShelfRow}
+use Rattle.std.proofs.{Common.{Bool, ap, arith, length, ◌∙◌, filter}, lemmas.List.{take_all, Sums.{length-filter}}}
+use Rattle.plant_model.specs.{RowFacts.{facts_in}, declared.rows.ShelfRow.{ShelfRow}}
 use Rattle.plant_unit.specs.Shelving.{is_other_shelved}
 use Rattle.plant_unit.proofs.facts.others_shelved.Goals as goal
 

@@ -1,8 +1,6 @@
-use Rattle.std.proofs.Common.{length, take, ◌≡◌, ◌≤◌}
-use Rattle.std.specs.Prelude.{filter}
+use Rattle.std.proofs.Common.{length, take, ◌≡◌, ◌≤◌, filter}
 use Rattle.plant_model.specs.RowFacts.{facts_in}
-use Rattle.plant_unit.specs.Additions.{AreKept}
-use Rattle.plant_unit.specs.Shelving.{is_other_shelved}
+use Rattle.plant_unit.specs.{Additions.{AreKept}, Shelving.{is_other_shelved}}
 use Rattle.plant_unit.proofs.facts.others_shelved.Given as goal
 
 abbrev pub invariant-loop-row : goal.invariant-loop-row

@@ -1,5 +1,4 @@
-use Rattle.std.proofs.Common.{take, ◌≡◌, ◌*◌, ◌+◌, ◌≤◌, ℕ}
-use Rattle.std.specs.Prelude.{All, IsTrue, map}
+use Rattle.std.proofs.Common.{take, ◌≡◌, ◌*◌, ◌+◌, ◌≤◌, ℕ, All, IsTrue, map}
 use Rattle.plant_floods.specs.declared.run.Run.{Run}
 use Rattle.plant_model.specs.Events.{flood_line}
 use Rattle.plant_types.specs.Moment.{is_moment}

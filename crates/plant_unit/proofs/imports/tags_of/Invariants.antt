@@ -1,5 +1,4 @@
-use Rattle.std.proofs.Common.{take, ◌≡◌}
-use Rattle.std.specs.Prelude.{map}
+use Rattle.std.proofs.Common.{take, ◌≡◌, map}
 use Rattle.plant_model.specs.RowFacts.{alarm_tag}
 use Rattle.plant_unit.proofs.imports.tags_of.Given as goal
 

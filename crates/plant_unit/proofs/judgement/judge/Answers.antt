@@ -1,5 +1,4 @@
-use Rattle.std.proofs.Common.{ap, slice_get, sym, ◌∙◌}
-use Rattle.std.specs.Prelude.{option_copied}
+use Rattle.std.proofs.Common.{ap, slice_get, sym, ◌∙◌, option_copied}
 use Rattle.plant_unit.proofs.JudgedLaws.{has_unit, judged_some, judged_none, part_kept, part_seen}
 use Rattle.plant_model.specs.Events.{events}
 use Rattle.plant_unit.proofs.judgement.judge.Goals as goal

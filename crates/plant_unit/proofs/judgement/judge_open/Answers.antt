@@ -1,5 +1,4 @@
-use Rattle.plant_unit.proofs.MatrixLaws.{not_other}
-use Rattle.plant_unit.proofs.JudgedLaws.{opened_verdict}
+use Rattle.plant_unit.proofs.{JudgedLaws.{opened_verdict}, MatrixLaws.{not_other}}
 use Rattle.plant_unit.proofs.judgement.judge_open.Goals as goal
 
 pub returns-clause-value : goal.returns-clause-value

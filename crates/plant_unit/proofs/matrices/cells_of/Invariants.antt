@@ -1,6 +1,4 @@
-use Rattle.std.proofs.Common.{◌≡◌, map}
-use Rattle.std.specs.List.{range_with_len}
-use Rattle.std.specs.Prelude.{filter}
+use Rattle.std.{specs.List.{range_with_len}, proofs.Common.{◌≡◌, map, filter}}
 use Rattle.plant_model.specs.RowFacts.{cells_at, has_cells}
 use Rattle.plant_unit.proofs.matrices.cells_of.Given as goal
 

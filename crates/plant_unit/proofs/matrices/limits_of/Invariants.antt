@@ -1,5 +1,4 @@
-use Rattle.std.proofs.Common.{◌≡◌, take}
-use Rattle.std.specs.Prelude.{filter, map}
+use Rattle.std.proofs.Common.{◌≡◌, take, filter, map}
 use Rattle.plant_model.specs.Histories.{same_number}
 use Rattle.plant_unit.proofs.matrices.limits_of.Given as goal
 

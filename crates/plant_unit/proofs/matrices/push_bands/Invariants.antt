@@ -1,8 +1,5 @@
-use Rattle.std.proofs.Common.{◌≡◌, take}
-use Rattle.std.specs.Prelude.{map, ◌++◌}
-use Rattle.std.specs.List.{enumerate_from}
-use Rattle.plant_model.specs.declared.rows.RowEdit.TheVariants.{Put}
-use Rattle.plant_model.specs.declared.rows.Row.TheVariants.{Band as BandPut}
+use Rattle.std.{specs.List.{enumerate_from}, proofs.Common.{◌≡◌, take, map, ◌++◌}}
+use Rattle.plant_model.specs.declared.rows.{Row.TheVariants.{Band as BandPut}, RowEdit.TheVariants.{Put}}
 use Rattle.plant_unit.specs.MatrixRows.{band_row_of}
 use Rattle.plant_unit.proofs.matrices.push_bands.Given as goal
 

@@ -1,7 +1,5 @@
-use Rattle.plant_model.specs.declared.rows.RowEdit.TheVariants.{Put}
-use Rattle.plant_model.specs.declared.rows.Row.TheVariants.{Cell as CellPut}
-use Rattle.plant_unit.specs.MatrixRows.{row_of_cells}
-use Rattle.plant_unit.proofs.public.Loops.{grown, next_cells}
+use Rattle.plant_model.specs.declared.rows.{Row.TheVariants.{Cell as CellPut}, RowEdit.TheVariants.{Put}}
+use Rattle.plant_unit.{specs.MatrixRows.{row_of_cells}, proofs.public.Loops.{grown, next_cells}}
 use Rattle.plant_unit.proofs.matrices.push_cells.Goals as goal
 
 pub loop-i-preserved : goal.loop-i-preserved

@@ -1,7 +1,5 @@
-use Rattle.plant_model.specs.declared.rows.RowEdit.TheVariants.{Put}
-use Rattle.plant_model.specs.declared.rows.Row.TheVariants.{Cell as CellPut}
-use Rattle.plant_unit.specs.MatrixRows.{cell_row_of}
-use Rattle.plant_unit.proofs.public.Loops.{grown, next_mapped}
+use Rattle.plant_model.specs.declared.rows.{Row.TheVariants.{Cell as CellPut}, RowEdit.TheVariants.{Put}}
+use Rattle.plant_unit.{specs.MatrixRows.{cell_row_of}, proofs.public.Loops.{grown, next_mapped}}
 use Rattle.plant_unit.proofs.matrices.push_row.Goals as goal
 
 pub loop-i-preserved : goal.loop-i-preserved

@@ -1,8 +1,5 @@
-use Rattle.std.proofs.Common.{◌≡◌, take}
-use Rattle.std.specs.Prelude.{map, ◌++◌}
-use Rattle.std.specs.List.{enumerate_from}
-use Rattle.plant_model.specs.declared.rows.RowEdit.TheVariants.{Put}
-use Rattle.plant_model.specs.declared.rows.Row.TheVariants.{Cell as CellPut}
+use Rattle.std.{specs.List.{enumerate_from}, proofs.Common.{◌≡◌, take, map, ◌++◌}}
+use Rattle.plant_model.specs.declared.rows.{Row.TheVariants.{Cell as CellPut}, RowEdit.TheVariants.{Put}}
 use Rattle.plant_unit.specs.MatrixRows.{cell_row_of}
 use Rattle.plant_unit.proofs.matrices.push_row.Given as goal
 

@@ -1,9 +1,5 @@
-use Rattle.std.proofs.lemmas.Grind.{common_steps}
-use Rattle.std.proofs.Common.{arith, ◌∙◌, ◌≡◌}
-use Rattle.std.specs.List.{list_any}
-use Rattle.std.specs.Prelude.{false, true}
-use Rattle.plant_unit.proofs.ReadingLaws.{outside_told}
-use Rattle.plant_unit.specs.Readings.{is_outside}
+use Rattle.std.{specs.List.{list_any}, proofs.{Common.{arith, ◌∙◌, ◌≡◌, false, true}, lemmas.Grind.{common_steps}}}
+use Rattle.plant_unit.{specs.Readings.{is_outside}, proofs.ReadingLaws.{outside_told}}
 use Rattle.plant_unit.proofs.proposals.has_outside.Goals as goal
 
 pub returns-then-is_outside : goal.returns-then-is_outside

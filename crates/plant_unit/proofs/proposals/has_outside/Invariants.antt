@@ -1,8 +1,5 @@
-use Rattle.std.proofs.Common.{take, ◌≡◌}
-use Rattle.std.specs.List.{list_any}
-use Rattle.std.specs.Prelude.{false}
-use Rattle.plant_unit.specs.Additions.{AreKept}
-use Rattle.plant_unit.specs.Readings.{is_outside}
+use Rattle.std.{specs.List.{list_any}, proofs.Common.{take, ◌≡◌, false}}
+use Rattle.plant_unit.specs.{Additions.{AreKept}, Readings.{is_outside}}
 use Rattle.plant_unit.proofs.proposals.has_outside.Given as goal
 
 abbrev pub invariant-loop-row : goal.invariant-loop-row

@@ -1,5 +1,4 @@
-use Rattle.std.proofs.Common.{ap, ◌∙◌}
-use Rattle.std.specs.Result.{result_err}
+use Rattle.std.{specs.Result.{result_err}, proofs.Common.{ap, ◌∙◌}}
 use Rattle.plant_unit.proofs.ProposalLaws.{refusal_told}
 use Rattle.plant_unit.proofs.proposals.kind_refusal.Goals as goal
 

@@ -1,9 +1,7 @@
-use Rattle.std.proofs.Common.{ap, sym, ◌∙◌}
-use Rattle.std.specs.Prelude.{option_map}
+use Rattle.std.proofs.Common.{ap, sym, ◌∙◌, option_map}
 use Rattle.plant_model.specs.RowFacts.{matrix_read}
 use Rattle.plant_ration.specs.declared.change.ChangeKind.TheVariants.{Matrix}
-use Rattle.plant_unit.proofs.ReadingLaws.{mapped_when}
-use Rattle.plant_unit.specs.Readings.{is_matrix_at}
+use Rattle.plant_unit.{specs.Readings.{is_matrix_at}, proofs.ReadingLaws.{mapped_when}}
 use Rattle.plant_unit.proofs.reading.matrix_kind.Goals as goal
 
 pub returns-in-None-clause-value : goal.returns-in-None-clause-value

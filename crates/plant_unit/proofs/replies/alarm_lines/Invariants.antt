@@ -1,7 +1,5 @@
-use Rattle.std.proofs.Common.{◌≡◌, take}
-use Rattle.std.specs.Prelude.{map}
-use Rattle.plant_model.specs.Replies.{alarm_line}
-use Rattle.plant_model.specs.RowFacts.{facts_in}
+use Rattle.std.proofs.Common.{◌≡◌, take, map}
+use Rattle.plant_model.specs.{Replies.{alarm_line}, RowFacts.{facts_in}}
 use Rattle.plant_unit.specs.Additions.{AreKept}
 use Rattle.plant_unit.proofs.replies.alarm_lines.Given as goal
 

@@ -1,16 +1,9 @@
-use Rattle.std.proofs.lemmas.Grind.{common_steps}
-use Rattle.std.proofs.Common.{◌≡◌, Some, arith, sym, ap, ◌∙◌, get_or}
-use Rattle.std.specs.Prelude.{Option}
+use Rattle.std.proofs.{Common.{◌≡◌, Some, arith, sym, ap, ◌∙◌, get_or, Option}, lemmas.Grind.{common_steps}}
 use Rattle.plant_alarm.specs.Shelves.{shelf_state}
+use Rattle.plant_model.specs.{Facts.{returned}, Replies.{line_of}, RowFacts.{facts_in}, Shelves.{shelf_left}, declared.reply.ShelfLine.{ShelfLine}}
 use Rattle.plant_model.specs.declared.rows.ShelfRow.{ShelfRow}
-use Rattle.plant_model.specs.declared.reply.ShelfLine.{ShelfLine}
-use Rattle.plant_model.specs.Facts.{returned}
-use Rattle.plant_model.specs.Replies.{line_of}
-use Rattle.plant_model.specs.RowFacts.{facts_in}
-use Rattle.plant_model.specs.Shelves.{shelf_left}
-use Rattle.plant_unit.proofs.public.Loops.{filter_map_more}
+use Rattle.plant_unit.proofs.{public.Loops.{filter_map_more}, replies.lines.Goals.{in-Some+in_ok-push, in_default}}
 use Rattle.plant_unit.proofs.replies.lines.Goals as goal
-use Rattle.plant_unit.proofs.replies.lines.Goals.{in-Some+in_ok-push, in_default}
 
 pub loop-place-preserved : goal.loop-place-preserved
 loop-place-preserved c kept =

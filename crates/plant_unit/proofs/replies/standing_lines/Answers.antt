@@ -1,13 +1,7 @@
-use Rattle.std.proofs.lemmas.Grind.{common_steps}
-use Rattle.std.proofs.Common.{◌≡◌, arith, sym, ap, ◌∙◌, get_or}
-use Rattle.std.specs.Prelude.{Option}
-use Rattle.plant_model.specs.declared.rows.AlarmRow.{AlarmRow}
-use Rattle.plant_model.specs.declared.reply.StandingLine.{StandingLine}
-use Rattle.plant_model.specs.Replies.{standing_line}
-use Rattle.plant_model.specs.RowFacts.{facts_in}
-use Rattle.plant_unit.proofs.public.Loops.{filter_map_more}
+use Rattle.std.proofs.{Common.{◌≡◌, arith, sym, ap, ◌∙◌, get_or, Option}, lemmas.Grind.{common_steps}}
+use Rattle.plant_model.specs.{Replies.{standing_line}, RowFacts.{facts_in}, declared.{reply.StandingLine.{StandingLine}, rows.AlarmRow.{AlarmRow}}}
+use Rattle.plant_unit.proofs.{public.Loops.{filter_map_more}, replies.standing_lines.Goals.{in-Some+in_ok-push, in_default}}
 use Rattle.plant_unit.proofs.replies.standing_lines.Goals as goal
-use Rattle.plant_unit.proofs.replies.standing_lines.Goals.{in-Some+in_ok-push, in_default}
 
 pub loop-alarm-preserved : goal.loop-alarm-preserved
 loop-alarm-preserved c kept =

@@ -1,5 +1,4 @@
-use Rattle.std.proofs.Common.{◌≡◌, ◌≤◌, ◌-◌, length, take}
-use Rattle.std.specs.Io.KnownBytes.{Appends}
+use Rattle.std.{specs.Io.KnownBytes.{Appends}, proofs.Common.{◌≡◌, ◌≤◌, ◌-◌, length, take}}
 use Rattle.plant_wire.proofs.put.put_all.Given as goal
 
 abbrev pub invariant-puts : goal.invariant-puts

@@ -1,7 +1,6 @@
 use Rattle.std.proofs.Common.{◌≡◌, ◌+◌}
 use Rattle.plant_call.specs.Cut.{WaitsBelow}
-use Rattle.plant_wire.specs.Ran.{Ran}
-use Rattle.plant_wire.proofs.Sessions.{Stands}
+use Rattle.plant_wire.{specs.Ran.{Ran}, proofs.Sessions.{Stands}}
 use Rattle.plant_wire.proofs.reads.run_reads.Given as goal
 
 abbrev pub invariant-reads : goal.invariant-reads

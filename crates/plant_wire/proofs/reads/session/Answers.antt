@@ -1,7 +1,5 @@
 use Rattle.std.proofs.Common.{[]}
-use Rattle.plant_wire.proofs.public.Growing.{Consumes-none}
-use Rattle.plant_wire.proofs.public.Running.{ran_none}
-use Rattle.plant_wire.proofs.Serving.{part_none}
+use Rattle.plant_wire.proofs.{Serving.{part_none}, public.{Growing.{Consumes-none}, Running.{ran_none}}}
 use Rattle.plant_wire.proofs.reads.session.Goals as goal
 
 pub returns-in_default-clause-does : goal.returns-in_default-clause-does

@@ -1,5 +1,4 @@
-use Rattle.std.proofs.Common.{◌≡◌, length}
-use Rattle.std.specs.Io.KnownBytes.{Keeps}
+use Rattle.std.{specs.Io.KnownBytes.{Keeps}, proofs.Common.{◌≡◌, length}}
 use Rattle.plant_wire.proofs.std_streams.read_on.Given as goal
 
 abbrev pub invariant-tries : goal.invariant-tries

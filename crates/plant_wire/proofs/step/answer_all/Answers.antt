@@ -1,7 +1,6 @@
 use Rattle.std.proofs.Common.{arith, refl, ◌∙◌}
 use Rattle.plant_call.proofs.public.Waiting.{waits_now}
-use Rattle.plant_wire.proofs.public.Running.{ran_none, ran_joins}
-use Rattle.plant_wire.proofs.Serving.{serves_none, waits_from, broken_from, part_from, serves_past}
+use Rattle.plant_wire.proofs.{Serving.{serves_none, waits_from, broken_from, part_from, serves_past}, public.Running.{ran_none, ran_joins}}
 use Rattle.plant_wire.proofs.step.answer_all.Goals as goal
 
 pub returns-then-bytes-wanted-clause-does : goal.returns-then-bytes-wanted-clause-does

@@ -1,6 +1,5 @@
 use Rattle.std.proofs.Common.{◌≡◌, ◌≤◌, ◌-◌, length, drop}
-use Rattle.plant_wire.specs.Ran.{Ran}
-use Rattle.plant_wire.specs.Step.{AnswersFront}
+use Rattle.plant_wire.specs.{Ran.{Ran}, Step.{AnswersFront}}
 use Rattle.plant_wire.proofs.step.answer_all.Given as goal
 
 abbrev pub invariant-items : goal.invariant-items

@@ -1,10 +1,7 @@
 use Rattle.std.proofs.Common.{sym, subst}
 use Rattle.plant_answer.specs.Answers.{text_of}
-use Rattle.plant_wire.specs.Marks.{said, begun}
-use Rattle.plant_wire.specs.Ran.{Ran}
-use Rattle.plant_wire.specs.Step.{IsPut}
+use Rattle.plant_wire.{specs.{Marks.{said, begun}, Ran.{Ran}, Step.{IsPut}}, proofs.Serving.{answer_put, said_unless, stops_faultless, stops_writing}}
 use Rattle.plant_wire.proofs.public.Running.{ran_one}
-use Rattle.plant_wire.proofs.Serving.{answer_put, said_unless, stops_faultless, stops_writing}
 use Rattle.plant_wire.proofs.step.answer_call.Goals as goal
 
 pub returns-in-Fault-clause-does : goal.returns-in-Fault-clause-does

@@ -1,8 +1,6 @@
-use Rattle.plant_call.specs.Front.{body_length, item_of}
-use Rattle.plant_call.proofs.public.Cuts.{whole_fits, whole_positive}
+use Rattle.plant_call.{specs.Front.{body_length, item_of}, proofs.public.Cuts.{whole_fits, whole_positive}}
 use Rattle.plant_wire.specs.Marks.{said, malformed, begun}
-use Rattle.plant_wire.proofs.public.Running.{ran_none}
-use Rattle.plant_wire.proofs.Serving.{serves_none, serves_one, part_none, part_one, part_broken, broken_now, stops_for}
+use Rattle.plant_wire.proofs.{Serving.{serves_none, serves_one, part_none, part_one, part_broken, broken_now, stops_for}, public.Running.{ran_none}}
 use Rattle.plant_wire.proofs.step.answer_cut.Goals as goal
 
 pub returns-in-More-clause-does : goal.returns-in-More-clause-does

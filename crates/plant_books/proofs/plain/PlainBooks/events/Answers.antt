@@ -1,5 +1,4 @@
-use Rattle.std.proofs.Common.{subst, ◌≡◌}
-use Rattle.std.specs.Prelude.{IfOk, unwrap_or}
+use Rattle.std.proofs.Common.{subst, ◌≡◌, IfOk, unwrap_or}
 use Rattle.plant_books.proofs.ListedLaws.{rows_listed}
 use Rattle.plant_model.specs.RowChanges.{no_rows}
 use Rattle.plant_books.proofs.plain.PlainBooks.events.Goals as goal

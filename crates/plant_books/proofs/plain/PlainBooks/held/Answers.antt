@@ -1,5 +1,4 @@
-use Rattle.plant_books.proofs.ListedLaws.{told_listed}
-use Rattle.plant_books.specs.Contents.{is_held_in}
+use Rattle.plant_books.{specs.Contents.{is_held_in}, proofs.ListedLaws.{told_listed}}
 use Rattle.plant_types.specs.Options.{when}
 use Rattle.plant_books.proofs.plain.PlainBooks.held.Goals as goal
 

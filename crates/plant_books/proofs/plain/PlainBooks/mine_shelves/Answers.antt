@@ -1,5 +1,4 @@
-use Rattle.plant_books.proofs.ListedLaws.{all_listed}
-use Rattle.plant_books.specs.Contents.{shelves_mine}
+use Rattle.plant_books.{specs.Contents.{shelves_mine}, proofs.ListedLaws.{all_listed}}
 use Rattle.plant_books.proofs.plain.PlainBooks.mine_shelves.Goals as goal
 
 pub returns-clause-found : goal.returns-clause-found

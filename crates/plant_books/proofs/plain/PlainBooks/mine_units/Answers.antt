@@ -1,5 +1,4 @@
-use Rattle.plant_books.proofs.ListedLaws.{told_listed}
-use Rattle.plant_books.specs.Contents.{mine_unit}
+use Rattle.plant_books.{specs.Contents.{mine_unit}, proofs.ListedLaws.{told_listed}}
 use Rattle.plant_books.proofs.plain.PlainBooks.mine_units.Goals as goal
 
 pub returns-clause-found : goal.returns-clause-found

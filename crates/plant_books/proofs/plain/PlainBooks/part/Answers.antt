@@ -1,5 +1,4 @@
-use Rattle.plant_books.proofs.ListedLaws.{part_listed}
-use Rattle.plant_books.proofs.public.OrderLaws.{rows_in_order}
+use Rattle.plant_books.proofs.{ListedLaws.{part_listed}, public.OrderLaws.{rows_in_order}}
 use Rattle.plant_books.proofs.plain.PlainBooks.part.Goals as goal
 
 pub returns-clause-found : goal.returns-clause-found

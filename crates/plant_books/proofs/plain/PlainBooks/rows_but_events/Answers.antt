@@ -1,7 +1,5 @@
-use Rattle.std.proofs.Common.{subst, ◌≡◌}
-use Rattle.std.specs.Prelude.{IfOk, option_map}
-use Rattle.plant_books.proofs.ListedLaws.{rows_listed}
-use Rattle.plant_books.specs.Contents.{without_events}
+use Rattle.std.proofs.Common.{subst, ◌≡◌, IfOk, option_map}
+use Rattle.plant_books.{specs.Contents.{without_events}, proofs.ListedLaws.{rows_listed}}
 use Rattle.plant_books.proofs.plain.PlainBooks.rows_but_events.Goals as goal
 
 pub returns-clause-found : goal.returns-clause-found

@@ -1,5 +1,4 @@
-use Rattle.std.proofs.Common.{◌∙◌, ap}
-use Rattle.std.specs.Prelude.{is_some}
+use Rattle.std.proofs.Common.{◌∙◌, ap, is_some}
 use Rattle.plant_books.proofs.ListedLaws.{rows_listed}
 use Rattle.plant_books.proofs.plain.PlainBooks.taken.Goals as goal
 

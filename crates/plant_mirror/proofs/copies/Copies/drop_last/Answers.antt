@@ -1,8 +1,7 @@
 use Rattle.std.proofs.Common.{ap, arith, length, subst, sym, ◌-◌}
 use Rattle.lru.specs.LruCache.{LruCache}
+use Rattle.plant_mirror.specs.{Copies.{AreCopies, rows_of_all}, declared.at_hand.AtHand.{AtHand}}
 use Rattle.plant_mirror.proofs.CopyLaws.{count_last, count_taken, true_taken}
-use Rattle.plant_mirror.specs.Copies.{AreCopies, rows_of_all}
-use Rattle.plant_mirror.specs.declared.at_hand.AtHand.{AtHand}
 use Rattle.plant_types.specs.Names.{Name}
 use Rattle.plant_mirror.proofs.copies.Copies.drop_last.Goals as goal
 

@@ -1,8 +1,6 @@
 use Rattle.std.proofs.Common.{ap, arith, subst, sym}
 use Rattle.lru.specs.LruCache.{LruCache}
-use Rattle.plant_mirror.proofs.CopyLaws.{count_put, true_put}
-use Rattle.plant_mirror.specs.Copies.{AreCopies, rows_of_all}
-use Rattle.plant_mirror.specs.declared.at_hand.AtHand.{AtHand}
+use Rattle.plant_mirror.{specs.{Copies.{AreCopies, rows_of_all}, declared.at_hand.AtHand.{AtHand}}, proofs.CopyLaws.{count_put, true_put}}
 use Rattle.plant_types.specs.Names.{Name}
 use Rattle.plant_mirror.proofs.copies.Copies.put.Goals as goal
 

@@ -1,6 +1,6 @@
-use Rattle.std.proofs.Common.{drop, ◌++◌, ◌≡◌}
-use Rattle.std.specs.Prelude.{flat_map}
-use Rattle.plant_mirror.specs.Copies.{AreCopies, There, shelves_there}
+use Rattle.std.proofs.Common.{drop, ◌++◌, ◌≡◌, flat_map}
+use Rattle.plant_books.specs.Contents.{shelves_there}
+use Rattle.plant_mirror.specs.Copies.{AreCopies, There}
 use Rattle.plant_mirror.proofs.copies.Copies.shelves_of.Given as goal
 
 abbrev pub invariant-loop-unit : goal.invariant-loop-unit

@@ -1,8 +1,5 @@
-use Rattle.std.proofs.Common.{Some, ap, refl, rules, sym, true, ◌∙◌}
-use Rattle.std.specs.FinMap.{get}
-use Rattle.std.specs.Prelude.{option_map}
-use Rattle.plant_mirror.proofs.CopyLaws.{taken_there, seen_with_events}
-use Rattle.plant_mirror.specs.Copies.{seen}
+use Rattle.std.{specs.FinMap.{get}, proofs.Common.{Some, ap, refl, rules, sym, true, ◌∙◌, option_map}}
+use Rattle.plant_mirror.{specs.Copies.{seen}, proofs.CopyLaws.{taken_there, seen_with_events}}
 use Rattle.plant_mirror.proofs.mirror.Mirror.bring_events.Goals as goal
 
 pub returns-in-Some : goal.returns-in-Some

@@ -1,5 +1,4 @@
-use Rattle.std.proofs.Common.{ap, ◌∙◌}
-use Rattle.std.specs.List.{list_any}
+use Rattle.std.{specs.List.{list_any}, proofs.Common.{ap, ◌∙◌}}
 use Rattle.plant_types.specs.Names.{same_name}
 use Rattle.plant_mirror.proofs.mirror.Mirror.is_held.Goals as goal
 

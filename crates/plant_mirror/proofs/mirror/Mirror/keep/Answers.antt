@@ -1,5 +1,4 @@
-use Rattle.std.proofs.Common.{rules, subst, sym, true, ◌≡◌}
-use Rattle.std.specs.FinMap.{get}
+use Rattle.std.{specs.FinMap.{get}, proofs.Common.{rules, subst, sym, true, ◌≡◌}}
 use Rattle.plant_mirror.specs.Copies.{IsCopy}
 use Rattle.plant_types.specs.Names.{Name}
 use Rattle.plant_mirror.proofs.mirror.Mirror.keep.Goals as goal

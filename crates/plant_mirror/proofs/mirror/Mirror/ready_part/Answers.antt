@@ -1,5 +1,4 @@
-use Rattle.std.proofs.Common.{Some, ap, rules, sym, true, ◌∙◌, ◌≡◌}
-use Rattle.std.specs.FinMap.{get}
+use Rattle.std.{specs.FinMap.{get}, proofs.Common.{Some, ap, rules, sym, true, ◌∙◌, ◌≡◌}}
 use Rattle.plant_mirror.proofs.CopyLaws.{found_there, part_there}
 use Rattle.plant_mirror.proofs.mirror.Mirror.ready_part.Goals as goal
 

@@ -1,8 +1,6 @@
-use Rattle.std.proofs.Common.{subst, sym}
-use Rattle.std.specs.FinMap.{get}
+use Rattle.std.{specs.FinMap.{get}, proofs.Common.{subst, sym}}
 use Rattle.plant_books.specs.Contents.{after_changes}
-use Rattle.plant_mirror.proofs.CopyLaws.{others_stay, taken_there}
-use Rattle.plant_mirror.specs.Copies.{IsCopy}
+use Rattle.plant_mirror.{specs.Copies.{IsCopy}, proofs.CopyLaws.{others_stay, taken_there}}
 use Rattle.plant_types.specs.Names.{Name}
 use Rattle.plant_mirror.proofs.mirror.MirrorBooks.apply.Goals as goal
 

@@ -1,6 +1,4 @@
-use Rattle.std.proofs.Common.{subst, sym, ◌≡◌}
-use Rattle.std.specs.FinMap.{get}
-use Rattle.std.specs.Prelude.{IfOk, unwrap_or}
+use Rattle.std.{specs.FinMap.{get}, proofs.Common.{subst, sym, ◌≡◌, IfOk, unwrap_or}}
 use Rattle.plant_model.specs.RowChanges.{no_rows}
 use Rattle.plant_mirror.proofs.mirror.MirrorBooks.events.Goals as goal
 

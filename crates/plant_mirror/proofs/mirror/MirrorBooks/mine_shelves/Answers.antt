@@ -1,8 +1,5 @@
-use Rattle.std.proofs.Common.{ap, subst, ◌∙◌, ◌≡◌}
-use Rattle.std.specs.FinMap.{get, keys}
-use Rattle.std.specs.Prelude.{IfSome, flat_map}
-use Rattle.plant_mirror.proofs.CopyLaws.{held_shelves}
-use Rattle.plant_mirror.specs.Copies.{shelves_there}
+use Rattle.std.{specs.FinMap.{get, keys}, proofs.Common.{ap, subst, ◌∙◌, ◌≡◌, IfSome, flat_map}}
+use Rattle.plant_books.{specs.Contents.{shelves_there}, proofs.public.ShelfLists.{held_shelves}}
 use Rattle.plant_mirror.proofs.mirror.MirrorBooks.mine_shelves.Goals as goal
 
 pub returns-in-Some-clause-found : goal.returns-in-Some-clause-found

@@ -1,5 +1,4 @@
-use Rattle.std.proofs.Common.{Some, ap, sym, ◌∙◌}
-use Rattle.std.specs.FinMap.{get}
+use Rattle.std.{specs.FinMap.{get}, proofs.Common.{Some, ap, sym, ◌∙◌}}
 use Rattle.plant_mirror.proofs.mirror.MirrorBooks.rows.Goals as goal
 
 pub returns-in_ok-duplicate-in-Some-clause-found : goal.returns-in_ok-duplicate-in-Some-clause-found

@@ -1,5 +1,4 @@
-use Rattle.std.proofs.Common.{Some, ap, sym, ◌∙◌}
-use Rattle.std.specs.FinMap.{get}
+use Rattle.std.{specs.FinMap.{get}, proofs.Common.{Some, ap, sym, ◌∙◌}}
 use Rattle.plant_mirror.proofs.CopyLaws.{all_but_events, found_there}
 use Rattle.plant_mirror.proofs.mirror.MirrorBooks.rows_but_events.Goals as goal
 

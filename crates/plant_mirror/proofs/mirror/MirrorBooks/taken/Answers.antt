@@ -1,5 +1,4 @@
-use Rattle.std.proofs.Common.{sym}
-use Rattle.std.specs.FinMap.{get}
+use Rattle.std.{specs.FinMap.{get}, proofs.Common.{sym}}
 use Rattle.plant_mirror.proofs.CopyLaws.{found_there, is_there}
 use Rattle.plant_mirror.proofs.mirror.MirrorBooks.taken.Goals as goal
 

@@ -1,5 +1,4 @@
-use Rattle.std.proofs.Common.{◌≡◌}
-use Rattle.std.specs.Prelude.{map}
+use Rattle.std.proofs.Common.{◌≡◌, map}
 use Rattle.plant_office.specs.Lines.{line_of_mine}
 use Rattle.plant_office.proofs.office.Office.lines.Given as goal
 

@@ -1,9 +1,7 @@
-use Rattle.std.proofs.Common.{◌∙◌, ap, arith}
-use Rattle.std.specs.Prelude.{filter_map, fold, map, max}
+use Rattle.std.proofs.Common.{◌∙◌, ap, arith, filter_map, fold, map, max}
 use Rattle.plant_books.specs.declared.books.MineUnit.{MineUnit}
 use Rattle.plant_model.specs.Worlds.{unit_named}
-use Rattle.plant_office.specs.Lines.{line_of_shelf}
-use Rattle.plant_office.proofs.Serving.{behind_units, leaves, serves_same, told_shelves}
+use Rattle.plant_office.{specs.Lines.{line_of_shelf}, proofs.Serving.{behind_units, leaves, serves_same, told_shelves}}
 use Rattle.plant_office.proofs.office.Office.my_shelves.Goals as goal
 
 pub returns-then-seconds : goal.returns-then-seconds

@@ -1,5 +1,4 @@
-use Rattle.std.proofs.Common.{◌∙◌, ap, arith}
-use Rattle.std.specs.Prelude.{fold, map, max}
+use Rattle.std.proofs.Common.{◌∙◌, ap, arith, fold, map, max}
 use Rattle.plant_books.specs.declared.books.MineUnit.{MineUnit}
 use Rattle.plant_model.specs.Worlds.{unit_named}
 use Rattle.plant_office.proofs.Serving.{behind_units, leaves, serves_same, told_units}

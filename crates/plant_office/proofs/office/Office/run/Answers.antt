@@ -1,10 +1,7 @@
-use Rattle.std.proofs.Common.{◌≡◌, ◌+◌, ◌∙◌, ◌++◌, ◌∷◌, [], ap, arith, length, length-append, refl, subst, sym, take, List}
+use Rattle.std.proofs.{Common.{◌≡◌, ◌+◌, ◌∙◌, ◌++◌, ◌∷◌, [], ap, arith, length, length-append, refl, subst, sym, take, List}, Math.Seq.{take-length}}
 use Rattle.std.proofs.lemmas.List.{take_more}
-use Rattle.std.proofs.Math.Seq.{take-length}
-use Rattle.plant_model.specs.declared.call.Call.{Call}
-use Rattle.plant_model.specs.declared.reply.Answer.{Answer}
-use Rattle.plant_office.specs.Runs.{IsRun, stores_in}
-use Rattle.plant_office.proofs.public.Running.{few_stores, run_more, run_none, stores_more}
+use Rattle.plant_model.specs.declared.{call.Call.{Call}, reply.Answer.{Answer}}
+use Rattle.plant_office.{specs.Runs.{IsRun, stores_in}, proofs.public.Running.{few_stores, run_more, run_none, stores_more}}
 use Rattle.plant_office.proofs.office.Office.run.Goals as goal
 
 pub loop-call-init : goal.loop-call-init

@@ -1,9 +1,7 @@
-use Rattle.std.proofs.Common.{◌≡◌, ◌+◌, ◌<◌, ◌≤◌, ◌^◌, length, take}
-use Rattle.std.specs.Prelude.{vec_capacity}
+use Rattle.std.proofs.Common.{◌≡◌, ◌+◌, ◌<◌, ◌≤◌, ◌^◌, length, take, vec_capacity}
 use Rattle.plant_books.specs.Contents.{Content}
 use Rattle.plant_model.specs.Worlds.{World, IsLegalWorld}
-use Rattle.plant_office.specs.Runs.{IsRun, stores_in}
-use Rattle.plant_office.specs.Served.{Holds}
+use Rattle.plant_office.specs.{Runs.{IsRun, stores_in}, Served.{Holds}}
 use Rattle.plant_office.proofs.office.Office.run.Given as goal
 
 abbrev pub invariant-loop-call : goal.invariant-loop-call

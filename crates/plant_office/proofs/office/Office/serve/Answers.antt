@@ -1,8 +1,6 @@
 use Rattle.std.proofs.Common.{◌≡◌, false, subst, sym}
-use Rattle.plant_model.specs.declared.reply.Answer.{Answer}
-use Rattle.plant_model.specs.Verdicts.{changes_history}
-use Rattle.plant_office.specs.Answers.{CountsAnswer, IfSaid, OnFault}
-use Rattle.plant_office.specs.Served.{IsIsolated, IsServed}
+use Rattle.plant_model.specs.{Verdicts.{changes_history}, declared.reply.Answer.{Answer}}
+use Rattle.plant_office.specs.{Answers.{CountsAnswer, IfSaid, OnFault}, Served.{IsIsolated, IsServed}}
 use Rattle.plant_office.proofs.Serving.{counts_if, fault_if, isolated_if, said_if}
 use Rattle.plant_office.proofs.office.Office.serve.Goals as goal
 

@@ -1,6 +1,5 @@
 use Rattle.std.proofs.Common.{rules, ◌≡◌, true}
-use Rattle.plant_ration.specs.Matrix.{is_matrix}
-use Rattle.plant_ration.proofs.Matrices.{limits_rise, ordered}
+use Rattle.plant_ration.{specs.Matrix.{is_matrix}, proofs.Matrices.{limits_rise, ordered}}
 use Rattle.plant_ration.proofs.matrix.Matrix.cells.Goals as goal
 
 pub returns-clause-rising : goal.returns-clause-rising

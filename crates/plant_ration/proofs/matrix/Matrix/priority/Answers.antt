@@ -1,6 +1,5 @@
 use Rattle.std.proofs.Common.{rules, ◌≡◌, true}
-use Rattle.plant_ration.specs.Matrix.{is_matrix, priority_of}
-use Rattle.plant_ration.proofs.Matrices.{only_rows}
+use Rattle.plant_ration.{specs.Matrix.{is_matrix, priority_of}, proofs.Matrices.{only_rows}}
 use Rattle.plant_ration.proofs.matrix.Matrix.priority.Goals as goal
 
 pub returns-clause-row : goal.returns-clause-row

@@ -1,10 +1,7 @@
-use Rattle.sqlite.specs.Held.{state}
 use Rattle.plant_columns.specs.Tables.Kept.{AlarmKept}
 use Rattle.plant_store.proofs.Writes.{on_ok, put_applies}
 use Rattle.plant_store.proofs.stored.AlarmRowStored.insert.Goals as goal
 
 pub returns-clause-made : goal.returns-clause-made
 returns-clause-made g c clean inside books =
-    let old = state g.S.Store c.args.tx.now.conn.now in
-    let new = state g.S.Store c.run.new.tx.conn.now in
-    on_ok c.run.result (λ it. put_applies AlarmKept c.args.unit.now c.args.self.now old new books it.0 it.1) (rw c.alarm_cells.ensures at (c.run.ensures.made clean inside))
+    on_ok c.run.result (λ it. put_applies AlarmKept c.args.unit.now c.args.self.now _ _ books it.0 it.1) (rw c.alarm_cells.ensures at (c.run.ensures.made clean inside))

@@ -1,5 +1,4 @@
-use Rattle.std.proofs.Common.{◌∙◌}
-use Rattle.std.specs.Ordering.{nat_cmp}
+use Rattle.std.proofs.Common.{◌∙◌, nat_cmp}
 use Rattle.plant_model.specs.RowFacts.{change_number}
 use Rattle.plant_store.proofs.KeysFound.{found_there}
 use Rattle.plant_store.proofs.stored.ChangeEntryStored.has_key_in.Goals as goal

@@ -1,7 +1,6 @@
 use Rattle.std.proofs.Common.{rules, subst}
 use Rattle.sqlite.specs.Held.{state}
-use Rattle.plant_store.specs.Opening.{IsThisOffice}
-use Rattle.plant_store.proofs.OfficeRow.{is_this_office, keeps_asked}
+use Rattle.plant_store.{specs.Opening.{IsThisOffice}, proofs.OfficeRow.{is_this_office, keeps_asked}}
 use Rattle.plant_store.proofs.tables.Tables.open.Goals as goal
 
 pub returns-in-Ok-true-clause-kept : goal.returns-in-Ok-true-clause-kept

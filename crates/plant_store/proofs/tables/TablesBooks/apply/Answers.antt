@@ -1,8 +1,6 @@
 use Rattle.sqlite.specs.Held.{state}
 use Rattle.plant_columns.specs.Tables.{AreBooks}
-use Rattle.plant_store.specs.Changes.{IsHonest}
-use Rattle.plant_store.proofs.SaidAgain.{again_left, again_made}
-use Rattle.plant_store.proofs.public.Contents.{keeps_after, keeps_same}
+use Rattle.plant_store.{specs.Changes.{IsHonest}, proofs.{SaidAgain.{again_left, again_made}, public.Contents.{keeps_after, keeps_same}}}
 use Rattle.plant_store.proofs.tables.TablesBooks.apply.Goals as goal
 
 pub returns-clause-made : goal.returns-clause-made

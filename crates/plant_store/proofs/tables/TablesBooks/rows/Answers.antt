@@ -1,6 +1,5 @@
 use Rattle.sqlite.specs.Held.{state}
-use Rattle.plant_store.proofs.SaidAgain.{again_ok}
-use Rattle.plant_store.proofs.public.Contents.{keeps_same}
+use Rattle.plant_store.proofs.{SaidAgain.{again_ok}, public.Contents.{keeps_same}}
 use Rattle.plant_store.proofs.tables.TablesBooks.rows.Goals as goal
 
 pub returns-clause-found : goal.returns-clause-found

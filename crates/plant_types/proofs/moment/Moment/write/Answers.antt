@@ -1,7 +1,5 @@
 use Rattle.std.proofs.Common.{◌∙◌, ◌≡◌, ap, Some}
-use Rattle.plant_types.specs.Moment.{moment_of}
-use Rattle.plant_types.proofs.public.Round.{written}
-use Rattle.plant_types.proofs.Unique.{same_text}
+use Rattle.plant_types.{specs.Moment.{moment_of}, proofs.{Unique.{same_text}, public.Round.{written}}}
 use Rattle.plant_types.proofs.moment.Moment.write.Goals as goal
 
 pub returns : goal.returns

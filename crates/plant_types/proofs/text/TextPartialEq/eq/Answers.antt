@@ -1,6 +1,5 @@
 -- Texts are equal where the order of bytes says so.
-use Rattle.std.proofs.Common.{◌∙◌}
-use Rattle.std.specs.Cmp.Lexicographic.{texts_ties}
+use Rattle.std.{specs.Cmp.Lexicographic.{texts_ties}, proofs.Common.{◌∙◌}}
 use Rattle.plant_types.proofs.text.TextPartialEq.eq.Goals as goal
 
 pub returns : goal.returns

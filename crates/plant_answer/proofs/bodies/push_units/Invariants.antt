@@ -1,7 +1,0 @@
-use Rattle.std.proofs.Common.{◌≡◌, ◌++◌, map, take}
-use Rattle.std.specs.List.{join_with_byte}
-use Rattle.plant_answer.specs.Bodies.{unit_object}
-use Rattle.plant_answer.proofs.bodies.push_units.Given as goal
-
-abbrev pub invariant-loop-i : goal.invariant-loop-i
-invariant-loop-i l = l.out.items ≡ l.initial.out.items ++ join_with_byte 44 (map unit_object (take l.i l.lines))
