@@ -202,17 +202,8 @@ return_is : (xs : List Event) (e : Event) (a : Bool) → last_moment (xs ++ cond
 return_is xs e true = last_moment-push xs e
 return_is xs e false = ap last_moment (append-nil xs)
 
-active_since_by : Bool → List Event → Option ℕ
-active_since_by a xs = cond a (last_moment xs) None
-
-same_since : (es xs : List Event) (a : Bool) → a ≡ is_active es → xs ≡ activations es → cond a (last_moment xs) None ≡ active_since es
-same_since es xs a p q = cc
-
 abbrev the_summary : AlarmState → Bool → Option ℕ → Option ℕ → Summary
 the_summary a b c d = record { state = a; suppressed = b; active_since = c; last_return = d }
-
-by_four : {A B C D E : Type 0} (f : A → B → C → D → E) {a a' : A} {b b' : B} {c c' : C} {d d' : D} → a ≡ a' → b ≡ b' → c ≡ c' → d ≡ d' → f a b c d ≡ f a' b' c' d'
-by_four f p q r s = cc
 
 activations-push : (es : List Event) (e : Event) → last_moment (activations (es ++ e ∷ [])) ≡ last_moment (activations es ++ cond (is_activation es e) (e ∷ []) [])
 activations-push es e = ap last_moment (passing-push is_activation [] es e)
@@ -253,38 +244,34 @@ rtn_return l es e y =
     returns-push es e ∙ ap (λ b. last_moment (returns es ++ cond (b && is_active es) (e ∷ []) [])) y
     ∙ return_is (returns es) e (is_active es) ∙ ap (λ b. cond b (Some e.moment) (last_return es)) (sym (active_state (is_active es) (is_latched l es) (is_unacknowledged es)))
 
+-- an event that is neither: the moments stay
+quiet : (l : Bool) (es : List Event) (e : Event) (state : AlarmState) (suppressed : Bool) → (is_act e || is_rtn e) ≡ false → is_act e ≡ false → is_rtn e ≡ false → state_of l (es ++ e ∷ []) ≡ state → is_suppressed (es ++ e ∷ []) ≡ suppressed
+    → summary l (es ++ e ∷ []) ≡ the_summary state suppressed (active_since es) (last_return es)
+unfolding summary
+quiet l es e state suppressed neither act rtn s p = λ i. the_summary (s i) (p i) (same_active_since es e neither act i) (same_last_return es e rtn i)
+
 the_next : (l : Bool) (n t : ℕ) (tag : List ℕ) (kind : EventKind) (es : List Event) → summary l (es ++ ev n t tag kind ∷ []) ≡ next_at kind l t (summary l es)
 unfolding summary
 the_next l n t tag Act es =
     let e = ev n t tag Act in
-    by_four the_summary
-    (state-push l es e (active-push es e) (list_any-push is_act es e) (since-yes is_ack es e refl) (reset-yes es e refl) ∙ acts l (had_act es))
-    (suppressed-push es e) (act_since l es e refl) (same_last_return es e refl)
+    let state = state-push l es e (active-push es e) (list_any-push is_act es e) (since-yes is_ack es e refl) (reset-yes es e refl) ∙ acts l (had_act es) in
+    λ i. the_summary (state i) (suppressed-push es e i) (act_since l es e refl i) (same_last_return es e refl i)
 the_next l n t tag Rtn es =
     let e = ev n t tag Rtn in
-    by_four the_summary
-    (state-push l es e (active-push es e) (list_any-push is_act es e) (since-no is_ack es e refl) (reset-no es e refl) ∙ returns_state l _ _ _ _ _ (all_fit es))
-    (suppressed-push es e) (cond_by (active-push es e) refl) (rtn_return l es e refl)
+    let state = state-push l es e (active-push es e) (list_any-push is_act es e) (since-no is_ack es e refl) (reset-no es e refl) ∙ returns_state l _ _ _ _ _ (all_fit es) in
+    λ i. the_summary (state i) (suppressed-push es e i) (cond (active-push es e i) (last_moment (activations (es ++ e ∷ []))) None) (rtn_return l es e refl i)
 the_next l n t tag Ack es =
     let e = ev n t tag Ack in
-    by_four the_summary
-    (state-push l es e (active-push es e) (list_any-push is_act es e) (since-no is_ack es e refl) (reset-no es e refl) ∙ acknowledges_state l _ _ _ _ _ (all_fit es))
-    (suppressed-push es e) (same_active_since es e refl refl) (same_last_return es e refl)
+    quiet l es e _ _ refl refl refl (state-push l es e (active-push es e) (list_any-push is_act es e) (since-no is_ack es e refl) (reset-no es e refl) ∙ acknowledges_state l _ _ _ _ _ (all_fit es)) (suppressed-push es e)
 the_next l n t tag Reset es =
     let e = ev n t tag Reset in
-    by_four the_summary
-    (state-push l es e (active-push es e) (list_any-push is_act es e) (since-no is_ack es e refl) (reset-no es e refl) ∙ resets_state l _ _ _ _ _ (all_fit es))
-    (suppressed-push es e) (same_active_since es e refl refl) (same_last_return es e refl)
+    quiet l es e _ _ refl refl refl (state-push l es e (active-push es e) (list_any-push is_act es e) (since-no is_ack es e refl) (reset-no es e refl) ∙ resets_state l _ _ _ _ _ (all_fit es)) (suppressed-push es e)
 the_next l n t tag Sup es =
     let e = ev n t tag Sup in
-    by_four the_summary
-    (state-push l es e (active-push es e) (list_any-push is_act es e) (since-no is_ack es e refl) (reset-no es e refl) ∙ keeps_state l _ _ _ _ _ (all_fit es))
-    (suppressed-push es e) (same_active_since es e refl refl) (same_last_return es e refl)
+    quiet l es e _ _ refl refl refl (state-push l es e (active-push es e) (list_any-push is_act es e) (since-no is_ack es e refl) (reset-no es e refl) ∙ keeps_state l _ _ _ _ _ (all_fit es)) (suppressed-push es e)
 the_next l n t tag Unsup es =
     let e = ev n t tag Unsup in
-    by_four the_summary
-    (state-push l es e (active-push es e) (list_any-push is_act es e) (since-no is_ack es e refl) (reset-no es e refl) ∙ keeps_state l _ _ _ _ _ (all_fit es))
-    (suppressed-push es e) (same_active_since es e refl refl) (same_last_return es e refl)
+    quiet l es e _ _ refl refl refl (state-push l es e (active-push es e) (list_any-push is_act es e) (since-no is_ack es e refl) (reset-no es e refl) ∙ keeps_state l _ _ _ _ _ (all_fit es)) (suppressed-push es e)
 
 pub summary-push : (l : Bool) (es : List Event) (e : Event) → summary l (es ++ e ∷ []) ≡ next l (summary l es) e
 summary-push l es e = the_next l e.seq e.moment e.tag e.kind es

@@ -73,10 +73,7 @@ pub fn shelf_at(shelf: &Shelf, returned: Option<Moment>, now: Moment) -> ShelfSt
 fn is_after(start: Moment, returned: Option<Moment>) -> bool
     ensures { result ≡ shelves.is_after start returned }
 {
-    match returned {
-        Some(last) => start.seconds() < last.seconds(),
-        None => false,
-    }
+    returned.is_some_and(|last| start.seconds() < last.seconds())
 }
 
 /// Shelves for a time. Refused, in this order: a time above the limit `max`, and an alarm that is

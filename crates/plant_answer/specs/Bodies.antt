@@ -7,7 +7,7 @@ use Rattle.plant_model.specs.declared.reply.Refused.TheVariants.{RoleLacking, Mo
 use Rattle.plant_model.specs.declared.reply.{StatusRow.{StatusRow}, UnitLine.{UnitLine}}
 use Rattle.plant_report.specs.{Moments.{moment_text}, Texts.{state_name}}
 use Rattle.plant_answer.specs.Json.{quoted, truth, listed}
-use Rattle.plant_answer.specs.Names.{role_name, shelf_name, shelf_left, full_name, file_cause_name, fault_name, change_state_name, refusal_name, refusal_no}
+use Rattle.plant_answer.specs.Names.{role_name, shelf_name, shelf_left, full_name, file_cause_name, fault_name, change_state_name, refusal_label}
 
 abbrev pub done_body : List ℕ
 done_body = codes "{\"done\":true}"
@@ -65,8 +65,8 @@ value_member (Some value) = codes ",\"value\":" ++ value
 
 unfoldable pub refusal_body : Refused → List ℕ
 refusal_body r =
-    codes "{\"name\":" ++ quoted (refusal_name r)
-    ++ codes ",\"refused\":" ++ decimal (refusal_no r)
+    codes "{\"name\":" ++ quoted (refusal_label r).1
+    ++ codes ",\"refused\":" ++ decimal (refusal_label r).0
     ++ value_member (refusal_value r)
     ++ codes "}"
 

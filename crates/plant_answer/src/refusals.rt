@@ -14,75 +14,39 @@ use plant_report::write_moment;
 use plant_types::Fault;
 use std::alloc::Global;
 
-/// The name of a refusal.
-fn name_of(refused: &Refused) -> &'static [u8]
-    ensures { result.now ≡ spec.refusal_name refused.now }
+/// The number of a refusal and its name.
+fn label_of(refused: &Refused) -> (u64, &'static [u8])
+    ensures { (result.0, result.1.now) ≡ spec.refusal_label refused.now }
 {
     match refused {
-        Refused::NotAdministrator => b"NotAdministrator",
-        Refused::UnitTaken => b"UnitTaken",
-        Refused::NotGranted => b"NotGranted",
-        Refused::RoleLacking(_) => b"RoleLacking",
-        Refused::MomentBehind(_) => b"MomentBehind",
-        Refused::UnitFull(_) => b"UnitFull",
-        Refused::AlarmTaken => b"AlarmTaken",
-        Refused::AlarmUnknown => b"AlarmUnknown",
-        Refused::ShelvingTimeOutOfRange(_) => b"ShelvingTimeOutOfRange",
-        Refused::ConditionAlreadyShelved => b"ConditionAlreadyShelved",
-        Refused::ConditionNotShelved => b"ConditionNotShelved",
-        Refused::AlreadyOutOfService => b"AlreadyOutOfService",
-        Refused::NotOutOfService => b"NotOutOfService",
-        Refused::AlreadyHeld => b"AlreadyHeld",
-        Refused::NotHeld => b"NotHeld",
-        Refused::LastSteward => b"LastSteward",
-        Refused::ChangeUnknown => b"ChangeUnknown",
-        Refused::NotProposed(_) => b"NotProposed",
-        Refused::SamePerson => b"SamePerson",
-        Refused::NotProposer => b"NotProposer",
-        Refused::BaseChanged(_) => b"BaseChanged",
-        Refused::OutsideMatrix => b"OutsideMatrix",
-        Refused::NotAnAlarm => b"NotAnAlarm",
-        Refused::RecordUnknown => b"RecordUnknown",
-        Refused::RangeNotAligned => b"RangeNotAligned",
-        Refused::BadFile(_) => b"BadFile",
-        Refused::ShelfQuota(_) => b"ShelfQuota",
-        Refused::EndNotAhead => b"EndNotAhead",
-    }
-}
-
-/// The number of a refusal.
-fn number_of(refused: &Refused) -> u64
-    ensures { result ≡ spec.refusal_no refused.now }
-{
-    match refused {
-        Refused::NotAdministrator => 1,
-        Refused::UnitTaken => 2,
-        Refused::NotGranted => 3,
-        Refused::RoleLacking(_) => 4,
-        Refused::MomentBehind(_) => 5,
-        Refused::UnitFull(_) => 6,
-        Refused::AlarmTaken => 7,
-        Refused::AlarmUnknown => 8,
-        Refused::ShelvingTimeOutOfRange(_) => 9,
-        Refused::ConditionAlreadyShelved => 10,
-        Refused::ConditionNotShelved => 11,
-        Refused::AlreadyOutOfService => 12,
-        Refused::NotOutOfService => 13,
-        Refused::AlreadyHeld => 14,
-        Refused::NotHeld => 15,
-        Refused::LastSteward => 16,
-        Refused::ChangeUnknown => 17,
-        Refused::NotProposed(_) => 18,
-        Refused::SamePerson => 19,
-        Refused::NotProposer => 20,
-        Refused::BaseChanged(_) => 21,
-        Refused::OutsideMatrix => 22,
-        Refused::NotAnAlarm => 23,
-        Refused::RecordUnknown => 24,
-        Refused::RangeNotAligned => 25,
-        Refused::BadFile(_) => 26,
-        Refused::ShelfQuota(_) => 27,
-        Refused::EndNotAhead => 28,
+        Refused::NotAdministrator => (1, b"NotAdministrator"),
+        Refused::UnitTaken => (2, b"UnitTaken"),
+        Refused::NotGranted => (3, b"NotGranted"),
+        Refused::RoleLacking(_) => (4, b"RoleLacking"),
+        Refused::MomentBehind(_) => (5, b"MomentBehind"),
+        Refused::UnitFull(_) => (6, b"UnitFull"),
+        Refused::AlarmTaken => (7, b"AlarmTaken"),
+        Refused::AlarmUnknown => (8, b"AlarmUnknown"),
+        Refused::ShelvingTimeOutOfRange(_) => (9, b"ShelvingTimeOutOfRange"),
+        Refused::ConditionAlreadyShelved => (10, b"ConditionAlreadyShelved"),
+        Refused::ConditionNotShelved => (11, b"ConditionNotShelved"),
+        Refused::AlreadyOutOfService => (12, b"AlreadyOutOfService"),
+        Refused::NotOutOfService => (13, b"NotOutOfService"),
+        Refused::AlreadyHeld => (14, b"AlreadyHeld"),
+        Refused::NotHeld => (15, b"NotHeld"),
+        Refused::LastSteward => (16, b"LastSteward"),
+        Refused::ChangeUnknown => (17, b"ChangeUnknown"),
+        Refused::NotProposed(_) => (18, b"NotProposed"),
+        Refused::SamePerson => (19, b"SamePerson"),
+        Refused::NotProposer => (20, b"NotProposer"),
+        Refused::BaseChanged(_) => (21, b"BaseChanged"),
+        Refused::OutsideMatrix => (22, b"OutsideMatrix"),
+        Refused::NotAnAlarm => (23, b"NotAnAlarm"),
+        Refused::RecordUnknown => (24, b"RecordUnknown"),
+        Refused::RangeNotAligned => (25, b"RangeNotAligned"),
+        Refused::BadFile(_) => (26, b"BadFile"),
+        Refused::ShelfQuota(_) => (27, b"ShelfQuota"),
+        Refused::EndNotAhead => (28, b"EndNotAhead"),
     }
 }
 
@@ -137,8 +101,9 @@ pub fn refusal_body(alloc: Global, refused: &Refused) -> Result<Vec<u8>, Fault>
     ensures err { OnlyMemory result }
 {
     let mut out = Vec::with_capacity(alloc, BODY_ROOM)?;
-    push_string(&mut out, b"{\"name\":", name_of(refused))?;
-    push_number(&mut out, b",\"refused\":", number_of(refused))?;
+    let (number, name) = label_of(refused);
+    push_string(&mut out, b"{\"name\":", name)?;
+    push_number(&mut out, b",\"refused\":", number)?;
     push_value(&mut out, refused)?;
     out.push(b'}')?;
     Ok(out)

@@ -33,10 +33,7 @@ impl Media {
 fn phrase(status: StatusCode) -> &'static str
     ensures { result.now ≡ unwrap_or (reason_phrase status) (codes "<unknown status code>") }
 {
-    match status.canonical_reason() {
-        Some(reason) => reason,
-        None => "<unknown status code>",
-    }
+    status.canonical_reason().unwrap_or("<unknown status code>")
 }
 
 #[tactic(auto, unfolding(crate::specs::Response::status_line))]

@@ -63,10 +63,7 @@ fn all_cells(alloc: Global, items: &[Value]) -> Result<Vec<Cell>, BodyError>
 fn row_of(alloc: Global, value: &Value) -> Result<Vec<Cell>, BodyError>
     ensures { ReadsAsSeen (λ v. v.items) result (or_body (row_of (view value.now))) }
 {
-    match value.as_array() {
-        Some(items) => all_cells(alloc, items),
-        None => Err(BAD),
-    }
+    all_cells(alloc, value.as_array().ok_or(BAD)?)
 }
 
 fn all_rows(alloc: Global, items: &[Value]) -> Result<Vec<Vec<Cell>>, BodyError>
@@ -87,10 +84,7 @@ fn all_rows(alloc: Global, items: &[Value]) -> Result<Vec<Vec<Cell>>, BodyError>
 pub(crate) fn numbers_in(alloc: Global, value: &Value, name: &str) -> Result<Vec<u64>, BodyError>
     ensures { ReadsAsSeen (λ v. v.items) result (or_body (numbers_at name.now (view value.now))) }
 {
-    match value.get(name).and_then(Value::as_array) {
-        Some(items) => all_numbers(alloc, items),
-        None => Err(BAD),
-    }
+    all_numbers(alloc, value.get(name).and_then(Value::as_array).ok_or(BAD)?)
 }
 
 /// A member that is a list of lists of cells.
@@ -98,8 +92,5 @@ pub(crate) fn rows_in(alloc: Global, value: &Value, name: &str) -> Result<Vec<Ve
     ensures { ReadsAsSeen (λ v. map (λ row. row.items) v.items) result
         (or_body (rows_at name.now (view value.now))) }
 {
-    match value.get(name).and_then(Value::as_array) {
-        Some(items) => all_rows(alloc, items),
-        None => Err(BAD),
-    }
+    all_rows(alloc, value.get(name).and_then(Value::as_array).ok_or(BAD)?)
 }

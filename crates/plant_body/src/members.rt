@@ -99,10 +99,7 @@ pub(crate) fn string_in<'v>(value: &'v Value, name: &str) -> Option<&'v str>
 pub(crate) fn truth_in(value: &Value, name: &str) -> Result<bool, BodyError>
     ensures { ReadsAs result (or_body (truth_at name.now (view value.now))) }
 {
-    match value.get(name).and_then(Value::as_bool) {
-        Some(truth) => Ok(truth),
-        None => Err(BAD),
-    }
+    value.get(name).and_then(Value::as_bool).ok_or(BAD)
 }
 
 pub(crate) fn text_in<C: Alphabet>(
@@ -112,22 +109,14 @@ pub(crate) fn text_in<C: Alphabet>(
 ) -> Result<Text<C>, BodyError>
     ensures { ReadsAs result (or_body (text_at C.admits C.longest name.now (view value.now))) }
 {
-    let Some(string) = string_in(value, name) else {
-        return Err(BAD);
-    };
-    match Text::read(alloc, string.as_bytes())? {
-        Some(text) => Ok(text),
-        None => Err(BAD),
-    }
+    let string = string_in(value, name).ok_or(BAD)?;
+    Text::read(alloc, string.as_bytes())?.ok_or(BAD)
 }
 
 pub(crate) fn seconds_in(value: &Value, name: &str) -> Result<Seconds, BodyError>
     ensures { ReadsAs result (or_body (seconds_at name.now (view value.now))) }
 {
-    match number_in(value, name).and_then(Seconds::new) {
-        Some(seconds) => Ok(seconds),
-        None => Err(BAD),
-    }
+    number_in(value, name).and_then(Seconds::new).ok_or(BAD)
 }
 
 /// The revision that a proposal is drawn up for: 0 to 20,000.
@@ -173,10 +162,7 @@ fn role_of(name: &str) -> Option<Role>
 pub(crate) fn role_in(value: &Value, name: &str) -> Result<Role, BodyError>
     ensures { ReadsAs result (or_body (role_at name.now (view value.now))) }
 {
-    match string_in(value, name).and_then(role_of) {
-        Some(role) => Ok(role),
-        None => Err(BAD),
-    }
+    string_in(value, name).and_then(role_of).ok_or(BAD)
 }
 
 /// The quota: the greatest one where the member isn't there.
@@ -187,10 +173,7 @@ pub(crate) fn quota_in(value: &Value, name: &str) -> Result<Quota, BodyError>
         Some(quota) => number_of(quota),
         None => Some(MAX_QUOTA),
     };
-    match given.and_then(Quota::new) {
-        Some(quota) => Ok(quota),
-        None => Err(BAD),
-    }
+    given.and_then(Quota::new).ok_or(BAD)
 }
 
 /// The end: none where the member isn't there or is null.
@@ -203,20 +186,13 @@ pub(crate) fn end_in(value: &Value, name: &str) -> Result<Option<Moment>, BodyEr
     if end.is_null() {
         return Ok(None);
     }
-    let Some(text) = end.as_str() else {
-        return Err(BAD);
-    };
-    match Moment::read(text.as_bytes()) {
-        Some(moment) => Ok(Some(moment)),
-        None => Err(BAD),
-    }
+    let text = end.as_str().ok_or(BAD)?;
+    let moment = Moment::read(text.as_bytes()).ok_or(BAD)?;
+    Ok(Some(moment))
 }
 
 pub(crate) fn tenure_of(role: Role, until: Option<Moment>) -> Result<Tenure, BodyError>
     ensures { ReadsAs result (or_body (tenure_of role until)) }
 {
-    match Tenure::new(role, until) {
-        Some(tenure) => Ok(tenure),
-        None => Err(BAD),
-    }
+    Tenure::new(role, until).ok_or(BAD)
 }

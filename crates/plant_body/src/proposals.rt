@@ -78,9 +78,7 @@ fn change_in(alloc: Global, kind: &str, value: &Value) -> Result<ChangeKind, Bod
 fn proposal_in(alloc: Global, value: &Value) -> Result<Proposal, BodyError>
     ensures { ReadsAs result (proposal_in (view value.now)) }
 {
-    let Some(name) = string_in(value, "kind") else {
-        return Err(BAD);
-    };
+    let name = string_in(value, "kind").ok_or(BAD)?;
     let base = base_in(value, "base")?;
     let kind = change_in(alloc, name, value)?;
     Ok(Proposal { kind, base })

@@ -1,15 +1,15 @@
 -- Books in a list of units: what is found there, and what is there after a put.
-use Rattle.std.specs.{Cmp.{tied_itself}, FinMap.Entries.{below_all, by_order, find as found, is_sorted, put}}
+use Rattle.std.{specs.{Cmp.{tied_itself}, FinMap.Entries.{below_all, by_order, find as found, is_sorted, put}}, proofs.lemmas.List.{nil_from_length}}
 use Rattle.std.specs.{FinMap.{entries, entries-insert, entries_sorted, get, get-entries, keys, len-empty, len-entries}, List.{cons_option}}
-use Rattle.std.specs.Ordering.{eq_by_cmp, ordering_reverse}
-use Rattle.std.proofs.Common.{List, Some, T, [], ap, arith, cond, false, length, map, refl, subst, sym, true, ◌++◌, ◌∙◌, ◌∷◌, ◌≡◌, flat_map, is_eq, is_lt, Err, IfSome, Ok, OnOk, Option, Result, filter_map, option_map, unwrap_or, Equal, Greater, Less}
+use Rattle.std.specs.Ordering.{eq_by_cmp}
+use Rattle.std.proofs.Common.{List, Some, T, [], ap, cond, false, map, refl, subst, sym, true, ◌++◌, ◌∙◌, ◌∷◌, ◌≡◌, flat_map, is_eq, is_lt, Err, IfSome, Ok, OnOk, Option, Result, filter_map, option_map, unwrap_or, Equal, Greater, Less, option_to_list, None}
 use Rattle.plant_books.specs.Contents.{Content, after_changes, no_units, part_in, rows_in, with_rows}
 use Rattle.plant_books.specs.{Listed.{AllInOrder, IsListed, rows_at, unit_cmp}, declared.opened.OpenedUnit.{OpenedUnit}}
 use Rattle.plant_books.proofs.public.OrderLaws.{changed_in_order, or_none_in_order, put_all_in_order, rows_in_order}
 use Rattle.plant_model.specs.{Order.{AreInOrder}, Parts.{part_of}, RowChanges.{changed_by, no_rows}, Worlds.{unit_named}, declared.call.Call.{Call}}
-use Rattle.plant_model.{specs.declared.rows.{RowEdit.{RowEdit}, UnitRows.{UnitRows}}, proofs.public.{Base.{lt}, RowsFound.{first, second}}}
-use Rattle.plant_types.specs.{KeyedRows.{put_row, row_at}, Names.{Name, name_cmp}, declared.fault.Fault.{Fault}}
-use Rattle.plant_types.proofs.public.Orders.{name_total, same_names}
+use Rattle.plant_model.{specs.declared.rows.{RowEdit.{RowEdit}, UnitRows.{UnitRows}}, proofs.public.RowsFound.{less, turned}}
+use Rattle.plant_types.{specs.{KeyedRows.{put_row, row_at}, Names.{Name, name_cmp}, declared.fault.Fault.{Fault}}, proofs.public.Halves.{first}}
+use Rattle.plant_types.proofs.public.{Orders.{name_total, same_names}, Halves.{second}}
 
 abbrev entry : OpenedUnit → Name × UnitRows
 entry o = (o.unit, o.rows)
@@ -44,15 +44,11 @@ put_listed admin u rows opened m order h =
       ordered = put_all_in_order record { unit = u; rows = rows } opened order h.ordered;
     }
 
-no_length : {A : Type 0} (es : List A) → length es ≡ 0 → [] ≡ es
-no_length [] e = refl
-no_length (x ∷ es) e = absurd (omega arith)
-
 pub none_listed : (admin : Name) (opened : List OpenedUnit) → opened ≡ [] → IsListed admin opened (no_units admin)
 none_listed admin opened none =
     record {
       admin = refl;
-      units = ap (map entry) none ∙ no_length (entries (no_units admin).units) (sym (len-entries (no_units admin).units) ∙ len-empty name_cmp UnitRows);
+      units = ap (map entry) none ∙ sym (nil_from_length (entries (no_units admin).units) (sym (len-entries (no_units admin).units) ∙ len-empty name_cmp UnitRows));
       ordered = subst AllInOrder (sym none) tt;
     }
 
@@ -63,12 +59,7 @@ AreFound g (e ∷ es) = (g e.0 ≡ Some e.1) × AreFound g es
 
 -- a key below the others ties with none of them
 apart : (x y : Name) → T (is_lt (name_cmp x y)) → eq_by_cmp name_cmp y x ≡ false
-apart x y lt =
-    elim (name_cmp x y) as (λ v. name_cmp x y ≡ v → T (is_lt v) → eq_by_cmp name_cmp y x ≡ false) [
-      | Less ↦ λ p t. ap is_eq (name_total.antisymm y x ∙ ap ordering_reverse p)
-      | Equal ↦ λ p t. absurd t
-      | Greater ↦ λ p t. absurd t
-    ] refl lt
+apart x y lt = ap is_eq (turned name_total x y (less (name_cmp x y) lt))
 
 found_past : (x : Name) (r : UnitRows) (es fs : List (Name × UnitRows)) → T (below_all name_cmp x es) → AreFound (λ q. found name_cmp q fs) es → AreFound (λ q. found name_cmp q ((x, r) ∷ fs)) es
 found_past x r [] fs h a = tt
@@ -80,21 +71,6 @@ are_found [] h = tt
 are_found (e ∷ es) h =
     (ap (λ v. cond (is_eq v) (Some e.1) (found name_cmp e.0 es)) (tied_itself name_total e.0), found_past e.0 e.1 es es (first _ _ h) (are_found es (second _ _ h)))
 
-told_found : {A : Type 0} (f : Name → Option UnitRows → Option A) (g : Name → Option UnitRows) (es : List (Name × UnitRows)) → AreFound g es → filter_map (λ u. f u (g u)) (map (λ e. e.0) es) ≡ filter_map (λ e. f e.0 (Some e.1)) es
-told_found f g [] a = refl
-told_found f g (e ∷ es) a = λ i. cons_option (f e.0 (a.0 i)) (told_found f g es a.1 i)
-
-told_entries : {A : Type 0} (f : Name → Option UnitRows → Option A) (opened : List OpenedUnit) → filter_map (λ e. f e.0 (Some e.1)) (map entry opened) ≡ filter_map (λ o. f o.unit (Some o.rows)) opened
-told_entries f [] = refl
-told_entries f (o ∷ os) = ap (cons_option (f o.unit (Some o.rows))) (told_entries f os)
-
-pub told_listed : {A : Type 0} (f : Name → Option UnitRows → Option A) (admin : Name) (opened : List OpenedUnit) (m : Content) → IsListed admin opened m → filter_map (λ o. f o.unit (Some o.rows)) opened ≡ filter_map (λ u. f u (get m.units u)) (keys m.units)
-told_listed f admin opened m h =
-    let lookup : ◌≡◌ {A = Name → Option UnitRows} (λ q. found name_cmp q (entries m.units)) (get m.units) = λ i q. sym (get-entries m.units q) i in
-    sym (told_entries f opened) ∙ ap (filter_map (λ e. f e.0 (Some e.1))) h.units
-    ∙ sym (told_found f (get m.units) (entries m.units) (subst (λ g. AreFound g (entries m.units)) lookup (are_found (entries m.units) (entries_sorted m.units))))
-
--- the same for lists of what is said
 all_found : {A : Type 0} (f : Name → Option UnitRows → List A) (g : Name → Option UnitRows) (es : List (Name × UnitRows)) → AreFound g es → flat_map (λ u. f u (g u)) (map (λ e. e.0) es) ≡ flat_map (λ e. f e.0 (Some e.1)) es
 all_found f g [] a = refl
 all_found f g (e ∷ es) a = λ i. f e.0 (a.0 i) ++ all_found f g es a.1 i
@@ -108,6 +84,16 @@ all_listed f admin opened m h =
     let lookup : ◌≡◌ {A = Name → Option UnitRows} (λ q. found name_cmp q (entries m.units)) (get m.units) = λ i q. sym (get-entries m.units q) i in
     sym (all_entries f opened) ∙ ap (flat_map (λ e. f e.0 (Some e.1))) h.units
     ∙ sym (all_found f (get m.units) (entries m.units) (subst (λ g. AreFound g (entries m.units)) lookup (are_found (entries m.units) (entries_sorted m.units))))
+
+-- the same for what is said of each code, if something is
+told_by_lists : {A B : Type 0} (f : A → Option B) (xs : List A) → filter_map f xs ≡ flat_map (λ x. option_to_list (f x)) xs
+told_by_lists f [] = refl
+told_by_lists f (x ∷ xs) = elim (f x) as (λ o. cons_option o (filter_map f xs) ≡ option_to_list o ++ flat_map (λ x. option_to_list (f x)) xs) [ None ↦ told_by_lists f xs | Some y ↦ ap (λ ys. y ∷ ys) (told_by_lists f xs) ]
+
+pub told_listed : {A : Type 0} (f : Name → Option UnitRows → Option A) (admin : Name) (opened : List OpenedUnit) (m : Content) → IsListed admin opened m → filter_map (λ o. f o.unit (Some o.rows)) opened ≡ filter_map (λ u. f u (get m.units u)) (keys m.units)
+told_listed f admin opened m h =
+    told_by_lists (λ o. f o.unit (Some o.rows)) opened ∙ all_listed (λ u o. option_to_list (f u o)) admin opened m h
+    ∙ sym (told_by_lists (λ u. f u (get m.units u)) (keys m.units))
 
 -- what the keeper answers and leaves, said of the content
 pub part_listed : (admin u v : Name) (opened : List OpenedUnit) (m : Content) (c : Call) → IsListed admin opened m → Some v ≡ unit_named c.request → unit_named c.request ≡ Some u → option_map (part_of c) (rows_at opened v) ≡ part_in m c u

@@ -5,12 +5,11 @@ use Rattle.std.proofs.lemmas.{Bool.{or_right}, List.Folds.{list_any-append}}
 use Rattle.plant_import.proofs.public.Placed.{AllBelow, other}
 use Rattle.plant_books.specs.Asking.{AreSources, is_number}
 use Rattle.plant_model.specs.{Histories.{same_number}, Parts.{is_source}, declared.rows.{RecordEntry.{RecordEntry}, UnitRows.{UnitRows}}}
-use Rattle.plant_model.proofs.public.RowsFound.{ties}
 use Rattle.plant_types.specs.Names.{Name}
 
 -- a number is one of several
 abbrev pub among : List ℕ → ℕ → Bool
-among ks n = list_any (λ k. ties n k) ks
+among ks n = list_any (λ k. same_number n k) ks
 
 pub or_none : (a : Bool) → (a || false) ≡ a
 or_none true = refl
@@ -20,8 +19,8 @@ pub none_among : (ks : List ℕ) (n m : ℕ) → AllBelow (λ k. k) n ks → n �
 none_among [] n m low le = refl
 none_among (k ∷ ks) n m low le = ap (λ b. b || among ks m) (other m k (omega (arith, le, low.0))) ∙ none_among ks n m low.1 le
 
-pub among_more : (ks : List ℕ) (n m : ℕ) → among (ks ++ n ∷ []) m ≡ (among ks m || (ties m n || false))
-among_more ks n m = list_any-append (λ k. ties m k) ks (n ∷ [])
+pub among_more : (ks : List ℕ) (n m : ℕ) → among (ks ++ n ∷ []) m ≡ (among ks m || (same_number m n || false))
+among_more ks n m = list_any-append (λ k. same_number m k) ks (n ∷ [])
 
 -- numbers in strictly rising order: those before one are smaller
 all_less : (k : ℕ) (ks : List ℕ) (n : ℕ) (t : List ℕ) → AllByRecursion (λ y. nat_cmp k y ≡ Less) (ks ++ n ∷ t) → nat_cmp k n ≡ Less
@@ -54,7 +53,7 @@ taken rows records tags looked numbers b n same are is wants =
     ∙ ap (λ c. c && is_source rows looked n) (sym wants)
 
 pub left_out : (rows : UnitRows) (looked : Name → Bool) (numbers : BTreeSet ℕ) (b : Bool) (n : ℕ) → numbers.keys ≡ [] → b ≡ false → contains nat_cmp numbers n ≡ (b && is_source rows looked n)
-left_out rows looked numbers b n none leaves = ap (list_any (λ k. ties n k)) none ∙ ap (λ c. c && is_source rows looked n) (sym leaves)
+left_out rows looked numbers b n none leaves = ap (list_any (λ k. same_number n k)) none ∙ ap (λ c. c && is_source rows looked n) (sym leaves)
 
 or_swap : (a b : Bool) → cond a true b ≡ (b || a)
 or_swap true b = sym (or_right b true refl)
@@ -63,15 +62,15 @@ or_swap false b = sym (or_none b)
 -- the first of a set, or none
 pub with_first : (old new : BTreeSet ℕ) (m n : ℕ) (b one : Bool) → UpdatesBy nat_cmp (nat_cmp m) old new true → old.keys ≡ [] → same_number m n ≡ one → b ≡ true → contains nat_cmp new n ≡ (b && one)
 with_first old new m n b one put none is wants =
-    put.0 n ∙ ap (λ ks. cond (ties m n) true (list_any (λ k. ties n k) ks)) none ∙ or_swap (ties m n) false ∙ is ∙ ap (λ c. c && one) (sym wants)
+    put.0 n ∙ ap (λ ks. cond (same_number m n) true (list_any (λ k. same_number n k) ks)) none ∙ or_swap (same_number m n) false ∙ is ∙ ap (λ c. c && one) (sym wants)
 
 pub without_first : (old : BTreeSet ℕ) (n : ℕ) (b one : Bool) → old.keys ≡ [] → b ≡ false → contains nat_cmp old n ≡ (b && one)
-without_first old n b one none leaves = ap (list_any (λ k. ties n k)) none ∙ ap (λ c. c && one) (sym leaves)
+without_first old n b one none leaves = ap (list_any (λ k. same_number n k)) none ∙ ap (λ c. c && one) (sym leaves)
 
 -- and the one that it names, if any
 pub with_named : (old new : BTreeSet ℕ) (m n : ℕ) (b : Bool) (named : Option ℕ) → UpdatesBy nat_cmp (nat_cmp m) old new true → named ≡ Some m → contains nat_cmp old n ≡ b → contains nat_cmp new n ≡ (b || is_number named n)
 with_named old new m n b named put is was =
-    put.0 n ∙ ap (cond (ties m n) true) was ∙ or_swap (ties m n) b ∙ ap (λ o. b || is_number o n) (sym is)
+    put.0 n ∙ ap (cond (same_number m n) true) was ∙ or_swap (same_number m n) b ∙ ap (λ o. b || is_number o n) (sym is)
 
 pub without_named : (old : BTreeSet ℕ) (n : ℕ) (b : Bool) (named : Option ℕ) → named ≡ None → contains nat_cmp old n ≡ b → contains nat_cmp old n ≡ (b || is_number named n)
 without_named old n b named is was = was ∙ sym (or_none b) ∙ ap (λ o. b || is_number o n) (sym is)

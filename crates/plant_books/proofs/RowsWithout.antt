@@ -13,9 +13,6 @@ module _ {X : Type 0} (key : X → Name) where
   stays : (t : Name) (x : X) (rows : List X) (o : Ordering) → name_cmp t (key x) ≡ o → is_eq o ≡ false → x ∷ remove_row name_cmp key t rows ≡ remove_row name_cmp key t (x ∷ rows)
   stays t x rows o is other = sym (ap (λ v. cond (not (is_eq v)) (x ∷ remove_row name_cmp key t rows) (remove_row name_cmp key t rows)) is ∙ ap (λ b. cond (not b) (x ∷ remove_row name_cmp key t rows) (remove_row name_cmp key t rows)) other)
 
-  goes : (t : Name) (x : X) (rows : List X) → name_cmp t (key x) ≡ Equal → remove_row name_cmp key t rows ≡ remove_row name_cmp key t (x ∷ rows)
-  goes t x rows is = sym (ap (λ v. cond (not (is_eq v)) (x ∷ remove_row name_cmp key t rows) (remove_row name_cmp key t rows)) is)
-
   -- the row at the place of a tag is not of that tag
   abbrev pub IsOther : Name → Option X → Type 0
   IsOther t o = IfSome o (λ r. same_name (key r) t ≡ false)
@@ -37,7 +34,7 @@ module _ {X : Type 0} (key : X → Name) where
       let first_is : x ≡ r = cc in
       let tied_to : name_cmp (key x) t ≡ Equal = tied (name_cmp (key x) t) true (ap (λ y. same_name (key y) t) first_is ∙ same) refl in
       let back_to : name_cmp t (key x) ≡ Equal = name_total.antisymm t (key x) ∙ ap ordering_reverse tied_to in
-      all_stay t rows (subst (λ (n : Name). After name_cmp key n rows) (same_names (key x) t tied_to) order.0) ∙ goes t x rows back_to
+      all_stay t rows (subst (λ (n : Name). After name_cmp key n rows) (same_names (key x) t tied_to) order.0) ∙ sym (ap (λ v. cond (not (is_eq v)) (x ∷ remove_row name_cmp key t rows) (remove_row name_cmp key t rows)) back_to)
   one_goes (x ∷ rows) t (suc p) order h r there same =
       let low : name_cmp (key x) t ≡ Less = lesser (name_cmp (key x) t) (h.0 0 x (omega arith) (omega arith)) in
       ap (λ xs. x ∷ xs) (one_goes rows t p order.1 (later name_cmp key t x rows p h) r there same) ∙ stays t x rows Greater (turned name_total (key x) t low) refl

@@ -93,9 +93,8 @@ fn records_changed(change: &ChangeEntry) -> Wanted<'_>
     ensures { AreWanted (λ rows. (of_change change.now rows).rationale) result }
 {
     match (change.kind_no, &change.tag) {
-        (ChangeTopic::Matrix, _) => Wanted::Every,
         (ChangeTopic::Record | ChangeTopic::Limit, Some(tag)) => Wanted::One(tag),
-        (ChangeTopic::Record | ChangeTopic::Limit, None) => Wanted::Every,
+        _ => Wanted::Every,
     }
 }
 
@@ -122,12 +121,7 @@ pub fn wanted_alarms<'a>(scope: Scope<'a>) -> WantedAlarms<'a>
         Scope::Approval(_, Some(change)) => WantedAlarms::Those(alarms_changed(change)),
         Scope::AllShelves => WantedAlarms::Shelved,
         Scope::File(_) | Scope::AllAlarms => WantedAlarms::Those(Wanted::Every),
-        Scope::NothingElse
-        | Scope::AllGrants
-        | Scope::OneChange(_)
-        | Scope::Approval(_, None)
-        | Scope::AllRecords
-        | Scope::AllEvents => WantedAlarms::Those(Wanted::Nothing),
+        _ => WantedAlarms::Those(Wanted::Nothing),
     }
 }
 
@@ -139,15 +133,7 @@ pub fn wanted_shelves<'a>(scope: Scope<'a>) -> Wanted<'a>
         Scope::OneAlarm(tag) => Wanted::One(tag),
         Scope::Shelving(tag, crowded) => wanted_in(tag, crowded),
         Scope::AllShelves | Scope::AllAlarms => Wanted::Every,
-        Scope::NothingElse
-        | Scope::AllGrants
-        | Scope::OneRecord(_)
-        | Scope::OneChange(_)
-        | Scope::Approval(..)
-        | Scope::Content(_)
-        | Scope::AllRecords
-        | Scope::File(_)
-        | Scope::AllEvents => Wanted::Nothing,
+        _ => Wanted::Nothing,
     }
 }
 
@@ -159,15 +145,7 @@ pub fn wanted_records<'a>(scope: Scope<'a>) -> Wanted<'a>
         Scope::OneRecord(tag) | Scope::Content(tag) => Wanted::One(tag),
         Scope::Approval(_, Some(change)) => records_changed(change),
         Scope::AllRecords | Scope::AllAlarms => Wanted::Every,
-        Scope::NothingElse
-        | Scope::AllGrants
-        | Scope::OneAlarm(_)
-        | Scope::Shelving(..)
-        | Scope::OneChange(_)
-        | Scope::Approval(_, None)
-        | Scope::File(_)
-        | Scope::AllShelves
-        | Scope::AllEvents => Wanted::Nothing,
+        _ => Wanted::Nothing,
     }
 }
 

@@ -17,6 +17,7 @@ pub trait Keyed: Drop {
 }
 
 /// The place of the row of the same key, or else the place where the row belongs.
+#[tactic(auto, using(crate::proofs::public::KeyedLaws::put_over))]
 fn place_of<T: Keyed>(rows: &[T], row: &T) -> Result<usize, usize>
     ensures { IsPlaceFor T.order row.now rows.now result }
 {

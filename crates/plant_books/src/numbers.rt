@@ -15,10 +15,7 @@ use std::collections::BTreeSet;
 fn matrix_in_force(units: &List<UnitRow>) -> u32
     ensures { (rows : UnitRows) → rows.units ≡ units.now → result ≡ (unit_read rows).matrix_no }
 {
-    match units.as_slice().first() {
-        Some(unit) => unit.matrix_no,
-        None => 0,
-    }
+    units.as_slice().first().map_or(0, |unit| unit.matrix_no)
 }
 
 /// The numbers of the matrices that the scope takes in of a unit with this row of its own.

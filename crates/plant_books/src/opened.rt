@@ -169,10 +169,7 @@ pub fn units_held(
 fn return_of(alarms: &[AlarmRow], tag: &Tag) -> Option<Moment>
     ensures { TagsRise alarm_tag alarms.now → result ≡ facts.last_return alarms.now tag.now }
 {
-    match row_of(alarms, tag) {
-        Some(alarm) => alarm.return_s,
-        None => None,
-    }
+    row_of(alarms, tag).and_then(|alarm| alarm.return_s)
 }
 
 /// Puts the shelves of a unit at the end.

@@ -141,10 +141,7 @@ fn is_crowded_by(rows: &UnitRows, request: &Request) -> bool
 fn approved_by<'a>(rows: &'a UnitRows, request: &Request) -> Option<&'a ChangeEntry>
     ensures { AreInOrder rows.now → IsApprovedBy rows.now request.now (option_copied result) }
 {
-    match number_approved(request) {
-        Some(number) => change_at(rows.changes.as_slice(), number),
-        None => None,
-    }
+    number_approved(request).and_then(|number| change_at(rows.changes.as_slice(), number))
 }
 
 /// What the request looks at in a unit of these rows.
@@ -162,10 +159,7 @@ fn scope_in<'a>(rows: &'a UnitRows, request: &'a Request) -> Scope<'a>
 fn last_number(changes: &[ChangeEntry]) -> u64
     ensures { result ≡ last_number_of changes.now }
 {
-    match changes.last() {
-        Some(change) => u64::from(change.number),
-        None => 0,
-    }
+    changes.last().map_or(0, |change| u64::from(change.number))
 }
 
 /// How many alarms or events there are, or the number of the last change, for the call that needs it.

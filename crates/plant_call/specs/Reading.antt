@@ -1,6 +1,6 @@
 -- What a request asks for: a definition over its head's parts and its body.
 use Rattle.std.specs.Prelude.{ℕ, List, [], ◌∷◌, codes, Result, Ok, Err, ok_or}
-use Rattle.plant_types.specs.{Moment.{moment_of}, Text.{person_of}}
+use Rattle.plant_types.specs.{Moment.{moment_of}, Names.{Name}, Text.{person_of}}
 use Rattle.plant_import.specs.Reading.{file_read}
 use Rattle.plant_model.specs.declared.{call.{Call.{Call}, Request.{Request}}, kinds.CallKind.{CallKind}}
 use Rattle.plant_route.specs.Routes.{route_of}
@@ -23,6 +23,13 @@ abbrev pub moment_said : List (List ℕ) → Result ℕ Cause
 moment_said [] = Err BadMoment
 moment_said (text ∷ []) = ok_or (moment_of text) BadMoment
 moment_said (text ∷ other ∷ texts) = Err BadMoment
+
+-- a request of a unit and one thing in it, which the path names
+abbrev of_one : {A : Type 0} → (List ℕ → Result A Cause) → (Name → A → Request) → List ℕ → Result Request Cause
+of_one thing_in make path = do
+  unit ← unit_in path
+  thing ← thing_in path
+  Ok (make unit thing)
 
 -- the request of a kind, by the path and the body
 unfoldable pub request_in : CallKind → List ℕ → List ℕ → Result Request Cause
@@ -55,56 +62,26 @@ request_in kind.OneShotShelve path body = do
   tag ← tag_in path
   words ← of_body (read_by reason_in body)
   Ok (request.OneShotShelve unit tag words)
-request_in kind.Unshelve path body = do
-  unit ← unit_in path
-  tag ← tag_in path
-  Ok (request.Unshelve unit tag)
+request_in kind.Unshelve path body = of_one tag_in request.Unshelve path
 request_in kind.RemoveFromService path body = do
   unit ← unit_in path
   tag ← tag_in path
   words ← of_body (read_by reason_in body)
   Ok (request.RemoveFromService unit tag words)
-request_in kind.PlaceInService path body = do
-  unit ← unit_in path
-  tag ← tag_in path
-  Ok (request.PlaceInService unit tag)
+request_in kind.PlaceInService path body = of_one tag_in request.PlaceInService path
 request_in kind.Propose path body = do
   unit ← unit_in path
   proposal ← of_body (read_by proposal_in body)
   Ok (request.Propose unit proposal)
-request_in kind.WithdrawChange path body = do
-  unit ← unit_in path
-  number ← number_in path
-  Ok (request.WithdrawChange unit number)
-request_in kind.Approve path body = do
-  unit ← unit_in path
-  number ← number_in path
-  Ok (request.Approve unit number)
-request_in kind.Reject path body = do
-  unit ← unit_in path
-  number ← number_in path
-  Ok (request.Reject unit number)
-request_in kind.Status path body = do
-  unit ← unit_in path
-  tag ← tag_in path
-  Ok (request.Status unit tag)
-request_in kind.RecordOf path body = do
-  unit ← unit_in path
-  tag ← tag_in path
-  Ok (request.RecordOf unit tag)
-request_in kind.ChangeOf path body = do
-  unit ← unit_in path
-  number ← number_in path
-  Ok (request.ChangeOf unit number)
-request_in kind.Alarms path body = do
-  unit ← unit_in path
-  Ok (request.Alarms unit)
-request_in kind.Shelves path body = do
-  unit ← unit_in path
-  Ok (request.Shelves unit)
-request_in kind.Standing path body = do
-  unit ← unit_in path
-  Ok (request.Standing unit)
+request_in kind.WithdrawChange path body = of_one number_in request.WithdrawChange path
+request_in kind.Approve path body = of_one number_in request.Approve path
+request_in kind.Reject path body = of_one number_in request.Reject path
+request_in kind.Status path body = of_one tag_in request.Status path
+request_in kind.RecordOf path body = of_one tag_in request.RecordOf path
+request_in kind.ChangeOf path body = of_one number_in request.ChangeOf path
+request_in kind.Alarms path body = unit_in path >>= λ unit. Ok (request.Alarms unit)
+request_in kind.Shelves path body = unit_in path >>= λ unit. Ok (request.Shelves unit)
+request_in kind.Standing path body = unit_in path >>= λ unit. Ok (request.Standing unit)
 request_in kind.Floods path body = do
   unit ← unit_in path
   begin ← begin_in path

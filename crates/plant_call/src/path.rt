@@ -34,29 +34,20 @@ fn segment(path: &[u8], n: usize) -> &[u8]
 pub(crate) fn unit_in(alloc: Global, path: &[u8]) -> Result<UnitCode, CallError>
     ensures { ReadsAs result (unit_in path.now) }
 {
-    match UnitCode::read(alloc, segment(path, 2))? {
-        Some(unit) => Ok(unit),
-        None => Err(CallError::Because(Cause::BadPath)),
-    }
+    UnitCode::read(alloc, segment(path, 2))?.ok_or(CallError::Because(Cause::BadPath))
 }
 
 /// The tag that the path names.
 pub(crate) fn tag_in(alloc: Global, path: &[u8]) -> Result<Tag, CallError>
     ensures { ReadsAs result (tag_in path.now) }
 {
-    match Tag::read(alloc, segment(path, 4))? {
-        Some(tag) => Ok(tag),
-        None => Err(CallError::Because(Cause::BadPath)),
-    }
+    Tag::read(alloc, segment(path, 4))?.ok_or(CallError::Because(Cause::BadPath))
 }
 
 fn moment_at(path: &[u8], n: usize) -> Result<Moment, CallError>
     ensures { ReadsAs result (moment_at n path.now) }
 {
-    match Moment::read(segment(path, n)) {
-        Some(moment) => Ok(moment),
-        None => Err(CallError::Because(Cause::BadPath)),
-    }
+    Moment::read(segment(path, n)).ok_or(CallError::Because(Cause::BadPath))
 }
 
 /// The moment with which the range begins that the path names.
@@ -94,8 +85,5 @@ fn change_number_of(text: &[u8]) -> Option<u32>
 pub(crate) fn number_in(path: &[u8]) -> Result<u32, CallError>
     ensures { ReadsAs result (number_in path.now) }
 {
-    match change_number_of(segment(path, 4)) {
-        Some(number) => Ok(number),
-        None => Err(CallError::Because(Cause::BadPath)),
-    }
+    change_number_of(segment(path, 4)).ok_or(CallError::Because(Cause::BadPath))
 }

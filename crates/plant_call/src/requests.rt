@@ -41,10 +41,7 @@ fn person_in(alloc: Global, front: &[u8], headers: &[HeaderSpan]) -> Result<Pers
     let Lookup::Once(text) = field(front, headers, b"x-person") else {
         return Err(CallError::Because(Cause::BadPerson));
     };
-    match Person::read(alloc, text)? {
-        Some(person) => Ok(person),
-        None => Err(CallError::Because(Cause::BadPerson)),
-    }
+    Person::read(alloc, text)?.ok_or(CallError::Because(Cause::BadPerson))
 }
 
 fn moment_in(front: &[u8], headers: &[HeaderSpan]) -> Result<Moment, CallError>
@@ -55,10 +52,7 @@ fn moment_in(front: &[u8], headers: &[HeaderSpan]) -> Result<Moment, CallError>
     let Lookup::Once(text) = field(front, headers, b"x-moment") else {
         return Err(CallError::Because(Cause::BadMoment));
     };
-    match Moment::read(text) {
-        Some(moment) => Ok(moment),
-        None => Err(CallError::Because(Cause::BadMoment)),
-    }
+    Moment::read(text).ok_or(CallError::Because(Cause::BadMoment))
 }
 
 #[tactic(auto, unfolding(crate::specs::Reading::request_in))]
@@ -115,16 +109,6 @@ fn register(alloc: Global, path: &[u8], body: &[u8]) -> Result<Request, CallErro
     })
 }
 
-/// The body is a file. One with a fault is a call as well; the office reports the fault.
-#[tactic(auto, unfolding(crate::specs::Reading::request_in))]
-fn import(alloc: Global, path: &[u8], body: &[u8]) -> Result<Request, CallError>
-    ensures { ReadsAs result (request_in kind.Import path.now body.now) }
-{
-    let unit = unit_in(alloc, path)?;
-    let file = read_file(alloc, body)?;
-    Ok(Request::Import { unit, file })
-}
-
 #[tactic(auto, unfolding(crate::specs::Reading::request_in))]
 fn timed_shelve(alloc: Global, path: &[u8], body: &[u8]) -> Result<Request, CallError>
     ensures { ReadsAs result (request_in kind.TimedShelve path.now body.now) }
@@ -141,35 +125,6 @@ fn timed_shelve(alloc: Global, path: &[u8], body: &[u8]) -> Result<Request, Call
 }
 
 #[tactic(auto, unfolding(crate::specs::Reading::request_in))]
-fn one_shot_shelve(alloc: Global, path: &[u8], body: &[u8]) -> Result<Request, CallError>
-    ensures { ReadsAs result (request_in kind.OneShotShelve path.now body.now) }
-{
-    let unit = unit_in(alloc, path)?;
-    let tag = tag_in(alloc, path)?;
-    let words = of_body(read_reason(alloc, body))?;
-    Ok(Request::OneShotShelve { unit, tag, words })
-}
-
-#[tactic(auto, unfolding(crate::specs::Reading::request_in))]
-fn remove_from_service(alloc: Global, path: &[u8], body: &[u8]) -> Result<Request, CallError>
-    ensures { ReadsAs result (request_in kind.RemoveFromService path.now body.now) }
-{
-    let unit = unit_in(alloc, path)?;
-    let tag = tag_in(alloc, path)?;
-    let words = of_body(read_reason(alloc, body))?;
-    Ok(Request::RemoveFromService { unit, tag, words })
-}
-
-#[tactic(auto, unfolding(crate::specs::Reading::request_in))]
-fn propose(alloc: Global, path: &[u8], body: &[u8]) -> Result<Request, CallError>
-    ensures { ReadsAs result (request_in kind.Propose path.now body.now) }
-{
-    let unit = unit_in(alloc, path)?;
-    let proposal = of_body(read_proposal(alloc, body))?;
-    Ok(Request::Propose { unit, proposal })
-}
-
-#[tactic(auto, unfolding(crate::specs::Reading::request_in))]
 fn request_in(alloc: Global, kind: CallKind, path: &[u8], body: &[u8]) -> Result<Request, CallError>
     ensures { ReadsAs result (request_in kind path.now body.now) }
 {
@@ -178,19 +133,34 @@ fn request_in(alloc: Global, kind: CallKind, path: &[u8], body: &[u8]) -> Result
         CallKind::Grant => grant(alloc, path, body),
         CallKind::Withdraw => withdraw(alloc, path, body),
         CallKind::Register => register(alloc, path, body),
-        CallKind::Import => import(alloc, path, body),
+        // A file with a fault is a call as well; the office reports the fault.
+        CallKind::Import => Ok(Request::Import {
+            unit: unit_in(alloc, path)?,
+            file: read_file(alloc, body)?,
+        }),
         CallKind::TimedShelve => timed_shelve(alloc, path, body),
-        CallKind::OneShotShelve => one_shot_shelve(alloc, path, body),
+        CallKind::OneShotShelve => Ok(Request::OneShotShelve {
+            unit: unit_in(alloc, path)?,
+            tag: tag_in(alloc, path)?,
+            words: of_body(read_reason(alloc, body))?,
+        }),
         CallKind::Unshelve => Ok(Request::Unshelve {
             unit: unit_in(alloc, path)?,
             tag: tag_in(alloc, path)?,
         }),
-        CallKind::RemoveFromService => remove_from_service(alloc, path, body),
+        CallKind::RemoveFromService => Ok(Request::RemoveFromService {
+            unit: unit_in(alloc, path)?,
+            tag: tag_in(alloc, path)?,
+            words: of_body(read_reason(alloc, body))?,
+        }),
         CallKind::PlaceInService => Ok(Request::PlaceInService {
             unit: unit_in(alloc, path)?,
             tag: tag_in(alloc, path)?,
         }),
-        CallKind::Propose => propose(alloc, path, body),
+        CallKind::Propose => Ok(Request::Propose {
+            unit: unit_in(alloc, path)?,
+            proposal: of_body(read_proposal(alloc, body))?,
+        }),
         CallKind::WithdrawChange => Ok(Request::WithdrawChange {
             unit: unit_in(alloc, path)?,
             number: number_in(path)?,
@@ -237,10 +207,9 @@ fn request_in(alloc: Global, kind: CallKind, path: &[u8], body: &[u8]) -> Result
 fn route_in(routes: &Routes, method: &[u8], target: &[u8]) -> Result<CallKind, CallError>
     ensures { ReadsAs result (ok_or (route_of method.now target.now) NoRoute) }
 {
-    match routes.of(method, target) {
-        Some(kind) => Ok(kind),
-        None => Err(CallError::Because(Cause::NoRoute)),
-    }
+    routes
+        .of(method, target)
+        .ok_or(CallError::Because(Cause::NoRoute))
 }
 
 /// The call of a request, by its method, its target, its fields and its body.

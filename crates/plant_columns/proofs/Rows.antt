@@ -1,6 +1,6 @@
 -- The rows of a tree, under what a statement takes out of it and puts in.
 use Rattle.std.specs.List.{AllByRecursion, list_any}
-use Rattle.std.proofs.Common.{◌≡◌, inl, inr, ℤ, ◌<ℤ◌, Bool, true, false, not, ◌||◌, cond, List, [], ◌∷◌, ◌++◌, filter, Option, Some, None, refl, sym, ap, ap₂, ◌∙◌, subst, Ordering, Less, Equal, Greater, is_eq, true≢false, filter_map}
+use Rattle.std.proofs.Common.{◌≡◌, inl, inr, ℤ, ◌<ℤ◌, Bool, true, false, not, ◌||◌, cond, List, [], ◌∷◌, ◌++◌, filter, refl, sym, ap, ap₂, ◌∙◌, subst, Less, Equal, is_eq, true≢false}
 use Rattle.std.proofs.lemmas.{Bool.{false_from_ne_true}, Cmp.{tied_itself}}
 use Rattle.sqlite_value.{specs.{Order.{Row, value_cmp}, declared.value.Value.TheVariants.{Int}}, proofs.OrderLemmas.{value_cmp_total, value_cmp-Int}}
 use Rattle.sqlite_trees.specs.Tree.{rowid, has_rowid, put_row, without_rowid}
@@ -8,16 +8,12 @@ use Rattle.sqlite_keyed.{specs.Keyed.{IsKeyedBy}, proofs.KeyedLemmas.{lt_from_Le
 use Rattle.sqlite_rules.specs.{Calls.{ids_of}, Edit.{id_in, next_rowid, without_all}, Lists.{Has}}
 use Rattle.sqlite_rules.proofs.{ListLemmas.{all_has, all_from, some_has, some_from}, PlaceLemmas.{tied_same}, TableLemmas.{int_is}}
 use Rattle.plant_columns.specs.Tidy.{AreRows}
+use Rattle.plant_types.proofs.public.KeyedRowLaws.{tied}
 
 -- the rowids of the rows that pass the test, and no other
 pub record AreFound (p : Row → Bool) (rows found : List Row) : Type 0 where
   pub sound : (x : Row) → Has found x → (r : Row) × Has rows r × (p r ≡ true) × (x ≡ rowid r ∷ [])
   pub complete : (r : Row) → Has rows r → p r ≡ true → Has found (rowid r ∷ [])
-
-equal_is : (o : Ordering) → is_eq o ≡ true → o ≡ Equal
-equal_is Less h = absurd (true≢false (sym h))
-equal_is Equal h = refl
-equal_is Greater h = absurd (true≢false (sym h))
 
 filter_on : (p q : Row → Bool) (rows : List Row) → ((r : Row) → Has rows r → p r ≡ q r) → filter p rows ≡ filter q rows
 filter_on p q [] same = refl
@@ -68,7 +64,7 @@ without_found p rows found are it = without_all_is (ids_of found) rows ∙ filte
         let from = ids_found found one.0 one.1 in
         let other = it.sound from.0 from.1 in
         let id : one.0 ≡ id_in (rowid other.0) = from.2 ∙ ap (λ x. id_in (rowid x)) other.3 in
-        let tie : value_cmp (rowid r) (rowid other.0) ≡ Equal = equal_is _ (subst (λ v. is_eq (value_cmp (rowid r) v) ≡ true) (ap Int id ∙ sym (int_at other.0 other.1)) one.2) in
+        let tie : value_cmp (rowid r) (rowid other.0) ≡ Equal = tied _ _ (subst (λ v. is_eq (value_cmp (rowid r) v) ≡ true) (ap Int id ∙ sym (int_at other.0 other.1)) one.2) refl in
         ap p (tied_same rows r other.0 are.rise h other.1 tie) ∙ other.2
 
     same : (r : Row) → Has rows r → has_any (ids_of found) r ≡ p r
@@ -102,25 +98,3 @@ below_next rows are = all_from _ rows (λ r h.
 pub put_last : (new : Row) (rows : List Row) → AllByRecursion (λ r. value_cmp (rowid r) (rowid new) ≡ Less) rows → put_row new rows ≡ rows ++ new ∷ []
 put_last new [] all = refl
 put_last new (r ∷ rows) all = rw all.0 (ap (λ l. r ∷ l) (put_last new rows all.1))
-
--- ---- as an application reads them
-
-pub typed-filter : {X : Type 0} (decode : Row → Option X) (p : Row → Bool) (q : X → Bool) → ((r : Row) (x : X) → decode r ≡ Some x → p r ≡ q x) → (rows : List Row)
-    → filter_map decode (filter p rows) ≡ filter q (filter_map decode rows)
-typed-filter decode p q same [] = refl
-typed-filter {X} decode p q same (r ∷ rows) = go (decode r) refl (p r) refl (typed-filter decode p q same rows)
-  where
-    go : (o : Option X) → decode r ≡ o → (b : Bool) → p r ≡ b → filter_map decode (filter p rows) ≡ filter q (filter_map decode rows)
-        → filter_map decode (cond b (r ∷ filter p rows) (filter p rows)) ≡ filter q (filter_map decode (r ∷ rows))
-    go None e true f more = rw e more
-    go None e false f more = rw e more
-    go (Some x) e true f more = rw (e, (sym (same r x e) ∙ f)) (ap (λ l. x ∷ l) more)
-    go (Some x) e false f more = rw (e, (sym (same r x e) ∙ f)) more
-
-pub typed-push : {X : Type 0} (decode : Row → Option X) (rows : List Row) (new : Row) (x : X) → decode new ≡ Some x → filter_map decode (rows ++ new ∷ []) ≡ filter_map decode rows ++ x ∷ []
-typed-push decode [] new x e = rw e refl
-typed-push {X} decode (r ∷ rows) new x e = go (decode r) refl (typed-push decode rows new x e)
-  where
-    go : (o : Option X) → decode r ≡ o → filter_map decode (rows ++ new ∷ []) ≡ filter_map decode rows ++ x ∷ [] → filter_map decode (r ∷ rows ++ new ∷ []) ≡ filter_map decode (r ∷ rows) ++ x ∷ []
-    go None f more = rw f more
-    go (Some y) f more = rw f (ap (λ l. y ∷ l) more)

@@ -1,24 +1,18 @@
 -- A table that all units share, seen by one unit. The unit is the first column of its key.
 use Rattle.std.specs.{Cmp.{IsTotalOrder}, FinMap.{slice_cmp-IsAntisymmetric, nat_cmp-IsAntisymmetric}, List.{AllByRecursion}}
-use Rattle.std.proofs.Common.{◌≡◌, ◌≢◌, ℕ, Bool, true, false, List, [], ◌∷◌, ◌++◌, map, filter, refl, sym, ap, ◌∙◌, subst, Ordering, Less, Equal, Greater, is_eq, true≢false}
+use Rattle.std.proofs.Common.{◌≡◌, ◌≢◌, ℕ, Bool, true, false, List, [], ◌∷◌, ◌++◌, map, filter, refl, sym, ap, ◌∙◌, subst, Ordering, Less, Equal, is_eq}
 use Rattle.std.proofs.lemmas.{Bool.{false_from_ne_true}, Cmp.{tied_itself, alike_right}}
 use Rattle.sqlite_keyed.proofs.ListLemmas.{all-filter, all-append}
 use Rattle.sqlite_value.specs.{Order.{Row, column, value_cmp, bytes}, declared.value.Value.TheVariants.{Text}}
 use Rattle.sqlite_value.proofs.OrderLemmas.{value_cmp_total, value_cmp-Text}
-use Rattle.plant_columns.{specs.{Kept.{taken_out, by_columns, kept, is_of}, Tidy.{AreRows, IsTidy}}, proofs.public.Bridge.{put_is, IsInOrder-rising}}
-use Rattle.plant_columns.proofs.public.Joins.{strict-sort}
-use Rattle.plant_columns.proofs.public.Kept.{kept-put, kept-put_other, kept-out, kept-out_other, no_ties-out, no_ties-put, read-put, read-out}
+use Rattle.plant_columns.{specs.{Kept.{taken_out, by_columns, kept, is_of}, Tidy.{AreRows, IsTidy}}, proofs.public.Bridge.{put_is}}
+use Rattle.plant_columns.proofs.public.Kept.{kept-put, kept-put_other, kept-out, kept-out_other, no_ties-out, no_ties-put, read-put, read-out, strict-sort}
 use Rattle.plant_columns.proofs.public.Keys.{by_columns_total, then_tied}
 use Rattle.sqlite_trees.specs.Tree.{IsAscending}
-use Rattle.plant_types.{specs.KeyedRows.{put_row, remove_row, IsInOrder}, proofs.public.Halves.{left}}
-
-equal_when : (o : Ordering) → is_eq o ≡ true → o ≡ Equal
-equal_when Less h = absurd (true≢false (sym h))
-equal_when Equal h = refl
-equal_when Greater h = absurd (true≢false (sym h))
+use Rattle.plant_types.{specs.KeyedRows.{put_row, remove_row}, proofs.public.{Halves.{left}, KeyedRowLaws.{tied}}}
 
 same_text : (a b : List ℕ) → is_eq (value_cmp (Text a) (Text b)) ≡ true → a ≡ b
-same_text a b h = slice_cmp-IsAntisymmetric nat_cmp-IsAntisymmetric a b (sym (value_cmp-Text a b) ∙ equal_when _ h)
+same_text a b h = slice_cmp-IsAntisymmetric nat_cmp-IsAntisymmetric a b (sym (value_cmp-Text a b) ∙ tied _ _ h refl)
 
 module _ (ks : List ℕ) where
   abbrev pub cmp : Row → Row → Ordering
@@ -27,8 +21,8 @@ module _ (ks : List ℕ) where
   -- rows of two units have two keys
   apart_units : (u unit : List ℕ) (x y : Row) → column x 1 ≡ Text u → unit ≢ u → is_of unit y ≡ true → is_eq (by_columns (1 ∷ ks) x y) ≡ false
   apart_units u unit x y at other h = false_from_ne_true _ (λ tie.
-      let first : value_cmp (column x 1) (column y 1) ≡ Equal = equal_when _ (left _ _ (sym (then_tied (value_cmp (column x 1) (column y 1)) (by_columns ks x y)) ∙ tie)) in
-      let next : value_cmp (column x 1) (Text unit) ≡ Equal = sym (alike_right value_cmp_total (column y 1) (Text unit) (column x 1) (equal_when _ h)) ∙ first in
+      let first : value_cmp (column x 1) (column y 1) ≡ Equal = tied _ _ (left _ _ (sym (then_tied (value_cmp (column x 1) (column y 1)) (by_columns ks x y)) ∙ tie)) refl in
+      let next : value_cmp (column x 1) (Text unit) ≡ Equal = sym (alike_right value_cmp_total (column y 1) (Text unit) (column x 1) (tied _ _ h refl)) ∙ first in
       other (sym (same_text u unit (ap is_eq (subst (λ v. value_cmp v (Text unit) ≡ Equal) at next)))))
 
   not_of : (u unit : List ℕ) (x : Row) → column x 1 ≡ Text u → unit ≢ u → is_of unit x ≡ false
@@ -92,9 +86,6 @@ module _ (ks : List ℕ) where
       -- a unit's rows are in the order of their keys
       pub rising : (u : List ℕ) (rows : List Row) → IsTidy Wf (1 ∷ ks) rows → IsAscending (λ a b. R (key a) (key b) ≡ Less) (content u rows)
       rising u rows tidy = rise u _ (all_of u rows tidy.each) (strict-sort (by_columns (1 ∷ ks)) (by_columns_total (1 ∷ ks)) (filter (is_of u) rows) (no_ties-out (by_columns (1 ∷ ks)) (by_columns_total (1 ∷ ks)) (is_of u) rows tidy.apart))
-
-      pub in_order : (u : List ℕ) (rows : List Row) → IsTidy Wf (1 ∷ ks) rows → IsInOrder R key (content u rows)
-      in_order u rows tidy = IsInOrder-rising R key _ (rising u rows tidy)
 
       pub put_mine : (u : List ℕ) (x : Row) (rows : List Row) → column x 1 ≡ Text u → Wf x → IsTidy Wf (1 ∷ ks) rows
           → content u (taken_out (by_columns (1 ∷ ks)) x rows ++ x ∷ []) ≡ put_row R key (read x) (content u rows)

@@ -3,7 +3,6 @@ pub mod Kept
 pub mod Keys
 pub mod Laws
 pub mod Bridge
-pub mod Joins
 pub mod Asking
 pub mod Shapes
 pub mod Inserted

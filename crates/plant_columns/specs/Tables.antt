@@ -1,5 +1,5 @@
 -- The tables that all units share, each by its shape, and the schema.
-use Rattle.std.specs.{Ordering.{nat_cmp}, Prelude.{List, Some, [], codes, false, suc, true, ℕ, ◌∷◌, ◌≡◌}}
+use Rattle.std.specs.{Ordering.{nat_cmp}, Prelude.{List, Some, [], codes, false, map, suc, take, true, ℕ, ◌++◌, ◌∷◌, ◌≡◌}}
 use Rattle.sqlite.specs.{Effect.{Database}, Kind.TheVariants.{Integer, Text as TextKind}, Schema.{Schema}, Table.{Table}, Tree.{Trees}}
 use Rattle.sqlite_schema.specs.declared.schema.{Column.{Column}, Index.{Index}}
 use Rattle.sqlite_value.specs.{Order.{Row, bytes, column}, declared.value.Value.TheVariants.{Null, Text}}
@@ -257,89 +257,26 @@ schema_no = 2
 abbrev pub office_row : Name → Row
 office_row admin = number 1 ∷ Null ∷ number schema_no ∷ Text admin ∷ []
 
-abbrev pub key_index : {X K : Type 0} → List ℕ → Shape X K → Index
-key_index name s = index_of name (suc s.tree) s.tree (1 ∷ s.keys) true
+-- the index that a table's key makes
+abbrev pub key_index : {X K : Type 0} → Shape X K → Index
+key_index s = index_of (codes "sqlite_autoindex_" ++ s.name ++ codes "_1") (suc s.tree) s.tree (1 ∷ s.keys) true
 
 abbrev pub by_person : Index
 by_person = index_of (codes "grants_by_person") 19 grant_shape.tree (2 ∷ 1 ∷ []) false
 
--- after each of the statements that make it
+-- the tables in the order in which they are made
+abbrev pub all_kept : List Kept
+all_kept = UnitKept ∷ GrantKept ∷ AlarmKept ∷ ShelfKept ∷ BandKept ∷ CellKept ∷ EventKept ∷ RecordKept ∷ ChangeKept ∷ []
+
 abbrev pub no_schema : Schema
 no_schema = record { tables = []; indexes = []; views = [] }
 
-abbrev pub office_schema : Schema
-office_schema = record { tables = office_table ∷ []; indexes = []; views = [] }
-
-abbrev pub units_schema : Schema
-units_schema = record { tables = office_table ∷ table_in unit_shape ∷ []; indexes = key_index (codes "sqlite_autoindex_units_1") unit_shape ∷ []; views = [] }
-
-abbrev pub grants_schema : Schema
-grants_schema = record { tables = office_table ∷ table_in unit_shape ∷ table_in grant_shape ∷ []; indexes = key_index (codes "sqlite_autoindex_units_1") unit_shape ∷ key_index (codes "sqlite_autoindex_grants_1") grant_shape ∷ []; views = [] }
-
-abbrev pub alarms_schema : Schema
-alarms_schema = record {
-  tables = office_table ∷ table_in unit_shape ∷ table_in grant_shape ∷ table_in alarm_shape ∷ [];
-  indexes = key_index (codes "sqlite_autoindex_units_1") unit_shape ∷ key_index (codes "sqlite_autoindex_grants_1") grant_shape ∷ key_index (codes "sqlite_autoindex_alarms_1") alarm_shape ∷ [];
-  views = [];
-}
-
-abbrev pub shelves_schema : Schema
-shelves_schema = record {
-  tables = office_table ∷ table_in unit_shape ∷ table_in grant_shape ∷ table_in alarm_shape ∷ table_in shelf_shape ∷ [];
-  indexes = key_index (codes "sqlite_autoindex_units_1") unit_shape ∷ key_index (codes "sqlite_autoindex_grants_1") grant_shape ∷ key_index (codes "sqlite_autoindex_alarms_1") alarm_shape ∷ key_index (codes "sqlite_autoindex_shelves_1") shelf_shape ∷ [];
-  views = [];
-}
-
-abbrev pub bands_schema : Schema
-bands_schema = record {
-  tables = office_table ∷ table_in unit_shape ∷ table_in grant_shape ∷ table_in alarm_shape ∷ table_in shelf_shape ∷ table_in band_shape ∷ [];
-  indexes = key_index (codes "sqlite_autoindex_units_1") unit_shape ∷ key_index (codes "sqlite_autoindex_grants_1") grant_shape ∷ key_index (codes "sqlite_autoindex_alarms_1") alarm_shape ∷ key_index (codes "sqlite_autoindex_shelves_1") shelf_shape
-      ∷ key_index (codes "sqlite_autoindex_bands_1") band_shape ∷ [];
-  views = [];
-}
-
-abbrev pub cells_schema : Schema
-cells_schema = record {
-  tables = office_table ∷ table_in unit_shape ∷ table_in grant_shape ∷ table_in alarm_shape ∷ table_in shelf_shape ∷ table_in band_shape ∷ table_in cell_shape ∷ [];
-  indexes = key_index (codes "sqlite_autoindex_units_1") unit_shape ∷ key_index (codes "sqlite_autoindex_grants_1") grant_shape ∷ key_index (codes "sqlite_autoindex_alarms_1") alarm_shape ∷ key_index (codes "sqlite_autoindex_shelves_1") shelf_shape
-      ∷ key_index (codes "sqlite_autoindex_bands_1") band_shape ∷ key_index (codes "sqlite_autoindex_cells_1") cell_shape ∷ [];
-  views = [];
-}
-
-abbrev pub events_schema : Schema
-events_schema = record {
-  tables = office_table ∷ table_in unit_shape ∷ table_in grant_shape ∷ table_in alarm_shape ∷ table_in shelf_shape ∷ table_in band_shape ∷ table_in cell_shape ∷ table_in event_shape ∷ [];
-  indexes = key_index (codes "sqlite_autoindex_units_1") unit_shape ∷ key_index (codes "sqlite_autoindex_grants_1") grant_shape ∷ key_index (codes "sqlite_autoindex_alarms_1") alarm_shape ∷ key_index (codes "sqlite_autoindex_shelves_1") shelf_shape
-      ∷ key_index (codes "sqlite_autoindex_bands_1") band_shape ∷ key_index (codes "sqlite_autoindex_cells_1") cell_shape ∷ key_index (codes "sqlite_autoindex_events_1") event_shape ∷ [];
-  views = [];
-}
-
-abbrev pub records_schema : Schema
-records_schema = record {
-  tables = office_table ∷ table_in unit_shape ∷ table_in grant_shape ∷ table_in alarm_shape ∷ table_in shelf_shape ∷ table_in band_shape ∷ table_in cell_shape ∷ table_in event_shape ∷ table_in record_shape ∷ [];
-  indexes = key_index (codes "sqlite_autoindex_units_1") unit_shape ∷ key_index (codes "sqlite_autoindex_grants_1") grant_shape ∷ key_index (codes "sqlite_autoindex_alarms_1") alarm_shape ∷ key_index (codes "sqlite_autoindex_shelves_1") shelf_shape
-      ∷ key_index (codes "sqlite_autoindex_bands_1") band_shape ∷ key_index (codes "sqlite_autoindex_cells_1") cell_shape ∷ key_index (codes "sqlite_autoindex_events_1") event_shape
-      ∷ key_index (codes "sqlite_autoindex_records_1") record_shape ∷ [];
-  views = [];
-}
-
-abbrev pub changes_schema : Schema
-changes_schema = record {
-  tables = office_table ∷ table_in unit_shape ∷ table_in grant_shape ∷ table_in alarm_shape ∷ table_in shelf_shape ∷ table_in band_shape ∷ table_in cell_shape ∷ table_in event_shape ∷ table_in record_shape ∷ table_in change_shape ∷ [];
-  indexes = key_index (codes "sqlite_autoindex_units_1") unit_shape ∷ key_index (codes "sqlite_autoindex_grants_1") grant_shape ∷ key_index (codes "sqlite_autoindex_alarms_1") alarm_shape ∷ key_index (codes "sqlite_autoindex_shelves_1") shelf_shape
-      ∷ key_index (codes "sqlite_autoindex_bands_1") band_shape ∷ key_index (codes "sqlite_autoindex_cells_1") cell_shape ∷ key_index (codes "sqlite_autoindex_events_1") event_shape
-      ∷ key_index (codes "sqlite_autoindex_records_1") record_shape ∷ key_index (codes "sqlite_autoindex_changes_1") change_shape ∷ [];
-  views = [];
-}
+-- once the office's table and the first n of these are made
+abbrev pub schema_with : ℕ → Schema
+schema_with n = record { tables = office_table ∷ map (λ i. table_in (shape i)) (take n all_kept); indexes = map (λ i. key_index (shape i)) (take n all_kept); views = [] }
 
 abbrev pub books_schema : Schema
-books_schema = record {
-  tables = office_table ∷ table_in unit_shape ∷ table_in grant_shape ∷ table_in alarm_shape ∷ table_in shelf_shape ∷ table_in band_shape ∷ table_in cell_shape ∷ table_in event_shape ∷ table_in record_shape ∷ table_in change_shape ∷ [];
-  indexes = key_index (codes "sqlite_autoindex_units_1") unit_shape ∷ key_index (codes "sqlite_autoindex_grants_1") grant_shape ∷ key_index (codes "sqlite_autoindex_alarms_1") alarm_shape ∷ key_index (codes "sqlite_autoindex_shelves_1") shelf_shape
-      ∷ key_index (codes "sqlite_autoindex_bands_1") band_shape ∷ key_index (codes "sqlite_autoindex_cells_1") cell_shape ∷ key_index (codes "sqlite_autoindex_events_1") event_shape
-      ∷ key_index (codes "sqlite_autoindex_records_1") record_shape ∷ key_index (codes "sqlite_autoindex_changes_1") change_shape ∷ by_person ∷ [];
-  views = [];
-}
+books_schema = record (schema_with 9) { indexes = map (λ i. key_index (shape i)) all_kept ++ by_person ∷ [] }
 
 -- a database with this schema that only these statements have written
 abbrev pub AreBooks : Database → Type 0

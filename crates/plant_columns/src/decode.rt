@@ -54,10 +54,9 @@ pub fn wide(row: &Row, at: usize) -> Result<u64, Error>
     ensures cause { IfErr result IsNoMemory }
 {
     match row.get_ref(at)? {
-        ValueRef::Int(found) => match u64::try_from(found) {
-            Ok(number) => Ok(number),
-            Err(_) => Err(Error::IntegralValueOutOfRange(at)),
-        },
+        ValueRef::Int(found) => u64::try_from(found).map_err(|_| Error::IntegralValueOutOfRange(
+            at,
+        )),
         other => Err(Error::InvalidColumnType(at, Type::of(other))),
     }
 }
@@ -66,30 +65,21 @@ pub fn number(row: &Row, at: usize) -> Result<u32, Error>
     ensures value { ReadsColumn codes.number row.now at result }
     ensures cause { IfErr result IsNoMemory }
 {
-    match u32::try_from(wide(row, at)?) {
-        Ok(number) => Ok(number),
-        Err(_) => Err(Error::IntegralValueOutOfRange(at)),
-    }
+    u32::try_from(wide(row, at)?).map_err(|_| Error::IntegralValueOutOfRange(at))
 }
 
 fn small(row: &Row, at: usize) -> Result<u8, Error>
     ensures value { ReadsColumn codes.number row.now at result }
     ensures cause { IfErr result IsNoMemory }
 {
-    match u8::try_from(number(row, at)?) {
-        Ok(small) => Ok(small),
-        Err(_) => Err(Error::IntegralValueOutOfRange(at)),
-    }
+    u8::try_from(number(row, at)?).map_err(|_| Error::IntegralValueOutOfRange(at))
 }
 
 fn moment_of(seconds: u64, at: usize) -> Result<Moment, Error>
     ensures value { IfOk result (λ m. m ≡ seconds) }
     ensures cause { IfErr result IsNoMemory }
 {
-    match Moment::of_seconds(seconds) {
-        Some(moment) => Ok(moment),
-        None => Err(Error::IntegralValueOutOfRange(at)),
-    }
+    Moment::of_seconds(seconds).ok_or(Error::IntegralValueOutOfRange(at))
 }
 
 pub fn moment(row: &Row, at: usize) -> Result<Moment, Error>
@@ -113,10 +103,7 @@ fn seconds(row: &Row, at: usize) -> Result<Seconds, Error>
     ensures value { ReadsColumn codes.number row.now at result }
     ensures cause { IfErr result IsNoMemory }
 {
-    match Seconds::new(wide(row, at)?) {
-        Some(seconds) => Ok(seconds),
-        None => Err(Error::IntegralValueOutOfRange(at)),
-    }
+    Seconds::new(wide(row, at)?).ok_or(Error::IntegralValueOutOfRange(at))
 }
 
 fn open_small(row: &Row, at: usize) -> Result<Option<u8>, Error>
@@ -143,10 +130,7 @@ fn quota(row: &Row, at: usize) -> Result<Quota, Error>
     ensures value { ReadsColumn codes.number row.now at result }
     ensures cause { IfErr result IsNoMemory }
 {
-    match Quota::new(wide(row, at)?) {
-        Some(quota) => Ok(quota),
-        None => Err(Error::IntegralValueOutOfRange(at)),
-    }
+    Quota::new(wide(row, at)?).ok_or(Error::IntegralValueOutOfRange(at))
 }
 
 pub fn flag(row: &Row, at: usize) -> Result<bool, Error>
@@ -183,10 +167,7 @@ fn event_number(row: &Row, at: usize) -> Result<Number, Error>
     ensures value { ReadsColumn codes.number row.now at result }
     ensures cause { IfErr result IsNoMemory }
 {
-    match Number::new(wide(row, at)?) {
-        Some(number) => Ok(number),
-        None => Err(Error::IntegralValueOutOfRange(at)),
-    }
+    Number::new(wide(row, at)?).ok_or(Error::IntegralValueOutOfRange(at))
 }
 
 /// A row that a query shows whole.

@@ -1,12 +1,12 @@
 -- Sessions over connections, one after the other.
-use Rattle.std.specs.Io.KnownBytes.{Appends}
+use Rattle.std.{specs.Io.KnownBytes.{Appends}, proofs.KnownBytes.{Appends-trans}}
 use Rattle.std.proofs.Common.{◌≡◌, ℕ, ◌+◌, List, [], ◌∷◌, ◌++◌, length, take, Bool, true, Option, None, Some, refl, sym, subst, inl, inr}
 use Rattle.plant_model.specs.declared.{call.Call.{Call}, reply.Answer.{Answer}}
 use Rattle.plant_books.specs.Contents.{Content}
 use Rattle.plant_wire.specs.{Causes.{cause_text}, Marks.{answers_of, calls_of, last_marks, last_text, out_of}, Ran.{Ran}}
 use Rattle.plant_wire.specs.{Session.{IsCutShort, IsSession}, Step.{AnswersFront, ServesBroken, ServesPart}, declared.reads.End.{End}}
 use Rattle.plant_wire.specs.declared.reads.End.TheVariants.{BrokenInput, Closed, Fault, ReadFailed, WriteFailed}
-use Rattle.plant_wire.proofs.public.{Growing.{Appends-append}, Running.{ran_joins}}
+use Rattle.plant_wire.proofs.public.Running.{ran_joins}
 use Rattle.plant_connections.specs.Connections.{IsConnection, Tells, line_of}
 
 module _ {o o' : Option (List ℕ)} {ran : List Call → List Answer → Type 0} where
@@ -50,7 +50,7 @@ pub tells_more : (o o' o'' : Option (List ℕ)) (ends : List End) (count : ℕ) 
 tells_more o o' o'' ends count is end (text, lines, h) (part, k) =
     let line = take part (line_of (length ends + 1) end) in
     let k' = subst (λ (i : ℕ). Appends o' o'' (take part (line_of (i + 1) end))) (sym is) k in
-    (text ++ line, (text, part, lines, refl), Appends-append o o' o'' text line h k')
+    (text ++ line, (text, part, lines, refl), Appends-trans o o' o'' text line h k')
 
 -- what was done before a connection, and then over it
 pub ran_more : (held mid left : Content → Type 0) (premise_first premise : Type 0) (before between after : ℕ) → (premise → premise_first)

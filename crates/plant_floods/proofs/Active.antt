@@ -1,8 +1,8 @@
 -- The alarms that are active, one event after another.
-use Rattle.std.specs.{BTreeMap.{is_at}, BTreeSet.{UpdatesBy, contains}, Cmp.{eq_by_cmp_equiv, Lexicographic.{nat_list_cmp_total}}}
-use Rattle.std.specs.List.{list_any, range_with_len}
-use Rattle.std.proofs.Common.{IfOk, [], ap, append-nil, arith, cond, false, get_or, length, refl, subst, sym, take, true, ◌*◌, ◌++◌, ◌+◌, ◌-◌, ◌/◌, ◌<◌, ◌∙◌, ◌∷◌, ◌≡◌, ◌≤◌, add-zero, lit<, suc, ℕ, Bool, Err, List, Ok, Result, Some, count_by, fold, map, option_map, unwrap_or, ◌||◌, nat_eq, BTreeSet, btree_set_len}
-use Rattle.std.proofs.{Math.{ListN.{replicate}, Nat.{div-mul-le_self, lt-mul-div-succ}}, lemmas.Bool.Decides.{leb_tells, eqb_tells}}
+use Rattle.std.specs.{BTreeSet.{UpdatesBy, contains}, Cmp.{eq_by_cmp_equiv, Lexicographic.{nat_list_cmp_total}}}
+use Rattle.std.specs.List.{range_with_len}
+use Rattle.std.proofs.Common.{IfOk, [], ap, append-nil, arith, cond, false, get_or, length, refl, subst, sym, take, true, ◌*◌, ◌++◌, ◌+◌, ◌-◌, ◌/◌, ◌<◌, ◌∙◌, ◌∷◌, ◌≡◌, ◌≤◌, add-zero, ℕ, Bool, Err, List, Ok, Result, Some, count_by, fold, map, option_map, unwrap_or, ◌||◌, BTreeSet}
+use Rattle.std.proofs.{Math.{ListN.{replicate}}}
 use Rattle.std.proofs.lemmas.List.FromFn.{get_or-map-range_with_len, length-map-range_with_len, length-range_with_len}
 use Rattle.std.proofs.lemmas.List.{ext_get_or, length-take-le, length-map, map-append, take_more}
 use Rattle.std.proofs.lemmas.{List.Sums.{count_by-le-length, count_by_more_no, count_by_more_yes}, Simd.{splat_is_map}}
@@ -41,14 +41,6 @@ moved s n es e k b own new moves is are a =
     ∙ (λ i. cond (same_name a e.tag) (cond (sym moves i) (is_act e) (is_active (of_alarm a es))) (is_active (of_alarm a es)))
     ∙ sym (active_of a es e)
 
--- any other event leaves the set
-pub unmoved : (s : BTreeSet Name) (es : List Event) (e : Event) → is_act e ≡ false → is_rtn e ≡ false → AreActive s es → AreActive s (es ++ e ∷ [])
-unmoved s es e act rtn are a =
-    are a
-    ∙ elim (same_name a e.tag) as (λ b. is_active (of_alarm a es) ≡ cond b (is_active (of_alarm a es)) (is_active (of_alarm a es))) [ true ↦ refl | false ↦ refl ]
-    ∙ (λ i. cond (same_name a e.tag) (cond (sym act i || sym rtn i) (sym act i) (is_active (of_alarm a es))) (is_active (of_alarm a es)))
-    ∙ sym (active_of a es e)
-
 -- an ACT of an alarm that is active leaves the set too
 pub still_active : (s : BTreeSet Name) (es : List Event) (e : Event) → is_act e ≡ true → contains name_cmp s e.tag ≡ true → AreActive s es → AreActive s (es ++ e ∷ [])
 still_active s es e act has are a =
@@ -59,11 +51,6 @@ still_active s es e act has are a =
     ] refl
     ∙ (λ i. cond (same_name a e.tag) (cond (sym act i || is_rtn e) (sym act i) (is_active (of_alarm a es))) (is_active (of_alarm a es)))
     ∙ sym (active_of a es e)
-
-pub none_active : (s : BTreeSet Name) → btree_set_len s ≡ 0 → AreActive s []
-none_active s none a = elim s.keys as (λ ks. length ks ≡ 0 → list_any (is_at (name_cmp a)) ks ≡ false) [ [] ↦ λ _. refl | k ∷ ks ↦ λ e. absurd (no_more (length ks) e) ] none where
-  no_more : (n : ℕ) → suc n ≡ 0 → ⊥
-  no_more n e = omega (arith, e)
 
 -- the events up to one, and that one
 taken_more : (events : List Event) (i : ℕ) (e : Event) → i < length events → e ≡ get_or events i e → take (i + 1) events ≡ take i events ++ e ∷ []
@@ -135,13 +122,6 @@ fold_mapped p a (e ∷ es) = fold_mapped p (a + cond (p e.moment) 1 0) es
 
 count_mapped : (p : ℕ → Bool) (es : List Event) → count_by p (map (λ e. e.moment) es) ≡ count_by (λ e. p e.moment) es
 count_mapped p es = fold_mapped p 0 es
-
--- the period of a moment: its own, and no other
-in_own : (start m i : ℕ) → start ≤ m → is_in_period (start + 600 * i) m ≡ nat_eq i ((m - start) / 600)
-in_own start m i le =
-    let low : (m - start) / 600 * 600 ≤ m - start = div-mul-le_self (m - start) 600 in
-    let high : m - start < 600 * ((m - start) / 600 + 1) = lt-mul-div-succ (m - start) (lit< tt) in
-    grind (arith, low, high, leb_tells (start + 600 * i) m, leb_tells (suc m) (start + 600 * i + 600), eqb_tells i ((m - start) / 600))
 
 pub few_moments : (es : List Event) (moments : List ℕ) → moments ≡ map (λ e. e.moment) (activations_of_all es) → length es ≤ 4294967295 → length moments ≤ 4294967295
 few_moments es moments is few =

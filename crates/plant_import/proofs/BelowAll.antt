@@ -1,28 +1,19 @@
 -- The new rows of a file in rising number stand below each row that follows.
 use Rattle.std.specs.{Borrow.{Bor}, List.{list_all}}
-use Rattle.std.proofs.Common.{List, [], ap, drop, get_or, length, refl, subst, sym, ◌++◌, ◌+◌, ◌<◌, ◌∙◌, ◌∷◌, ◌≡◌, ℕ, BTreeMap, IsTrue, MatchOption, None, Option, Some, if◌then◌else◌, nat_lt, not, true, ◌&&◌}
-use Rattle.std.proofs.lemmas.{Bool.{lt-ltb, and_parts}, List.{append-nil, drop_more}}
+use Rattle.std.proofs.Common.{List, [], ap, drop, get_or, length, refl, subst, sym, ◌++◌, ◌+◌, ◌<◌, ◌∙◌, ◌∷◌, ◌≡◌, ℕ, false, BTreeMap, IsTrue, MatchOption, None, Option, Some, nat_lt, not, true, ◌&&◌}
+use Rattle.std.proofs.lemmas.{Bool.{lt-ltb}, List.{append-nil, drop_more}}
 use Rattle.plant_alarm.specs.declared.event.Event.{Event}
 use Rattle.plant_import.specs.{Numbers.{AreByNumber, AreNumbered, event_number}, Relation.{AreNearest, IsLast, below, from}}
 use Rattle.plant_import.{specs.declared.relation.Nearest.{Nearest}, proofs.ByNumber.{put_in}}
+use Rattle.plant_import.proofs.public.EachLaws.{each_from_all, each_weaker, filter_all, filter_none}
 use Rattle.plant_import.proofs.public.Placed.{AllBelow, EachBehind, Rises, behind_end, put_after, rises_of}
 
--- all are below a number
-pub below_all : (n : ℕ) (es : List Event) → list_all (λ e. nat_lt e.seq n) es ≡ true → below n es ≡ es
-below_all n [] h = refl
-below_all n (x ∷ xs) h =
-    let parts = and_parts (nat_lt x.seq n) (list_all (λ e. nat_lt e.seq n) xs) h in
-    ap (λ b. if b then x ∷ below n xs else below n xs) parts.0 ∙ ap (λ l. x ∷ l) (below_all n xs parts.1)
-
-pub from_none : (n : ℕ) (es : List Event) → list_all (λ e. nat_lt e.seq n) es ≡ true → from n es ≡ []
-from_none n [] h = refl
-from_none n (x ∷ xs) h =
-    let parts = and_parts (nat_lt x.seq n) (list_all (λ e. nat_lt e.seq n) xs) h in
-    ap (λ b. if not b then x ∷ from n xs else from n xs) parts.0 ∙ from_none n xs parts.1
-
--- so the last is the nearest, and there is none from the number on
+-- where all are below a number, the last is the nearest, and there is none from the number on
 pub nearest_below : (n : ℕ) (es : List Event) (last : Option (Bor Event)) → list_all (λ e. nat_lt e.seq n) es ≡ true → IsLast es last → AreNearest es n (record { below = last; from = None })
-nearest_below n es last h is = (subst (λ (l : List Event). IsLast l last) (sym (below_all n es h)) is, rw (from_none n es h) refl)
+nearest_below n es last h is =
+    let low = each_from_all (λ e. nat_lt e.seq n) es h in
+    let none : from n es ≡ [] = filter_none (λ e. not (nat_lt e.seq n)) es (each_weaker (λ e. nat_lt e.seq n ≡ true) (λ e. not (nat_lt e.seq n) ≡ false) (λ e t. ap not t) es low) in
+    (subst (λ (l : List Event). IsLast l last) (sym (filter_all (λ e. nat_lt e.seq n) es low)) is, rw none refl)
 
 all_told : (n : ℕ) (es : List Event) → AllBelow event_number n es → list_all (λ e. nat_lt e.seq n) es ≡ true
 all_told n [] h = refl

@@ -1,12 +1,12 @@
 -- Events by their numbers in a map: one more put, and those on both sides of a number.
-use Rattle.std.specs.{BTreeMap.{insert_entry, Range.{entries_between}}, Cmp.{ranked}, FinMap.Entries.{by_order}, List.{list_any}}
+use Rattle.std.specs.{BTreeMap.{insert_entry, Range.{entries_between, range_contains}}, Cmp.{ranked}, FinMap.Entries.{by_order}, List.{list_any}}
 use Rattle.std.specs.{Ordering.{match_ordering}, declared.ops.Bound.TheVariants.{Excluded, Included, Unbounded}}
 use Rattle.std.proofs.Common.{List, [], ap, arith, refl, subst, sym, ◌++◌, ◌∙◌, ◌∷◌, is_eq, is_le, nat_cmp, Bool, Some, None, false, if◌then◌else◌, length, map, nat_lt, not, slice_get, true, ℕ, ◌-◌, ◌<◌, ◌≡◌, ◌≤◌, ◌&&◌, ◌||◌, suc, Equal, Greater, Less}
-use Rattle.std.proofs.lemmas.{Bool.{false≢true, le-ltb, lt-ltb, ltb-false, ltb-true, or_parts}, List.{map-append}}
+use Rattle.std.proofs.lemmas.{Bool.{not-true, false≢true, le-ltb, lt-ltb, ltb-false, ltb-true, or_parts}, List.{map-append, Elements.{filter-append}}}
 use Rattle.plant_alarm.specs.declared.event.Event.{Event}
 use Rattle.plant_import.specs.{Merging.{IsRising, out_of_order}, Numbers.{event_number, has_number}, Relation.{below, from}}
 use Rattle.plant_import.proofs.public.Nearest.{AreParts, order_above, order_below}
-use Rattle.plant_import.proofs.public.Risings.{Before, Each, Rising, each_weaker, is_rising, rising_of}
+use Rattle.plant_import.proofs.public.{EachLaws.{each_filter, filter_all, filter-of_map, filter_none, filter_parts, Each, each_weaker}, Risings.{Before, Rising, is_rising, rising_of}}
 use Rattle.plant_types.specs.KeyedRows.{put_row}
 
 abbrev pub numbered : List Event → List (ℕ × Event)
@@ -48,33 +48,14 @@ is_from n m = by (is_le (nat_cmp n m)) (nat_lt m n) (is_below n m)
     by false b e = ap not e
 
 pub entries_below : (n : ℕ) (es : List Event) → entries_between nat_cmp Unbounded (Excluded n) (numbered es) ≡ numbered (below n es)
-entries_below n [] = refl
-entries_below n (x ∷ xs) =
-    ap (λ b. if b then (x.seq, x) ∷ entries_between nat_cmp Unbounded (Excluded n) (numbered xs) else entries_between nat_cmp Unbounded (Excluded n) (numbered xs)) (is_below n x.seq)
-    ∙ elim (nat_lt x.seq n) as (λ b. (if b then (x.seq, x) ∷ entries_between nat_cmp Unbounded (Excluded n) (numbered xs) else entries_between nat_cmp Unbounded (Excluded n) (numbered xs))
-    ≡ numbered (if b then x ∷ below n xs else below n xs)) [
-      | true ↦ ap (λ l. (x.seq, x) ∷ l) (entries_below n xs)
-      | false ↦ entries_below n xs
-    ]
+entries_below n es = filter-of_map (λ e. (e.seq, e)) (λ e. range_contains nat_cmp Unbounded (Excluded n) e.0) (λ e. nat_lt e.seq n) (λ e. is_below n e.seq) es
 
 pub entries_from : (n : ℕ) (es : List Event) → entries_between nat_cmp (Included n) Unbounded (numbered es) ≡ numbered (from n es)
-entries_from n [] = refl
-entries_from n (x ∷ xs) =
-    ap (λ b. if b then (x.seq, x) ∷ entries_between nat_cmp (Included n) Unbounded (numbered xs) else entries_between nat_cmp (Included n) Unbounded (numbered xs)) (is_from n x.seq)
-    ∙ elim (nat_lt x.seq n) as (λ b. (if not b then (x.seq, x) ∷ entries_between nat_cmp (Included n) Unbounded (numbered xs) else entries_between nat_cmp (Included n) Unbounded (numbered xs))
-    ≡ numbered (if not b then x ∷ from n xs else from n xs)) [
-      | true ↦ entries_from n xs
-      | false ↦ ap (λ l. (x.seq, x) ∷ l) (entries_from n xs)
-    ]
+entries_from n es = filter-of_map (λ e. (e.seq, e)) (λ e. range_contains nat_cmp (Included n) Unbounded e.0) (λ e. not (nat_lt e.seq n)) (λ e. is_from n e.seq) es
 
 -- rising events are those below a number and then the others
-none_below : (n : ℕ) (xs : List Event) → Each (λ x. n ≤ x.seq) xs → below n xs ≡ []
-none_below n [] h = refl
-none_below n (x ∷ xs) h = ap (λ b. if b then x ∷ below n xs else below n xs) (le-ltb x.seq n h.0) ∙ none_below n xs h.1
-
-all_from : (n : ℕ) (xs : List Event) → Each (λ x. n ≤ x.seq) xs → from n xs ≡ xs
-all_from n [] h = refl
-all_from n (x ∷ xs) h = ap (λ b. if not b then x ∷ from n xs else from n xs) (le-ltb x.seq n h.0) ∙ ap (λ l. x ∷ l) (all_from n xs h.1)
+not_below : (n : ℕ) (x : Event) → n ≤ x.seq → nat_lt x.seq n ≡ false
+not_below n x = le-ltb x.seq n
 
 whole_is : (n : ℕ) (es : List Event) → Rising es → es ≡ below n es ++ from n es
 whole_is n [] h = refl
@@ -84,23 +65,9 @@ whole_is n (x ∷ xs) h =
       | false ↦ λ f.
           let le : n ≤ x.seq = ltb-false x.seq n f in
           let high = each_weaker (Before x) (λ y. n ≤ y.seq) (λ y b. omega (arith, le, b.0)) xs h.0 in
-          sym (ap (λ l. l ++ x ∷ from n xs) (none_below n xs high) ∙ ap (λ l. x ∷ l) (all_from n xs high))
-    ] refl
-
-low_all : (n : ℕ) (es : List Event) → Each (λ x. x.seq < n) (below n es)
-low_all n [] = tt
-low_all n (x ∷ xs) =
-    elim (nat_lt x.seq n) as (λ b. nat_lt x.seq n ≡ b → Each (λ y. y.seq < n) (if b then x ∷ below n xs else below n xs)) [
-      | true ↦ λ t. (ltb-true x.seq n t, low_all n xs)
-      | false ↦ λ _. low_all n xs
-    ] refl
-
-high_all : (n : ℕ) (es : List Event) → Each (λ x. n ≤ x.seq) (from n es)
-high_all n [] = tt
-high_all n (x ∷ xs) =
-    elim (nat_lt x.seq n) as (λ b. nat_lt x.seq n ≡ b → Each (λ y. n ≤ y.seq) (if not b then x ∷ from n xs else from n xs)) [
-      | true ↦ λ _. high_all n xs
-      | false ↦ λ f. (ltb-false x.seq n f, high_all n xs)
+          let none = each_weaker (λ y. n ≤ y.seq) (λ y. nat_lt y.seq n ≡ false) (not_below n) xs high in
+          sym (ap (λ l. l ++ x ∷ from n xs) (filter_none (λ y. nat_lt y.seq n) xs none)
+          ∙ ap (λ l. x ∷ l) (filter_all (λ y. not (nat_lt y.seq n)) xs (each_weaker (λ y. n ≤ y.seq) (λ y. not (nat_lt y.seq n) ≡ true) (λ y le. ap not (le-ltb y.seq n le)) xs high)))
     ] refl
 
 pub halves : (n : ℕ) (es : List Event) → IsRising es → AreParts es n (below n es) (from n es)
@@ -109,24 +76,18 @@ halves n es h =
     record {
       whole = whole;
       rising = subst (λ (l : List Event). Rising l) whole (rising_of es h);
-      low = low_all n es;
-      high = high_all n es;
+      low = each_weaker (λ x. nat_lt x.seq n ≡ true) (λ x. x.seq < n) (λ x. ltb-true x.seq n) (below n es) (each_filter (λ x. nat_lt x.seq n) es);
+      high = each_weaker (λ x. not (nat_lt x.seq n) ≡ true) (λ x. n ≤ x.seq) (λ x t. ltb-false x.seq n (not-true (nat_lt x.seq n) t)) (from n es) (each_filter (λ x. not (nat_lt x.seq n)) es);
     }
 
 -- two parts of events at a number are those below it and the others
-below_part : (n : ℕ) (xs ys : List Event) → Each (λ x. x.seq < n) xs → Each (λ x. n ≤ x.seq) ys → below n (xs ++ ys) ≡ xs
-below_part n [] ys low high = none_below n ys high
-below_part n (x ∷ xs) ys low high = ap (λ b. if b then x ∷ below n (xs ++ ys) else below n (xs ++ ys)) (lt-ltb x.seq n low.0) ∙ ap (λ l. x ∷ l) (below_part n xs ys low.1 high)
-
-from_part : (n : ℕ) (xs ys : List Event) → Each (λ x. x.seq < n) xs → Each (λ x. n ≤ x.seq) ys → from n (xs ++ ys) ≡ ys
-from_part n [] ys low high = all_from n ys high
-from_part n (x ∷ xs) ys low high = ap (λ b. if not b then x ∷ from n (xs ++ ys) else from n (xs ++ ys)) (lt-ltb x.seq n low.0) ∙ from_part n xs ys low.1 high
-
 pub below_is : (n : ℕ) (es xs ys : List Event) → AreParts es n xs ys → xs ≡ below n es
-below_is n es xs ys p = sym (ap (below n) p.whole ∙ below_part n xs ys p.low p.high)
+below_is n es xs ys p = sym (ap (below n) p.whole ∙ filter_parts (λ x. nat_lt x.seq n) xs ys (each_weaker (λ x. x.seq < n) (λ x. nat_lt x.seq n ≡ true) (λ x. lt-ltb x.seq n) xs p.low) (each_weaker (λ x. n ≤ x.seq) (λ x. nat_lt x.seq n ≡ false) (not_below n) ys p.high))
 
 pub from_is : (n : ℕ) (es xs ys : List Event) → AreParts es n xs ys → ys ≡ from n es
-from_is n es xs ys p = sym (ap (from n) p.whole ∙ from_part n xs ys p.low p.high)
+from_is n es xs ys p = sym (ap (from n) p.whole ∙ filter-append (λ x. not (nat_lt x.seq n)) xs ys
+    ∙ (λ i. filter_none (λ x. not (nat_lt x.seq n)) xs (each_weaker (λ x. x.seq < n) (λ x. not (nat_lt x.seq n) ≡ false) (λ x lt. ap not (lt-ltb x.seq n lt)) xs p.low) i
+    ++ filter_all (λ x. not (nat_lt x.seq n)) ys (each_weaker (λ x. n ≤ x.seq) (λ x. not (nat_lt x.seq n) ≡ true) (λ x le. ap not (le-ltb x.seq n le)) ys p.high) i))
 
 -- an event put among those of other numbers
 either : (p q r : Bool) → (p || (q || r)) ≡ (q || (p || r))
@@ -144,7 +105,7 @@ any_put p e (x ∷ xs) h =
       | Greater ↦ λ _. ap (λ b. p x || b) (any_put p e xs parts.1) ∙ either (p x) (p e) (list_any p xs)
     ] parts.0
 
-each_put : (P : Event → Type 0) (e : Event) (xs : List Event) → P e → Each P xs → Each P (put_in e xs)
+pub each_put : (P : Event → Type 0) (e : Event) (xs : List Event) → P e → Each P xs → Each P (put_in e xs)
 each_put P e [] h k = (h, tt)
 each_put P e (x ∷ xs) h k =
     elim (nat_cmp e.seq x.seq) as (λ o. Each P (by_order o (e ∷ x ∷ xs) (e ∷ xs) (x ∷ put_in e xs))) [

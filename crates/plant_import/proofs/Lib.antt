@@ -4,7 +4,6 @@ mod Places
 mod ReadsRecords
 mod Rows
 mod Merges
-mod Known
 pub mod public
 mod Appended
 mod ByNumber

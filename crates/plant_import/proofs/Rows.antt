@@ -15,36 +15,30 @@ pub record IsTextRow (fields : List (List ℕ)) : Type 0 where
   pub four : length fields ≡ 4
   pub text : list_all is_utf8 fields ≡ true
 
-four_is : (n : ℕ) → n ≡ 4 → (n == 4) ≡ true
-four_is n e = ap (λ m. m == 4) e
-
-four_not : (n : ℕ) → n ≢ 4 → (n == 4) ≡ false
-four_not n h = ne_eqb n 4 h
-
 pub bad_count : (k : ℕ) (fields : List (List ℕ)) → length fields ≢ 4 → row_read k fields ≡ Err FieldCount
 unfolding row_fault
-bad_count k fields h = rw (four_not _ h) refl
+bad_count k fields h = rw (ne_eqb (length fields) 4 h) refl
 
 pub bad_text : (k : ℕ) (fields : List (List ℕ)) → length fields ≡ 4 → list_all is_utf8 fields ≡ false → row_read k fields ≡ Err NotUtf8
 unfolding row_fault
-bad_text k fields four text = rw (four_is _ four, text) refl
+bad_text k fields four text = rw (four, text) refl
 
 pub bad_number : (k : ℕ) (fields : List (List ℕ)) → IsTextRow fields → number_of (field fields 0) ≡ None → row_read k fields ≡ Err BadNumber
 unfolding row_fault
-bad_number k fields row number = rw (four_is _ row.four, row.text, number) refl
+bad_number k fields row number = rw (row.four, row.text, number) refl
 
 pub bad_moment : (k : ℕ) (fields : List (List ℕ)) (n : ℕ) → IsTextRow fields → number_of (field fields 0) ≡ Some n → moment_of (field fields 1) ≡ None → row_read k fields ≡ Err BadMoment
 unfolding row_fault
-bad_moment k fields n row number moment = rw (four_is _ row.four, row.text, number, moment) refl
+bad_moment k fields n row number moment = rw (row.four, row.text, number, moment) refl
 
 pub bad_tag : (k : ℕ) (fields : List (List ℕ)) (n m : ℕ) → IsTextRow fields → number_of (field fields 0) ≡ Some n → moment_of (field fields 1) ≡ Some m → tag_of (field fields 2) ≡ None → row_read k fields ≡ Err BadTag
 unfolding row_fault
-bad_tag k fields n m row number moment tag = rw (four_is _ row.four, row.text, number, moment, tag) refl
+bad_tag k fields n m row number moment tag = rw (row.four, row.text, number, moment, tag) refl
 
 pub bad_event : (k : ℕ) (fields : List (List ℕ)) (n m : ℕ) (t : List ℕ) → IsTextRow fields → number_of (field fields 0) ≡ Some n → moment_of (field fields 1) ≡ Some m → tag_of (field fields 2) ≡ Some t
     → kind_of (field fields 3) ≡ None → row_read k fields ≡ Err BadEvent
 unfolding row_fault
-bad_event k fields n m t row number moment tag kind = rw (four_is _ row.four, row.text, number, moment, tag, kind) refl
+bad_event k fields n m t row number moment tag kind = rw (row.four, row.text, number, moment, tag, kind) refl
 
 -- a row whose fields are all right
 pub record IsReadRow (fields : List (List ℕ)) (n m : ℕ) (t : List ℕ) (kind : EventKind) : Type 0 where
@@ -56,15 +50,12 @@ pub record IsReadRow (fields : List (List ℕ)) (n m : ℕ) (t : List ℕ) (kind
 
 pub too_long : (k : ℕ) (fields : List (List ℕ)) (n m : ℕ) (t : List ℕ) (kind : EventKind) → IsReadRow fields n m t kind → max_file_rows < k → row_read k fields ≡ Err TooLong
 unfolding row_fault
-too_long k fields n m t kind h long = rw (four_is _ h.row.four, h.row.text, h.number, h.moment, h.tag, h.event, lt-ltb max_file_rows k long) refl
-
-not_long : (k : ℕ) → k ≤ max_file_rows → nat_lt max_file_rows k ≡ false
-not_long k h = le-ltb max_file_rows k h
+too_long k fields n m t kind h long = rw (h.row.four, h.row.text, h.number, h.moment, h.tag, h.event, lt-ltb max_file_rows k long) refl
 
 pub is_read : (k : ℕ) (fields : List (List ℕ)) (n m : ℕ) (t : List ℕ) (kind : EventKind) → IsReadRow fields n m t kind → k ≤ max_file_rows → row_read k fields ≡ Ok (record { seq = n; moment = m; tag = t; kind = kind })
 unfolding row_fault event_in
 is_read k fields n m t kind h short =
-    let none : row_fault k fields ≡ None = rw (four_is _ h.row.four, h.row.text, h.number, h.moment, h.tag, h.event, not_long k short) refl in
+    let none : row_fault k fields ≡ None = rw (h.row.four, h.row.text, h.number, h.moment, h.tag, h.event, le-ltb max_file_rows k short) refl in
     let is : event_in fields ≡ record { seq = n; moment = m; tag = t; kind = kind } = rw (h.number, h.moment, h.tag, h.event) refl in
     ap (λ o. event_or o fields) none ∙ ap Ok is
 

@@ -1,3 +1,4 @@
+pub mod EachLaws
 pub mod Placed
 pub mod Counted
 pub mod Risings

@@ -1,8 +1,8 @@
 -- Events by their numbers.
-use Rattle.std.specs.{BTreeMap.{BTreeMap}, List.{list_any}, Ordering.{eq_by_cmp, nat_cmp}}
+use Rattle.std.specs.{BTreeMap.{BTreeMap}, List.{list_any}, Ordering.{eq_by_cmp, nat_cmp}, Set.{unique_keys}}
 use Rattle.std.specs.Prelude.{Bool, List, drop, false, filter, fold, if◌then◌else◌, map, not, option_map, slice_get, unwrap_or, ℕ, ◌≡◌}
 use Rattle.plant_alarm.specs.declared.event.Event.{Event}
-use Rattle.plant_types.specs.KeyedRows.{IsInOrder, in_order, put_row}
+use Rattle.plant_types.specs.KeyedRows.{IsInOrder, put_row}
 
 abbrev pub event_number : Event → ℕ
 event_number e = e.seq
@@ -15,7 +15,7 @@ numbers_of es = map (λ e. e.seq) es
 
 -- the numbers of a file that no kept event has, each once
 abbrev pub new_numbers : List Event → List Event → List ℕ
-new_numbers kept rows = in_order nat_cmp (numbers_of (filter (λ e. not (list_any (has_number e.seq) kept)) rows))
+new_numbers kept rows = unique_keys (eq_by_cmp nat_cmp) (numbers_of (filter (λ e. not (list_any (has_number e.seq) kept)) rows))
 
 -- events with more of them, each put where its number belongs
 abbrev pub with_events : List Event → List Event → List Event

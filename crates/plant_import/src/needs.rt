@@ -48,6 +48,7 @@ fn from_last_before<'a>(kept: &'a [Event], rows: &[Event]) -> &'a [Event]
 }
 
 /// The last number of each alarm among events in rising number.
+#[tactic(auto, using(crate::proofs::public::NeededLaws::reached_next))]
 fn last_numbers(alloc: Global, events: &[Event]) -> Result<BTreeMap<Tag, Number>, Fault>
     ensures value { AreNumbered events.now → IfOk result (λ lasts. AreReached lasts events.now) }
     ensures err { OnlyMemory result }

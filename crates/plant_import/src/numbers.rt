@@ -19,10 +19,7 @@ fn is_at(events: &[Event], place: usize, number: Number) -> bool
     ensures { result ≡ unwrap_or
         (option_map (numbers.has_number number) (slice_get events.now place)) false }
 {
-    match events.get(place) {
-        Some(event) => event.seq == number,
-        None => false,
-    }
+    events.get(place).is_some_and(|event| event.seq == number)
 }
 
 /// Whether one of the events, which stand in rising number, has this number.
@@ -66,10 +63,9 @@ pub fn count_new(alloc: Global, kept: &[Event], file: &[Event]) -> Result<usize,
         return Ok(count_rising(kept, file));
     }
     let mut numbers = BTreeSet::new(alloc);
-    for i in (0..file.len()).rev() {
-        let number = file[i].seq;
-        if !has_number(kept, number) {
-            numbers.insert(number)?;
+    for event in file {
+        if !has_number(kept, event.seq) {
+            numbers.insert(event.seq)?;
         }
     }
     Ok(numbers.len())

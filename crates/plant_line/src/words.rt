@@ -287,9 +287,7 @@ fn asked_of(alloc: Global, matches: &ArgMatches<'_>) -> Result<Line, LineError> 
 
 /// What the program's words ask for, the program's own name first.
 pub fn line_of<S: AsStr>(alloc: Global, words: &[S]) -> Result<Line, LineError> {
-    let Ok(command) = office_command(alloc) else {
-        return Err(LineError::Memory);
-    };
+    let command = office_command(alloc).map_err(|_| LineError::Memory)?;
     match command.try_get_matches_from(words) {
         Ok(matches) => asked_of(alloc, &matches),
         Err(error) => Err(text_of(alloc, &error)),

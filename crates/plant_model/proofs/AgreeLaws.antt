@@ -1,21 +1,19 @@
 -- Imports of the same rows leave the same rows.
-use Rattle.std.specs.{Cmp.{eq_by_cmp_equiv}, List.{list_all, list_any}}
-use Rattle.std.proofs.Common.{ap, append-nil, append_assoc, arith, length-append, refl, subst, sym, true, ◌++◌, ◌+◌, ◌∙◌, ◌≡◌, ◌≤◌, find, nat_cmp, Bool, Err, List, None, Ok, Option, Some, [], false, filter_map, is_some, length, nat_le, nat_lt, not, option_map, unwrap_or, ℕ, ◌&&◌, ◌||◌, ◌∷◌}
-use Rattle.std.proofs.lemmas.{Bool.{not_from_true, or_right, or_left, and_parts, Decides.{nat_tests}}, List.Folds.{list_any-append}}
+use Rattle.std.specs.{Cmp.{both_ways, eq_by_cmp_equiv}, List.{list_all, list_any}}
+use Rattle.std.proofs.Common.{ap, append-nil, append_assoc, arith, length-append, refl, subst, sym, true, ◌++◌, ◌+◌, ◌∙◌, ◌≡◌, ◌≤◌, find, nat_cmp, Err, List, None, Ok, Some, [], false, filter_map, is_some, length, nat_le, nat_lt, not, option_map, unwrap_or, ℕ, ◌&&◌, ◌||◌, ◌∷◌}
+use Rattle.std.proofs.lemmas.{Bool.{not_from_true, or_left, and_parts, le-ltb, leb-true}, List.Folds.{list_any-append}}
 use Rattle.plant_import.specs.{Files.{SameMembers, are_known, is_fit}, Merging.{first_fault, fresh, is_new, same_event}}
-use Rattle.plant_import.{specs.{Numbers.{has_number, new_numbers}, declared.bad_file.BadFile.{BadFile}}, proofs.public.Counted.{fresh_count}}
-use Rattle.plant_import.proofs.public.FileLaws.{Within, all_from, all_member, back_within, both_ways, fit_within, fresh_alike, front_within, kept_fresh, member, no_fault, no_more, passing-append, same_more, same_number_new, within_both}
+use Rattle.plant_import.{specs.{Numbers.{has_number, new_numbers}}, proofs.public.Counted.{fresh_count}}
+use Rattle.plant_import.proofs.public.FileLaws.{Within, all_from, all_member, back_within, fit_within, in_back, in_front, fresh_alike, front_within, kept_fresh, member, no_fault, no_more, passing-append, same_more, same_number_new, within_both}
 use Rattle.plant_model.specs.{Alarms.{latching, limit}, Changes.{limit_revision}, Events.{events}, Facts.{facts}, Grants.{held}}
-use Rattle.plant_model.specs.Histories.{last_moment}
+use Rattle.plant_model.{specs.{Histories.{last_moment}, declared.rows.UnitRows.{UnitRows}}, proofs.public.LegalLaws.{followed}}
 use Rattle.plant_model.specs.ImportLaw.{AreAccepted, AreImportsInto, ImportsAgree, but_last, new_counted, new_in, rows_imported, through}
-use Rattle.plant_model.specs.{Legality.{IsLegal}, Parts.{none}, Refusals.{fault_entries, first_refusal, holds_some, tags_of}, Replies.{import_reply}}
+use Rattle.plant_model.specs.{Legality.{IsLegal}, Refusals.{fault_entries, first_refusal, holds_some, tags_of}, Replies.{import_reply}}
 use Rattle.plant_model.specs.{RowFacts.{event_number}, Rows.{alarm_as, rows_of}, Service.{outage}, Verdicts.{changes_history, refused_or, verdict}}
 use Rattle.plant_model.specs.declared.{call.{Call.{Call}, Request.{Request, TheVariants.{Import}}}, reply.Full.TheVariants.{Events as TooManyEvents}}
-use Rattle.plant_model.specs.declared.reply.{Refused.{Refused, TheVariants.{MomentBehind, NotGranted, RoleLacking, UnitFull}}, Reply.{Reply}}
-use Rattle.plant_model.specs.declared.rows.UnitRows.{UnitRows}
+use Rattle.plant_model.specs.declared.reply.Refused.TheVariants.{MomentBehind, NotGranted, RoleLacking, UnitFull}
 use Rattle.plant_model.proofs.EventLists.{IsOf, distinct_rising, of_both, of_find, of_same, one_said, rises}
 use Rattle.plant_model.proofs.public.{EventLaws.{events_brought, events_in_order, found_event, now, tag_registered}, HistoryLaws.{tags_of_alarms}}
-use Rattle.plant_model.proofs.public.LegalLaws.{followed}
 use Rattle.plant_alarm.specs.declared.event.Event.{Event}
 use Rattle.plant_floods.specs.Activations.{of_alarm}
 use Rattle.plant_types.specs.{KeyedRows.{IsInOrder, in_order}, Limits.{max_events}, Names.{Name, name_cmp, same_name}, Options.{or_else}}
@@ -70,18 +68,8 @@ module _ (h : List Call) (u : Name) (all : List Event) (fit : is_fit all ≡ tru
       let rest = known_tags g rows still parts.1 in
       λ i. here i && rest i
 
-  none_later : (t : ℕ) (e : Event) → nat_le e.moment t ≡ true → not (nat_lt t e.moment) ≡ true
-  none_later t e le = grind (arith, nat_tests)
-
   none_ahead_of : (t : ℕ) (rows : List Event) → list_all (λ e. nat_le e.moment t) all ≡ true → Within rows all → list_all (λ e. not (nat_lt t e.moment)) rows ≡ true
-  none_ahead_of t rows le within = all_from (λ e. not (nat_lt t e.moment)) rows (λ e there. none_later t e (all_member (λ x. nat_le x.moment t) all e le (within e there)))
-
-  -- what an import that meets no refusal is answered
-  no_refusal : (a b c d : Bool) (x y z v : Refused) (fault : Option BadFile) (r : Reply) → a ≡ false → b ≡ false → c ≡ false → d ≡ false → fault ≡ None → refused_or (first_refusal ((a, x) ∷ (b, y) ∷ (c, z) ∷ (d, v) ∷ fault_entries fault)) r ≡ Ok r
-  no_refusal a b c d x y z v fault r ha hb hc hd none = λ i. refused_or (first_refusal ((ha i, x) ∷ (hb i, y) ∷ (hc i, z) ∷ (hd i, v) ∷ fault_entries (none i))) r
-
-  at_least : (m n : ℕ) → m ≤ n → nat_lt n m ≡ false
-  at_least m n le = grind (arith, nat_tests)
+  none_ahead_of t rows le within = all_from (λ e. not (nat_lt t e.moment)) rows (λ e there. ap not (le-ltb t e.moment (leb-true e.moment t (all_member (λ x. nat_le x.moment t) all e le (within e there)))))
 
   module _ (g : List Call) (reached : IsReached g) (p : Name) (t : ℕ) (v : Name) (rows : List Event)
       (operator : held h t (p, Operator) ≡ true) (known : list_all (λ e. is_some (latching h e.tag)) rows ≡ true) (not_ahead : list_all (λ e. nat_le e.moment t) all ≡ true)
@@ -95,10 +83,11 @@ module _ (h : List Call) (u : Name) (all : List Event) (fit : is_fit all ≡ tru
     answered : verdict g next_one ≡ Ok (import_reply (events g) rows)
     answered =
         let role : held g t (p, Operator) ≡ true = reached.held_still t (p, Operator) ∙ operator in
-        no_refusal (not (holds_some (facts g) t p)) (not (held g t (p, Operator))) (nat_lt t (last_moment g)) (nat_lt max_events (length (events g) + length (new_numbers (events g) rows)))
-        NotGranted (RoleLacking Operator) (MomentBehind (last_moment g)) (UnitFull TooManyEvents) (first_fault (tags_of (facts g)) t 2 (events g) rows) (import_reply (events g) rows)
-        (not_from_true (holds_some (facts g) t p) (some_role g t p role)) (not_from_true (held g t (p, Operator)) role) (at_least (last_moment g) t behind)
-        (ap (λ n. nat_lt max_events (length (events g) + n)) (sym (fresh_count (tags_of (facts g)) t 2 (events g) rows clean)) ∙ at_least (length (events g) + length (fresh (events g) rows)) max_events room) clean
+        let operates : not (held g t (p, Operator)) ≡ false = not_from_true (held g t (p, Operator)) role in
+        let holds : not (holds_some (facts g) t p) ≡ false = not_from_true (holds_some (facts g) t p) (some_role g t p role) in
+        let fits : nat_lt max_events (length (events g) + length (new_numbers (events g) rows)) ≡ false =
+        ap (λ n. nat_lt max_events (length (events g) + n)) (sym (fresh_count (tags_of (facts g)) t 2 (events g) rows clean)) ∙ le-ltb max_events (length (events g) + length (fresh (events g) rows)) room in
+        λ i. refused_or (first_refusal ((holds i, NotGranted) ∷ (operates i, RoleLacking Operator) ∷ (le-ltb t (last_moment g) behind i, MomentBehind (last_moment g)) ∷ (fits i, UnitFull TooManyEvents) ∷ fault_entries (clean i))) (import_reply (events g) rows)
 
     accepted : changes_history (verdict g next_one) next_one ≡ true
     accepted = ap (λ s. changes_history s next_one) answered
@@ -180,8 +169,8 @@ pub imports_agree : ImportsAgree
 imports_agree h u xs ys legal first second same fit room =
     let rows : List Event = rows_imported xs in
     let all : List Event = events h ++ rows in
-    let inside : Within rows all = λ e there. list_any-append (same_event e) (events h) rows ∙ or_right (member e (events h)) (member e rows) there in
-    let kept_inside : Within (events h) all = λ e there. list_any-append (same_event e) (events h) rows ∙ or_left (member e (events h)) (member e rows) there in
+    let inside : Within rows all = in_back (events h) rows in
+    let kept_inside : Within (events h) all = in_front (events h) rows in
     let here : IsReached h u all fit h = record { legal = legal; inside = kept_inside; held_still = λ t k. refl; latching_still = λ a. refl } in
     let many = same_number_new (events h) rows (rows_imported ys) same in
     let one = goes h u all fit xs h here (last_moment h) (omega arith) first inside room in

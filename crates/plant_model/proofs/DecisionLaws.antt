@@ -1,17 +1,15 @@
 -- The changes of proposals and decisions turn the rows of the history into those of the history with the call.
 use Rattle.std.proofs.Common.{ap, cond, refl, sym, ◌∙◌, option_to_list, nat_cmp, Bool, List, None, Option, Some, [], false, filter_map, if◌then◌else◌, is_some, map, max, option_map, true, unwrap_or, ℕ, ◌+◌, ◌∷◌, ◌≡◌}
-use Rattle.plant_model.specs.Alarms.{latching, limit, quota}
+use Rattle.std.proofs.lemmas.Simd.{map-map}
+use Rattle.plant_model.specs.{Alarms.{latching, limit, quota}, Events.{events_of}, Facts.{facts}, Histories.{latest, same_number}}
 use Rattle.plant_model.specs.Changes.{Decision, Draft, change, change_as, decision, draft, kind_of_change, limit_in, limit_revision, matrix, matrix_in, matrix_revision, no_matrix, proposals, record_as, record_of, record_revision, said_of_matrix, sheet, sheet_in}
-use Rattle.plant_model.specs.{Events.{events_of}, Facts.{facts}, Histories.{latest, same_number}}
-use Rattle.plant_model.specs.Matrices.{band_at, band_cmp, band_places, cell_of, cell_places}
+use Rattle.plant_model.specs.{Matrices.{band_at, band_cmp, band_places, cell_of, cell_places}, RowFacts.{band_key, change_number, record_tag}}
 use Rattle.plant_model.specs.RowChanges.{approval_changes, approved_row, cells_of, changed_by, decided_as, for_change, put, rerated}
-use Rattle.plant_model.specs.RowFacts.{band_key, change_number, record_tag}
 use Rattle.plant_model.specs.Rows.{alarm_as, alarm_row, band_row, band_rows, cell_row, change_entry, change_rows, changes_of, record_entry, record_rows, records_of, rows_of, unit_row, with_limit}
-use Rattle.plant_model.specs.{Service.{outage}, declared.call.{Call.{Call}, Request.{Request}}}
+use Rattle.plant_model.specs.{Service.{outage}, declared.{call.{Call.{Call}, Request.{Request}}, rows.{UnitRow.{UnitRow}, UnitRows.{UnitRows}}}}
 use Rattle.plant_model.specs.declared.{call.Request.TheVariants.{Approve, Propose, Reject, WithdrawChange}, reply.ChangeRow.{ChangeRow}}
 use Rattle.plant_model.specs.declared.{reply.RecordRow.{RecordRow}, rows.{AlarmRow.{AlarmRow}, BandRow.{BandRow}, CellRow.{CellRow}}}
 use Rattle.plant_model.specs.declared.rows.{Row.TheVariants.{Alarm as AlarmPut, Change as ChangePut, Unit as UnitPut}, RowEdit.TheVariants.{Put}}
-use Rattle.plant_model.specs.declared.rows.{UnitRow.{UnitRow}, UnitRows.{UnitRows}}
 use Rattle.plant_model.proofs.MatrixLaws.{band_keys, bands_anew, bands_told, cell_keys, cells_anew, cells_told, no_next}
 use Rattle.plant_model.proofs.public.ChangeLaws.{rows-same, with_request, Turns, put_row-map, said_anew}
 use Rattle.plant_model.proofs.public.HistoryLaws.{alarm_of, alarms_told, change_with, changes_told, numbers_of_changes, record_with, records_told, tag_of_record, tags_of_alarms, tags_of_records}
@@ -111,15 +109,6 @@ module _ (h : List Call) (p : Name) (t : ℕ) where
     abbrev alarm_by : Name → Option ChangeKind → Option AlarmRow
     alarm_by a k = option_map (alarm_as a (unwrap_or (or_else (limit_in a k) (limit h a)) 0) (if is_some (limit_in a k) then limit_revision h a + 1 else limit_revision h a) (events_of h a) (outage h a)) (latching h a)
 
-    unit_row_by : (k : Option ChangeKind) → kind_of_change h n ≡ k → unit_by k ≡ unit_row approved_call
-    unit_row_by k is = ap unit_by (sym is)
-
-    record_of_by : (a : Name) (k : Option ChangeKind) → kind_of_change h n ≡ k → record_by a k ≡ record_of approved_call a
-    record_of_by a k is = ap (record_by a) (sym is)
-
-    alarm_row_by : (a : Name) (k : Option ChangeKind) → kind_of_change h n ≡ k → alarm_by a k ≡ alarm_row approved_call a
-    alarm_row_by a k is = ap (alarm_by a) (sym is)
-
     abbrev approval : Decision
     approval = record { state = Approved; decider = p; decided = t }
 
@@ -150,9 +139,9 @@ module _ (h : List Call) (p : Name) (t : ℕ) where
         ap (λ o. approval_put (option_map (change_with h n) o)) known
         ∙ ap (λ o. limit_put d b max (option_map (alarm_of h b) o)) there
         ∙ (λ i. record (rows_of approved_call) {
-          units = unit_row_by _ kind i ∷ [];
-          alarms = put-rows (alarm_row h) (alarm_row approved_call) (tags_of_alarms h) (tags_of_alarms approved_call) (alarm_as b max (limit_revision h b + 1) (events_of h b) (outage h b) l) (alarms_told h) (alarms_told approved_call) (λ k. sym (alarm_row_by k _ kind) ∙ limit_anew b k l max there) i;
-          records = map record_entry (rows-same (record_of h) (record_of approved_call) (tags_of_records h) (tags_of_records approved_call) (records_told h) (records_told approved_call) (λ a. record_of_by a _ kind) i);
+          units = ap unit_by (sym kind) i ∷ [];
+          alarms = put-rows (alarm_row h) (alarm_row approved_call) (tags_of_alarms h) (tags_of_alarms approved_call) (alarm_as b max (limit_revision h b + 1) (events_of h b) (outage h b) l) (alarms_told h) (alarms_told approved_call) (λ k. ap (alarm_by k) kind ∙ limit_anew b k l max there) i;
+          records = map record_entry (rows-same (record_of h) (record_of approved_call) (tags_of_records h) (tags_of_records approved_call) (records_told h) (records_told approved_call) (λ a. ap (record_by a) (sym kind)) i);
           changes = decided_rows d known i;
         })
 
@@ -173,9 +162,9 @@ module _ (h : List Call) (p : Name) (t : ℕ) where
         let row : RecordRow = record_as (matrix h).1 (record_revision h b + 1) b (n, s) in
         ap (λ o. approval_put (option_map (change_with h n) o)) known
         ∙ (λ i. record (rows_of approved_call) {
-          units = unit_row_by _ kind i ∷ [];
-          alarms = rows-same (alarm_row h) (alarm_row approved_call) (tags_of_alarms h) (tags_of_alarms approved_call) (alarms_told h) (alarms_told approved_call) (λ a. alarm_row_by a _ kind) i;
-          records = (put_row-map name_cmp record_tag record_entry row (records_of h) ∙ ap (λ rows. map record_entry rows) (put-rows (record_of h) (record_of approved_call) (tags_of_records h) (tags_of_records approved_call) row (records_told h) (records_told approved_call) (λ k. sym (record_of_by k _ kind) ∙ record_anew b k s))) i;
+          units = ap unit_by (sym kind) i ∷ [];
+          alarms = rows-same (alarm_row h) (alarm_row approved_call) (tags_of_alarms h) (tags_of_alarms approved_call) (alarms_told h) (alarms_told approved_call) (λ a. ap (alarm_by a) (sym kind)) i;
+          records = (put_row-map name_cmp record_tag record_entry row (records_of h) ∙ ap (λ rows. map record_entry rows) (put-rows (record_of h) (record_of approved_call) (tags_of_records h) (tags_of_records approved_call) row (records_told h) (records_told approved_call) (λ k. ap (record_by k) kind ∙ record_anew b k s))) i;
           changes = decided_rows d known i;
         })
 
@@ -186,10 +175,6 @@ module _ (h : List Call) (p : Name) (t : ℕ) where
     rerated_by : (m : Grid) (a : Name) (o : Option (ℕ × Sheet)) → option_map (record_as m (record_revision h a) a) o ≡ option_map (rerated_row m) (option_map (record_with h a) o)
     rerated_by m a None = refl
     rerated_by m a (Some x) = refl
-
-    map-rerated : (m : Grid) (rs : List RecordRow) → map (rerated m) rs ≡ map record_entry (map (rerated_row m) rs)
-    map-rerated m [] = refl
-    map-rerated m (r ∷ rs) = ap (λ xs. rerated m r ∷ xs) (map-rerated m rs)
 
     said-map : (m : Grid) (rs : List RecordRow) (k : Name) → said name_cmp tag_of_record (map (rerated_row m) rs) k ≡ option_map (rerated_row m) (said name_cmp tag_of_record rs k)
     said-map m [] k = refl
@@ -210,9 +195,9 @@ module _ (h : List Call) (p : Name) (t : ℕ) where
 
     records_rerated : (m : Grid) → kind_of_change h n ≡ Some (Matrix m) → puts name_cmp record_tag (map (rerated m) (records_of h)) (record_rows h) ≡ record_rows approved_call
     records_rerated m kind =
-        ap (λ rs. puts name_cmp record_tag rs (record_rows h)) (map-rerated m (records_of h)) ∙ puts-map (map (rerated_row m) (records_of h)) (records_of h)
+        ap (λ rs. puts name_cmp record_tag rs (record_rows h)) (sym (map-map record_entry (rerated_row m) (records_of h))) ∙ puts-map (map (rerated_row m) (records_of h)) (records_of h)
         ∙ ap (λ rows. map record_entry rows) (puts-rows (record_of h) (record_of approved_call) (tags_of_records h) (tags_of_records approved_call) (map (rerated_row m) (records_of h)) (records_told h) (records_told approved_call)
-        (λ a. sym (record_of_by a _ kind) ∙ rerated_by m a (sheet h a) ∙ all_said m (record_of h a) ∙ ap (λ o. or_else o (record_of h a)) (sym (said-map m (records_of h) a ∙ ap (option_map (rerated_row m)) (said-rows (record_of h) (tags_of_records h) (records_told h) a)))))
+        (λ a. ap (record_by a) kind ∙ rerated_by m a (sheet h a) ∙ all_said m (record_of h a) ∙ ap (λ o. or_else o (record_of h a)) (sym (said-map m (records_of h) a ∙ ap (option_map (rerated_row m)) (said-rows (record_of h) (tags_of_records h) (records_told h) a)))))
 
     pub approve_matrix_turns : (q : Name) (w : ℕ) (m : Grid) (base : ℕ) → draft h n ≡ Some (record { proposer = q; proposed = w; kind = Matrix m; base = base }) → Turns h p t (Approve u n)
     unfolding approval_put
@@ -222,8 +207,8 @@ module _ (h : List Call) (p : Name) (t : ℕ) where
         ap (λ o. approval_put (option_map (change_with h n) o)) known
         ∙ put_records (rerated m) (records_of h) (put (ChangePut (change_entry (change_as n (Some approval) d))) (put (UnitPut (unit_by (Some (Matrix m)))) (rows_of h)))
         ∙ (λ i. record (rows_of approved_call) {
-          units = unit_row_by _ kind i ∷ [];
-          alarms = rows-same (alarm_row h) (alarm_row approved_call) (tags_of_alarms h) (tags_of_alarms approved_call) (alarms_told h) (alarms_told approved_call) (λ a. alarm_row_by a _ kind) i;
+          units = ap unit_by (sym kind) i ∷ [];
+          alarms = rows-same (alarm_row h) (alarm_row approved_call) (tags_of_alarms h) (tags_of_alarms approved_call) (alarms_told h) (alarms_told approved_call) (λ a. ap (alarm_by a) (sym kind)) i;
           records = records_rerated m kind i;
           changes = decided_rows d known i;
         })

@@ -1,17 +1,16 @@
 -- Events by their numbers: what a list of events has at each number, and what a file without a fault adds to those that are kept.
-use Rattle.std.specs.{Cmp.{ranked}, FinMap.Entries.{below_all, is_sorted}, List.{cons_option, list_any}}
-use Rattle.std.proofs.Common.{Equal, Greater, Less, T, ap, arith, cond, refl, subst, sym, true, ◌++◌, ◌+◌, ◌<◌, ◌∙◌, ◌≡◌, find, is_lt, nat_cmp, Bool, List, None, Option, Some, [], false, filter_map, map, nat_lt, not, option_and_then, ℕ, ◌&&◌, ◌==◌, ◌||◌, ◌∷◌, Ordering}
-use Rattle.std.proofs.lemmas.{Bool.{eq-eqb, ltb-false, or_parts, false_from_ne_true, or_right, or_left}, List.Folds.{list_any-append}}
+use Rattle.std.specs.{Cmp.{ranked}, FinMap.Entries.{below_all}, List.{AllByRecursion, IsDistinct, cons_option, list_any}}
+use Rattle.std.proofs.Common.{Less, T, ap, arith, cond, refl, subst, sym, true, ◌++◌, ◌+◌, ◌<◌, ◌∙◌, ◌≡◌, find, nat_cmp, Bool, List, None, Option, Some, [], false, filter_map, map, nat_lt, not, option_and_then, ℕ, ◌&&◌, ◌==◌, ◌||◌, ◌∷◌}
+use Rattle.std.proofs.lemmas.{Bool.{eq-eqb, ltb-false, or_parts, false_from_ne_true, or_right}, List.Folds.{list_any-append}}
 use Rattle.plant_alarm.specs.declared.event.Event.{Event}
 use Rattle.plant_floods.specs.Activations.{of_alarm}
-use Rattle.plant_import.specs.{Fields.{first_cause}, Files.{SameMembers, are_known, is_fit}}
+use Rattle.plant_import.{specs.{Fields.{first_cause}, Files.{SameMembers, are_known, is_fit}}, proofs.public.Counted.{no_first}}
 use Rattle.plant_import.specs.{Merging.{IsRising, clashes, first_fault, fresh, merge_fault, out_of_order, same_event}, Numbers.{has_number}}
 use Rattle.plant_import.specs.declared.bad_file.Cause.TheVariants.{MomentAhead, MomentOutOfOrder, SequenceClash, TagUnknown}
-use Rattle.plant_import.proofs.public.Counted.{no_first}
-use Rattle.plant_import.proofs.public.FileLaws.{AreDistinct, all_member, clash_of, file_fits, first_member, fit_parts, fit_within, fits_in, kept_fresh, member, none_member, none_within}
-use Rattle.plant_import.proofs.public.{Nearest.{order_above, same_any, same_is}, Risings.{Before, Each, Rising, is_rising}}
-use Rattle.plant_model.{specs.RowFacts.{event_number}, proofs.public.{FactLaws.{same_number_of}, PutLaws.{said}}}
-use Rattle.plant_types.specs.{KeyedRows.{IsInOrder}, Names.{Name, same_name}, Options.{or_else, when}}
+use Rattle.plant_import.proofs.public.FileLaws.{clash_of, file_fits, first_member, fit_member, fit_of, fit_within, in_back, in_front, kept_fresh, member, none_within}
+use Rattle.plant_import.proofs.public.{Nearest.{order_above, same_any, same_is}, EachLaws.{Each}, Risings.{Before, Rising, is_rising}}
+use Rattle.plant_model.{specs.RowFacts.{event_number}, proofs.public.{FactLaws.{same_number_of}, PutLaws.{said}, RowsFound.{less}}}
+use Rattle.plant_types.{specs.{KeyedRows.{IsInOrder}, Names.{Name, same_name}, Options.{or_else, when}}, proofs.public.Halves.{first, second}}
 
 -- what a list has at a number: one of its events, or none
 abbrev pub IsOf : List Event → ℕ → Option Event → Type 0
@@ -42,8 +41,8 @@ of_said n (r ∷ rs) =
     ] (of_said n rs)
 
 pub of_both : (n : ℕ) (xs ys : List Event) (o p : Option Event) → IsOf ys n o → IsOf xs n p → IsOf (xs ++ ys) n (or_else o p)
-of_both n xs ys (Some x) p h k = (list_any-append (same_event x) xs ys ∙ or_right (member x xs) (member x ys) h.0, h.1)
-of_both n xs ys None (Some x) h k = (list_any-append (same_event x) xs ys ∙ or_left (member x xs) (member x ys) k.0, k.1)
+of_both n xs ys (Some x) p h k = (in_back xs ys x h.0, h.1)
+of_both n xs ys None (Some x) h k = (in_front xs ys x k.0, k.1)
 of_both n xs ys None None h k = list_any-append (has_number n) xs ys ∙ (λ i. k i || h i)
 
 pub of_same : (n : ℕ) (xs ys : List Event) (o : Option Event) → SameMembers xs ys → IsOf xs n o → IsOf ys n o
@@ -53,13 +52,10 @@ of_same n xs ys (Some x) same h = (sym (same x) ∙ h.0, h.1)
 -- events that fit have one content at a number
 not_both : (a b : Bool) → (a && not b) ≡ false → a ≡ true → b ≡ true
 not_both true true e t = refl
-not_both true false e t = cc
-not_both false b e t = cc
+not_both _ _ e t = cc
 
 pub one_content : (es : List Event) (x y : Event) → is_fit es ≡ true → member x es ≡ true → member y es ≡ true → x.seq ≡ y.seq → x ≡ y
-one_content es x y fit hx hy same =
-    let parts = fit_parts es x (all_member (fits_in es) es x fit hx) in
-    same_is x y (not_both (x.seq == y.seq) (same_event x y) (none_member (clashes x) es y parts.0 hy) (eq-eqb x.seq y.seq same))
+one_content es x y fit hx hy same = same_is x y (not_both (x.seq == y.seq) (same_event x y) (fit_of es fit x y hx hy).0 (eq-eqb x.seq y.seq same))
 
 pub one_said : (es : List Event) (n : ℕ) → is_fit es ≡ true → (o p : Option Event) → IsOf es n o → IsOf es n p → o ≡ p
 one_said es n fit None None h k = refl
@@ -85,8 +81,7 @@ module _ (tags : List Name) (now : ℕ) (kept rows : List Event) (fit : is_fit k
       let new = subst (IsOf (fresh kept rows) n) is (of_said n (fresh kept rows)) in
       let old = subst (IsOf kept n) found (of_find n kept) in
       one_content (kept ++ rows) x y whole_fits
-      (list_any-append (same_event x) kept rows ∙ or_left (member x kept) (member x rows) old.0)
-      (sym (kept_fresh kept rows y) ∙ list_any-append (same_event y) kept (fresh kept rows) ∙ or_right (member y kept) (member y (fresh kept rows)) new.0)
+      (in_front kept rows x old.0) (sym (kept_fresh kept rows y) ∙ in_back kept (fresh kept rows) y new.0)
       (sym (same_number_of n x.seq old.1) ∙ same_number_of n y.seq new.1)
 
 -- what is made of numbers
@@ -131,43 +126,30 @@ rows_known tags now line others (e ∷ rows) h =
     λ i. here i && rest i
 
 -- fit events in the order of their numbers rise: no moment falls
-two_true : (a b : Bool) → T (a && b) → T a × T b
-two_true true b h = (tt, h)
-two_true false b h = absurd h
-
-less_of : (m n : ℕ) (o : Ordering) → o ≡ nat_cmp m n → T (is_lt o) → m < n
-less_of m n Less e h = ranked m n Less e
-less_of m n Equal e h = absurd h
-less_of m n Greater e h = absurd h
-
 below_each : (e : Event) (es : List Event) → T (below_all nat_cmp e.seq (map (λ x. (event_number x, x)) es)) → list_any (out_of_order e) es ≡ false → Each (Before e) es
 below_each e [] below order = tt
 below_each e (x ∷ es) below order =
-    let b = two_true (is_lt (nat_cmp e.seq x.seq)) (below_all nat_cmp e.seq (map (λ x. (event_number x, x)) es)) below in
     let o = or_parts (out_of_order e x) (list_any (out_of_order e) es) order in
-    let less : e.seq < x.seq = less_of e.seq x.seq (nat_cmp e.seq x.seq) refl b.0 in
-    ((less, ltb-false x.moment e.moment (sym (order_above e x less) ∙ o.0)), below_each e es b.1 o.1)
+    let less : e.seq < x.seq = ranked e.seq x.seq Less (sym (less _ (first _ _ below))) in
+    ((less, ltb-false x.moment e.moment (sym (order_above e x less) ∙ o.0)), below_each e es (second _ _ below) o.1)
 
 pub rises : (es : List Event) → is_fit es ≡ true → IsInOrder nat_cmp event_number es → Rising es
 rises [] fit order = tt
 rises (e ∷ es) fit order =
-    let o = two_true (below_all nat_cmp e.seq (map (λ x. (event_number x, x)) es)) (is_sorted nat_cmp (map (λ x. (event_number x, x)) es)) order in
-    let here = fit_parts (e ∷ es) e (all_member (fits_in (e ∷ es)) (e ∷ es) e fit (first_member e es)) in (
-      below_each e es o.0 (or_parts (out_of_order e e) (list_any (out_of_order e) es) here.1).1,
-      rises es (fit_within (e ∷ es) es fit (λ q there. or_right (same_event q e) (member q es) there)) o.1,
+    let here = fit_member (e ∷ es) e fit (first_member e es) in (
+      below_each e es (first _ _ order) (or_parts (out_of_order e e) (list_any (out_of_order e) es) here.1).1,
+      rises es (fit_within (e ∷ es) es fit (λ q there. or_right (same_event q e) (member q es) there)) (second _ _ order),
     )
 
 pub rising : (es : List Event) → is_fit es ≡ true → IsInOrder nat_cmp event_number es → IsRising es
 rising es fit order = is_rising es (rises es fit order)
 
 -- so none comes twice
-not_among : (e : Event) (es : List Event) → Each (Before e) es → member e es ≡ false
-not_among e [] h = refl
-not_among e (x ∷ es) h =
-    let other : same_event e x ≡ false = false_from_ne_true (same_event e x) (λ is. let same : e.seq ≡ x.seq = ap event_number (same_is e x is) in let less = h.0.0 in omega (arith, same, less)) in
-    let rest = not_among e es h.1 in
-    λ i. other i || rest i
-
-pub distinct_rising : (es : List Event) → Rising es → AreDistinct es
+pub distinct_rising : (es : List Event) → Rising es → IsDistinct same_event es
+unfolding IsDistinct
 distinct_rising [] h = tt
-distinct_rising (e ∷ es) h = (not_among e es h.0, distinct_rising es h.1)
+distinct_rising (e ∷ es) h = (others es h.0, distinct_rising es h.1) where
+  others : (es : List Event) → Each (Before e) es → AllByRecursion (λ x. same_event e x ≡ false) es
+  others [] h = tt
+  others (x ∷ es) h =
+      (false_from_ne_true (same_event e x) (λ is. let same : e.seq ≡ x.seq = ap event_number (same_is e x is) in let less = h.0.0 in omega (arith, same, less)), others es h.1)

@@ -1,8 +1,7 @@
 -- The rows of matrices: at the places that the history names, and put anew by an entry that brings a matrix.
 use Rattle.std.specs.{Cmp.{eq_by_cmp_equiv, IsTotalOrder}, List.{enumerate_from, list_any, range_with_len, slice_get}}
-use Rattle.std.specs.Ordering.{eq_by_cmp, ordering_then}
-use Rattle.std.proofs.Common.{if◌then◌else◌, ◌≤◌, List, None, Option, Some, [], cond, false, filter_map, flat_map, length, map, option_and_then, option_map, suc, true, zero, ℕ, ◌+◌, ◌||◌, ◌∷◌, ◌≡◌, ◌⊎◌, ap, arith, inl, inr, refl, subst, sym, ◌∙◌, is_eq, nat_cmp, Ordering, Equal, Less, Greater, true≢false}
-use Rattle.std.proofs.lemmas.{Bool.{or_left, or_right}, List.Folds.{list_any-append}}
+use Rattle.std.{specs.Ordering.{eq_by_cmp, ordering_then}, proofs.lemmas.{Bool.{or_left, or_right}, List.Folds.{list_any-append}}}
+use Rattle.std.proofs.Common.{if◌then◌else◌, ◌≤◌, List, None, Option, Some, [], cond, false, filter_map, flat_map, length, map, option_and_then, option_map, suc, true, zero, ℕ, ◌+◌, ◌||◌, ◌∷◌, ◌≡◌, ◌⊎◌, ap, arith, inl, inr, refl, subst, sym, ◌∙◌, is_eq, nat_cmp, Ordering, Equal, true≢false, Less, Greater}
 use Rattle.plant_model.specs.{Changes.{is_proposal, matrix_in, proposals}, Histories.{all_named, same_number}}
 use Rattle.plant_model.specs.Matrices.{BandKey, CellKey, at_place, band_at, band_cmp, band_places, cell_cmp, cell_of, cell_places, cells_of_row, matrix_numbered, numbered_matrix, places_in, when_number}
 use Rattle.plant_model.specs.{Parts.{none}, RowFacts.{band_key, cell_key}, Rows.{band_row, cell_row}, declared.call.{Call.{Call}, Request.{Request}}}
@@ -78,11 +77,7 @@ cell_here n (suc i) b m =
 
 -- a key of another matrix is at none of these places
 leads : (m n : ℕ) (rest : Ordering) → same_number m n ≡ false → is_eq (ordering_then (nat_cmp m n) rest) ≡ false
-leads m n rest other = by (nat_cmp m n) other where
-  by : (o : Ordering) → is_eq o ≡ false → is_eq (ordering_then o rest) ≡ false
-  by Less e = refl
-  by Equal e = absurd (true≢false e)
-  by Greater e = refl
+leads m n rest = elim (nat_cmp m n) as (λ o. is_eq o ≡ false → is_eq (ordering_then o rest) ≡ false) [ Less ↦ λ _. refl | Equal ↦ λ e. absurd (true≢false e) | Greater ↦ λ _. refl ]
 
 no_place : {K : Type 0} (R : K → K → Ordering) (q : K) (place : ℕ → K) → ((b : ℕ) → eq_by_cmp R q (place b) ≡ false) → (bs : List ℕ) → list_any (eq_by_cmp R q) (map place bs) ≡ false
 no_place R q place other [] = refl
@@ -144,7 +139,7 @@ module _ {K X : Type 0} {R : K → K → Ordering} (total : IsTotalOrder R) (sam
       ] refl
       ∙ ap (λ o. or_else o old) (sym (said-told R key total same (λ k. of k m) (λ k r e. keyed k m r e) q (places n m) ∙ ap (λ b. cond b (of q m) None) (is_some-find (eq_by_cmp R q) (places n m))))
 
-band_keyed : (k : BandKey) (m : Grid) (r : BandRow) → band_at k m ≡ Some r → band_key r ≡ k
+pub band_keyed : (k : BandKey) (m : Grid) (r : BandRow) → band_at k m ≡ Some r → band_key r ≡ k
 band_keyed k m r e = mapped_key band_key (band_as k) k (at_place m.limits k.1) r (λ x. refl) e
 
 cell_keyed : (k : CellKey) (m : Grid) (r : CellRow) → cell_of k m ≡ Some r → cell_key r ≡ k

@@ -1,9 +1,8 @@
 -- In a legal history only what was proposed is decided, each limit that was proposed is of a registered alarm, and
 -- there are as many rows of changes as proposals.
 use Rattle.std.proofs.Common.{ap, arith, refl, sym, ◌∙◌, Bool, List, None, Option, Some, false, if◌then◌else◌, is_some, max, option_map, true, ℕ, ◌+◌, ◌∷◌, ◌≡◌, ◌≤◌, true≢false}
-use Rattle.plant_model.specs.Alarms.{latching}
+use Rattle.plant_model.specs.{Alarms.{latching}, Histories.{latest, same_number}, Legality.{IsLegal}, Refusals.{of_change}, declared.call.Call.{Call}}
 use Rattle.plant_model.specs.Changes.{Decision, Draft, approved_limit, change, decision, draft, is_proposal, kind_of_change, limit_in, limit_revision, proposals, said_of_decision, said_of_draft}
-use Rattle.plant_model.specs.{Histories.{latest, same_number}, Legality.{IsLegal}, Refusals.{of_change}, declared.call.Call.{Call}}
 use Rattle.plant_model.specs.declared.{call.Request.{Request, TheVariants.{Approve, Propose, Reject, WithdrawChange}}, reply.ChangeRow.{ChangeRow}}
 use Rattle.plant_model.{specs.declared.reply.Refused.{Refused}, proofs.public.Accepted.{AllOff, IsEntry, made, unrefused, open_change, latest_legal}}
 use Rattle.plant_model.proofs.public.FactLaws.{draft_bound, none_counted, same_number_of, is_some-map}
@@ -52,10 +51,8 @@ limited (Some (Limit a max)) = Some a
 limited _ = None
 
 limit_is_of : (a : Name) (k : Option ChangeKind) (max : ℕ) → limit_in a k ≡ Some max → limited k ≡ Some a
-limit_is_of a None max e = cc
-limit_is_of a (Some (Rationale b s)) max e = cc
-limit_is_of a (Some (Matrix m)) max e = cc
 limit_is_of a (Some (Limit b x)) max e = ap (λ y. Some y) (sym (when_same a b x max e))
+limit_is_of a _ max e = cc
 
 proposed_there : (h : List Call) (p : Name) (t : ℕ) (u b : Name) (max base : ℕ) → IsEntry h (made p t (Propose u (record { kind = Limit b max; base = base }))) → is_some (latching h b) ≡ true
 proposed_there h p t u b max base entry = registered h b (unrefused h (made p t (Propose u (record { kind = Limit b max; base = base }))) entry).1.1.1.1.0
@@ -84,12 +81,9 @@ limited_known h legal n a =
 abbrev limit_said : List Call → Name → Option ℕ
 limit_said h a = latest (λ c before. approved_limit a before c.request) h
 
-kind_known : (h : List Call) → IsLegal h → (n : ℕ) (a : Name) (o : Option Draft) → draft h n ≡ o → limited (kind_of_draft o) ≡ Some a → is_some (latching h a) ≡ true
-kind_known h legal n a None e is = cc
-kind_known h legal n a (Some d) e is = limited_known h legal n a d e is
-
 approved_known : (h : List Call) → IsLegal h → (a : Name) (q : Request) (max : ℕ) → approved_limit a h q ≡ Some max → is_some (latching h a) ≡ true
-approved_known h legal a (Approve u n) max e = kind_known h legal n a (draft h n) refl (limit_is_of a (kind_of_change h n) max e)
+approved_known h legal a (Approve u n) max e =
+    elim (draft h n) as (λ o. draft h n ≡ o → limited (kind_of_draft o) ≡ Some a → is_some (latching h a) ≡ true) [ None ↦ λ _ no. cc | Some d ↦ limited_known h legal n a d ] refl (limit_is_of a (kind_of_change h n) max e)
 approved_known h legal a _ max e = cc
 
 limit_registered : (h : List Call) → IsLegal h → (a : Name) (max : ℕ) → limit_said h a ≡ Some max → is_some (latching h a) ≡ true

@@ -1,11 +1,9 @@
 -- The calls of others on units in which a person never had a pair can go.
-use Rattle.std.specs.FinMap.{get, get-insert, get-empty}
+use Rattle.std.{specs.FinMap.{get, get-insert, get-empty}, proofs.lemmas.Bool.{false_from_ne_true}}
 use Rattle.std.proofs.Common.{◌≡◌, ℕ, List, [], ◌∷◌, Some, None, refl, sym, ap, subst, ◌∙◌, Bool, true, false, cond, ◌||◌, if◌then◌else◌, Option, is_some, unwrap_or, option_map}
-use Rattle.std.proofs.lemmas.Bool.{false_from_ne_true}
 use Rattle.plant_model.specs.{Grants.{is_before, standing, stands, held, holds_any}, Laws.{OthersCallsCanGo}, Verdicts.{verdict, changes_history}}
-use Rattle.plant_model.specs.Views.{has_pair, names_in, purge, answers_to, IsInside, IsAlwaysInside}
+use Rattle.plant_model.specs.{Views.{has_pair, names_in, purge, answers_to, IsInside, IsAlwaysInside}, declared.call.Call.{Call}}
 use Rattle.plant_model.specs.Worlds.{World, history, unit_named, unit_seen, is_taken, answer_at, answer, with_call, next_at, next, empty_world}
-use Rattle.plant_model.specs.declared.call.Call.{Call}
 use Rattle.plant_model.proofs.public.WorldLaws.{same_of, any-mono, clash, seen, own_histories, history-with_call, is_taken-with_call, taken_by_other, Alike, own_answer, same_answer}
 use Rattle.plant_types.{specs.{Names.{Name, name_cmp, same_name}, Options.{when}, Roles.{all_roles}}, proofs.public.Orders.{name_total}}
 
@@ -111,17 +109,11 @@ own_step p units w v c is =
 abbrev GoesOn : Name → (Name → Bool) → List Call → Type 0
 GoesOn p units calls = (w v : World) → IsAlwaysInside p units w calls → Purged p units w v → answers_to p v (purge p units calls) ≡ answers_to p w calls
 
-not_answered : (p : Name) (v : World) (c : Call) (calls : List Call) → same_name c.person p ≡ false → answers_to p v (c ∷ calls) ≡ answers_to p (next v c) calls
-not_answered p v c calls e = ap (λ b. if b then answer v c ∷ answers_to p (next v c) calls else answers_to p (next v c) calls) e
-
-is_answered : (p : Name) (v : World) (c : Call) (calls : List Call) → same_name c.person p ≡ true → answers_to p v (c ∷ calls) ≡ answer v c ∷ answers_to p (next v c) calls
-is_answered p v c calls e = ap (λ b. if b then answer v c ∷ answers_to p (next v c) calls else answers_to p (next v c) calls) e
-
 others_step : (p : Name) (units : Name → Bool) (c : Call) (calls : List Call) → GoesOn p units calls → (w v : World) → Purged p units w v → same_name c.person p ≡ false → (o : Option Name) → unit_named c.request ≡ o → IsAlwaysInside p units (next_at w c o) calls → answers_to p v (cond (names_in units o) (c ∷ purge p units calls) (purge p units calls)) ≡ answers_to p (next_at w c o) calls
 others_step p units c calls goes_on w v a e None is within = goes_on w v within a
 others_step p units c calls goes_on w v a e (Some u) is within =
     elim (units u) as (λ b. units u ≡ b → answers_to p v (cond b (c ∷ purge p units calls) (purge p units calls)) ≡ answers_to p (next_at w c (Some u)) calls) [
-      | true ↦ λ i. not_answered p v c (purge p units calls) e ∙ ap (λ o. answers_to p (next_at v c o) (purge p units calls)) is
+      | true ↦ λ i. ap (λ b. if b then answer v c ∷ answers_to p (next v c) (purge p units calls) else answers_to p (next v c) (purge p units calls)) e ∙ ap (λ o. answers_to p (next_at v c o) (purge p units calls)) is
           ∙ goes_on (next_at w c (Some u)) (next_at v c (Some u)) within (inside_called p units w v c u i a (now_inside p units _ calls within))
       | false ↦ λ i. goes_on (next_at w c (Some u)) v within (outside_called p units w v c u e i a)
     ] refl
@@ -132,7 +124,7 @@ purged_answers p units (c ∷ calls) w v within a =
     elim (same_name c.person p) as (λ b. same_name c.person p ≡ b → answers_to p v (cond (b || names_in units (unit_named c.request)) (c ∷ purge p units calls) (purge p units calls)) ≡ (if b then answer w c ∷ answers_to p (next w c) calls else answers_to p (next w c) calls)) [
       | true ↦ λ e.
           let both = own_step p units w v c (same_of c.person p e) within.0 (now_inside p units (next w c) calls within.1) a in
-          is_answered p v c (purge p units calls) e ∙ ap (λ x. x ∷ answers_to p (next v c) (purge p units calls)) (sym both.0)
+          ap (λ b. if b then answer v c ∷ answers_to p (next v c) (purge p units calls) else answers_to p (next v c) (purge p units calls)) e ∙ ap (λ x. x ∷ answers_to p (next v c) (purge p units calls)) (sym both.0)
           ∙ ap (λ xs. answer w c ∷ xs) (purged_answers p units calls (next w c) (next v c) within.1 both.1)
       | false ↦ λ e. others_step p units c calls (purged_answers p units calls) w v a e (unit_named c.request) refl within.1
     ] refl

@@ -54,50 +54,35 @@ proposed = second ∷ first ∷ staffed
 abbrev approve : Name → ℕ → Call
 approve p n = call p now (Approve u1 n)
 
-own_change : IsAnswered proposed (approve abe 1) SamePerson
+who_approves : IsAnswered proposed (approve abe 1) SamePerson
+    × IsAnswered proposed (approve eve 1) (RoleLacking Approver)
+    × IsDone proposed (approve amy 1)
 unfolding holds_some
-own_change = refl
-
-no_approver : IsAnswered proposed (approve eve 1) (RoleLacking Approver)
-unfolding holds_some
-no_approver = refl
-
-approving : IsDone proposed (approve amy 1)
-unfolding holds_some
-approving = refl
+who_approves = (refl, refl, refl)
 
 abbrev approved : List Call
 approved = approve amy 1 ∷ proposed
 
-base_changed_now : IsAnswered approved (approve amy 2) (BaseChanged 1)
+approved_once : IsAnswered approved (approve amy 2) (BaseChanged 1)
+    × IsAnswered approved (approve amy 1) (NotProposed Approved)
 unfolding holds_some
-base_changed_now = refl
-
-approved_already : IsAnswered approved (approve amy 1) (NotProposed Approved)
-unfolding holds_some
-approved_already = refl
+approved_once = (refl, refl)
 
 abbrev withdraw : Name → ℕ → Call
 withdraw p n = call p now (WithdrawChange u1 n)
 
-not_proposer : IsAnswered approved (withdraw abe 2) NotProposer
+who_withdraws : IsAnswered approved (withdraw abe 2) NotProposer
+    × IsDone approved (withdraw eve 2)
 unfolding holds_some
-not_proposer = refl
-
-withdrawing : IsDone approved (withdraw eve 2)
-unfolding holds_some
-withdrawing = refl
+who_withdraws = (refl, refl)
 
 abbrev withdrawn : List Call
 withdrawn = withdraw eve 2 ∷ approved
 
-change_two : verdict withdrawn (call vic now (ChangeOf u1 2)) ≡ Ok (ChangeReply (record { number = 2; kind = Rationale pt (seal 2); base = 0; proposer = eve; proposed = now; state = Withdrawn; decider = Some eve; decided = Some now }))
+changes_read : IsAnswered withdrawn (call vic now (ChangeOf u1 3)) ChangeUnknown
+    × (verdict withdrawn (call vic now (ChangeOf u1 2)) ≡ Ok (ChangeReply (record { number = 2; kind = Rationale pt (seal 2); base = 0; proposer = eve; proposed = now; state = Withdrawn; decider = Some eve; decided = Some now })))
 unfolding holds_some
-change_two = refl
-
-no_change_three : IsAnswered withdrawn (call vic now (ChangeOf u1 3)) ChangeUnknown
-unfolding holds_some
-no_change_three = refl
+changes_read = (refl, refl)
 
 abbrev third : Call
 third = propose u1 eve (Rationale pt (seal 2)) 1
@@ -138,17 +123,11 @@ kept_cells = (refl, refl)
 abbrev one_row : Grid
 one_row = record { limits = 300 ∷ []; cells = (P3 ∷ P4 ∷ []) ∷ [] }
 
-outside : IsAnswered rerated (propose u1 eve (Matrix one_row) 1) OutsideMatrix
+severities_outside : IsAnswered rerated (propose u1 eve (Matrix one_row) 1) OutsideMatrix
+    × IsAnswered rerated (call vic now (RecordOf u1 lt)) RecordUnknown
+    × IsAnswered rerated (propose u1 eve (Rationale lt (seal 3)) 0) OutsideMatrix
 unfolding holds_some
-outside = refl
-
-no_record : IsAnswered rerated (call vic now (RecordOf u1 lt)) RecordUnknown
-unfolding holds_some
-no_record = refl
-
-too_severe : IsAnswered rerated (propose u1 eve (Rationale lt (seal 3)) 0) OutsideMatrix
-unfolding holds_some
-too_severe = refl
+severities_outside = (refl, refl, refl)
 
 -- a unit whose only cell is N
 abbrev quiet : List Call
@@ -159,14 +138,10 @@ unfolding holds_some
 not_an_alarm = refl
 
 -- bands and cells of each proposed matrix
-bands_kept : (rows_of rerated).bands ≡ record { matrix_no = 0; band_no = 1; limit_s = 300 } ∷ record { matrix_no = 4; band_no = 1; limit_s = 60 } ∷ []
-bands_kept = refl
-
-cells_kept : length (rows_of rerated).cells ≡ 8
-cells_kept = refl
-
-unit_kept : (rows_of rerated).units ≡ record { last_s = now; matrix_no = 4; matrix_rev = 1; quota = 2000 } ∷ []
-unit_kept = refl
+matrix_rows : ((rows_of rerated).bands ≡ record { matrix_no = 0; band_no = 1; limit_s = 300 } ∷ record { matrix_no = 4; band_no = 1; limit_s = 60 } ∷ [])
+    × (length (rows_of rerated).cells ≡ 8)
+    × ((rows_of rerated).units ≡ record { last_s = now; matrix_no = 4; matrix_rev = 1; quota = 2000 } ∷ [])
+matrix_rows = (refl, refl, refl)
 
 -- a limit that is approved while a one-shot shelf stands leaves its end
 abbrev one_shot : List Call
@@ -182,17 +157,11 @@ limit_approved = (refl, refl)
 abbrev limited : List Call
 limited = call abe (at 10 10 0) (Approve u1 1) ∷ limit_call ∷ one_shot
 
-one_left : status limited (at 10 59 59) ≡ plain pt 600 1 Normal (OneShotShelved 1)
+limit_in_force : (status limited (at 10 59 59) ≡ plain pt 600 1 Normal (OneShotShelved 1))
+    × (status limited (at 11 0 0) ≡ plain pt 600 1 Normal Unshelved)
+    × IsAnswered limited (call ann (at 11 0 0) (TimedShelve u1 pt 601 x)) (ShelvingTimeOutOfRange 600)
 unfolding holds_some
-one_left = refl
-
-none_left : status limited (at 11 0 0) ≡ plain pt 600 1 Normal Unshelved
-unfolding holds_some
-none_left = refl
-
-above_the_limit : IsAnswered limited (call ann (at 11 0 0) (TimedShelve u1 pt 601 x)) (ShelvingTimeOutOfRange 600)
-unfolding holds_some
-above_the_limit = refl
+limit_in_force = (refl, refl, refl)
 
 -- the line of an alarm has its priority by the matrix in force
 abbrev line_of_pt : Option Cell → AlarmLine

@@ -24,24 +24,13 @@ burst n t (suc k) = event n Act t pt ∷ event (n + 1) Rtn t pt ∷ burst (n + 2
 abbrev many : List Event
 many = burst 1 (at 10 0 0) 11 ++ burst 101 (at 10 10 0) 5 ++ burst 201 (at 10 20 0) 4 ++ burst 301 (at 10 30 0) 10 ++ burst 401 (at 10 40 0) 12
 
-flood_counts : period_counts many (at 10 0 0) (at 10 50 0) ≡ 11 ∷ 5 ∷ 4 ∷ 10 ∷ 12 ∷ []
-flood_counts = refl
-
-flooded : flood_lines many (at 10 0 0) (at 10 50 0) ≡ record { start = at 10 0 0; until = at 10 20 0; total = 16; peak = 11 } ∷ record { start = at 10 40 0; until = at 10 50 0; total = 12; peak = 12 } ∷ []
-unfolding floods
-flooded = refl
-
-empty_range : IsAnswered base (call vic (at 10 50 0) (Floods u1 (at 10 0 0) (at 10 0 0))) RangeNotAligned
-unfolding holds_some
-empty_range = refl
-
-unaligned : IsAnswered base (call vic (at 10 50 0) (Floods u1 (at 10 0 1) (at 10 10 0))) RangeNotAligned
-unfolding holds_some
-unaligned = refl
-
-one_period : verdict base (call vic (at 10 50 0) (Floods u1 (at 10 0 0) (at 10 10 0))) ≡ Ok (FloodsOf u1 (at 10 0 0) (at 10 10 0) [])
-unfolding holds_some floods
-one_period = refl
+floods_of_ranges : (period_counts many (at 10 0 0) (at 10 50 0) ≡ 11 ∷ 5 ∷ 4 ∷ 10 ∷ 12 ∷ [])
+    × (flood_lines many (at 10 0 0) (at 10 50 0) ≡ record { start = at 10 0 0; until = at 10 20 0; total = 16; peak = 11 } ∷ record { start = at 10 40 0; until = at 10 50 0; total = 12; peak = 12 } ∷ [])
+    × IsAnswered base (call vic (at 10 50 0) (Floods u1 (at 10 0 0) (at 10 0 0))) RangeNotAligned
+    × IsAnswered base (call vic (at 10 50 0) (Floods u1 (at 10 0 1) (at 10 10 0))) RangeNotAligned
+    × (verdict base (call vic (at 10 50 0) (Floods u1 (at 10 0 0) (at 10 10 0))) ≡ Ok (FloodsOf u1 (at 10 0 0) (at 10 10 0) []))
+unfolding floods holds_some
+floods_of_ranges = (refl, refl, refl, refl, refl)
 
 -- standing alarms and all alarms, one of them shelved
 abbrev standing_unit : List Call
@@ -58,11 +47,9 @@ unfolding holds_some
 alarm_list = refl
 
 -- a week is 1,008 periods, and no range is longer
-a_week : is_aligned (at 0 0 0) (at 168 0 0) ≡ true
-a_week = refl
-
-longer_than_a_week : is_aligned (at 0 0 0) (at 168 10 0) ≡ false
-longer_than_a_week = refl
+at_most_a_week : (is_aligned (at 0 0 0) (at 168 0 0) ≡ true)
+    × (is_aligned (at 0 0 0) (at 168 10 0) ≡ false)
+at_most_a_week = (refl, refl)
 
 -- an alarm that annunciates again while it is active is not an activation; after a return it is
 abbrev again : List Event

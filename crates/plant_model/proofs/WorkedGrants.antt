@@ -7,28 +7,19 @@ use Rattle.plant_model.specs.declared.reply.Refused.TheVariants.{AlreadyHeld, En
 use Rattle.plant_model.proofs.public.Base.{IsAnswered, IsDone, ann, at, base, bob, call, grant, grid, plain, pt, root, ste, u1, vic}
 use Rattle.plant_types.specs.{Names.{Name}, declared.role.Role.{Role, TheVariants.{Operator, Steward, Viewer}}}
 
-last_steward : IsAnswered base (call ste (at 10 0 0) (Withdraw u1 ste Steward)) LastSteward
+pairs_refused : IsAnswered base (call ste (at 10 0 0) (Withdraw u1 ste Steward)) LastSteward
+    × IsAnswered base (call ste (at 10 0 0) (Withdraw u1 bob Viewer)) NotHeld
+    × IsAnswered base (grant ann Operator) AlreadyHeld
 unfolding holds_some
-last_steward = refl
-
-not_held : IsAnswered base (call ste (at 10 0 0) (Withdraw u1 bob Viewer)) NotHeld
-unfolding holds_some
-not_held = refl
-
-already : IsAnswered base (grant ann Operator) AlreadyHeld
-unfolding holds_some
-already = refl
+pairs_refused = (refl, refl, refl)
 
 abbrev sue : Name
 sue = codes "sue"
 
-two_stewards : IsDone base (grant sue Steward) × IsDone (grant sue Steward ∷ base) (call ste (at 8 0 0) (Withdraw u1 ste Steward))
+steward_replaced : IsDone base (grant sue Steward) × IsDone (grant sue Steward ∷ base) (call ste (at 8 0 0) (Withdraw u1 ste Steward))
+    × IsAnswered (call ste (at 8 0 0) (Withdraw u1 ste Steward) ∷ grant sue Steward ∷ base) (call ste (at 10 0 0) (Status u1 pt)) NotGranted
 unfolding holds_some
-two_stewards = (refl, refl)
-
-left_by_the_steward : IsAnswered (call ste (at 8 0 0) (Withdraw u1 ste Steward) ∷ grant sue Steward ∷ base) (call ste (at 10 0 0) (Status u1 pt)) NotGranted
-unfolding holds_some
-left_by_the_steward = refl
+steward_replaced = (refl, refl, refl)
 
 -- a grant that ends
 abbrev con : Name
@@ -43,36 +34,21 @@ grant_until p r t until = call ste t (Grant u1 p (r, Some until))
 abbrev ending : List Call
 ending = grant_until con Viewer (at 9 0 0) (at 12 0 0) ∷ base
 
-ending_granted : IsDone base (grant_until con Viewer (at 9 0 0) (at 12 0 0))
+grant_that_ends : IsDone base (grant_until con Viewer (at 9 0 0) (at 12 0 0))
+    × (verdict ending (call con (at 11 59 59) (Status u1 pt)) ≡ plain pt 3600 0 Normal Unshelved)
+    × IsAnswered ending (call con (at 12 0 0) (Status u1 pt)) NotGranted
+    × IsAnswered ending (grant_until con Operator (at 12 0 0) (at 12 0 0)) EndNotAhead
+    × IsDone ending (call ste (at 12 0 0) (Grant u1 con (Viewer, None)))
 unfolding holds_some
-ending_granted = refl
-
-sees : verdict ending (call con (at 11 59 59) (Status u1 pt)) ≡ plain pt 3600 0 Normal Unshelved
-unfolding holds_some
-sees = refl
-
-sees_no_more : IsAnswered ending (call con (at 12 0 0) (Status u1 pt)) NotGranted
-unfolding holds_some
-sees_no_more = refl
-
-end_not_ahead : IsAnswered ending (grant_until con Operator (at 12 0 0) (at 12 0 0)) EndNotAhead
-unfolding holds_some
-end_not_ahead = refl
-
-granted_anew : IsDone ending (call ste (at 12 0 0) (Grant u1 con (Viewer, None)))
-unfolding holds_some
-granted_anew = refl
+grant_that_ends = (refl, refl, refl, refl, refl)
 
 abbrev anew : List Call
 anew = call ste (at 12 0 0) (Grant u1 con (Viewer, None)) ∷ ending
 
-held_already : IsAnswered anew (grant_until con Viewer (at 12 0 0) (at 12 0 0)) AlreadyHeld
+after_the_end : IsAnswered anew (grant_until con Viewer (at 12 0 0) (at 12 0 0)) AlreadyHeld
+    × IsAnswered anew (call con (at 11 59 59) (Status u1 pt)) (MomentBehind (at 12 0 0))
 unfolding holds_some
-held_already = refl
-
-behind : IsAnswered anew (call con (at 11 59 59) (Status u1 pt)) (MomentBehind (at 12 0 0))
-unfolding holds_some
-behind = refl
+after_the_end = (refl, refl)
 
 abbrev ended : List Call
 ended = grant_until dan Viewer (at 12 0 0) (at 13 0 0) ∷ anew

@@ -31,29 +31,14 @@ at_start = import_at (at 10 0 2) (event 3 Act (at 10 0 0) pt ∷ event 4 Rtn (at
 abbrev after_start : Call
 after_start = import_at (at 10 0 2) (event 5 Act (at 10 0 1) pt ∷ event 6 Rtn (at 10 0 1) pt ∷ [])
 
-first_file : IsImported one_shot before_start 2 0
+returns_around_the_start : IsImported one_shot before_start 2 0
+    × IsImported (before_start ∷ one_shot) at_start 2 0
+    × IsImported (at_start ∷ before_start ∷ one_shot) after_start 2 0
+    × (status (before_start ∷ one_shot) (at 10 0 2) ≡ plain pt 3600 0 ReturnedUnack (OneShotShelved 3598))
+    × (status (at_start ∷ before_start ∷ one_shot) (at 10 0 2) ≡ plain pt 3600 0 ReturnedUnack (OneShotShelved 3598))
+    × (status (after_start ∷ at_start ∷ before_start ∷ one_shot) (at 10 0 2) ≡ plain pt 3600 0 ReturnedUnack Unshelved)
 unfolding holds_some merge_fault
-first_file = refl
-
-second_file : IsImported (before_start ∷ one_shot) at_start 2 0
-unfolding holds_some merge_fault
-second_file = refl
-
-third_file : IsImported (at_start ∷ before_start ∷ one_shot) after_start 2 0
-unfolding holds_some merge_fault
-third_file = refl
-
-still_shelved : status (before_start ∷ one_shot) (at 10 0 2) ≡ plain pt 3600 0 ReturnedUnack (OneShotShelved 3598)
-unfolding holds_some merge_fault
-still_shelved = refl
-
-shelved_at_start : status (at_start ∷ before_start ∷ one_shot) (at 10 0 2) ≡ plain pt 3600 0 ReturnedUnack (OneShotShelved 3598)
-unfolding holds_some merge_fault
-shelved_at_start = refl
-
-no_more_shelved : status (after_start ∷ at_start ∷ before_start ∷ one_shot) (at 10 0 2) ≡ plain pt 3600 0 ReturnedUnack Unshelved
-unfolding holds_some merge_fault
-no_more_shelved = refl
+returns_around_the_start = (refl, refl, refl, refl, refl, refl)
 
 -- a latching alarm, one file for each event
 abbrev one : ℕ → EventKind → Call
@@ -62,37 +47,22 @@ one n k = import_at (at 9 30 0) (event n k (at 9 0 n) lt ∷ [])
 abbrev latch_status : List Call → AlarmState → Type 0
 latch_status h state = verdict h (call ann (at 9 30 0) (Status u1 lt)) ≡ plain lt 86400 0 state Unshelved
 
-latched : latch_status (one 2 Rtn ∷ one 1 Act ∷ base) LatchedUnack
+latching_states : latch_status (one 2 Rtn ∷ one 1 Act ∷ base) LatchedUnack
+    × latch_status (one 3 Reset ∷ one 2 Rtn ∷ one 1 Act ∷ base) ReturnedUnack
+    × latch_status (one 4 Rtn ∷ one 3 Reset ∷ one 2 Rtn ∷ one 1 Act ∷ base) ReturnedUnack
+    × latch_status (one 5 Ack ∷ one 4 Rtn ∷ one 3 Reset ∷ one 2 Rtn ∷ one 1 Act ∷ base) Normal
+    × latch_status (one 3 Ack ∷ one 2 Rtn ∷ one 1 Act ∷ base) LatchedAck
 unfolding holds_some merge_fault
-latched = refl
-
-reset : latch_status (one 3 Reset ∷ one 2 Rtn ∷ one 1 Act ∷ base) ReturnedUnack
-unfolding holds_some merge_fault
-reset = refl
-
-returned_again : latch_status (one 4 Rtn ∷ one 3 Reset ∷ one 2 Rtn ∷ one 1 Act ∷ base) ReturnedUnack
-unfolding holds_some merge_fault
-returned_again = refl
-
-acknowledged_last : latch_status (one 5 Ack ∷ one 4 Rtn ∷ one 3 Reset ∷ one 2 Rtn ∷ one 1 Act ∷ base) Normal
-unfolding holds_some merge_fault
-acknowledged_last = refl
-
-latched_acknowledged : latch_status (one 3 Ack ∷ one 2 Rtn ∷ one 1 Act ∷ base) LatchedAck
-unfolding holds_some merge_fault
-latched_acknowledged = refl
+latching_states = (refl, refl, refl, refl, refl)
 
 -- a re-alarm must be acknowledged anew
 abbrev one_pt : ℕ → EventKind → Call
 one_pt n k = import_at (at 9 30 0) (event n k (at 9 0 n) pt ∷ [])
 
-acknowledged : status (one_pt 2 Ack ∷ one_pt 1 Act ∷ base) (at 9 30 0) ≡ plain pt 3600 0 Acknowledged Unshelved
+alarms_again : (status (one_pt 2 Ack ∷ one_pt 1 Act ∷ base) (at 9 30 0) ≡ plain pt 3600 0 Acknowledged Unshelved)
+    × (status (one_pt 3 Act ∷ one_pt 2 Ack ∷ one_pt 1 Act ∷ base) (at 9 30 0) ≡ plain pt 3600 0 Unacknowledged Unshelved)
 unfolding holds_some merge_fault
-acknowledged = refl
-
-alarmed_again : status (one_pt 3 Act ∷ one_pt 2 Ack ∷ one_pt 1 Act ∷ base) (at 9 30 0) ≡ plain pt 3600 0 Unacknowledged Unshelved
-unfolding holds_some merge_fault
-alarmed_again = refl
+alarms_again = (refl, refl)
 
 -- repeats, clashes, and causes of reading and of merging
 abbrev row1 : Event
@@ -107,36 +77,16 @@ row3 = event 3 Ack (at 9 6 0) pt
 abbrev three : Call
 three = import_at (at 9 30 0) (row1 ∷ row2 ∷ row3 ∷ [])
 
-three_new : IsImported base three 3 0
+repeats_and_faults : IsImported base three 3 0
+    × (status (three ∷ base) (at 9 30 0) ≡ plain pt 3600 0 Normal Unshelved)
+    × IsImported (three ∷ base) three 0 3
+    × (rows_of (three ∷ three ∷ base) ≡ rows_of (three ∷ base))
+    × IsAnswered (three ∷ base) (import_at (at 9 30 0) (row1 ∷ event 2 Rtn (at 9 4 0) pt ∷ row3 ∷ [])) (FileRefused (record { line = 3; cause = SequenceClash }))
+    × IsAnswered base (call ann (at 9 30 0) (Import u1 (Err (record { line = 1; cause = Header })))) (FileRefused (record { line = 1; cause = Header }))
+    × IsImported base (import_at (at 9 30 0) []) 0 0
+    × IsAnswered base (import_at (at 9 30 0) (event 1 Act (at 9 0 0) (codes "NO-1") ∷ [])) (FileRefused (record { line = 2; cause = TagUnknown }))
 unfolding holds_some merge_fault
-three_new = refl
-
-three_normal : status (three ∷ base) (at 9 30 0) ≡ plain pt 3600 0 Normal Unshelved
-unfolding holds_some merge_fault
-three_normal = refl
-
-three_repeated : IsImported (three ∷ base) three 0 3
-unfolding holds_some merge_fault
-three_repeated = refl
-
-same_rows_kept : rows_of (three ∷ three ∷ base) ≡ rows_of (three ∷ base)
-same_rows_kept = refl
-
-clash : IsAnswered (three ∷ base) (import_at (at 9 30 0) (row1 ∷ event 2 Rtn (at 9 4 0) pt ∷ row3 ∷ [])) (FileRefused (record { line = 3; cause = SequenceClash }))
-unfolding holds_some merge_fault
-clash = refl
-
-no_header : IsAnswered base (call ann (at 9 30 0) (Import u1 (Err (record { line = 1; cause = Header })))) (FileRefused (record { line = 1; cause = Header }))
-unfolding holds_some merge_fault
-no_header = refl
-
-header_alone : IsImported base (import_at (at 9 30 0) []) 0 0
-unfolding holds_some merge_fault
-header_alone = refl
-
-unknown_tag : IsAnswered base (import_at (at 9 30 0) (event 1 Act (at 9 0 0) (codes "NO-1") ∷ [])) (FileRefused (record { line = 2; cause = TagUnknown }))
-unfolding holds_some merge_fault
-unknown_tag = refl
+repeats_and_faults = (refl, refl, refl, refl, refl, refl, refl, refl)
 
 -- numbers, not arrival, order the events
 abbrev late : Call
@@ -145,25 +95,13 @@ late = import_at (at 9 30 0) (event 5 Act (at 9 10 0) pt ∷ event 6 Ack (at 9 2
 abbrev early : Call
 early = import_at (at 9 30 0) (event 3 Rtn (at 9 0 0) pt ∷ [])
 
-late_taken : IsImported base late 2 0
+ordered_by_number : IsImported base late 2 0
+    × IsImported (late ∷ base) early 1 0
+    × (status (early ∷ late ∷ base) (at 9 30 0) ≡ plain pt 3600 0 Acknowledged Unshelved)
+    × IsAnswered (early ∷ late ∷ base) (import_at (at 9 30 0) (event 4 Ack (at 9 15 0) pt ∷ [])) (FileRefused (record { line = 2; cause = MomentOutOfOrder }))
+    × IsAnswered (early ∷ late ∷ base) (import_at (at 9 30 0) (event 7 Act (at 9 31 0) pt ∷ [])) (FileRefused (record { line = 2; cause = MomentAhead }))
 unfolding holds_some merge_fault
-late_taken = refl
-
-early_taken : IsImported (late ∷ base) early 1 0
-unfolding holds_some merge_fault
-early_taken = refl
-
-acknowledged_after_both : status (early ∷ late ∷ base) (at 9 30 0) ≡ plain pt 3600 0 Acknowledged Unshelved
-unfolding holds_some merge_fault
-acknowledged_after_both = refl
-
-out_of_order_row : IsAnswered (early ∷ late ∷ base) (import_at (at 9 30 0) (event 4 Ack (at 9 15 0) pt ∷ [])) (FileRefused (record { line = 2; cause = MomentOutOfOrder }))
-unfolding holds_some merge_fault
-out_of_order_row = refl
-
-ahead : IsAnswered (early ∷ late ∷ base) (import_at (at 9 30 0) (event 7 Act (at 9 31 0) pt ∷ [])) (FileRefused (record { line = 2; cause = MomentAhead }))
-unfolding holds_some merge_fault
-ahead = refl
+ordered_by_number = (refl, refl, refl, refl, refl)
 
 -- a gap that is filled takes a return away, and the one-shot shelf holds again
 abbrev gap : Call
@@ -172,30 +110,18 @@ gap = import_at (at 10 1 0) (event 1 Act (at 9 50 0) pt ∷ event 3 Rtn (at 10 0
 abbrev filled : Call
 filled = import_at (at 10 2 0) (event 2 Rtn (at 9 55 0) pt ∷ [])
 
-gap_taken : IsImported one_shot gap 2 0
+filled_gap : IsImported one_shot gap 2 0
+    × (status (gap ∷ one_shot) (at 10 1 0) ≡ plain pt 3600 0 ReturnedUnack Unshelved)
+    × IsImported (gap ∷ one_shot) filled 1 0
+    × (status (filled ∷ gap ∷ one_shot) (at 10 2 0) ≡ plain pt 3600 0 ReturnedUnack (OneShotShelved 3480))
 unfolding holds_some merge_fault
-gap_taken = refl
-
-ended : status (gap ∷ one_shot) (at 10 1 0) ≡ plain pt 3600 0 ReturnedUnack Unshelved
-unfolding holds_some merge_fault
-ended = refl
-
-filled_taken : IsImported (gap ∷ one_shot) filled 1 0
-unfolding holds_some merge_fault
-filled_taken = refl
-
-holds_again : status (filled ∷ gap ∷ one_shot) (at 10 2 0) ≡ plain pt 3600 0 ReturnedUnack (OneShotShelved 3480)
-unfolding holds_some merge_fault
-holds_again = refl
+filled_gap = (refl, refl, refl, refl)
 
 -- suppression by design
-by_design : status (one_pt 1 Sup ∷ base) (at 9 30 0) ≡ Ok (StatusOf (record { tag = pt; limit = 3600; limit_revision = 0; state = Normal; shelf = Unshelved; suppressed = true; out_of_service = false; suppressed_or_shelved = true }))
+suppressed_by_design : (status (one_pt 1 Sup ∷ base) (at 9 30 0) ≡ Ok (StatusOf (record { tag = pt; limit = 3600; limit_revision = 0; state = Normal; shelf = Unshelved; suppressed = true; out_of_service = false; suppressed_or_shelved = true })))
+    × (status (one_pt 2 Unsup ∷ one_pt 1 Sup ∷ base) (at 9 30 0) ≡ plain pt 3600 0 Normal Unshelved)
 unfolding holds_some merge_fault
-by_design = refl
-
-by_design_no_more : status (one_pt 2 Unsup ∷ one_pt 1 Sup ∷ base) (at 9 30 0) ≡ plain pt 3600 0 Normal Unshelved
-unfolding holds_some merge_fault
-by_design_no_more = refl
+suppressed_by_design = (refl, refl)
 
 -- three files with the same rows, in other orders
 abbrev file12 : Call
@@ -207,16 +133,11 @@ file23 = import_at (at 9 30 0) (row2 ∷ row3 ∷ [])
 abbrev file13 : Call
 file13 = import_at (at 9 30 0) (row1 ∷ row3 ∷ [])
 
-orders_agree : rows_of (file13 ∷ file23 ∷ file12 ∷ base) ≡ rows_of (file12 ∷ file23 ∷ file13 ∷ base)
-orders_agree = refl
-
-counts_in_order : IsImported base file12 2 0 × IsImported (file12 ∷ base) file23 1 1 × IsImported (file23 ∷ file12 ∷ base) file13 0 2
+counts_in_two_orders : (rows_of (file13 ∷ file23 ∷ file12 ∷ base) ≡ rows_of (file12 ∷ file23 ∷ file13 ∷ base))
+    × IsImported base file12 2 0 × IsImported (file12 ∷ base) file23 1 1 × IsImported (file23 ∷ file12 ∷ base) file13 0 2
+    × IsImported base file13 2 0 × IsImported (file13 ∷ base) file23 1 1 × IsImported (file23 ∷ file13 ∷ base) file12 0 2
 unfolding holds_some merge_fault
-counts_in_order = (refl, refl, refl)
-
-counts_in_other_order : IsImported base file13 2 0 × IsImported (file13 ∷ base) file23 1 1 × IsImported (file23 ∷ file13 ∷ base) file12 0 2
-unfolding holds_some merge_fault
-counts_in_other_order = (refl, refl, refl)
+counts_in_two_orders = (refl, refl, refl, refl, refl, refl, refl)
 
 abbrev rows_after : Call → Call → Call → UnitRows
 rows_after first second third = rows_of (third ∷ second ∷ first ∷ base)

@@ -40,13 +40,10 @@ two_shelved = (refl, refl)
 abbrev full : List Call
 full = shot (at 10 0 0) a2 ∷ timed (at 10 0 0) a1 60 ∷ small
 
-no_third : IsAnswered full (timed (at 10 0 0) a3 60) (ShelfQuota 2)
+third_shelf : IsAnswered full (timed (at 10 0 0) a3 60) (ShelfQuota 2)
+    × IsDone full (timed (at 10 1 0) a3 60)
 unfolding holds_some
-no_third = refl
-
-third_after_the_first : IsDone full (timed (at 10 1 0) a3 60)
-unfolding holds_some
-third_after_the_first = refl
+third_shelf = (refl, refl)
 
 abbrev moved : List Call
 moved = timed (at 10 1 0) a3 60 ∷ full
@@ -62,12 +59,10 @@ rows_at t rows = call ann t (Import u3 (Ok rows))
 abbrev above : List Call
 above = rows_at (at 10 2 0) (event 2 Rtn (at 9 55 0) a2 ∷ []) ∷ timed (at 10 1 30) a3 3600 ∷ timed (at 10 1 30) a1 3600 ∷ rows_at (at 10 1 0) (event 1 Act (at 9 50 0) a2 ∷ event 3 Rtn (at 10 0 5) a2 ∷ []) ∷ shot (at 10 0 0) a2 ∷ small
 
-steps_above : IsDone (drop 3 above) (timed (at 10 1 30) a1 3600) × IsDone (drop 2 above) (timed (at 10 1 30) a3 3600) × (verdict (drop 1 above) (rows_at (at 10 2 0) (event 2 Rtn (at 9 55 0) a2 ∷ [])) ≡ Ok (Imported 1 0))
+shelved_above : IsDone (drop 3 above) (timed (at 10 1 30) a1 3600) × IsDone (drop 2 above) (timed (at 10 1 30) a3 3600) × (verdict (drop 1 above) (rows_at (at 10 2 0) (event 2 Rtn (at 9 55 0) a2 ∷ [])) ≡ Ok (Imported 1 0))
+    × (length (shelf_lines (facts above) (at 10 2 0)) ≡ 3)
 unfolding holds_some merge_fault
-steps_above = (refl, refl, refl)
-
-three_shelved : length (shelf_lines (facts above) (at 10 2 0)) ≡ 3
-three_shelved = refl
+shelved_above = (refl, refl, refl, refl)
 
 abbrev off : Call
 off = call ann (at 10 2 0) (Unshelve u3 a1)

@@ -12,25 +12,13 @@ use Rattle.plant_types.specs.declared.role.Role.TheVariants.{Maintainer}
 abbrev removed : List Call
 removed = call moe (at 10 0 0) (RemoveFromService u1 pt (codes "valve")) ∷ base
 
-removing : IsDone base (call moe (at 10 0 0) (RemoveFromService u1 pt (codes "valve")))
+removal : IsDone base (call moe (at 10 0 0) (RemoveFromService u1 pt (codes "valve")))
+    × IsAnswered base (call ann (at 10 0 0) (RemoveFromService u1 pt (codes "valve"))) (RoleLacking Maintainer)
+    × IsAnswered base (call moe (at 10 0 0) (RemoveFromService u1 x (codes "valve"))) AlarmUnknown
+    × (status removed (at 10 0 0) ≡ Ok (StatusOf (record { tag = pt; limit = 3600; limit_revision = 0; state = Normal; shelf = Unshelved; suppressed = false; out_of_service = true; suppressed_or_shelved = true })))
+    × IsAnswered removed (call moe (at 10 0 0) (RemoveFromService u1 pt (codes "valve"))) AlreadyOutOfService
 unfolding holds_some
-removing = refl
-
-removing_by_operator : IsAnswered base (call ann (at 10 0 0) (RemoveFromService u1 pt (codes "valve"))) (RoleLacking Maintainer)
-unfolding holds_some
-removing_by_operator = refl
-
-removing_none : IsAnswered base (call moe (at 10 0 0) (RemoveFromService u1 x (codes "valve"))) AlarmUnknown
-unfolding holds_some
-removing_none = refl
-
-removed_status : status removed (at 10 0 0) ≡ Ok (StatusOf (record { tag = pt; limit = 3600; limit_revision = 0; state = Normal; shelf = Unshelved; suppressed = false; out_of_service = true; suppressed_or_shelved = true }))
-unfolding holds_some
-removed_status = refl
-
-removed_again : IsAnswered removed (call moe (at 10 0 0) (RemoveFromService u1 pt (codes "valve"))) AlreadyOutOfService
-unfolding holds_some
-removed_again = refl
+removal = (refl, refl, refl, refl, refl)
 
 -- it can be shelved while it is out of service, and the three kinds of suppression stay apart
 abbrev shelved_too : List Call
@@ -55,13 +43,10 @@ standing_list = refl
 abbrev placed : List Call
 placed = call moe (at 10 0 0) (PlaceInService u1 pt) ∷ shelved_too
 
-placing : IsDone shelved_too (call moe (at 10 0 0) (PlaceInService u1 pt)) × IsAnswered placed (call moe (at 10 0 0) (PlaceInService u1 pt)) NotOutOfService
+placement : IsDone shelved_too (call moe (at 10 0 0) (PlaceInService u1 pt)) × IsAnswered placed (call moe (at 10 0 0) (PlaceInService u1 pt)) NotOutOfService
+    × (status placed (at 10 0 30) ≡ Ok (StatusOf (record { tag = pt; limit = 3600; limit_revision = 0; state = Normal; shelf = TimedShelved 30; suppressed = false; out_of_service = false; suppressed_or_shelved = true })))
 unfolding holds_some
-placing = (refl, refl)
-
-placed_status : status placed (at 10 0 30) ≡ Ok (StatusOf (record { tag = pt; limit = 3600; limit_revision = 0; state = Normal; shelf = TimedShelved 30; suppressed = false; out_of_service = false; suppressed_or_shelved = true }))
-unfolding holds_some
-placed_status = refl
+placement = (refl, refl, refl)
 
 -- the row of an alarm that is out of service tells since when, by whom and why
 removed_row : alarm_row removed pt ≡ Some (record { tag = pt; latching = false; max_s = 3600; max_rev = 0; state_no = Normal; suppressed = false; active_s = None; return_s = None; out_s = Some (at 10 0 0); out_by = Some moe; out_words = Some (codes "valve") })

@@ -9,86 +9,47 @@ use Rattle.plant_model.proofs.public.Base.{IsDone, ann, at, base, bob, call, eve
 use Rattle.plant_types.specs.declared.role.Role.TheVariants.{Operator}
 
 -- an unknown person, on this unit and on one that was never opened
-nobody : verdict base (call bob (at 7 0 0) (Status u1 pt)) ≡ Err NotGranted
+strangers : (verdict base (call bob (at 7 0 0) (Status u1 pt)) ≡ Err NotGranted)
+    × (verdict [] (call bob (at 7 0 0) (Status u1 pt)) ≡ Err NotGranted)
 unfolding holds_some
-nobody = refl
+strangers = (refl, refl)
 
-never_opened : verdict [] (call bob (at 7 0 0) (Status u1 pt)) ≡ Err NotGranted
+first_steps : IsDone opened (grant ann Operator)
+    × IsDone (drop 1 base) (call eve (at 8 0 0) (Register u1 lt true 86400))
+    × IsDone base (call ann (at 10 0 0) (TimedShelve u1 pt 3600 (codes "pump test")))
 unfolding holds_some
-never_opened = refl
-
-ann_granted : IsDone opened (grant ann Operator)
-unfolding holds_some
-ann_granted = refl
-
-registered : IsDone (drop 1 base) (call eve (at 8 0 0) (Register u1 lt true 86400))
-unfolding holds_some
-registered = refl
-
-shelving : IsDone base (call ann (at 10 0 0) (TimedShelve u1 pt 3600 (codes "pump test")))
-unfolding holds_some
-shelving = refl
+first_steps = (refl, refl, refl)
 
 abbrev shelved : List Call
 shelved = call ann (at 10 0 0) (TimedShelve u1 pt 3600 (codes "pump test")) ∷ base
 
-one_second_left : status shelved (at 10 59 59) ≡ plain pt 3600 0 Normal (TimedShelved 1)
+timed_shelf : (status shelved (at 10 59 59) ≡ plain pt 3600 0 Normal (TimedShelved 1))
+    × (status shelved (at 11 0 0) ≡ plain pt 3600 0 Normal Unshelved)
+    × (verdict shelved (call ann (at 10 59 59) (Shelves u1)) ≡ Ok (ShelvesOf u1 (at 10 59 59) (record { tag = pt; one_shot = false; start = at 10 0 0; left = 1; person = ann; words = codes "pump test" } ∷ [])))
+    × (verdict shelved (call ann (at 11 0 0) (Shelves u1)) ≡ Ok (ShelvesOf u1 (at 11 0 0) []))
+    × (verdict shelved (call ann (at 10 30 0) (TimedShelve u1 pt 3601 x)) ≡ Err (ShelvingTimeOutOfRange 3600))
+    × (verdict shelved (call ann (at 10 30 0) (TimedShelve u1 pt 3600 x)) ≡ Err ConditionAlreadyShelved)
+    × (verdict shelved (call ann (at 11 0 0) (TimedShelve u1 pt 3600 x)) ≡ Ok Done)
+    × (verdict (call ann (at 11 0 0) (TimedShelve u1 pt 3600 x) ∷ shelved) (call ann (at 10 59 59) (TimedShelve u1 pt 3600 x)) ≡ Err (MomentBehind (at 11 0 0)))
 unfolding holds_some
-one_second_left = refl
-
-time_over : status shelved (at 11 0 0) ≡ plain pt 3600 0 Normal Unshelved
-unfolding holds_some
-time_over = refl
-
-listed : verdict shelved (call ann (at 10 59 59) (Shelves u1)) ≡ Ok (ShelvesOf u1 (at 10 59 59) (record { tag = pt; one_shot = false; start = at 10 0 0; left = 1; person = ann; words = codes "pump test" } ∷ []))
-unfolding holds_some
-listed = refl
-
-listed_no_more : verdict shelved (call ann (at 11 0 0) (Shelves u1)) ≡ Ok (ShelvesOf u1 (at 11 0 0) [])
-unfolding holds_some
-listed_no_more = refl
-
-too_long : verdict shelved (call ann (at 10 30 0) (TimedShelve u1 pt 3601 x)) ≡ Err (ShelvingTimeOutOfRange 3600)
-unfolding holds_some
-too_long = refl
-
-running : verdict shelved (call ann (at 10 30 0) (TimedShelve u1 pt 3600 x)) ≡ Err ConditionAlreadyShelved
-unfolding holds_some
-running = refl
-
-over : verdict shelved (call ann (at 11 0 0) (TimedShelve u1 pt 3600 x)) ≡ Ok Done
-unfolding holds_some
-over = refl
-
-behind : verdict (call ann (at 11 0 0) (TimedShelve u1 pt 3600 x) ∷ shelved) (call ann (at 10 59 59) (TimedShelve u1 pt 3600 x)) ≡ Err (MomentBehind (at 11 0 0))
-unfolding holds_some
-behind = refl
+timed_shelf = (refl, refl, refl, refl, refl, refl, refl, refl)
 
 abbrev once : List Call
 once = call ann (at 10 10 0) (OneShotShelve u1 pt x) ∷ shelved
 
-once_done : IsDone shelved (call ann (at 10 10 0) (OneShotShelve u1 pt x))
+one_shot_shelf : IsDone shelved (call ann (at 10 10 0) (OneShotShelve u1 pt x))
+    × (verdict once (call ann (at 10 10 0) (OneShotShelve u1 pt x)) ≡ Err ConditionAlreadyShelved)
+    × (verdict once (call ann (at 10 10 0) (TimedShelve u1 pt 60 x)) ≡ Ok Done)
 unfolding holds_some
-once_done = refl
-
-once_again : verdict once (call ann (at 10 10 0) (OneShotShelve u1 pt x)) ≡ Err ConditionAlreadyShelved
-unfolding holds_some
-once_again = refl
-
-timed_again : verdict once (call ann (at 10 10 0) (TimedShelve u1 pt 60 x)) ≡ Ok Done
-unfolding holds_some
-timed_again = refl
+one_shot_shelf = (refl, refl, refl)
 
 abbrev timed : List Call
 timed = call ann (at 10 10 0) (TimedShelve u1 pt 60 x) ∷ once
 
-unshelved : verdict timed (call ann (at 10 10 0) (Unshelve u1 pt)) ≡ Ok Done
+unshelving : (verdict timed (call ann (at 10 10 0) (Unshelve u1 pt)) ≡ Ok Done)
+    × (verdict (call ann (at 10 10 0) (Unshelve u1 pt) ∷ timed) (call ann (at 10 10 0) (Unshelve u1 pt)) ≡ Err ConditionNotShelved)
 unfolding holds_some
-unshelved = refl
-
-unshelved_twice : verdict (call ann (at 10 10 0) (Unshelve u1 pt) ∷ timed) (call ann (at 10 10 0) (Unshelve u1 pt)) ≡ Err ConditionNotShelved
-unfolding holds_some
-unshelved_twice = refl
+unshelving = (refl, refl)
 
 -- the row of the shelf lies on when its time is over
 rows_shelved : (rows_of shelved).shelves ≡ record { tag = pt; one_shot = false; start_s = at 10 0 0; until_s = at 11 0 0; person = ann; words = codes "pump test" } ∷ []

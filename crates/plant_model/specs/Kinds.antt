@@ -77,83 +77,40 @@ unit_of OwnShelves = None
 abbrev pub unit_named : Request → Option Name
 unit_named r = unit_of (subject_of r)
 
--- what calls of a kind do to their unit's history
+-- what calls of a kind do to their unit's history, the role that they need, where they need one in particular, and the count that they need
+abbrev pub traits_of : CallKind → Effect × Option Role × Counted
+traits_of kind.OpenUnit = (Opens, None, count.Nothing)
+traits_of kind.Grant = (Changes, Some Steward, count.Nothing)
+traits_of kind.Withdraw = (Changes, Some Steward, count.Nothing)
+traits_of kind.Register = (Changes, Some Engineer, count.Alarms)
+traits_of kind.Import = (Changes, Some Operator, count.Events)
+traits_of kind.TimedShelve = (Changes, Some Operator, count.Nothing)
+traits_of kind.OneShotShelve = (Changes, Some Operator, count.Nothing)
+traits_of kind.Unshelve = (Changes, Some Operator, count.Nothing)
+traits_of kind.RemoveFromService = (Changes, Some Maintainer, count.Nothing)
+traits_of kind.PlaceInService = (Changes, Some Maintainer, count.Nothing)
+traits_of kind.Propose = (Changes, Some Engineer, count.Changes)
+traits_of kind.WithdrawChange = (Changes, Some Engineer, count.Nothing)
+traits_of kind.Approve = (Changes, Some Approver, count.Nothing)
+traits_of kind.Reject = (Changes, Some Approver, count.Nothing)
+traits_of kind.Status = (Reads, None, count.Nothing)
+traits_of kind.RecordOf = (Reads, None, count.Nothing)
+traits_of kind.ChangeOf = (Reads, None, count.Nothing)
+traits_of kind.Shelves = (Reads, None, count.Nothing)
+traits_of kind.Alarms = (Reads, None, count.Nothing)
+traits_of kind.Standing = (Reads, None, count.Nothing)
+traits_of kind.Floods = (Reads, None, count.Nothing)
+traits_of kind.MyUnits = (Reads, None, count.Nothing)
+traits_of kind.MyShelves = (Reads, None, count.Nothing)
+
 abbrev pub effect_of : CallKind → Effect
-effect_of kind.OpenUnit = Opens
-effect_of kind.Grant = Changes
-effect_of kind.Withdraw = Changes
-effect_of kind.Register = Changes
-effect_of kind.Import = Changes
-effect_of kind.TimedShelve = Changes
-effect_of kind.OneShotShelve = Changes
-effect_of kind.Unshelve = Changes
-effect_of kind.RemoveFromService = Changes
-effect_of kind.PlaceInService = Changes
-effect_of kind.Propose = Changes
-effect_of kind.WithdrawChange = Changes
-effect_of kind.Approve = Changes
-effect_of kind.Reject = Changes
-effect_of kind.Status = Reads
-effect_of kind.RecordOf = Reads
-effect_of kind.ChangeOf = Reads
-effect_of kind.Shelves = Reads
-effect_of kind.Alarms = Reads
-effect_of kind.Standing = Reads
-effect_of kind.Floods = Reads
-effect_of kind.MyUnits = Reads
-effect_of kind.MyShelves = Reads
+effect_of k = (traits_of k).0
 
--- the role that calls of a kind need, where they need one in particular
 abbrev pub role_of : CallKind → Option Role
-role_of kind.OpenUnit = None
-role_of kind.Grant = Some Steward
-role_of kind.Withdraw = Some Steward
-role_of kind.Register = Some Engineer
-role_of kind.Import = Some Operator
-role_of kind.TimedShelve = Some Operator
-role_of kind.OneShotShelve = Some Operator
-role_of kind.Unshelve = Some Operator
-role_of kind.RemoveFromService = Some Maintainer
-role_of kind.PlaceInService = Some Maintainer
-role_of kind.Propose = Some Engineer
-role_of kind.WithdrawChange = Some Engineer
-role_of kind.Approve = Some Approver
-role_of kind.Reject = Some Approver
-role_of kind.Status = None
-role_of kind.RecordOf = None
-role_of kind.ChangeOf = None
-role_of kind.Shelves = None
-role_of kind.Alarms = None
-role_of kind.Standing = None
-role_of kind.Floods = None
-role_of kind.MyUnits = None
-role_of kind.MyShelves = None
+role_of k = (traits_of k).1
 
--- which count of the unit a call of a kind needs
 abbrev pub count_of : CallKind → Counted
-count_of kind.OpenUnit = count.Nothing
-count_of kind.Grant = count.Nothing
-count_of kind.Withdraw = count.Nothing
-count_of kind.Register = count.Alarms
-count_of kind.Import = count.Events
-count_of kind.TimedShelve = count.Nothing
-count_of kind.OneShotShelve = count.Nothing
-count_of kind.Unshelve = count.Nothing
-count_of kind.RemoveFromService = count.Nothing
-count_of kind.PlaceInService = count.Nothing
-count_of kind.Propose = count.Changes
-count_of kind.WithdrawChange = count.Nothing
-count_of kind.Approve = count.Nothing
-count_of kind.Reject = count.Nothing
-count_of kind.Status = count.Nothing
-count_of kind.RecordOf = count.Nothing
-count_of kind.ChangeOf = count.Nothing
-count_of kind.Shelves = count.Nothing
-count_of kind.Alarms = count.Nothing
-count_of kind.Standing = count.Nothing
-count_of kind.Floods = count.Nothing
-count_of kind.MyUnits = count.Nothing
-count_of kind.MyShelves = count.Nothing
+count_of k = (traits_of k).2
 
 abbrev pub is_opens : Effect → Bool
 is_opens Opens = true

@@ -1,11 +1,10 @@
 -- Isolation, over the definitions alone.
 use Rattle.std.specs.{FinMap.{keys}, List.{list_all}, Prelude.{Bool, List, None, Option, Some, false, is_none, is_some, true, ℕ, ◌<◌, ◌≡◌}}
 use Rattle.plant_types.specs.{Limits.{max_quota}, Names.{Name, same_name}, Roles.{Pair}}
-use Rattle.plant_model.specs.{Events.{events_of}, Facts.{facts, others_shelved, shelf_now}, Grants.{held, holds_any, stands}}
-use Rattle.plant_model.specs.{Histories.{Begins, Over, Said}, Kinds.{says}, Legality.{IsLegal, has_matrix}, Rows.{alarm_row}}
-use Rattle.plant_model.specs.{Shelves.{shelf, shelf_left}, Views.{IsAlwaysInside, answers_to, grants_to, purge, view}}
-use Rattle.plant_model.specs.{Worlds.{IsLegalWorld, World, answer, empty_world, history, next, unit_named, units_held}, declared.call.Call.{Call}}
-use Rattle.plant_model.specs.declared.call.Request.{Request}
+use Rattle.plant_model.specs.{Events.{events_of}, Facts.{facts, others_shelved, shelf_now}, Grants.{held, holds_any, stands}, Histories.{Begins}}
+use Rattle.plant_model.specs.{Histories.{Over, Said}, Kinds.{says}, Legality.{IsLegal, has_matrix}, Rows.{alarm_row}, Shelves.{shelf, shelf_left}}
+use Rattle.plant_model.specs.{Views.{IsAlwaysInside, answers_to, grants_to, purge, view}, Worlds.{IsLegalWorld, World, answer, empty_world, history}}
+use Rattle.plant_model.specs.{Worlds.{next, unit_named, units_held}, declared.call.{Call.{Call}, Request.{Request}}}
 use Rattle.plant_alarm.specs.Shelves.{shelf_of}
 
 -- a call that names no unit that the person sees, and grants the person nothing, changes nothing that the person sees of the units

@@ -1,7 +1,6 @@
 -- The priority matrices of a unit (ISA-18.2: rationalisation), by number, and the places of their bands and cells.
-use Rattle.std.specs.{List.{enumerate_from, range_with_len, slice_get}, Ordering.{nat_cmp, ordering_then}}
+use Rattle.std.specs.{List.{enumerate_from, range_with_len, slice_get}, Ordering.{nat_cmp, ordering_then}, declared.cmp.Ordering.{Ordering}}
 use Rattle.std.specs.Prelude.{◌+◌, List, None, Option, Some, [], flat_map, length, map, option_and_then, option_map, suc, zero, ℕ}
-use Rattle.std.specs.declared.cmp.Ordering.{Ordering}
 use Rattle.plant_model.specs.{Changes.{matrix_in, proposals}, Histories.{latest, same_number}, Kinds.{Opening, says}, declared.call.Call.{Call}}
 use Rattle.plant_model.specs.declared.{call.Request.{Request}, rows.{BandRow.{BandRow}, CellRow.{CellRow}}}
 use Rattle.plant_ration.specs.{Grid.{Grid}, declared.{cell.Cell.{Cell}, change.Proposal.{Proposal}}}

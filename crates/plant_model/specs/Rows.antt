@@ -1,7 +1,7 @@
 -- The rows of a unit, from its history: each table has the rows of the keys that the history names, in their order.
 use Rattle.std.specs.Ordering.{nat_cmp}
 use Rattle.std.specs.Prelude.{option_to_list, Bool, List, None, Option, Some, [], filter_map, map, option_and_then, option_map, unwrap_or, ℕ, ◌+◌, ◌∷◌}
-use Rattle.plant_model.specs.Alarms.{latching, limit, quota}
+use Rattle.plant_model.specs.{Alarms.{latching, limit, quota}, declared.rows.UnitRows.{UnitRows}}
 use Rattle.plant_model.specs.Changes.{change, kind_of_change, limit_revision, matrix, matrix_revision, number_approved, proposals, record_of}
 use Rattle.plant_model.specs.{Events.{events, events_of}, Grants.{standing}, Histories.{all_named, last_moment}, Kinds.{says}}
 use Rattle.plant_model.specs.Matrices.{BandKey, CellKey, band_at, band_cmp, band_places, cell_cmp, cell_of, cell_places, matrix_numbered, numbered_matrix, places_in}
@@ -10,7 +10,6 @@ use Rattle.plant_model.specs.declared.{reply.{ChangeRow.{ChangeRow}, RecordRow.{
 use Rattle.plant_model.specs.declared.rows.{CellRow.{CellRow}, ChangeEntry.{ChangeEntry}, ChangeTopic.{ChangeTopic}}
 use Rattle.plant_model.specs.declared.rows.ChangeTopic.TheVariants.{Limit as LimitTopic, Matrix as MatrixTopic, Record as RecordTopic}
 use Rattle.plant_model.specs.declared.rows.{GrantRow.{GrantRow}, RecordEntry.{RecordEntry}, ShelfRow.{ShelfRow}, UnitRow.{UnitRow}}
-use Rattle.plant_model.specs.declared.rows.UnitRows.{UnitRows}
 use Rattle.plant_ration.specs.declared.change.{ChangeKind.{ChangeKind, TheVariants.{Limit, Matrix, Rationale}}, Sheet.{Sheet}}
 use Rattle.plant_alarm.specs.{States.{active_since, is_suppressed, last_return, state_of}, declared.event.Event.{Event}}
 use Rattle.plant_types.specs.{KeyedRows.{in_order}, Names.{Name, name_cmp}, Roles.{Pair, pair_cmp}}
@@ -84,10 +83,8 @@ abbrev pub cell_rows : List Call → List CellRow
 cell_rows h = filter_map (cell_row h) (in_order cell_cmp (all_named (λ c before. places_in cell_places (numbered_matrix before c.request)) h))
 
 abbrev pub tag_rationalised : Option ChangeKind → List Name
-tag_rationalised None = []
 tag_rationalised (Some (Rationale a s)) = a ∷ []
-tag_rationalised (Some (Matrix m)) = []
-tag_rationalised (Some (Limit a max)) = []
+tag_rationalised _ = []
 
 abbrev pub tags_approved : List Call → Request → List Name
 tags_approved before r = tag_rationalised (option_and_then (kind_of_change before) (number_approved r))

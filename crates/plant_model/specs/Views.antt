@@ -1,9 +1,8 @@
 -- What a person sees of an office, and the calls that stay when others' calls go.
 use Rattle.std.specs.{FinMap.{keys}, List.{list_any}}
 use Rattle.std.specs.Prelude.{Bool, List, None, Option, Result, Some, [], false, filter, if◌then◌else◌, ℕ, ◌||◌, ◌∷◌, ◌≡◌}
-use Rattle.plant_model.specs.{Grants.{stands}, Histories.{Begins, Over, Said}, Kinds.{says}}
+use Rattle.plant_model.specs.{Grants.{stands}, Histories.{Begins, Over, Said}, Kinds.{says}, declared.reply.{Refused.{Refused}, Reply.{Reply}}}
 use Rattle.plant_model.specs.{Worlds.{World, answer, history, next, unit_named, units_held}, declared.call.{Call.{Call}, Request.{Request}}}
-use Rattle.plant_model.specs.declared.reply.{Refused.{Refused}, Reply.{Reply}}
 use Rattle.plant_types.specs.{Names.{Name, same_name}, Roles.{Pair, all_roles}}
 
 -- the codes, for the administrator; else nothing

@@ -86,14 +86,10 @@ next w c = next_at w c (unit_named c.request)
 abbrev pub empty_world : Name → World
 empty_world admin = record { admin = admin; units = empty }
 
--- the answers to a list of calls, in order, and the world that they leave
+-- the answers to a list of calls, in order
 abbrev pub answers : World → List Call → List (Result Reply Refused)
 answers w [] = []
 answers w (c ∷ calls) = answer w c ∷ answers (next w c) calls
-
-abbrev pub run : World → List Call → World
-run w [] = w
-run w (c ∷ calls) = run (next w c) calls
 
 -- each unit of the world has a legal history
 abbrev pub IsLegalWorld : World → Type 0

@@ -80,10 +80,7 @@ pub fn alarm_of<'a>(alarms: &'a [AlarmRow], tag: &Tag) -> Option<&'a AlarmRow>
 pub fn last_return(alarms: &[AlarmRow], tag: &Tag) -> Option<Moment>
     ensures { result ≡ facts.last_return alarms.now tag.now }
 {
-    match alarm_of(alarms, tag) {
-        Some(alarm) => alarm.return_s,
-        None => None,
-    }
+    alarm_of(alarms, tag).and_then(|alarm| alarm.return_s)
 }
 
 /// How many of the changes, which stand in rising number, have a smaller number.

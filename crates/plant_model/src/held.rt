@@ -12,10 +12,7 @@ use plant_types::{Moment, Person, Role};
 pub fn is_before(now: Moment, end: Option<Moment>) -> bool
     ensures { result ≡ grants.is_before now end }
 {
-    match end {
-        Some(end) => now.seconds() < end.seconds(),
-        None => true,
-    }
+    end.is_none_or(|end| now.seconds() < end.seconds())
 }
 
 /// Whether the row is the grant of the pair.
@@ -42,10 +39,7 @@ fn grant_of<'a>(grants: &'a [GrantRow], person: &Person, role: Role) -> Option<&
 pub fn is_held_by(grants: &[GrantRow], person: &Person, role: Role, now: Moment) -> bool
     ensures { result ≡ held_by grants.now now (person.now, role) }
 {
-    match grant_of(grants, person, role) {
-        Some(row) => is_before(now, row.end_s),
-        None => false,
-    }
+    grant_of(grants, person, role).is_some_and(|row| is_before(now, row.end_s))
 }
 
 const ROLES: [Role; 6] = [

@@ -86,25 +86,28 @@ pub enum Scope<'a> {
 }
 
 impl CallKind {
-    /// What calls of this kind do to the history of their unit.
-    pub fn effect(self) -> Effect
-        ensures { result ≡ kinds.effect_of self }
+    /// What calls of this kind do, the role that they need, and what is counted for them.
+    fn traits(self) -> (Effect, Option<Role>, Counted)
+        ensures { result ≡ kinds.traits_of self }
     {
         match self {
-            CallKind::OpenUnit => Effect::Opens,
-            CallKind::Grant
-            | CallKind::Withdraw
-            | CallKind::Register
-            | CallKind::Import
-            | CallKind::TimedShelve
-            | CallKind::OneShotShelve
-            | CallKind::Unshelve
-            | CallKind::RemoveFromService
-            | CallKind::PlaceInService
-            | CallKind::Propose
-            | CallKind::WithdrawChange
-            | CallKind::Approve
-            | CallKind::Reject => Effect::Changes,
+            CallKind::OpenUnit => (Effect::Opens, None, Counted::Nothing),
+            CallKind::Grant | CallKind::Withdraw => {
+                (Effect::Changes, Some(Role::Steward), Counted::Nothing)
+            }
+            CallKind::Register => (Effect::Changes, Some(Role::Engineer), Counted::Alarms),
+            CallKind::Import => (Effect::Changes, Some(Role::Operator), Counted::Events),
+            CallKind::TimedShelve | CallKind::OneShotShelve | CallKind::Unshelve => {
+                (Effect::Changes, Some(Role::Operator), Counted::Nothing)
+            }
+            CallKind::RemoveFromService | CallKind::PlaceInService => {
+                (Effect::Changes, Some(Role::Maintainer), Counted::Nothing)
+            }
+            CallKind::Propose => (Effect::Changes, Some(Role::Engineer), Counted::Changes),
+            CallKind::WithdrawChange => (Effect::Changes, Some(Role::Engineer), Counted::Nothing),
+            CallKind::Approve | CallKind::Reject => {
+                (Effect::Changes, Some(Role::Approver), Counted::Nothing)
+            }
             CallKind::Status
             | CallKind::RecordOf
             | CallKind::ChangeOf
@@ -113,67 +116,29 @@ impl CallKind {
             | CallKind::Standing
             | CallKind::Floods
             | CallKind::MyUnits
-            | CallKind::MyShelves => Effect::Reads,
+            | CallKind::MyShelves => (Effect::Reads, None, Counted::Nothing),
         }
+    }
+
+    /// What calls of this kind do to the history of their unit.
+    pub fn effect(self) -> Effect
+        ensures { result ≡ kinds.effect_of self }
+    {
+        self.traits().0
     }
 
     /// The role that calls of this kind need, if they need one in particular.
     pub fn role_needed(self) -> Option<Role>
         ensures { result ≡ kinds.role_of self }
     {
-        match self {
-            CallKind::Grant | CallKind::Withdraw => Some(Role::Steward),
-            CallKind::Register | CallKind::Propose | CallKind::WithdrawChange => Some(
-                Role::Engineer,
-            ),
-            CallKind::Approve | CallKind::Reject => Some(Role::Approver),
-            CallKind::Import
-            | CallKind::TimedShelve
-            | CallKind::OneShotShelve
-            | CallKind::Unshelve => Some(Role::Operator),
-            CallKind::RemoveFromService | CallKind::PlaceInService => Some(Role::Maintainer),
-            CallKind::OpenUnit
-            | CallKind::Status
-            | CallKind::RecordOf
-            | CallKind::ChangeOf
-            | CallKind::Shelves
-            | CallKind::Alarms
-            | CallKind::Standing
-            | CallKind::Floods
-            | CallKind::MyUnits
-            | CallKind::MyShelves => None,
-        }
+        self.traits().1
     }
 
     /// What of a unit is counted for calls of this kind.
     pub fn count(self) -> Counted
         ensures { result ≡ kinds.count_of self }
     {
-        match self {
-            CallKind::Register => Counted::Alarms,
-            CallKind::Import => Counted::Events,
-            CallKind::Propose => Counted::Changes,
-            CallKind::OpenUnit
-            | CallKind::Grant
-            | CallKind::Withdraw
-            | CallKind::TimedShelve
-            | CallKind::OneShotShelve
-            | CallKind::Unshelve
-            | CallKind::RemoveFromService
-            | CallKind::PlaceInService
-            | CallKind::WithdrawChange
-            | CallKind::Approve
-            | CallKind::Reject
-            | CallKind::Status
-            | CallKind::RecordOf
-            | CallKind::ChangeOf
-            | CallKind::Shelves
-            | CallKind::Alarms
-            | CallKind::Standing
-            | CallKind::Floods
-            | CallKind::MyUnits
-            | CallKind::MyShelves => Counted::Nothing,
-        }
+        self.traits().2
     }
 }
 

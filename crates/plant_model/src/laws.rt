@@ -13,16 +13,19 @@ pub fn two_worlds()
 {}
 
 /// Purge: a person's answers, without the calls of others elsewhere.
+#[tactic(auto, using(crate::proofs::PurgeLaws::others_calls_can_go))]
 pub fn purged()
     ensures { OthersCallsCanGo }
 {}
 
 /// The next world of a world of legal histories is one.
+#[tactic(auto, using(crate::proofs::public::LegalLaws::next_legal))]
 pub fn histories_stay_legal()
     ensures { NextWorldsAreLegal }
 {}
 
 /// Each unit's history is its own: opened by the administrator, with values of their sets.
+#[tactic(auto, using(crate::proofs::OwnLaws::histories_are_own))]
 pub fn histories_are_own()
     ensures { HistoriesAreOwn }
 {}
@@ -38,6 +41,7 @@ pub fn largest_quota()
 {}
 
 /// Imports agree: which file has which rows, and in which order they come, makes no difference.
+#[tactic(auto, using(crate::proofs::AgreeLaws::imports_agree))]
 pub fn imports_agree()
     ensures { ImportsAgree }
 {}

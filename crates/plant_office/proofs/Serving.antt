@@ -1,7 +1,7 @@
 -- Books that hold the rows of a world, and what a call does to them.
 use Rattle.std.specs.{FinMap.{contains_key, get, get-insert, keys, Entries.{find as found}}, List.{cons_option}}
 use Rattle.std.proofs.Common.{true≢false, ap, arith, inl, inr, refl, subst, sym, ◌++◌, ◌∙◌, flat_map, Bool, Err, IfOk, IfSome, IsErrAnd, List, None, Ok, OnErr, Option, Result, Some, [], cond, false, filter_map, fold, if◌then◌else◌, is_ok, is_some, map, max, nat_lt, not, option_and_then, option_map, true, unwrap_or, ℕ, ◌<◌, ◌∷◌, ◌≡◌, ◌≤◌}
-use Rattle.std.proofs.lemmas.{Bool.Decides.{nat_tests}, List.Elements.{filter_map-append}}
+use Rattle.std.proofs.lemmas.{Bool.Decides.{nat_tests}, List.Elements.{filter_map-append}, Simd.{map-map}}
 use Rattle.plant_model.specs.{Calls.{reply}, Facts.{facts, returned}, Grants.{held, holds_any, roles_held}, Histories.{last_moment}}
 use Rattle.plant_model.specs.{Legality.{has_matrix}, Parts.{part_of, part_of_holder, part_of_stranger}, Replies.{line_of, shelf_lines}}
 use Rattle.plant_model.specs.{RowChanges.{changed_by, no_rows}, RowFacts.{holds_by, last_return}, Rows.{alarm_rows, rows_of, shelf_rows}}
@@ -214,10 +214,6 @@ filter_map-mapped f s [] = refl
 filter_map-mapped f s (x ∷ xs) =
     elim (s x) as (λ o. cons_option (option_map f o) (filter_map (λ x. option_map f (s x)) xs) ≡ map f (cons_option o (filter_map s xs))) [ None ↦ filter_map-mapped f s xs | Some y ↦ ap (λ ys. f y ∷ ys) (filter_map-mapped f s xs) ]
 
-map-mapped : {A B C : Type 0} (g : B → C) (f : A → B) (xs : List A) → map g (map f xs) ≡ map (λ x. g (f x)) xs
-map-mapped g f [] = refl
-map-mapped g f (x ∷ xs) = ap (λ ys. g (f x) ∷ ys) (map-mapped g f xs)
-
 -- a unit of the person, as the history tells it
 abbrev mine_of : ℕ → Name → Name × List Call → MineUnit
 mine_of t p e = record { unit = e.0; roles = roles_held e.1 t p; last = last_moment e.1 }
@@ -250,7 +246,7 @@ lt_false a b h = grind (arith, nat_tests)
 -- the latest of the call's moment and the last moments of the units
 last_told : (t : ℕ) (p : Name) (us : List (Name × List Call)) (units : List MineUnit) (last : ℕ) → units ≡ map (mine_of t p) us → last ≡ fold max t (map (λ (u : MineUnit). u.last) units) → last ≡ max t (greatest_last us)
 last_told t p us units last is e =
-    e ∙ ap (λ xs. fold max t (map (λ (u : MineUnit). u.last) xs)) is ∙ ap (fold max t) (map-mapped (λ (u : MineUnit). u.last) (mine_of t p) us) ∙ latest_of t (map (λ e. last_moment e.1) us)
+    e ∙ ap (λ xs. fold max t (map (λ (u : MineUnit). u.last) xs)) is ∙ ap (fold max t) (map-map (λ (u : MineUnit). u.last) (mine_of t p) us) ∙ latest_of t (map (λ e. last_moment e.1) us)
 
 answered_of_units : (b : Content) (w : World) (c : Call) (a : Said) → Holds b w → unit_named c.request ≡ None → a ≡ answer_of_units (units_held w c.moment c.person) c → IsAnswered w c a (λ m. m ≡ b)
 answered_of_units b w c a h named is =
@@ -275,7 +271,7 @@ pub told_units : (b : Content) (w : World) (c : Call) (units : List MineUnit) (l
 told_units b w c units last lines h asked is e l le =
     let us = units_held w c.moment c.person in
     let honest = is ∙ mine_told b w c.moment c.person h in
-    let same : lines ≡ unit_lines c.moment c.person us = l ∙ ap (map line_of_mine) honest ∙ map-mapped line_of_mine (mine_of c.moment c.person) us in
+    let same : lines ≡ unit_lines c.moment c.person us = l ∙ ap (map line_of_mine) honest ∙ map-map line_of_mine (mine_of c.moment c.person) us in
     answered_of_units b w c _ h (ap unit_named asked) (units_told us c last (Units lines) (last_told c.moment c.person us units last honest e) (ap (λ x. Units x) same ∙ ap (reply_of_units us c) (sym asked)) le)
 
 -- The shelves of a person

@@ -1,15 +1,9 @@
 -- What an answer says.
-use Rattle.std.specs.Prelude.{Err, None, Ok, Option, Result, Some, ℕ, ◌≡◌}
+use Rattle.std.specs.Prelude.{Err, Ok, Result, ℕ, ◌≡◌}
 use Rattle.plant_model.specs.declared.reply.Answer.{Answer, TheVariants.{Fault as Faulted, Refused as WasRefused, Reply as Replied}}
 use Rattle.plant_model.specs.declared.reply.{Refused.{Refused}, Reply.{Reply}}
 use Rattle.plant_types.specs.declared.fault.Fault.{Fault}
 use Rattle.plant_books.specs.Counting.{CountsFault}
-
--- the reply or the refusal; a fault is neither
-abbrev pub said_in : Answer → Option (Result Reply Refused)
-said_in (Replied r) = Some (Ok r)
-said_in (WasRefused r) = Some (Err r)
-said_in (Faulted f) = None
 
 -- what was said, or the fault, as an answer
 abbrev pub answer_as : Result (Result Reply Refused) Fault → Answer

@@ -1,7 +1,7 @@
 -- Tests of neighbours, place by place.
 use Rattle.std.specs.List.{list_all}
-use Rattle.std.proofs.Common.{◌≡◌, ℕ, zero, suc, ◌+◌, ◌<◌, ◌≤◌, refl, sym, ap, ◌∙◌, List, [], ◌∷◌, length, get_or, map, Bool, true, false, ◌&&◌, arith, ◌-◌, subst, ◌⊎◌, inl, inr, Vec, Global, eqb, nat_le}
-use Rattle.std.proofs.lemmas.{Bool.{cases_lt, and_from, and_right}, List.{get_or_default, Folds.{list_all-map}}}
+use Rattle.std.proofs.Common.{◌≡◌, ℕ, zero, suc, ◌+◌, ◌<◌, ◌≤◌, refl, sym, ap, ◌∙◌, List, [], ◌∷◌, length, get_or, map, Bool, true, false, ◌&&◌, arith, ◌-◌, subst, Vec, Global, eqb, nat_le}
+use Rattle.std.proofs.lemmas.{Bool.{and_from, and_right}, List.{get_or_default, Folds.{list_all-map}}}
 use Rattle.plant_types.specs.Numbers.{is_seconds}
 use Rattle.plant_ration.specs.{Matrix.{neighbours, no_lower, is_no_lower_row, is_ordered, has_shape}, declared.cell.Cell.{Cell}}
 
@@ -27,19 +27,6 @@ neighbours_not ok xs (suc k) one lt h = let e : suc k - 1 ≡ k = omega arith in
 
 pub neighbours_not_at : {A : Type 0} (ok : A → A → Bool) (xs : List A) (i : ℕ) (d e : A) → 1 ≤ i → i < length xs → ok (get_or xs (i - 1) d) (get_or xs i e) ≡ false → neighbours ok xs ≡ false
 neighbours_not_at ok xs i d e one lt h = neighbours_not ok xs i one lt (λ x. rw (get_or_default xs (i - 1) x d (omega arith), get_or_default xs i x e lt) h)
-
--- one place more
-pub neighbours_more : {A : Type 0} (ok : A → A → Bool) (xs : List A) (i : ℕ) → 1 ≤ i → i < length xs → ((d : A) → ok (get_or xs (i - 1) d) (get_or xs i d) ≡ true)
-    → ((k : ℕ) (d : A) → k + 1 < i → k + 1 < length xs → ok (get_or xs k d) (get_or xs (k + 1) d) ≡ true)
-    → (k : ℕ) (d : A) → k + 1 < i + 1 → k + 1 < length xs → ok (get_or xs k d) (get_or xs (k + 1) d) ≡ true
-neighbours_more ok xs i one lt here before k d below in_xs = at_most (cases_lt (k + 1) i)
-  where
-    at_most : (k + 1 < i) ⊎ (i ≤ k + 1) → ok (get_or xs k d) (get_or xs (k + 1) d) ≡ true
-    at_most (inl l) = before k d l in_xs
-    at_most (inr g) =
-        let e : i ≡ k + 1 = omega arith in
-        let f : i - 1 ≡ k = omega arith in
-        subst (λ (n : ℕ). ok (get_or xs k d) (get_or xs n d) ≡ true) e (subst (λ (n : ℕ). ok (get_or xs n d) (get_or xs i d) ≡ true) f (here d))
 
 pub neighbours-map : {A B : Type 0} (ok : B → B → Bool) (f : A → B) (xs : List A) → neighbours ok (map f xs) ≡ neighbours (λ x y. ok (f x) (f y)) xs
 neighbours-map ok f [] = refl

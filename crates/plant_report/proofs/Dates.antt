@@ -12,9 +12,6 @@ pub record IsDateAfter (n : ℕ) (t : Date) : Type 0 where
   pub civil : IsCivilDate (pos t.year) t.month t.day
   pub count : day_count (pos t.year) t.month t.day ≡ 4382910 + n
 
-dim_december : (y m d : ℕ) → m ≡ 12 → d ≤ days_in_month (pos y) m → d ≤ 31
-dim_december y m d e h = omega (arith, h, (days_in_month_bounds (pos y) m).0)
-
 next_after : (n : ℕ) (y m d : ℕ) → suc n < 36525 → 2000 ≤ y → y ≤ 2099 → IsCivilDate (pos y) m d → day_count (pos y) m d ≡ 4382910 + n
     → (b c : Bool) → nat_lt d (days_in_month (pos y) m) ≡ b → nat_lt m 12 ≡ c
     → IsDateAfter (suc n) (cond b (record { year = y; month = m; day = d + 1 }) (cond c (record { year = y; month = m + 1; day = 1 }) (record { year = y + 1; month = 1; day = 1 })))

@@ -1,19 +1,21 @@
 -- The statements that make the tables.
-use Rattle.std.{specs.List.{AllByRecursion}, proofs.Common.{◌≡◌, ◌≢◌, ℕ, pos, List, [], ◌∷◌, ◌++◌, Ok, None, refl, sym, ap, ◌∙◌, subst, arith, false}}
+use Rattle.std.specs.List.{AllByRecursion}
+use Rattle.std.proofs.Common.{◌≡◌, ℕ, pos, List, [], ◌∷◌, ◌++◌, Ok, None, refl, sym, ap, ◌∙◌, subst, false, ◌-◌}
 use Rattle.sqlite.specs.{Change.{next_tree, KeepsRows}, Command.TheVariants.{Insert}, Does.{Does, Tally, lacks_sequence}, Edit.{edit_of, edited}}
 use Rattle.sqlite.specs.{Effect.{Database}, Listing.{understood}, Rowids.TheVariants.{Chosen}, Rows.{Written}, Schema.{Schema}}
 use Rattle.sqlite.specs.{Source.TheVariants.{Values}, State.{Executes, State, mode_of}, Table.{Table}, Tree.{Trees}}
 use Rattle.sqlite.proofs.Callers.{runs_as, statement_of}
 use Rattle.sqlite_keyed.proofs.ListLemmas.{all-append}
+use Rattle.sqlite_trees.proofs.ListLemmas.{all-slice_get}
 use Rattle.sqlite_value.specs.{Order.{Row}, declared.value.Value.TheVariants.{Int, Null, Text}}
 use Rattle.plant_columns.specs.Shape.{IsRowIn, table_in}
-use Rattle.plant_columns.specs.Tables.Kept.{UnitKept, GrantKept, AlarmKept, ShelfKept, BandKept, CellKept, EventKept, RecordKept, ChangeKept}
-use Rattle.plant_columns.specs.Tables.{Kept, books_schema, changes_schema, grant_shape, no_schema, office_row, office_schema, office_table, shape, unit_shape}
+use Rattle.plant_columns.specs.Tables.Kept.{UnitKept}
+use Rattle.plant_columns.specs.Tables.{Kept, books_schema, grant_shape, no_schema, office_row, office_table, schema_with, shape, unit_shape}
 use Rattle.plant_columns.{specs.Tidy.{IsTidy}, proofs.public.{Changes.{KeepsOthers, creates, indexes, lone_step, same_value, went}, Family.{kept_at}}}
 use Rattle.plant_columns.proofs.public.{Laws.{cast_int, cast_null}, ShapeLaws.{all_listed}}
-use Rattle.plant_store.specs.{Making.{AreEmpty, AreNew, schema_before, schema_with}, Texts.{by_person_text, office_text, put_office_text, table_text}}
+use Rattle.plant_store.specs.{Making.{AreEmpty, AreNew}, Texts.{by_person_text, office_text, put_office_text, table_text}}
 use Rattle.plant_store.proofs.Meanings.{Makes, by_person_created, by_person_made, by_person_means, by_person_whole, makes_office as office_means, makes_table, put_office}
-use Rattle.plant_store.proofs.Writes.{free}
+use Rattle.plant_store.proofs.Writes.{free, office_apart}
 
 still_empty : (ts : List Table) (old new : Trees) → KeepsRows ts old new → AllByRecursion (λ t. old t.tree ≡ []) ts → AllByRecursion (λ t. new t.tree ≡ []) ts
 still_empty [] old new kept none = tt
@@ -28,18 +30,18 @@ makes before text made after it last more at free_ old new has count h =
       empty = subst (AllByRecursion (λ t. new.now.trees t.tree ≡ [])) (sym more) (all-append (λ t. new.now.trees t.tree ≡ []) before.tables (last ∷ []) (still_empty before.tables old.now.trees new.now.trees done.kept has.empty) (done.empty, tt));
     }
 
-pub makes_office : (old new : State) → AreEmpty no_schema old.now → (count : ℕ) → Executes office_text [] old new (Ok count) → AreEmpty office_schema new.now
+pub makes_office : (old new : State) → AreEmpty no_schema old.now → (count : ℕ) → Executes office_text [] old new (Ok count) → AreEmpty (schema_with 0) new.now
 makes_office = makes _ _ _ _ office_means office_table refl refl refl
 
 -- by computing, for each table
-pub makes_each : (i : Kept) (old new : State) → AreEmpty (schema_before i) old.now → (count : ℕ) → Executes (table_text i) [] old new (Ok count) → AreEmpty (schema_with i) new.now
+pub makes_each : (i : Kept) (old new : State) → AreEmpty (schema_with ((shape i).place - 1)) old.now → (count : ℕ) → Executes (table_text i) [] old new (Ok count) → AreEmpty (schema_with (shape i).place) new.now
 makes_each UnitKept = makes _ _ _ _ (makes_table UnitKept) (table_in unit_shape) refl refl refl
 makes_each i = makes _ _ _ _ (makes_table i) (table_in (shape i)) refl refl refl
 
-pub makes_index : (old new : State) → AreEmpty changes_schema old.now → (count : ℕ) → Executes by_person_text [] old new (Ok count) → AreEmpty books_schema new.now
+pub makes_index : (old new : State) → AreEmpty (schema_with 9) old.now → (count : ℕ) → Executes by_person_text [] old new (Ok count) → AreEmpty books_schema new.now
 makes_index old new has count h =
-    let it = indexes by_person_text changes_schema books_schema 2 (table_in grant_shape) _ old new has.same_schema refl by_person_means.is by_person_whole by_person_means.plain by_person_made by_person_created count h in
-    record { same_schema = it.schema; empty = still_empty changes_schema.tables old.now.trees new.now.trees it.kept has.empty }
+    let it = indexes by_person_text (schema_with 9) books_schema 2 (table_in grant_shape) _ old new has.same_schema refl by_person_means.is by_person_whole by_person_means.plain by_person_made by_person_created count h in
+    record { same_schema = it.schema; empty = still_empty (schema_with 9).tables old.now.trees new.now.trees it.kept has.empty }
 
 -- ---- the office's row
 
@@ -47,19 +49,7 @@ tidy_none : (Wf : Row → Type 0) (key : List ℕ) → IsTidy Wf key []
 tidy_none Wf key = record { are = record { rise = tt; ints = tt }; each = tt; apart = tt }
 
 empty_at : (i : Kept) (db : Database) → AreEmpty books_schema db → db.trees (shape i).tree ≡ []
-empty_at UnitKept db h = h.empty.1.0
-empty_at GrantKept db h = h.empty.1.1.0
-empty_at AlarmKept db h = h.empty.1.1.1.0
-empty_at ShelfKept db h = h.empty.1.1.1.1.0
-empty_at BandKept db h = h.empty.1.1.1.1.1.0
-empty_at CellKept db h = h.empty.1.1.1.1.1.1.0
-empty_at EventKept db h = h.empty.1.1.1.1.1.1.1.0
-empty_at RecordKept db h = h.empty.1.1.1.1.1.1.1.1.0
-empty_at ChangeKept db h = h.empty.1.1.1.1.1.1.1.1.1.0
-
-not_office : (i : Kept) → (shape i).tree ≢ 0
-not_office UnitKept e = omega arith
-not_office i e = omega arith
+empty_at i db h = all-slice_get (λ t. db.trees t.tree ≡ []) books_schema.tables (shape i).place (table_in (shape i)) (all_listed.at i) h.empty
 
 pub makes_new : (admin : List ℕ) (old new : State) → AreEmpty books_schema old.now → (count : ℕ) → Executes put_office_text (Text admin ∷ []) old new (Ok count) → AreNew admin new.now
 makes_new admin old new has count h =
@@ -78,7 +68,7 @@ makes_new admin old new has count h =
     let edit : edited db (edit_of db office_table [] Chosen 0 given.0) ≡ office_row admin ∷ [] = ap (λ all. edited db (edit_of db office_table [] Chosen 0 all)) given.1.1 ∙ rw (has.empty.0, cast_int (pos 1), cast_null, cast_int (pos 2)) in
     let all : new.now.trees ≡ written.0 = ap (λ (d : Database). d.trees) now ∙ trees in
     let kept : KeepsOthers books_schema 0 db new.now.trees = subst (KeepsOthers books_schema 0 db) (sym all) step.tables in
-    let none : (i : Kept) → new.now.trees (shape i).tree ≡ [] = λ i. kept_at books_schema 0 db new.now.trees kept (shape i).place (table_in (shape i)) (all_listed.at i) (not_office i) ∙ empty_at i old.now has in
+    let none : (i : Kept) → new.now.trees (shape i).tree ≡ [] = λ i. kept_at books_schema 0 db new.now.trees kept (shape i).place (table_in (shape i)) (all_listed.at i) (λ e. office_apart i (sym e)) ∙ empty_at i old.now has in
     record {
       books = record {
         same_schema = ap (λ (d : Database). d.schema) now;

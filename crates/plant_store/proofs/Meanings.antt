@@ -1,5 +1,5 @@
 -- What each text means under the schema, found by running the resolver's meaning.
-use Rattle.std.{specs.Fmt.{digits}, proofs.Common.{◌≡◌, Ok, refl, List, ℕ, suc, [], ◌∷◌, drop, false, codes, length, map, pos, true}}
+use Rattle.std.{specs.Fmt.{digits}, proofs.Common.{◌≡◌, Ok, refl, List, ℕ, suc, [], ◌∷◌, drop, false, codes, length, map, pos, true, ◌-◌}}
 use Rattle.sqlite.specs.{Change.{created, indexed}, Collation.TheVariants.{Binary}, Command.{Command}}
 use Rattle.sqlite.specs.{Command.TheVariants.{Insert, Delete, Select, Update, CreateTable, CreateIndex}, Compile.{table_defined_by, index_defined_by}}
 use Rattle.sqlite.specs.{Listing.{understood, reads_listing}, Query.{Query, inner, end}, Schema.{Schema}, Source.TheVariants.{Values}, Table.{Table}}
@@ -8,10 +8,9 @@ use Rattle.sqlite_schema.specs.declared.schema.Column.{Column}
 use Rattle.sqlite_sql.specs.declared.ops.{BinaryOp.TheVariants.{Compare}, CompareOp.TheVariants.{Eq}}
 use Rattle.sqlite_tied.specs.Compute.{everything}
 use Rattle.sqlite_value.specs.{Keys.{ascending}, declared.{keys.Key.{Key}, value.Value.TheVariants.{Null, Int}}}
-use Rattle.plant_store.specs.Making.{schema_before, schema_with}
-use Rattle.plant_store.specs.Texts.{office_text, by_person_text, put_office_text, office_row_text, over_unit_text, over_grant_text, over_alarm_text, over_shelf_text, over_record_text, over_change_text, remove_grant_text, remove_shelf_text, own_grants_text, alarm_at_text, shelf_at_text, tags_of_text, shelf_tags_text, mine_text, record_at_text, bands_at_text, cells_at_text, change_at_text, last_change_text, put_text, rows_text, table_text}
+use Rattle.plant_store.specs.Texts.{office_text, by_person_text, put_office_text, office_row_text, over_unit_text, over_grant_text, over_alarm_text, over_shelf_text, over_record_text, over_change_text, remove_grant_text, remove_shelf_text, own_grants_text, alarm_at_text, shelf_at_text, tags_of_text, shelf_tags_text, holdings_text, record_at_text, bands_at_text, cells_at_text, change_at_text, last_change_text, put_text, rows_text, table_text}
 use Rattle.plant_columns.specs.{Kept.{plain_query}, Shape.{Shape, table_in}, Tables.Kept.{UnitKept}}
-use Rattle.plant_columns.specs.Tables.{Kept, shape, office_table, unit_shape, grant_shape, alarm_shape, shelf_shape, band_shape, cell_shape, by_person, no_schema, office_schema, books_schema, record_shape, change_shape, changes_schema}
+use Rattle.plant_columns.specs.Tables.{Kept, shape, office_table, unit_shape, grant_shape, alarm_shape, shelf_shape, band_shape, cell_shape, by_person, no_schema, books_schema, record_shape, change_shape, schema_with}
 
 -- under this schema the text is this command, and plain
 pub record Means (schema : Schema) (text : List ℕ) (command : Command) : Type 0 where
@@ -33,12 +32,12 @@ pub record Makes (before : Schema) (text : List ℕ) (made : Table) (after : Sch
 
 -- ---- what makes the schema
 
-pub makes_office : Makes no_schema office_text office_table office_schema
+pub makes_office : Makes no_schema office_text office_table (schema_with 0)
 unfolding understood everything digits
 makes_office = record { means = record { is = refl; plain = (refl, refl) }; whole = refl; defines = refl; leaves = refl }
 
 -- by running it for each table
-pub makes_table : (i : Kept) → Makes (schema_before i) (table_text i) (table_in (record (shape i) { tree = 0 })) (schema_with i)
+pub makes_table : (i : Kept) → Makes (schema_with ((shape i).place - 1)) (table_text i) (table_in (record (shape i) { tree = 0 })) (schema_with (shape i).place)
 unfolding understood everything digits
 makes_table UnitKept = record { means = record { is = refl; plain = (refl, refl) }; whole = refl; defines = refl; leaves = refl }
 makes_table i = record { means = record { is = refl; plain = (refl, refl) }; whole = refl; defines = refl; leaves = refl }
@@ -47,14 +46,14 @@ pub by_person_made : index_defined_by (table_in grant_shape) by_person_text ≡ 
 unfolding everything
 by_person_made = refl
 
-pub by_person_created : indexed changes_schema (table_in grant_shape) (record by_person { tree = 0 }) ≡ books_schema
+pub by_person_created : indexed (schema_with 9) (table_in grant_shape) (record by_person { tree = 0 }) ≡ books_schema
 by_person_created = refl
 
-pub by_person_whole : statement_of by_person_text (understood changes_schema by_person_text) ≡ by_person_text
+pub by_person_whole : statement_of by_person_text (understood (schema_with 9) by_person_text) ≡ by_person_text
 unfolding understood everything
 by_person_whole = refl
 
-pub by_person_means : Means changes_schema by_person_text (CreateIndex 2)
+pub by_person_means : Means (schema_with 9) by_person_text (CreateIndex 2)
 unfolding understood everything
 by_person_means = record { is = refl; plain = (refl, refl) }
 
@@ -223,14 +222,9 @@ pub last_change : Asks books_schema last_change_text (record (plain_query (inner
 unfolding understood everything
 last_change = record { is = refl; unlisted = refl; plain = (refl, refl) }
 
--- ---- a join
+abbrev pub by_holder : List Term
+by_holder = op2 (Compare Eq Binary) (col 1 2) (col 0 0) ∷ []
 
-abbrev pub mine_tests : List Term
-mine_tests = op2 (Compare Eq Binary) (col 2 1) (col 1 1) ∷ op2 (Compare Eq Binary) (col 1 2) (col 0 0) ∷ []
-
-abbrev pub mine_shows : List Term
-mine_shows = col 1 1 ∷ col 1 3 ∷ col 1 4 ∷ col 2 2 ∷ []
-
-pub mine : Asks books_schema mine_text (plain_query (inner 3 (inner 1 end)) mine_tests mine_shows (by_key grant_shape)) (codes "unit" ∷ codes "role_no" ∷ codes "end_s" ∷ codes "last_s" ∷ [])
+pub holdings : Asks books_schema holdings_text (plain_query (inner 3 end) by_holder (col 1 1 ∷ col 1 4 ∷ []) (by_key grant_shape)) (codes "unit" ∷ codes "end_s" ∷ [])
 unfolding understood everything
-mine = record { is = refl; unlisted = refl; plain = (refl, refl) }
+holdings = record { is = refl; unlisted = refl; plain = (refl, refl) }

@@ -1,12 +1,12 @@
 -- What the question for the office's row means under any schema that has the table with its columns.
-use Rattle.std.proofs.Common.{◌≡◌, ℕ, List, [], ◌∷◌, codes, Some, None, Ok, Err, true, false, slice_get}
+use Rattle.std.proofs.Common.{◌≡◌, ℕ, Bool, List, [], ◌∷◌, codes, cond, Some, None, Ok, Err, true, false, slice_get}
 use Rattle.sqlite.specs.{Listing.{understood, reads_listing}, Query.{Query, inner, end}, Term.{col}}
 use Rattle.sqlite_resolve.specs.{Compile.{compiled}, Scope.{Name}, declared.{compiled.Compiled.{Compiled}, error.CompileError.TheVariants.{Mismatch}}}
 use Rattle.sqlite_schema.specs.{Names.{table_named, place_of}, declared.{command.Command.TheVariants.{Select}, program.Program.{Program}}}
 use Rattle.sqlite_schema.specs.declared.schema.{Schema.{Schema}, Table.{Table}}
 use Rattle.sqlite_typing.specs.Types.{accepts_program}
 use Rattle.plant_columns.specs.Kept.{plain_query}
-use Rattle.plant_store.{specs.Texts.{office_row_text}, proofs.{OfficeAsked.{Asks, asked}, ThreeColumns.{IsColumn, is_read, not_read}}}
+use Rattle.plant_store.{specs.Texts.{office_row_text}, proofs.{OfficeAsked.{Asks, asked}, ThreeColumns.{IsColumn, is_read}}}
 use Rattle.sqlite_resolve.specs.Compile as compile
 
 module _ (schema : Schema) (k : ℕ) (t : Table) (named : table_named schema (codes "office") ≡ Some k) (is : slice_get schema.tables k ≡ Some t)
@@ -26,30 +26,21 @@ module _ (schema : Schema) (k : ℕ) (t : Table) (named : table_named schema (co
   abbrev written : Asks asked.s
   written = asked.asks
 
-  reads : accepts_program schema [] query [] ≡ true → compile.read schema asked.s ≡ Ok (Select program names)
-  reads h = is_read schema (codes "office") k t named is written.src written.from written.alias written.using written.left written.on
+  reads : (b : Bool) → accepts_program schema [] query [] ≡ b → compile.read schema asked.s ≡ cond b (Ok (Select program names)) (Err Mismatch)
+  reads = is_read schema (codes "office") k t named is written.src written.from written.alias written.using written.left written.on
       (codes "id") (codes "schema_no") (codes "admin") id schema_no admin
       written.id.e written.schema_no.e written.admin.e written.id.out written.schema_no.out written.admin.out written.s₁ written.s₂ written.s₃ written.id.text written.schema_no.text written.admin.text written.id.one written.schema_no.one written.admin.one
-      written.core written.froms written.shown written.filter written.group written.having written.distinct asked.s written.with written.first_is written.others written.order written.limit written.offset h
+      written.core written.froms written.shown written.filter written.group written.having written.distinct asked.s written.with written.first_is written.others written.order written.limit written.offset
 
-  refuses : accepts_program schema [] query [] ≡ false → compile.read schema asked.s ≡ Err Mismatch
-  refuses h = not_read schema (codes "office") k t named is written.src written.from written.alias written.using written.left written.on
-      (codes "id") (codes "schema_no") (codes "admin") id schema_no admin
-      written.id.e written.schema_no.e written.admin.e written.id.out written.schema_no.out written.admin.out written.s₁ written.s₂ written.s₃ written.id.text written.schema_no.text written.admin.text written.id.one written.schema_no.one written.admin.one
-      written.core written.froms written.shown written.filter written.group written.having written.distinct asked.s written.with written.first_is written.others written.order written.limit written.offset h
-
-  compiles : accepts_program schema [] query [] ≡ true → compiled schema office_row_text ≡ Ok meant
+  compiles : (b : Bool) → accepts_program schema [] query [] ≡ b → compiled schema office_row_text ≡ cond b (Ok meant) (Err Mismatch)
   unfolding compiled compile.planned compile.meaning compile.returning compile.command compile.timed
-  compiles h = rw (asked.is, asked.statement_is, asked.formats, asked.names, reads h)
-
-  fails : accepts_program schema [] query [] ≡ false → compiled schema office_row_text ≡ Err Mismatch
-  unfolding compiled compile.planned compile.meaning compile.returning compile.command compile.timed
-  fails h = rw (asked.is, asked.statement_is, asked.formats, asked.names, refuses h)
+  compiles true h = rw (asked.is, asked.statement_is, asked.formats, asked.names, reads true h)
+  compiles false h = rw (asked.is, asked.statement_is, asked.formats, asked.names, reads false h)
 
   pub is_understood : accepts_program schema [] query [] ≡ true → (understood schema office_row_text ≡ Ok meant) × (reads_listing schema office_row_text ≡ false)
   unfolding understood
-  is_understood h = (rw (compiles h), rw (compiles h))
+  is_understood h = (rw (compiles true h), rw (compiles true h))
 
   pub is_refused : accepts_program schema [] query [] ≡ false → understood schema office_row_text ≡ Err Mismatch
   unfolding understood
-  is_refused h = rw (fails h)
+  is_refused h = rw (compiles false h)

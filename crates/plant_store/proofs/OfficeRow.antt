@@ -1,6 +1,6 @@
 -- What the question for the office's row shows, wherever the office's table stands.
 use Rattle.std.specs.List.{position_or_len}
-use Rattle.std.proofs.Common.{◌≡◌, refl, sym, ap, subst, ◌∙◌, ℕ, List, [], ◌∷◌, length, ltb, map, filter, false, true, inl, inr, codes, IsPermutation, ◌↔◌, Option, None, Some, slice_get, unwrap_or, is_some, option_and_then, option_map}
+use Rattle.std.proofs.Common.{◌≡◌, refl, sym, ap, subst, ◌∙◌, ℕ, List, [], ◌∷◌, length, ltb, map, false, true, inl, inr, codes, IsPermutation, ◌↔◌, Option, None, Some, slice_get, unwrap_or, is_some, option_and_then, option_map}
 use Rattle.std.proofs.lemmas.{Bool.{and_parts, cases_Bool, false≢true, ltb-true}, Iterator.Adapters.{position_from-zero}}
 use Rattle.std.proofs.lemmas.{List.Sorted.{IsPermutation-map, IsPermutation-sym}, Option.{slice_get-get_or}}
 use Rattle.sqlite.specs.{Kind.TheVariants.{Integer}, Query.{Output}, Schema.{Schema}, State.{State, Shown}, Table.{Table}, Term.{col}}
@@ -13,7 +13,7 @@ use Rattle.plant_columns.{specs.{Forms.{column_of}, Shown.{columns}, Tables.{Are
 use Rattle.plant_store.specs.{Changes.{IsHonest}, Keeping.{Represents, HasContent}}
 use Rattle.plant_store.specs.Opening.{IsOffice, IsThisOffice, has_office, is_office, office_cells, office_in, office_shown, place_named}
 use Rattle.plant_store.{specs.Texts.{office_row_text}, proofs.{OfficeMeaning.{is_refused, is_understood, query}, ThreeColumns.{IsColumn}}}
-use Rattle.plant_store.proofs.public.Contents.{keeps_same}
+use Rattle.plant_store.proofs.{Queries.{passing_all}, public.Contents.{keeps_same}}
 use Rattle.plant_types.specs.Names.{Name}
 
 -- ---- a table and its columns are found by their names
@@ -39,10 +39,6 @@ found_column t n h =
     ]
 
 -- ---- what is shown
-
-all_pass : (rows : List Row) → filter (λ r. true) rows ≡ rows
-all_pass [] = refl
-all_pass (r ∷ rows) = ap (λ l. r ∷ l) (all_pass rows)
 
 abbrev three : ℕ → ℕ → ℕ → Row → Row
 three a b c r = column r a ∷ column r b ∷ column r c ∷ []
@@ -105,7 +101,7 @@ module _ (n : ℕ) (admin : Name) (old new : State) (t : Table) (is_there : offi
       let got = reads_as office_row_text [] old new old.now.schema refl _ (ap command_of known.0) (subst IsPlain (sym known.0) (refl, refl)) known.1 rows h in
       let it = reads t.tree [] (col 1 a ∷ col 1 b ∷ col 1 c ∷ []) [] old.now.trees [] rows (got.answer Null) in
       let show = shows t.tree [] (col 1 a ∷ col 1 b ∷ col 1 c ∷ []) [] [] in
-      let all = subst (λ rs. IsPermutation (map show rs) it.ordered) (all_pass (old.now.trees t.tree)) it.same in
+      let all = subst (λ rs. IsPermutation (map show rs) it.ordered) (passing_all (old.now.trees t.tree)) it.same in
       subst (λ l. IsPermutation l rows) (shown_rows t.tree a b c (old.now.trees t.tree)) (subst (IsPermutation (map (λ (o : Output). o.1) (map show (old.now.trees t.tree)))) (sym it.rows_are) (IsPermutation-map (λ (o : Output). o.1) _ _ all))
 
   by_names : (rs : List Row) → map (office_shown t) rs ≡ map (three a b c) rs

@@ -3,11 +3,12 @@ use Rattle.std.{specs.Ordering.{ordering_then}, proofs.Common.{◌≡◌, true, 
 use Rattle.std.proofs.lemmas.Cmp.{nat_cmp_total}
 use Rattle.sqlite.specs.State.{State, Shown}
 use Rattle.sqlite_value.{specs.{Order.{Row, bytes, column}, declared.value.Value.TheVariants.{Text}}, proofs.OrderLemmas.{value_cmp-Text}}
-use Rattle.plant_columns.specs.{Kept.{by_columns}, Shape.{IsRowIn}, Tables.{Kept, KeyOf, Kept.{GrantKept, UnitKept}}}
+use Rattle.plant_columns.specs.{Shown.{columns}, Tables.{Kept, KeyOf, Kept.{GrantKept, UnitKept}}}
 use Rattle.plant_columns.proofs.public.{ShapeLaws.{cast_number, good, numbers, one, role_back}, Shapes.{IsShape, finds_rows}}
 use Rattle.plant_store.specs.OldTables.{AreOldBooks, OldRowOf, old_books_schema, old_grant_shape, old_rows, old_shape, old_unit_shape}
-use Rattle.plant_store.{specs.{Statements.{ReadsOld}, Texts.{old_codes_text}, Upgrading.{old_codes}}, proofs.Meanings.{by_key}}
-use Rattle.plant_store.proofs.{OldMeanings.{lists_old, asks_codes, old_text}, Queries.{one_test}, Reading.{reads_all}}
+use Rattle.plant_store.specs.{Statements.{ReadsOld}, Texts.{old_codes_text}, Upgrading.{old_codes}, declared.old_rows.CodeLine.{CodeLine}}
+use Rattle.plant_store.proofs.Meanings.{by_key}
+use Rattle.plant_store.proofs.{OldMeanings.{lists_old, asks_codes, old_text}, Queries.{one_test}, Reading.{reads_all, told}}
 use Rattle.plant_types.{specs.{Names.{Name}, Roles.{role_no}}, proofs.public.Orders.{pair_total}}
 
 -- ---- the two tables of that schema alone
@@ -43,11 +44,20 @@ old_read i u = reads_all OldRowOf KeyOf old_shape old_good old_books_schema i _ 
 
 -- ---- the codes of all units
 
-code_rows : (rows : List Row) → Rattle.std.specs.List.AllByRecursion (IsRowIn old_unit_shape) rows → map (λ r. column r 1 ∷ []) rows ≡ map (λ c. Text c ∷ []) (map (λ r. bytes (column r 1)) rows)
-code_rows [] all = refl
-code_rows (r ∷ rows) all = ap₂ ◌∷◌ (ap (λ (q : Row). column q 1 ∷ []) all.0) (code_rows rows all.1)
+code_back : Row → CodeLine
+code_back r = record { unit = bytes (column r 0) }
 
-pub find_old_codes : (old new : State) → AreOldBooks old.now → (rows : List Row) → Shown old_codes_text [] old new rows → rows ≡ map (λ c. Text c ∷ []) (old_codes old.now.trees)
-find_old_codes old new books rows h =
-    finds_rows old_unit_shape old_unit_good old_books_schema old_codes_text [] _ (by_key old_unit_shape) _ asks_codes.is asks_codes.unlisted asks_codes.plain [] refl (λ r. true) (λ r. refl) old new books.same_schema (books.tidy UnitKept).apart rows h
-    ∙ code_rows _ (Rattle.plant_columns.proofs.public.Kept.all-kept (by_columns (1 ∷ [])) (Rattle.plant_columns.proofs.public.Keys.by_columns_total (1 ∷ [])) (IsRowIn old_unit_shape) (λ r. true) (old.now.trees 1) (books.tidy UnitKept).each)
+pub old_codes_read : (old new : State) → AreOldBooks old.now → (rows : List Row) → Shown old_codes_text [] old new rows
+    → (lines : List CodeLine) → map (columns 1) rows ≡ map (λ (l : CodeLine). Text l.unit ∷ []) lines → map (λ (l : CodeLine). l.unit) lines ≡ old_codes old.now.trees
+unfolding code_back
+old_codes_read old new books rows h lines said =
+    let found = finds_rows old_unit_shape old_unit_good old_books_schema old_codes_text [] _ (by_key old_unit_shape) _ asks_codes.is asks_codes.unlisted asks_codes.plain [] refl (λ r. true) (λ r. refl)
+    old new books.same_schema (books.tidy UnitKept).apart rows h in
+    ap (map (λ (l : CodeLine). l.unit)) (told (λ (l : CodeLine). Text l.unit ∷ []) code_back (λ l. refl) _ lines said) ∙ ap (λ rs. codes_in (map (columns 1) rs)) found ∙ again _
+  where
+    codes_in : List Row → List Name
+    codes_in rs = map (λ (l : CodeLine). l.unit) (map code_back rs)
+
+    again : (rs : List Row) → codes_in (map (columns 1) (map (λ r. column r 1 ∷ []) rs)) ≡ map (λ r. bytes (column r 1)) rs
+    again [] = refl
+    again (r ∷ rs) = ap (λ t. bytes (column r 1) ∷ t) (again rs)

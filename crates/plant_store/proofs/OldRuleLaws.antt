@@ -1,16 +1,16 @@
 -- Histories of schema 1 are histories of today: a quota of 2,000 refuses nothing, and without ends what stands is held.
-use Rattle.std.specs.{Cmp.{ranks}, List.{list_all, list_any}, Ordering.{MatchOrdering}}
-use Rattle.std.proofs.Common.{◌≡◌, Bool, true, false, List, [], ◌∷◌, ◌++◌, Option, None, Some, refl, sym, ap, ap₂, ◌∙◌, subst, true≢false, not, arith, ◌<◌, ℕ, nat_cmp, Ordering, Less, Equal, Greater, is_eq, is_none, is_some, nat_le, nat_lt, ◌&&◌, ◌||◌}
+use Rattle.std.specs.{List.{list_all, list_any}}
+use Rattle.std.proofs.Common.{◌≡◌, Bool, true, false, List, [], ◌∷◌, ◌++◌, Option, None, Some, refl, sym, ap, ◌∙◌, subst, true≢false, not, arith, ◌<◌, ℕ, is_none, is_some, nat_le, nat_lt, ◌&&◌}
 use Rattle.std.proofs.lemmas.Bool.{and_from, Decides.{nat_tests}}
 use Rattle.plant_model.specs.{Alarms.{quota, said_of_quota}, Calls.{own_refusals, reply}, Facts.{facts, limit_of, others_shelved, shelf_now}}
-use Rattle.plant_model.specs.{Grants.{held, stands}, Histories.{latest, same_number}, Kinds.{role_needed}, Laws.{has_no_end}, Legality.{IsLegal}}
+use Rattle.plant_model.specs.{Grants.{held, stands}, Histories.{latest}, Kinds.{role_needed}, Laws.{has_no_end}, Legality.{IsLegal}}
 use Rattle.plant_model.specs.{Refusals.{first_refusal, holds_some, lacks_role}, Rows.{alarm_row}}
 use Rattle.plant_model.specs.{Verdicts.{changes_history, is_opening, refusals, refused_or, verdict}, declared.call.{Call.{Call}, Request.{Request}}}
 use Rattle.plant_model.specs.declared.{call.Request.TheVariants.{Grant, OneShotShelve, OpenUnit, TimedShelve}, reply.Refused.{Refused}}
-use Rattle.plant_model.specs.declared.reply.Refused.TheVariants.{AlarmUnknown, EndNotAhead, MomentBehind, NotGranted, ShelfQuota}
+use Rattle.plant_model.specs.declared.reply.{Full.TheVariants.{Grants as TooManyGrants}, Refused.TheVariants.{AlarmUnknown, AlreadyHeld, EndNotAhead, MomentBehind, NotGranted, ShelfQuota, UnitFull}}
 use Rattle.plant_model.proofs.public.{EndLaws.{without_ends}, QuotaLaws.{few_others}}
 use Rattle.plant_types.specs.{Limits.{max_grants, max_quota}, Names.{Name}, Roles.{Pair, all_roles}, declared.role.Role.{Role}}
-use Rattle.plant_types.proofs.public.Halves.{left}
+use Rattle.plant_types.proofs.public.{Halves.{left}, KeyedRowLaws.{tied}, Orders.{same_numbers}}
 use Rattle.plant_alarm.specs.Shelves.{is_one_shot, is_timed}
 use Rattle.plant_store.specs.OldRules.{WasLegal, OldHistoriesAreLegal, OldVerdictsStay, is_of_old, old_lacks_role, old_own_refusals, old_refusals, old_verdict}
 
@@ -21,24 +21,16 @@ refused_alike [] ys zs e = e
 refused_alike ((true, r) ∷ xs) ys zs e = refl
 refused_alike ((false, r) ∷ xs) ys zs e = refused_alike xs ys zs e
 
--- a last refusal whose condition does not hold, where the first does not
-last_of_three : (b c q : Bool) (x y v : Refused) → (b ≡ false → q ≡ false) → first_refusal ((b, x) ∷ (c, y) ∷ (q, v) ∷ []) ≡ first_refusal ((b, x) ∷ (c, y) ∷ [])
-last_of_three true c q x y v h = refl
-last_of_three false true q x y v h = refl
-last_of_three false false true x y v h = absurd (true≢false (h refl))
-last_of_three false false false x y v h = refl
+-- a last refusal whose condition does not hold
+none_last : (xs : List (Bool × Refused)) (v : Refused) → first_refusal (xs ++ (false, v) ∷ []) ≡ first_refusal xs
+none_last [] v = refl
+none_last ((true, r) ∷ xs) v = refl
+none_last ((false, r) ∷ xs) v = none_last xs v
 
-last_of_four : (b c d q : Bool) (x y z v : Refused) → (b ≡ false → q ≡ false) → first_refusal ((b, x) ∷ (c, y) ∷ (d, z) ∷ (q, v) ∷ []) ≡ first_refusal ((b, x) ∷ (c, y) ∷ (d, z) ∷ [])
-last_of_four true c d q x y z v h = refl
-last_of_four false true d q x y z v h = refl
-last_of_four false false true q x y z v h = refl
-last_of_four false false false true x y z v h = absurd (true≢false (h refl))
-last_of_four false false false false x y z v h = refl
-
-ended : (b c : Bool) (x y z : Refused) → first_refusal ((b, x) ∷ (c, y) ∷ (false, z) ∷ []) ≡ first_refusal ((b, x) ∷ (c, y) ∷ [])
-ended true c x y z = refl
-ended false true x y z = refl
-ended false false x y z = refl
+-- and one whose condition does not hold where the first does not
+none_beside : (b q : Bool) (x v : Refused) (xs : List (Bool × Refused)) → (b ≡ false → q ≡ false) → first_refusal ((b, x) ∷ xs ++ (q, v) ∷ []) ≡ first_refusal ((b, x) ∷ xs)
+none_beside true q x v xs h = refl
+none_beside false q x v xs h = ap (λ b. first_refusal (xs ++ (b, v) ∷ [])) (h refl) ∙ none_last xs v
 
 -- ---- the quota and the ends of such a history
 
@@ -51,16 +43,8 @@ no_ends [] was = absurd was
 no_ends (c ∷ []) was = and_from (has_no_end c.request) true (no_end c.request was.2) refl
 no_ends (c ∷ d ∷ before) was = and_from (has_no_end c.request) _ (no_end c.request was.2) (no_ends (d ∷ before) was.3)
 
-equal_by : (m n : ℕ) → same_number m n ≡ true → m ≡ n
-equal_by m n h = go (nat_cmp m n) (ranks m n) h
-  where
-    go : (o : Ordering) → MatchOrdering o (m < n) (m ≡ n) (n < m) → is_eq o ≡ true → m ≡ n
-    go Less r e = absurd (true≢false (sym e))
-    go Equal r e = r
-    go Greater r e = absurd (true≢false (sym e))
-
 opened_with : (q : Request) → is_opening q ≡ true → is_of_old q ≡ true → said_of_quota q ≡ Some max_quota
-opened_with (OpenUnit u s m n) o e = ap Some (equal_by n max_quota e)
+opened_with (OpenUnit u s m n) o e = ap Some (same_numbers n max_quota (tied _ _ e refl))
 opened_with _ o e = cc
 
 says_nothing : (q : Request) → (not (is_opening q)) ≡ true → said_of_quota q ≡ None
@@ -91,23 +75,19 @@ module _ (h : List Call) (was : WasLegal h) (legal : IsLegal h) where
   no_quota : (a : Name) (t : ℕ) → is_none (alarm_row h a) ≡ false → nat_le (quota h) (others_shelved (facts h) a t) ≡ false
   no_quota a t known = not_full (others_shelved (facts h) a t) (quota h) (quota_is h was) (few_others h legal a t (some_of (alarm_row h a) known))
 
-  same_any : (t : ℕ) (p : Name) (rs : List Role) → list_any (λ r. held h t (p, r)) rs ≡ list_any (λ r. stands h (p, r)) rs
-  same_any t p [] = refl
-  same_any t p (r ∷ rs) = ap₂ ◌||◌ (alike t (p, r)) (same_any t p rs)
-
   same_some : (t : ℕ) (p : Name) → holds_some (facts h) t p ≡ list_any (λ r. stands h (p, r)) all_roles
   unfolding holds_some
-  same_some t p = same_any t p all_roles
+  same_some t p = λ i. list_any (λ r. alike t (p, r) i) all_roles
 
   same_lack : (t : ℕ) (p : Name) (o : Option Role) → lacks_role (facts h) t p o ≡ old_lacks_role (facts h) p o
   same_lack t p None = refl
   same_lack t p (Some r) = rw (alike t (p, r)) refl
 
   same_own : (p : Name) (t : ℕ) (q : Request) → is_of_old q ≡ true → first_refusal (own_refusals (facts h) p t q) ≡ first_refusal (old_own_refusals (facts h) p t q)
-  same_own p t (Grant u q (r, None)) e = rw (alike t (q, r)) (ended (nat_le max_grants (facts h).pairs) (stands h (q, r)) _ _ EndNotAhead)
+  same_own p t (Grant u q (r, None)) e = rw (alike t (q, r)) (none_last ((nat_le max_grants (facts h).pairs, UnitFull TooManyGrants) ∷ (stands h (q, r), AlreadyHeld) ∷ []) EndNotAhead)
   same_own p t (Grant u q (r, Some end)) e = absurd (true≢false (sym e))
-  same_own p t (TimedShelve u a d w) e = last_of_four (is_none (alarm_row h a)) (nat_lt (limit_of (facts h) a) d) (is_timed (shelf_now (facts h) a t)) _ AlarmUnknown _ _ (ShelfQuota (quota h)) (no_quota a t)
-  same_own p t (OneShotShelve u a w) e = last_of_three (is_none (alarm_row h a)) (is_one_shot (shelf_now (facts h) a t)) _ AlarmUnknown _ (ShelfQuota (quota h)) (no_quota a t)
+  same_own p t (TimedShelve u a d w) e = none_beside (is_none (alarm_row h a)) _ AlarmUnknown (ShelfQuota (quota h)) ((nat_lt (limit_of (facts h) a) d, _) ∷ (is_timed (shelf_now (facts h) a t), _) ∷ []) (no_quota a t)
+  same_own p t (OneShotShelve u a w) e = none_beside (is_none (alarm_row h a)) _ AlarmUnknown (ShelfQuota (quota h)) ((is_one_shot (shelf_now (facts h) a t), _) ∷ []) (no_quota a t)
   same_own p t _ e = refl
 
   same_refusal : (c : Call) → is_of_old c.request ≡ true → first_refusal (refusals (facts h) c) ≡ first_refusal (old_refusals (facts h) c)

@@ -1,18 +1,19 @@
 -- The statements that read one unit's rows of one table.
 use Rattle.std.specs.Cmp.{eq_by_cmp_equiv, Lexicographic.{nat_list_cmp_total}}
-use Rattle.std.proofs.Common.{◌≡◌, ℕ, Bool, true, false, ◌&&◌, List, [], ◌∷◌, drop, length, suc, map, filter, Ok, Err, Result, IfOk, refl, sym, ap, ap₂, ◌∙◌, is_eq}
-use Rattle.std.proofs.lemmas.Cmp.{nat_cmp_total}
+use Rattle.std.proofs.Common.{◌≡◌, ℕ, Bool, true, false, ◌&&◌, ◌||◌, List, [], ◌∷◌, drop, length, filter, Ok, Err, Result, IfOk, refl, sym, ap, ap₂, ◌∙◌, is_eq}
+use Rattle.std.proofs.lemmas.{Bool.{or_right}, Cmp.{nat_cmp_total}, List.{length-map}}
 use Rattle.sqlite.specs.{Collation.TheVariants.{Binary}, State.{State, Shown}}
+use Rattle.sqlite_keyed.proofs.ListLemmas.{filter_same}
 use Rattle.sqlite_schema.specs.Rules.{equal}
 use Rattle.sqlite_tied.proofs.RuleLemmas.{and_true}
 use Rattle.sqlite_value.specs.{Order.{Row, column, value_cmp}, declared.value.Value.{Value, TheVariants.{Text}}}
 use Rattle.sqlite_value.proofs.OrderLemmas.{value_cmp-Text}
-use Rattle.plant_model.specs.{Histories.{same_number}, declared.rows.{AlarmRow.{AlarmRow}, ShelfRow.{ShelfRow}}}
+use Rattle.plant_model.specs.Histories.{same_number}
 use Rattle.plant_types.specs.Names.{Name, same_name}
-use Rattle.plant_columns.specs.{Codes.{number}, Kept.{is_of}, Shown.{columns}}
+use Rattle.plant_columns.specs.{Codes.{number}, Kept.{is_of}}
 use Rattle.plant_columns.specs.Tables.Kept.{UnitKept, GrantKept, AlarmKept, ShelfKept, BandKept, CellKept, RecordKept, ChangeKept}
 use Rattle.plant_columns.specs.Tables.{AreBooks, Kept, KeyOf, RowOf, books_schema, shape, rows_seen, grant_shape, alarm_shape, shelf_shape, band_shape, cell_shape, record_shape, change_shape}
-use Rattle.plant_columns.proofs.public.{Keys.{equal_is}, ShapeLaws.{good, numbers}, Shapes.{finds_rows, shown_kept}}
+use Rattle.plant_columns.proofs.public.{Keys.{equal_is}, ShapeLaws.{good, numbers}, Shapes.{finds_rows}}
 use Rattle.plant_store.specs.Statements.{Reads}
 use Rattle.plant_store.specs.Texts.{own_grants_text, alarm_at_text, shelf_at_text, tags_of_text, shelf_tags_text, record_at_text, bands_at_text, cells_at_text, change_at_text, rows_text}
 use Rattle.plant_store.proofs.Meanings.{by_key, by_unit, lists_alarm, lists_all, lists_bands, lists_cells, lists_change, lists_own_grants, lists_record, lists_shelf, shelf_tags, tags_of}
@@ -37,7 +38,7 @@ number_tests v w u n = ap₂ ◌&&◌ (equal_is v (Text u) refl) (and_true _ ∙
 abbrev pub is_named : List ℕ → Row → Bool
 is_named name r = is_eq (value_cmp (column r 2) (Text name))
 
-named_same : (a b : Name) → is_eq (value_cmp (Text a) (Text b)) ≡ same_name b a
+pub named_same : (a b : Name) → is_eq (value_cmp (Text a) (Text b)) ≡ same_name b a
 named_same a b = ap is_eq (value_cmp-Text a b) ∙ (eq_by_cmp_equiv nat_list_cmp_total).symm a b
 
 -- the second column has this number
@@ -95,32 +96,21 @@ change_read u n =
     reads_some RowOf KeyOf shape good books_schema ChangeKept 15 (λ x. refl) change_at_text lists_change u (number n) refl (is_numbered n) (λ r. number_tests (column r 1) (column r 2) u n) (λ id v x. refl)
     (λ r. same_number n r.number) (λ id v x. numbered_same x.number n)
 
--- a unit's tags
-pub find_tags : (u : Name) (old new : State) → AreBooks old.now → (rows : List Row) → Shown tags_of_text (Text u ∷ []) old new rows → rows ≡ map (λ (r : AlarmRow). Text r.tag ∷ []) (rows_seen u old.now.trees AlarmKept)
-find_tags u old new books rows h =
-    finds_rows alarm_shape (good AlarmKept) books_schema tags_of_text by_unit _ (by_key alarm_shape) _ tags_of.is tags_of.unlisted tags_of.plain (Text u ∷ []) refl (is_of u) (λ r. one_test (column r 1) u) old new books.same_schema (books.tidy AlarmKept).apart rows h
-    ∙ shown_kept alarm_shape (good AlarmKept) _ (λ (r : AlarmRow). Text r.tag ∷ []) (λ id v x. refl) (is_of u) (old.now.trees 5) (books.tidy AlarmKept).each
+-- ---- how many alarms and how many shelves a unit has
 
--- the tags of a unit's shelves
-pub find_shelf_tags : (u : Name) (old new : State) → AreBooks old.now → (rows : List Row) → Shown shelf_tags_text (Text u ∷ []) old new rows → rows ≡ map (λ (r : ShelfRow). Text r.tag ∷ []) (rows_seen u old.now.trees ShelfKept)
-find_shelf_tags u old new books rows h =
-    finds_rows shelf_shape (good ShelfKept) books_schema shelf_tags_text by_unit _ (by_key shelf_shape) _ shelf_tags.is shelf_tags.unlisted shelf_tags.plain (Text u ∷ []) refl (is_of u) (λ r. one_test (column r 1) u) old new books.same_schema (books.tidy ShelfKept).apart rows h
-    ∙ shown_kept shelf_shape (good ShelfKept) _ (λ (r : ShelfRow). Text r.tag ∷ []) (λ id v x. refl) (is_of u) (old.now.trees 7) (books.tidy ShelfKept).each
+pub alarms_counted : (u : Name) (old new : State) → AreBooks old.now → (rows : List Row) → Shown tags_of_text (Text u ∷ []) old new rows → length rows ≡ length (rows_seen u old.now.trees AlarmKept)
+alarms_counted u old new books rows h =
+    let found = finds_rows alarm_shape (good AlarmKept) books_schema tags_of_text by_unit _ (by_key alarm_shape) _ tags_of.is tags_of.unlisted tags_of.plain (Text u ∷ []) refl (is_of u) (λ r. one_test (column r 1) u)
+    old new books.same_schema (books.tidy AlarmKept).apart rows h in
+    ap length found ∙ length-map _ _ ∙ sym (length-map _ alarm_shape.read)
 
-pub length_mapped : {A B : Type 0} (f : A → B) (xs : List A) → length (map f xs) ≡ length xs
-length_mapped f [] = refl
-length_mapped f (x ∷ xs) = ap suc (length_mapped f xs)
+pub shelves_counted : (u : Name) (old new : State) → AreBooks old.now → (rows : List Row) → Shown shelf_tags_text (Text u ∷ []) old new rows → length rows ≡ length (rows_seen u old.now.trees ShelfKept)
+shelves_counted u old new books rows h =
+    let found = finds_rows shelf_shape (good ShelfKept) books_schema shelf_tags_text by_unit _ (by_key shelf_shape) _ shelf_tags.is shelf_tags.unlisted shelf_tags.plain (Text u ∷ []) refl (is_of u) (λ r. one_test (column r 1) u)
+    old new books.same_schema (books.tidy ShelfKept).apart rows h in
+    ap length found ∙ length-map _ _ ∙ sym (length-map _ shelf_shape.read)
 
 -- ---- which rows a call looks at
-
-pub every_one : {A : Type 0} (all : Bool) → all ≡ true → (f : A → Bool) (xs : List A) → xs ≡ filter (λ x. Rattle.std.specs.Prelude.◌||◌ (f x) all) xs
-every_one true h f [] = refl
-every_one true h f (x ∷ xs) = go (f x) (every_one true h f xs)
-  where
-    go : (b : Bool) → xs ≡ filter (λ x. Rattle.std.specs.Prelude.◌||◌ (f x) true) xs → x ∷ xs ≡ Rattle.std.proofs.Common.cond (Rattle.std.specs.Prelude.◌||◌ b true) (x ∷ filter (λ x. Rattle.std.specs.Prelude.◌||◌ (f x) true) xs) (filter (λ x. Rattle.std.specs.Prelude.◌||◌ (f x) true) xs)
-    go true more = ap (λ l. x ∷ l) more
-    go false more = ap (λ l. x ∷ l) more
-every_one false h f xs = absurd (Rattle.std.proofs.Common.true≢false (sym h))
 
 pub passing_all : {A : Type 0} (xs : List A) → filter (λ x. true) xs ≡ xs
 passing_all [] = refl
@@ -130,14 +120,5 @@ pub passing_none : {A : Type 0} (xs : List A) → filter (λ x. false) xs ≡ []
 passing_none [] = refl
 passing_none (x ∷ xs) = passing_none xs
 
--- rows that were shown are read back, whatever they show
-pub told_by : {X : Type 0} (cells : X → Row) (back : Row → X) → ((x : X) → back (cells x) ≡ x) → (n : ℕ) → ((x : X) → columns n (cells x) ≡ cells x) → (rows : List Row) (xs read : List X) → rows ≡ map cells xs → map (columns n) rows ≡ map cells read → read ≡ xs
-told_by {X} cells back is n whole rows xs read shown honest = sym (backs read) ∙ ap (map back) (sym honest ∙ ap (map (columns n)) shown ∙ wholes xs) ∙ backs xs
-  where
-    backs : (xs : List X) → map back (map cells xs) ≡ xs
-    backs [] = refl
-    backs (x ∷ xs) = ap₂ ◌∷◌ (is x) (backs xs)
-
-    wholes : (xs : List X) → map (columns n) (map cells xs) ≡ map cells xs
-    wholes [] = refl
-    wholes (x ∷ xs) = ap₂ ◌∷◌ (whole x) (wholes xs)
+pub every_one : {A : Type 0} (all : Bool) → all ≡ true → (f : A → Bool) (xs : List A) → xs ≡ filter (λ x. f x || all) xs
+every_one all h f xs = sym (filter_same (λ x. f x || all) (λ x. true) (λ x. or_right (f x) all h) xs ∙ passing_all xs)

@@ -11,9 +11,12 @@ use Rattle.plant_types.specs.Names.{Name}
 
 -- ---- what was shown is read back
 
-read_back : {X K : Type 0} (s : Shape X K) → IsShape s → (xs : List X) → map (λ r. s.read (Null ∷ Text [] ∷ r)) (map s.cells xs) ≡ xs
-read_back s is [] = refl
-read_back s is (x ∷ xs) = ap₂ ◌∷◌ (is.back Null [] x) (read_back s is xs)
+pub told : {X : Type 0} (cells : X → Row) (back : Row → X) → ((x : X) → back (cells x) ≡ x) → (lines : List Row) (read : List X) → lines ≡ map cells read → read ≡ map back lines
+told cells back is lines read shown = sym (backs read) ∙ ap (map back) (sym shown)
+  where
+    backs : (xs : List _) → map back (map cells xs) ≡ xs
+    backs [] = refl
+    backs (x ∷ xs) = ap₂ ◌∷◌ (is x) (backs xs)
 
 columns_all : {X K : Type 0} (s : Shape X K) (n : ℕ) → ((x : X) → columns n (s.cells x) ≡ s.cells x) → (xs : List X) → map (columns n) (map s.cells xs) ≡ map s.cells xs
 columns_all s n whole [] = refl
@@ -21,7 +24,8 @@ columns_all s n whole (x ∷ xs) = ap₂ ◌∷◌ (whole x) (columns_all s n wh
 
 told_back : {X K : Type 0} (s : Shape X K) → IsShape s → (n : ℕ) → ((x : X) → columns n (s.cells x) ≡ s.cells x) → (rows : List Row) (xs read : List X) → rows ≡ map s.cells xs → map (columns n) rows ≡ map s.cells read → read ≡ xs
 told_back s is n whole rows xs read shown shows =
-    sym (read_back s is read) ∙ ap (map (λ r. s.read (Null ∷ Text [] ∷ r))) (sym shows ∙ ap (map (columns n)) shown ∙ columns_all s n whole xs) ∙ read_back s is xs
+    let back = λ (r : Row). s.read (Null ∷ Text [] ∷ r) in
+    told s.cells back (is.back Null []) _ read shows ∙ ap (map back) (ap (map (columns n)) shown ∙ columns_all s n whole xs) ∙ sym (told s.cells back (is.back Null []) _ xs refl)
 
 -- ---- what the statement of a text shows
 

@@ -1,5 +1,5 @@
 -- What a query means that shows three columns of one table, under any schema that has the table with these columns.
-use Rattle.std.proofs.Common.{◌≡◌, refl, ◌∙◌, ℕ, List, [], ◌∷◌, ◌++◌, false, true, Some, None, Ok, Err, slice_get, pos, negsuc, ◌-◌, nat_lt}
+use Rattle.std.proofs.Common.{◌≡◌, refl, ◌∙◌, ℕ, List, [], ◌∷◌, ◌++◌, Bool, cond, false, true, Some, None, Ok, Err, slice_get, pos, negsuc, ◌-◌, nat_lt}
 use Rattle.sqlite_ast.specs.declared.{Core.{Core, out-Core}, Expr.{Expr, out-Expr, TheOpen.{Expr-F, Shown-F}}, Select.{Select, out-Select}}
 use Rattle.sqlite_ast.specs.declared.Source.{Source, out-Source}
 use Rattle.sqlite_draft.specs.{Query.{query_of}, declared.{join.Step.TheVariants.{Inner}, query.Draft.{Draft}}}
@@ -222,20 +222,8 @@ module _ (schema : Schema) (name : Name) (k : ℕ) (t : Table) (is_named : table
           abbrev pub body_of : Program
           body_of = record { lets = []; body = query_of draft }
 
-          module _ (accepted : accepts_program schema [] (query_of draft) [] ≡ true) where
-            is_program : program.program schema [] draft ≡ Ok body_of
-            unfolding program.program
-            is_program = rw accepted
-
-            pub is_read : compile.read schema s ≡ Ok (command.Select body_of headings)
-            unfolding compile.read
-            is_read = rw (is_queried, is_program)
-
-          module _ (refused : accepts_program schema [] (query_of draft) [] ≡ false) where
-            no_program : program.program schema [] draft ≡ Err Mismatch
-            unfolding program.program
-            no_program = rw refused
-
-            pub not_read : compile.read schema s ≡ Err Mismatch
-            unfolding compile.read
-            not_read = rw (is_queried, no_program)
+          -- it is read where its types fit, and else refused
+          pub is_read : (b : Bool) → accepts_program schema [] (query_of draft) [] ≡ b → compile.read schema s ≡ cond b (Ok (command.Select body_of headings)) (Err Mismatch)
+          unfolding compile.read program.program
+          is_read true accepted = rw (is_queried, accepted)
+          is_read false refused = rw (is_queried, refused)

@@ -1,8 +1,9 @@
 -- Rows that rise are the same after they were put into tables without rows; and units are taken over one after another.
-use Rattle.std.specs.{Cmp.{IsTotalOrder, Lexicographic.{nat_list_cmp_total}}, FinMap.{contains_key, get, Entries.{below_all}}, List.{AllByRecursion}}
+use Rattle.std.specs.{Cmp.{IsTotalOrder}, FinMap.{contains_key, get}, List.{AllByRecursion}}
 use Rattle.std.specs.Ordering.{ordering_reverse}
-use Rattle.std.proofs.Common.{◌≡◌, ◌≢◌, ℕ, ◌<◌, ◌+◌, get_or, zero, suc, Bool, true, false, cond, List, [], ◌∷◌, ◌++◌, map, filter, take, length, Option, None, Some, refl, sym, ap, ap₂, ◌∙◌, subst, true≢false, Ordering, Less, Equal, Greater, is_eq, nat_cmp, T, arith, flat_map, is_lt, is_some, unwrap_or, ◌||◌}
-use Rattle.std.proofs.lemmas.{Cmp.{tied_itself}, List.{append-nil, append_assoc, take_more}}
+use Rattle.std.proofs.Common.{◌≡◌, ◌≢◌, ℕ, ◌<◌, ◌+◌, get_or, zero, suc, Bool, true, false, cond, List, [], ◌∷◌, ◌++◌, map, filter, take, length, refl, sym, ap, ap₂, ◌∙◌, subst, true≢false, Ordering, Less, Greater, is_eq, nat_cmp, arith, unwrap_or, ◌||◌}
+use Rattle.std.proofs.Math.Bool.{or-false}
+use Rattle.std.proofs.lemmas.{Bool.{or_left, or_right}, List.{append-nil, append_assoc, Folds.{list_any-append}}}
 use Rattle.sqlite.specs.{Effect.{Database}, Tree.{Trees}}
 use Rattle.sqlite_keyed.{specs.Lists.{sort_by}, proofs.ListLemmas.{all-append, ascending-map}}
 use Rattle.sqlite_trees.specs.Tree.{IsAscending}
@@ -11,41 +12,26 @@ use Rattle.sqlite_value.proofs.OrderLemmas.{then-Equal, value_cmp-Text}
 use Rattle.plant_books.specs.Contents.{Content, rows_in}
 use Rattle.plant_columns.specs.{Kept.{by_columns, is_of}, Shape.{IsRowIn, rows_in as rows_of}}
 use Rattle.plant_columns.specs.Tables.Kept.{AlarmKept, BandKept, CellKept, ChangeKept, EventKept, GrantKept, RecordKept, ShelfKept, UnitKept}
-use Rattle.plant_columns.{specs.Tables.{AreSeen, Kept, RowOf, rows_at, shape}, proofs.public.{Joins.{strict-sort}, Kept.{all-sort, sort-filter}}}
-use Rattle.plant_columns.proofs.public.{Keys.{by_columns_total}, ShapeLaws.{good}, Shapes.{named, rises}}
+use Rattle.plant_columns.specs.Tables.{AreSeen, Kept, RowOf, rows_at, shape}
+use Rattle.plant_columns.proofs.public.{Bridge.{AreRising as Rise}, Kept.{all-sort, sort-filter, strict-sort}}
+use Rattle.plant_columns.proofs.public.{Keys.{by_columns_total}, ShapeLaws.{good}, Shapes.{named, rising}}
 use Rattle.plant_model.specs.{RowChanges.{changed_by, no_rows}, RowFacts.{pair_of}, declared.rows.Row.TheVariants.{Unit as UnitPut}}
 use Rattle.plant_model.specs.declared.rows.{RowEdit.{RowEdit, TheVariants.{Put}}, UnitRow.{UnitRow}, UnitRows.{UnitRows}}
 use Rattle.plant_store.specs.{Changes.{Applies, IsOfficeOf}, Keeping.{HaveRows, has_any}, Making.{AreNew}}
-use Rattle.plant_store.specs.OldTables.{AreOldBooks, old_pair_of, old_own_key, old_rows, old_unit_shape}
+use Rattle.plant_store.specs.OldTables.{AreOldBooks, old_rows, old_unit_shape}
 use Rattle.plant_store.specs.Upgrading.{AreTakenOver, HaveOldRows, all_kinds, is_among, old_codes, puts_all, puts_of, upgraded_grant, upgraded_rows, upgraded_unit}
 use Rattle.plant_store.specs.declared.make.TableKind.TheVariants.{Alarms, Bands, Cells, Changes, Events, Grants, Records, Shelves, Units}
 use Rattle.plant_store.{specs.declared.old_rows.CodeLine.{CodeLine}, proofs.OldQueries.{old_good, old_unit_good}}
-use Rattle.plant_store.proofs.{Writes.{as_row, changed_by-append, with_rows}, public.Contents.{nothing_at, same_codes}}
-use Rattle.plant_types.specs.{KeyedRows.{IsInOrder, put_row}, Names.{Name, name_cmp, same_name}, Roles.{pair_cmp}}
-use Rattle.plant_types.proofs.public.Halves.{first, second}
+use Rattle.plant_store.proofs.{Queries.{passing_all}, Writes.{as_row, changed_by-append, with_rows}}
+use Rattle.plant_store.proofs.public.Contents.{differs, no_some, nothing_at, same_codes}
+use Rattle.plant_types.specs.{KeyedRows.{put_row}, Names.{Name, name_cmp, same_name}, Roles.{pair_cmp}}
 
 -- ---- rows that rise, put one after another
 
-less_by : (o : Ordering) → T (is_lt o) → o ≡ Less
-less_by Less h = refl
-less_by Equal h = absurd h
-less_by Greater h = absurd h
-
 module _ {K X : Type 0} (R : K → K → Ordering) (key : X → K) where
-  abbrev Rise : List X → Type 0
-  Rise = IsAscending (λ a b. R (key a) (key b) ≡ Less)
-
   abbrev filled : List X → List X → List X
   filled [] ys = ys
   filled (x ∷ xs) ys = filled xs (put_row R key x ys)
-
-  below : (x : X) (xs : List X) → T (below_all R (key x) (map (λ r. (key r, r)) xs)) → AllByRecursion (λ y. R (key x) (key y) ≡ Less) xs
-  below x [] h = tt
-  below x (y ∷ ys) h = (less_by (R (key x) (key y)) (first _ _ h), below x ys (second _ _ h))
-
-  pub rise : (xs : List X) → IsInOrder R key xs → Rise xs
-  rise [] h = tt
-  rise (x ∷ xs) h = (below x xs (first _ _ h), rise xs (second _ _ h))
 
   module _ (o : IsTotalOrder R) where
     at_end : (x : X) (ys : List X) → AllByRecursion (λ y. R (key y) (key x) ≡ Less) ys → put_row R key x ys ≡ ys ++ x ∷ []
@@ -54,7 +40,7 @@ module _ {K X : Type 0} (R : K → K → Ordering) (key : X → K) where
         let up : R (key x) (key y) ≡ Greater = o.antisymm (key x) (key y) ∙ ap ordering_reverse all.0 in
         rw up (ap (λ l. y ∷ l) (at_end x ys all.1))
 
-    filled_end : (xs ys : List X) → AllByRecursion (λ y. AllByRecursion (λ x. R (key y) (key x) ≡ Less) xs) ys → Rise xs → filled xs ys ≡ ys ++ xs
+    filled_end : (xs ys : List X) → AllByRecursion (λ y. AllByRecursion (λ x. R (key y) (key x) ≡ Less) xs) ys → Rise R key xs → filled xs ys ≡ ys ++ xs
     filled_end [] ys across up = sym (append-nil ys)
     filled_end (x ∷ xs) ys across up =
         ap (filled xs) (at_end x ys (firsts ys across))
@@ -69,7 +55,7 @@ module _ {K X : Type 0} (R : K → K → Ordering) (key : X → K) where
         rests [] all = tt
         rests (z ∷ zs) all = (all.0.1, rests zs all.1)
 
-    pub filled_none : (xs : List X) → Rise xs → filled xs [] ≡ xs
+    pub filled_none : (xs : List X) → Rise R key xs → filled xs [] ≡ xs
     filled_none xs up = filled_end xs [] tt up
 
 -- ---- the puts of each table's rows
@@ -120,9 +106,9 @@ all_put rows up =
 -- ---- the rows of a store of schema 1 rise
 
 old_rise : (u : Name) (db : Database) → AreOldBooks db → AreRising (upgraded_rows u db.trees)
-old_rise u db books UnitKept = ascending-map (λ (a b : UnitRow). nat_cmp 0 0 ≡ Less) upgraded_unit (old_rows u db.trees UnitKept) (rise nat_cmp old_own_key _ (rises _ (old_good UnitKept) u (db.trees 1) (books.tidy UnitKept)))
-old_rise u db books GrantKept = ascending-map (λ a b. pair_cmp (pair_of a) (pair_of b) ≡ Less) upgraded_grant (old_rows u db.trees GrantKept) (rise pair_cmp old_pair_of _ (rises _ (old_good GrantKept) u (db.trees 3) (books.tidy GrantKept)))
-old_rise u db books i = rise (shape i).order (shape i).key _ (rises _ (old_good i) u (db.trees (shape i).tree) (books.tidy i))
+old_rise u db books UnitKept = ascending-map (λ (a b : UnitRow). nat_cmp 0 0 ≡ Less) upgraded_unit (old_rows u db.trees UnitKept) (rising _ (old_good UnitKept) u (db.trees 1) (books.tidy UnitKept))
+old_rise u db books GrantKept = ascending-map (λ a b. pair_cmp (pair_of a) (pair_of b) ≡ Less) upgraded_grant (old_rows u db.trees GrantKept) (rising _ (old_good GrantKept) u (db.trees 3) (books.tidy GrantKept))
+old_rise u db books i = rising _ (old_good i) u (db.trees (shape i).tree) (books.tidy i)
 
 -- a unit without rows has, after the puts, the rows that it had in the old store
 pub unit_taken : (u : Name) (db : Database) → AreOldBooks db → (old new : Database) → AreSeen u old no_rows → Applies u (puts_all (upgraded_rows u db.trees) all_kinds) old new → AreSeen u new (upgraded_rows u db.trees)
@@ -136,10 +122,6 @@ code r = bytes (column r 1)
 abbrev unit_key : List ℕ
 unit_key = 1 ∷ []
 
-all_true : (rows : List Row) → filter (λ r. true) rows ≡ rows
-all_true [] = refl
-all_true (r ∷ rows) = ap (λ l. r ∷ l) (all_true rows)
-
 module _ (db : Database) (books : AreOldBooks db) where
   abbrev sorted : List Row
   sorted = sort_by (by_columns unit_key) (db.trees 1)
@@ -148,7 +130,7 @@ module _ (db : Database) (books : AreOldBooks db) where
   well_formed = all-sort (by_columns unit_key) (by_columns_total unit_key) (IsRowIn old_unit_shape) (db.trees 1) (books.tidy UnitKept).each
 
   codes_are : old_codes db.trees ≡ map code sorted
-  codes_are = ap (λ rs. map code (sort_by (by_columns unit_key) rs)) (all_true (db.trees 1))
+  codes_are = ap (λ rs. map code (sort_by (by_columns unit_key) rs)) (passing_all (db.trees 1))
 
   name_at : (r : Row) → IsRowIn old_unit_shape r → column r 1 ≡ Text (code r)
   name_at r h = named old_unit_shape old_unit_good r h
@@ -186,19 +168,6 @@ module _ (db : Database) (books : AreOldBooks db) where
   pub codes_rise : IsAscending (λ a b. name_cmp a b ≡ Less) (old_codes db.trees)
   codes_rise = subst (IsAscending (λ a b. name_cmp a b ≡ Less)) (sym codes_are) (codes_up sorted well_formed (strict-sort (by_columns unit_key) (by_columns_total unit_key) (db.trees 1) (books.tidy UnitKept).apart))
 
--- ---- lists, one element longer
-
-pub mapped : {A B : Type 0} (f : A → B) (xs : List A) (x : A) → map f (xs ++ x ∷ []) ≡ map f xs ++ f x ∷ []
-mapped f [] x = refl
-mapped f (y ∷ ys) x = ap (λ l. f y ∷ l) (mapped f ys x)
-
-pub mapped_more : {A B : Type 0} (f : A → B) (xs : List A) (i : ℕ) (x : A) → i < length xs → x ≡ get_or xs i x → map f (take (i + 1) xs) ≡ map f (take i xs) ++ f x ∷ []
-mapped_more f xs i x lt is = ap (map f) (take_more xs i x lt ∙ ap (λ y. take i xs ++ y ∷ []) (sym is)) ∙ mapped f (take i xs) x
-
-pub joined : {A B : Type 0} (f : A → List B) (xs : List A) (x : A) → flat_map f (xs ++ x ∷ []) ≡ flat_map f xs ++ f x
-joined f [] x = append-nil (f x)
-joined f (y ∷ ys) x = ap (λ l. f y ++ l) (joined f ys x) ∙ sym (append_assoc (f y) (flat_map f ys) (f x))
-
 -- ---- one unit after another
 
 abbrev pub units_of : List CodeLine → List Name
@@ -218,19 +187,7 @@ not_before (l ∷ ls) (suc k) d up h =
     reach (q ∷ qs) (suc n) all h = reach qs n all.1 (omega arith)
 
 among_more : (us : List Name) (x u : Name) → is_among (us ++ x ∷ []) u ≡ (is_among us u || same_name x u)
-among_more [] x u = go (same_name x u)
-  where
-    go : (b : Bool) → (b || false) ≡ b
-    go true = refl
-    go false = refl
-among_more (k ∷ us) x u = go (same_name k u) (among_more us x u)
-  where
-    go : (b : Bool) → is_among (us ++ x ∷ []) u ≡ (is_among us u || same_name x u) → (b || is_among (us ++ x ∷ []) u) ≡ ((b || is_among us u) || same_name x u)
-    go true h = refl
-    go false h = h
-
-differs : (x u : Name) → same_name x u ≡ false → u ≢ x
-differs x u h e = true≢false (sym (subst (λ y. same_name x y ≡ true) (sym e) (ap is_eq (tied_itself nat_list_cmp_total x))) ∙ h)
+among_more us x u = list_any-append (λ k. same_name k u) us (x ∷ []) ∙ ap (λ b. is_among us u || b) (or-false (same_name x u))
 
 pub taken_next : (us : List Name) (x : Name) (db : Database) → AreOldBooks db → (old new : Database) → is_among us x ≡ false → AreTakenOver us db.trees old → Applies x (puts_all (upgraded_rows x db.trees) all_kinds) old new
     → AreTakenOver (us ++ x ∷ []) db.trees new
@@ -249,9 +206,8 @@ taken_next us x db books old new fresh so_far it = record {
     taken u false false e f h = absurd (true≢false (sym (sym (ap₂ ◌||◌ f e) ∙ h)))
 
     others : (u : Name) (b c : Bool) → same_name x u ≡ b → is_among us u ≡ c → (is_among us u || same_name x u) ≡ false → AreSeen u new no_rows
-    others u true true e f h = absurd (true≢false (sym (ap₂ ◌||◌ f e) ∙ h))
-    others u true false e f h = absurd (true≢false (sym (ap₂ ◌||◌ f e) ∙ h))
-    others u false true e f h = absurd (true≢false (sym (ap₂ ◌||◌ f e) ∙ h))
+    others u true c e f h = absurd (true≢false (sym (or_right (is_among us u) (same_name x u) e) ∙ h))
+    others u false true e f h = absurd (true≢false (sym (or_left (is_among us u) (same_name x u) f) ∙ h))
     others u false false e f h = λ i. it.others u (differs x u e) i ∙ so_far.others u f i
 
 pub none_taken : (admin : Name) (trees : Trees) (db : Database) → AreNew admin db → AreTakenOver [] trees db
@@ -262,10 +218,6 @@ none_taken admin trees db it = record {
 }
 
 -- ---- all units
-
-no_content : (o : Option UnitRows) → is_some o ≡ false → unwrap_or o no_rows ≡ no_rows
-no_content None h = refl
-no_content (Some rows) h = absurd (true≢false h)
 
 any_map : {A B : Type 0} (f : A → B) (xs : List A) → has_any (map f xs) ≡ has_any xs
 any_map f [] = refl
@@ -284,4 +236,4 @@ all_taken m db new h it office = record {
 
     seen : (u : Name) (b : Bool) → is_among (old_codes db.trees) u ≡ b → AreSeen u new (rows_in m u)
     seen u true e = subst (AreSeen u new) (h.seen u) (it.taken u e)
-    seen u false e = subst (AreSeen u new) (sym (no_content (get m.units u) (sym (known u) ∙ e))) (it.others u e)
+    seen u false e = subst (AreSeen u new) (sym (ap (λ o. unwrap_or o no_rows) (no_some (get m.units u) (sym (known u) ∙ e)))) (it.others u e)

@@ -24,7 +24,7 @@ free = (refl, (refl, (refl, (refl, (refl, (refl, (refl, (refl, (refl, (refl, tt)
 
 -- ---- from one table to the changes of a unit
 
-office_apart : (i : Kept) → 0 ≢ (shape i).tree
+pub office_apart : (i : Kept) → 0 ≢ (shape i).tree
 office_apart UnitKept e = omega arith
 office_apart i e = omega arith
 

@@ -1,6 +1,6 @@
 -- A row is written over the one of its key where there is one, and put anew where there is none.
 use Rattle.std.specs.{FinMap.{slice_cmp-IsAntisymmetric, nat_cmp-IsAntisymmetric}, Ordering.{ordering_then}}
-use Rattle.std.proofs.Common.{arith, ◌≡◌, ℕ, zero, suc, true, false, List, [], ◌∷◌, Ok, refl, sym, ap, ap₂, ◌∙◌, subst, is_eq, Ordering, Less, Equal, Greater, true≢false, nat_eq}
+use Rattle.std.proofs.Common.{arith, ◌≡◌, ℕ, zero, suc, true, false, List, [], ◌∷◌, drop, Ok, refl, sym, ap, ◌∙◌, subst, is_eq, Ordering, Less, Equal, Greater, true≢false, nat_eq}
 use Rattle.std.proofs.lemmas.Bool.Decides.{nat_tests}
 use Rattle.sqlite.specs.{Effect.{Database}, State.{State, Executes}, Term.{Term}}
 use Rattle.sqlite_schema.specs.Rules.{agree}
@@ -9,24 +9,25 @@ use Rattle.sqlite_value.proofs.OrderLemmas.{value_cmp-Text}
 use Rattle.plant_model.specs.declared.rows.{AlarmRow.{AlarmRow}, ChangeEntry.{ChangeEntry}, GrantRow.{GrantRow}, RecordEntry.{RecordEntry}}
 use Rattle.plant_model.specs.declared.rows.Row.TheVariants.{Alarm as AlarmPut, Change as ChangePut, Grant as GrantPut, Record as RecordPut, Shelf as ShelfPut, Unit as UnitPut}
 use Rattle.plant_model.specs.declared.rows.{RowEdit.{RowEdit, TheVariants.{Put}}, ShelfRow.{ShelfRow}, UnitRow.{UnitRow}}
-use Rattle.plant_types.specs.{KeyedRows.{put_row}, Names.{Name}, Roles.{role_no}}
+use Rattle.plant_model.specs.RowFacts.{alarm_tag, record_tag, shelf_tag}
+use Rattle.plant_types.{specs.{KeyedRows.{put_row}, Names.{Name}, Roles.{role_no}}, proofs.public.KeyedRowLaws.{tied}}
 use Rattle.plant_columns.specs.{Codes.{number, open_number, role}, Kept.{by_columns}, Shape.{row_in}}
 use Rattle.plant_columns.specs.Tables.Kept.{AlarmKept, ChangeKept, GrantKept, RecordKept, ShelfKept, UnitKept}
 use Rattle.plant_columns.specs.Tables.{AreBooks, Kept, KeyOf, RowOf, alarm_shape, books_schema, change_shape, grant_shape, record_shape, shape, shelf_shape, unit_shape}
 use Rattle.plant_columns.proofs.public.{Family.{Edits, no_edits, set_edits}, Keys.{agree_is}, Laws.{passes, shows}}
-use Rattle.plant_columns.proofs.public.{ShapeLaws.{all_listed, good, listed, numbers}, Updated.{equal_when, leaves, sets_some}}
+use Rattle.plant_columns.proofs.public.{ShapeLaws.{all_listed, good, listed, numbers}, Updated.{leaves, sets_some}}
 use Rattle.plant_store.specs.{Changes.{Applies}, Statements.{changes_written}}
 use Rattle.plant_store.specs.Texts.{over_alarm_text, over_change_text, over_grant_text, over_record_text, over_shelf_text, over_unit_text}
-use Rattle.plant_store.proofs.Meanings.{Updates, by_three, by_two, by_unit, over_alarm, over_change, over_grant, over_grant_shows, over_record, over_shelf, over_two_shows, over_unit, over_unit_shows}
+use Rattle.plant_store.proofs.Meanings.{Updates, by_three, by_two, by_unit, over_alarm, over_change, over_grant, over_grant_shows, over_record, over_shelf, over_unit, over_unit_shows}
 use Rattle.plant_store.proofs.Writes.{as_row, edited, edits_apply, free}
 
 -- ---- cells of a key that tie are the same
 
 same_text : (a b : List ℕ) → is_eq (value_cmp (Text a) (Text b)) ≡ true → a ≡ b
-same_text a b h = slice_cmp-IsAntisymmetric nat_cmp-IsAntisymmetric a b (sym (value_cmp-Text a b) ∙ equal_when _ h)
+same_text a b h = slice_cmp-IsAntisymmetric nat_cmp-IsAntisymmetric a b (sym (value_cmp-Text a b) ∙ tied _ _ h refl)
 
 same_number : (m n : ℕ) → is_eq (value_cmp (number m) (number n)) ≡ true → m ≡ n
-same_number m n h = nat_cmp-IsAntisymmetric m n (sym (numbers m n) ∙ equal_when _ h)
+same_number m n h = nat_cmp-IsAntisymmetric m n (sym (numbers m n) ∙ tied _ _ h refl)
 
 both_tie : (a b : Ordering) → is_eq (ordering_then a b) ≡ true → (is_eq a ≡ true) × (is_eq b ≡ true)
 both_tie Less b h = absurd (true≢false (sym h))
@@ -104,58 +105,42 @@ pub grant_over : (u : Name) (x : GrantRow) (old new : State) → AreBooks old.no
 unfolding first_key
 grant_over = puts_over GrantKept over_grant_text by_three _ over_grant (λ u x id y. refl) grant_shown
 
--- ---- an alarm
+-- ---- where the key is the unit and a name or a number
 
-alarm_shown : (u : Name) (x : AlarmRow) (id : Value) (v : Name) (y : AlarmRow) → is_eq (by_columns (1 ∷ 2 ∷ []) (row_in alarm_shape id u x) (row_in alarm_shape id v y)) ≡ true
-    → (shows 5 by_two (over_two_shows alarm_shape) [] (Text u ∷ alarm_shape.cells x) (row_in alarm_shape id v y)).1 ≡ id ∷ row_in alarm_shape id u x
-alarm_shown u x id v y tie =
-    let both = both_tie (value_cmp (Text u) (Text v)) (ordering_then (value_cmp (Text x.tag) (Text y.tag)) Equal) tie in
+two_shown : {X : Type 0} (cell : X → Value) → ((x y : X) → is_eq (value_cmp (cell x) (cell y)) ≡ true → cell x ≡ cell y) → (rest : X → Row)
+    → (u : Name) (x : X) (id : Value) (v : Name) (y : X) → is_eq (ordering_then (value_cmp (Text u) (Text v)) (ordering_then (value_cmp (cell x) (cell y)) Equal)) ≡ true
+    → id ∷ id ∷ Text v ∷ cell y ∷ rest x ≡ id ∷ id ∷ Text u ∷ cell x ∷ rest x
+two_shown cell same rest u x id v y tie =
+    let both = both_tie (value_cmp (Text u) (Text v)) (ordering_then (value_cmp (cell x) (cell y)) Equal) tie in
     let unit : v ≡ u = sym (same_text u v both.0) in
-    let tag : y.tag ≡ x.tag = sym (same_text x.tag y.tag (both_tie (value_cmp (Text x.tag) (Text y.tag)) Equal both.1).0) in
-    ap₂ (λ w t. (shows 5 by_two (over_two_shows alarm_shape) [] (Text u ∷ alarm_shape.cells x) (row_in alarm_shape id w (record y { tag = t }))).1) unit tag
+    let key : cell y ≡ cell x = sym (same x y (both_tie (value_cmp (cell x) (cell y)) Equal both.1).0) in
+    λ i. id ∷ id ∷ Text (unit i) ∷ key i ∷ rest x
+
+tag_shown : {X : Type 0} (tag : X → Name) (rest : X → Row)
+    → (u : Name) (x : X) (id : Value) (v : Name) (y : X) → is_eq (ordering_then (value_cmp (Text u) (Text v)) (ordering_then (value_cmp (Text (tag x)) (Text (tag y))) Equal)) ≡ true
+    → id ∷ id ∷ Text v ∷ Text (tag y) ∷ rest x ≡ id ∷ id ∷ Text u ∷ Text (tag x) ∷ rest x
+tag_shown tag rest = two_shown (λ x. Text (tag x)) (λ x y tie. ap Text (same_text (tag x) (tag y) tie)) rest
+
+-- ---- an alarm
 
 pub alarm_over : (u : Name) (x : AlarmRow) (old new : State) → AreBooks old.now → (count : ℕ) → Executes over_alarm_text (Text u ∷ alarm_shape.cells x) old new (Ok count) → Applies u (changes_written count (Put (AlarmPut x))) old.now new.now
 unfolding first_key
-alarm_over = puts_over AlarmKept over_alarm_text by_two _ over_alarm (λ u x id y. refl) alarm_shown
+alarm_over = puts_over AlarmKept over_alarm_text by_two _ over_alarm (λ u x id y. refl) (tag_shown alarm_tag (λ x. drop 1 (alarm_shape.cells x)))
 
 -- ---- a shelf
 
-shelf_shown : (u : Name) (x : ShelfRow) (id : Value) (v : Name) (y : ShelfRow) → is_eq (by_columns (1 ∷ 2 ∷ []) (row_in shelf_shape id u x) (row_in shelf_shape id v y)) ≡ true
-    → (shows 7 by_two (over_two_shows shelf_shape) [] (Text u ∷ shelf_shape.cells x) (row_in shelf_shape id v y)).1 ≡ id ∷ row_in shelf_shape id u x
-shelf_shown u x id v y tie =
-    let both = both_tie (value_cmp (Text u) (Text v)) (ordering_then (value_cmp (Text x.tag) (Text y.tag)) Equal) tie in
-    let unit : v ≡ u = sym (same_text u v both.0) in
-    let tag : y.tag ≡ x.tag = sym (same_text x.tag y.tag (both_tie (value_cmp (Text x.tag) (Text y.tag)) Equal both.1).0) in
-    ap₂ (λ w t. (shows 7 by_two (over_two_shows shelf_shape) [] (Text u ∷ shelf_shape.cells x) (row_in shelf_shape id w (record y { tag = t }))).1) unit tag
-
 pub shelf_over : (u : Name) (x : ShelfRow) (old new : State) → AreBooks old.now → (count : ℕ) → Executes over_shelf_text (Text u ∷ shelf_shape.cells x) old new (Ok count) → Applies u (changes_written count (Put (ShelfPut x))) old.now new.now
 unfolding first_key
-shelf_over = puts_over ShelfKept over_shelf_text by_two _ over_shelf (λ u x id y. refl) shelf_shown
+shelf_over = puts_over ShelfKept over_shelf_text by_two _ over_shelf (λ u x id y. refl) (tag_shown shelf_tag (λ x. drop 1 (shelf_shape.cells x)))
 
 -- ---- a record
 
-record_shown : (u : Name) (x : RecordEntry) (id : Value) (v : Name) (y : RecordEntry) → is_eq (by_columns (1 ∷ 2 ∷ []) (row_in record_shape id u x) (row_in record_shape id v y)) ≡ true
-    → (shows 15 by_two (over_two_shows record_shape) [] (Text u ∷ record_shape.cells x) (row_in record_shape id v y)).1 ≡ id ∷ row_in record_shape id u x
-record_shown u x id v y tie =
-    let both = both_tie (value_cmp (Text u) (Text v)) (ordering_then (value_cmp (Text x.tag) (Text y.tag)) Equal) tie in
-    let unit : v ≡ u = sym (same_text u v both.0) in
-    let tag : y.tag ≡ x.tag = sym (same_text x.tag y.tag (both_tie (value_cmp (Text x.tag) (Text y.tag)) Equal both.1).0) in
-    ap₂ (λ w t. (shows 15 by_two (over_two_shows record_shape) [] (Text u ∷ record_shape.cells x) (row_in record_shape id w (record y { tag = t }))).1) unit tag
-
 pub record_over : (u : Name) (x : RecordEntry) (old new : State) → AreBooks old.now → (count : ℕ) → Executes over_record_text (Text u ∷ record_shape.cells x) old new (Ok count) → Applies u (changes_written count (Put (RecordPut x))) old.now new.now
 unfolding first_key
-record_over = puts_over RecordKept over_record_text by_two _ over_record (λ u x id y. refl) record_shown
+record_over = puts_over RecordKept over_record_text by_two _ over_record (λ u x id y. refl) (tag_shown record_tag (λ x. drop 1 (record_shape.cells x)))
 
 -- ---- a change
 
-change_shown : (u : Name) (x : ChangeEntry) (id : Value) (v : Name) (y : ChangeEntry) → is_eq (by_columns (1 ∷ 2 ∷ []) (row_in change_shape id u x) (row_in change_shape id v y)) ≡ true
-    → (shows 17 by_two (over_two_shows change_shape) [] (Text u ∷ change_shape.cells x) (row_in change_shape id v y)).1 ≡ id ∷ row_in change_shape id u x
-change_shown u x id v y tie =
-    let both = both_tie (value_cmp (Text u) (Text v)) (ordering_then (value_cmp (number x.number) (number y.number)) Equal) tie in
-    let unit : v ≡ u = sym (same_text u v both.0) in
-    let n : y.number ≡ x.number = sym (same_number x.number y.number (both_tie (value_cmp (number x.number) (number y.number)) Equal both.1).0) in
-    ap₂ (λ w m. (shows 17 by_two (over_two_shows change_shape) [] (Text u ∷ change_shape.cells x) (row_in change_shape id w (record y { number = m }))).1) unit n
-
 pub change_over : (u : Name) (x : ChangeEntry) (old new : State) → AreBooks old.now → (count : ℕ) → Executes over_change_text (Text u ∷ change_shape.cells x) old new (Ok count) → Applies u (changes_written count (Put (ChangePut x))) old.now new.now
 unfolding first_key
-change_over = puts_over ChangeKept over_change_text by_two _ over_change (λ u x id y. refl) change_shown
+change_over = puts_over ChangeKept over_change_text by_two _ over_change (λ u x id y. refl) (two_shown (λ x. number x.number) (λ x y tie. ap number (same_number x.number y.number tie)) (λ x. drop 1 (change_shape.cells x)))

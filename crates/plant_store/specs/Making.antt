@@ -4,7 +4,7 @@ use Rattle.sqlite.specs.{Effect.{Database}, Schema.{Schema}}
 use Rattle.plant_store.specs.{Changes.{IsOfficeOf}, declared.make.TableKind.{TableKind}}
 use Rattle.plant_store.specs.declared.make.TableKind.TheVariants.{Alarms, Bands, Cells, Changes, Events, Grants, Records, Shelves, Units}
 use Rattle.plant_columns.specs.Tables.Kept.{UnitKept, GrantKept, AlarmKept, ShelfKept, BandKept, CellKept, EventKept, RecordKept, ChangeKept}
-use Rattle.plant_columns.specs.Tables.{AreBooks, Kept, alarms_schema, bands_schema, cells_schema, changes_schema, events_schema, grants_schema, office_schema, records_schema, shape, shelves_schema, units_schema}
+use Rattle.plant_columns.specs.Tables.{AreBooks, Kept, shape}
 use Rattle.plant_types.specs.Names.{Name}
 
 -- the tables of this schema are there, and have no row
@@ -29,27 +29,3 @@ kept_as Bands = BandKept
 kept_as Cells = CellKept
 kept_as Records = RecordKept
 kept_as Changes = ChangeKept
-
--- the schema before this table is made
-abbrev pub schema_before : Kept → Schema
-schema_before UnitKept = office_schema
-schema_before GrantKept = units_schema
-schema_before AlarmKept = grants_schema
-schema_before ShelfKept = alarms_schema
-schema_before BandKept = shelves_schema
-schema_before CellKept = bands_schema
-schema_before EventKept = cells_schema
-schema_before RecordKept = events_schema
-schema_before ChangeKept = records_schema
-
--- the schema once this table is made
-abbrev pub schema_with : Kept → Schema
-schema_with UnitKept = units_schema
-schema_with GrantKept = grants_schema
-schema_with AlarmKept = alarms_schema
-schema_with ShelfKept = shelves_schema
-schema_with BandKept = bands_schema
-schema_with CellKept = cells_schema
-schema_with EventKept = events_schema
-schema_with RecordKept = records_schema
-schema_with ChangeKept = changes_schema

@@ -1,9 +1,9 @@
 -- The tables of schema 1, from which a plant may come: those of this schema, but that a unit's row has no quota, and a grant no end.
-use Rattle.std.specs.{Ordering.{nat_cmp}, Prelude.{List, [], codes, ℕ, ◌∷◌}}
+use Rattle.std.specs.{Ordering.{nat_cmp}, Prelude.{List, [], codes, map, ℕ, ◌++◌, ◌∷◌}}
 use Rattle.sqlite.specs.{Effect.{Database}, Schema.{Schema}, Tree.{Trees}}
 use Rattle.sqlite_value.specs.{Order.{Row, bytes, column}, declared.value.Value.TheVariants.{Null, Text}}
 use Rattle.plant_columns.specs.{Codes.{number, number_in, role, role_in}, Shape.{AreTables, Shape, seen, table_in}, Tables.Kept.{GrantKept, UnitKept}}
-use Rattle.plant_columns.specs.Tables.{Kept, KeyOf, RowOf, alarm_shape, band_shape, by_person, cell_shape, change_shape, event_shape, key_index, number_column, office_table, record_shape, shape, shelf_shape, text_column}
+use Rattle.plant_columns.specs.Tables.{Kept, KeyOf, RowOf, all_kept, by_person, key_index, number_column, office_table, shape, text_column}
 use Rattle.plant_store.specs.declared.old_rows.{OldGrantRow.{OldGrantRow}, OldUnitRow.{OldUnitRow}}
 use Rattle.plant_types.specs.{Names.{Name}, Roles.{Pair, pair_cmp}}
 
@@ -61,10 +61,8 @@ old_shape i = shape i
 
 abbrev pub old_books_schema : Schema
 old_books_schema = record {
-  tables = office_table ∷ table_in old_unit_shape ∷ table_in old_grant_shape ∷ table_in alarm_shape ∷ table_in shelf_shape ∷ table_in band_shape ∷ table_in cell_shape ∷ table_in event_shape ∷ table_in record_shape ∷ table_in change_shape ∷ [];
-  indexes = key_index (codes "sqlite_autoindex_units_1") old_unit_shape ∷ key_index (codes "sqlite_autoindex_grants_1") old_grant_shape ∷ key_index (codes "sqlite_autoindex_alarms_1") alarm_shape ∷ key_index (codes "sqlite_autoindex_shelves_1") shelf_shape
-      ∷ key_index (codes "sqlite_autoindex_bands_1") band_shape ∷ key_index (codes "sqlite_autoindex_cells_1") cell_shape ∷ key_index (codes "sqlite_autoindex_events_1") event_shape
-      ∷ key_index (codes "sqlite_autoindex_records_1") record_shape ∷ key_index (codes "sqlite_autoindex_changes_1") change_shape ∷ by_person ∷ [];
+  tables = office_table ∷ map (λ i. table_in (old_shape i)) all_kept;
+  indexes = map (λ i. key_index (old_shape i)) all_kept ++ by_person ∷ [];
   views = [];
 }
 

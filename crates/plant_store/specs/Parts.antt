@@ -5,11 +5,11 @@ use Rattle.sqlite_trees.specs.declared.store.Store.{Ghosts}
 use Rattle.plant_alarm.specs.declared.event.Event.{Event}
 use Rattle.plant_model.specs.{Histories.{same_number}, Parts.{counted_for, is_crowded}, RowFacts.{last_number}}
 use Rattle.plant_model.specs.{Scopes.{is_shelving, looks_at_events, number_approved, selection_by}, declared.call.Request.{Request}}
-use Rattle.plant_model.specs.declared.{kinds.Scope.{Scope}, rows.{AlarmRow.{AlarmRow}, BandRow.{BandRow}, CellRow.{CellRow}}}
+use Rattle.plant_model.specs.declared.{kinds.Scope.{Scope}, rows.{AlarmRow.{AlarmRow}}}
 use Rattle.plant_model.specs.declared.rows.{ChangeEntry.{ChangeEntry}, GrantRow.{GrantRow}, RecordEntry.{RecordEntry}, UnitRow.{UnitRow}}
 use Rattle.plant_model.specs.declared.rows.UnitRows.{UnitRows}
 use Rattle.plant_books.specs.{Numbered.{NumbersRise, of_numbers}, declared.asking.WantedAlarms.{WantedAlarms}}
-use Rattle.plant_columns.specs.Tables.{AreBooks, Kept, rows_seen, Kept.{AlarmKept, BandKept, CellKept, ChangeKept, EventKept, GrantKept, ShelfKept}}
+use Rattle.plant_columns.specs.Tables.{AreBooks, Kept, rows_seen, Kept.{AlarmKept, ChangeKept, EventKept, GrantKept, ShelfKept}}
 use Rattle.plant_store.specs.{Changes.{IsHonest}, Wanted.{alarms_with, events_with}}
 use Rattle.plant_types.specs.Names.{Name, same_name}
 
@@ -74,17 +74,13 @@ LoadsNumbers g before after seen unit number_of numbers said =
     → NumbersRise number_of (seen unit (state g before).now.trees)
     → IfOk said (λ rows. rows ≡ of_numbers number_of numbers (seen unit (state g before).now.trees))
 
--- the result is the limits of the unit's matrices that the scope takes in
-abbrev pub LoadsBands : {S E : Type 0} → Ghosts S → Held S → Held S → Name → List UnitRow → Scope → Result (List BandRow) E → Type 0
-LoadsBands g before after unit units scope said =
-    IsHonest (state g after) → AreBooks (state g before).now → (rows : UnitRows) → rows.units ≡ units
-    → IfOk said (λ bands. bands ≡ filter (λ r. (selection_by rows scope).matrix r.matrix_no) (rows_seen unit (state g before).now.trees BandKept))
-
--- the result is the cells of the unit's matrices that the scope takes in
-abbrev pub LoadsCells : {S E : Type 0} → Ghosts S → Held S → Held S → Name → List UnitRow → Scope → Result (List CellRow) E → Type 0
-LoadsCells g before after unit units scope said =
-    IsHonest (state g after) → AreBooks (state g before).now → (rows : UnitRows) → rows.units ≡ units
-    → IfOk said (λ cells. cells ≡ filter (λ r. (selection_by rows scope).matrix r.matrix_no) (rows_seen unit (state g before).now.trees CellKept))
+-- where the numbers of the unit's rows do not fall, the result is the rows of the matrices that the scope takes in
+abbrev pub LoadsMatrices : {S X E : Type 0} → Ghosts S → Held S → Held S → (Name → Trees → List X) → Name → (X → ℕ)
+    → List UnitRow → Scope → Result (List X) E → Type 0
+LoadsMatrices g before after seen unit number_of units scope said =
+    IsHonest (state g after) → AreBooks (state g before).now
+    → NumbersRise number_of (seen unit (state g before).now.trees) → (rows : UnitRows) → rows.units ≡ units
+    → IfOk said (λ found. found ≡ filter (λ r. (selection_by rows scope).matrix (number_of r)) (seen unit (state g before).now.trees))
 
 -- the result is the unit's changes that the scope takes in, where it takes in these records
 abbrev pub LoadsChanges : {S E : Type 0} → Ghosts S → Held S → Held S → Name → List RecordEntry → Scope → Result (List ChangeEntry) E → Type 0

@@ -110,9 +110,9 @@ shelf_tags_text = codes "SELECT tag FROM shelves WHERE unit = ?1 ORDER BY unit, 
 abbrev pub last_change_text : List ℕ
 last_change_text = codes "SELECT number FROM changes WHERE unit = ?1 ORDER BY unit DESC, number DESC LIMIT 1"
 
--- a person's grants in all units, each beside its unit's last moment
-abbrev pub mine_text : List ℕ
-mine_text = codes "SELECT grants.unit, grants.role_no, grants.end_s, units.last_s FROM grants INNER JOIN units ON units.unit = grants.unit WHERE grants.person = ?1 ORDER BY grants.unit, grants.person, grants.role_no"
+-- a person's grants in all units
+abbrev pub holdings_text : List ℕ
+holdings_text = codes "SELECT unit, end_s FROM grants WHERE person = ?1 ORDER BY unit, person, role_no"
 
 -- what is read of schema 1 alone: the codes of all units, and a unit's own row and its grants
 abbrev pub old_codes_text : List ℕ

@@ -1,11 +1,11 @@
 //! The tables of new books.
 
-ghost use Rattle.std.specs.Prelude.{◌≡◌, OnOk};
+ghost use Rattle.std.specs.Prelude.{◌-◌, ◌≡◌, OnOk};
 ghost use Rattle.sqlite.specs.Held.{state};
 ghost use Rattle.plant_books.specs.Books.{WasHonest};
-ghost use Rattle.plant_store.specs.{Changes.{IsHonest}, Making.{AreEmpty, AreNew, kept_as, schema_before, schema_with}};
+ghost use Rattle.plant_store.specs.{Changes.{IsHonest}, Making.{AreEmpty, AreNew, kept_as}};
 ghost use Rattle.plant_store.specs.{Reading.{HasNoTransaction, IsHonestIn}, Writing.{IsBlank, LeadsTo, SameOnErr, SameReference, StaysOpen}};
-ghost use Rattle.plant_columns.specs.Tables.{no_schema, office_schema, shelves_schema, changes_schema};
+ghost use Rattle.plant_columns.specs.Tables.{no_schema, schema_with, shape};
 ghost use Rattle.plant_store.specs.Texts as texts;
 
 use crate::write::run;
@@ -17,7 +17,7 @@ use sqlite::{Alter, Connection, Error, Transaction};
 fn make_office<S: Alter>(tx: &mut Transaction<'_, S>) -> Result<(), Error>
     ensures same_reference { SameReference tx.old tx.new }
     ensures made { LeadsTo S.Store tx.old tx.new
-        (AreEmpty no_schema) (AreEmpty office_schema) result }
+        (AreEmpty no_schema) (AreEmpty (schema_with 0)) result }
     ensures stays { StaysOpen S.Store tx.old tx.new result }
 {
     run(
@@ -69,8 +69,9 @@ fn table_text(kind: &TableKind) -> &'static str
 /// Makes a table, after those before it.
 fn make_table<S: Alter>(tx: &mut Transaction<'_, S>, kind: &TableKind) -> Result<(), Error>
     ensures same_reference { SameReference tx.old tx.new }
-    ensures made { LeadsTo S.Store tx.old tx.new (AreEmpty (schema_before (kept_as kind.now)))
-        (AreEmpty (schema_with (kept_as kind.now))) result }
+    ensures made { LeadsTo S.Store tx.old tx.new
+        (AreEmpty (schema_with ((shape (kept_as kind.now)).place - 1)))
+        (AreEmpty (schema_with (shape (kept_as kind.now)).place)) result }
     ensures stays { StaysOpen S.Store tx.old tx.new result }
 {
     run(tx, table_text(kind), &[])
@@ -80,7 +81,7 @@ fn make_table<S: Alter>(tx: &mut Transaction<'_, S>, kind: &TableKind) -> Result
 fn make_first_tables<S: Alter>(tx: &mut Transaction<'_, S>) -> Result<(), Error>
     ensures same_reference { SameReference tx.old tx.new }
     ensures made { LeadsTo S.Store tx.old tx.new
-        (AreEmpty no_schema) (AreEmpty shelves_schema) result }
+        (AreEmpty no_schema) (AreEmpty (schema_with 4)) result }
     ensures stays { StaysOpen S.Store tx.old tx.new result }
 {
     make_office(tx)?;
@@ -94,7 +95,7 @@ fn make_first_tables<S: Alter>(tx: &mut Transaction<'_, S>) -> Result<(), Error>
 fn make_other_tables<S: Alter>(tx: &mut Transaction<'_, S>) -> Result<(), Error>
     ensures same_reference { SameReference tx.old tx.new }
     ensures made { LeadsTo S.Store tx.old tx.new
-        (AreEmpty shelves_schema) (AreEmpty changes_schema) result }
+        (AreEmpty (schema_with 4)) (AreEmpty (schema_with 9)) result }
     ensures stays { StaysOpen S.Store tx.old tx.new result }
 {
     make_table(tx, &TableKind::Bands)?;
@@ -108,7 +109,7 @@ fn make_other_tables<S: Alter>(tx: &mut Transaction<'_, S>) -> Result<(), Error>
 fn fill_office<S: Alter>(tx: &mut Transaction<'_, S>, admin: &Person) -> Result<(), Error>
     ensures same_reference { SameReference tx.old tx.new }
     ensures made { LeadsTo S.Store tx.old tx.new
-        (AreEmpty changes_schema) (AreNew admin.now) result }
+        (AreEmpty (schema_with 9)) (AreNew admin.now) result }
     ensures stays { StaysOpen S.Store tx.old tx.new result }
 {
     run(

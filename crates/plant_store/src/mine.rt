@@ -1,61 +1,41 @@
 //! The units in which a person holds roles.
 
-ghost use Rattle.std.specs.Prelude.{◌≡◌, [], ◌∷◌, ◌++◌, map, IfOk, OnOk};
+ghost use Rattle.std.specs.Prelude.{◌≡◌, ◌++◌, ◌∷◌, [], filter, map, IfOk, OnOk};
 ghost use Rattle.sqlite.specs.Held.{state};
-ghost use Rattle.plant_books.specs.Contents.{codes_held, mine_units as units_held};
-ghost use Rattle.plant_model.specs.Grants.{is_before};
-ghost use Rattle.plant_store.specs.Mine.{JoinsLine, line_cells, lines_of, runs_of, standing_lines, started};
+ghost use Rattle.plant_books.specs.Contents.{codes_held, mine_as, mine_units as units_held, rows_in};
+ghost use Rattle.plant_model.specs.{RowFacts.{unit_read}, declared.rows.UnitRows.{UnitRows}};
+ghost use Rattle.plant_model.specs.Grants as grants;
+ghost use Rattle.plant_store.specs.Mine.{AreCodes, holding_cells};
 ghost use Rattle.plant_store.specs.Reading.{HasNoTransaction, ReadsBooks, ReadsContent};
 
-use crate::read::ask;
+use crate::read::{all_rows, own_grants, read_rows};
 use plant_books::MineUnit;
-use plant_columns::decode::{Shown, moment, open_moment, read_all, role, text};
+use plant_columns::decode::{Shown, open_moment, text};
 use plant_columns::encode::single;
-use plant_types::{List, Moment, Person, Role, UnitCode};
+use plant_model::{GrantRow, UnitRow, is_before};
+use plant_types::{Duplicate, List, Moment, Person, Role, UnitCode};
 use sqlite::{Alter, Connection, Error, ErrorCode, Row};
 use std::alloc::Global;
+use std::collections::BTreeSet;
 
-/// A grant of the person, beside its unit's last moment.
+/// A grant: in which unit, and until when.
 #[derive(Drop)]
-pub struct Line {
+pub struct Holding {
     pub unit: UnitCode,
-    pub role_no: Role,
     pub end_s: Option<Moment>,
-    pub last_s: Moment,
 }
 
-impl Shown for Line {
-    ghost width = { 4 };
+impl Shown for Holding {
+    ghost width = { 2 };
 
-    ghost cells = { line_cells };
+    ghost cells = { holding_cells };
 
-    fn from_row(alloc: Global, row: &Row) -> Result<Line, Error> {
-        Ok(Line {
+    fn from_row(alloc: Global, row: &Row) -> Result<Holding, Error> {
+        Ok(Holding {
             unit: text(alloc, row, 0)?,
-            role_no: role(row, 1)?,
-            end_s: open_moment(row, 2)?,
-            last_s: moment(row, 3)?,
+            end_s: open_moment(row, 1)?,
         })
     }
-}
-
-/// Whether the moment is before the end.
-pub fn is_before_end(now: Moment, end_s: Option<Moment>) -> bool
-    ensures { result ≡ is_before now end_s }
-{
-    match end_s {
-        Some(end_s) => now < end_s,
-        None => true,
-    }
-}
-
-/// A list of one role.
-fn one_role(alloc: Global, role_no: Role) -> Result<List<Role>, Error>
-    ensures { IfOk result (λ roles. roles ≡ role_no ∷ []) }
-{
-    let mut roles = List::new(alloc);
-    push(&mut roles, role_no)?;
-    Ok(roles)
 }
 
 /// Puts a value at the end.
@@ -68,108 +48,31 @@ pub fn push<T: Drop>(table: &mut List<T>, row: T) -> Result<(), Error>
     }
 }
 
-/// The unit of a line, with its role.
-fn start(alloc: Global, line: &Line) -> Result<MineUnit, Error>
-    ensures { IfOk result (λ u. u ≡ started line.now) }
+/// The same value again.
+pub fn copy_of<T: Duplicate>(alloc: Global, value: &T) -> Result<T, Error>
+    ensures { IfOk result (λ copy. copy ≡ value.now) }
 {
-    let Ok(unit) = line.unit.copy(alloc) else {
-        return Err(Error::SqliteFailure(ErrorCode::OutOfMemory));
-    };
-    Ok(MineUnit {
-        unit,
-        roles: one_role(alloc, line.role_no)?,
-        last: line.last_s,
-    })
-}
-
-/// Takes a line to the unit that is still open, or to a new one.
-#[tactic(auto, using(crate::proofs::LineLaws::joins_run))]
-fn join(
-    alloc: Global,
-    units: &mut List<MineUnit>,
-    current: Option<MineUnit>,
-    line: &Line,
-) -> Result<MineUnit, Error>
-    ensures { IfOk result (JoinsLine units.old current line.now units.new) }
-{
-    let Some(mut unit) = current else {
-        return start(alloc, line);
-    };
-    if unit.unit == line.unit {
-        push(&mut unit.roles, line.role_no)?;
-        return Ok(unit);
+    match value.duplicate(alloc) {
+        Ok(copy) => Ok(copy),
+        Err(_) => Err(Error::SqliteFailure(ErrorCode::OutOfMemory)),
     }
-    push(units, unit)?;
-    let next = start(alloc, line)?;
-    Ok(next)
 }
 
-/// The lines unit by unit, without those of grants that have ended.
-fn group(alloc: Global, lines: &[Line], now: Moment) -> Result<List<MineUnit>, Error>
-    ensures { IfOk result (λ units. units ≡ runs_of (standing_lines now lines.now)) }
-{
-    let mut units = List::new(alloc);
-    let mut current: Option<MineUnit> = None;
-    for line in lines {
-        if is_before_end(now, line.end_s) {
-            current = Some(join(alloc, &mut units, current, line)?);
-        }
-    }
-    if let Some(unit) = current {
-        push(&mut units, unit)?;
-    }
-    Ok(units)
-}
-
-/// The person's grants in all units, each beside its unit's last moment.
-fn lines<S: Alter>(
+/// The units of the grants that have not ended, each once, rising.
+fn standing_codes(
     alloc: Global,
-    conn: &mut Connection<S>,
-    person: &Person,
-) -> Result<List<Line>, Error>
-    requires { HasNoTransaction conn.old }
-    ensures mode { HasNoTransaction conn.new }
-    ensures found { ReadsContent S.Store conn.old conn.new result
-        (λ _. lines_of person.now (state S.Store conn.old).now.trees) }
-    ensures reads { ReadsBooks S.Store conn.old conn.new }
-{
-    let rows = ask(
-        conn,
-        "SELECT grants.unit, grants.role_no, grants.end_s, units.last_s FROM grants INNER JOIN units ON units.unit = grants.unit WHERE grants.person = ?1 ORDER BY grants.unit, grants.person, grants.role_no",
-        &single(person),
-    )?;
-    read_all(alloc, rows.as_slice())
-}
-
-/// The units in which the person holds a role at the moment, with the roles held.
-pub fn mine_units<S: Alter>(
-    alloc: Global,
-    conn: &mut Connection<S>,
-    person: &Person,
+    holdings: List<Holding>,
     now: Moment,
-) -> Result<List<MineUnit>, Error>
-    requires { HasNoTransaction conn.old }
-    ensures mode { HasNoTransaction conn.new }
-    ensures found { ReadsContent S.Store conn.old conn.new result
-        (λ m. units_held m now person.now) }
-    ensures reads { ReadsBooks S.Store conn.old conn.new }
+) -> Result<List<UnitCode>, Error>
+    ensures { IfOk result (λ codes. AreCodes now holdings codes) }
 {
-    let lines = lines(alloc, conn, person)?;
-    group(alloc, lines.as_slice(), now)
-}
-
-/// The codes of the units.
-fn codes(alloc: Global, units: &[MineUnit]) -> Result<List<UnitCode>, Error>
-    ensures { IfOk result (λ codes. codes ≡ map (λ u. u.unit) units.now) }
-{
-    let mut codes = List::new(alloc);
-    for mine in units {
-        let Ok(code) = mine.unit.copy(alloc) else {
-            return Err(Error::SqliteFailure(ErrorCode::OutOfMemory));
-        };
-        push(&mut codes, code)?;
-    }
-    Ok(codes)
+    let codes: BTreeSet<UnitCode> = holdings
+        .into_vec()
+        .into_iter()
+        .filter(|holding| is_before(now, holding.end_s))
+        .map(|holding| holding.unit)
+        .collect(alloc)?;
+    Ok(List::from_vec(codes.into_iter().collect(alloc)?))
 }
 
 /// The codes of the units in which the person holds a role at the moment.
@@ -185,6 +88,80 @@ pub fn held<S: Alter>(
         (λ m. codes_held m now person.now) }
     ensures reads { ReadsBooks S.Store conn.old conn.new }
 {
-    let units = mine_units(alloc, conn, person, now)?;
-    codes(alloc, units.as_slice())
+    let holdings = read_rows(
+        alloc,
+        conn,
+        "SELECT unit, end_s FROM grants WHERE person = ?1 ORDER BY unit, person, role_no",
+        &single(person),
+    )?;
+    standing_codes(alloc, holdings, now)
+}
+
+/// The roles of the grants that have not ended.
+fn standing_roles(alloc: Global, own: List<GrantRow>, now: Moment) -> Result<List<Role>, Error>
+    ensures { IfOk result (λ roles. roles
+        ≡ map (λ g. g.role_no) (filter (λ g. grants.is_before now g.end_s) own)) }
+{
+    let roles = own
+        .into_vec()
+        .into_iter()
+        .filter(|grant| is_before(now, grant.end_s))
+        .map(|grant| grant.role_no)
+        .collect(alloc)?;
+    Ok(List::from_vec(roles))
+}
+
+/// The unit's last moment.
+fn last_moment(units: &[UnitRow]) -> Moment
+    ensures { (rows : UnitRows) → rows.units ≡ units.now → result ≡ (unit_read rows).last_s }
+{
+    match units.first() {
+        Some(row) => row.last_s,
+        None => Moment::of_seconds(0).unwrap(),
+    }
+}
+
+/// The unit with the roles that the person holds there and its last moment.
+fn mine_unit<S: Alter>(
+    alloc: Global,
+    conn: &mut Connection<S>,
+    unit: &UnitCode,
+    person: &Person,
+    now: Moment,
+) -> Result<MineUnit, Error>
+    requires { HasNoTransaction conn.old }
+    ensures mode { HasNoTransaction conn.new }
+    ensures found { ReadsContent S.Store conn.old conn.new result
+        (λ m. mine_as now person.now unit.now (rows_in m unit.now)) }
+    ensures reads { ReadsBooks S.Store conn.old conn.new }
+{
+    let own = own_grants(alloc, conn, unit, person)?;
+    let units: List<UnitRow> = all_rows(alloc, conn, unit)?;
+    Ok(MineUnit {
+        unit: copy_of(alloc, unit)?,
+        roles: standing_roles(alloc, own, now)?,
+        last: last_moment(units.as_slice()),
+    })
+}
+
+/// The units in which the person holds a role at the moment, with the roles held.
+pub fn mine_units<S: Alter>(
+    alloc: Global,
+    conn: &mut Connection<S>,
+    person: &Person,
+    now: Moment,
+) -> Result<List<MineUnit>, Error>
+    requires { HasNoTransaction conn.old }
+    ensures mode { HasNoTransaction conn.new }
+    ensures found { ReadsContent S.Store conn.old conn.new result
+        (λ m. units_held m now person.now) }
+    ensures reads { ReadsBooks S.Store conn.old conn.new }
+{
+    let codes = held(alloc, conn, person, now)?;
+    let mut mine = List::new(alloc);
+    for unit in codes.as_slice() {
+        let held = mine_unit(alloc, conn, unit, person, now)?;
+        push(&mut mine, held)?;
+    }
+    Ok(mine)
 }

@@ -1,12 +1,12 @@
 //! The rows of the matrices and the changes that a scope takes in.
 
 ghost use Rattle.std.specs.Prelude.{◌≡◌, ◌++◌, OnOk};
-ghost use Rattle.plant_store.specs.{Parts.{LoadsBands, LoadsCells, LoadsChanges, LoadsNumbers}, Reading.{HasNoTransaction, ReadsBooks}};
+ghost use Rattle.plant_store.specs.{Parts.{LoadsChanges, LoadsMatrices, LoadsNumbers}, Reading.{HasNoTransaction, ReadsBooks}};
 
 use crate::read::rows_of_number;
 use crate::stored::Numbered;
 use plant_books::{change_numbers, matrix_numbers};
-use plant_model::{BandRow, CellRow, ChangeEntry, RecordEntry, Scope, UnitRow};
+use plant_model::{ChangeEntry, RecordEntry, Scope, UnitRow};
 use plant_types::{List, UnitCode};
 use sqlite::{Alter, Connection, Error, ErrorCode};
 use std::alloc::Global;
@@ -17,10 +17,7 @@ fn append<T: Drop>(rows: &mut Vec<T>, more: List<T>) -> Result<(), Error>
     ensures { OnOk result (rows.new.items ≡ rows.old.items ++ more) }
 {
     let mut more = more.into_vec();
-    match rows.append(&mut more) {
-        Ok(()) => Ok(()),
-        Err(_) => Err(Error::SqliteFailure(ErrorCode::OutOfMemory)),
-    }
+    Ok(rows.append(&mut more)?)
 }
 
 /// The unit's rows of these numbers.
@@ -43,36 +40,17 @@ fn rows_of_numbers<T: Numbered, S: Alter>(
     Ok(List::from_vec(rows))
 }
 
-/// The limits of the unit's matrices that the scope takes in.
-pub fn some_bands<S: Alter>(
+/// The unit's rows of the matrices that the scope takes in: their limits, or their cells.
+pub fn matrix_rows<T: Numbered, S: Alter>(
     alloc: Global,
     conn: &mut Connection<S>,
     unit: &UnitCode,
     units: &List<UnitRow>,
     scope: Scope<'_>,
-) -> Result<List<BandRow>, Error>
+) -> Result<List<T>, Error>
     requires { HasNoTransaction conn.old }
     ensures mode { HasNoTransaction conn.new }
-    ensures rows { LoadsBands S.Store conn.old conn.new unit.now units.now scope.entry result }
-    ensures reads { ReadsBooks S.Store conn.old conn.new }
-{
-    let Ok(numbers) = matrix_numbers(alloc, units, scope) else {
-        return Err(Error::SqliteFailure(ErrorCode::OutOfMemory));
-    };
-    rows_of_numbers(alloc, conn, unit, &numbers)
-}
-
-/// The cells of the unit's matrices that the scope takes in.
-pub fn some_cells<S: Alter>(
-    alloc: Global,
-    conn: &mut Connection<S>,
-    unit: &UnitCode,
-    units: &List<UnitRow>,
-    scope: Scope<'_>,
-) -> Result<List<CellRow>, Error>
-    requires { HasNoTransaction conn.old }
-    ensures mode { HasNoTransaction conn.new }
-    ensures rows { LoadsCells S.Store conn.old conn.new unit.now units.now scope.entry result }
+    ensures rows { LoadsMatrices S.Store conn.old conn.new T.seen unit.now T.number units.now scope.entry result }
     ensures reads { ReadsBooks S.Store conn.old conn.new }
 {
     let Ok(numbers) = matrix_numbers(alloc, units, scope) else {

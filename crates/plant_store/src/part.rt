@@ -10,7 +10,7 @@ ghost use Rattle.plant_store.specs.Parts.{AreAskedBy, LoadsApproved, LoadsCount,
 ghost use Rattle.plant_store.specs.{Reading.{HasNoTransaction, Loads, ReadsBooks, ReadsContent}, Wanted.{alarms_left, rows_with}};
 ghost use Rattle.plant_columns.specs.Tables.{rows_seen, Kept.{UnitKept}};
 
-use crate::numbers::{some_bands, some_cells, some_changes};
+use crate::numbers::{matrix_rows, some_changes};
 use crate::read::{
     all_rows, count_of_alarms, count_of_shelves, last_change_number, own_grants, row_of_tag,
     rows_of_number,
@@ -233,8 +233,8 @@ fn holders_part<S: Alter>(
     let all_events = some_events(alloc, conn, unit, looks)?;
     let recorded = wanted_records(scope);
     let records = rows_wanted(alloc, conn, unit, recorded)?;
-    let bands = some_bands(alloc, conn, unit, &units, scope)?;
-    let cells = some_cells(alloc, conn, unit, &units, scope)?;
+    let bands = matrix_rows(alloc, conn, unit, &units, scope)?;
+    let cells = matrix_rows(alloc, conn, unit, &units, scope)?;
     let changes = some_changes(alloc, conn, unit, &records, scope)?;
     let count = count_for(conn, unit, request, &all_events)?;
     let events = events_for(alloc, all_events, scope)?;

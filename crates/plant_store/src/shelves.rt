@@ -1,27 +1,16 @@
 //! The shelves of the units in which a person holds roles.
 
-ghost use Rattle.std.specs.Prelude.{◌≡◌, IfOk};
 ghost use Rattle.sqlite.specs.Held.{state};
 ghost use Rattle.plant_books.specs.Contents.{AddsShelves, Content, mine_row, mine_shelves as shelves_held, rows_in};
 ghost use Rattle.plant_store.specs.{Changes.{IsHonest}, Keeping.{HasContent}, Reading.{HasNoTransaction, ReadsBooks, ReadsContent}};
 
-use crate::mine::{held, push};
+use crate::mine::{copy_of, held, push};
 use crate::read::{all_rows, row_of_tag};
 use plant_books::MineRow;
 use plant_model::{ShelfRow, last_return};
-use plant_types::{Duplicate, List, Moment, Person, UnitCode};
-use sqlite::{Alter, Connection, Error, ErrorCode};
+use plant_types::{List, Moment, Person, UnitCode};
+use sqlite::{Alter, Connection, Error};
 use std::alloc::Global;
-
-/// The same value again.
-fn copy_of<T: Duplicate>(alloc: Global, value: &T) -> Result<T, Error>
-    ensures { IfOk result (λ copy. copy ≡ value.now) }
-{
-    match value.duplicate(alloc) {
-        Ok(copy) => Ok(copy),
-        Err(_) => Err(Error::SqliteFailure(ErrorCode::OutOfMemory)),
-    }
-}
 
 /// A shelf of the unit, with the moment at which its alarm last returned to normal.
 fn returned<S: Alter>(

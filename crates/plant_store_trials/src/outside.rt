@@ -44,7 +44,7 @@ const ALL: [Asked; 10] = [
     Asked::MineUnits,
 ];
 
-const OF_THE_UNIT: [Asked; 8] = [
+const OF_THE_UNIT: [Asked; 9] = [
     Asked::Taken,
     Asked::Rows,
     Asked::Status,
@@ -53,6 +53,19 @@ const OF_THE_UNIT: [Asked; 8] = [
     Asked::Record,
     Asked::Change,
     Asked::Approval,
+    Asked::MineUnits,
+];
+
+/// What reads the roles of `ann`.
+const OF_ROLES: [Asked; 8] = [
+    Asked::Rows,
+    Asked::Status,
+    Asked::Shelves,
+    Asked::Withdrawal,
+    Asked::Record,
+    Asked::Change,
+    Asked::Approval,
+    Asked::MineUnits,
 ];
 
 const OF_ANN: [Asked; 9] = [
@@ -94,8 +107,8 @@ const OUTSIDE: [(&str, &[Asked]); 49] = [
         &[Asked::Held, Asked::MineUnits],
     ),
     // a moment
-    ("UPDATE units SET last_s = 3155760000", &ALL),
-    ("UPDATE units SET last_s = -1", &ALL),
+    ("UPDATE units SET last_s = 3155760000", &OF_THE_UNIT),
+    ("UPDATE units SET last_s = -1", &OF_THE_UNIT),
     ("UPDATE shelves SET start_s = 3155760000", &OF_SHELVES),
     // a matrix's number and revision
     ("UPDATE units SET matrix_no = 4294967296", &OF_THE_UNIT),
@@ -122,9 +135,12 @@ const OUTSIDE: [(&str, &[Asked]); 49] = [
         &OF_SHELVES,
     ),
     // a role
-    ("UPDATE grants SET role_no = 0 WHERE role_no = 2", &OF_ANN),
-    ("UPDATE grants SET role_no = 7 WHERE role_no = 2", &OF_ANN),
-    ("UPDATE grants SET role_no = -6 WHERE role_no = 2", &OF_ANN),
+    ("UPDATE grants SET role_no = 0 WHERE role_no = 2", &OF_ROLES),
+    ("UPDATE grants SET role_no = 7 WHERE role_no = 2", &OF_ROLES),
+    (
+        "UPDATE grants SET role_no = -6 WHERE role_no = 2",
+        &OF_ROLES,
+    ),
     // the moment of an end
     (
         "UPDATE grants SET end_s = 3155760000 WHERE role_no = 2",

@@ -14,10 +14,6 @@ low_digit b e = leb-true 48 b (left _ _ e)
 high_digit : (b : ℕ) → is_digit b ≡ true → b ≤ 57
 high_digit b e = leb-true b 57 (right _ _ e)
 
--- two digits, and four, are spelled by their number
-two_of : ℕ → List ℕ
-two_of n = digit (n / 10) ∷ digit (n % 10) ∷ []
-
 first_of_two : (a b : ℕ) → is_digit a ≡ true → is_digit b ≡ true → a ≡ digit (decimal_value (a ∷ b ∷ []) / 10)
 first_of_two a b p q = omega (arith, low_digit a p, high_digit a p, low_digit b q, high_digit b q)
 

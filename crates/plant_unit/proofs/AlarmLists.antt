@@ -1,5 +1,6 @@
 -- The summaries of alarms in the order of their tags, with one more event.
-use Rattle.std.proofs.Common.{ap, arith, cond, get_or, refl, set, subst, sym, ◌∙◌, is_eq, is_lt, List, None, Option, Some, [], false, length, option_map, slice_get, suc, true, zero, ℕ, ◌++◌, ◌<◌, ◌∷◌, ◌≡◌, Less}
+use Rattle.std.proofs.Common.{ap, arith, cond, get_or, refl, set, subst, sym, ◌∙◌, is_eq, is_lt, List, Some, [], false, length, option_map, slice_get, suc, true, zero, ℕ, ◌++◌, ◌<◌, ◌∷◌, ◌≡◌, Less, append-nil}
+use Rattle.std.proofs.lemmas.{List.{Elements.{filter-append}, get_or-map}, Option.{slice_get-map}}
 use Rattle.plant_alarm.specs.{States.{summary}, declared.{event.Event.{Event}, summary.Summary.{Summary}}}
 use Rattle.plant_floods.specs.Activations.{of_alarm}
 use Rattle.plant_model.specs.{RowChanges.{with_state}, RowFacts.{alarm_tag}, declared.rows.AlarmRow.{AlarmRow}}
@@ -18,20 +19,11 @@ abbrev pub Parts : Name → List AlarmRow → ℕ → Type 0
 Parts = TagsParts name_cmp alarm_tag
 
 -- the events of an alarm, with one more
-of_alarm-append : (a : Name) (xs ys : List Event) → of_alarm a (xs ++ ys) ≡ of_alarm a xs ++ of_alarm a ys
-of_alarm-append a [] ys = refl
-of_alarm-append a (x ∷ xs) ys =
-    elim (same_name a x.tag) as (λ b. cond b (x ∷ of_alarm a (xs ++ ys)) (of_alarm a (xs ++ ys)) ≡ cond b (x ∷ of_alarm a xs) (of_alarm a xs) ++ of_alarm a ys) [ true ↦ ap (λ l. x ∷ l) (of_alarm-append a xs ys) | false ↦ of_alarm-append a xs ys ]
-
-append-[] : {A : Type 0} (xs : List A) → xs ++ [] ≡ xs
-append-[] [] = refl
-append-[] (x ∷ xs) = ap (λ l. x ∷ l) (append-[] xs)
-
 own : (es : List Event) (e : Event) (r : AlarmRow) → same_name r.tag e.tag ≡ true → summary_of (es ++ e ∷ []) r ≡ summary r.latching (of_alarm r.tag es ++ e ∷ [])
-own es e r t = ap (summary r.latching) (of_alarm-append r.tag es (e ∷ []) ∙ ap (λ b. of_alarm r.tag es ++ cond b (e ∷ []) []) t)
+own es e r t = ap (summary r.latching) (filter-append (λ x. same_name r.tag x.tag) es (e ∷ []) ∙ ap (λ b. of_alarm r.tag es ++ cond b (e ∷ []) []) t)
 
 others : (es : List Event) (e : Event) (r : AlarmRow) → same_name r.tag e.tag ≡ false → summary_of (es ++ e ∷ []) r ≡ summary_of es r
-others es e r f = ap (summary r.latching) (of_alarm-append r.tag es (e ∷ []) ∙ ap (λ b. of_alarm r.tag es ++ cond b (e ∷ []) []) f ∙ append-[] (of_alarm r.tag es))
+others es e r f = ap (summary r.latching) (filter-append (λ x. same_name r.tag x.tag) es (e ∷ []) ∙ ap (λ b. of_alarm r.tag es ++ cond b (e ∷ []) []) f ∙ append-nil _)
 
 module _ (es : List Event) (e : Event) where
   before_it : (r : AlarmRow) → is_lt (name_cmp r.tag e.tag) ≡ true → same_name r.tag e.tag ≡ false
@@ -69,11 +61,6 @@ module _ (es : List Event) (e : Event) where
       let rest = none_own rows p order.1 (later name_cmp alarm_tag e.tag x rows p h) away in
       λ i. here i ∷ rest i
 
-pub summary_at : (es : List Event) (rows : List AlarmRow) (p : ℕ) (r : AlarmRow) → Some r ≡ slice_get rows p → slice_get (summaries rows es) p ≡ Some (summary_of es r)
-summary_at es [] p r is = cc
-summary_at es (x ∷ rows) zero r is = ap (λ (o : Option AlarmRow). option_map (summary_of es) o) (sym is)
-summary_at es (x ∷ rows) (suc p) r is = summary_at es rows p r is
-
 -- the row with the summary of its events
 pub summary_state : (es : List Event) (r : AlarmRow) → with_summary r (summary_of es r) ≡ with_state (of_alarm r.tag es) r
 unfolding summary
@@ -81,34 +68,16 @@ summary_state es r = refl
 
 -- the loops over alarms
 pub summarized : (es : List Event) (alarms : List AlarmRow) (told_so : List Summary) (i : ℕ) (r d : AlarmRow) (s e : Summary) → told_so ≡ summaries alarms es → i < length alarms → r ≡ get_or alarms i d → s ≡ get_or told_so i e → s ≡ summary_of es r
-summarized es alarms told_so i r d s e is lt er es' =
-    es' ∙ ap (λ l. get_or l i e) is ∙ at alarms i lt d e ∙ ap (summary_of es) (sym er)
-  where
-    at : (rows : List AlarmRow) (i : ℕ) → i < length rows → (d : AlarmRow) (e : Summary) → get_or (summaries rows es) i e ≡ summary_of es (get_or rows i d)
-    at [] i lt d e = absurd (omega arith)
-    at (x ∷ rows) zero lt d e = refl
-    at (x ∷ rows) (suc i) lt d e = at rows i (omega arith) d e
+summarized es alarms told_so i r d s e is lt er es' = es' ∙ ap (λ l. get_or l i e) is ∙ get_or-map (summary_of es) alarms i d e lt ∙ ap (summary_of es) (sym er)
 
 -- what one more event does to the summaries
 pub added_own : (alarms : List AlarmRow) (es : List Event) (e : Event) (old new : List Summary) (p : ℕ) (r : AlarmRow) → IsInOrder name_cmp alarm_tag alarms → (IsInOrder name_cmp alarm_tag alarms → Parts e.tag alarms p)
     → Some r ≡ slice_get alarms p → same_name r.tag e.tag ≡ true → old ≡ summaries alarms es
     → ((fs : List Event) → slice_get old p ≡ Some (summary r.latching fs) → new ≡ set old p (summary r.latching (fs ++ e ∷ []))) → new ≡ summaries alarms (es ++ e ∷ [])
 added_own alarms es e old new p r order parts is t so adds =
-    adds (of_alarm r.tag es) (ap (λ l. slice_get l p) so ∙ summary_at es alarms p r is)
+    adds (of_alarm r.tag es) (ap (λ l. slice_get l p) so ∙ slice_get-map (summary_of es) alarms p ∙ ap (option_map (summary_of es)) (sym is))
     ∙ ap (λ l. set l p (summary r.latching (of_alarm r.tag es ++ e ∷ []))) so ∙ set_own es e alarms p r (ordered name_cmp alarm_tag alarms order) (parts order) is t
 
-pub added_other : (alarms : List AlarmRow) (es : List Event) (e : Event) (old : List Summary) (p : ℕ) (r : AlarmRow) → IsInOrder name_cmp alarm_tag alarms → (IsInOrder name_cmp alarm_tag alarms → Parts e.tag alarms p)
-    → Some r ≡ slice_get alarms p → same_name r.tag e.tag ≡ false → old ≡ summaries alarms es → old ≡ summaries alarms (es ++ e ∷ [])
-added_other alarms es e old p r order parts is f so =
-    so ∙ none_own es e alarms p (ordered name_cmp alarm_tag alarms order) (parts order) (λ x there. let same : x ≡ r = some_same x r (there ∙ sym is) in ap (λ (y : AlarmRow). same_name y.tag e.tag) same ∙ f)
-  where
-    some_same : (x y : AlarmRow) → Some x ≡ Some y → x ≡ y
-    some_same x y e = cc
-
-pub added_none : (alarms : List AlarmRow) (es : List Event) (e : Event) (old : List Summary) (p : ℕ) → IsInOrder name_cmp alarm_tag alarms → (IsInOrder name_cmp alarm_tag alarms → Parts e.tag alarms p)
-    → None ≡ slice_get alarms p → old ≡ summaries alarms es → old ≡ summaries alarms (es ++ e ∷ [])
-added_none alarms es e old p order parts is so =
-    so ∙ none_own es e alarms p (ordered name_cmp alarm_tag alarms order) (parts order) (λ x there. absurd (none_some x (is ∙ sym there)))
-  where
-    none_some : (x : AlarmRow) → None ≡ Some x → ⊥
-    none_some x e = cc
+pub added_other : (alarms : List AlarmRow) (es : List Event) (e : Event) (old : List Summary) (p : ℕ) → IsInOrder name_cmp alarm_tag alarms → (IsInOrder name_cmp alarm_tag alarms → Parts e.tag alarms p)
+    → ((r : AlarmRow) → Some r ≡ slice_get alarms p → same_name r.tag e.tag ≡ false) → old ≡ summaries alarms es → old ≡ summaries alarms (es ++ e ∷ [])
+added_other alarms es e old p order parts away so = so ∙ none_own es e alarms p (ordered name_cmp alarm_tag alarms order) (parts order) away

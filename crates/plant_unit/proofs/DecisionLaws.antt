@@ -1,23 +1,16 @@
 -- Calls on changes: what a decision makes.
-use Rattle.std.proofs.Common.{ap, refl, subst, sym, ◌∙◌, Bool, Err, IfOk, List, None, Ok, Option, Result, Some, [], false, if◌then◌else◌, is_ok, option_map, true, ℕ, ◌&&◌, ◌∷◌, ◌≡◌, nat_cmp}
+use Rattle.std.proofs.Common.{ap, refl, sym, ◌∙◌, Bool, Err, List, None, Ok, Option, Result, Some, [], false, if◌then◌else◌, is_ok, true, ℕ, ◌&&◌, ◌∷◌, ◌≡◌}
 use Rattle.plant_model.specs.{Calls.{changes_for, own_refusals}, Facts.{Facts}, Refusals.{first_refusal, kind_refusals, of_change}}
 use Rattle.plant_model.specs.RowChanges.{approval_changes, approved_row, decision_change, for_change, in_force, kind_row}
-use Rattle.plant_model.specs.{RowFacts.{change_found, change_number, change_read}, Rows.{change_entry}, Verdicts.{refused_or}}
-use Rattle.plant_model.specs.declared.{call.{Call.{Call}, Request.{Request, TheVariants.{Approve}}}, reply.{ChangeRow.{ChangeRow}, Refused.{Refused}}}
+use Rattle.plant_model.specs.{RowFacts.{change_found, change_read}, Rows.{change_entry}, Verdicts.{refused_or}}
+use Rattle.plant_model.specs.declared.{call.{Call.{Call}, Request.TheVariants.{Approve}}, reply.{ChangeRow.{ChangeRow}, Refused.{Refused}}}
 use Rattle.plant_model.specs.declared.{reply.{Refused.TheVariants.{SamePerson}, Reply.{Reply, TheVariants.{Done}}}, rows.ChangeEntry.{ChangeEntry}}
 use Rattle.plant_model.specs.declared.rows.{Row.TheVariants.{Change as ChangePut, Unit as UnitPut}, RowEdit.{RowEdit, TheVariants.{Put}}}
-use Rattle.plant_model.{specs.declared.rows.{UnitPart.{UnitPart}, UnitRows.{UnitRows}, Verdict.{Verdict}}, proofs.public.HistoryLaws.{when_Some}}
+use Rattle.plant_model.{specs.declared.rows.{UnitPart.{UnitPart}, Verdict.{Verdict}}, proofs.public.HistoryLaws.{when_Some}}
 use Rattle.plant_ration.specs.declared.change.ChangeState.{ChangeState, TheVariants.{Approved}}
-use Rattle.plant_types.specs.{KeyedRows.{row_at}, Names.{Name, same_name}}
-use Rattle.plant_unit.specs.{Additions.{AreKept}, Judged.{IsApproved, IsJudgedOwn, decided_or, decided_row, own_answer}}
+use Rattle.plant_types.specs.Names.{Name, same_name}
+use Rattle.plant_unit.specs.{Additions.{AreKept, decided_or}, Judged.{IsApproved, IsJudgedOwn, decided_row, own_answer}}
 use Rattle.plant_unit.{specs.Readings.{change_whole, has_kind}, proofs.ProposalLaws.{not_rejected}}
-
--- the row of a change that was found, and the change that is read from it
-pub found_there : (rows : UnitRows) (n : ℕ) (changes : List ChangeEntry) (found : Option ChangeEntry) (e : ChangeEntry) → found ≡ Some e → found ≡ row_at nat_cmp change_number n changes → changes ≡ rows.changes → Some e ≡ change_found rows n
-found_there rows n changes found e is at same = sym is ∙ at ∙ ap (row_at nat_cmp change_number n) same
-
-pub change_there : (rows : UnitRows) (n : ℕ) (e : ChangeEntry) → Some e ≡ change_found rows n → Some (change_read rows e) ≡ option_map (change_read rows) (change_found rows n)
-change_there rows n e found = ap (option_map (change_read rows)) found
 
 -- in a legal history all of a change is there
 pub whole_read : {part : UnitPart} (n : ℕ) (e : ChangeEntry) (c : ChangeRow) → AreKept part → Some e ≡ change_found part.rows n → Some c ≡ change_whole part.rows e → c ≡ change_read part.rows e
@@ -38,10 +31,6 @@ pub refused_there : (o : Option ChangeRow) (c : ChangeRow) → Some c ≡ o → 
 refused_there o c there p x is = is ∙ ap (λ z. first_refusal (of_change z (λ y. (same_name p y.proposer, SamePerson) ∷ []))) there
 
 -- an approval
-same_if : (b : Bool) (cs : List RowEdit) → (if b then cs else []) ≡ (if b && true then cs else [])
-same_if true cs = refl
-same_if false cs = refl
-
 module _ (f : Facts) (p : Name) (t : ℕ) (u : Name) (n : ℕ) (c : ChangeRow) (e : ChangeEntry) (there : Some c ≡ f.change n) (kept : change_entry c ≡ e) where
   abbrev call : Call
   call = record { person = p; moment = t; request = Approve u n }
@@ -63,11 +52,5 @@ module _ (f : Facts) (p : Name) (t : ℕ) (u : Name) (n : ℕ) (c : ChangeRow) (
       let says = a.answer ∙ ap (λ o. refused_or o Done) own in
       record {
         answer = says;
-        changes = a.changes ∙ (λ i. if is_ok (says i) then begin e else []) ∙ same_if (is_ok answer) (begin e) ∙ (λ i. if is_ok answer && true then made i else []);
+        changes = a.changes ∙ (λ i. if is_ok (says i) then begin e else []) ∙ elim (is_ok answer) as (λ b. (if b then begin e else []) ≡ (if b && true then begin e else [])) [ true ↦ refl | false ↦ refl ] ∙ (λ i. if is_ok answer && true then made i else []);
       }
-
-pub approved_for : {E : Type 0} (f : Facts) (call : Call) (u : Name) (n : ℕ) (c : ChangeRow) (e : ChangeEntry) → call.request ≡ Approve u n → Some c ≡ f.change n → change_entry c ≡ e
-    → None ≡ first_refusal (of_change (Some c) (λ x. (same_name call.person x.proposer, SamePerson) ∷ [])) → (result : Result Verdict E) → IfOk result (IsApproved f call.person call.moment c e) → IfOk result (IsJudgedOwn f call)
-approved_for f call u n c e is there kept none (Ok v) a =
-    subst (λ (q : Request). IsJudgedOwn f (record { person = call.person; moment = call.moment; request = q }) v) (sym is) (approved_here f call.person call.moment u n c e there kept none v a)
-approved_for f call u n c e is there kept none (Err x) a = tt

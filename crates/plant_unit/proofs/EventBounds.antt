@@ -1,7 +1,6 @@
 -- The events that a legal history keeps are at most 100,000.
-use Rattle.std.specs.FinMap.Entries.{by_order}
-use Rattle.std.proofs.Common.{arith, refl, subst, sym, nat_cmp, Err, List, Ok, Result, [], filter_map, length, ℕ, ◌++◌, ◌+◌, ◌∷◌, ◌≡◌, ◌≤◌, Equal, Greater, Less, find}
 use Rattle.std.proofs.lemmas.Bool.{ltb-false}
+use Rattle.std.proofs.Common.{arith, refl, subst, sym, nat_cmp, Err, List, Ok, Result, [], filter_map, length, ℕ, ◌++◌, ◌+◌, ◌∷◌, ◌≡◌, ◌≤◌, find}
 use Rattle.plant_types.specs.{KeyedRows.{in_order, put_row}, Limits.{max_events}, Names.{Name}, Options.{or_else}}
 use Rattle.plant_alarm.specs.declared.event.Event.{Event}
 use Rattle.plant_import.specs.{Merging.{fresh}, Numbers.{event_number, has_number, new_numbers, numbers_of, with_events}}
@@ -9,22 +8,13 @@ use Rattle.plant_import.{specs.declared.bad_file.BadFile.{BadFile}, proofs.publi
 use Rattle.plant_model.specs.{Events.{event_numbered, events, imported}, Facts.{facts}, Legality.{IsLegal}, Refusals.{tags_of}}
 use Rattle.plant_model.{specs.declared.call.{Call.{Call}, Request.{Request, TheVariants.{Import}}}, proofs.public.Accepted.{by_legal, IsEntry, made}}
 use Rattle.plant_model.proofs.public.{EventLaws.{import_accepted, legal_kept}, HistoryLaws.{numbers_of_events}, ImportLaws.{events_put}}
-
-one_more : (e : Event) (es : List Event) → length (put_row nat_cmp event_number e es) ≤ length es + 1
-one_more e [] = omega arith
-one_more e (x ∷ es) =
-    let rest = one_more e es in
-    elim (nat_cmp e.seq x.seq) as (λ o. length (by_order o (e ∷ x ∷ es) (e ∷ es) (x ∷ put_row nat_cmp event_number e es)) ≤ length (x ∷ es) + 1) [
-      | Less ↦ omega arith
-      | Equal ↦ omega arith
-      | Greater ↦ omega (arith, rest)
-    ]
+use Rattle.plant_model.proofs.public.PutLaws.{length-put}
 
 pub length_with : (es more : List Event) → length (with_events es more) ≤ length es + length more
 length_with es [] = omega arith
 length_with es (e ∷ more) =
     let rest = length_with (put_row nat_cmp event_number e es) more in
-    let here = one_more e es in
+    let here = length-put nat_cmp event_number e es in
     omega (arith, rest, here)
 
 few_import : (h : List Call) (p : Name) (t : ℕ) (u : Name) (file : Result (List Event) BadFile) → IsLegal h → IsEntry h (made p t (Import u file)) → length (events (made p t (Import u file) ∷ h)) ≤ max_events

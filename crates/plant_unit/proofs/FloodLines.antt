@@ -1,6 +1,6 @@
 -- The lines of floods.
-use Rattle.std.proofs.Common.{ap, arith, get_or, subst, sym, take, ◌∙◌, All, IfOk, IsTrue, List, Ok, Result, Err, [], length, map, ℕ, ◌*◌, ◌++◌, ◌+◌, ◌<◌, ◌∷◌, ◌≡◌, ◌≤◌}
-use Rattle.std.proofs.lemmas.{Bool.{lt-ltb, ltb-true}, List.{map-append, take_more}}
+use Rattle.std.proofs.Common.{ap, arith, get_or, subst, sym, take, ◌∙◌, All, IfOk, IsTrue, List, Result, [], length, map, ℕ, ◌*◌, ◌++◌, ◌+◌, ◌<◌, ◌∷◌, ◌≡◌, ◌≤◌}
+use Rattle.std.proofs.lemmas.{Bool.{lt-ltb, ltb-true}, List.{map-append, take_more}, Result.{IfOk-weaker}}
 use Rattle.plant_alarm.specs.declared.event.Event.{Event}
 use Rattle.plant_floods.{specs.{Activations.{period_counts}, Floods.{floods}, declared.run.Run.{Run}}, proofs.public.Inside.{ends_within, run_at}}
 use Rattle.plant_model.specs.{Events.{flood_line, flood_lines}, declared.reply.FloodLine.{FloodLine}}
@@ -24,14 +24,10 @@ line_more begin until i runs r lines new line moment ends lt is so pushed told =
 -- all lines
 pub lines_whole : {E : Type 0} (es : List Event) (begin until : ℕ) (counts : List ℕ) (runs : List Run) (r : Result (List FloodLine) E) → IsTrue (is_moment until) → counts ≡ period_counts es begin until → runs ≡ floods counts
     → (IsTrue (is_moment until) → All (EndsBy begin until) runs → IfOk r (λ lines. lines ≡ map (flood_line begin) runs)) → IfOk r (λ lines. lines ≡ flood_lines es begin until)
-lines_whole {E = E} es begin until counts runs r moment ec er told = by r (told moment ends)
+lines_whole {E = E} es begin until counts runs r moment ec er told = IfOk-weaker r _ _ (λ lines h. h ∙ ap (map (flood_line begin)) whole) (told moment ends)
   where
     whole : runs ≡ floods (period_counts es begin until)
     whole = er ∙ ap floods ec
 
     ends : All (EndsBy begin until) runs
     ends = subst (λ (l : List Run). All (EndsBy begin until) l) (sym whole) (λ k d lt. ((run_at es begin until k d lt).0, ends_within begin until (get_or (floods (period_counts es begin until)) k d) (run_at es begin until k d lt)))
-
-    by : (r : Result (List FloodLine) E) → IfOk r (λ lines. lines ≡ map (flood_line begin) runs) → IfOk r (λ lines. lines ≡ flood_lines es begin until)
-    by (Ok lines) h = h ∙ ap (map (flood_line begin)) whole
-    by (Err e) h = tt

@@ -1,9 +1,9 @@
 -- The judgement of an import.
 use Rattle.std.proofs.Common.{ap, append_assoc, arith, refl, subst, sym, ◌∙◌, Bool, Err, IfOk, List, None, Ok, Option, Result, Some, [], false, if◌then◌else◌, length, nat_lt, not, true, ℕ, ◌++◌, ◌+◌, ◌∷◌, ◌≡◌, ◌≤◌}
-use Rattle.std.proofs.lemmas.Bool.{ltb-false}
+use Rattle.std.proofs.lemmas.{Bool.{ltb-false}, Result.{IfOk-weaker}}
 use Rattle.plant_model.specs.{Calls.{changes_for, own_refusals, reply, unit_after}, Facts.{Facts}, Kinds.{role_needed}}
 use Rattle.plant_model.specs.{Refusals.{fault_entries, file_refusals, first_refusal, holds_some, lacks_role, tags_of}, RowChanges.{import_changes}}
-use Rattle.plant_model.specs.{Verdicts.{changes_history, refusals, refused_or, verdict_of}, declared.call.{Call.{Call}, Request.{Request}}}
+use Rattle.plant_model.specs.{Verdicts.{changes_history, refusals, refused_or, verdict_of}, declared.call.Call.{Call}}
 use Rattle.plant_model.specs.declared.{call.Request.TheVariants.{Import}, reply.{Full.TheVariants.{Events as TooManyEvents}, Refused.{Refused}}}
 use Rattle.plant_model.specs.declared.reply.{Refused.TheVariants.{BadFile as FileRefused, MomentBehind, NotGranted, UnitFull}, Reply.{Reply}}
 use Rattle.plant_model.specs.declared.{reply.Reply.TheVariants.{Imported}, rows.{Row.TheVariants.{Unit as UnitPut}, RowEdit.{RowEdit}}}
@@ -13,8 +13,8 @@ use Rattle.plant_alarm.specs.declared.event.Event.{Event}
 use Rattle.plant_import.specs.{Merging.{IsRising, first_fault, fresh, merge, merged_or}, Needed.{needed}, Numbers.{new_numbers}}
 use Rattle.plant_import.{specs.declared.{bad_file.BadFile.{BadFile}, merging.Merged.{Merged}}, proofs.public.Counted.{fresh_count}}
 use Rattle.plant_import.proofs.public.NeededLaws.{needed_merge, needed_numbers, needed_rises}
-use Rattle.plant_unit.specs.{Additions.{AreAdded, addition, addition_or, rows_added}, Judged.{IsJudged, IsJudgedOwn, holder_refusals}}
-use Rattle.plant_unit.proofs.VerdictLaws.{refused_own, made_own}
+use Rattle.plant_unit.specs.{Additions.{AreAdded, addition, decided_or, rows_added}, Judged.{IsJudged, IsJudgedOwn, holder_refusals}}
+use Rattle.plant_unit.proofs.VerdictLaws.{refused_own, made_own, asked}
 
 -- the refusals of a call: those of its caller, and then its own
 first_of : (xs ys : List (Bool × Refused)) → first_refusal (xs ++ ys) ≡ or_else (first_refusal xs) (first_refusal ys)
@@ -23,13 +23,11 @@ first_of ((true, r) ∷ xs) ys = refl
 first_of ((false, r) ∷ xs) ys = first_of xs ys
 
 all_refusals : (f : Facts) (c : Call) → first_refusal (refusals f c) ≡ or_else (first_refusal (holder_refusals f c)) (first_refusal (own_refusals f c.person c.moment c.request))
-all_refusals f c = ap first_refusal (sym (cut f c)) ∙ first_of (holder_refusals f c) (own_refusals f c.person c.moment c.request)
-  where
-    cut : (f : Facts) (c : Call) → holder_refusals f c ++ own_refusals f c.person c.moment c.request ≡ refusals f c
-    cut f c =
-        let own : List (Bool × Refused) = own_refusals f c.person c.moment c.request in
-        let behind : List (Bool × Refused) = (nat_lt c.moment f.unit.last_s, MomentBehind f.unit.last_s) ∷ [] in
-        ap (λ (l : List (Bool × Refused)). (not (holds_some f c.moment c.person), NotGranted) ∷ l) (append_assoc (lacks_role f c.moment c.person (role_needed c.request)) behind own)
+all_refusals f c =
+    let own : List (Bool × Refused) = own_refusals f c.person c.moment c.request in
+    let behind : List (Bool × Refused) = (nat_lt c.moment f.unit.last_s, MomentBehind f.unit.last_s) ∷ [] in
+    ap (λ (l : List (Bool × Refused)). first_refusal ((not (holds_some f c.moment c.person), NotGranted) ∷ l)) (sym (append_assoc (lacks_role f c.moment c.person (role_needed c.request)) behind own))
+    ∙ first_of (holder_refusals f c) own
 
 pub refused_judged : (f : Facts) (c : Call) (r : Refused) → first_refusal (holder_refusals f c) ≡ Some r → IsJudged f c (IsRefused r)
 refused_judged f c r is =
@@ -47,53 +45,43 @@ refused_by (Ok m) = Ok m
 refused_by (Err fault) = Err (FileRefused fault)
 
 pub full_added : (f : Facts) (t : ℕ) (rows : List Event) → nat_lt max_events (length f.events + length (new_numbers f.events rows)) ≡ true → addition f t rows ≡ Err (UnitFull TooManyEvents)
-full_added f t rows full = ap (λ b. addition_or (first_refusal ((b, UnitFull TooManyEvents) ∷ fault_entries (first_fault (tags_of f) t 2 f.events rows))) (rows_added f.events rows)) full
+full_added f t rows full = ap (λ b. decided_or (first_refusal ((b, UnitFull TooManyEvents) ∷ fault_entries (first_fault (tags_of f) t 2 f.events rows))) (rows_added f.events rows)) full
 
 pub merge_added : (f : Facts) (t : ℕ) (rows : List Event) (m : Result Merged BadFile) → nat_lt max_events (length f.events + length (new_numbers f.events rows)) ≡ false → m ≡ merge f.events rows (tags_of f) t → refused_by m ≡ addition f t rows
 unfolding merge
 merge_added f t rows m room is =
-    ap refused_by is ∙ by (first_fault (tags_of f) t 2 f.events rows)
-    ∙ sym (ap (λ b. addition_or (first_refusal ((b, UnitFull TooManyEvents) ∷ fault_entries (first_fault (tags_of f) t 2 f.events rows))) (rows_added f.events rows)) room)
-  where
-    by : (o : Option BadFile) → refused_by (merged_or o f.events rows) ≡ addition_or (first_refusal (fault_entries o)) (rows_added f.events rows)
-    by None = refl
-    by (Some fault) = refl
+    ap refused_by is
+    ∙ elim (first_fault (tags_of f) t 2 f.events rows) as (λ o. refused_by (merged_or o f.events rows) ≡ decided_or (first_refusal (fault_entries o)) (rows_added f.events rows)) [ None ↦ refl | Some fault ↦ refl ]
+    ∙ sym (ap (λ b. decided_or (first_refusal ((b, UnitFull TooManyEvents) ∷ fault_entries (first_fault (tags_of f) t 2 f.events rows))) (rows_added f.events rows)) room)
 
 -- a file that adds rows has no fault, and there is room for its numbers
 record AddedBy (f : Facts) (t : ℕ) (rows : List Event) (m : Merged) : Type 0 where
-  pub none : first_refusal (file_refusals f t (Ok rows)) ≡ None
+  pub none : None ≡ first_refusal (file_refusals f t (Ok rows))
+  pub sound : first_fault (tags_of f) t 2 f.events rows ≡ None
   pub few : length (fresh f.events rows) ≤ max_events
   pub is : m ≡ rows_added f.events rows
 
 adds_by : (f : Facts) (t : ℕ) (rows : List Event) (m : Merged) (full : Bool) (fault : Option BadFile) → nat_lt max_events (length f.events + length (new_numbers f.events rows)) ≡ full → first_fault (tags_of f) t 2 f.events rows ≡ fault
-    → addition_or (first_refusal ((full, UnitFull TooManyEvents) ∷ fault_entries fault)) (rows_added f.events rows) ≡ Ok m → AddedBy f t rows m
-adds_by f t rows m true fault ef eo e = cc
-adds_by f t rows m false (Some fault) ef eo e = cc
+    → decided_or (first_refusal ((full, UnitFull TooManyEvents) ∷ fault_entries fault)) (rows_added f.events rows) ≡ Ok m → AddedBy f t rows m
 adds_by f t rows m false None ef eo e =
     let room = ltb-false max_events (length f.events + length (new_numbers f.events rows)) ef in
     let count = fresh_count (tags_of f) t 2 f.events rows eo in
     record {
-      none = (λ i. first_refusal ((ef i, UnitFull TooManyEvents) ∷ fault_entries (eo i)));
+      none = λ i. first_refusal ((sym ef i, UnitFull TooManyEvents) ∷ fault_entries (sym eo i));
+      sound = eo;
       few = omega (arith, room, count);
       is = cc;
     }
+adds_by f t rows m _ _ ef eo e = cc
 
 adds : (f : Facts) (t : ℕ) (rows : List Event) (m : Merged) → addition f t rows ≡ Ok m → AddedBy f t rows m
 adds f t rows m e = adds_by f t rows m _ _ refl refl e
 
-not_added : (f : Facts) (t : ℕ) (rows : List Event) (r : Refused) → addition f t rows ≡ Err r → first_refusal (file_refusals f t (Ok rows)) ≡ Some r
-not_added f t rows r e = by (first_refusal (file_refusals f t (Ok rows))) e
-  where
-    by : (o : Option Refused) → addition_or o (rows_added f.events rows) ≡ Err r → o ≡ Some r
-    by None e = cc
-    by (Some x) e = cc
-
--- a call with its request
-asked : (c : Call) (q : Request) → c.request ≡ q → record { person = c.person; moment = c.moment; request = q } ≡ c
-asked c q e = λ i. record { person = c.person; moment = c.moment; request = sym e i }
+not_added : (f : Facts) (t : ℕ) (rows : List Event) (r : Refused) → Err r ≡ addition f t rows → Some r ≡ first_refusal (file_refusals f t (Ok rows))
+not_added f t rows r = elim (first_refusal (file_refusals f t (Ok rows))) as (λ o. Err r ≡ decided_or o (rows_added f.events rows) → Some r ≡ o) [ None ↦ λ e. cc | Some x ↦ λ e. cc ]
 
 pub import_refused : (f : Facts) (c : Call) (u : Name) (rows : List Event) (r : Refused) → c.request ≡ Import u (Ok rows) → Err r ≡ addition f c.moment rows → IsJudgedOwn f c (IsRefused r)
-import_refused f c u rows r e is = refused_own f c r (ap (λ q. first_refusal (own_refusals f c.person c.moment q)) e ∙ not_added f c.moment rows r (sym is))
+import_refused f c u rows r e is = asked e (refused_own f _ r (not_added f c.moment rows r is))
 
 pub import_fresh : (f : Facts) (t : ℕ) (rows : List Event) (m : Merged) → Ok m ≡ addition f t rows → m.fresh ≡ fresh f.events rows
 import_fresh f t rows m is = ap (λ (x : Merged). x.fresh) ((adds f t rows m (sym is)).is)
@@ -103,16 +91,9 @@ pub import_judged : (f : Facts) (c : Call) (u : Name) (rows : List Event) (m : M
 import_judged f c u rows m r cs e is er ec =
     let so = adds f c.moment rows m (sym is) in
     let few : length m.fresh ≤ 4294967295 = subst (λ (x : Merged). length x.fresh ≤ 4294967295) (sym so.is) (let n = so.few in omega (arith, n)) in
-    let q : Request = Import u (Ok rows) in
-    subst (λ (x : Call). IsJudgedOwn f x (IsAccepted r cs)) (asked c q e)
-    (made_own f (record { person = c.person; moment = c.moment; request = q }) r cs so.none (er few ∙ ap (λ (x : Merged). Imported (length x.fresh) x.repeated) so.is) refl ec)
+    asked e (made_own f _ r cs so.none (er few ∙ ap (λ (x : Merged). Imported (length x.fresh) x.repeated) so.is) refl ec)
 
 -- the rows of a file that adds some are new
-none_fault : (b : Bool) (r : Refused) (o : Option BadFile) → first_refusal ((b, r) ∷ fault_entries o) ≡ None → o ≡ None
-none_fault true r o e = cc
-none_fault false r None e = refl
-none_fault false r (Some fault) e = cc
-
 pub import_added : (f : Facts) (t : ℕ) (rows : List Event) (m : Merged) → IsRising f.events → Ok m ≡ addition f t rows → AreAdded f.events rows m.fresh
 import_added f t rows m rises is =
     record {
@@ -120,7 +101,7 @@ import_added f t rows m rises is =
       fresh_are = import_fresh f t rows m is;
       tags = tags_of f;
       now = t;
-      no_fault = none_fault (nat_lt max_events (length f.events + length (new_numbers f.events rows))) (UnitFull TooManyEvents) (first_fault (tags_of f) t 2 f.events rows) ((adds f t rows m (sym is)).none);
+      no_fault = (adds f t rows m (sym is)).sound;
     }
 
 -- what the code finds of a file beside the events that it needs
@@ -146,5 +127,4 @@ pub holder_holds : (f : Facts) (c : Call) (o : Option Refused) → o ≡ first_r
 holder_holds f c o is none = none_holds (holds_some f c.moment c.person) (lacks_role f c.moment c.person (role_needed c.request) ++ (nat_lt c.moment f.unit.last_s, MomentBehind f.unit.last_s) ∷ []) (sym is ∙ none)
 
 pub own_result : {E : Type 0} (f : Facts) (c : Call) (r : Result Verdict E) (o : Option Refused) → o ≡ first_refusal (holder_refusals f c) → o ≡ None → IfOk r (IsJudgedOwn f c) → IfOk r (IsJudged f c)
-own_result f c (Ok v) o is none j = own_judged f c v (sym is ∙ none) j
-own_result f c (Err e) o is none j = tt
+own_result f c r o is none = IfOk-weaker r (IsJudgedOwn f c) (IsJudged f c) (λ v. own_judged f c v (sym is ∙ none))

@@ -1,17 +1,15 @@
 -- From the facts of a part to the history whose rows it is of.
-use Rattle.std.specs.List.{slice_get}
-use Rattle.std.proofs.Common.{ap, refl, subst, sym, ◌∙◌, Bool, Err, IfOk, List, None, Ok, Option, Result, Some, [], false, if◌then◌else◌, true, ℕ, ◌∷◌, ◌≡◌}
-use Rattle.std.proofs.lemmas.Bool.{false_from_ne_true}
-use Rattle.plant_model.specs.{Calls.{changes_for}, Events.{events}, Facts.{Facts, facts}, Legality.{IsLegal}}
+use Rattle.std.{specs.List.{slice_get}, proofs.lemmas.{Bool.{false_from_ne_true}, Result.{IfOk-weaker}}}
+use Rattle.std.proofs.Common.{ap, refl, subst, sym, ◌∙◌, Bool, Err, IfOk, List, None, Option, Result, Some, [], false, if◌then◌else◌, true, ℕ, ◌∷◌, ◌≡◌}
+use Rattle.plant_model.specs.{Calls.{changes_for}, Events.{events}, Facts.{facts}, Legality.{IsLegal}}
 use Rattle.plant_model.specs.{Parts.{none, part_of, part_of_holder, part_of_stranger}, Refusals.{holds_some}}
 use Rattle.plant_model.specs.{RowChanges.{changed_by, no_rows, puts_unit}, RowFacts.{facts_among, facts_in, holds_by}, Rows.{rows_of, unit_row}}
 use Rattle.plant_model.specs.{Verdicts.{changes_history, is_opening, verdict, verdict_of}, declared.call.{Call.{Call}, Request.{Request}}}
 use Rattle.plant_model.specs.declared.{call.Request.TheVariants.{Floods, Import, OpenUnit}, reply.Refused.TheVariants.{NotGranted}}
 use Rattle.plant_model.specs.declared.{reply.Reply.TheVariants.{Done}, rows.{RowEdit.{RowEdit}, UnitPart.{UnitPart}, UnitRows.{UnitRows}}}
 use Rattle.plant_model.specs.declared.rows.Verdict.{Verdict, TheVariants.{Accepted as IsAccepted, Refused as IsRefused}}
-use Rattle.plant_model.proofs.public.{AcceptLaws.{accepted_turns}, ChangeLaws.{opening_turns}}
+use Rattle.plant_model.proofs.public.{AcceptLaws.{accepted_turns}, ChangeLaws.{opening_turns}, WorldLaws.{not_granted, refused_changes}}
 use Rattle.plant_model.proofs.public.{PartLaws.{part_changes, part_verdict, stranger_verdict}, ReadLaws.{facts-rows}}
-use Rattle.plant_model.proofs.public.WorldLaws.{not_granted, refused_changes}
 use Rattle.plant_types.specs.{Names.{Name}, declared.fault.Fault.{Fault}}
 use Rattle.plant_unit.specs.{Additions.{AreEventsFor, AreKept}, Judged.{IsJudged, IsOpening, IsPartOf, IsVerdictOn, is_import}}
 use Rattle.plant_unit.proofs.KeptLaws.{part_events, part_kept_of}
@@ -21,21 +19,13 @@ changed_if : (h : List Call) (c : Call) (b : Bool) → (b ≡ true → changed_b
 changed_if h c true turns = turns refl
 changed_if h c false turns = refl
 
-puts_if : (h : List Call) (c : Call) (b : Bool) → b ≡ true → puts_unit (if b then changes_for (facts h) c else []) ≡ true
-puts_if h c true e = refl
-puts_if h c false e = cc
-
-none_if : (cs : List RowEdit) (b : Bool) → b ≡ false → (if b then cs else []) ≡ []
-none_if cs true e = cc
-none_if cs false e = refl
-
 judged : (h : List Call) → IsLegal h → (c : Call) (v : Verdict) → is_opening c.request ≡ false → IsJudged (facts h) c v → IsVerdictOn h c v
 judged h legal c v plain j =
     record {
       answer = j.answer;
       changes = ap (λ cs. changed_by cs (rows_of h)) j.changes ∙ changed_if h c (changes_history (verdict h c) c) (accepted_turns h c.person c.moment legal c.request plain);
-      none = λ e. j.changes ∙ none_if (changes_for (facts h) c) (changes_history (verdict h c) c) e;
-      puts = λ e. ap puts_unit j.changes ∙ puts_if h c (changes_history (verdict h c) c) e;
+      none = λ e. j.changes ∙ ap (λ b. if b then changes_for (facts h) c else []) e;
+      puts = λ e. ap puts_unit j.changes ∙ ap (λ b. puts_unit (if b then changes_for (facts h) c else [])) e;
     }
 
 -- the facts of the part give what the facts of the history give
@@ -59,7 +49,7 @@ part_judged h legal c v j = by (holds_by (rows_of h).grants c.moment c.person) r
       let unchanged : changes_history (verdict h c) c ≡ false = false_from_ne_true _ (refused_changes (verdict h c) c NotGranted refused) in
       record {
         answer = j.answer ∙ verdicts;
-        changes = j.changes ∙ none_if (changes_for (facts_among (part_of c rows) (events h)) c) (changes_history (verdict_of (facts_among (part_of c rows) (events h)) c) c) (ap (λ x. changes_history x c) verdicts ∙ unchanged) ∙ sym (none_if (changes_for (facts h) c) (changes_history (verdict h c) c) unchanged);
+        changes = j.changes ∙ ap (λ b. if b then changes_for (facts_among (part_of c rows) (events h)) c else []) (ap (λ x. changes_history x c) verdicts ∙ unchanged) ∙ sym (ap (λ b. if b then changes_for (facts h) c else []) unchanged);
       }
 
 -- a code that was never opened
@@ -71,18 +61,17 @@ judged_unopened c =
       answer = sym answer;
       changes = sym (ap (λ b. rows_of (if b then c ∷ [] else [])) unchanged);
       none = λ _. refl;
-      puts = λ e. absurd (let no : true ≡ false = sym e ∙ unchanged in cc);
+      puts = λ e. cc;
     }
 
 pub judged_none : (h : List Call) (c : Call) (o : Option UnitPart) → o ≡ None → IsPartOf o h c → IsVerdictOn h c (IsRefused NotGranted)
 judged_none h c o none left = subst (λ k. IsVerdictOn k c (IsRefused NotGranted)) (sym (subst (λ x. IsPartOf x h c) none left)) (judged_unopened c)
 
 pub judged_some : (h : List Call) (part : UnitPart) (c : Call) (o : Option UnitPart) (r : Result Verdict Fault) → is_opening c.request ≡ false → o ≡ Some part → IsPartOf o h c → IfOk r (IsJudged (facts_among part (events h)) c) → IfOk r (IsVerdictOn h c)
-judged_some h part c o (Ok v) plain some left j =
+judged_some h part c o r plain some left =
     let known : IsPartOf (Some part) h c = subst (λ x. IsPartOf x h c) some left in
-    let is : part ≡ part_of c (rows_of h) = known.0 in
-    judged h known.1 c v plain (part_judged h known.1 c v (subst (λ x. IsJudged (facts_among x (events h)) c v) is j))
-judged_some h part c o (Err x) plain some left j = tt
+    IfOk-weaker r (IsJudged (facts_among part (events h)) c) (IsVerdictOn h c)
+    (λ v j. judged h known.1 c v plain (part_judged h known.1 c v (subst (λ x. IsJudged (facts_among x (events h)) c v) known.0 j)))
 
 -- what a legal history keeps is in its parts
 pub part_kept : (h : List Call) (part : UnitPart) (c : Call) (o : Option UnitPart) → o ≡ Some part → IsPartOf o h c → AreKept part
@@ -98,30 +87,18 @@ part_seen h part c o some left =
     subst (λ (x : UnitPart). holds_by x.rows.grants c.moment c.person ≡ true → AreEventsFor x c.request (events h)) (sym known.0) (part_events h known.1 c)
 
 -- a call that is no import is judged alike whatever events are beside its part, unless it lists floods
-same_events : (f : Facts) (c : Call) (v : Verdict) (g : Facts) → verdict_of f c ≡ verdict_of g c → changes_for f c ≡ changes_for g c → IsJudged f c v → IsJudged g c v
-same_events f c v g verdicts changes j = record { answer = j.answer ∙ verdicts; changes = j.changes ∙ (λ i. if changes_history (verdicts i) c then changes i else []) }
-
-abbrev judged_so : UnitPart → List Event → Name → ℕ → Request → Type 0
-judged_so part es p t q =
-    (verdict_of (facts_in part) (record { person = p; moment = t; request = q }) ≡ verdict_of (facts_among part es) (record { person = p; moment = t; request = q }))
-    × (changes_for (facts_in part) (record { person = p; moment = t; request = q }) ≡ changes_for (facts_among part es) (record { person = p; moment = t; request = q }))
-
-among_so : (part : UnitPart) (es : List Event) (p : Name) (t : ℕ) (q : Request) → is_import q ≡ false → AreEventsFor part q es → judged_so part es p t q
+judged_at : (part : UnitPart) (es : List Event) (p : Name) (t : ℕ) (q : Request) (v : Verdict) → is_import q ≡ false → AreEventsFor part q es
+    → IsJudged (facts_in part) (record { person = p; moment = t; request = q }) v → IsJudged (facts_among part es) (record { person = p; moment = t; request = q }) v
 unfolding holds_some
-among_so part es p t (Import u file) plain seen = cc
-among_so part es p t (Floods u begin until) plain seen =
-    (ap (λ l. verdict_of (facts_among part l) (record { person = p; moment = t; request = Floods u begin until })) seen, ap (λ l. changes_for (facts_among part l) (record { person = p; moment = t; request = Floods u begin until })) seen)
-among_so part es p t _ plain seen = (refl, refl)
+judged_at part es p t (Import u file) v plain seen j = cc
+judged_at part es p t (Floods u begin until) v plain seen j = subst (λ l. IsJudged (facts_among part l) (record { person = p; moment = t; request = Floods u begin until }) v) seen j
+judged_at part es p t _ v plain seen j = record { answer = j.answer; changes = j.changes }
 
 pub judged_among : {E : Type 0} (part : UnitPart) (es : List Event) (c : Call) (r : Result Verdict E) → is_import c.request ≡ false → AreEventsFor part c.request es → IfOk r (IsJudged (facts_in part) c) → IfOk r (IsJudged (facts_among part es) c)
-judged_among part es c (Ok v) plain seen j = let same = among_so part es c.person c.moment c.request plain seen in same_events (facts_in part) c v (facts_among part es) same.0 same.1 j
-judged_among part es c (Err x) plain seen j = tt
+judged_among part es c r plain seen = IfOk-weaker r (IsJudged (facts_in part) c) (IsJudged (facts_among part es) c) (λ v. judged_at part es c.person c.moment c.request v plain seen)
 
 part_units : (c : Call) (rows : UnitRows) → (part_of c rows).rows.units ≡ rows.units
-part_units c rows = by (holds_by rows.grants c.moment c.person) where
-  by : (b : Bool) → (if b then part_of_holder c rows else part_of_stranger c rows).rows.units ≡ rows.units
-  by true = refl
-  by false = refl
+part_units c rows = elim (holds_by rows.grants c.moment c.person) as (λ b. (if b then part_of_holder c rows else part_of_stranger c rows).rows.units ≡ rows.units) [ true ↦ refl | false ↦ refl ]
 
 -- a part of a history's rows has the unit's row
 pub has_unit : (h : List Call) (part : UnitPart) (c : Call) (o : Option UnitPart) → o ≡ Some part → IsPartOf o h c → slice_get part.rows.units 0 ≡ None → ⊥
@@ -131,13 +108,10 @@ has_unit h part c o some left none =
     cc
 
 -- an opening
-opened_rows : (c : Call) → is_opening c.request ≡ true → changed_by (changes_for (facts []) c) no_rows ≡ rows_of (c ∷ [])
-opened_rows c e = by_request c.person c.moment c.request e where
-  by_request : (p : Name) (t : ℕ) (q : Request) → is_opening q ≡ true → changed_by (changes_for (facts []) (record { person = p; moment = t; request = q })) no_rows ≡ rows_of (record { person = p; moment = t; request = q } ∷ [])
-  by_request p t (OpenUnit u s m k) e = opening_turns p t u s m k
-  by_request p t _ e = cc
+opened_rows : (p : Name) (t : ℕ) (q : Request) → is_opening q ≡ true → changed_by (changes_for (facts []) (record { person = p; moment = t; request = q })) no_rows ≡ rows_of (record { person = p; moment = t; request = q } ∷ [])
+opened_rows p t (OpenUnit u s m k) e = opening_turns p t u s m k
+opened_rows p t _ e = cc
 
 pub opened_verdict : (admin taken : Bool) (c : Call) (cs : List RowEdit) → admin ≡ true → taken ≡ false → is_opening c.request ≡ true → cs ≡ changes_for (facts []) c → IsOpening admin taken c (IsAccepted Done cs)
-opened_verdict true false c cs a t e is = record { answer = refl; changes = λ _. ap (λ cs. changed_by cs no_rows) is ∙ opened_rows c e; none = λ no. absurd (let x : true ≡ false = no in cc); puts = λ _. ap puts_unit is }
-opened_verdict true true c cs a t e is = cc
-opened_verdict false taken c cs a t e is = cc
+opened_verdict true false c cs a t e is = record { answer = refl; changes = λ _. ap (λ cs. changed_by cs no_rows) is ∙ opened_rows c.person c.moment c.request e; none = λ no. cc; puts = λ _. ap puts_unit is }
+opened_verdict _ _ c cs a t e is = cc

@@ -1,27 +1,27 @@
 -- What the parts of a legal history keep.
-use Rattle.std.specs.{FinMap.Entries.{below_all}, List.{cons_option, list_all, list_any}}
-use Rattle.std.proofs.Common.{ap, arith, cond, inl, inr, refl, subst, sym, ◌∙◌, ◌⊎◌, is_lt, nat_cmp, Ordering, Bool, List, None, Option, Some, T, [], false, filter, filter_map, if◌then◌else◌, is_some, length, map, max, option_map, true, unwrap_or, ℕ, ◌&&◌, ◌<◌, ◌==◌, ◌||◌, ◌∷◌, ◌≡◌, ◌≤◌}
-use Rattle.std.proofs.lemmas.Bool.{and_parts, false_from_ne_true, or_left, or_right, or_cases}
+use Rattle.std.{specs.{FinMap.Entries.{below_all}, List.{cons_option, list_all}, Prelude.{All}}, proofs.lemmas.List.Elements.{All-nil, All-cons}}
+use Rattle.std.proofs.Common.{ap, arith, cond, inl, inr, refl, subst, sym, ◌∙◌, is_lt, nat_cmp, Ordering, Bool, List, None, Option, Some, T, [], false, filter, filter_map, if◌then◌else◌, is_some, length, map, max, option_map, true, unwrap_or, ℕ, ◌&&◌, ◌<◌, ◌==◌, ◌||◌, ◌∷◌, ◌≡◌, ◌≤◌}
+use Rattle.std.proofs.lemmas.{Bool.{and_parts, false_from_ne_true, or_left, or_right, or_cases}, List.Elements.{All-filter}}
+use Rattle.std.proofs.lemmas.{List.{Folds.{list_any_none}, Sums.{list_all-from_AllPass}}, Option.{same_Some}}
 use Rattle.plant_alarm.specs.{States.{summary}, declared.event.Event.{Event}}
-use Rattle.plant_model.specs.{Alarms.{latching}, Changes.{Draft, change, draft, kind_of_change, matrix, matrix_revision, record_of, sheet}}
-use Rattle.plant_model.specs.{Events.{events}, Histories.{same_number}}
+use Rattle.plant_model.specs.{Alarms.{latching}, Changes.{Draft, change, draft, kind_of_change, matrix, record_of, sheet}}
+use Rattle.plant_model.specs.{Events.{events}, Histories.{same_number}, Legality.{IsLegal}, Matrices.{matrix_numbered}}
 use Rattle.plant_model.specs.Kinds.{AllEvents, AllRecords, Approval, File, OneChange, OneRecord, Scope, scope_of, scope_of_proposal}
-use Rattle.plant_model.specs.{Legality.{IsLegal}, Matrices.{matrix_numbered}}
 use Rattle.plant_model.specs.Parts.{Selection, counted_for, every, is_source, none, of_approved, of_topic, part_of, part_of_holder, part_of_stranger, rows_selected, selected, selection}
 use Rattle.plant_model.specs.RowFacts.{alarm_tag, cells_at, change_found, change_number, change_read, has_cells, holds_by, matrix_read, record_found, record_tag, shelf_tag}
 use Rattle.plant_model.specs.Rows.{alarm_row, alarm_rows, cell_rows, change_entry, change_rows, changes_of, max_of_kind, record_entry, record_rows, records_of, revision_of_limit, rows_of, shelf_rows, sheet_of_kind, tag_of_kind, topic}
 use Rattle.plant_model.specs.{Shelves.{shelf}, declared.call.{Call.{Call}, Request.{Request, TheVariants.{Floods, Import, Propose, Register}}}}
-use Rattle.plant_model.specs.declared.{reply.RecordRow.{RecordRow}, rows.{AlarmRow.{AlarmRow}, CellRow.{CellRow}, ChangeEntry.{ChangeEntry}}}
-use Rattle.plant_model.specs.declared.rows.ChangeTopic.{ChangeTopic, TheVariants.{Limit as LimitTopic, Matrix as MatrixTopic, Record as RecordTopic}}
+use Rattle.plant_model.specs.declared.rows.{AlarmRow.{AlarmRow}, CellRow.{CellRow}, ChangeEntry.{ChangeEntry}}
+use Rattle.plant_model.specs.declared.rows.ChangeTopic.{ChangeTopic, TheVariants.{Matrix as MatrixTopic}}
 use Rattle.plant_model.specs.declared.rows.{RecordEntry.{RecordEntry}, UnitPart.{UnitPart}, UnitRows.{UnitRows}}
 use Rattle.plant_model.proofs.public.{CountLaws.{few_limits, few_matrices, few_proposals, few_records}, EventLaws.{events_rise}}
 use Rattle.plant_model.proofs.public.FactLaws.{alarm_in, change_entry_in, revision_in, same_number_of, sheet_source}
 use Rattle.plant_model.proofs.public.HistoryLaws.{alarm_of, alarms_told, change_with, changes_told, number_of_change, numbers_of_changes, record_with, records_told, shelves_told, tag_of_record, tags_of_alarms, tags_of_records, tags_of_shelves}
 use Rattle.plant_model.proofs.public.{PartLaws.{matrix_there, own_holds}, QuotaLaws.{few_alarms}}
 use Rattle.plant_model.proofs.public.ReadLaws.{change_count, in_force_numbered, left_in_order, proposed_matrix, read_back, row_at-left, shaped}
-use Rattle.plant_model.proofs.public.RowsFound.{both, first, second}
 use Rattle.plant_types.specs.{KeyedRows.{IsInOrder, in_order, row_at}, Limits.{max_changes, max_events}, Names.{Name, name_cmp, same_name}}
-use Rattle.plant_types.proofs.public.{KeyedRowLaws.{IsInOrder-rows}, Orders.{name_total, number_total, same_names, same_numbers}}
+use Rattle.plant_types.proofs.public.{KeyedRowLaws.{IsInOrder-rows}, Orders.{name_total, number_total, same_names, same_numbers}, Halves.{both}}
+use Rattle.plant_types.proofs.public.Halves.{first, second}
 use Rattle.plant_unit.specs.{Additions.{AreEventsFor, AreEventsIn, AreKept}, Readings.{has_its_sheet, has_kind, has_sheet, is_left_out, is_matrix_at}}
 use Rattle.plant_unit.{specs.Summaries.{summary_in, summary_of}, proofs.EventBounds.{few_events}}
 use Rattle.plant_ration.specs.{Grid.{Grid}, Matrix.{is_matrix}, declared.change.ChangeKind.{ChangeKind, TheVariants.{Limit, Matrix, Rationale}}}
@@ -44,29 +44,26 @@ no_event_rises i j d lt le = absurd (omega arith)
 abbrev RiseAndAreFew : List Event → Type 0
 RiseAndAreFew es = IsRising es × (length es ≤ 4294967295)
 
+none_few : RiseAndAreFew []
+none_few = (no_event_rises, omega arith)
+
 few_of_topic : (rows : UnitRows) (tag : Option Name) (k : ChangeTopic) (es : List Event) → RiseAndAreFew ((of_topic rows tag k).events es)
-few_of_topic rows tag MatrixTopic es = (no_event_rises, omega arith)
-few_of_topic rows None _ es = (no_event_rises, omega arith)
-few_of_topic rows _ _ es = (no_event_rises, omega arith)
+few_of_topic rows tag MatrixTopic es = none_few
+few_of_topic rows None _ es = none_few
+few_of_topic rows _ _ es = none_few
 
 few_of_approved : (rows : UnitRows) (n : ℕ) (o : Option ChangeEntry) (es : List Event) → RiseAndAreFew ((of_approved rows n o).events es)
-few_of_approved rows n None es = (no_event_rises, omega arith)
+few_of_approved rows n None es = none_few
 few_of_approved rows n (Some c) es = few_of_topic rows c.tag c.kind_no es
 
 few_of : (rows : UnitRows) (s : Scope) (es : List Event) → IsRising es → length es ≤ max_events → RiseAndAreFew ((selection rows s).events es)
 few_of rows (File file) es h few = (needed_rises es file h, (let le = needed_few es file h in omega (arith, few, le)))
 few_of rows AllEvents es h few = (h, omega (arith, few))
 few_of rows (Approval n) es h few = few_of_approved rows n (change_found rows n) es
-few_of rows _ es h few = (no_event_rises, omega arith)
+few_of rows _ es h few = none_few
 
-events_left : (rows : UnitRows) (q : Request) (es : List Event) → IsRising es → length es ≤ max_events → IsRising ((selected rows q).events es) × (length ((selected rows q).events es) ≤ 4294967295)
-events_left rows q es h few = few_of rows (scope_of q) es h few
-
-fits_most : (n : ℕ) → n ≤ max_events → n < 4294967295
-fits_most n few = omega (arith, few)
-
-fits : (n : ℕ) → n ≤ max_changes → n < 4294967295
-fits n few = omega (arith, few)
+fits : (n most : ℕ) → n ≤ most → most < 4294967295 → n < 4294967295
+fits n most few fit = omega arith
 
 -- the records of a history stand in the order of their tags
 module _ {K X Y : Type 0} (R : K → K → Ordering) (key : X → K) (row : X → Y) (read : Y → K) (same : (x : X) → key x ≡ read (row x)) where
@@ -85,25 +82,25 @@ records_rise h = rows_rise name_cmp tag_of_record record_entry record_tag (λ r.
 changes_rise : (h : List Call) → IsInOrder nat_cmp change_number (change_rows h)
 changes_rise h = rows_rise nat_cmp number_of_change change_entry change_number (λ r. refl) (changes_of h) (IsInOrder-rows (change h) (numbers_of_changes h) (changes_told h))
 
+-- what holds of the row of each sheet's record holds of the rows of all records
+rows_all : (h : List Call) (P : RecordEntry → Type 0) → ((a : Name) (x : ℕ × Sheet) → sheet h a ≡ Some x → P (record_entry (record_with h a x))) → (tags : List Name) → All P (map record_entry (filter_map (record_of h) tags))
+rows_all h P holds [] = All-nil P
+rows_all h P holds (a ∷ tags) =
+    elim (sheet h a) as (λ o. sheet h a ≡ o → All P (map record_entry (cons_option (option_map (record_with h a) o) (filter_map (record_of h) tags)))) [
+      | None ↦ λ _. rows_all h P holds tags
+      | Some x ↦ λ is. All-cons P (record_entry (record_with h a x)) _ (holds a x is) (rows_all h P holds tags)
+    ] refl
+
 -- A source of a record is a change of a record
 module _ (h : List Call) (n : ℕ) (m : Grid) (is : kind_of_change h n ≡ Some (Matrix m)) where
-  no_source_of : (tags : Name → Bool) (a : Name) (o : Option (ℕ × Sheet)) → sheet h a ≡ o → (rest : List RecordRow) → (list_any (λ (r : RecordEntry). tags r.tag && same_number n r.change_no) (map record_entry rest) ≡ true → ⊥) → list_any (λ (r : RecordEntry). tags r.tag && same_number n r.change_no) (map record_entry (cons_option (option_map (record_with h a) o) rest)) ≡ true → ⊥
-  no_source_of tags a None e rest none there = none there
-  no_source_of tags a (Some x) e rest none there = by (or_cases (tags a && same_number n x.0) _ there) where
-    by : ((tags a && same_number n x.0) ≡ true) ⊎ (list_any (λ (r : RecordEntry). tags r.tag && same_number n r.change_no) (map record_entry rest) ≡ true) → ⊥
-    by (inl here) =
-        let number : n ≡ x.0 = same_number_of n x.0 (and_parts (tags a) (same_number n x.0) here).1 in
-        let clash : Some (Matrix m) ≡ Some (Rationale a x.1) = sym is ∙ ap (kind_of_change h) number ∙ sheet_source h a x.0 x.1 e in
-        let no : Matrix m ≡ Rationale a x.1 = cc in
-        cc
-    by (inr later) = none later
-
-  no_source_among : (tags : Name → Bool) (names : List Name) → list_any (λ (r : RecordEntry). tags r.tag && same_number n r.change_no) (map record_entry (filter_map (record_of h) names)) ≡ true → ⊥
-  no_source_among tags [] there = cc
-  no_source_among tags (a ∷ names) there = no_source_of tags a (sheet h a) refl (filter_map (record_of h) names) (no_source_among tags names) there
+  not_source : (tags : Name → Bool) (a : Name) (x : ℕ × Sheet) → sheet h a ≡ Some x → (tags a && same_number n x.0) ≡ false
+  not_source tags a x e = false_from_ne_true _ (λ here.
+      let clash : Some (Matrix m) ≡ Some (Rationale a x.1) = sym is ∙ ap (kind_of_change h) (same_number_of n x.0 (and_parts (tags a) _ here).1) ∙ sheet_source h a x.0 x.1 e in
+      let no : Matrix m ≡ Rationale a x.1 = cc in
+      cc)
 
   no_source : (tags : Name → Bool) → is_source (rows_of h) tags n ≡ false
-  no_source tags = false_from_ne_true (is_source (rows_of h) tags n) (λ e. no_source_among tags (in_order name_cmp (tags_of_records h)) e)
+  no_source tags = list_any_none _ _ (rows_all h (λ r. (tags r.tag && same_number n r.change_no) ≡ false) (not_source tags) (in_order name_cmp (tags_of_records h)))
 
   -- a matrix that is selected is there with its rows
   no_source_named : (tags : Name → Bool) (A : Type 0) → is_source (rows_of h) tags n ≡ true → A
@@ -111,17 +108,15 @@ module _ (h : List Call) (n : ℕ) (m : Grid) (is : kind_of_change h n ≡ Some 
 
   topic_matrix : (tag : Option Name) (k : ChangeTopic) → (of_topic (rows_of h) tag k).change n ≡ true → (of_topic (rows_of h) tag k).matrix n ≡ true
   topic_matrix tag MatrixTopic e = no_source_named every _ e
-  topic_matrix (Some a) RecordTopic e = cc
-  topic_matrix (Some a) LimitTopic e = cc
-  topic_matrix None RecordTopic e = no_source_named every _ e
-  topic_matrix None LimitTopic e = no_source_named every _ e
+  topic_matrix (Some a) _ e = cc
+  topic_matrix None _ e = no_source_named every _ e
 
   approved_matrix : (k : ℕ) (o : Option ChangeEntry) → (of_approved (rows_of h) k o).change n ≡ true → (of_approved (rows_of h) k o).matrix n ≡ true
   approved_matrix k None e = e
-  approved_matrix k (Some c) e = by (or_cases ((of_topic (rows_of h) c.tag c.kind_no).change n) (same_number k n) e) where
-    by : ((of_topic (rows_of h) c.tag c.kind_no).change n ≡ true) ⊎ (same_number k n ≡ true) → ((of_topic (rows_of h) c.tag c.kind_no).matrix n || same_number k n) ≡ true
-    by (inl source) = or_left _ _ (topic_matrix c.tag c.kind_no source)
-    by (inr named) = or_right _ _ named
+  approved_matrix k (Some c) e = elim (or_cases ((of_topic (rows_of h) c.tag c.kind_no).change n) (same_number k n) e) [
+    | inl source ↦ or_left _ _ (topic_matrix c.tag c.kind_no source)
+    | inr named ↦ or_right _ _ named
+  ]
 
   scope_matrix : (s : Scope) → (selection (rows_of h) s).change n ≡ true → (selection (rows_of h) s).matrix n ≡ true
   scope_matrix (OneChange k) e = e
@@ -129,9 +124,6 @@ module _ (h : List Call) (n : ℕ) (m : Grid) (is : kind_of_change h n ≡ Some 
   scope_matrix (OneRecord a) e = no_source_named (same_name a) _ e
   scope_matrix AllRecords e = no_source_named every _ e
   scope_matrix _ e = cc
-
-  named_matrix : (q : Request) → (selected (rows_of h) q).change n ≡ true → (selected (rows_of h) q).matrix n ≡ true
-  named_matrix q e = scope_matrix (scope_of q) e
 
 -- the columns of a sheet are there where the change is of a record
 abbrev has_sheet_of : ChangeKind → Bool
@@ -163,10 +155,10 @@ module _ (h : List Call) (legal : IsLegal h) (p : Name) (t : ℕ) (q : Request) 
   left_out n out = λ i. length (filter has_cells (cells_gone n out 1 i ∷ cells_gone n out 2 i ∷ cells_gone n out 3 i ∷ cells_gone n out 4 i ∷ cells_gone n out 5 i ∷ [])) == 0
 
   matrix_whole : (is_left_out part (matrix h).0 || is_matrix_at part (matrix h).0) ≡ true
-  matrix_whole = by (s.matrix (matrix h).0) refl where
-    by : (b : Bool) → s.matrix (matrix h).0 ≡ b → (is_left_out part (matrix h).0 || is_matrix_at part (matrix h).0) ≡ true
-    by true holds = or_right _ _ (matrix_is (matrix h).0 (matrix h).1 (in_force_numbered h legal) holds)
-    by false out = or_left _ _ (left_out (matrix h).0 out)
+  matrix_whole = elim (s.matrix (matrix h).0) as (λ b. s.matrix (matrix h).0 ≡ b → (is_left_out part (matrix h).0 || is_matrix_at part (matrix h).0) ≡ true) [
+    | true ↦ λ holds. or_right _ _ (matrix_is (matrix h).0 (matrix h).1 (in_force_numbered h legal) holds)
+    | false ↦ λ out. or_left _ _ (left_out (matrix h).0 out)
+  ] refl
 
   -- a change of the part is one of the history
   change_left : (n : ℕ) → change_found part n ≡ cond (s.change n) (option_map change_entry (change h n)) None
@@ -178,58 +170,45 @@ module _ (h : List Call) (legal : IsLegal h) (p : Name) (t : ℕ) (q : Request) 
     by (Rationale a sheet) e = ap (λ k. is_some (tag_of_kind k) && has_sheet_of k) e
     by (Matrix m) e =
         let is : kind_of_change h n ≡ Some (Matrix m) = ap (option_map (λ (d : Draft). d.kind)) known ∙ ap (λ k. Some k) e in
-        matrix_is n m (proposed_matrix h n m is) (named_matrix h n m is q there)
+        matrix_is n m (proposed_matrix h n m is) (scope_matrix h n m is (scope_of q) there)
     by (Limit a max) e = ap (λ k. is_some (tag_of_kind k) && is_some (max_of_kind k)) e
 
-  changes_whole : (n : ℕ) (c : ChangeEntry) → change_found part n ≡ Some c → has_kind part c c.kind_no ≡ true
-  changes_whole n c found = by (s.change n) refl (sym (change_left n) ∙ found) where
-    of_draft : (o : Option Draft) → draft h n ≡ o → s.change n ≡ true → option_map change_entry (option_map (change_with h n) o) ≡ Some c → has_kind part c c.kind_no ≡ true
-    of_draft None e there is = cc
-    of_draft (Some d) e there is = let same : change_entry (change_with h n d) ≡ c = cc in subst (λ (x : ChangeEntry). has_kind part x x.kind_no ≡ true) same (kind_whole n d e there)
+  -- a change of the part is that of a draft
+  drafted : (n : ℕ) (c : ChangeEntry) → change_found part n ≡ Some c → (d : Draft) × (draft h n ≡ Some d) × (s.change n ≡ true) × (change_entry (change_with h n d) ≡ c)
+  drafted n c found = by (s.change n) (draft h n) refl refl (sym (change_left n) ∙ found) where
+    by : (b : Bool) (o : Option Draft) → s.change n ≡ b → draft h n ≡ o → cond b (option_map change_entry (option_map (change_with h n) o)) None ≡ Some c → (d : Draft) × (draft h n ≡ Some d) × (s.change n ≡ true) × (change_entry (change_with h n d) ≡ c)
+    by true (Some d) there is e = (d, is, there, cc)
+    by true None there is e = cc
+    by false o there is e = cc
 
-    by : (b : Bool) → s.change n ≡ b → cond b (option_map change_entry (change h n)) None ≡ Some c → has_kind part c c.kind_no ≡ true
-    by true there is = of_draft (draft h n) refl there is
-    by false out is = cc
+  changes_whole : (n : ℕ) (c : ChangeEntry) → change_found part n ≡ Some c → has_kind part c c.kind_no ≡ true
+  changes_whole n c found =
+      let of = drafted n c found in
+      subst (λ (x : ChangeEntry). has_kind part x x.kind_no ≡ true) of.3 (kind_whole n of.0 of.1 of.2)
 
   -- the row of a change is that of the change that is read from it
   entry_read : (n : ℕ) (d : Draft) → change_entry (change_read part (change_entry (change_with h n d))) ≡ change_entry (change_with h n d)
-  entry_read n d = by d.kind where
-    by : (k : ChangeKind) → change_entry (change_read part (change_entry (record (change_with h n d) { kind = k }))) ≡ change_entry (record (change_with h n d) { kind = k })
-    by (Rationale a sheet) = refl
-    by (Matrix m) = refl
-    by (Limit a max) = refl
+  entry_read n d = elim d.kind as (λ k. change_entry (change_read part (change_entry (record (change_with h n d) { kind = k }))) ≡ change_entry (record (change_with h n d) { kind = k })) [ Rationale a sheet ↦ refl | Matrix m ↦ refl | Limit a max ↦ refl ]
 
   changes_read : (n : ℕ) (c : ChangeEntry) → change_found part n ≡ Some c → change_entry (change_read part c) ≡ c
-  changes_read n c found = by (s.change n) (sym (change_left n) ∙ found) where
-    of_draft : (o : Option Draft) → option_map change_entry (option_map (change_with h n) o) ≡ Some c → change_entry (change_read part c) ≡ c
-    of_draft None is = cc
-    of_draft (Some d) is = let same : change_entry (change_with h n d) ≡ c = cc in subst (λ (x : ChangeEntry). change_entry (change_read part x) ≡ x) same (entry_read n d)
-
-    by : (b : Bool) → cond b (option_map change_entry (change h n)) None ≡ Some c → change_entry (change_read part c) ≡ c
-    by true is = of_draft (draft h n) is
-    by false is = cc
+  changes_read n c found =
+      let of = drafted n c found in
+      subst (λ (x : ChangeEntry). change_entry (change_read part x) ≡ x) of.3 (entry_read n of.0)
 
   -- a record's change, where the part has it, has a sheet
   source_whole : (a : Name) (x : ℕ × Sheet) → sheet h a ≡ Some x → has_its_sheet part (record_entry (record_with h a x)) ≡ true
-  source_whole a x known = ap (λ o. unwrap_or (option_map has_sheet o) true) (change_left x.0) ∙ by (s.change x.0) where
-    of_draft : (o : Option Draft) → option_map (λ (d : Draft). d.kind) o ≡ Some (Rationale a x.1) → unwrap_or (option_map has_sheet (option_map change_entry (option_map (change_with h x.0) o))) true ≡ true
-    of_draft None is = cc
-    of_draft (Some d) is = let same : d.kind ≡ Rationale a x.1 = cc in ap has_sheet_of same
+  source_whole a x known = by (change_found part x.0) refl where
+    by : (o : Option ChangeEntry) → change_found part x.0 ≡ o → unwrap_or (option_map has_sheet o) true ≡ true
+    by None e = refl
+    by (Some c) e =
+        let of = drafted x.0 c e in
+        let kind : Some of.0.kind ≡ Some (Rationale a x.1) = sym (ap (option_map (λ (d : Draft). d.kind)) of.1) ∙ sheet_source h a x.0 x.1 known in
+        ap has_sheet (sym of.3) ∙ ap has_sheet_of (same_Some _ _ kind)
 
-    by : (b : Bool) → unwrap_or (option_map has_sheet (cond b (option_map change_entry (change h x.0)) None)) true ≡ true
-    by true = of_draft (draft h x.0) (sheet_source h a x.0 x.1 known)
-    by false = refl
-
-  record_whole : (a : Name) (o : Option (ℕ × Sheet)) → sheet h a ≡ o → (rest : List RecordRow) → list_all (has_its_sheet part) (filter (λ (r : RecordEntry). s.rationale r.tag) (map record_entry rest)) ≡ true → list_all (has_its_sheet part) (filter (λ (r : RecordEntry). s.rationale r.tag) (map record_entry (cons_option (option_map (record_with h a) o) rest))) ≡ true
-  record_whole a None e rest all = all
-  record_whole a (Some x) e rest all = by (s.rationale a) where
-    by : (b : Bool) → list_all (has_its_sheet part) (cond b (record_entry (record_with h a x) ∷ filter (λ (r : RecordEntry). s.rationale r.tag) (map record_entry rest)) (filter (λ (r : RecordEntry). s.rationale r.tag) (map record_entry rest))) ≡ true
-    by true = λ i. source_whole a x e i && all i
-    by false = all
-
-  records_among : (tags : List Name) → list_all (has_its_sheet part) (filter (λ (r : RecordEntry). s.rationale r.tag) (map record_entry (filter_map (record_of h) tags))) ≡ true
-  records_among [] = refl
-  records_among (a ∷ tags) = record_whole a (sheet h a) refl (filter_map (record_of h) tags) (records_among tags)
+  records_whole : list_all (has_its_sheet part) part.records ≡ true
+  records_whole =
+      let whole : RecordEntry → Type 0 = λ r. has_its_sheet part r ≡ true in
+      list_all-from_AllPass (has_its_sheet part) _ (All-filter (λ r. s.rationale r.tag) whole (record_rows h) (rows_all h whole source_whole (in_order name_cmp (tags_of_records h))))
 
   -- there is a next number of each kind
   counted : counted_for (rows_of h) q ≤ max_events
@@ -241,26 +220,21 @@ module _ (h : List Call) (legal : IsLegal h) (p : Name) (t : ℕ) (q : Request) 
     by _ = omega arith
 
   revision_left : (a : Name) → unwrap_or (option_map (λ (r : RecordEntry). r.rev) (record_found part a)) 0 ≤ max_changes
-  revision_left a = subst (λ o. unwrap_or (option_map (λ (r : RecordEntry). r.rev) o) 0 ≤ max_changes) (sym (row_at-left name_cmp record_tag name_total same_names s.rationale a (record_rows h))) (by (s.rationale a)) where
-    by : (b : Bool) → unwrap_or (option_map (λ (r : RecordEntry). r.rev) (cond b (record_found (rows_of h) a) None)) 0 ≤ max_changes
-    by true = subst (λ n. n ≤ max_changes) (sym (revision_in h a)) (few_records h legal a)
-    by false = omega arith
+  revision_left a = subst (λ o. unwrap_or (option_map (λ (r : RecordEntry). r.rev) o) 0 ≤ max_changes) (sym (row_at-left name_cmp record_tag name_total same_names s.rationale a (record_rows h)))
+      (elim (s.rationale a) as (λ b. unwrap_or (option_map (λ (r : RecordEntry). r.rev) (cond b (record_found (rows_of h) a) None)) 0 ≤ max_changes) [ true ↦ subst (λ n. n ≤ max_changes) (sym (revision_in h a)) (few_records h legal a) | false ↦ omega arith ])
 
   limit_left : (a : Name) → revision_of_limit (row_at name_cmp alarm_tag a part.alarms) ≤ max_changes
-  limit_left a = subst (λ o. revision_of_limit o ≤ max_changes) (sym (row_at-left name_cmp alarm_tag name_total same_names s.alarm a (alarm_rows h) ∙ ap (λ o. cond (s.alarm a) o None) (alarm_in h a))) (by (s.alarm a)) where
-    of_alarm_row : (o : Option Bool) → revision_of_limit (option_map (alarm_of h a) o) ≤ max_changes
-    of_alarm_row None = omega arith
-    of_alarm_row (Some l) = few_limits h legal a
-
-    by : (b : Bool) → revision_of_limit (cond b (alarm_row h a) None) ≤ max_changes
-    by true = of_alarm_row (latching h a)
-    by false = omega arith
+  limit_left a = subst (λ o. revision_of_limit o ≤ max_changes) (sym (row_at-left name_cmp alarm_tag name_total same_names s.alarm a (alarm_rows h) ∙ ap (λ o. cond (s.alarm a) o None) (alarm_in h a)))
+      (elim (s.alarm a) as (λ b. revision_of_limit (cond b (alarm_row h a) None) ≤ max_changes) [
+        | true ↦ elim (latching h a) as (λ o. revision_of_limit (option_map (alarm_of h a) o) ≤ max_changes) [ None ↦ omega arith | Some l ↦ few_limits h legal a ]
+        | false ↦ omega arith
+      ])
 
   holder_kept : AreKept (part_of_holder c (rows_of h))
   holder_kept =
       record {
-        events_rise = (events_left (rows_of h) q (events h) (events_rise h legal) (few_events h legal)).0;
-        events_few = (events_left (rows_of h) q (events h) (events_rise h legal) (few_events h legal)).1;
+        events_rise = (few_of (rows_of h) (scope_of q) (events h) (events_rise h legal) (few_events h legal)).0;
+        events_few = (few_of (rows_of h) (scope_of q) (events h) (events_rise h legal) (few_events h legal)).1;
         alarms_in_order = left_in_order name_cmp alarm_tag (λ r. s.alarm r.tag) (alarm_rows h) (IsInOrder-rows (alarm_row h) (tags_of_alarms h) (alarms_told h));
         shelves_in_order = left_in_order name_cmp shelf_tag (λ r. s.shelf r.tag) (shelf_rows h) (IsInOrder-rows (shelf h) (tags_of_shelves h) (shelves_told h));
         records_in_order = left_in_order name_cmp record_tag (λ r. s.rationale r.tag) (record_rows h) (records_rise h);
@@ -268,17 +242,17 @@ module _ (h : List Call) (legal : IsLegal h) (p : Name) (t : ℕ) (q : Request) 
         matrix_whole = matrix_whole;
         changes_whole = changes_whole;
         changes_read = changes_read;
-        records_whole = records_among (in_order name_cmp (tags_of_records h));
-        count_fits = fits_most (counted_for (rows_of h) q) counted;
-        matrix_fits = fits (matrix_revision h) (few_matrices h legal);
-        record_fits = λ a. fits _ (revision_left a);
-        limit_fits = λ a. fits _ (limit_left a);
+        records_whole = records_whole;
+        count_fits = fits _ max_events counted (omega arith);
+        matrix_fits = fits _ max_changes (few_matrices h legal) (omega arith);
+        record_fits = λ a. fits _ max_changes (revision_left a) (omega arith);
+        limit_fits = λ a. fits _ max_changes (limit_left a) (omega arith);
       }
 
   stranger_kept : AreKept (part_of_stranger c (rows_of h))
   stranger_kept =
       record {
-        events_rise = λ i j d lt le. absurd (omega arith);
+        events_rise = no_event_rises;
         events_few = omega arith;
         alarms_in_order = tt;
         shelves_in_order = tt;
@@ -289,32 +263,28 @@ module _ (h : List Call) (legal : IsLegal h) (p : Name) (t : ℕ) (q : Request) 
         changes_read = λ n c e. cc;
         records_whole = refl;
         count_fits = omega arith;
-        matrix_fits = fits (matrix_revision h) (few_matrices h legal);
+        matrix_fits = fits _ max_changes (few_matrices h legal) (omega arith);
         record_fits = λ a. omega arith;
         limit_fits = λ a. omega arith;
       }
 
   pub part_kept_of : AreKept (part_of c (rows_of h))
-  part_kept_of = by (holds_by (rows_of h).grants t p) where
-    by : (b : Bool) → AreKept (if b then part_of_holder c (rows_of h) else part_of_stranger c (rows_of h))
-    by true = holder_kept
-    by false = stranger_kept
+  part_kept_of = elim (holds_by (rows_of h).grants t p) as (λ b. AreKept (if b then part_of_holder c (rows_of h) else part_of_stranger c (rows_of h))) [ true ↦ holder_kept | false ↦ stranger_kept ]
 
 -- ---- the events that a holder's call sees
 
 summaries_told : (h : List Call) (tags : List Name) → map summary_in (filter (λ (r : AlarmRow). true) (filter_map (alarm_row h) tags)) ≡ map (summary_of (events h)) (filter (λ (r : AlarmRow). true) (filter_map (alarm_row h) tags))
 unfolding summary
 summaries_told h [] = refl
-summaries_told h (a ∷ tags) = by (latching h a) (summaries_told h tags) where
-  by : (o : Option Bool) → map summary_in (filter (λ (r : AlarmRow). true) (filter_map (alarm_row h) tags)) ≡ map (summary_of (events h)) (filter (λ (r : AlarmRow). true) (filter_map (alarm_row h) tags))
-      → map summary_in (filter (λ (r : AlarmRow). true) (cons_option (option_map (alarm_of h a) o) (filter_map (alarm_row h) tags))) ≡ map (summary_of (events h)) (filter (λ (r : AlarmRow). true) (cons_option (option_map (alarm_of h a) o) (filter_map (alarm_row h) tags)))
-  by None rest = rest
-  by (Some l) rest = ap (λ ss. summary_of (events h) (alarm_of h a l) ∷ ss) rest
+summaries_told h (a ∷ tags) =
+    elim (latching h a) as (λ o. map summary_in (filter (λ (r : AlarmRow). true) (cons_option (option_map (alarm_of h a) o) (filter_map (alarm_row h) tags))) ≡ map (summary_of (events h)) (filter (λ (r : AlarmRow). true) (cons_option (option_map (alarm_of h a) o) (filter_map (alarm_row h) tags)))) [
+      | None ↦ summaries_told h tags
+      | Some l ↦ ap (λ ss. summary_of (events h) (alarm_of h a l) ∷ ss) (summaries_told h tags)
+    ]
 
 proposal_events : (part : UnitPart) (es : List Event) (k : ChangeKind) → AreEventsIn part (scope_of_proposal k) es
-proposal_events part es (Rationale a s) = tt
 proposal_events part es (Matrix m) = tt
-proposal_events part es (Limit a max) = tt
+proposal_events part es _ = tt
 
 holder_events : (h : List Call) (legal : IsLegal h) (p : Name) (t : ℕ) (q : Request) → AreEventsFor (part_of_holder (record { person = p; moment = t; request = q }) (rows_of h)) q (events h)
 holder_events h legal p t (Import u file) = record { rise = events_rise h legal; needed_are = refl; count_is = refl; summaries = summaries_told h (in_order name_cmp (tags_of_alarms h)) }

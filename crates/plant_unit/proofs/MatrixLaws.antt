@@ -1,7 +1,6 @@
 -- The rows of a matrix, one after another as its limits and cells stand.
-use Rattle.std.specs.List.{enumerate_from, list_all, range_with_len}
-use Rattle.std.proofs.Common.{eqb→eq, ap, append_assoc, arith, get_or, length-append, refl, subst, sym, ◌∙◌, Bool, Err, List, Ok, OnOk, Result, Some, T, [], false, filter_map, flat_map, length, map, nat_le, not, option_and_then, option_map, suc, true, zero, ℕ, ◌++◌, ◌+◌, ◌<◌, ◌==◌, ◌∷◌, ◌≡◌, ◌≤◌}
-use Rattle.std.proofs.lemmas.{Bool.{and_parts, Decides.{nat_tests}}, List.Elements.{filter_map-append}}
+use Rattle.std.{specs.List.{enumerate_from, list_all, range_with_len}, proofs.lemmas.{Bool.{and_parts, leb-true}, List.Elements.{filter_map-append}}}
+use Rattle.std.proofs.Common.{eqb→eq, ap, append_assoc, arith, get_or, length-append, refl, subst, sym, ◌∙◌, Err, List, Ok, OnOk, Result, Some, T, [], filter_map, flat_map, length, map, option_and_then, option_map, suc, true, zero, ℕ, ◌++◌, ◌+◌, ◌<◌, ◌==◌, ◌∷◌, ◌≡◌, ◌≤◌}
 use Rattle.plant_model.specs.{Matrices.{at_place, band_at, cell_of, cells_of_row}, RowChanges.{bands_of, cells_of, matrix_changes}}
 use Rattle.plant_model.specs.declared.rows.{Row.TheVariants.{Band as BandPut, Cell as CellPut}, RowEdit.{RowEdit, TheVariants.{Put}}}
 use Rattle.plant_model.proofs.public.ReadLaws.{filter_map-map, listed, place-after}
@@ -28,13 +27,10 @@ pub cells_listed : (n : ℕ) (m : Grid) → cells_of n m ≡ map (λ r. Put (Cel
 cells_listed n m = ap (map (λ r. Put (CellPut r))) (rows_listed n m [] m.cells 1 refl refl)
 
 -- what the shape of a matrix bounds
-le_of : (m n : ℕ) → nat_le m n ≡ true → m ≤ n
-le_of m n e = grind (arith, nat_tests)
-
 pub few_limits : (limits : List ℕ) (rows : List (List Cell)) → is_matrix limits rows ≡ true → length limits ≤ 4
 few_limits limits rows e =
     let shape = (and_parts _ _ (and_parts _ _ e).0).0 in
-    le_of (length limits) 4 (and_parts _ _ (and_parts _ _ (and_parts _ _ shape).0).0).1
+    leb-true (length limits) 4 (and_parts _ _ (and_parts _ _ (and_parts _ _ shape).0).0).1
 
 each_wide : {V : Type 0} (items : V → List Cell) (width : ℕ) (rows : List V) (k : ℕ) (d : V) → list_all (λ row. length row == width) (map items rows) ≡ true → k < length rows → length (items (get_or rows k d)) ≡ width
 each_wide items width [] k d e lt = absurd (omega arith)
@@ -60,7 +56,3 @@ matrix_pushed (Ok x) first mid last n m limits cells bands l c done =
     ∙ (λ i. first ++ (map (λ r. Put (BandPut r)) (map (band_row_of n) (enumerate_from 1 (l i))) ++ map (λ r. Put (CellPut r)) (flat_map (row_of_cells n) (enumerate_from 1 (c i)))))
     ∙ ap (λ ys. first ++ ys) (sym (matrix_listed n m))
 matrix_pushed (Err e) first mid last n m limits cells bands l c done = tt
-
-pub not_other : (b r : Bool) → r ≡ not b → r ≡ false → b ≡ true
-not_other true r e f = refl
-not_other false r e f = cc

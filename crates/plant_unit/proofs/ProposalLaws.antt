@@ -7,7 +7,7 @@ use Rattle.plant_model.specs.declared.reply.Refused.TheVariants.{BaseChanged, No
 use Rattle.plant_model.proofs.public.FactLaws.{is_same_number, same_number_of}
 use Rattle.plant_ration.specs.{Grid.{Grid}, Matrix.{priority_of}, declared.{cell.Cell.{Cell}, change.Sheet.{Sheet}}}
 use Rattle.plant_types.specs.Names.{Name}
-use Rattle.plant_unit.{specs.Judged.{decided_or, record_decision, sheet_decision, sheet_refusals}, proofs.ReadingLaws.{no_row}}
+use Rattle.plant_unit.{specs.{Judged.{record_decision, sheet_decision, sheet_refusals}, Additions.{decided_or}}, proofs.ReadingLaws.{no_row}}
 
 -- of a record whose base is the revision in force, its sheet is decided by the matrix in force
 pub base_decided : (f : Facts) (base revision : ℕ) (a : Name) (s : Sheet) → base ≡ revision → revision ≡ f.revision a → sheet_decision f.matrix s.severity s.response ≡ record_decision f base a s
@@ -29,8 +29,7 @@ record_made f base a s cell is =
     by : (b : Bool) (rest : Option Refused) → same_number base (f.revision a) ≡ b → Ok cell ≡ decided_or (cond (not b) (Some (BaseChanged (f.revision a))) rest) (priority_by f.matrix s.severity s.response)
         → (base ≡ f.revision a) × (cell ≡ priority_by f.matrix s.severity s.response)
     by true None same e = (same_number_of base (f.revision a) same, cc)
-    by true (Some r) same e = cc
-    by false rest same e = cc
+    by _ _ same e = cc
 
 -- a matrix without rows refuses each sheet
 pub bare_sheet : (m : Grid) (severity response : ℕ) → m.cells ≡ [] → Err OutsideMatrix ≡ sheet_decision m severity response
@@ -44,9 +43,8 @@ as_rejected None same rest r is = is
 as_rejected (Some c) same rest r is = by (not (is_open c.state)) (same c) is
   where
     by : (a b : Bool) → Some r ≡ first_refusal ((a, NotProposed c.state) ∷ (b, SamePerson) ∷ []) → Some r ≡ first_refusal ((a, NotProposed c.state) ∷ (b, SamePerson) ∷ rest c)
-    by true b e = e
-    by false true e = e
     by false false e = cc
+    by _ _ e = e
 
 pub not_rejected : (o : Option ChangeRow) (same : ChangeRow → Bool) (rest : ChangeRow → List (Bool × Refused)) (c : ChangeRow) → None ≡ first_refusal (of_change o (λ x. (same x, SamePerson) ∷ [])) → Some c ≡ o → first_refusal (rest c) ≡ first_refusal (of_change o (λ x. (same x, SamePerson) ∷ rest x))
 not_rejected None same rest c is there = cc
@@ -55,6 +53,5 @@ not_rejected (Some d) same rest c is there =
     ap (λ x. first_refusal (rest x)) it ∙ by (not (is_open d.state)) (same d) is
   where
     by : (a b : Bool) → None ≡ first_refusal ((a, NotProposed d.state) ∷ (b, SamePerson) ∷ []) → first_refusal (rest d) ≡ first_refusal ((a, NotProposed d.state) ∷ (b, SamePerson) ∷ rest d)
-    by true b e = cc
-    by false true e = cc
     by false false e = refl
+    by _ _ e = cc

@@ -1,9 +1,8 @@
 -- The rows that proposals and decisions about changes put.
 use Rattle.std.specs.Prelude.{List, None, Option, Result, map, option_map, true, ◌≡◌}
 use Rattle.plant_model.specs.{Facts.{Facts}, RowChanges.{rerated}, RowFacts.{record_read}, Rows.{change_entry}, declared.call.Call.{Call}}
-use Rattle.plant_model.specs.declared.{reply.ChangeRow.{ChangeRow}, rows.{ChangeEntry.{ChangeEntry}, RecordEntry.{RecordEntry}}}
+use Rattle.plant_model.specs.declared.{reply.ChangeRow.{ChangeRow}, rows.{ChangeEntry.{ChangeEntry}, RecordEntry.{RecordEntry}, UnitPart.{UnitPart}}}
 use Rattle.plant_model.specs.declared.rows.{Row.TheVariants.{Change as ChangePut, Record as RecordPut}, RowEdit.{RowEdit, TheVariants.{Put}}}
-use Rattle.plant_model.specs.declared.rows.UnitPart.{UnitPart}
 use Rattle.plant_ration.specs.{Grid.{Grid}, declared.change.ChangeState.{ChangeState}}
 use Rattle.plant_types.specs.Results.{Gives}
 use Rattle.plant_unit.specs.{Additions.{AreKept}, Judged.{decided_row}, Readings.{has_its_sheet}}

@@ -1,29 +1,23 @@
 -- What a judgement says.
 use Rattle.std.specs.Prelude.{Bool, Err, IsOkAnd, List, None, Ok, Option, Result, Some, [], false, if◌then◌else◌, is_ok, is_some, nat_lt, not, true, ℕ, ◌++◌, ◌∷◌, ◌≡◌}
 use Rattle.plant_model.specs.{Calls.{changes_for, own_changes, own_refusals, reply}, Changes.{priority_by}, Facts.{Facts, last_of}}
-use Rattle.plant_model.specs.{Kinds.{role_needed, says}, Legality.{IsLegal}, Parts.{part_of}}
-use Rattle.plant_model.specs.Refusals.{base_changed, first_refusal, has_row, holds_some, is_not_needed, kind_refusals, lacks_role, of_change}
-use Rattle.plant_model.specs.{RowChanges.{changed_by, in_force, kind_row, no_rows, puts_unit}, RowFacts.{change_read, facts_in}, Rows.{rows_of}}
-use Rattle.plant_model.specs.{Verdicts.{after, changes_history, refused_or, verdict, verdict_of}, Worlds.{opening}, declared.call.Call.{Call}}
-use Rattle.plant_model.specs.declared.{call.Request.{Request}, reply.{ChangeRow.{ChangeRow}, Refused.{Refused}}}
-use Rattle.plant_model.specs.declared.reply.Refused.TheVariants.{MomentBehind, NotAnAlarm, NotGranted, NotProposer, OutsideMatrix, SamePerson}
-use Rattle.plant_model.specs.declared.{reply.Reply.{Reply, TheVariants.{Done}}, rows.ChangeEntry.{ChangeEntry}}
-use Rattle.plant_model.specs.declared.rows.{Row.TheVariants.{Change as ChangePut, Unit as UnitPut}, RowEdit.{RowEdit, TheVariants.{Put}}}
-use Rattle.plant_model.specs.declared.rows.{UnitPart.{UnitPart}, UnitRow.{UnitRow}, UnitRows.{UnitRows}, Verdict.{Verdict}}
+use Rattle.plant_model.specs.{Kinds.{role_needed, says}, Legality.{IsLegal}, Parts.{part_of}, Refusals.{base_changed, first_refusal, has_row}}
+use Rattle.plant_model.specs.{Refusals.{holds_some, is_not_needed, kind_refusals, lacks_role, of_change}, RowChanges.{changed_by, in_force, kind_row}}
+use Rattle.plant_model.specs.{RowChanges.{no_rows, puts_unit}, RowFacts.{change_read, facts_in}, Rows.{rows_of}, Verdicts.{after, changes_history}}
+use Rattle.plant_model.specs.{Verdicts.{refused_or, verdict, verdict_of}, Worlds.{opening}, declared.call.{Call.{Call}, Request.{Request}}}
+use Rattle.plant_model.specs.declared.reply.{ChangeRow.{ChangeRow}, Refused.{Refused, TheVariants.{MomentBehind, NotAnAlarm, NotGranted}}}
+use Rattle.plant_model.specs.declared.reply.{Refused.TheVariants.{NotProposer, OutsideMatrix, SamePerson}, Reply.{Reply, TheVariants.{Done}}}
+use Rattle.plant_model.specs.declared.rows.{ChangeEntry.{ChangeEntry}, Row.TheVariants.{Change as ChangePut, Unit as UnitPut}, RowEdit.{RowEdit}}
+use Rattle.plant_model.specs.declared.rows.{RowEdit.TheVariants.{Put}, UnitPart.{UnitPart}, UnitRow.{UnitRow}, UnitRows.{UnitRows}, Verdict.{Verdict}}
 use Rattle.plant_model.specs.declared.rows.Verdict.TheVariants.{Accepted as IsAccepted, Refused as IsRefused}
 use Rattle.plant_ration.specs.{Grid.{Grid}, Matrix.{priority_of}, declared.{cell.Cell.{Cell}, change.ChangeKind.TheVariants.{Rationale}}}
 use Rattle.plant_ration.specs.declared.change.{ChangeState.{ChangeState, TheVariants.{Approved}}, Sheet.{Sheet}}
 use Rattle.plant_alarm.specs.declared.event.Event.{Event}
 use Rattle.plant_types.specs.Names.{Name, same_name}
-use Rattle.plant_unit.specs.Additions.{AreEventsFor}
+use Rattle.plant_unit.specs.Additions.{AreEventsFor, decided_or}
 
 abbrev pub is_import : Request → Bool
 is_import r = is_some (says r).file
-
--- what is decided, unless it is refused
-abbrev pub decided_or : {A : Type 0} → Option Refused → A → Result A Refused
-decided_or None decided = Ok decided
-decided_or (Some refused) decided = Err refused
 
 -- what is decided about a request of one who may make it: its first refusal, else the changes that it makes beside that of the
 -- unit's row

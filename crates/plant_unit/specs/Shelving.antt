@@ -4,13 +4,12 @@ use Rattle.plant_alarm.specs.{Shelves.{is_unshelved, shelf_state}, declared.shel
 use Rattle.plant_alarm.specs.declared.shelf.ShelfRefused.{ShelfRefused}
 use Rattle.plant_alarm.specs.declared.shelf.ShelfRefused.TheVariants.{ConditionAlreadyShelved, ConditionNotShelved, ShelvingTimeOutOfRange}
 use Rattle.plant_model.specs.{Facts.{Facts, returned}, Refusals.{first_refusal, over_quota}, Replies.{line_of}, RowFacts.{facts_in}}
-use Rattle.plant_model.specs.{Shelves.{shelf_left, shelf_row_as}, declared.{call.Call.{Call}, reply.Refused.{Refused}}}
+use Rattle.plant_model.specs.{Shelves.{shelf_left, shelf_row_as}, declared.{call.Call.{Call}, reply.Refused.{Refused}, rows.UnitPart.{UnitPart}}}
 use Rattle.plant_model.specs.declared.reply.Refused.TheVariants.{ConditionAlreadyShelved as IsShelved, ConditionNotShelved as IsUnshelved, ShelvingTimeOutOfRange as IsOutOfRange}
 use Rattle.plant_model.specs.declared.{reply.ShelfLine.{ShelfLine}, rows.{AlarmRow.{AlarmRow}, Key.TheVariants.{Shelf as ShelfKey}}}
 use Rattle.plant_model.specs.declared.rows.{Row.TheVariants.{Shelf as ShelfPut}, RowEdit.{RowEdit, TheVariants.{Put, Remove}}, ShelfRow.{ShelfRow}}
-use Rattle.plant_model.specs.declared.rows.UnitPart.{UnitPart}
 use Rattle.plant_types.specs.Names.{Name, same_name}
-use Rattle.plant_unit.specs.Judged.{decided_or}
+use Rattle.plant_unit.specs.Additions.{decided_or}
 
 abbrev pub refusal_of : ShelfRefused → Refused
 refusal_of (ShelvingTimeOutOfRange max) = IsOutOfRange max

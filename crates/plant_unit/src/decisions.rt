@@ -149,7 +149,7 @@ pub fn withdraw_change(
     ensures value { DecidesFrom part.now call.now (λ u. WithdrawChange u number) result }
     ensures err { OnlyMemory result }
 {
-    let Some(entry) = entry_of(part.rows.changes.as_slice(), number) else {
+    let Some(entry) = entry_of(part, number) else {
         return Ok(Err(Refused::ChangeUnknown));
     };
     if let Some(refused) = withdrawal_refusal(entry, &call.person) {
@@ -168,7 +168,7 @@ pub fn reject(
     ensures value { DecidesFrom part.now call.now (λ u. Reject u number) result }
     ensures err { OnlyMemory result }
 {
-    let Some(entry) = entry_of(part.rows.changes.as_slice(), number) else {
+    let Some(entry) = entry_of(part, number) else {
         return Ok(Err(Refused::ChangeUnknown));
     };
     if let Some(refused) = decision_refusal(entry, &call.person) {
@@ -387,7 +387,7 @@ pub fn approve(
     ensures value { JudgesFrom part.now call.now (λ u. Approve u number) result }
     ensures err { OnlyMemory result }
 {
-    let Some(entry) = entry_of(part.rows.changes.as_slice(), number) else {
+    let Some(entry) = entry_of(part, number) else {
         return Ok(Verdict::Refused(Refused::ChangeUnknown));
     };
     if let Some(refused) = decision_refusal(entry, &call.person) {

@@ -89,20 +89,14 @@ fn is_unshelved(state: ShelfState) -> bool
 fn returned_at(part: &UnitPart, tag: &Tag) -> Option<Moment>
     ensures { AreKept part.now → result ≡ returned (facts_in part.now) tag.now }
 {
-    match row_of(part.rows.alarms.as_slice(), tag) {
-        Some(alarm) => alarm.return_s,
-        None => None,
-    }
+    row_of(part.rows.alarms.as_slice(), tag).and_then(|alarm| alarm.return_s)
 }
 
 /// When the alarm of a tag last returned to normal, the alarm being looked for at a place first.
 pub fn returned_near(part: &UnitPart, place: usize, tag: &Tag) -> Option<Moment>
     ensures { AreKept part.now → result ≡ returned (facts_in part.now) tag.now }
 {
-    match row_near(part.rows.alarms.as_slice(), place, tag) {
-        Some(alarm) => alarm.return_s,
-        None => None,
-    }
+    row_near(part.rows.alarms.as_slice(), place, tag).and_then(|alarm| alarm.return_s)
 }
 
 fn is_other_shelved(part: &UnitPart, tag: &Tag, row: &ShelfRow, now: Moment) -> bool
@@ -120,11 +114,8 @@ pub fn others_shelved(part: &UnitPart, tag: &Tag, now: Moment) -> usize
     ensures { AreKept part.now → result ≡ others_shelved (facts_in part.now) tag.now now }
 {
     let shelves = part.rows.shelves.as_slice();
-    let mut count = 0;
-    for row in shelves {
-        if is_other_shelved(part, tag, row, now) {
-            count += 1;
-        }
-    }
-    count
+    shelves
+        .iter()
+        .filter(|row| is_other_shelved(part, tag, row, now))
+        .count()
 }

@@ -15,13 +15,8 @@ fn limits_of(alloc: Global, bands: &[BandRow], number: u32) -> Result<Vec<u64>, 
     ensures value { IfOk result (λ limits. limits.items ≡ limits_at bands.now number) }
     ensures err { OnlyMemory result }
 {
-    let mut limits = Vec::new(alloc);
-    for band in bands {
-        if number == band.matrix_no {
-            limits.push(band.limit_s)?;
-        }
-    }
-    Ok(limits)
+    let own = bands.iter().filter(|band| number == band.matrix_no);
+    Ok(own.map(|band| band.limit_s).collect(alloc)?)
 }
 
 /// The cells of a severity in the matrix of a number.
@@ -29,13 +24,8 @@ fn row_of(alloc: Global, cells: &[CellRow], number: u32, severity: u8) -> Result
     ensures value { IfOk result (λ row. row.items ≡ cells_at cells.now number severity) }
     ensures err { OnlyMemory result }
 {
-    let mut row = Vec::new(alloc);
-    for cell in cells {
-        if number == cell.matrix_no && severity == cell.severity {
-            row.push(cell.cell_no)?;
-        }
-    }
-    Ok(row)
+    let own = cells.iter().filter(|cell| number == cell.matrix_no && severity == cell.severity);
+    Ok(own.map(|cell| cell.cell_no).collect(alloc)?)
 }
 
 /// The rows of the matrix of a number, as far as there are cells.

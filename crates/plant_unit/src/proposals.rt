@@ -103,21 +103,11 @@ pub fn matrix_refusal(
     }
 }
 
-/// How many changes of an alarm's limit were approved.
-fn limit_revision(alarm: Option<&AlarmRow>) -> u32
-    ensures { result ≡ revision_of_limit (option_copied alarm.entry) }
-{
-    match alarm {
-        Some(alarm) => alarm.limit_revision(),
-        None => 0,
-    }
-}
-
 /// The refusal of a change of an alarm's limit, for its base, if any.
 pub fn limit_refusal(alarm: Option<&AlarmRow>, base: u32) -> Option<Refused>
     ensures { result ≡ base_refusal base (revision_of_limit (option_copied alarm.entry)) }
 {
-    let revision = limit_revision(alarm);
+    let revision = alarm.map_or(0, |alarm| alarm.limit_revision());
     if base != revision {
         Some(Refused::BaseChanged(revision))
     } else {

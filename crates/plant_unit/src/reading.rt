@@ -1,8 +1,8 @@
 //! Records and changes, read from the rows of a part.
 
-ghost use Rattle.std.specs.{Ordering.{nat_cmp}, Prelude.{◌≡◌, IfOk, option_copied, option_map}};
+ghost use Rattle.std.specs.Prelude.{◌≡◌, IfOk, option_copied, option_map};
 ghost use Rattle.plant_types.specs.{KeyedRows.{row_at}, Names.{name_cmp}, Results.{Gives, OnlyMemory}};
-ghost use Rattle.plant_model.specs.RowFacts.{change_number, facts_in, record_from, record_tag};
+ghost use Rattle.plant_model.specs.RowFacts.{change_found, facts_in, record_from, record_tag};
 ghost use Rattle.plant_model.specs.declared.rows.ChangeTopic.TheVariants.{Limit as LimitTopic, Matrix as MatrixTopic, Record as RecordTopic};
 ghost use Rattle.plant_model.specs.declared.rows.UnitRows.{UnitRows as TheRows};
 ghost use Rattle.plant_unit.specs.{Additions.{AreKept}, FromFacts.{GivesFrom}, Readings.{change_whole, kind_found, sheet_found, source_found}};
@@ -24,9 +24,10 @@ pub fn record_of<'a>(records: &'a [RecordEntry], tag: &Tag) -> Option<&'a Record
 }
 
 /// The row of the change of a number. It looks at all of them, whatever their order.
-pub fn entry_of<'a>(changes: &'a [ChangeEntry], number: u32) -> Option<&'a ChangeEntry>
-    ensures { option_copied result ≡ row_at nat_cmp change_number number changes.now }
+pub fn entry_of<'a>(part: &'a UnitPart, number: u32) -> Option<&'a ChangeEntry>
+    ensures { option_copied result ≡ change_found part.now.rows number }
 {
+    let changes = part.rows.changes.as_slice();
     changes.iter().find(|row| number == row.number)
 }
 
@@ -41,20 +42,14 @@ pub fn source_of<'a>(part: &'a UnitPart, row: &RecordEntry) -> Option<&'a Change
 pub fn revision_of(part: &UnitPart, tag: &Tag) -> u32
     ensures { result ≡ (facts_in part.now).revision tag.now }
 {
-    match record_of(part.rows.records.as_slice(), tag) {
-        Some(row) => row.rev,
-        None => 0,
-    }
+    record_of(part.rows.records.as_slice(), tag).map_or(0, |row| row.rev)
 }
 
 /// The priority of an alarm, where it has a record.
 pub fn priority_of(part: &UnitPart, tag: &Tag) -> Option<Cell>
     ensures { AreKept part.now → result ≡ (facts_in part.now).priority tag.now }
 {
-    match row_of(part.rows.records.as_slice(), tag) {
-        Some(row) => Some(row.cell_no),
-        None => None,
-    }
+    row_of(part.rows.records.as_slice(), tag).map(|row| row.cell_no)
 }
 
 /// The sheet of a change, where all its columns are there.
@@ -62,16 +57,13 @@ fn sheet_of(alloc: Global, entry: &ChangeEntry) -> Result<Option<Sheet>, Fault>
     ensures value { IfOk result (λ sheet. sheet ≡ sheet_found entry.now) }
     ensures err { OnlyMemory result }
 {
-    let Some(cause) = &entry.cause else {
-        return Ok(None);
-    };
-    let Some(consequence) = &entry.consequence else {
-        return Ok(None);
-    };
-    let Some(action) = &entry.remedy else {
-        return Ok(None);
-    };
-    let (Some(severity), Some(response)) = (entry.severity, entry.response_s) else {
+    let (Some(cause), Some(consequence), Some(action), Some(severity), Some(response)) = (
+        &entry.cause,
+        &entry.consequence,
+        &entry.remedy,
+        entry.severity,
+        entry.response_s,
+    ) else {
         return Ok(None);
     };
     Ok(Some(Sheet {
@@ -143,20 +135,14 @@ fn matrix_kind(
     ensures value { Gives result (kind_found rows.now entry.now MatrixTopic) }
     ensures err { OnlyMemory result }
 {
-    match matrix_of(alloc, rows, entry.number)? {
-        None => Ok(None),
-        Some(matrix) => Ok(Some(ChangeKind::Matrix(matrix))),
-    }
+    Ok(matrix_of(alloc, rows, entry.number)?.map(ChangeKind::Matrix))
 }
 
 fn limit_kind(alloc: Global, entry: &ChangeEntry) -> Result<Option<ChangeKind>, Fault>
     ensures value { (rows : TheRows) → Gives result (kind_found rows entry.now LimitTopic) }
     ensures err { OnlyMemory result }
 {
-    let Some(tag) = &entry.tag else {
-        return Ok(None);
-    };
-    let Some(max) = entry.max_s else {
+    let (Some(tag), Some(max)) = (&entry.tag, entry.max_s) else {
         return Ok(None);
     };
     Ok(Some(ChangeKind::Limit(tag.copy(alloc)?, max)))
@@ -203,7 +189,7 @@ pub fn change_of(alloc: Global, part: &UnitPart, number: u32) -> Result<Option<C
     ensures value { GivesFrom part.now result (λ f. f.change number) }
     ensures err { OnlyMemory result }
 {
-    match entry_of(part.rows.changes.as_slice(), number) {
+    match entry_of(part, number) {
         None => Ok(None),
         Some(entry) => change_from(alloc, &part.rows, entry),
     }

@@ -1,13 +1,13 @@
 -- One run of answers after another is one run.
-use Rattle.std.specs.Io.KnownBytes.{Appends}
+use Rattle.std.{specs.Io.KnownBytes.{Appends}, proofs.{KnownBytes.{Appends-nil, Appends-trans}, lemmas.{Grind.{flat_map-append}, List.{map-append, Elements.{filter_map-append}}}}}
 use Rattle.std.proofs.Common.{◌≡◌, ℕ, ◌+◌, List, [], ◌∷◌, ◌++◌, take, drop, map, Option, refl, sym, ap, subst, ◌∙◌, append_assoc, append-nil, Result, Ok, Err, IfErr}
 use Rattle.plant_model.specs.declared.{call.Call.{Call}, reply.Answer.{Answer}}
 use Rattle.plant_answer.specs.Answers.{text_of}
 use Rattle.plant_call.specs.{Cut.{WaitsBelow}, Front.{Item, waits, whole, broken, StandsAtFront, Parsed}, declared.causes.Cause.{Cause}}
 use Rattle.plant_wire.specs.Causes.{cause_text}
-use Rattle.plant_wire.specs.Marks.{Mark, said, malformed, item_of, mark_text, out_of, calls_of, answers_of, Last, nothing, begun, breaking, last_text, last_marks, IsSaid, IsFaultless}
+use Rattle.plant_wire.specs.Marks.{Mark, said, item_of, mark_text, out_of, call_in, calls_of, answer_in, answers_of, Last, nothing, begun, breaking, last_text, last_marks, IsSaid, IsFaultless}
 use Rattle.plant_wire.specs.{Step.{IsPut, IsAnswer, IsStopped, StopsFor, AnswersFront, ServesBroken}, declared.step.Stop.{Stop}}
-use Rattle.plant_wire.{specs.declared.step.Stop.TheVariants.{WriteFailed, Fault}, proofs.public.Growing.{Appends-none, Appends-append, drop-add}}
+use Rattle.plant_wire.{specs.declared.step.Stop.TheVariants.{WriteFailed, Fault}, proofs.public.Growing.{drop-add}}
 use Rattle.plant_wire.proofs.public.Running.{Joins}
 use Rattle.plant_types.specs.declared.fault.Fault as faults
 use Rattle.plant_model.specs.declared.reply.Answer.TheVariants as answers
@@ -32,64 +32,46 @@ said_unless (answers.Reply r) none = tt
 said_unless (answers.Refused r) none = tt
 said_unless (answers.Fault f) none = none f refl
 
-items-append : (ms ns : List Mark) → map item_of (ms ++ ns) ≡ map item_of ms ++ map item_of ns
-items-append [] ns = refl
-items-append (m ∷ ms) ns = ap (λ (t : List Item). item_of m ∷ t) (items-append ms ns)
-
-out-append : (ms ns : List Mark) → out_of (ms ++ ns) ≡ out_of ms ++ out_of ns
-out-append [] ns = refl
-out-append (m ∷ ms) ns = ap (λ (t : List ℕ). mark_text m ++ t) (out-append ms ns) ∙ sym (append_assoc (mark_text m) (out_of ms) (out_of ns))
-
-calls-append : (ms ns : List Mark) → calls_of (ms ++ ns) ≡ calls_of ms ++ calls_of ns
-calls-append [] ns = refl
-calls-append (said call answer ∷ ms) ns = ap (λ (t : List Call). call ∷ t) (calls-append ms ns)
-calls-append (malformed cause ∷ ms) ns = calls-append ms ns
-
-answers-append : (ms ns : List Mark) → answers_of (ms ++ ns) ≡ answers_of ms ++ answers_of ns
-answers-append [] ns = refl
-answers-append (said call answer ∷ ms) ns = ap (λ (t : List Answer). answer ∷ t) (answers-append ms ns)
-answers-append (malformed cause ∷ ms) ns = answers-append ms ns
-
 Parsed-trans : (a b r : List ℕ) (xs ys : List Item) → Parsed a xs b → Parsed b ys r → Parsed a (xs ++ ys) r
 Parsed-trans a b r [] ys is later = subst (λ (t : List ℕ). Parsed t ys r) (sym is) later
 Parsed-trans a b r (x ∷ xs) ys (n, front, rest) later = (n, front, Parsed-trans (drop n a) b r xs ys rest later)
 
 parsed_more : (a b r : List ℕ) (ms ns : List Mark) → Parsed a (map item_of ms) b → Parsed b (map item_of ns) r → Parsed a (map item_of (ms ++ ns)) r
 parsed_more a b r ms ns first later =
-    subst (λ (x : List Item). Parsed a x r) (sym (items-append ms ns)) (Parsed-trans a b r (map item_of ms) (map item_of ns) first later)
+    subst (λ (x : List Item). Parsed a x r) (sym (map-append item_of ms ns)) (Parsed-trans a b r (map item_of ms) (map item_of ns) first later)
 
 module _ {first second both : List Call → List Answer → Type 0} (joins : Joins first second both) where
   ran_more : (ms ns : List Mark) → first (calls_of ms) (answers_of ms) → second (calls_of ns) (answers_of ns) → both (calls_of (ms ++ ns)) (answers_of (ms ++ ns))
   ran_more ms ns a b =
-      subst (λ (x : List Call). both x (answers_of (ms ++ ns))) (sym (calls-append ms ns))
-      (subst (λ (y : List Answer). both (calls_of ms ++ calls_of ns) y) (sym (answers-append ms ns))
+      subst (λ (x : List Call). both x (answers_of (ms ++ ns))) (sym (filter_map-append call_in ms ns))
+      (subst (λ (y : List Answer). both (calls_of ms ++ calls_of ns) y) (sym (filter_map-append answer_in ms ns))
       (joins.join (calls_of ms) (calls_of ns) (answers_of ms) (answers_of ns) a b))
 
   pub serves_more : (bytes mid rest : List ℕ) (u v w : Option (List ℕ)) → AnswersFront bytes u v first mid → AnswersFront mid v w second rest → AnswersFront bytes u w both rest
   serves_more bytes mid rest u v w a b = record {
     marks = a.marks ++ b.marks;
     parses = parsed_more bytes mid rest a.marks b.marks a.parses b.parses;
-    writes = rw (out-append a.marks b.marks) (Appends-append u v w _ _ a.writes b.writes);
+    writes = rw (flat_map-append mark_text a.marks b.marks) (Appends-trans u v w _ _ a.writes b.writes);
     served = ran_more a.marks b.marks a.served b.served;
   }
 
   pub serves_then_broken : (bytes mid : List ℕ) (u v w : Option (List ℕ)) → AnswersFront bytes u v first mid → ServesBroken mid v w second → ServesBroken bytes u w both
   serves_then_broken bytes mid u v w a b =
-      let all : Appends u w (out_of a.marks ++ (out_of b.marks ++ cause_text b.cause)) = Appends-append u v w _ _ a.writes b.writes in
+      let all : Appends u w (out_of a.marks ++ (out_of b.marks ++ cause_text b.cause)) = Appends-trans u v w _ _ a.writes b.writes in
       record {
         marks = a.marks ++ b.marks;
         rest = b.rest;
         cause = b.cause;
         parses = parsed_more bytes mid b.rest a.marks b.marks a.parses b.parses;
         front = b.front;
-        writes = rw (out-append a.marks b.marks, append_assoc) all;
+        writes = rw (flat_map-append mark_text a.marks b.marks, append_assoc) all;
         served = ran_more a.marks b.marks a.served b.served;
       }
 
   pub serves_then_part : (bytes mid : List ℕ) (u v w : Option (List ℕ)) (stop : Stop) → AnswersFront bytes u v first mid → IsStopped mid v w second stop
       → IsStopped bytes u w both stop
   serves_then_part bytes mid u v w stop a (b, why) =
-      let all : Appends u w (out_of a.marks ++ (out_of b.marks ++ take b.part (last_text b.last))) = Appends-append u v w _ _ a.writes b.writes in
+      let all : Appends u w (out_of a.marks ++ (out_of b.marks ++ take b.part (last_text b.last))) = Appends-trans u v w _ _ a.writes b.writes in
       let ran = ran_more a.marks (b.marks ++ last_marks b.last) a.served b.served in (
         record {
           marks = a.marks ++ b.marks;
@@ -98,7 +80,7 @@ module _ {first second both : List Call → List Answer → Type 0} (joins : Joi
           part = b.part;
           parses = parsed_more bytes mid b.rest a.marks b.marks a.parses b.parses;
           stands = b.stands;
-          writes = rw (out-append a.marks b.marks, append_assoc) all;
+          writes = rw (flat_map-append mark_text a.marks b.marks, append_assoc) all;
           served = subst (λ (x : List Mark). both (calls_of x) (answers_of x)) (sym (append_assoc a.marks b.marks (last_marks b.last))) ran;
         },
         why,
@@ -132,7 +114,7 @@ module _ {first second both : List Call → List Answer → Type 0} (joins : Joi
 
 module _ {ran : List Call → List Answer → Type 0} where
   pub serves_none : (bytes : List ℕ) (o : Option (List ℕ)) → ran [] [] → AnswersFront bytes o o ran bytes
-  serves_none bytes o none = record { marks = []; parses = refl; writes = Appends-none o; served = none }
+  serves_none bytes o none = record { marks = []; parses = refl; writes = Appends-nil o; served = none }
 
   -- one request
   pub serves_one : (bytes : List ℕ) (o o' : Option (List ℕ)) (m : Mark) (n : ℕ) → StandsAtFront bytes (whole (item_of m) n)
@@ -151,7 +133,7 @@ module _ {ran : List Call → List Answer → Type 0} where
 
   pub part_none : (bytes : List ℕ) (o : Option (List ℕ)) → ran [] [] → IsStopped bytes o o ran Fault
   part_none bytes o none =
-      (record { marks = []; rest = bytes; last = nothing; part = 0; parses = refl; stands = tt; writes = Appends-none o; served = none }, tt)
+      (record { marks = []; rest = bytes; last = nothing; part = 0; parses = refl; stands = tt; writes = Appends-nil o; served = none }, tt)
 
   -- a part of the answer to one request
   pub part_one : (bytes : List ℕ) (o o' : Option (List ℕ)) (m : Mark) (n part : ℕ) (stop : Stop) → StandsAtFront bytes (whole (item_of m) n)

@@ -1,12 +1,12 @@
 -- The ways in which a session goes on or ends, from where it stands.
-use Rattle.std.specs.Io.KnownBytes.{Consumes, IsAtEnd}
+use Rattle.std.{specs.Io.KnownBytes.{Consumes, IsAtEnd}, proofs.KnownBytes.{Consumes-nil, Consumes-trans}}
 use Rattle.std.proofs.Common.{◌≡◌, ◌⊎◌, ◌<◌, ℕ, List, [], ◌∷◌, ◌++◌, length, drop, map, Bool, false, ◌==◌, Option, refl, sym, ap, subst, inl, inr, append-nil, arith, IsTrue}
 use Rattle.plant_model.specs.declared.{call.Call.{Call}, reply.Answer.{Answer}}
 use Rattle.plant_call.{specs.Front.{waits, body_length, item_of as item_from_head, StandsAtFront}, proofs.public.Cuts.{Parses-append}}
 use Rattle.plant_wire.specs.{Marks.{item_of}, Session.{IsIdle, IsCutShort}, Step.{IsStopped, AnswersFront, ServesBroken}, declared.step.Stop.{Stop}}
 use Rattle.plant_wire.specs.declared.step.Stop.TheVariants.{Fault}
 use Rattle.plant_wire.proofs.Serving.{serves_none, serves_more, serves_then_broken, serves_then_part, serves_part}
-use Rattle.plant_wire.proofs.public.{Growing.{Consumes-none, Consumes-append}, Running.{Joins}}
+use Rattle.plant_wire.proofs.public.Running.{Joins}
 
 pub some_left : (buffer seen : List ℕ) (b : Bool) → seen ≡ buffer → b ≡ (length seen == 0) → b ≡ false → 0 < length buffer
 some_left buffer [] b is e none = cc
@@ -20,7 +20,7 @@ pub record Stands (r r' o o' : Option (List ℕ)) (ran : List Call → List Answ
   pub idle : IsIdle buffer
 
 pub stands_start : (r o : Option (List ℕ)) (ran : List Call → List Answer → Type 0) → ran [] [] → Stands r r o o ran []
-stands_start r o ran none = record { bytes = []; bytes_are = Consumes-none r; serves = serves_none [] o none; idle = inl refl }
+stands_start r o ran none = record { bytes = []; bytes_are = Consumes-nil r; serves = serves_none [] o none; idle = inl refl }
 
 -- more bytes come
 serves_extend : (bytes more rest : List ℕ) (o o' : Option (List ℕ)) (ran : List Call → List Answer → Type 0) → AnswersFront bytes o o' ran rest
@@ -35,11 +35,7 @@ serves_extend bytes more rest o o' ran a = record {
 module _ {r r' o o' : Option (List ℕ)} {ran : List Call → List Answer → Type 0} {buffer : List ℕ} (at : Stands r r' o o' ran buffer) where
   -- the same bytes, after a read that gave none
   no_more : (r'' : Option (List ℕ)) → Consumes r' r'' [] → Consumes r r'' at.bytes
-  no_more r'' none = subst (Consumes r r'') (append-nil at.bytes) (Consumes-append r r' r'' at.bytes [] at.bytes_are none)
-
-  pub ends_closed : (r'' : Option (List ℕ)) (e : Bool) → IsTrue e → IsAtEnd r'' → Consumes r' r'' [] → buffer ≡ []
-      → (bytes : List ℕ) × Consumes r r'' bytes × (IsTrue e × IsAtEnd r'' × AnswersFront bytes o o' ran [])
-  ends_closed r'' e seen left none is = (at.bytes, no_more r'' none, (seen, left, subst (λ (x : List ℕ). AnswersFront at.bytes o o' ran x) is at.serves))
+  no_more r'' none = subst (Consumes r r'') (append-nil at.bytes) (Consumes-trans r r' r'' at.bytes [] at.bytes_are none)
 
   pub ends_cut : (r'' : Option (List ℕ)) (e : Bool) → IsTrue e → IsAtEnd r'' → Consumes r' r'' [] → 0 < length buffer
       → (bytes : List ℕ) × Consumes r r'' bytes × (ServesBroken bytes o o' ran ⊎ IsCutShort bytes r'' e o o' ran)
@@ -58,14 +54,14 @@ module _ {r r' o o' : Option (List ℕ)} {ran : List Call → List Answer → Ty
       → (bytes : List ℕ) × Consumes r r'' bytes × IsStopped bytes o o' ran Fault
   ends_fault r'' more came = (
     at.bytes ++ more,
-    Consumes-append r r' r'' at.bytes more at.bytes_are came,
+    Consumes-trans r r' r'' at.bytes more at.bytes_are came,
     serves_part (at.bytes ++ more) (buffer ++ more) o o' (serves_extend at.bytes more buffer o o' ran at.serves),
   )
 
   module _ (r'' : Option (List ℕ)) (buffer' more : List ℕ) (came : Consumes r' r'' more) (is : buffer' ≡ buffer ++ more)
       {next all : List Call → List Answer → Type 0} (joins : Joins ran next all) where
     all_bytes : Consumes r r'' (at.bytes ++ more)
-    all_bytes = Consumes-append r r' r'' at.bytes more at.bytes_are came
+    all_bytes = Consumes-trans r r' r'' at.bytes more at.bytes_are came
 
     before : AnswersFront (at.bytes ++ more) o o' ran buffer'
     before = subst (λ (x : List ℕ). AnswersFront (at.bytes ++ more) o o' ran x) (sym is) (serves_extend at.bytes more buffer o o' ran at.serves)

@@ -1,5 +1,5 @@
 -- What is written for a list of requests.
-use Rattle.std.specs.Prelude.{ℕ, List, [], ◌∷◌, ◌++◌}
+use Rattle.std.specs.Prelude.{ℕ, List, None, Option, Some, [], filter_map, flat_map, ◌∷◌}
 use Rattle.plant_model.specs.declared.{call.Call.{Call}, reply.Answer.{Answer}}
 use Rattle.plant_answer.specs.Answers.{text_of}
 use Rattle.plant_call.specs.{Front.{Item, asked, bad}, declared.causes.Cause.{Cause}}
@@ -23,20 +23,23 @@ mark_text (malformed cause) = cause_text cause
 
 -- the texts of the answers to these requests
 abbrev pub out_of : List Mark → List ℕ
-out_of [] = []
-out_of (m ∷ ms) = mark_text m ++ out_of ms
+out_of ms = flat_map mark_text ms
 
 -- the calls among them
+abbrev pub call_in : Mark → Option Call
+call_in (said call answer) = Some call
+call_in (malformed cause) = None
+
 abbrev pub calls_of : List Mark → List Call
-calls_of [] = []
-calls_of (said call answer ∷ ms) = call ∷ calls_of ms
-calls_of (malformed cause ∷ ms) = calls_of ms
+calls_of ms = filter_map call_in ms
 
 -- the answers to these
+abbrev pub answer_in : Mark → Option Answer
+answer_in (said call answer) = Some answer
+answer_in (malformed cause) = None
+
 abbrev pub answers_of : List Mark → List Answer
-answers_of [] = []
-answers_of (said call answer ∷ ms) = answer ∷ answers_of ms
-answers_of (malformed cause ∷ ms) = answers_of ms
+answers_of ms = filter_map answer_in ms
 
 -- what was begun when a session stopped: nothing, an answer, or that to the cause which breaks the stream
 pub data Last : Type 0 where

@@ -1,12 +1,11 @@
 -- A unit's rows with and without its events: the part of a call that looks at none, and changes that put none.
 use Rattle.std.proofs.Common.{List, None, Option, Some, [], ap, cond, false, refl, sym, true, ℕ, ◌∙◌, ◌∷◌, ◌≡◌, ◌||◌}
-use Rattle.plant_model.specs.Kinds.{AllEvents, Approval, File, Scope, scope_of}
-use Rattle.plant_model.specs.Parts.{Selection, counted_for, of_approved, of_topic, part_of, part_of_holder, part_of_stranger, rows_selected, selected, selection, with_number}
+use Rattle.plant_model.specs.{Kinds.{AllEvents, Approval, File, Scope, scope_of}, declared.rows.UnitRows.{UnitRows}}
+use Rattle.plant_model.specs.Parts.{counted_for, of_approved, of_topic, part_of, part_of_holder, part_of_stranger, rows_selected, selected, selection, with_number}
 use Rattle.plant_model.specs.{RowChanges.{changed, changed_by}, RowFacts.{change_found, holds_by}, Scopes.{has_events, looks_at_events}}
 use Rattle.plant_model.specs.declared.{call.{Call.{Call}, Request.{Request, TheVariants.{Floods, Import}}}, rows.ChangeEntry.{ChangeEntry}}
 use Rattle.plant_model.specs.declared.rows.{ChangeTopic.{ChangeTopic, TheVariants.{Matrix as MatrixTopic}}, Key.TheVariants.{Grant as GrantKey}}
 use Rattle.plant_model.specs.declared.rows.{Row.TheVariants.{Event as EventPut}, RowEdit.{RowEdit, TheVariants.{Put, PutEvents, Remove}}}
-use Rattle.plant_model.specs.declared.rows.UnitRows.{UnitRows}
 use Rattle.plant_alarm.specs.declared.event.Event.{Event}
 use Rattle.plant_books.specs.{Changing.{is_event_put, puts_event}, Contents.{without_events}}
 use Rattle.plant_types.specs.Names.{Name}
@@ -15,7 +14,6 @@ use Rattle.plant_types.specs.Names.{Name}
 
 topic_without : (rows : UnitRows) (tag : Option Name) (k : ChangeTopic) → of_topic (without_events rows) tag k ≡ of_topic rows tag k
 topic_without rows tag MatrixTopic = refl
-topic_without rows None _ = refl
 topic_without rows _ _ = refl
 
 approved_without : (rows : UnitRows) (n : ℕ) (o : Option ChangeEntry) → of_approved (without_events rows) n o ≡ of_approved rows n o
@@ -51,16 +49,13 @@ counted_without (Import u file) rows none = absurd (let no : true ≡ false = no
 counted_without (Floods u begin until) rows none = absurd (let no : true ≡ false = none in cc)
 counted_without _ rows none = refl
 
-selected_without : (p : Name) (s : Selection) (rows : UnitRows) → s.events [] ≡ s.events rows.events → rows_selected p s (without_events rows) ≡ rows_selected p s rows
-selected_without p s rows same = ap (λ es. record (rows_selected p s rows) { events = es }) same
-
 holders_part_without : (c : Call) (rows : UnitRows) → looks_at_events c.request ≡ false → part_of_holder c (without_events rows) ≡ part_of_holder c rows
 holders_part_without c rows none =
     let q = c.request in
     let nothing = none_asked rows q [] none ∙ sym (none_asked rows q rows.events none) in
     let chosen : rows_selected c.person (selected (without_events rows) q) (without_events rows) ≡ rows_selected c.person (selected rows q) rows =
     ap (λ s. rows_selected c.person s (without_events rows)) (selection_without rows (scope_of q))
-    ∙ selected_without c.person (selected rows q) rows nothing in
+    ∙ ap (λ es. record (rows_selected c.person (selected rows q) rows) { events = es }) nothing in
     λ i. record { rows = chosen i; count = counted_without q rows none i }
 
 -- the part of a call that does not look at events

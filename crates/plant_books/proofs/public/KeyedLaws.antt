@@ -1,7 +1,6 @@
 -- Rows put in the order of their keys.
-use Rattle.std.specs.{Cmp.{IsTotalOrder}, FinMap.Entries.{by_order}}
+use Rattle.std.{specs.{Cmp.{IsTotalOrder}, FinMap.Entries.{by_order}}, proofs.{Math.Seq.{drop-cons}, lemmas.List.{set_split}}}
 use Rattle.std.proofs.Common.{◌≡◌, ℕ, ◌<◌, List, [], ◌∷◌, ◌++◌, arith, refl, sym, ap, ◌∙◌, length, take, drop, false, get_or, set, suc, true, zero, is_eq, is_lt, insert, Ordering, Equal, Greater, Less}
-use Rattle.std.proofs.{Math.Seq.{drop-cons}, lemmas.List.{set_split}}
 use Rattle.plant_model.proofs.public.RowsFound.{Parts as PartsBy, back, later, lesser, turned}
 use Rattle.plant_types.specs.KeyedRows.{put_row}
 
@@ -52,7 +51,7 @@ module _ {X : Type 0} (o : X → X → Ordering) where
       where
         by : (v : Ordering) → o r e ≡ v → is_eq v ≡ false → v ≡ Less
         by Less same differs = refl
-        by Equal same differs = absurd (let it : true ≡ false = differs in cc)
+        by Equal same differs = cc
         by Greater same differs =
             let high : is_lt (o e r) ≡ false = ap (λ x. is_lt (o x r)) is ∙ h.1 p e (omega arith) (omega (arith, within)) in
-            absurd (let it : true ≡ false = ap is_lt (sym (back total r e same)) ∙ high in cc)
+            let it : true ≡ false = ap is_lt (sym (back total r e same)) ∙ high in cc

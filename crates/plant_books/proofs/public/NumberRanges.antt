@@ -1,15 +1,14 @@
 -- The rows of a number among rows whose numbers do not fall: where they begin and end, and those of several numbers.
-use Rattle.std.specs.{Cmp.{ranked}, FinMap.Entries.{below_all}}
+use Rattle.std.{specs.{Cmp.{ranked}, FinMap.Entries.{below_all}}, proofs.lemmas.{List.Elements.{filter_agree}, Bool.{le-ltb}}}
 use Rattle.std.specs.{List.Sorted.{IsNonDecreasingBy, IsPartitionPoint, IsPartitionedBy, IsStrictlySortedBy}, Ordering.{ordering_then}}
-use Rattle.std.proofs.Common.{Bool, List, [], ap, arith, cond, drop, false, get_or, inl, inr, length, not, refl, subst, suc, sym, take, true, zero, ℕ, ◌++◌, ◌<◌, ◌∙◌, ◌∷◌, ◌≡◌, ◌≤◌, ◌⊎◌, nat_cmp, Ordering, Equal, Greater, Less, T, filter, map, nat_le, nat_lt, ◌||◌, BTreeSet}
-use Rattle.std.proofs.lemmas.Bool.{cases_order, leb-true, ltb-true, le-leb, lt-ltb, or_right}
-use Rattle.std.proofs.lemmas.List.Sorted.{IsPartitionedBy-leb, IsPartitionedBy-ltb}
+use Rattle.std.proofs.Common.{Bool, List, [], ap, arith, cond, drop, false, get_or, inl, inr, length, not, refl, subst, suc, sym, take, true, zero, ℕ, ◌++◌, ◌<◌, ◌∙◌, ◌∷◌, ◌≡◌, ◌≤◌, ◌⊎◌, nat_cmp, Ordering, Equal, Greater, Less, T, filter, map, nat_le, nat_lt, ◌||◌, BTreeSet, ◌&&◌}
+use Rattle.std.proofs.lemmas.{Bool.{cases_order, le-leb, lt-ltb, or_right, lt-leb, and_right}, List.Sorted.{IsPartitionedBy-leb, IsPartitionedBy-ltb}}
 use Rattle.plant_books.{specs.Numbered.{NumbersRise, of_numbers}, proofs.NumbersAmong.{among, among_more, none_among, or_none, smaller}}
 use Rattle.plant_import.proofs.public.Placed.{AllBelow, other, other_above}
 use Rattle.plant_model.specs.{Matrices.{band_cmp, cell_cmp}, RowFacts.{band_key, cell_key, change_number}, declared.rows.BandRow.{BandRow}}
-use Rattle.plant_model.specs.declared.rows.{CellRow.{CellRow}, ChangeEntry.{ChangeEntry}}
-use Rattle.plant_model.proofs.public.RowsFound.{tied_numbers, ties, first, less, second}
-use Rattle.plant_types.{specs.KeyedRows.{IsInOrder}, proofs.public.Orders.{same_numbers}}
+use Rattle.plant_model.specs.{declared.rows.{CellRow.{CellRow}, ChangeEntry.{ChangeEntry}}, Histories.{same_number}}
+use Rattle.plant_model.proofs.public.RowsFound.{tied_numbers, less}
+use Rattle.plant_types.{specs.KeyedRows.{IsInOrder}, proofs.public.{Orders.{same_numbers}, Halves.{first, second}}}
 
 -- ---- what stands before the place where a test changes, and what stands from it on
 
@@ -43,19 +42,22 @@ module _ {X : Type 0} (q : X → Bool) where
 
 -- ---- numbers: below another, and not above it
 
-not_below : (m n : ℕ) → n ≤ m → nat_lt m n ≡ false
-not_below m n le = by (nat_lt m n) refl
-  where
-    by : (b : Bool) → nat_lt m n ≡ b → b ≡ false
-    by true e = absurd (let lt = ltb-true m n e in omega (arith, lt, le))
-    by false e = refl
+exact : (m n : ℕ) → (not (nat_lt m n) && nat_le m n) ≡ same_number m n
+exact m n = elim (cases_order m n) [
+  | inl same ↦ (λ i. not (le-ltb m n (omega (arith, same)) i) && le-leb m n (omega (arith, same)) i) ∙ sym (tied_numbers m n same)
+  | inr differ ↦ elim differ [
+    | inl lt ↦ ap (λ b. not b && nat_le m n) (lt-ltb m n lt) ∙ sym (other_above m n lt)
+    | inr gt ↦ ap (λ b. not (nat_lt m n) && b) (lt-leb m n gt) ∙ and_right (not (nat_lt m n)) false refl ∙ sym (other m n gt)
+  ]
+]
 
-not_upto : (m n : ℕ) → n < m → nat_le m n ≡ false
-not_upto m n lt = by (nat_le m n) refl
-  where
-    by : (b : Bool) → nat_le m n ≡ b → b ≡ false
-    by true e = absurd (let le = leb-true m n e in omega (arith, lt, le))
-    by false e = refl
+filter-filter : {X : Type 0} (p q : X → Bool) (xs : List X) → filter q (filter p xs) ≡ filter (λ x. p x && q x) xs
+filter-filter p q [] = refl
+filter-filter p q (x ∷ xs) =
+    elim (p x) as (λ b. filter q (cond b (x ∷ filter p xs) (filter p xs)) ≡ cond (b && q x) (x ∷ filter (λ x. p x && q x) xs) (filter (λ x. p x && q x) xs)) [
+      | true ↦ ap (λ ys. cond (q x) (x ∷ ys) ys) (filter-filter p q xs)
+      | false ↦ filter-filter p q xs
+    ]
 
 module _ {X : Type 0} (number : X → ℕ) where
   -- no number is smaller than this, and the numbers do not fall
@@ -88,7 +90,7 @@ module _ {X : Type 0} (number : X → ℕ) where
 
   -- the rows of one number
   abbrev pub those_of : ℕ → List X → List X
-  those_of n xs = filter (λ x. ties (number x) n) xs
+  those_of n xs = filter (λ x. same_number (number x) n) xs
 
   abbrev upto : ℕ → List X → List X
   upto n xs = filter (λ x. nat_le (number x) n) xs
@@ -97,24 +99,7 @@ module _ {X : Type 0} (number : X → ℕ) where
   from_on n xs = filter (λ x. not (nat_lt (number x) n)) xs
 
   middle : (n : ℕ) (xs : List X) → upto n (from_on n xs) ≡ those_of n xs
-  middle n [] = refl
-  middle n (x ∷ xs) = by (cases_order (number x) n) (middle n xs)
-    where
-      by : (number x ≡ n) ⊎ ((number x < n) ⊎ (n < number x)) → upto n (from_on n xs) ≡ those_of n xs → upto n (from_on n (x ∷ xs)) ≡ those_of n (x ∷ xs)
-      by (inl same) rest =
-          ap (λ b. upto n (cond (not b) (x ∷ from_on n xs) (from_on n xs))) (not_below (number x) n (omega (arith, same)))
-          ∙ ap (λ b. cond b (x ∷ upto n (from_on n xs)) (upto n (from_on n xs))) (le-leb (number x) n (omega (arith, same)))
-          ∙ ap (λ l. x ∷ l) rest
-          ∙ ap (λ b. cond b (x ∷ those_of n xs) (those_of n xs)) (sym (tied_numbers (number x) n same))
-      by (inr (inl lt)) rest =
-          ap (λ b. upto n (cond (not b) (x ∷ from_on n xs) (from_on n xs))) (lt-ltb (number x) n lt)
-          ∙ rest
-          ∙ ap (λ b. cond b (x ∷ those_of n xs) (those_of n xs)) (sym (other_above (number x) n lt))
-      by (inr (inr gt)) rest =
-          ap (λ b. upto n (cond (not b) (x ∷ from_on n xs) (from_on n xs))) (not_below (number x) n (omega (arith, gt)))
-          ∙ ap (λ b. cond b (x ∷ upto n (from_on n xs)) (upto n (from_on n xs))) (not_upto (number x) n gt)
-          ∙ rest
-          ∙ ap (λ b. cond b (x ∷ those_of n xs) (those_of n xs)) (sym (other (number x) n gt))
+  middle n xs = filter-filter (λ x. not (nat_lt (number x) n)) (λ x. nat_le (number x) n) xs ∙ filter_agree _ _ (λ x. exact (number x) n) xs
 
   pub cut_out : (n : ℕ) (xs : List X) (p e : ℕ) → Parted (λ x. nat_lt (number x) n) xs p → Parted (λ x. nat_le (number x) n) (drop p xs) e → take e (drop p xs) ≡ those_of n xs
   cut_out n xs p e low high = before_place (λ x. nat_le (number x) n) (drop p xs) e high ∙ ap (upto n) (from_place (λ x. nat_lt (number x) n) xs p low) ∙ middle n xs
@@ -170,12 +155,11 @@ module _ {X : Type 0} (number : X → ℕ) where
 -- ---- rows in the order of their keys: their numbers do not fall
 
 leads : (a b : ℕ) (rest : Ordering) → ordering_then (nat_cmp a b) rest ≡ Less → a ≤ b
-leads a b rest e = by (nat_cmp a b) refl e
-  where
-    by : (o : Ordering) → nat_cmp a b ≡ o → ordering_then o rest ≡ Less → a ≤ b
-    by Less p q = let lt = ranked a b Less (sym p) in omega (arith, lt)
-    by Equal p q = let same = same_numbers a b p in omega (arith, same)
-    by Greater p q = cc
+leads a b rest e = elim (nat_cmp a b) as (λ o. nat_cmp a b ≡ o → ordering_then o rest ≡ Less → a ≤ b) [
+  | Less ↦ λ p _. let lt = ranked a b Less (sym p) in omega (arith, lt)
+  | Equal ↦ λ p _. let same = same_numbers a b p in omega (arith, same)
+  | Greater ↦ λ _ q. cc
+] refl e
 
 module _ {K X : Type 0} (R : K → K → Ordering) (key : X → K) (lead : K → ℕ) (le : (a b : K) → R a b ≡ Less → lead a ≤ lead b) where
   above : (a : K) (xs : List X) → T (below_all R a (map (λ r. (key r, r)) xs)) → (k : ℕ) (d : X) → k < length xs → lead a ≤ lead (key (get_or xs k d))

@@ -4,14 +4,13 @@ use Rattle.std.proofs.Common.{List, None, Some, T, [], ap, arith, cond, false, g
 use Rattle.plant_model.specs.{Matrices.{band_cmp, cell_cmp}, Order.{AreInOrder, EventsRise}, RowChanges.{changed, changed_by, no_rows, put, removed}}
 use Rattle.plant_model.specs.{RowFacts.{alarm_tag, band_key, cell_key, change_number, event_number, record_tag, shelf_tag}, declared.rows.Key.{Key}}
 use Rattle.plant_model.specs.declared.rows.{Key.TheVariants.{Grant as GrantKey, Shelf as ShelfKey}, Row.{Row}}
-use Rattle.plant_model.specs.declared.rows.Row.TheVariants.{Alarm as AlarmPut, Band as BandPut, Cell as CellPut, Change as ChangePut, Event as EventPut, Grant as GrantPut, Record as RecordPut, Shelf as ShelfPut, Unit as UnitPut}
+use Rattle.plant_model.specs.declared.rows.Row.TheVariants.{Alarm as AlarmPut, Band as BandPut, Cell as CellPut, Change as ChangePut, Event as EventPut, Record as RecordPut, Shelf as ShelfPut}
 use Rattle.plant_model.specs.declared.rows.{RowEdit.{RowEdit, TheVariants.{Put, PutEvents, Remove}}, UnitRows.{UnitRows}}
-use Rattle.plant_model.proofs.public.PlaceOrders.{band_total, cell_total, same_bands, same_cells}
-use Rattle.plant_model.proofs.public.RowsFound.{After, Ordered, less, lesser, second, first, both}
+use Rattle.plant_model.proofs.public.{PlaceOrders.{band_total, cell_total, same_bands, same_cells}, RowsFound.{After, Ordered, less, lesser}}
 use Rattle.plant_books.specs.{Listed.{AllInOrder, rows_at, unit_cmp}, declared.opened.OpenedUnit.{OpenedUnit}}
 use Rattle.plant_alarm.specs.declared.event.Event.{Event}
 use Rattle.plant_import.specs.Numbers.{with_events}
-use Rattle.plant_types.specs.{KeyedRows.{IsInOrder, put_row, row_at}, Names.{Name, name_cmp, same_name}}
+use Rattle.plant_types.{specs.{KeyedRows.{IsInOrder, put_row, row_at}, Names.{Name, name_cmp, same_name}}, proofs.public.Halves.{both, first, second}}
 use Rattle.plant_types.proofs.public.{KeyedRowLaws.{IsInOrder-put_row, IsInOrder-remove_row}, Orders.{name_total, same_names}}
 
 -- ---- rows whose neighbours rise
@@ -26,14 +25,11 @@ module _ {X : Type 0} (R : X → X → Ordering) (total : IsTotalOrder R) where
       both (is_lt (R x z)) (below_all R x (pairs rows)) (subst (λ (o : Ordering). T (is_lt o)) (sym (total.trans x y z e (less (R y z) (first _ _ h)))) tt)
       (below_more x y rows e (second _ _ h))
 
-  one_more : (k : ℕ) → suc k + 1 ≡ suc (k + 1)
-  one_more k = omega arith
-
   pub neighbours_rise : (rows : List X) → ((k : ℕ) (d : X) → k + 1 < length rows → is_lt (R (get_or rows k d) (get_or rows (k + 1) d)) ≡ true) → IsInOrder R (λ r. r) rows
   neighbours_rise [] h = tt
   neighbours_rise (x ∷ []) h = tt
   neighbours_rise (x ∷ y ∷ rows) h =
-      let rest = neighbours_rise (y ∷ rows) (λ k d within. subst (λ n. is_lt (R (get_or (y ∷ rows) k d) (get_or (x ∷ y ∷ rows) n d)) ≡ true) (one_more k) (h (suc k) d (omega (arith, within)))) in
+      let rest = neighbours_rise (y ∷ rows) (λ k d within. subst (λ n. is_lt (R (get_or (y ∷ rows) k d) (get_or (x ∷ y ∷ rows) n d)) ≡ true) (let e : suc k + 1 ≡ suc (k + 1) = omega arith in e) (h (suc k) d (omega (arith, within)))) in
       let now : R x y ≡ Less = lesser (R x y) (h 0 x (omega arith)) in
       both (below_all R x (pairs (y ∷ rows))) (is_sorted R (pairs (y ∷ rows)))
       (both (is_lt (R x y)) (below_all R x (pairs rows)) (subst (λ (o : Ordering). T (is_lt o)) (sym now) tt) (below_more x y rows now (first _ _ rest)))
@@ -70,8 +66,6 @@ pub none_in_order : AreInOrder no_rows
 none_in_order = record { alarms = tt; shelves = tt; events = tt; bands = tt; cells = tt; records = tt; changes = tt }
 
 put_in_order : (r : Row) (rows : UnitRows) → AreInOrder rows → AreInOrder (put r rows)
-put_in_order (UnitPut r) rows h = record { alarms = h.alarms; shelves = h.shelves; events = h.events; bands = h.bands; cells = h.cells; records = h.records; changes = h.changes }
-put_in_order (GrantPut r) rows h = record { alarms = h.alarms; shelves = h.shelves; events = h.events; bands = h.bands; cells = h.cells; records = h.records; changes = h.changes }
 put_in_order (AlarmPut r) rows h = record { alarms = IsInOrder-put_row name_cmp alarm_tag name_total same_names r rows.alarms h.alarms; shelves = h.shelves; events = h.events; bands = h.bands; cells = h.cells; records = h.records; changes = h.changes }
 put_in_order (ShelfPut r) rows h = record { alarms = h.alarms; shelves = IsInOrder-put_row name_cmp shelf_tag name_total same_names r rows.shelves h.shelves; events = h.events; bands = h.bands; cells = h.cells; records = h.records; changes = h.changes }
 put_in_order (EventPut r) rows h = record { alarms = h.alarms; shelves = h.shelves; events = IsInOrder-put_row nat_cmp event_number nat_cmp_total nat_cmp-IsAntisymmetric r rows.events h.events; bands = h.bands; cells = h.cells; records = h.records; changes = h.changes }
@@ -79,6 +73,7 @@ put_in_order (BandPut r) rows h = record { alarms = h.alarms; shelves = h.shelve
 put_in_order (CellPut r) rows h = record { alarms = h.alarms; shelves = h.shelves; events = h.events; bands = h.bands; cells = IsInOrder-put_row cell_cmp cell_key cell_total same_cells r rows.cells h.cells; records = h.records; changes = h.changes }
 put_in_order (RecordPut r) rows h = record { alarms = h.alarms; shelves = h.shelves; events = h.events; bands = h.bands; cells = h.cells; records = IsInOrder-put_row name_cmp record_tag name_total same_names r rows.records h.records; changes = h.changes }
 put_in_order (ChangePut r) rows h = record { alarms = h.alarms; shelves = h.shelves; events = h.events; bands = h.bands; cells = h.cells; records = h.records; changes = IsInOrder-put_row nat_cmp change_number nat_cmp_total nat_cmp-IsAntisymmetric r rows.changes h.changes }
+put_in_order _ rows h = record { alarms = h.alarms; shelves = h.shelves; events = h.events; bands = h.bands; cells = h.cells; records = h.records; changes = h.changes }
 
 removed_in_order : (k : Key) (rows : UnitRows) → AreInOrder rows → AreInOrder (removed k rows)
 removed_in_order (GrantKey p r) rows h = record { alarms = h.alarms; shelves = h.shelves; events = h.events; bands = h.bands; cells = h.cells; records = h.records; changes = h.changes }
@@ -128,14 +123,11 @@ module _ {X : Type 0} (key : X → Name) where
   none_passes t [] h = refl
   none_passes t (r ∷ rows) h = ap (λ o. cond (is_eq o) (r ∷ filter (λ x. same_name t (key x)) rows) (filter (λ x. same_name t (key x)) rows)) h.0 ∙ none_passes t rows h.1
 
-  after_same : (s t : Name) (rows : List X) → s ≡ t → After name_cmp key s rows → After name_cmp key t rows
-  after_same s t rows e h = subst (λ (n : Name). After name_cmp key n rows) e h
-
   pub one_passes : (t : Name) (rows : List X) → Ordered name_cmp key rows → filter (λ r. same_name t (key r)) rows ≡ option_to_list (row_at name_cmp key t rows)
   one_passes t [] h = refl
   one_passes t (r ∷ rows) h = by (name_cmp t (key r)) refl (one_passes t rows h.1)
     where
       by : (o : Ordering) → name_cmp t (key r) ≡ o → filter (λ x. same_name t (key x)) rows ≡ option_to_list (row_at name_cmp key t rows) → cond (is_eq o) (r ∷ filter (λ x. same_name t (key x)) rows) (filter (λ x. same_name t (key x)) rows) ≡ option_to_list (cond (is_eq o) (Some r) (row_at name_cmp key t rows))
       by Less e rest = rest
-      by Equal e rest = ap (λ xs. r ∷ xs) (none_passes t rows (after_same (key r) t rows (sym (same_names t (key r) e)) h.0))
+      by Equal e rest = ap (λ xs. r ∷ xs) (none_passes t rows (subst (λ (n : Name). After name_cmp key n rows) (sym (same_names t (key r) e)) h.0))
       by Greater e rest = rest

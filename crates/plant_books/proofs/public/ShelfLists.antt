@@ -1,4 +1,4 @@
--- Lists that grow piece by piece, and the shelves of several units as one list.
+-- Loops that list what each element of a list gives, and the shelves of all units of a person in one list.
 use Rattle.std.specs.List.{cons_option, list_any}
 use Rattle.std.proofs.Common.{List, None, Option, Some, [], ap, cond, drop, false, filter_map, flat_map, get_or, length, map, refl, sym, true, ℕ, ◌++◌, ◌+◌, ◌<◌, ◌≤◌, ◌∙◌, ◌∷◌, ◌≡◌}
 use Rattle.std.proofs.lemmas.List.{append_assoc, append-nil, at_drop_all, drop_more}

@@ -86,31 +86,33 @@ module _ (body_length : RequestHead → Result ℕ Cause) (item_of : RequestHead
           let longer : max_head ≤ length (bytes ++ more) = omega (arith, length-append bytes more) in
           inr (inr (unfinished_full bytes more long open_still, is ∙ rw (e, le-ltb (length (bytes ++ more)) max_head longer) refl))
 
-  whole_length : (r : Result ℕ Cause) (head : RequestHead) (after : List ℕ) (x : Item) (n : ℕ) → whole x n ≡ with_length body_length item_of r head after
-      → n ≤ length (print_request head) + length after
-  whole_length (Err cause) head after x n e = cc
-  whole_length (Ok m) head after x n e = go (ltb (length after) m) refl
+  -- what a whole request takes: its head, and no more than there is
+  whole_takes : (r : Result ℕ Cause) (head : RequestHead) (after : List ℕ) (x : Item) (n : ℕ) → whole x n ≡ with_length body_length item_of r head after
+      → (length (print_request head) ≤ n) × (n ≤ length (print_request head) + length after)
+  whole_takes (Err cause) head after x n e = cc
+  whole_takes (Ok m) head after x n e = go (ltb (length after) m) refl
     where
-      go : (b : Bool) → ltb (length after) m ≡ b → n ≤ length (print_request head) + length after
+      go : (b : Bool) → ltb (length after) m ≡ b → (length (print_request head) ≤ n) × (n ≤ length (print_request head) + length after)
       go true is_short =
           let w : whole x n ≡ waits = e ∙ rw is_short refl in cc
       go false is_short =
           let fits : m ≤ length after = ltb-false (length after) m is_short in
           let w : whole x n ≡ whole (item_of head (take m after)) (length (print_request head) + m) = e ∙ rw is_short refl in
           let k : n ≡ length (print_request head) + m = cc in
-          omega arith
+          (omega arith, omega arith)
 
-  -- a whole request lies in the bytes
-  pub whole_fits : (bytes : List ℕ) (x : Item) (n : ℕ) → IsFront body_length item_of bytes (whole x n) → n ≤ length bytes
+  -- a whole request lies in the bytes, and takes some of them
+  pub whole_fits : (bytes : List ℕ) (x : Item) (n : ℕ) → IsFront body_length item_of bytes (whole x n) → (0 < n) × (n ≤ length bytes)
   unfolding of_head
   whole_fits bytes x n (inl (head, begins, is)) =
-      let a = whole_length (body_length head) head (drop (length (print_request head)) bytes) x n is in
+      let a = whole_takes (body_length head) head (drop (length (print_request head)) bytes) x n is in
       let b = head_fits bytes head begins in
-      omega (arith, length-drop (length (print_request head)) bytes)
+      let c = head_length head begins.1.0 in
+      (omega (arith, a.0), omega (arith, a.1, length-drop (length (print_request head)) bytes))
   whole_fits bytes x n (inr (inl (never, is))) = cc
   whole_fits bytes x n (inr (inr (open_still, is))) = go (ltb (length bytes) max_head) is
     where
-      go : (b : Bool) → whole x n ≡ cond b waits (broken HeadTooLong) → n ≤ length bytes
+      go : (b : Bool) → whole x n ≡ cond b waits (broken HeadTooLong) → (0 < n) × (n ≤ length bytes)
       go true e = cc
       go false e = cc
 
@@ -120,14 +122,9 @@ module _ (body_length : RequestHead → Result ℕ Cause) (item_of : RequestHead
   Parses-append bytes more (x ∷ xs) rest (n, is, later) = (
     n,
     front-stays bytes more (whole x n) (λ (e : whole x n ≡ waits). cc) is,
-    subst (λ (y : List ℕ). Parses body_length item_of y xs (rest ++ more)) (sym (drop-append-le n bytes more (whole_fits bytes x n is)))
+    subst (λ (y : List ℕ). Parses body_length item_of y xs (rest ++ more)) (sym (drop-append-le n bytes more (whole_fits bytes x n is).1))
         (Parses-append (drop n bytes) more xs rest later),
   )
-
-  pub Parses-push : (bytes : List ℕ) (xs : List Item) (rest : List ℕ) (x : Item) (n : ℕ) → Parses body_length item_of bytes xs rest
-      → IsFront body_length item_of rest (whole x n) → Parses body_length item_of bytes (xs ++ x ∷ []) (drop n rest)
-  Parses-push bytes [] rest x n is front = (n, subst (λ (y : List ℕ). IsFront body_length item_of y (whole x n)) (sym is) front, ap (drop n) is)
-  Parses-push bytes (y ∷ ys) rest x n (m, first, later) front = (m, first, Parses-push (drop m bytes) ys rest x n later front)
 
   -- Two readings of one front are one, save in the case that httparse leaves open: no continuation is a head, and
   -- the target is still being read.
@@ -144,30 +141,3 @@ module _ (body_length : RequestHead → Result ℕ Cause) (item_of : RequestHead
   front_unique bytes f g (inr (inr (open_still, is))) (inl (k, (q, reads'), is')) = absurd (open_still.none k q reads')
   front_unique bytes f g (inr (inr (open_still, is))) (inr (inl (never, is'))) = inr (never, target_open bytes never open_still.unfinished)
   front_unique bytes f g (inr (inr (open_still, is))) (inr (inr (open_still', is'))) = inl (is ∙ sym is')
-
-  whole_at_least : (r : Result ℕ Cause) (head : RequestHead) (after : List ℕ) (x : Item) (n : ℕ) → whole x n ≡ with_length body_length item_of r head after
-      → length (print_request head) ≤ n
-  whole_at_least (Err cause) head after x n e = cc
-  whole_at_least (Ok m) head after x n e = go (ltb (length after) m) refl
-    where
-      go : (b : Bool) → ltb (length after) m ≡ b → length (print_request head) ≤ n
-      go true is_short =
-          let w : whole x n ≡ waits = e ∙ rw is_short refl in cc
-      go false is_short =
-          let w : whole x n ≡ whole (item_of head (take m after)) (length (print_request head) + m) = e ∙ rw is_short refl in
-          let k : n ≡ length (print_request head) + m = cc in
-          omega arith
-
-  -- and takes some of them
-  pub whole_positive : (bytes : List ℕ) (x : Item) (n : ℕ) → IsFront body_length item_of bytes (whole x n) → 0 < n
-  unfolding of_head
-  whole_positive bytes x n (inl (head, begins, is)) =
-      let a = whole_at_least (body_length head) head (drop (length (print_request head)) bytes) x n is in
-      let b = head_length head begins.1.0 in
-      omega arith
-  whole_positive bytes x n (inr (inl (never, is))) = cc
-  whole_positive bytes x n (inr (inr (open_still, is))) = go (ltb (length bytes) max_head) is
-    where
-      go : (b : Bool) → whole x n ≡ cond b waits (broken HeadTooLong) → 0 < n
-      go true e = cc
-      go false e = cc

@@ -4,18 +4,12 @@ use Rattle.std.specs.Ordering.{ordering_reverse, MatchOrdering}
 use Rattle.std.proofs.Common.{◌≡◌, ℕ, pos, not, cond, List, [], ◌∷◌, map, refl, sym, ap, ◌∙◌, subst, Ordering, Less, Equal, Greater, is_lt, is_eq, T, nat_cmp, int_cmp, ◌<◌, ◌<ℤ◌, lt→ltb}
 use Rattle.sqlite_trees.specs.Tree.{IsAscending}
 use Rattle.sqlite_keyed.{specs.Lists.{insert_sorted}, proofs.ListLemmas.{all_weaker}}
-use Rattle.plant_types.{specs.KeyedRows.{put_row, remove_row, IsInOrder}, proofs.public.Halves.{both}}
+use Rattle.plant_types.{specs.KeyedRows.{put_row, IsInOrder}, proofs.public.Halves.{both}}
 use Rattle.plant_columns.specs.Kept.{taken_out, put_in}
 
 module _ {K X : Type 0} (R : K → K → Ordering) (key : X → K) where
-  abbrev pub by_key_of : X → X → Ordering
-  by_key_of a b = R (key a) (key b)
-
   abbrev pub AreRising : List X → Type 0
   AreRising = IsAscending (λ a b. R (key a) (key b) ≡ Less)
-
-  pub out_is : (x : X) (rows : List X) → taken_out (λ a b. R (key a) (key b)) x rows ≡ remove_row R key (key x) rows
-  out_is x rows = refl
 
   none_tied : (x : X) (rows : List X) → AllByRecursion (λ y. R (key x) (key y) ≡ Less) rows → taken_out (λ a b. R (key a) (key b)) x rows ≡ rows
   none_tied x [] all = refl

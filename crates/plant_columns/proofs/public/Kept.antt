@@ -1,7 +1,8 @@
 -- A table as it lies, in the order of its rowids, against the same in the order of its keys.
 use Rattle.std.specs.{Cmp.{IsTotalOrder}, List.{AllByRecursion}, Ordering.{ordering_reverse}}
 use Rattle.std.proofs.Common.{◌≡◌, Bool, true, false, not, cond, List, [], ◌∷◌, ◌++◌, filter, map, refl, sym, ap, ◌∙◌, Ordering, Less, Equal, Greater, is_gt, is_eq, true≢false}
-use Rattle.std.proofs.lemmas.Cmp.{upto}
+use Rattle.std.proofs.lemmas.{Cmp.{upto}, List.Elements.{filter-append}}
+use Rattle.sqlite_catalog.proofs.ListFacts.{filter_swap}
 use Rattle.sqlite_trees.specs.Tree.{IsAscending}
 use Rattle.sqlite_keyed.{specs.Lists.{insert_sorted, sort_by}, proofs.ListLemmas.{all_weaker, all-filter, ascending-filter}}
 use Rattle.plant_columns.specs.Kept.{taken_out, put_in, kept}
@@ -105,23 +106,7 @@ module _ {X : Type 0} (cmp : X → X → Ordering) (total : IsTotalOrder cmp) wh
   sort_push x [] all = refl
   sort_push x (z ∷ xs) all = ap (insert_sorted cmp z) (sort_push x xs all.1) ∙ either_order x z (sort_by cmp xs) all.0
 
-  both_ways : (p q : X → Bool) (xs : List X) → filter p (filter q xs) ≡ filter q (filter p xs)
-  both_ways p q [] = refl
-  both_ways p q (x ∷ xs) = go (p x) (q x) refl refl (both_ways p q xs)
-    where
-      go : (b c : Bool) → p x ≡ b → q x ≡ c → filter p (filter q xs) ≡ filter q (filter p xs)
-          → filter p (cond c (x ∷ filter q xs) (filter q xs)) ≡ filter q (cond b (x ∷ filter p xs) (filter p xs))
-      go true true e f more = rw (e, f) (ap (λ l. x ∷ l) more)
-      go true false e f more = rw f more
-      go false true e f more = rw e more
-      go false false e f more = more
-
-  one_more : (p : X → Bool) (x : X) (xs : List X) → filter p (xs ++ x ∷ []) ≡ filter p xs ++ cond (p x) (x ∷ []) []
-  one_more p x [] = refl
-  one_more p x (y ∷ ys) = elim (p y) as (λ b. cond b (y ∷ filter p (ys ++ x ∷ [])) (filter p (ys ++ x ∷ [])) ≡ cond b (y ∷ filter p ys) (filter p ys) ++ cond (p x) (x ∷ []) [])
-      [ true ↦ ap (λ l. y ∷ l) (one_more p x ys) | false ↦ one_more p x ys ]
-
-  apart_from : (x : X) (xs : List X) → AllByRecursion (λ z. is_eq (cmp x z) ≡ false) (taken_out cmp x xs)
+  pub apart_from : (x : X) (xs : List X) → AllByRecursion (λ z. is_eq (cmp x z) ≡ false) (taken_out cmp x xs)
   apart_from x [] = tt
   apart_from x (y ∷ ys) = go (is_eq (cmp x y)) refl (apart_from x ys)
     where
@@ -145,17 +130,17 @@ module _ {X : Type 0} (cmp : X → X → Ordering) (total : IsTotalOrder cmp) wh
 
   pub kept-put : (p : X → Bool) (x : X) (xs : List X) → p x ≡ true → kept cmp p (taken_out cmp x xs ++ x ∷ []) ≡ put_in cmp x (kept cmp p xs)
   kept-put p x xs h =
-      let tail : filter p (taken_out cmp x xs ++ x ∷ []) ≡ filter p (taken_out cmp x xs) ++ x ∷ [] = one_more p x (taken_out cmp x xs) ∙ ap (λ b. filter p (taken_out cmp x xs) ++ cond b (x ∷ []) []) h in
+      let tail : filter p (taken_out cmp x xs ++ x ∷ []) ≡ filter p (taken_out cmp x xs) ++ x ∷ [] = filter-append p (taken_out cmp x xs) (x ∷ []) ∙ ap (λ b. filter p (taken_out cmp x xs) ++ cond b (x ∷ []) []) h in
       ap (sort_by cmp) tail
       ∙ sort_push x (filter p (taken_out cmp x xs)) (all-filter _ p _ (apart_from x xs))
-      ∙ ap (insert_sorted cmp x) (ap (sort_by cmp) (both_ways p (λ y. not (is_eq (cmp x y))) xs) ∙ sort-filter (λ y. not (is_eq (cmp x y))) (filter p xs))
+      ∙ ap (insert_sorted cmp x) (ap (sort_by cmp) (filter_swap p (λ y. not (is_eq (cmp x y))) xs) ∙ sort-filter (λ y. not (is_eq (cmp x y))) (filter p xs))
 
   pub kept-put_other : (p : X → Bool) (x : X) (xs : List X) → p x ≡ false → ((y : X) → p y ≡ true → is_eq (cmp x y) ≡ false) → kept cmp p (taken_out cmp x xs ++ x ∷ []) ≡ kept cmp p xs
   kept-put_other p x xs h apart =
-      ap (sort_by cmp) (one_more p x (taken_out cmp x xs) ∙ ap (λ b. filter p (taken_out cmp x xs) ++ cond b (x ∷ []) []) h ∙ Rattle.std.proofs.Common.append-nil _ ∙ none_out p x apart xs)
+      ap (sort_by cmp) (filter-append p (taken_out cmp x xs) (x ∷ []) ∙ ap (λ b. filter p (taken_out cmp x xs) ++ cond b (x ∷ []) []) h ∙ Rattle.std.proofs.Common.append-nil _ ∙ none_out p x apart xs)
 
   pub kept-out : (p : X → Bool) (x : X) (xs : List X) → kept cmp p (taken_out cmp x xs) ≡ taken_out cmp x (kept cmp p xs)
-  kept-out p x xs = ap (sort_by cmp) (both_ways p (λ y. not (is_eq (cmp x y))) xs) ∙ sort-filter (λ y. not (is_eq (cmp x y))) (filter p xs)
+  kept-out p x xs = ap (sort_by cmp) (filter_swap p (λ y. not (is_eq (cmp x y))) xs) ∙ sort-filter (λ y. not (is_eq (cmp x y))) (filter p xs)
 
   pub kept-out_other : (p : X → Bool) (x : X) (xs : List X) → ((y : X) → p y ≡ true → is_eq (cmp x y) ≡ false) → kept cmp p (taken_out cmp x xs) ≡ kept cmp p xs
   kept-out_other p x xs apart = ap (sort_by cmp) (none_out p x apart xs)
@@ -165,7 +150,7 @@ module _ {X : Type 0} (cmp : X → X → Ordering) (total : IsTotalOrder cmp) wh
   pub no_ties-out : (p : X → Bool) (xs : List X) → HasNoTies xs → HasNoTies (filter p xs)
   no_ties-out p xs apart = ascending-filter _ p xs apart
 
-  tied_turns : (x z : X) → is_eq (cmp x z) ≡ false → is_eq (cmp z x) ≡ false
+  pub tied_turns : (x z : X) → is_eq (cmp x z) ≡ false → is_eq (cmp z x) ≡ false
   tied_turns x z h = go (cmp x z) refl h
     where
       go : (o : Ordering) → cmp x z ≡ o → is_eq o ≡ false → is_eq (cmp z x) ≡ false
@@ -186,6 +171,21 @@ module _ {X : Type 0} (cmp : X → X → Ordering) (total : IsTotalOrder cmp) wh
 
   pub all-kept : (P : X → Type 0) (p : X → Bool) (xs : List X) → AllByRecursion P xs → AllByRecursion P (kept cmp p xs)
   all-kept P p xs all = all-sort P _ (all-filter P p xs all)
+
+  -- rows of which no two have one key rise once they are sorted
+  strict-insert : (new : X) (xs : List X) → AllByRecursion (λ y. is_eq (cmp new y) ≡ false) xs → IsAscending (λ a b. cmp a b ≡ Less) xs → IsAscending (λ a b. cmp a b ≡ Less) (insert_sorted cmp new xs)
+  strict-insert new [] apart up = (tt, tt)
+  strict-insert new (x ∷ xs) apart up = go (cmp new x) refl (strict-insert new xs apart.1 up.1)
+    where
+      go : (o : Ordering) → cmp new x ≡ o → IsAscending (λ a b. cmp a b ≡ Less) (insert_sorted cmp new xs)
+          → IsAscending (λ a b. cmp a b ≡ Less) (cond (is_gt o) (x ∷ insert_sorted cmp new xs) (new ∷ x ∷ xs))
+      go Less e more = ((e, all_weaker _ (λ y. cmp new y ≡ Less) (λ y. total.trans new x y e) xs up.0), up)
+      go Equal e more = absurd (true≢false (sym (ap is_eq e) ∙ apart.0))
+      go Greater e more = (all-insert (λ y. cmp x y ≡ Less) new xs (total.antisymm x new ∙ ap ordering_reverse e) up.0, more)
+
+  pub strict-sort : (xs : List X) → IsAscending (λ a b. is_eq (cmp a b) ≡ false) xs → IsAscending (λ a b. cmp a b ≡ Less) (sort_by cmp xs)
+  strict-sort [] apart = tt
+  strict-sort (x ∷ xs) apart = strict-insert x _ (all-sort _ xs apart.0) (strict-sort xs apart.1)
 
 -- ---- the same, read as values of another type
 

@@ -3,7 +3,7 @@ use Rattle.std.specs.List.{list_all}
 use Rattle.std.proofs.Common.{◌≡◌, ℕ, ℤ, ◌-◌, ◌^◌, nat_le, unwrap_or, Bool, true, false, not, cond, List, [], ◌∷◌, ◌++◌, map, filter, flat_map, refl, sym, ap, ◌∙◌, subst, Ordering, is_eq, IsPermutation, IsSorted, None, inl, inr, slice_get}
 use Rattle.std.proofs.lemmas.List.Sorted.{Contains-permutation, IsPermutation-sym}
 use Rattle.sqlite.specs.{Cast.{cast}, Effect.{Database}, Kind.TheVariants.{Integer}, Program.{overlay, given_at}}
-use Rattle.sqlite.specs.{Query.{Query, IsAnswer, Output, output, output_cmp, inner, end}, Tree.{Trees, rowid}}
+use Rattle.sqlite.specs.{Query.{IsAnswer, Output, output, output_cmp, inner, end}, Tree.{Trees, rowid}}
 use Rattle.sqlite_keyed.{specs.Lists.{sort_by}, proofs.ListLemmas.{all-filter, ascending-filter, ascending-map, map-map}}
 use Rattle.sqlite_keyed.proofs.SortLemmas.{sorted_is-sort_by, sort_by-map}
 use Rattle.sqlite_rules.{specs.Lists.{Has}, proofs.ListLemmas.{has_filtered, has_kept, has_contained, contains_had}}
@@ -26,9 +26,6 @@ pub overlay_none : (trees : Trees) (t : ℕ) → overlay trees [] t ≡ trees t
 overlay_none trees t = ap (λ o. unwrap_or o (trees t)) (none_given t)
 
 module _ (tree : ℕ) (tests project : List Term) (order : List (Term × Key)) where
-  abbrev pub the_query : Query
-  the_query = plain_query (inner tree end) tests project order
-
   abbrev pub shows : Row → Row → Output
   shows params r = output (plain_query (inner tree end) tests project order) (params ∷ r ∷ [])
 

@@ -12,8 +12,9 @@ use Rattle.sqlite_value.specs.declared.value.Value.TheVariants.{Null, Int, Text}
 use Rattle.plant_types.specs.KeyedRows.{put_row, remove_row, IsInOrder}
 use Rattle.plant_columns.specs.Kept.{taken_out, by_columns, plain_query, kept, is_of}
 use Rattle.plant_columns.specs.{Shape.{Shape, table_in, row_in, IsRowIn, rows_in, rows_passing}, Tidy.{AreRows, AreApart, IsTidy}}
-use Rattle.plant_columns.proofs.Shared.{tidy-put, tidy-out, put_mine, put_other, out_mine, out_other, in_order}
-use Rattle.plant_columns.proofs.public.{Changes.{HasNoReferences, KeepsOthers, deletes}, Kept.{all-kept, sort-filter}}
+use Rattle.plant_columns.proofs.Shared.{tidy-put, tidy-out, put_mine, put_other, out_mine, out_other, rising as risen}
+use Rattle.plant_columns.proofs.public.{Bridge.{AreRising, IsInOrder-rising}, Changes.{HasNoReferences, KeepsOthers, deletes}}
+use Rattle.plant_columns.proofs.public.Kept.{all-kept, sort-filter}
 use Rattle.plant_columns.proofs.public.{Keys.{HasKey, agree_is, by_columns_total}, Laws.{removes, passes, shows, reads, one_answer}}
 
 -- what is to be shown of one shape
@@ -114,8 +115,11 @@ module _ {X K : Type 0} (s : Shape X K) (good : IsShape s) where
       ap (map s.read) (ap (sort_by cmp) (filter_and (is_of unit) p rows) ∙ sort-filter cmp total p (filter (is_of unit) rows))
       ∙ filter_read p q same (kept cmp (is_of unit) rows) (all-kept cmp total (IsRowIn s) (is_of unit) rows all)
 
+  pub rising : (u : List ℕ) (rows : List Row) → IsTidy (IsRowIn s) (1 ∷ s.keys) rows → AreRising s.order s.key (rows_in s u rows)
+  rising u rows tidy = risen s.keys (IsRowIn s) s.order good.total s.key s.read named agrees_in u rows tidy
+
   pub rises : (u : List ℕ) (rows : List Row) → IsTidy (IsRowIn s) (1 ∷ s.keys) rows → IsInOrder s.order s.key (rows_in s u rows)
-  rises u rows tidy = in_order s.keys (IsRowIn s) s.order good.total s.key s.read named agrees_in u rows tidy
+  rises u rows tidy = IsInOrder-rising s.order s.key _ (rising u rows tidy)
 
   -- ---- the rows of one table, after a put or a remove
 

@@ -1,7 +1,8 @@
 -- What an UPDATE of the one row of a key does.
 use Rattle.std.specs.{Cmp.{IsTotalOrder}, List.{AllByRecursion}, Ordering.{match_ordering, ordering_reverse}}
 use Rattle.std.proofs.Common.{◌≡◌, ◌≢◌, inl, inr, ℕ, Bool, true, false, not, cond, List, [], ◌∷◌, ◌++◌, append-nil, map, filter, slice_get, None, Some, Ok, refl, sym, ap, ap₂, subst, ◌∙◌, true≢false, is_eq, Ordering, Less, Equal, Greater, IsPermutation, length, nat_eq, unwrap_or}
-use Rattle.std.proofs.lemmas.{Bool.{false_from_ne_true, not-true}, Cmp.{alike_right}, List.{length-map, Sorted.{length_permutation}}}
+use Rattle.std.proofs.lemmas.{Bool.{false_from_ne_true, not-true}, Cmp.{alike_right}}
+use Rattle.std.proofs.lemmas.List.{length-map, nil_from_length, Elements.{filter-append}, Sorted.{length_permutation}}
 use Rattle.sqlite.specs.{Cast.{cast, cast_row}, Command.TheVariants.{Update}, Does.{Tally, Does, OnRows, AtPlace}, Edit.{edit_of}, Effect.{Database}}
 use Rattle.sqlite.specs.{Kind.TheVariants.{Integer}, Listing.{understood}, Order.{Row}, Program.{overlay}}
 use Rattle.sqlite.specs.{Query.{Query, IsAnswer, Output, inner, end}, Rowids.TheVariants.{Given}, Rows.{Written}, Schema.{Schema}}
@@ -14,9 +15,11 @@ use Rattle.sqlite_trees.{specs.View.{is_int}, proofs.TreeLemmas.{IsTable-put_row
 use Rattle.sqlite_value.specs.{Order.{bytes, column, value_cmp}, declared.value.Value.{Value, TheVariants.{Null}}}
 use Rattle.plant_columns.specs.{Kept.{taken_out, by_columns, is_of, kept, plain_query}, Shape.{Shape, table_in, row_in, IsRowIn, rows_in}}
 use Rattle.plant_columns.{specs.Tidy.{AreRows, AreApart, IsTidy}, proofs.{Rows.{AreFound, without_found}, Shared.{put_mine, put_other}}}
-use Rattle.plant_columns.proofs.public.{Changes.{went, same_value, KeepsOthers, HasNoReferences, lone_step}, Kept.{HasNoTies, sort_push, no_ties-out}}
+use Rattle.plant_columns.proofs.public.Changes.{went, same_value, KeepsOthers, HasNoReferences, lone_step}
+use Rattle.plant_columns.proofs.public.Kept.{HasNoTies, apart_from, no_ties-out, sort_push, tied_turns}
 use Rattle.plant_columns.proofs.public.{Keys.{by_columns_total}, Laws.{cast_int, reads, passes, shows}}
 use Rattle.plant_columns.proofs.public.Shapes.{IsShape, IsListed, agrees_in, is_row, named}
+use Rattle.plant_types.proofs.public.KeyedRowLaws.{tied}
 use Rattle.plant_types.specs.KeyedRows as model
 
 -- The rows that are answered are taken out by their rowids, and what is to stand for them is put in.
@@ -61,26 +64,13 @@ updates schema free text params old new at table q has listed is plain count h =
 
 -- ---- a row put where its rowid says
 
-one_more : (p : Row → Bool) (x : Row) (xs : List Row) → filter p (xs ++ x ∷ []) ≡ filter p xs ++ cond (p x) (x ∷ []) []
-one_more p x [] = refl
-one_more p x (y ∷ ys) = elim (p y) as (λ b. cond b (y ∷ filter p (ys ++ x ∷ [])) (filter p (ys ++ x ∷ [])) ≡ cond b (y ∷ filter p ys) (filter p ys) ++ cond (p x) (x ∷ []) [])
-    [ true ↦ ap (λ l. y ∷ l) (one_more p x ys) | false ↦ one_more p x ys ]
-
-pub equal_when : (o : Ordering) → is_eq o ≡ true → o ≡ Equal
-equal_when Less h = absurd (true≢false (sym h))
-equal_when Equal h = refl
-equal_when Greater h = absurd (true≢false (sym h))
-
-alike_left : (cmp : Row → Row → Ordering) → IsTotalOrder cmp → (x e y : Row) → cmp x e ≡ Equal → cmp x y ≡ cmp e y
-alike_left cmp total x e y h = total.antisymm x y ∙ ap ordering_reverse (alike_right total x e y h) ∙ sym (total.antisymm e y)
-
 module _ (cmp : Row → Row → Ordering) (total : IsTotalOrder cmp) (p : Row → Bool) (x : Row) where
   pushed : (l : List Row) → AllByRecursion (λ z. is_eq (cmp x z) ≡ false) l → (b : Bool) → sort_by cmp (cond b (x ∷ filter p l) (filter p l)) ≡ sort_by cmp (filter p l ++ cond b (x ∷ []) [])
   pushed l apart true = sym (sort_push cmp total x (filter p l) (all-filter _ p l apart))
   pushed l apart false = ap (sort_by cmp) (sym (append-nil (filter p l)))
 
   ties_alike : (y : Row) → is_eq (cmp x y) ≡ true → (z : Row) → cmp x z ≡ cmp y z
-  ties_alike y h z = alike_left cmp total x y z (equal_when _ h)
+  ties_alike y h z = total.antisymm x z ∙ ap ordering_reverse (alike_right total x y z (tied _ _ h refl)) ∙ sym (total.antisymm y z)
 
   -- sorted, a row that lies elsewhere lies in its place all the same
   pub kept-placed : (zs : List Row) → AllByRecursion (λ z. is_eq (value_cmp (rowid z) (rowid x)) ≡ false) zs → AllByRecursion (λ z. is_eq (cmp x z) ≡ false) zs → kept cmp p (put_row x zs) ≡ kept cmp p (zs ++ x ∷ [])
@@ -92,15 +82,7 @@ module _ (cmp : Row → Row → Ordering) (total : IsTotalOrder cmp) (p : Row �
       go Less e more = elim (p z) as (λ b. sort_by cmp (cond b (z ∷ filter p (put_row x zs)) (filter p (put_row x zs))) ≡ sort_by cmp (cond b (z ∷ filter p (zs ++ x ∷ [])) (filter p (zs ++ x ∷ []))))
           [ true ↦ ap (insert_sorted cmp z) more | false ↦ more ]
       go Equal e more = absurd (true≢false (sym (ap is_eq e) ∙ far.0))
-      go Greater e more = pushed (z ∷ zs) apart (p x) ∙ sym (ap (sort_by cmp) (one_more p x (z ∷ zs)))
-
-  ties_turn : (z : Row) → is_eq (cmp x z) ≡ false → is_eq (cmp z x) ≡ false
-  ties_turn z h = ap is_eq (total.antisymm z x) ∙ turned (cmp x z) ∙ h
-    where
-      turned : (o : Ordering) → is_eq (ordering_reverse o) ≡ is_eq o
-      turned Less = refl
-      turned Equal = refl
-      turned Greater = refl
+      go Greater e more = pushed (z ∷ zs) apart (p x) ∙ sym (ap (sort_by cmp) (filter-append p (z ∷ zs) (x ∷ [])))
 
   -- those that tie with x are one
   pub lone : (rows : List Row) → HasNoTies cmp total rows → (r : Row) → Has rows r → is_eq (cmp x r) ≡ true → filter (λ y. is_eq (cmp x y)) rows ≡ r ∷ []
@@ -119,7 +101,7 @@ no_ties-placed cmp total x [] far apart = (tt, tt)
 no_ties-placed cmp total x (z ∷ zs) far apart = go (value_cmp (rowid z) (rowid x)) (no_ties-placed cmp total x zs far.1 apart.1)
   where
     go : (o : Ordering) → HasNoTies cmp total (put_row x zs) → HasNoTies cmp total (match_ordering o (z ∷ put_row x zs) (x ∷ zs) (x ∷ z ∷ zs))
-    go Less more = (all-put_row (λ y. is_eq (cmp z y) ≡ false) x zs (ties_turn cmp total (λ y. true) x z far.0) apart.0, more)
+    go Less more = (all-put_row (λ y. is_eq (cmp z y) ≡ false) x zs (tied_turns cmp total x z far.0) apart.0, more)
     go Equal more = (far.1, apart.1)
     go Greater more = (far, apart)
 
@@ -165,7 +147,7 @@ module _ {X K : Type 0} (s : Shape X K) (good : IsShape s) (schema : Schema) (fr
         id = rowid r;
         far = all_from _ (filter (λ y. not (p y)) rows) (λ y e.
             let k = has_filtered (λ y. not (p y)) rows y e in
-            false_from_ne_true _ (λ q. true≢false (sym tie ∙ ap p (sym (tied_same rows y r are.rise k.0 there (equal_when _ q))) ∙ not-true (p y) k.1)));
+            false_from_ne_true _ (λ q. true≢false (sym tie ∙ ap p (sym (tied_same rows y r are.rise k.0 there (tied _ _ q refl))) ∙ not-true (p y) k.1)));
         rows = whole;
         are = subst AreRows (sym whole) (record {
           rise = IsTable-put_row (row_in s (rowid r) u x) _ kept_are.rise;
@@ -186,10 +168,6 @@ pub record Leaves (schema : Schema) (tree : ℕ) (old new : Database) : Type 0 w
   pub others : KeepsOthers schema tree old.trees new.trees
   pub same_schema : new.schema ≡ schema
 
-none_long : {X : Type 0} (xs : List X) → 0 ≡ length xs → xs ≡ []
-none_long [] e = refl
-none_long (x ∷ xs) e = cc
-
 module _ {X K : Type 0} (s : Shape X K) (schema : Schema) (free : HasNoReferences schema) (listed : IsListed schema s) where
   -- the count is that of the rows that pass
   pub counts : (text : List ℕ) (tests project : List Term) → command_of (understood schema text) ≡ Update s.place (record { lets = []; body = plain_query (inner s.tree end) tests project [] }) → IsPlain (understood schema text)
@@ -204,7 +182,7 @@ module _ {X K : Type 0} (s : Shape X K) (schema : Schema) (free : HasNoReference
       → (params : Row) (old new : State) → old.now.schema ≡ schema → Executes text params old new (Ok 0) → Leaves schema s.tree old.now new.now
   leaves text tests project is plain_text params old new has h =
       let it = updates schema free text params old new s.place (table_in s) (plain_query (inner s.tree end) tests project []) has listed.at is plain_text 0 h in
-      let none : it.found ≡ [] = none_long it.found it.counted in
+      let none : it.found ≡ [] = nil_from_length it.found (sym it.counted) in
       record {
         rows = it.rows ∙ ap (λ (found : List Row). put_all (without_all (old.now.trees s.tree) (ids_of found)) (map (λ (s' : Row). cast_row (table_in s) (Rattle.std.proofs.Common.drop 1 s')) found)) none;
         others = it.others;
@@ -244,17 +222,14 @@ module _ {X K : Type 0} (s : Shape X K) (good : IsShape s) (schema : Schema) (u 
   abbrev left : List Row
   left = taken_out (by_columns (1 ∷ s.keys)) (row_in s it.id u x) (old.trees s.tree)
 
-  left_apart : AllByRecursion (λ z. is_eq (by_columns (1 ∷ s.keys) (row_in s it.id u x) z) ≡ false) left
-  left_apart = all_from _ left (λ z h. let k = has_filtered (λ y. not (is_eq (by_columns (1 ∷ s.keys) (row_in s it.id u x) y))) (old.trees s.tree) z h in false_from_ne_true _ (λ e. true≢false (sym k.1 ∙ ap not e)))
-
   placed : (v : List ℕ) → rows_in s v (new.trees s.tree) ≡ rows_in s v (left ++ row ∷ [])
-  placed v = ap (rows_in s v) it.rows ∙ ap (map s.read) (kept-placed cmp (by_columns_total (1 ∷ s.keys)) (is_of v) row left it.far left_apart)
+  placed v = ap (rows_in s v) it.rows ∙ ap (map s.read) (kept-placed cmp (by_columns_total (1 ∷ s.keys)) (is_of v) row left it.far (apart_from cmp (by_columns_total (1 ∷ s.keys)) row (old.trees s.tree)))
 
   pub tidy_after_set : IsTidy (IsRowIn s) (1 ∷ s.keys) (new.trees s.tree)
   tidy_after_set = subst (IsTidy (IsRowIn s) (1 ∷ s.keys)) (sym it.rows) (record {
     are = subst AreRows it.rows it.are;
     each = all-put_row (IsRowIn s) row left (is_row s good it.id u x) (all-filter (IsRowIn s) _ (old.trees s.tree) tidy.each);
-    apart = no_ties-placed cmp (by_columns_total (1 ∷ s.keys)) row left left_apart (no_ties-out cmp (by_columns_total (1 ∷ s.keys)) _ (old.trees s.tree) tidy.apart);
+    apart = no_ties-placed cmp (by_columns_total (1 ∷ s.keys)) row left (apart_from cmp (by_columns_total (1 ∷ s.keys)) row (old.trees s.tree)) (no_ties-out cmp (by_columns_total (1 ∷ s.keys)) _ (old.trees s.tree) tidy.apart);
   })
 
   pub mine_after_set : rows_in s u (new.trees s.tree) ≡ model.put_row s.order s.key x (rows_in s u (old.trees s.tree))

@@ -1,130 +1,37 @@
 -- New numbers, each counted once, and events put twice.
-use Rattle.std.specs.{BTreeSet.{insert_key}, Cmp.{eq_by_cmp_equiv, nat_cmp_total, ranked, unsigned_tied}, FinMap.Entries.{by_order}, List.{list_any}}
-use Rattle.std.specs.Ordering.{eq_by_cmp, match_ordering}
-use Rattle.std.proofs.Common.{ap, arith, cond, drop, get_or, refl, subst, sym, ◌∙◌, inl, inr, ◌⊎◌, nat_cmp, Equal, Greater, Less, Bool, Err, IfOk, List, None, Ok, Option, Result, Some, [], nat_lt, false, filter, if◌then◌else◌, length, not, option_map, suc, true, ℕ, ◌&&◌, ◌++◌, ◌+◌, ◌-◌, ◌<◌, ◌==◌, ◌∷◌, ◌≡◌, ◌≤◌, ◌||◌}
-use Rattle.std.proofs.lemmas.{Bool.{cases_lt, or_parts}, List.{drop_more, Folds.{list_any-append}}}
+use Rattle.std.specs.{BTreeSet.{IsOrdered, Updates, contains}, Cmp.{IsEquivalence, eq_by_cmp_equiv, nat_cmp_total, unsigned_tied}, List.{IsDistinct, list_any}}
+use Rattle.std.specs.Ordering.{eq_by_cmp}
+use Rattle.std.proofs.Common.{take, ◌<◌, arith, length, get_or, BTreeSet, btree_set_len, true≢false, ap, cond, refl, subst, sym, ◌∙◌, nat_cmp, Bool, Err, IfOk, List, None, Ok, Option, Result, Some, [], nat_lt, false, filter, if◌then◌else◌, not, option_map, true, ℕ, ◌&&◌, ◌++◌, ◌+◌, ◌-◌, ◌==◌, ◌∷◌, ◌≡◌, ◌||◌}
+use Rattle.std.proofs.{Math.Bool.{and-false, or-true}, lemmas.{Bool.{or_parts}, List.{length-map, Folds.{list_any-append, list_any_more}}, Map.{Made.{length-from_keys}, Views.{btree_set_len-from_list}}}}
 use Rattle.plant_alarm.specs.declared.event.Event.{Event}
 use Rattle.plant_import.specs.{Fields.{first_cause}, Merging.{clashes, first_fault, fresh, merge_fault, out_of_order, same_event}}
 use Rattle.plant_import.specs.{Numbers.{event_number, has_number, new_numbers, numbers_of, with_events}, Reading.{bad}}
 use Rattle.plant_import.specs.declared.bad_file.{BadFile.{BadFile}, Cause.{Cause}}
 use Rattle.plant_import.specs.declared.bad_file.Cause.TheVariants.{MomentAhead, MomentOutOfOrder, SequenceClash, TagUnknown}
-use Rattle.plant_import.proofs.public.Placed.{AllAbove, Rises, above_it, other_above, put_before, put_behind, put_over, rises_of}
-use Rattle.plant_types.specs.{KeyedRows.{IsInOrder, in_order, put_row, remove_row, row_at}, Names.{Name, same_name}, Options.{or_else, when}}
-use Rattle.plant_types.proofs.public.KeyedRowLaws.{IsInOrder-put_row, IsInOrder-remove_row, row_at-put_row, row_at-remove_row, same_rows, tied}
+use Rattle.plant_import.proofs.public.EachLaws.{each_not}
+use Rattle.plant_import.proofs.public.Placed.{AllAbove, Rises, other_above, rises_of}
+use Rattle.plant_types.specs.{KeyedRows.{IsInOrder, put_row, row_at}, Names.{Name, same_name}, Options.{or_else, when}}
+use Rattle.plant_types.proofs.public.KeyedRowLaws.{IsInOrder-put_row, row_at-put_row, same_rows, tied}
 use Rattle.plant_types.proofs.public.Orders.{same_numbers}
 
 abbrev ties : ℕ → ℕ → Bool
 ties m n = eq_by_cmp nat_cmp m n
 
+numbers_tie : IsEquivalence ties
+numbers_tie = eq_by_cmp_equiv nat_cmp_total
+
 same_of : (m n : ℕ) → ties m n ≡ true → m ≡ n
 same_of m n t = same_numbers m n (tied (nat_cmp m n) true t refl)
 
 pub turned : (m n : ℕ) → ties m n ≡ ties n m
-turned m n = (eq_by_cmp_equiv nat_cmp_total).symm m n
+turned m n = numbers_tie.symm m n
 
--- a set of numbers, one more put in
-pub put_key : (n : ℕ) (ks : List ℕ) → insert_key nat_cmp ks n ≡ put_row nat_cmp (λ m. m) n ks
-put_key n [] = refl
-put_key n (k ∷ ks) =
-    elim (nat_cmp n k) as (λ o. o ≡ nat_cmp n k → match_ordering o (n ∷ k ∷ ks) (k ∷ ks) (k ∷ insert_key nat_cmp ks n) ≡ by_order o (n ∷ k ∷ ks) (n ∷ ks) (k ∷ put_row nat_cmp (λ m. m) n ks)) [
-      | Less ↦ λ _. refl
-      | Equal ↦ λ is. ap (λ m. m ∷ ks) (sym (ranked n k Equal is))
-      | Greater ↦ λ _. ap (λ l. k ∷ l) (put_key n ks)
-    ] refl
+-- the numbers of rows that no kept event has
+abbrev is_other : List Event → Event → Bool
+is_other kept x = not (list_any (has_number x.seq) kept)
 
--- numbers in order
-pub order_of : (ks : List ℕ) → IsInOrder nat_cmp (λ m. m) (in_order nat_cmp ks)
-order_of [] = tt
-order_of (k ∷ ks) = IsInOrder-put_row nat_cmp (λ m. m) nat_cmp_total same_numbers k (in_order nat_cmp ks) (order_of ks)
-
-at_number : (q : ℕ) (ks : List ℕ) → row_at nat_cmp (λ m. m) q (in_order nat_cmp ks) ≡ (if list_any (ties q) ks then Some q else None)
-at_number q [] = refl
-at_number q (k ∷ ks) =
-    row_at-put_row nat_cmp (λ m. m) nat_cmp_total same_numbers q k (in_order nat_cmp ks) ∙ ap (cond (ties q k) (Some k)) (at_number q ks)
-    ∙ elim (ties q k) as (λ b. ties q k ≡ b → cond b (Some k) (if list_any (ties q) ks then Some q else None) ≡ (if b || list_any (ties q) ks then Some q else None)) [
-      | true ↦ λ t. ap (λ m. let o : Option ℕ = Some m in o) (sym (same_of q k t))
-      | false ↦ λ _. refl
-    ] refl
-
-any_without : (q n : ℕ) (ks : List ℕ) → list_any (ties q) (filter (λ k. not (ties n k)) ks) ≡ (not (ties q n) && list_any (ties q) ks)
-any_without q n [] = elim (ties q n) as (λ b. false ≡ (not b && false)) [ true ↦ refl | false ↦ refl ]
-any_without q n (k ∷ ks) =
-    elim (ties n k) as (λ b. ties n k ≡ b → list_any (ties q) (if not b then k ∷ filter (λ k. not (ties n k)) ks else filter (λ k. not (ties n k)) ks) ≡ (not (ties q n) && (ties q k || list_any (ties q) ks))) [
-      | true ↦ λ t. any_without q n ks ∙ by (ties q n) (ties q k) (list_any (ties q) ks) (ap (ties q) (same_of n k t))
-      | false ↦ λ t. ap (λ b. ties q k || b) (any_without q n ks)
-          ∙ elim (ties q n) as (λ b. ties q n ≡ b → (ties q k || (not b && list_any (ties q) ks)) ≡ (not b && (ties q k || list_any (ties q) ks))) [
-            | true ↦ λ e. ap (λ b. b || false) (ap (λ m. ties m k) (same_of q n e) ∙ t)
-            | false ↦ λ _. refl
-          ] refl
-    ] refl
-  where
-    by : (a b c : Bool) → a ≡ b → (not a && c) ≡ (not a && (b || c))
-    by true b c e = refl
-    by false true c e = cc
-    by false false c e = refl
-
-in_order_without : (n : ℕ) (ks : List ℕ) → in_order nat_cmp (filter (λ k. not (ties n k)) ks) ≡ remove_row nat_cmp (λ m. m) n (in_order nat_cmp ks)
-in_order_without n ks =
-    same_rows nat_cmp (λ m. m) nat_cmp_total same_numbers _ _ (order_of (filter (λ k. not (ties n k)) ks)) (IsInOrder-remove_row nat_cmp (λ m. m) nat_cmp_total same_numbers n _ (order_of ks))
-    (λ q. at_number q (filter (λ k. not (ties n k)) ks) ∙ ap (λ b. if b then Some q else None) (any_without q n ks)
-    ∙ by q (ties q n) (list_any (ties q) ks) ∙ ap (cond (ties q n) None) (sym (at_number q ks)) ∙ sym (row_at-remove_row nat_cmp (λ m. m) nat_cmp_total same_numbers q n (in_order nat_cmp ks)))
-  where
-    by : (q : ℕ) (a b : Bool) → (if not a && b then Some q else None) ≡ cond a None (if b then Some q else None)
-    by q true b = refl
-    by q false b = refl
-
--- one more number among those without it
-keeps_above : (n : ℕ) (xs : List ℕ) → AllAbove (λ m. m) n xs → filter (λ k. not (ties n k)) xs ≡ xs
-keeps_above n [] h = refl
-keeps_above n (x ∷ xs) h =
-    elim (ties n x) as (λ b. ties n x ≡ b → (if not b then x ∷ filter (λ k. not (ties n k)) xs else filter (λ k. not (ties n k)) xs) ≡ x ∷ xs) [
-      | true ↦ λ t. let same = same_of n x t in absurd (omega (arith, same, h.0))
-      | false ↦ λ _. ap (λ l. x ∷ l) (keeps_above n xs h.1)
-    ] refl
-
-all_higher : (m n : ℕ) → m < n → (xs : List ℕ) → AllAbove (λ k. k) n xs → AllAbove (λ k. k) m xs
-all_higher m n lt [] h = tt
-all_higher m n lt (x ∷ xs) h = (omega (arith, lt, h.0), all_higher m n lt xs h.1)
-
-abbrev left : ℕ → List ℕ → List ℕ
-left n xs = filter (λ k. not (ties n k)) xs
-
-length_before : (n x : ℕ) (xs : List ℕ) → n < x → Rises (λ k. k) (x ∷ xs) → length (put_row nat_cmp (λ k. k) n (x ∷ xs)) ≡ suc (length (left n (x ∷ xs)))
-length_before n x xs lt h = ap length (put_before (λ k. k) n x xs lt) ∙ ap (λ l. suc (length l)) (sym (keeps_above n (x ∷ xs) (lt, all_higher n x lt xs h.0)))
-
-length_from : (n x : ℕ) (xs : List ℕ) → x ≤ n → Rises (λ k. k) (x ∷ xs) → length (put_row nat_cmp (λ k. k) n xs) ≡ suc (length (left n xs)) → length (put_row nat_cmp (λ k. k) n (x ∷ xs)) ≡ suc (length (left n (x ∷ xs)))
-length_from n x xs le h rest =
-    elim (ties n x) as (λ b. ties n x ≡ b → length (put_row nat_cmp (λ k. k) n (x ∷ xs)) ≡ suc (length (if not b then x ∷ left n xs else left n xs))) [
-      | true ↦ λ t. let same : n ≡ x = same_of n x t in
-          ap length (put_over (λ k. k) n x xs same) ∙ ap (λ l. suc (length l)) (sym (keeps_above n xs (subst (λ (m : ℕ). AllAbove (λ k. k) m xs) (sym same) h.0)))
-      | false ↦ λ f. let lt : x < n = above_it x n le (turned x n ∙ f) in
-          ap length (put_behind (λ k. k) n x xs lt) ∙ ap suc rest
-    ] refl
-
-length_put : (n : ℕ) (xs : List ℕ) → Rises (λ k. k) xs → length (put_row nat_cmp (λ k. k) n xs) ≡ suc (length (left n xs))
-length_put n [] h = refl
-length_put n (x ∷ xs) h = by (cases_lt n x) (length_put n xs h.1)
-  where
-    by : (n < x) ⊎ (x ≤ n) → length (put_row nat_cmp (λ k. k) n xs) ≡ suc (length (left n xs)) → length (put_row nat_cmp (λ k. k) n (x ∷ xs)) ≡ suc (length (left n (x ∷ xs)))
-    by (inl lt) rest = length_before n x xs lt h
-    by (inr le) rest = length_from n x xs le h rest
-
-last_drop : (rows : List Event) (i : ℕ) (d : Event) → 0 < i → i ≤ length rows → d ≡ get_or rows (i - 1) d → drop (i - 1) rows ≡ d ∷ drop i rows
-last_drop rows i d some le is =
-    let at : i - 1 + 1 ≡ i = omega (arith, some) in
-    drop_more rows (i - 1) d (omega (arith, some, le)) ∙ ap (λ k. get_or rows (i - 1) d ∷ drop k rows) at ∙ ap (λ x. x ∷ drop i rows) (sym is)
-
-new_in_order : (kept rows : List Event) → IsInOrder nat_cmp (λ m. m) (new_numbers kept rows)
-new_in_order kept rows = order_of (numbers_of (filter (λ x. not (list_any (has_number x.seq) kept)) rows))
-
--- with one more row
-pub new_more : (kept rows : List Event) (e : Event) → list_any (has_number e.seq) kept ≡ false → new_numbers kept (e ∷ rows) ≡ put_row nat_cmp (λ m. m) e.seq (new_numbers kept rows)
-new_more kept rows e h =
-    ap (λ b. in_order nat_cmp (numbers_of (if not b then e ∷ filter (λ x. not (list_any (has_number x.seq) kept)) rows else filter (λ x. not (list_any (has_number x.seq) kept)) rows))) h
-
-pub new_same : (kept rows : List Event) (e : Event) → list_any (has_number e.seq) kept ≡ true → new_numbers kept (e ∷ rows) ≡ new_numbers kept rows
-new_same kept rows e h =
-    ap (λ b. in_order nat_cmp (numbers_of (if not b then e ∷ filter (λ x. not (list_any (has_number x.seq) kept)) rows else filter (λ x. not (list_any (has_number x.seq) kept)) rows))) h
+abbrev pub numbers_left : List Event → List Event → List ℕ
+numbers_left kept rows = numbers_of (filter (is_other kept) rows)
 
 -- a row without clash is one of the others where one of them has its number
 whole_or_none : (a m t k : Bool) → (a && not (((a && m) && t) && k)) ≡ false → (((a && m) && t) && k) ≡ a
@@ -157,65 +64,107 @@ pub no_first : (line : ℕ) (o : Option Cause) (rest : Option BadFile) → or_el
 no_first line None rest e = (refl, e)
 no_first line (Some c) rest e = cc
 
--- rows by their numbers, beside one more event
-abbrev is_other : List Event → Event → Bool
-is_other kept x = not (list_any (has_number x.seq) kept)
+-- the numbers of new rows, which are those that are left
+any_numbers : (n : ℕ) (es : List Event) → list_any (ties n) (numbers_of es) ≡ list_any (has_number n) es
+any_numbers n [] = refl
+any_numbers n (e ∷ es) = ap (λ b. has_number n e || b) (any_numbers n es)
 
-other_too : (kept : List Event) (e x : Event) → is_other (kept ++ e ∷ []) x ≡ (not (ties e.seq x.seq) && is_other kept x)
-other_too kept e x =
-    ap not (list_any-append (has_number x.seq) kept (e ∷ [])) ∙ ap (λ b. not (list_any (has_number x.seq) kept || (b || false))) (turned x.seq e.seq)
-    ∙ by (list_any (has_number x.seq) kept) (ties e.seq x.seq)
+settles : (o e k r : Bool) → (e ≡ true → o ≡ k) → (if not o then e || (not k && r) else not k && r) ≡ (not k && (e || r))
+settles true true true r h = refl
+settles true true false r h = absurd (true≢false (h refl))
+settles true false k r h = refl
+settles false true true r h = absurd (true≢false (sym (h refl)))
+settles false true false r h = refl
+settles false false k r h = refl
+
+any_left : (n : ℕ) (kept rows : List Event) → list_any (ties n) (numbers_left kept rows) ≡ (not (list_any (has_number n) kept) && list_any (has_number n) rows)
+any_left n kept [] = sym (and-false _)
+any_left n kept (x ∷ rows) =
+    elim (list_any (has_number x.seq) kept) as (λ o. list_any (ties n) (numbers_of (if not o then x ∷ filter (is_other kept) rows else filter (is_other kept) rows)) ≡ (if not o then ties n x.seq || list_any (ties n) (numbers_left kept rows) else list_any (ties n) (numbers_left kept rows))) [ true ↦ refl | false ↦ refl ]
+    ∙ ap (λ b. if not (list_any (has_number x.seq) kept) then ties n x.seq || b else b) (any_left n kept rows)
+    ∙ settles _ (ties n x.seq) (list_any (has_number n) kept) (list_any (has_number n) rows) (λ t. ap (λ m. list_any (has_number m) kept) (sym (same_of n x.seq t)))
+
+any_fresh : (tags : List Name) (now line : ℕ) (kept rows : List Event) → first_fault tags now line kept rows ≡ None → (n : ℕ) → list_any (has_number n) (fresh kept rows) ≡ (not (list_any (has_number n) kept) && list_any (has_number n) rows)
+any_fresh tags now line kept [] none n = sym (and-false _)
+any_fresh tags now line kept (e ∷ rows) none n =
+    let parts = no_first line (merge_fault tags now kept e) _ none in
+    let same = same_by_number e kept (row_fits tags now kept e parts.0).0 in
+    let rest = any_fresh tags now (line + 1) (kept ++ e ∷ []) rows parts.1 n ∙ ap (λ b. not b && list_any (has_number n) rows) (list_any-append (has_number n) kept (e ∷ [])) in
+    elim (list_any (same_event e) kept) as (λ o. list_any (has_number n) ((if not o then e ∷ [] else []) ++ fresh (kept ++ e ∷ []) rows) ≡ (if not o then has_number n e || list_any (has_number n) (fresh (kept ++ e ∷ []) rows) else list_any (has_number n) (fresh (kept ++ e ∷ []) rows))) [ true ↦ refl | false ↦ refl ]
+    ∙ (λ i. if not (same i) then has_number n e || rest i else rest i)
+    ∙ by (list_any (has_number e.seq) kept) (has_number n e) (list_any (has_number n) kept) (list_any (has_number n) rows) (λ t. ap (λ m. list_any (has_number m) kept) (sym (same_of n e.seq t)))
   where
-    by : (a b : Bool) → not (a || (b || false)) ≡ (not b && not a)
-    by true true = refl
-    by true false = refl
-    by false true = refl
-    by false false = refl
+    by : (o e k r : Bool) → (e ≡ true → o ≡ k) → (if not o then e || (not (k || (e || false)) && r) else not (k || (e || false)) && r) ≡ (not k && (e || r))
+    by true true true r h = refl
+    by true true false r h = absurd (true≢false (h refl))
+    by true false true r h = refl
+    by true false false r h = refl
+    by false true true r h = absurd (true≢false (sym (h refl)))
+    by false true false r h = refl
+    by false false true r h = refl
+    by false false false r h = refl
 
-numbers_without : (kept rows : List Event) (e : Event) → numbers_of (filter (is_other (kept ++ e ∷ [])) rows) ≡ filter (λ k. not (ties e.seq k)) (numbers_of (filter (is_other kept) rows))
-numbers_without kept [] e = refl
-numbers_without kept (x ∷ rows) e =
-    let rest = numbers_without kept rows e in
-    ap (λ b. numbers_of (if b then x ∷ filter (is_other (kept ++ e ∷ [])) rows else filter (is_other (kept ++ e ∷ [])) rows)) (other_too kept e x)
-    ∙ by (ties e.seq x.seq) refl (is_other kept x) rest
-  where
-    by : (a : Bool) → ties e.seq x.seq ≡ a → (b : Bool) → numbers_of (filter (is_other (kept ++ e ∷ [])) rows) ≡ filter (λ k. not (ties e.seq k)) (numbers_of (filter (is_other kept) rows))
-        → numbers_of (if not a && b then x ∷ filter (is_other (kept ++ e ∷ [])) rows else filter (is_other (kept ++ e ∷ [])) rows)
-        ≡ filter (λ k. not (ties e.seq k)) (numbers_of (if b then x ∷ filter (is_other kept) rows else filter (is_other kept) rows))
-    by true t true rest = rest ∙ sym (ap (λ c. if not c then x.seq ∷ filter (λ k. not (ties e.seq k)) (numbers_of (filter (is_other kept) rows)) else filter (λ k. not (ties e.seq k)) (numbers_of (filter (is_other kept) rows))) t)
-    by true t false rest = rest
-    by false t true rest =
-        ap (λ l. x.seq ∷ l) rest ∙ sym (ap (λ c. if not c then x.seq ∷ filter (λ k. not (ties e.seq k)) (numbers_of (filter (is_other kept) rows)) else filter (λ k. not (ties e.seq k)) (numbers_of (filter (is_other kept) rows))) t)
-    by false t false rest = rest
+-- a set with the numbers of the rows that are left
+abbrev pub AreLeft : List Event → List Event → BTreeSet ℕ → Type 0
+AreLeft kept rows numbers = (n : ℕ) → contains nat_cmp numbers n ≡ (not (list_any (has_number n) kept) && list_any (has_number n) rows)
 
--- the numbers that are new beside an event: those that are new without it, except its own
-beside : (kept rows : List Event) (e : Event) → new_numbers (kept ++ e ∷ []) rows ≡ remove_row nat_cmp (λ m. m) e.seq (new_numbers kept rows)
-beside kept rows e = ap (in_order nat_cmp) (numbers_without kept rows e) ∙ in_order_without e.seq (numbers_of (filter (is_other kept) rows))
+none_has : (n : ℕ) (ks : List ℕ) → length ks ≡ 0 → list_any (ties n) ks ≡ false
+none_has n [] e = refl
+none_has n (k ∷ ks) e = absurd (omega (arith, e))
 
-known_beside : (kept rows : List Event) (e : Event) → list_any (has_number e.seq) kept ≡ true → new_numbers (kept ++ e ∷ []) rows ≡ new_numbers kept rows
-known_beside kept rows e h = ap (λ l. in_order nat_cmp (numbers_of l)) (same_filter rows)
-  where
-    alike : (x : Event) (a : Bool) → ties e.seq x.seq ≡ a → (not a && is_other kept x) ≡ is_other kept x
-    alike x true t = sym (ap not (ap (λ n. list_any (has_number n) kept) (sym (same_of e.seq x.seq t)) ∙ h))
-    alike x false t = refl
+pub none_left : (kept : List Event) (numbers : BTreeSet ℕ) → btree_set_len numbers ≡ 0 → AreLeft kept [] numbers
+none_left kept numbers none n = none_has n numbers.keys none ∙ sym (and-false _)
 
-    same_filter : (xs : List Event) → filter (is_other (kept ++ e ∷ [])) xs ≡ filter (is_other kept) xs
-    same_filter [] = refl
-    same_filter (x ∷ xs) = λ i. if (other_too kept e x ∙ alike x (ties e.seq x.seq) refl) i then x ∷ same_filter xs i else same_filter xs i
+module _ (kept rows : List Event) (i : ℕ) (e : Event) (lt : i < length rows) (is : e ≡ get_or rows i e) where
+  more : (n : ℕ) → list_any (has_number n) (take (i + 1) rows) ≡ (list_any (has_number n) (take i rows) || ties n e.seq)
+  more n = list_any_more (has_number n) rows i e lt ∙ ap (λ x. list_any (has_number n) (take i rows) || has_number n x) (sym is)
+
+  pub put_left : (numbers new : BTreeSet ℕ) → list_any (has_number e.seq) kept ≡ false → Updates nat_cmp numbers new e.seq true → AreLeft kept (take i rows) numbers → AreLeft kept (take (i + 1) rows) new
+  put_left numbers new other put so n =
+      put.0 n ∙ (λ j. cond (turned e.seq n j) true (so n j))
+      ∙ by (ties n e.seq) _ (list_any (has_number n) (take i rows)) (λ t. ap (λ m. list_any (has_number m) kept) (same_of n e.seq t) ∙ other)
+      ∙ sym (ap (λ b. not (list_any (has_number n) kept) && b) (more n))
+    where
+      by : (t k a : Bool) → (t ≡ true → k ≡ false) → cond t true (not k && a) ≡ (not k && (a || t))
+      by true true a h = absurd (true≢false (h refl))
+      by true false true h = refl
+      by true false false h = refl
+      by false true a h = refl
+      by false false true h = refl
+      by false false false h = refl
+
+  pub known_left : (numbers : BTreeSet ℕ) → list_any (has_number e.seq) kept ≡ true → AreLeft kept (take i rows) numbers → AreLeft kept (take (i + 1) rows) numbers
+  known_left numbers known so n =
+      so n ∙ by (ties n e.seq) _ (list_any (has_number n) (take i rows)) (λ t. ap (λ m. list_any (has_number m) kept) (same_of n e.seq t) ∙ known)
+      ∙ sym (ap (λ b. not (list_any (has_number n) kept) && b) (more n))
+    where
+      by : (t k a : Bool) → (t ≡ true → k ≡ true) → (not k && a) ≡ (not k && (a || t))
+      by true true a h = refl
+      by true false a h = absurd (true≢false (sym (h refl)))
+      by false true a h = refl
+      by false false true h = refl
+      by false false false h = refl
+
+-- they are as many as new numbers
+pub left_count : (kept rows : List Event) (numbers : BTreeSet ℕ) → AreLeft kept rows numbers → IsOrdered nat_cmp numbers → btree_set_len numbers ≡ length (new_numbers kept rows)
+left_count kept rows numbers so order = btree_set_len-from_list nat_cmp_total (numbers_left kept rows) numbers (λ n. so n ∙ sym (any_left n kept rows), order)
+
+fresh_distinct : (tags : List Name) (now line : ℕ) (kept rows : List Event) → first_fault tags now line kept rows ≡ None → IsDistinct ties (numbers_of (fresh kept rows))
+unfolding IsDistinct
+fresh_distinct tags now line kept [] none = tt
+fresh_distinct tags now line kept (e ∷ rows) none =
+    let clean = (no_first line (merge_fault tags now kept e) _ none).1 in
+    let rest = fresh_distinct tags now (line + 1) (kept ++ e ∷ []) rows clean in
+    let there : list_any (has_number e.seq) (kept ++ e ∷ []) ≡ true = list_any-append (has_number e.seq) kept (e ∷ []) ∙ ap (λ b. list_any (has_number e.seq) kept || (b || false)) (numbers_tie.refl e.seq) ∙ or-true _ in
+    let away = any_numbers e.seq (fresh (kept ++ e ∷ []) rows) ∙ any_fresh tags now (line + 1) (kept ++ e ∷ []) rows clean e.seq ∙ ap (λ b. not b && list_any (has_number e.seq) rows) there in
+    elim (list_any (same_event e) kept) as (λ b. IsDistinct ties (numbers_of ((if not b then e ∷ [] else []) ++ fresh (kept ++ e ∷ []) rows))) [ true ↦ rest | false ↦ (each_not (ties e.seq) _ away, rest) ]
 
 -- a file without fault has as many new rows as new numbers
 pub fresh_count : (tags : List Name) (now line : ℕ) (kept rows : List Event) → first_fault tags now line kept rows ≡ None → length (fresh kept rows) ≡ length (new_numbers kept rows)
-fresh_count tags now line kept [] none = refl
-fresh_count tags now line kept (e ∷ rows) none =
-    let parts = no_first line (merge_fault tags now kept e) _ none in
-    let same = same_by_number e kept (row_fits tags now kept e parts.0).0 in
-    let rest = fresh_count tags now (line + 1) (kept ++ e ∷ []) rows parts.1 in
-    ap (λ b. length ((if not b then e ∷ [] else []) ++ fresh (kept ++ e ∷ []) rows)) same
-    ∙ elim (list_any (has_number e.seq) kept) as (λ b. list_any (has_number e.seq) kept ≡ b → length ((if not b then e ∷ [] else []) ++ fresh (kept ++ e ∷ []) rows) ≡ length (new_numbers kept (e ∷ rows))) [
-      | true ↦ λ t. rest ∙ ap length (known_beside kept rows e t ∙ sym (new_same kept rows e t))
-      | false ↦ λ f. ap suc (rest ∙ ap length (beside kept rows e))
-          ∙ sym (length_put e.seq (new_numbers kept rows) (rises_of (λ m. m) (new_numbers kept rows) (new_in_order kept rows))) ∙ ap length (sym (new_more kept rows e f))
-    ] refl
+fresh_count tags now line kept rows none =
+    sym (length-map (fresh kept rows) event_number)
+    ∙ length-from_keys numbers_tie (numbers_of (fresh kept rows)) (numbers_left kept rows) (fresh_distinct tags now line kept rows none)
+    (λ n. any_numbers n (fresh kept rows) ∙ any_fresh tags now line kept rows none n ∙ sym (any_left n kept rows))
 
 -- events put twice
 abbrev said : List Event → ℕ → Option Event
@@ -259,17 +208,6 @@ put_twice kept more order =
     let rising : IsInOrder nat_cmp event_number (with_events [] more) = order_puts more [] tt in
     same_rows nat_cmp event_number nat_cmp_total same_numbers _ _ (order_puts (with_events [] more) kept order) (order_puts more kept order)
     (λ q. at_puts q (with_events [] more) kept ∙ ap (λ o. or_else o (row_at nat_cmp event_number q kept)) (said_in_order q (with_events [] more) (rises_of event_number _ rising) ∙ at_puts q more [] ∙ else_none (said more q)) ∙ sym (at_puts q more kept))
-
--- the loops
-pub count_put : (kept rows : List Event) (numbers new : List ℕ) (i : ℕ) (d : Event) (b : Bool) → 0 < i → i ≤ length rows → d ≡ get_or rows (i - 1) d → numbers ≡ new_numbers kept (drop i rows)
-    → new ≡ insert_key nat_cmp numbers d.seq → b ≡ list_any (has_number d.seq) kept → b ≡ false → new ≡ new_numbers kept (drop (i - 1) rows)
-count_put kept rows numbers new i d b some le is so put eb f =
-    put ∙ put_key d.seq numbers ∙ ap (put_row nat_cmp (λ k. k) d.seq) so
-    ∙ sym (ap (new_numbers kept) (last_drop rows i d some le is) ∙ new_more kept (drop i rows) d (sym eb ∙ f))
-
-pub count_known : (kept rows : List Event) (numbers : List ℕ) (i : ℕ) (d : Event) (b : Bool) → 0 < i → i ≤ length rows → d ≡ get_or rows (i - 1) d → numbers ≡ new_numbers kept (drop i rows)
-    → b ≡ list_any (has_number d.seq) kept → b ≡ true → numbers ≡ new_numbers kept (drop (i - 1) rows)
-count_known kept rows numbers i d b some le is so eb t = so ∙ sym (ap (new_numbers kept) (last_drop rows i d some le is) ∙ new_same kept (drop i rows) d (sym eb ∙ t))
 
 pub joined_twice : {E : Type 0} (kept more rising seen : List Event) (r : Result (List Event) E) → IsInOrder nat_cmp event_number kept → rising ≡ with_events [] more → seen ≡ rising
     → (IsInOrder nat_cmp event_number kept → IsInOrder nat_cmp event_number seen → IfOk r (λ all. all ≡ with_events kept seen)) → IfOk r (λ all. all ≡ with_events kept more)

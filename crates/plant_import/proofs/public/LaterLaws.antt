@@ -1,13 +1,14 @@
 -- New rows that come after all kept events of their alarms: they are put behind these.
-use Rattle.std.specs.{Cmp.{nat_cmp_total}, FinMap.Entries.{by_order}, List.{list_any}}
-use Rattle.std.proofs.Common.{ap, append-nil, append_assoc, arith, refl, subst, sym, ◌∙◌, ◌⊎◌, inl, inr, nat_cmp, Bool, List, None, [], false, filter, if◌then◌else◌, nat_lt, not, true, ℕ, ◌&&◌, ◌++◌, ◌+◌, ◌<◌, ◌∷◌, ◌≡◌, ◌≤◌, ◌||◌, Equal, Greater, Less}
+use Rattle.std.specs.{Cmp.{nat_cmp_total}, List.{list_any}}
+use Rattle.std.proofs.Common.{ap, append-nil, append_assoc, arith, refl, subst, sym, ◌∙◌, ◌⊎◌, inl, inr, nat_cmp, Bool, List, None, [], false, filter, if◌then◌else◌, nat_lt, not, true, ℕ, ◌&&◌, ◌++◌, ◌+◌, ◌<◌, ◌∷◌, ◌≡◌, ◌≤◌, ◌||◌}
 use Rattle.std.proofs.{Math.Bool.{and-false}, lemmas.{Bool.{cases_lt, le-ltb, lt-ltb, or_parts}, List.Folds.{list_any-append}}}
 use Rattle.plant_alarm.specs.declared.event.Event.{Event}
 use Rattle.plant_import.specs.{Merging.{IsRising, first_fault, fresh, is_new, merge_fault, same_event}, Needed.{has_late, is_late, is_overtaken}}
 use Rattle.plant_import.specs.Numbers.{event_number, has_number, with_events}
+use Rattle.plant_import.proofs.ByNumber.{any_put, each_put}
 use Rattle.plant_import.proofs.public.Counted.{no_first, order_puts, put_twice, row_fits, same_by_number, turned}
 use Rattle.plant_import.proofs.public.Placed.{AllAbove, Rises, above_it, other, put_before, put_behind, rises_of}
-use Rattle.plant_import.proofs.public.Risings.{Each, each_append, each_not, in_number_order}
+use Rattle.plant_import.proofs.public.{EachLaws.{Each, each_append, each_not, each_weaker}, Risings.{in_number_order}}
 use Rattle.plant_types.specs.{KeyedRows.{IsInOrder, put_row}, Names.{Name, name_cmp, same_name}}
 use Rattle.plant_types.proofs.public.{KeyedRowLaws.{IsInOrder-put_row, tied}, Orders.{same_names, same_numbers}}
 
@@ -41,13 +42,9 @@ own_put a r (e ∷ es) rises later = by (cases_lt r.seq e.seq) (λ more. own_put
   lasts : ((same_name r.tag e.tag && nat_lt r.seq e.seq) ≡ false) × (is_overtaken es r ≡ false)
   lasts = or_parts (same_name r.tag e.tag && nat_lt r.seq e.seq) (is_overtaken es r) later.last
 
-  above_more : (m n : ℕ) (xs : List Event) → m < n → AllAbove event_number n xs → AllAbove event_number m xs
-  above_more m n [] lt h = tt
-  above_more m n (x ∷ xs) lt h = (let b = h.0 in omega (arith, lt, b), above_more m n xs lt h.1)
-
   first : r.seq < e.seq → (b : Bool) → same_name a r.tag ≡ b → (if b then r ∷ own a (e ∷ es) else own a (e ∷ es)) ≡ own a (e ∷ es) ++ (if b then r ∷ [] else [])
   first lt true t =
-      let none : own a (e ∷ es) ≡ [] = none_own a r (e ∷ es) t (lt, above_more r.seq e.seq es lt rises.0) later.last in
+      let none : own a (e ∷ es) ≡ [] = none_own a r (e ∷ es) t (lt, each_weaker (λ y. e.seq < y.seq) (λ y. r.seq < y.seq) (λ y more. omega (arith, lt, more)) es rises.0) later.last in
       ap (λ l. r ∷ l) none ∙ sym (ap (λ l. l ++ r ∷ []) none)
   first lt false f = sym (append-nil (own a (e ∷ es)))
 
@@ -61,22 +58,6 @@ own_put a r (e ∷ es) rises later = by (cases_lt r.seq e.seq) (λ more. own_put
         | true ↦ ap (λ l. e ∷ l) more
         | false ↦ more
       ]
-
--- tests over events with one more of a new number
-any_put : (p : Event → Bool) (r : Event) (es : List Event) → list_any (has_number r.seq) es ≡ false → list_any p (put_row nat_cmp event_number r es) ≡ (p r || list_any p es)
-any_put p r [] new = refl
-any_put p r (e ∷ es) new = by (cases_lt r.seq e.seq) (any_put p r es parts.1) where
-  parts : (has_number r.seq e ≡ false) × (list_any (has_number r.seq) es ≡ false)
-  parts = or_parts (has_number r.seq e) (list_any (has_number r.seq) es) new
-
-  swap : (a b c : Bool) → (a || (b || c)) ≡ (b || (a || c))
-  swap true true c = refl
-  swap true false c = refl
-  swap false b c = refl
-
-  by : (r.seq < e.seq) ⊎ (e.seq ≤ r.seq) → list_any p (put_row nat_cmp event_number r es) ≡ (p r || list_any p es) → list_any p (put_row nat_cmp event_number r (e ∷ es)) ≡ (p r || (p e || list_any p es))
-  by (inl lt) rest = ap (list_any p) (put_before event_number r e es lt)
-  by (inr le) rest = ap (list_any p) (put_behind event_number r e es (above_it e.seq r.seq le (turned e.seq r.seq ∙ parts.0))) ∙ ap (λ b. p e || b) rest ∙ swap (p e) (p r) (list_any p es)
 
 later_put : (r s : Event) (es : List Event) → list_any (has_number r.seq) es ≡ false → r.seq < s.seq → IsLater es s → IsLater (put_row nat_cmp event_number r es) s
 later_put r s es new lt later =
@@ -99,16 +80,6 @@ own_after a (r ∷ rs) es order rises h =
     ∙ ap (λ l. own a es ++ l) (elim (same_name a r.tag) as (λ b. (if b then r ∷ [] else []) ++ own a rs ≡ (if b then r ∷ own a rs else own a rs)) [ true ↦ refl | false ↦ refl ])
 
 -- what holds of each of some events holds of each of them in rising number
-each_put : (P : Event → Type 0) (r : Event) (es : List Event) → P r → Each P es → Each P (put_row nat_cmp event_number r es)
-each_put P r [] h k = (h, tt)
-each_put P r (e ∷ es) h k =
-    let more = each_put P r es h k.1 in
-    elim (nat_cmp r.seq e.seq) as (λ o. Each P (by_order o (r ∷ e ∷ es) (r ∷ es) (e ∷ put_row nat_cmp event_number r es))) [
-      | Less ↦ (h, k)
-      | Equal ↦ (h, k.1)
-      | Greater ↦ (k.0, more)
-    ]
-
 each_puts : (P : Event → Type 0) (rs es : List Event) → Each P rs → Each P es → Each P (with_events es rs)
 each_puts P [] es h k = k
 each_puts P (r ∷ rs) es h k = each_puts P rs (put_row nat_cmp event_number r es) h.1 (each_put P r es h.0 k)

@@ -6,7 +6,7 @@ use Rattle.std.proofs.lemmas.List.{take-append-drop, length-take-le, length-drop
 use Rattle.plant_types.{specs.Names.{name_cmp}, proofs.public.{Halves.{left, right}, KeyedRowLaws.{tied}, Orders.{same_names}}}
 use Rattle.plant_alarm.specs.declared.event.{Event.{Event}, EventKind.{EventKind, TheVariants.{Act, Rtn, Ack, Reset, Sup, Unsup}}}
 use Rattle.plant_import.specs.{Merging.{IsRising, same_event, clashes, out_of_order, kind_no}, Relation.{RelatesSo}}
-use Rattle.plant_import.proofs.public.Risings.{Each, each_of, each_weaker, each_append, each_back, Before, Rising, rising_of, is_rising, rising_front, rising_back, any_none, any_same, any_there}
+use Rattle.plant_import.proofs.public.{EachLaws.{Each, each_of, each_weaker, each_append, each_back, any_none, any_same, any_there}, Risings.{Before, Rising, rising_of, is_rising, rising_front, rising_back}}
 
 -- events that are the same
 kind_of_no : ℕ → EventKind

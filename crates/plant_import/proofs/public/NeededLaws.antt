@@ -1,8 +1,8 @@
 -- The events that a file needs give the same result as all events.
-use Rattle.std.specs.{BTreeMap.{Updates, get}, Cmp.{eq_by_cmp_equiv, Lexicographic.{nat_list_cmp_total}}, List.{list_any, Sorted.{IsPartitionPoint}}}
+use Rattle.std.specs.{BTreeMap.{Updates, get}, Cmp.{eq_by_cmp_equiv, Lexicographic.{nat_list_cmp_total}}, List.{list_any, Sorted.{IsPartitionPoint}}, Ordering.{eq_by_cmp}, Set.{unique_keys}}
 use Rattle.std.proofs.Common.{ap, append-nil, append_assoc, arith, drop, get_or, length-append, refl, subst, suc, sym, take, zero, ◌∙◌, ◌⊎◌, inl, inr, Bool, List, None, Option, [], cond, false, filter, if◌then◌else◌, length, nat_lt, not, option_map, true, ℕ, ◌&&◌, ◌++◌, ◌+◌, ◌-◌, ◌<◌, ◌∷◌, ◌≡◌, ◌≤◌, ◌||◌, Ok, Result, Some, unwrap_or, nat_cmp, BTreeMap}
-use Rattle.std.proofs.{Math.Bool.{and-false, or-false, or-true}, lemmas.{Bool.{le-ltb, lt-ltb, ltb-false, ltb-true}, List.Folds.{list_any-append}}}
-use Rattle.std.proofs.lemmas.List.{drop_more, take-append-drop, take_all, take_more}
+use Rattle.std.proofs.{Math.Bool.{and-false, or-false, or-true}, lemmas.{Bool.{le-ltb, lt-ltb, ltb-false, ltb-true}, List.Folds.{list_any-append, list_any_at, list_any_more}}}
+use Rattle.std.proofs.lemmas.List.{Filters.{length-filter_both}, length-take-le, get_or-take, get_or_default, drop_more, take-append-drop, take_all, take_more}
 use Rattle.plant_alarm.specs.declared.event.Event.{Event}
 use Rattle.plant_import.specs.Fields.{first_cause}
 use Rattle.plant_import.specs.Merging.{IsRising, clashes, first_fault, fresh, merge, merge_fault, merged_or, out_of_order, same_event}
@@ -10,9 +10,9 @@ use Rattle.plant_import.specs.Needed.{from_last_before, has_late, is_before_all,
 use Rattle.plant_import.specs.{Numbers.{event_number, has_number, new_numbers, numbers_of}, Reached.{AreReached}, Reading.{bad}}
 use Rattle.plant_import.specs.declared.bad_file.{BadFile.{BadFile}, Cause.TheVariants.{MomentAhead, MomentOutOfOrder, SequenceClash, TagUnknown}}
 use Rattle.plant_import.{specs.declared.merging.Merged.{Merged}, proofs.public.Nearest.{order_below, other_number}}
-use Rattle.plant_import.proofs.public.Placed.{AllAbove, Rises, in_order_of, other, rises_of}
-use Rattle.plant_import.proofs.public.Risings.{Before, Each, Rising, any_none, any_there, each_both, each_of, each_weaker, is_rising, rising_back, rising_of}
-use Rattle.plant_types.specs.{KeyedRows.{IsInOrder, in_order}, Names.{Name, same_name, name_cmp}, Options.{or_else}}
+use Rattle.plant_import.proofs.public.Placed.{AllAbove, Rises, rises_drop, in_order_of, other, rises_of}
+use Rattle.plant_import.proofs.public.{EachLaws.{Each, any_same, each_at, any_none, any_there, each_both, each_of, each_weaker}, Risings.{in_number_order, Rising, is_rising, rising_back, rising_of}}
+use Rattle.plant_types.specs.{KeyedRows.{IsInOrder}, Names.{Name, same_name, name_cmp}, Options.{or_else}}
 use Rattle.plant_types.proofs.public.Halves.{left, right}
 
 -- as many pass as stand before the place where they end
@@ -33,24 +33,40 @@ before_more (e ∷ rows) a b le h =
     let lt = ltb-true b.seq e.seq (left _ _ h) in
     (λ i. lt-ltb a.seq e.seq (omega (arith, le, lt)) i && before_more rows a b le (right _ _ h) i)
 
-number_at : (n : ℕ) (es : List Event) → AllAbove event_number n es → (k : ℕ) (d : Event) → k < length es → n < (get_or es k d).seq
-number_at n [] h k d lt = absurd (omega arith)
-number_at n (x ∷ es) h zero d lt = h.0
-number_at n (x ∷ es) h (suc k) d lt = number_at n es h.1 k d (omega arith)
-
 above_all : (rows : List Event) (k : Event) → is_before_all rows k ≡ true → Each (λ e. k.seq < e.seq) rows
 above_all [] k h = tt
 above_all (e ∷ rows) k h = (ltb-true k.seq e.seq (left _ _ h), above_all rows k (right _ _ h))
 
-none_counted : (rows : List Event) (k : Event) (ks : List Event) → Each (Before k) ks → is_before_all rows k ≡ false → length (filter (is_before_all rows) ks) ≡ 0
-none_counted rows k [] h f = refl
-none_counted rows k (x ∷ ks) h f =
+-- the kept events are some that come before every row, and then the near ones
+pub record AreBehind (rows kept near : List Event) : Type 0 where
+  pub pre : List Event
+  pub whole : kept ≡ pre ++ near
+  pub low : Each (λ k. is_before_all rows k ≡ true) pre
+
+none_passes : (rows : List Event) (k : Event) (ks : List Event) → AllAbove event_number k.seq ks → is_before_all rows k ≡ false → length (filter (is_before_all rows) ks) ≡ 0
+none_passes rows k [] h f = refl
+none_passes rows k (x ∷ ks) h f =
     elim (is_before_all rows x) as (λ b. is_before_all rows x ≡ b → length (cond b (x ∷ filter (is_before_all rows) ks) (filter (is_before_all rows) ks)) ≡ 0) [
-      | true ↦ λ t. absurd (let no : true ≡ false = sym (before_more rows k x (let b = h.0.0 in omega (arith, b)) t) ∙ f in cc)
-      | false ↦ λ _. none_counted rows k ks h.1 f
+      | true ↦ λ t. absurd (let no : true ≡ false = sym (before_more rows k x (let b = h.0 in omega (arith, b)) t) ∙ f in cc)
+      | false ↦ λ _. none_passes rows k ks h.1 f
     ] refl
 
--- events, and the first of those behind them
+lows : (rows kept : List Event) (n : ℕ) → Rises event_number kept → n ≤ length (filter (is_before_all rows) kept) → Each (λ k. is_before_all rows k ≡ true) (take n kept)
+lows rows [] zero h le = tt
+lows rows [] (suc n) h le = tt
+lows rows (k ∷ ks) zero h le = tt
+lows rows (k ∷ ks) (suc n) h le = by (λ m. lows rows ks n h.1 m) (is_before_all rows k) refl le where
+  by : (n ≤ length (filter (is_before_all rows) ks) → Each (λ k. is_before_all rows k ≡ true) (take n ks)) → (b : Bool) → is_before_all rows k ≡ b → suc n ≤ length (cond (is_before_all rows k) (k ∷ filter (is_before_all rows) ks) (filter (is_before_all rows) ks))
+      → Each (λ k. is_before_all rows k ≡ true) (k ∷ take n ks)
+  by deeper true t le = (t, deeper (let c : length (cond (is_before_all rows k) (k ∷ filter (is_before_all rows) ks) (filter (is_before_all rows) ks)) ≡ suc (length (filter (is_before_all rows) ks)) = ap (λ b. length (cond b (k ∷ filter (is_before_all rows) ks) (filter (is_before_all rows) ks))) t in omega (arith, le, c)))
+  by deeper false f le = absurd (let none = none_passes rows k ks h.0 f in let c : length (cond (is_before_all rows k) (k ∷ filter (is_before_all rows) ks) (filter (is_before_all rows) ks)) ≡ length (filter (is_before_all rows) ks) = ap (λ b. length (cond b (k ∷ filter (is_before_all rows) ks) (filter (is_before_all rows) ks))) f in omega (arith, none, le, c))
+
+behind : (rows kept : List Event) → IsInOrder nat_cmp event_number kept → AreBehind rows kept (from_last_before kept rows)
+behind rows kept h =
+    let n = length (filter (is_before_all rows) kept) in
+    record { pre = take (n - 1) kept; whole = sym (take-append-drop (n - 1) kept); low = lows rows kept (n - 1) (rises_of event_number kept h) (omega arith) }
+
+-- the first of the near ones
 pub record AreLed (rows pre near : List Event) : Type 0 where
   pub first : Event
   pub rest : List Event
@@ -58,63 +74,39 @@ pub record AreLed (rows pre near : List Event) : Type 0 where
   pub before : is_before_all rows first ≡ true
   pub after : Each (λ k. k.moment ≤ first.moment) pre
 
-any_each : (p q : Event → Bool) (xs : List Event) → Each (λ x. p x ≡ q x) xs → list_any p xs ≡ list_any q xs
-any_each p q [] h = refl
-any_each p q (x ∷ xs) h = λ i. h.0 i || any_each p q xs h.1 i
-
--- the kept events are some that come before every row, and then the near ones
 pub record AreCut (rows kept near : List Event) : Type 0 where
-  pub pre : List Event
-  pub whole : kept ≡ pre ++ near
-  pub low : Each (λ k. is_before_all rows k ≡ true) pre
-  pub led : (pre ≡ []) ⊎ AreLed rows pre near
+  pub behind : AreBehind rows kept near
+  pub led : (behind.pre ≡ []) ⊎ AreLed rows behind.pre near
 
 whole_cut : (rows kept : List Event) → AreCut rows kept kept
-whole_cut rows kept = record { pre = []; whole = refl; low = tt; led = inl refl }
+whole_cut rows kept = record { behind = record { pre = []; whole = refl; low = tt }; led = inl refl }
 
--- the first of the near ones comes before every row, where some event does
-leads : (rows kept : List Event) (n : ℕ) → Rising kept → length (filter (is_before_all rows) kept) ≡ suc n → AreCut rows kept (drop n kept) × AreLed rows [] (drop n kept)
-leads rows [] n h e = absurd (omega (arith, e))
-leads rows (k ∷ ks) n h e = by (λ m f. leads rows ks m h.1 f) (is_before_all rows k) refl n e where
-  counted : (b : Bool) → ℕ
-  counted b = length (cond b (k ∷ filter (is_before_all rows) ks) (filter (is_before_all rows) ks))
+-- the first of the near ones comes before every row, where some event does, and no earlier event has a later moment
+cut : (rows kept : List Event) → IsRising kept → AreCut rows kept (from_last_before kept rows)
+cut rows [] h = whole_cut rows []
+cut rows (k ∷ ks) h = by (length (filter (is_before_all rows) (k ∷ ks))) refl where
+  rises : Rises event_number (k ∷ ks)
+  rises = rises_of event_number (k ∷ ks) (in_number_order (k ∷ ks) h)
 
-  by : ((m : ℕ) → length (filter (is_before_all rows) ks) ≡ suc m → AreCut rows ks (drop m ks) × AreLed rows [] (drop m ks)) → (b : Bool) → is_before_all rows k ≡ b → (n : ℕ) → counted (is_before_all rows k) ≡ suc n → AreCut rows (k ∷ ks) (drop n (k ∷ ks)) × AreLed rows [] (drop n (k ∷ ks))
-  by deeper false f n e = absurd (let none = none_counted rows k ks h.0 f in let c : counted false ≡ suc n = ap counted (sym f) ∙ e in omega (arith, none, c))
-  by deeper true t zero e = (whole_cut rows (k ∷ ks), record { first = k; rest = ks; is = refl; before = t; after = tt })
-  by deeper true t (suc n) e =
-      let more : length (filter (is_before_all rows) ks) ≡ suc n = (let c : counted true ≡ suc (suc n) = ap counted (sym t) ∙ e in omega (arith, c)) in
-      let rest = deeper n more in
-      let cut = rest.0 in
-      let led = rest.1 in
-      let none_late : Each (λ x. x.moment ≤ led.first.moment) cut.pre = elim cut.led [ inl none ↦ subst (λ (l : List Event). Each (λ x. x.moment ≤ led.first.moment) l) (sym none) tt | inr some ↦ after_of cut.pre led.first some.first (same_first (drop n ks) led.first led.rest some.first some.rest led.is some.is) some.after ] in
-      let behind : k.moment ≤ led.first.moment = behind_of ks cut.pre led.first led.rest (cut.whole ∙ ap (λ l. cut.pre ++ l) led.is) h.0 in (
-        record {
-          pre = k ∷ cut.pre;
-          whole = ap (λ l. k ∷ l) cut.whole;
-          low = (t, cut.low);
-          led = inr (record { first = led.first; rest = led.rest; is = led.is; before = led.before; after = (behind, none_late) });
-        },
-        led,
-      )
-    where
-      after_of : (pre : List Event) (a b : Event) → b ≡ a → Each (λ x. x.moment ≤ b.moment) pre → Each (λ x. x.moment ≤ a.moment) pre
-      after_of pre a b same h = subst (λ (y : Event). Each (λ x. x.moment ≤ y.moment) pre) same h
-
-      same_first : (l : List Event) (a : Event) (xs : List Event) (b : Event) (ys : List Event) → l ≡ a ∷ xs → l ≡ b ∷ ys → b ≡ a
-      same_first l a xs b ys e f = let both : a ∷ xs ≡ b ∷ ys = sym e ∙ f in cc
-
-      behind_of : (ks pre : List Event) (f : Event) (rest : List Event) → ks ≡ pre ++ f ∷ rest → Each (Before k) ks → k.moment ≤ f.moment
-      behind_of ks pre f rest whole h = at pre (subst (λ (l : List Event). Each (Before k) l) whole h) where
-        at : (xs : List Event) → Each (Before k) (xs ++ f ∷ rest) → k.moment ≤ f.moment
-        at [] h = h.0.1
-        at (x ∷ xs) h = at xs h.1
-
-pub cut : (rows kept : List Event) → IsRising kept → AreCut rows kept (from_last_before kept rows)
-cut rows kept h = by (length (filter (is_before_all rows) kept)) refl where
-  by : (n : ℕ) → length (filter (is_before_all rows) kept) ≡ n → AreCut rows kept (drop (n - 1) kept)
-  by zero e = whole_cut rows kept
-  by (suc n) e = let at : n ≡ suc n - 1 = omega arith in subst (λ k. AreCut rows kept (drop k kept)) at (leads rows kept n (rising_of kept h) e).0
+  by : (n : ℕ) → n ≡ length (filter (is_before_all rows) (k ∷ ks)) → AreCut rows (k ∷ ks) (drop (n - 1) (k ∷ ks))
+  by zero e = whole_cut rows (k ∷ ks)
+  by (suc n) e =
+      let sum = length-filter_both (is_before_all rows) (λ x. not (is_before_all rows x)) (λ x. refl) (k ∷ ks) in
+      let lt : n < length (k ∷ ks) = omega (arith, e, sum) in
+      let up = lows rows (k ∷ ks) (suc n) rises (omega (arith, e)) in
+      let one : n ≡ suc n - 1 = omega arith in
+      subst (λ m. AreCut rows (k ∷ ks) (drop m (k ∷ ks))) one (record {
+        behind = record { pre = take n (k ∷ ks); whole = sym (take-append-drop n (k ∷ ks)); low = lows rows (k ∷ ks) n rises (omega (arith, e)) };
+        led = inr (record {
+          first = get_or (k ∷ ks) n k;
+          rest = drop (n + 1) (k ∷ ks);
+          is = drop_more (k ∷ ks) n k lt;
+          before = ap (is_before_all rows) (sym (get_or-take (suc n) (k ∷ ks) n k (omega arith))) ∙ each_at (λ x. is_before_all rows x ≡ true) (take (suc n) (k ∷ ks)) up n k (let long = length-take-le (suc n) (k ∷ ks) (omega (arith, lt)) in omega (arith, long));
+          after = each_of (λ x. x.moment ≤ (get_or (k ∷ ks) n k).moment) (take n (k ∷ ks)) (λ i d less.
+              let long = length-take-le n (k ∷ ks) (omega (arith, lt)) in
+              subst (λ y. y.moment ≤ (get_or (k ∷ ks) n k).moment) (get_or_default (k ∷ ks) i k d (omega (arith, less, long, lt)) ∙ sym (get_or-take n (k ∷ ks) i d (omega (arith, less, long)))) (h i n k (omega (arith, less, long)) lt).1);
+        });
+      })
 
 -- each test of a row gives the same result on the kept events and on the near ones
 pub record SeenSame (kept near : List Event) (e : Event) : Type 0 where
@@ -139,31 +131,37 @@ order_led e pre first rest low lt after = by (nat_lt e.moment first.moment) refl
       no_more (out_of_order e) pre (first ∷ rest) (any_none (out_of_order e) pre
       (each_both (λ k. k.seq < e.seq) (λ k. k.moment ≤ first.moment) (λ k. out_of_order e k ≡ false) (λ k below by_then. order_below e k below ∙ le-ltb e.moment k.moment (omega (arith, le, by_then))) pre low after))
 
+number_same : (e : Event) (pre near : List Event) → Each (λ k. k.seq < e.seq) pre → list_any (has_number e.seq) (pre ++ near) ≡ list_any (has_number e.seq) near
+number_same e pre near low = no_more (has_number e.seq) pre near (any_none (has_number e.seq) pre (each_weaker (λ k. k.seq < e.seq) (λ k. has_number e.seq k ≡ false) (λ k. other e.seq k.seq) pre low))
+
+overtaken_same : (e : Event) (pre near : List Event) → Each (λ k. k.seq < e.seq) pre → is_overtaken (pre ++ near) e ≡ is_overtaken near e
+overtaken_same e pre near low =
+    no_more (λ k. same_name e.tag k.tag && nat_lt e.seq k.seq) pre near
+    (any_none (λ k. same_name e.tag k.tag && nat_lt e.seq k.seq) pre (each_weaker (λ k. k.seq < e.seq) (λ k. (same_name e.tag k.tag && nat_lt e.seq k.seq) ≡ false) (λ k lt. ap (λ b. same_name e.tag k.tag && b) (le-ltb e.seq k.seq (omega (arith, lt))) ∙ and-false _) pre low))
+
 seen : (e : Event) (pre near : List Event) → Each (λ k. k.seq < e.seq) pre → list_any (out_of_order e) (pre ++ near) ≡ list_any (out_of_order e) near → SeenSame (pre ++ near) near e
 seen e pre near low order =
     record {
       same = no_more (same_event e) pre near (any_none (same_event e) pre (each_weaker (λ k. k.seq < e.seq) (λ k. same_event e k ≡ false) (λ k lt. (other_number e k (λ q. absurd (omega (arith, q, lt)))).0) pre low));
       clash = no_more (clashes e) pre near (any_none (clashes e) pre (each_weaker (λ k. k.seq < e.seq) (λ k. clashes e k ≡ false) (λ k lt. (other_number e k (λ q. absurd (omega (arith, q, lt)))).1) pre low));
       order = order;
-      number = no_more (has_number e.seq) pre near (any_none (has_number e.seq) pre (each_weaker (λ k. k.seq < e.seq) (λ k. has_number e.seq k ≡ false) (λ k lt. other e.seq k.seq lt) pre low));
-      overtaken =
-          no_more (λ k. same_name e.tag k.tag && nat_lt e.seq k.seq) pre near
-          (any_none (λ k. same_name e.tag k.tag && nat_lt e.seq k.seq) pre (each_weaker (λ k. k.seq < e.seq) (λ k. (same_name e.tag k.tag && nat_lt e.seq k.seq) ≡ false) (λ k lt. ap (λ b. same_name e.tag k.tag && b) (le-ltb e.seq k.seq (omega (arith, lt))) ∙ and-false _) pre low));
+      number = number_same e pre near low;
+      overtaken = overtaken_same e pre near low;
     }
 
 all_lower : (rows pre : List Event) → Each (λ k. is_before_all rows k ≡ true) pre → Each (λ e. Each (λ k. k.seq < e.seq) pre) rows
-all_lower rows [] h = each_of (λ e. Each (λ k. k.seq < e.seq) []) rows (λ k d lt. tt)
+all_lower rows [] h = each_of (λ (e : Event). Each (λ (k : Event). k.seq < e.seq) []) rows (λ k d lt. tt)
 all_lower rows (k ∷ ks) h =
     each_both (λ e. k.seq < e.seq) (λ e. Each (λ x. x.seq < e.seq) ks) (λ e. Each (λ x. x.seq < e.seq) (k ∷ ks)) (λ e one others. (one, others)) rows (above_all rows k h.0) (all_lower rows ks h.1)
 
 all_seen : (rows kept near : List Event) → AreCut rows kept near → Each (SeenSame kept near) rows
 all_seen rows kept near c =
-    subst (λ (l : List Event). Each (SeenSame l near) rows) (sym c.whole) (elim c.led [
-      | inl none ↦ each_weaker (λ e. Each (λ k. k.seq < e.seq) c.pre) (SeenSame (c.pre ++ near) near) (λ e low. seen e c.pre near low (ap (λ (l : List Event). list_any (out_of_order e) (l ++ near)) none)) rows (all_lower rows c.pre c.low)
+    subst (λ (l : List Event). Each (SeenSame l near) rows) (sym c.behind.whole) (elim c.led [
+      | inl none ↦ each_weaker (λ e. Each (λ k. k.seq < e.seq) c.behind.pre) (SeenSame (c.behind.pre ++ near) near) (λ e low. seen e c.behind.pre near low (ap (λ (l : List Event). list_any (out_of_order e) (l ++ near)) none)) rows (all_lower rows c.behind.pre c.behind.low)
       | inr led ↦
-          each_both (λ e. Each (λ k. k.seq < e.seq) c.pre) (λ e. led.first.seq < e.seq) (SeenSame (c.pre ++ near) near)
-          (λ e low lt. seen e c.pre near low (ap (λ (l : List Event). list_any (out_of_order e) (c.pre ++ l)) led.is ∙ order_led e c.pre led.first led.rest low lt led.after ∙ ap (list_any (out_of_order e)) (sym led.is)))
-          rows (all_lower rows c.pre c.low) (above_all rows led.first led.before)
+          each_both (λ e. Each (λ k. k.seq < e.seq) c.behind.pre) (λ e. led.first.seq < e.seq) (SeenSame (c.behind.pre ++ near) near)
+          (λ e low lt. seen e c.behind.pre near low (ap (λ (l : List Event). list_any (out_of_order e) (c.behind.pre ++ l)) led.is ∙ order_led e c.behind.pre led.first led.rest low lt led.after ∙ ap (list_any (out_of_order e)) (sym led.is)))
+          rows (all_lower rows c.behind.pre c.behind.low) (above_all rows led.first led.before)
     ])
 
 -- rows on which these tests agree have the same first fault, new rows and new numbers
@@ -198,7 +196,7 @@ others_same kept near [] h = refl
 others_same kept near (e ∷ rows) h = λ i. if not (h.0.number i) then e ∷ others_same kept near rows h.1 i else others_same kept near rows h.1 i
 
 late_same : (kept near rows : List Event) → Each (SeenSame kept near) rows → has_late kept rows ≡ has_late near rows
-late_same kept near rows h = any_each (is_late kept) (is_late near) rows (each_weaker (SeenSame kept near) (λ e. is_late kept e ≡ is_late near e) (λ e s i. s.overtaken i && not (s.number i)) rows h)
+late_same kept near rows h = any_same (is_late kept) (is_late near) rows (each_weaker (SeenSame kept near) (λ e. is_late kept e ≡ is_late near e) (λ e s i. s.overtaken i && not (s.number i)) rows h)
 
 -- the events that a file needs
 needed_cut : (kept rows : List Event) → IsRising kept → AreCut rows kept (needed kept rows)
@@ -226,14 +224,14 @@ needed_merge kept rows tags now h = ap (λ o. merged_or o (needed kept rows) row
   by (Some fault) = refl
 
 pub needed_numbers : (kept rows : List Event) → IsRising kept → new_numbers (needed kept rows) rows ≡ new_numbers kept rows
-needed_numbers kept rows h = ap (λ l. in_order nat_cmp (numbers_of l)) (sym (others_same kept (needed kept rows) rows (needed_seen kept rows h)))
+needed_numbers kept rows h = ap (λ l. unique_keys (eq_by_cmp nat_cmp) (numbers_of l)) (sym (others_same kept (needed kept rows) rows (needed_seen kept rows h)))
 
 pub needed_late : (kept rows : List Event) → IsRising kept → has_late (needed kept rows) rows ≡ has_late kept rows
 needed_late kept rows h = sym (late_same kept (needed kept rows) rows (needed_seen kept rows h))
 
 -- they rise as the kept ones do, and are no more
 pub cut_rises : (rows kept near : List Event) → AreCut rows kept near → IsRising kept → IsRising near
-cut_rises rows kept near c h = is_rising near (rising_back c.pre near (subst (λ (l : List Event). Rising l) c.whole (rising_of kept h)))
+cut_rises rows kept near c h = is_rising near (rising_back c.behind.pre near (subst (λ (l : List Event). Rising l) c.behind.whole (rising_of kept h)))
 
 pub needed_rises : (kept rows : List Event) → IsRising kept → IsRising (needed kept rows)
 needed_rises kept rows h = cut_rises rows kept (needed kept rows) (needed_cut kept rows h) h
@@ -241,61 +239,22 @@ needed_rises kept rows h = cut_rises rows kept (needed kept rows) (needed_cut ke
 pub needed_few : (kept rows : List Event) → IsRising kept → length (needed kept rows) ≤ length kept
 needed_few kept rows h =
     let c = needed_cut kept rows h in
-    let sum = ap length c.whole ∙ length-append c.pre (needed kept rows) in
+    let sum = ap length c.behind.whole ∙ length-append c.behind.pre (needed kept rows) in
     omega (arith, sum)
 
 -- what events in the order of their numbers say of late rows, whatever their moments are
-pub record AreBehind (rows kept near : List Event) : Type 0 where
-  pub pre : List Event
-  pub whole : kept ≡ pre ++ near
-  pub low : Each (λ k. is_before_all rows k ≡ true) pre
-
-none_passes : (rows : List Event) (k : Event) (ks : List Event) → AllAbove event_number k.seq ks → is_before_all rows k ≡ false → length (filter (is_before_all rows) ks) ≡ 0
-none_passes rows k [] h f = refl
-none_passes rows k (x ∷ ks) h f =
-    elim (is_before_all rows x) as (λ b. is_before_all rows x ≡ b → length (cond b (x ∷ filter (is_before_all rows) ks) (filter (is_before_all rows) ks)) ≡ 0) [
-      | true ↦ λ t. absurd (let no : true ≡ false = sym (before_more rows k x (let b = h.0 in omega (arith, b)) t) ∙ f in cc)
-      | false ↦ λ _. none_passes rows k ks h.1 f
-    ] refl
-
-lows : (rows kept : List Event) (n : ℕ) → Rises event_number kept → n ≤ length (filter (is_before_all rows) kept) → Each (λ k. is_before_all rows k ≡ true) (take n kept)
-lows rows [] zero h le = tt
-lows rows [] (suc n) h le = tt
-lows rows (k ∷ ks) zero h le = tt
-lows rows (k ∷ ks) (suc n) h le = by (λ m. lows rows ks n h.1 m) (is_before_all rows k) refl le where
-  by : (n ≤ length (filter (is_before_all rows) ks) → Each (λ k. is_before_all rows k ≡ true) (take n ks)) → (b : Bool) → is_before_all rows k ≡ b → suc n ≤ length (cond (is_before_all rows k) (k ∷ filter (is_before_all rows) ks) (filter (is_before_all rows) ks))
-      → Each (λ k. is_before_all rows k ≡ true) (k ∷ take n ks)
-  by deeper true t le = (t, deeper (let c : length (cond (is_before_all rows k) (k ∷ filter (is_before_all rows) ks) (filter (is_before_all rows) ks)) ≡ suc (length (filter (is_before_all rows) ks)) = ap (λ b. length (cond b (k ∷ filter (is_before_all rows) ks) (filter (is_before_all rows) ks))) t in omega (arith, le, c)))
-  by deeper false f le = absurd (let none = none_passes rows k ks h.0 f in let c : length (cond (is_before_all rows k) (k ∷ filter (is_before_all rows) ks) (filter (is_before_all rows) ks)) ≡ length (filter (is_before_all rows) ks) = ap (λ b. length (cond b (k ∷ filter (is_before_all rows) ks) (filter (is_before_all rows) ks))) f in omega (arith, none, le, c))
-
-behind : (rows kept : List Event) → IsInOrder nat_cmp event_number kept → AreBehind rows kept (from_last_before kept rows)
-behind rows kept h =
-    let n = length (filter (is_before_all rows) kept) in
-    record { pre = take (n - 1) kept; whole = sym (take-append-drop (n - 1) kept); low = lows rows kept (n - 1) (rises_of event_number kept h) (omega arith) }
-
 late_alike : (pre near : List Event) (e : Event) → Each (λ k. k.seq < e.seq) pre → is_late (pre ++ near) e ≡ is_late near e
-late_alike pre near e low =
-    let number : list_any (has_number e.seq) (pre ++ near) ≡ list_any (has_number e.seq) near = no_more (has_number e.seq) pre near (any_none (has_number e.seq) pre (each_weaker (λ k. k.seq < e.seq) (λ k. has_number e.seq k ≡ false) (λ k lt. other e.seq k.seq lt) pre low)) in
-    let overtaken : is_overtaken (pre ++ near) e ≡ is_overtaken near e =
-    no_more (λ k. same_name e.tag k.tag && nat_lt e.seq k.seq) pre near
-    (any_none (λ k. same_name e.tag k.tag && nat_lt e.seq k.seq) pre (each_weaker (λ k. k.seq < e.seq) (λ k. (same_name e.tag k.tag && nat_lt e.seq k.seq) ≡ false) (λ k lt. ap (λ b. same_name e.tag k.tag && b) (le-ltb e.seq k.seq (omega (arith, lt))) ∙ and-false _) pre low)) in
-    λ i. overtaken i && not (number i)
+late_alike pre near e low = λ i. overtaken_same e pre near low i && not (number_same e pre near low i)
 
 pub near_late : (kept rows : List Event) → IsInOrder nat_cmp event_number kept → has_late (from_last_before kept rows) rows ≡ has_late kept rows
 near_late kept rows h =
     let b = behind rows kept h in
-    any_each (is_late (from_last_before kept rows)) (is_late kept) rows
+    any_same (is_late (from_last_before kept rows)) (is_late kept) rows
     (each_weaker (λ e. Each (λ k. k.seq < e.seq) b.pre) (λ e. is_late (from_last_before kept rows) e ≡ is_late kept e)
     (λ e low. sym (late_alike b.pre (from_last_before kept rows) e low) ∙ ap (λ (l : List Event). is_late l e) (sym b.whole)) rows (all_lower rows b.pre b.low))
 
-rises_back : (xs ys : List Event) → Rises event_number (xs ++ ys) → Rises event_number ys
-rises_back [] ys h = h
-rises_back (x ∷ xs) ys h = rises_back xs ys h.1
-
 pub near_ordered : (kept rows : List Event) → IsInOrder nat_cmp event_number kept → IsInOrder nat_cmp event_number (from_last_before kept rows)
-near_ordered kept rows h =
-    let b = behind rows kept h in
-    in_order_of event_number (from_last_before kept rows) (rises_back b.pre (from_last_before kept rows) (subst (λ (l : List Event). Rises event_number l) b.whole (rises_of event_number kept h)))
+near_ordered kept rows h = in_order_of event_number (from_last_before kept rows) (rises_drop event_number (length (filter (is_before_all rows) kept) - 1) kept (rises_of event_number kept h))
 
 -- the last number of each alarm, one event after another
 overtaken_more : (a : Name) (n : ℕ) (es : List Event) (e : Event) → list_any (λ k. same_name a k.tag && nat_lt n k.seq) (es ++ e ∷ []) ≡ (list_any (λ k. same_name a k.tag && nat_lt n k.seq) es || (same_name a e.tag && nat_lt n e.seq))
@@ -324,7 +283,7 @@ reached_more old new es e t own h put are a n =
 lower_at : (es : List Event) (i : ℕ) (d : Event) → Rises event_number es → i < length es → Each (λ k. k.seq < (get_or es i d).seq) (take i es)
 lower_at [] i d h lt = absurd (omega arith)
 lower_at (x ∷ es) zero d h lt = tt
-lower_at (x ∷ es) (suc i) d h lt = (number_at x.seq es h.0 i d (omega arith), lower_at es i d h.1 (omega arith))
+lower_at (x ∷ es) (suc i) d h lt = (each_at (λ y. x.seq < y.seq) es h.0 i d (omega arith), lower_at es i d h.1 (omega arith))
 
 pub reached_next : (events : List Event) (i : ℕ) (e : Event) (t : Name) (old new : BTreeMap Name ℕ) → IsInOrder nat_cmp event_number events → i < length events → e ≡ get_or events i e → t ≡ e.tag → Updates name_cmp old new t (Some e.seq) → AreReached old (take i events) → AreReached new (take (i + 1) events)
 reached_next events i e t old new h lt is own put are =
@@ -333,13 +292,10 @@ reached_next events i e t old new h lt is own put are =
 
 -- the rows up to a place, none of them late
 pub none_late_more : (near rows : List Event) (i : ℕ) (e : Event) (b : Bool) → i < length rows → e ≡ get_or rows i e → has_late near (take i rows) ≡ false → b ≡ is_late near e → b ≡ false → has_late near (take (i + 1) rows) ≡ false
-none_late_more near rows i e b lt is none eb f =
-    ap (has_late near) (take_more rows i e lt ∙ ap (λ x. take i rows ++ x ∷ []) (sym is)) ∙ list_any-append (is_late near) (take i rows) (e ∷ []) ∙ ap (λ c. c || (is_late near e || false)) none ∙ ap (λ c. c || false) (sym eb ∙ f)
+none_late_more near rows i e b lt is none eb f = list_any_more (is_late near) rows i e lt ∙ (λ j. none j || (ap (is_late near) (sym is) ∙ sym eb ∙ f) j)
 
 pub one_late : (near rows : List Event) (i : ℕ) (e : Event) (b : Bool) → i < length rows → e ≡ get_or rows i e → b ≡ is_late near e → b ≡ true → has_late near rows ≡ true
-one_late near rows i e b lt is eb t =
-    ap (has_late near) (sym (take-append-drop i rows) ∙ ap (λ l. take i rows ++ l) (drop_more rows i e lt ∙ ap (λ x. x ∷ drop (i + 1) rows) (sym is)))
-    ∙ any_there (is_late near) (take i rows) (drop (i + 1) rows) e (sym eb ∙ t)
+one_late near rows i e b lt is eb t = list_any_at (is_late near) rows i e lt (ap (is_late near) (sym is) ∙ sym eb ∙ t)
 
 pub no_late_row : (near rows : List Event) (i : ℕ) → length rows ≤ i → has_late near (take i rows) ≡ false → has_late near rows ≡ false
 no_late_row near rows i le none = ap (has_late near) (sym (take_all i rows le)) ∙ none

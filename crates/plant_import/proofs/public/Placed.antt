@@ -1,9 +1,10 @@
 -- Rows in the order of their numbers: the place of a number among them, and rows put among them.
-use Rattle.std.specs.{Cmp.{nat_cmp_is, ranked}, FinMap.Entries.{below_all, by_order}, List.{IsAllAdjacentAnswer, list_any}}
+use Rattle.std.specs.{Cmp.{nat_cmp_is, ranked}, FinMap.Entries.{below_all, by_order}, List.{IsAllAdjacentAnswer, IsDistinct, list_any}}
 use Rattle.std.specs.{List.Sorted.{IsNonDecreasingBy, IsPartitionPoint, IsPartitionedBy}, Ordering.{eq_by_cmp}}
 use Rattle.std.proofs.Common.{ap, append_assoc, arith, drop, get_or, nat_lt, refl, subst, sym, take, ◌∙◌, is_eq, is_lt, nat_cmp, Bool, IsTrue, List, T, [], false, filter, fold, if◌then◌else◌, length, map, option_map, slice_get, suc, true, unwrap_or, zero, ℕ, ◌++◌, ◌+◌, ◌<◌, ◌∷◌, ◌≡◌, ◌≤◌, ◌||◌, ◌↔◌, Equal, Greater, Less}
 use Rattle.std.proofs.{Math.Bool.{or-false}, lemmas.{Bool.{ltb-false, ltb-true}, List.{drop_more, Sorted.{IsPartitionedBy-ltb}}}}
-use Rattle.plant_types.{specs.KeyedRows.{IsInOrder, in_order, put_row}, proofs.public.Halves.{both, first, second}}
+use Rattle.plant_import.proofs.public.EachLaws.{Each, any_none, each_append, each_at, each_weaker}
+use Rattle.plant_types.{specs.KeyedRows.{IsInOrder, put_row}, proofs.public.Halves.{both, first, second}}
 
 less_of : (m n : ℕ) → T (is_lt (nat_cmp m n)) → m < n
 less_of m n h =
@@ -40,16 +41,13 @@ same_it m n ties =
 
 module _ {X : Type 0} (key : X → ℕ) where
   abbrev pub AllAbove : ℕ → List X → Type 0
-  AllAbove n [] = Unit {0}
-  AllAbove n (x ∷ xs) = (n < key x) × AllAbove n xs
+  AllAbove n xs = Each (λ x. n < key x) xs
 
   abbrev pub AllFrom : ℕ → List X → Type 0
-  AllFrom n [] = Unit {0}
-  AllFrom n (x ∷ xs) = (n ≤ key x) × AllFrom n xs
+  AllFrom n xs = Each (λ x. n ≤ key x) xs
 
   abbrev pub AllBelow : ℕ → List X → Type 0
-  AllBelow n [] = Unit {0}
-  AllBelow n (x ∷ xs) = (key x < n) × AllBelow n xs
+  AllBelow n xs = Each (λ x. key x < n) xs
 
   abbrev pub Rises : List X → Type 0
   Rises [] = Unit {0}
@@ -71,15 +69,10 @@ module _ {X : Type 0} (key : X → ℕ) where
   in_order_of [] h = tt
   in_order_of (x ∷ xs) h = both _ _ (of_above (key x) xs h.0) (in_order_of xs h.1)
 
-  above_at : (n : ℕ) (xs : List X) → AllAbove n xs → (k : ℕ) (d : X) → k < length xs → n < key (get_or xs k d)
-  above_at n [] h k d lt = absurd (omega arith)
-  above_at n (x ∷ xs) h zero d lt = h.0
-  above_at n (x ∷ xs) h (suc k) d lt = above_at n xs h.1 k d (omega arith)
-
   not_falling : (xs : List X) → Rises xs → IsNonDecreasingBy key xs
   not_falling [] h i j d le lt = absurd (omega arith)
   not_falling (x ∷ xs) h zero zero d le lt = omega arith
-  not_falling (x ∷ xs) h zero (suc j) d le lt = let above = above_at (key x) xs h.0 j d (omega arith) in omega (arith, above)
+  not_falling (x ∷ xs) h zero (suc j) d le lt = let above = each_at (λ y. key x < key y) xs h.0 j d (omega arith) in omega (arith, above)
   not_falling (x ∷ xs) h (suc i) zero d le lt = absurd (omega arith)
   not_falling (x ∷ xs) h (suc i) (suc j) d le lt = not_falling xs h.1 i j d (omega arith) (omega arith)
 
@@ -109,20 +102,11 @@ module _ {X : Type 0} (key : X → ℕ) where
   abbrev pub is_at : List X → ℕ → ℕ → Bool
   is_at xs p n = unwrap_or (option_map (λ x. eq_by_cmp nat_cmp n (key x)) (slice_get xs p)) false
 
-  -- a number is there exactly where it is at its place
-  none_above : (n : ℕ) (xs : List X) → AllAbove n xs → list_any (λ x. eq_by_cmp nat_cmp n (key x)) xs ≡ false
-  none_above n [] h = refl
-  none_above n (x ∷ xs) h = λ i. other_above n (key x) h.0 i || none_above n xs h.1 i
-
-  higher : (m n : ℕ) (xs : List X) → m ≤ n → AllAbove n xs → AllAbove m xs
-  higher m n [] le h = tt
-  higher m n (x ∷ xs) le h = (omega (arith, le, h.0), higher m n xs le h.1)
-
   pub there : (n : ℕ) (xs : List X) (p : ℕ) → Rises xs → Parts n xs p → p ≤ length xs → list_any (λ x. eq_by_cmp nat_cmp n (key x)) xs ≡ is_at xs p n
   there n [] zero rises h le = refl
   there n [] (suc p) rises h le = absurd (omega arith)
   there n (x ∷ xs) zero rises h le =
-      ap (λ b. eq_by_cmp nat_cmp n (key x) || b) (none_above n xs (higher n (key x) xs (h.1 0 x (omega arith) (omega arith)) rises.0)) ∙ or-false _
+      ap (λ b. eq_by_cmp nat_cmp n (key x) || b) (any_none (λ y. eq_by_cmp nat_cmp n (key y)) xs (each_weaker (λ y. key x < key y) (λ y. eq_by_cmp nat_cmp n (key y) ≡ false) (λ y lt. let le = h.1 0 x (omega arith) (omega arith) in other_above n (key y) (omega (arith, le, lt))) xs rises.0)) ∙ or-false _
   there n (x ∷ xs) (suc p) rises h le =
       ap (λ b. b || list_any (λ y. eq_by_cmp nat_cmp n (key y)) xs) (other n (key x) (h.0 0 x (omega arith) (omega arith))) ∙ there n xs p rises.1 (later n x xs p h) (omega arith)
 
@@ -142,17 +126,9 @@ module _ {X : Type 0} (key : X → ℕ) where
   puts_after [] xs ys h = refl
   puts_after (r ∷ rs) xs ys h = ap (λ l. puts l rs) (put_after r xs ys h.0) ∙ puts_after rs xs (put r ys) h.1
 
-  below_higher : (m n : ℕ) (xs : List X) → m ≤ n → AllBelow m xs → AllBelow n xs
-  below_higher m n [] le h = tt
-  below_higher m n (x ∷ xs) le h = (omega (arith, le, h.0), below_higher m n xs le h.1)
-
-  below_end : (n : ℕ) (xs : List X) (r : X) → AllBelow n xs → key r < n → AllBelow n (xs ++ r ∷ [])
-  below_end n [] r h lt = (lt, tt)
-  below_end n (x ∷ xs) r h lt = (h.0, below_end n xs r h.1 lt)
-
   pub behind_end : (r : X) (xs rs : List X) → AllBelow (key r) xs → AllAbove (key r) rs → EachBehind (xs ++ r ∷ []) rs
   behind_end r xs [] h k = tt
-  behind_end r xs (s ∷ rs) h k = (below_end (key s) xs r (below_higher (key r) (key s) xs (omega (arith, k.0)) h) k.0, behind_end r xs rs h k.1)
+  behind_end r xs (s ∷ rs) h k = (each_append (λ y. key y < key s) xs (r ∷ []) (each_weaker (λ y. key y < key r) (λ y. key y < key s) (λ y lt. omega (arith, lt, k.0)) xs h) (k.0, tt), behind_end r xs rs h k.1)
 
   -- rising rows that are put one by one are those rows
   pub puts_none : (rs : List X) → Rises rs → puts [] rs ≡ rs
@@ -166,14 +142,14 @@ module _ {X : Type 0} (key : X → ℕ) where
   neighbours_rise (x ∷ y ∷ rows) h =
       let rest : Rises (y ∷ rows) = neighbours_rise (y ∷ rows) (λ k d within. subst (λ n. key (get_or (y ∷ rows) k d) < key (get_or (x ∷ y ∷ rows) n d)) (one_more k) (h (suc k) d (omega (arith, within)))) in
       let lt : key x < key y = h 0 x (omega arith) in
-      ((lt, higher (key x) (key y) rows (omega (arith, lt)) rest.0), rest)
+      ((lt, each_weaker (λ z. key y < key z) (λ z. key x < key z) (λ z less. omega (arith, lt, less)) rows rest.0), rest)
     where
       one_more : (k : ℕ) → suc k + 1 ≡ suc (k + 1)
       one_more k = omega arith
 
   pub rise_neighbours : (rows : List X) → Rises rows → (k : ℕ) (d : X) → k + 1 < length rows → key (get_or rows k d) < key (get_or rows (k + 1) d)
   rise_neighbours [] h k d within = absurd (omega (arith, within))
-  rise_neighbours (x ∷ xs) h zero d within = above_at (key x) xs h.0 0 d (omega (arith, within))
+  rise_neighbours (x ∷ xs) h zero d within = each_at (λ y. key x < key y) xs h.0 0 d (omega (arith, within))
   rise_neighbours (x ∷ xs) h (suc k) d within =
       subst (λ n. key (get_or xs k d) < key (get_or (x ∷ xs) n d)) (one_less k) (rise_neighbours xs h.1 k d (omega (arith, within)))
     where
@@ -217,16 +193,12 @@ module _ {X : Type 0} (key : X → ℕ) where
     pub low : AllBelow n below
     pub high : AllFrom n above
 
-  from_higher : (m n : ℕ) (xs : List X) → m ≤ n → AllAbove n xs → AllFrom m xs
-  from_higher m n [] le h = tt
-  from_higher m n (x ∷ xs) le h = (omega (arith, le, h.0), from_higher m n xs le h.1)
-
   pub cut : (n : ℕ) (xs : List X) (p : ℕ) → Rises xs → Parts n xs p → p ≤ length xs → AreCut n xs (take p xs) (drop p xs)
   cut n [] zero rises h le = record { whole = refl; low = tt; high = tt }
   cut n [] (suc p) rises h le = absurd (omega arith)
   cut n (x ∷ xs) zero rises h le =
       let from : n ≤ key x = h.1 0 x (omega arith) (omega arith) in
-      record { whole = refl; low = tt; high = (from, from_higher n (key x) xs from rises.0) }
+      record { whole = refl; low = tt; high = (from, each_weaker (λ y. key x < key y) (λ y. n ≤ key y) (λ y lt. omega (arith, from, lt)) xs rises.0) }
   cut n (x ∷ xs) (suc p) rises h le =
       let rest = cut n xs p rises.1 (later n x xs p h) (omega arith) in
       record { whole = ap (λ l. x ∷ l) rest.whole; low = (h.0 0 x (omega arith) (omega arith), rest.low); high = rest.high }
@@ -257,14 +229,11 @@ module _ {X : Type 0} (key : X → ℕ) where
   rises_left n rest above left p rises ea el =
       subst (λ (l : List X). Rises l) (sym el) (rises_without n above (subst (λ (l : List X). Rises l) (sym ea) (rises_drop p rest rises)))
 
--- rising numbers are in order
-put_lowest : (n : ℕ) (ns : List ℕ) → AllAbove (λ m. m) n ns → put_row nat_cmp (λ m. m) n ns ≡ n ∷ ns
-put_lowest n [] h = refl
-put_lowest n (m ∷ ms) h = put_before (λ k. k) n m ms h.0
-
-pub in_order_same : (ns : List ℕ) → Rises (λ m. m) ns → in_order nat_cmp ns ≡ ns
-in_order_same [] h = refl
-in_order_same (n ∷ ns) h = ap (put_row nat_cmp (λ m. m) n) (in_order_same ns h.1) ∙ put_lowest n ns h.0
+-- no two of rising numbers are equal
+pub rising_distinct : (ns : List ℕ) → Rises (λ m. m) ns → IsDistinct (eq_by_cmp nat_cmp) ns
+unfolding IsDistinct
+rising_distinct [] h = tt
+rising_distinct (n ∷ ns) h = (each_weaker (λ m. n < m) (λ m. eq_by_cmp nat_cmp n m ≡ false) (other_above n) ns h.0, rising_distinct ns h.1)
 
 -- the keys of some of rising rows rise
 module _ {X : Type 0} (key : X → ℕ) (p : X → Bool) where

@@ -1,45 +1,11 @@
 -- Events in rising number, whose moments don't fall: as a list that is gone through, its parts, and what they are next to one more.
 use Rattle.std.specs.List.{list_any}
-use Rattle.std.proofs.Common.{◌≡◌, ℕ, zero, suc, ◌+◌, ◌-◌, ◌<◌, ◌≤◌, refl, sym, ap, ◌∙◌, subst, arith, List, [], ◌∷◌, ◌++◌, length, take, drop, get_or, Bool, true, false, ◌||◌, Some, None, nat_lt, slice_get, nat_cmp}
-use Rattle.std.proofs.{Math.Bool.{or-true}, lemmas.{Bool.{le-ltb, ltb-false, or_parts}, List.{take_more, take_all, Kept.{AllPairs-cons}}}}
+use Rattle.std.proofs.Common.{◌≡◌, ℕ, suc, ◌+◌, ◌-◌, ◌<◌, ◌≤◌, refl, sym, ap, ◌∙◌, subst, arith, List, [], ◌∷◌, ◌++◌, length, take, drop, get_or, Bool, true, false, ◌||◌, Some, None, nat_lt, slice_get, nat_cmp}
+use Rattle.std.proofs.{lemmas.{Bool.{le-ltb, ltb-false}, List.{take_more, take_all, Kept.{AllPairs-cons}}}}
 use Rattle.std.proofs.lemmas.Option.{get_or_from_slice_get, slice_get-get_or}
 use Rattle.plant_alarm.specs.declared.event.Event.{Event}
-use Rattle.plant_import.{specs.{Merging.{IsRising}, Numbers.{event_number}}, proofs.public.Placed.{AllAbove, Rises, in_order_of}}
+use Rattle.plant_import.{specs.{Merging.{IsRising}, Numbers.{event_number}}, proofs.public.{EachLaws.{Each, any_none, any_there, each_append, each_at, each_back, each_front, each_of, each_weaker}, Placed.{Rises, in_order_of}}}
 use Rattle.plant_types.specs.KeyedRows.{IsInOrder}
-
--- P holds of each
-abbrev pub Each : (Event → Type 0) → List Event → Type 0
-Each P [] = Unit {0}
-Each P (x ∷ xs) = P x × Each P xs
-
-pub each_of : (P : Event → Type 0) (xs : List Event) → ((k : ℕ) (d : Event) → k < length xs → P (get_or xs k d)) → Each P xs
-each_of P [] h = tt
-each_of P (x ∷ xs) h = (h 0 x (omega arith), each_of P xs (λ k d lt. h (suc k) d (omega arith)))
-
-pub each_at : (P : Event → Type 0) (xs : List Event) → Each P xs → (k : ℕ) (d : Event) → k < length xs → P (get_or xs k d)
-each_at P [] h k d lt = absurd (omega arith)
-each_at P (x ∷ xs) h zero d lt = h.0
-each_at P (x ∷ xs) h (suc k) d lt = each_at P xs h.1 k d (omega arith)
-
-pub each_weaker : (P Q : Event → Type 0) → ((x : Event) → P x → Q x) → (xs : List Event) → Each P xs → Each Q xs
-each_weaker P Q f [] h = tt
-each_weaker P Q f (x ∷ xs) h = (f x h.0, each_weaker P Q f xs h.1)
-
-pub each_both : (P Q R : Event → Type 0) → ((x : Event) → P x → Q x → R x) → (xs : List Event) → Each P xs → Each Q xs → Each R xs
-each_both P Q R f [] h k = tt
-each_both P Q R f (x ∷ xs) h k = (f x h.0 k.0, each_both P Q R f xs h.1 k.1)
-
-pub each_append : (P : Event → Type 0) (xs ys : List Event) → Each P xs → Each P ys → Each P (xs ++ ys)
-each_append P [] ys h k = k
-each_append P (x ∷ xs) ys h k = (h.0, each_append P xs ys h.1 k)
-
-pub each_front : (P : Event → Type 0) (xs ys : List Event) → Each P (xs ++ ys) → Each P xs
-each_front P [] ys h = tt
-each_front P (x ∷ xs) ys h = (h.0, each_front P xs ys h.1)
-
-pub each_back : (P : Event → Type 0) (xs ys : List Event) → Each P (xs ++ ys) → Each P ys
-each_back P [] ys h = h
-each_back P (x ∷ xs) ys h = each_back P xs ys h.1
 
 -- a smaller number, and no later moment
 abbrev pub Before : Event → Event → Type 0
@@ -64,23 +30,6 @@ rising_front (x ∷ xs) ys h = (each_front (Before x) xs ys h.0, rising_front xs
 pub rising_back : (xs ys : List Event) → Rising (xs ++ ys) → Rising ys
 rising_back [] ys h = h
 rising_back (x ∷ xs) ys h = rising_back xs ys h.1
-
--- tests over lists
-pub any_none : (p : Event → Bool) (xs : List Event) → Each (λ x. p x ≡ false) xs → list_any p xs ≡ false
-any_none p [] h = refl
-any_none p (x ∷ xs) h = ap (λ b. b || list_any p xs) h.0 ∙ any_none p xs h.1
-
-pub any_same : (p q : Event → Bool) (xs : List Event) → Each (λ x. p x ≡ q x) xs → list_any p xs ≡ list_any q xs
-any_same p q [] h = refl
-any_same p q (x ∷ xs) h = ap (λ b. b || list_any p xs) h.0 ∙ ap (λ b. q x || b) (any_same p q xs h.1)
-
-pub each_not : (p : Event → Bool) (xs : List Event) → list_any p xs ≡ false → Each (λ x. p x ≡ false) xs
-each_not p [] e = tt
-each_not p (x ∷ xs) e = let both = or_parts (p x) (list_any p xs) e in (both.0, each_not p xs both.1)
-
-pub any_there : (p : Event → Bool) (xs ys : List Event) (y : Event) → p y ≡ true → list_any p (xs ++ y ∷ ys) ≡ true
-any_there p [] ys y e = ap (λ b. b || list_any p ys) e
-any_there p (x ∷ xs) ys y e = ap (λ b. p x || b) (any_there p xs ys y e) ∙ or-true (p x)
 
 -- a test that the first or the last of rising events settles
 pub first_settles : (m : ℕ) (x : Event) (xs : List Event) → Rising (x ∷ xs) → nat_lt x.moment m ≡ list_any (λ e. nat_lt e.moment m) (x ∷ xs)
@@ -143,13 +92,9 @@ last_none (y ∷ ys) e =
     absurd (cc (e ∙ ap (slice_get (y ∷ ys)) at ∙ there))
 
 -- events in rising number whose moments don't fall are in the order of their numbers
-numbers_above : (n : ℕ) (xs : List Event) → Each (λ y. n < y.seq) xs → AllAbove event_number n xs
-numbers_above n [] h = tt
-numbers_above n (x ∷ xs) h = (h.0, numbers_above n xs h.1)
-
 numbers_rise : (xs : List Event) → Rising xs → Rises event_number xs
 numbers_rise [] h = tt
-numbers_rise (x ∷ xs) h = (numbers_above x.seq xs (each_weaker (Before x) (λ y. x.seq < y.seq) (λ y b. b.0) xs h.0), numbers_rise xs h.1)
+numbers_rise (x ∷ xs) h = (each_weaker (Before x) (λ y. x.seq < y.seq) (λ y b. b.0) xs h.0, numbers_rise xs h.1)
 
 pub in_number_order : (xs : List Event) → IsRising xs → IsInOrder nat_cmp event_number xs
 in_number_order xs h = in_order_of event_number xs (numbers_rise xs (rising_of xs h))

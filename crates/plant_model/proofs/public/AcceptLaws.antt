@@ -17,7 +17,7 @@ use Rattle.plant_model.proofs.public.ChangeLaws.{Turns, now_stands, register_tur
 use Rattle.plant_model.proofs.public.EventLaws.{import_accepted, legal_kept, unspoken}
 use Rattle.plant_model.proofs.public.HistoryLaws.{alarm_of, alarms_told, grants_told, pairs_of, shelves_told, tags_of_alarms, tags_of_shelves}
 use Rattle.plant_model.proofs.public.{ImportLaws.{import_turns}, ServiceLaws.{registered, registered_anew, what_is}}
-use Rattle.plant_ration.specs.declared.change.{ChangeKind.{ChangeKind, TheVariants.{Limit, Matrix, Rationale}}, Proposal.{Proposal}}
+use Rattle.plant_ration.specs.declared.change.ChangeKind.{ChangeKind, TheVariants.{Limit, Matrix, Rationale}}
 use Rattle.plant_alarm.specs.declared.event.Event.{Event}
 use Rattle.plant_import.specs.declared.bad_file.BadFile.{BadFile}
 
@@ -33,10 +33,6 @@ now_shelved a b row rest =
       | true ↦ λ e. ap (λ y. Some (row y)) (same_names a b (tied _ _ e refl))
       | false ↦ λ e. refl
     ] refl
-
-now_unshelved : (a b : Name) (rest : Option (Said ShelfRow)) → still (or_else (when (same_name a b) Over) rest) ≡ cond (same_name a b) None (still rest)
-now_unshelved a b rest =
-    elim (same_name a b) as (λ t. still (or_else (when t Over) rest) ≡ cond t None (still rest)) [ true ↦ refl | false ↦ refl ]
 
 still_when : {A : Type 0} (b : Bool) (v : Said A) (rest : Option (Said A)) → still (or_else (when b v) rest) ≡ cond b (what_stands v) (still rest)
 still_when true v rest = refl
@@ -60,7 +56,7 @@ module _ (h : List Call) (p : Name) (t : ℕ) where
 
   unshelve_turns : (u a : Name) → Turns h p t (Unshelve u a)
   unshelve_turns u a = λ i. record (rows_of (with_request h p t (Unshelve u a))) {
-    shelves = remove-rows (shelf h) (shelf (with_request h p t (Unshelve u a))) (tags_of_shelves h) (tags_of_shelves (with_request h p t (Unshelve u a))) a (shelves_told h) (shelves_told (with_request h p t (Unshelve u a))) (λ b. now_unshelved b a _) i;
+    shelves = remove-rows (shelf h) (shelf (with_request h p t (Unshelve u a))) (tags_of_shelves h) (tags_of_shelves (with_request h p t (Unshelve u a))) a (shelves_told h) (shelves_told (with_request h p t (Unshelve u a))) (λ b. still_when (same_name b a) Over _) i;
   }
 
   -- the limit in the alarm's row is the limit in force
@@ -115,12 +111,10 @@ module _ (h : List Call) (p : Name) (t : ℕ) where
   file_turns u (Err fault) legal entry = absurd (import_accepted h p t u (Err fault) entry)
   file_turns u (Ok rows) legal entry = import_turns h p t u rows (legal_kept h legal) (import_accepted h p t u (Ok rows) entry).1
 
-  propose_accepted : (u : Name) (x : Proposal) → IsLegal h → Turns h p t (Propose u x)
-  propose_accepted u x legal = by x.kind x.base where
-    by : (k : ChangeKind) (base : ℕ) → Turns h p t (Propose u (record { kind = k; base = base }))
-    by (Rationale a s) base = propose_sheet_turns h p t u a s base (next_undecided h legal)
-    by (Matrix m) base = propose_matrix_turns h p t u m base (next_undecided h legal)
-    by (Limit a max) base = propose_limit_turns h p t u a max base (next_undecided h legal)
+  propose_accepted : (u : Name) (k : ChangeKind) (base : ℕ) → IsLegal h → Turns h p t (Propose u (record { kind = k; base = base }))
+  propose_accepted u (Rationale a s) base legal = propose_sheet_turns h p t u a s base (next_undecided h legal)
+  propose_accepted u (Matrix m) base legal = propose_matrix_turns h p t u m base (next_undecided h legal)
+  propose_accepted u (Limit a max) base legal = propose_limit_turns h p t u a max base (next_undecided h legal)
 
   approve_accepted : (u : Name) (n : ℕ) → IsLegal h → IsEntry h (made_by (Approve u n)) → Turns h p t (Approve u n)
   approve_accepted u n legal entry =
@@ -145,7 +139,7 @@ module _ (h : List Call) (p : Name) (t : ℕ) where
   accepted_turns legal (Unshelve u a) plain accepted = unshelve_turns h p t u a
   accepted_turns legal (RemoveFromService u a w) plain accepted = let known = latches a (unrefused h (made_by (RemoveFromService u a w)) accepted).1.1.1.0 in remove_turns h p t u a w known.0 known.1
   accepted_turns legal (PlaceInService u a) plain accepted = let known = latches a (unrefused h (made_by (PlaceInService u a)) accepted).1.1.1.0 in place_turns h p t u a known.0 known.1
-  accepted_turns legal (Propose u x) plain accepted = propose_accepted u x legal
+  accepted_turns legal (Propose u x) plain accepted = propose_accepted u x.kind x.base legal
   accepted_turns legal (WithdrawChange u n) plain accepted = let known = drafted h n _ (unrefused h (made_by (WithdrawChange u n)) accepted).1.1.1 in withdraw_change_turns h p t u n known.0 known.1
   accepted_turns legal (Approve u n) plain accepted = approve_accepted u n legal accepted
   accepted_turns legal (Reject u n) plain accepted = let known = drafted h n _ (unrefused h (made_by (Reject u n)) accepted).1.1.1 in reject_turns h p t u n known.0 known.1

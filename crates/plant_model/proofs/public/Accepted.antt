@@ -1,9 +1,10 @@
 -- What an entry passed when it was accepted, and what holds of every legal history.
-use Rattle.std.proofs.Common.{refl, ◌∙◌, ◌≡◌, Bool, List, None, Option, Some, [], false, is_ok, not, true, ℕ, ◌∷◌}
+use Rattle.std.proofs.Common.{refl, ◌∙◌, ◌≡◌, Bool, List, None, Option, Some, [], false, is_ok, not, true, ℕ, ◌∷◌, sym}
 use Rattle.std.proofs.lemmas.Bool.{and_parts, true≢false}
 use Rattle.plant_model.specs.{Facts.{facts}, Histories.{latest}, Legality.{IsLegal, has_matrix}, Refusals.{first_refusal, is_open, of_change}}
 use Rattle.plant_model.specs.{Verdicts.{changes_history, is_opening, refusals, refused_or, verdict}, declared.call.{Call.{Call}, Request.{Request}}}
 use Rattle.plant_model.specs.declared.{call.Request.TheVariants.{OpenUnit}, reply.{ChangeRow.{ChangeRow}, Refused.{Refused}, Reply.{Reply}}}
+use Rattle.plant_model.proofs.public.PutLaws.{else_none}
 use Rattle.plant_ration.specs.Grid.{Grid}
 use Rattle.plant_types.specs.{Names.{Name}, Options.{or_else}}
 
@@ -53,11 +54,7 @@ by_legal P first next (c ∷ b ∷ h) legal =
 
 -- so for what was said last: it holds where it was said, and stays
 pub latest_legal : {A : Type 0} (says : Call → List Call → Option A) (P : List Call → A → Type 0) → ((p : Name) (t : ℕ) (u s : Name) (m : Grid) (k : ℕ) → has_matrix (OpenUnit u s m k) ≡ true → (x : A) → says (made p t (OpenUnit u s m k)) [] ≡ Some x → P (made p t (OpenUnit u s m k) ∷ []) x) → ((h : List Call) (c : Call) → Follows h c → (x : A) → says c h ≡ Some x → P (c ∷ h) x) → ((h : List Call) (c : Call) → Follows h c → (x : A) → P h x → P (c ∷ h) x) → (h : List Call) → IsLegal h → (x : A) → latest says h ≡ Some x → P h x
-latest_legal {A} says P first said stays = by_legal (λ h. (x : A) → latest says h ≡ Some x → P h x) (λ p t u s m k shape x e. first p t u s m k shape x (only _ x e)) next where
-  only : (o : Option A) (x : A) → or_else o None ≡ Some x → o ≡ Some x
-  only None x e = e
-  only (Some y) x e = e
-
+latest_legal {A} says P first said stays = by_legal (λ h. (x : A) → latest says h ≡ Some x → P h x) (λ p t u s m k shape x e. first p t u s m k shape x (sym (else_none _) ∙ e)) next where
   next : (h : List Call) (c : Call) → Follows h c → ((x : A) → latest says h ≡ Some x → P h x) → (x : A) → latest says (c ∷ h) ≡ Some x → P (c ∷ h) x
   next h c f rest x e =
       elim (says c h) as (λ o. says c h ≡ o → or_else o (latest says h) ≡ Some x → P (c ∷ h) x) [

@@ -1,14 +1,14 @@
 -- In a legal history there are at most 20,000 changes, and no thing has more approved changes than that.
-use Rattle.std.specs.List.{list_any, AllByRecursion, IsDistinct}
-use Rattle.std.proofs.Common.{ap, arith, refl, sym, ◌∙◌, Bool, List, None, Option, Some, [], false, if◌then◌else◌, is_some, length, not, option_map, true, ℕ, ◌+◌, ◌<◌, ◌∷◌, ◌≡◌, ◌≤◌, true≢false, eqb-true, ne_eqb, eqb, length-append, inl, inr, ◌++◌}
+use Rattle.std.{specs.List.{list_any, AllByRecursion, IsDistinct}, proofs.lemmas.Map.Steps.{length-le_from_distinct_below}}
+use Rattle.std.proofs.Common.{ap, arith, refl, sym, ◌∙◌, Bool, List, None, Option, Some, [], false, if◌then◌else◌, is_some, length, not, option_map, true, ℕ, ◌+◌, ◌<◌, ◌∷◌, ◌≡◌, ◌≤◌, true≢false, eqb-true, ne_eqb, eqb, length-append, inl, inr, ◌++◌, option_and_then}
 use Rattle.std.proofs.lemmas.{Bool.{leb-false, or_cases, or_parts, false_from_ne_true}, List.Folds.{list_any-append}}
-use Rattle.std.proofs.lemmas.Map.Steps.{length-le_from_distinct_below}
 use Rattle.plant_model.specs.Changes.{Decision, Draft, approved_limit, approved_matrix, approved_sheet, change, change_as, decision, draft, limit_revision, matrix_revision, proposals, record_revision, said_of_decision}
 use Rattle.plant_model.specs.{Histories.{counted, same_number, all_named}, Legality.{IsLegal}, Refusals.{is_open, of_change}}
 use Rattle.plant_model.specs.declared.call.{Call.{Call}, Request.{Request, TheVariants.{Approve, Propose, Reject, WithdrawChange}}}
 use Rattle.plant_model.{specs.declared.reply.{ChangeRow.{ChangeRow}, Refused.{Refused}}, proofs.ProposalLaws.{drafted, decided_bound}}
 use Rattle.plant_model.proofs.public.{Accepted.{by_legal, AllOff, IsEntry, made, unrefused}, HistoryLaws.{latest-holds, when_Some}}
 use Rattle.plant_model.proofs.public.{ReadLaws.{draft_positive, else_some}, RowsFound.{tied_numbers}, ServiceLaws.{what_is}}
+use Rattle.plant_model.specs.Changes.{number_approved, matrix_in, sheet_in, limit_in, kind_of_change}
 use Rattle.plant_ration.specs.declared.change.ChangeState.TheVariants.{Approved}
 use Rattle.plant_types.specs.{Limits.{max_changes}, Names.{Name}, Options.{or_else, when}}
 
@@ -109,24 +109,16 @@ fewer says each (c ∷ h) =
       | false ↦ λ _. omega (arith, rest, long)
     ] refl
 
-matrix_approval : (before : List Call) (q : Request) → is_some (approved_matrix before q) ≡ true → 1 ≤ length (approved_by q)
-matrix_approval before (Approve u n) e = omega arith
-matrix_approval before _ e = cc
-
-sheet_approval : (a : Name) (before : List Call) (q : Request) → is_some (approved_sheet a before q) ≡ true → 1 ≤ length (approved_by q)
-sheet_approval a before (Approve u n) e = omega arith
-sheet_approval a before _ e = cc
-
-limit_approval : (a : Name) (before : List Call) (q : Request) → is_some (approved_limit a before q) ≡ true → 1 ≤ length (approved_by q)
-limit_approval a before (Approve u n) e = omega arith
-limit_approval a before _ e = cc
+an_approval : {A : Type 0} (brings : ℕ → Option A) (q : Request) → is_some (option_and_then brings (number_approved q)) ≡ true → 1 ≤ length (approved_by q)
+an_approval brings (Approve u n) e = omega arith
+an_approval brings _ e = cc
 
 -- so each revision is at most 20,000
 pub few_matrices : (h : List Call) → IsLegal h → matrix_revision h ≤ max_changes
-few_matrices h legal = let some = fewer (λ c before. approved_matrix before c.request) (λ c before. matrix_approval before c.request) h in let few = few_approvals h legal in omega (arith, some, few)
+few_matrices h legal = let some = fewer (λ c before. approved_matrix before c.request) (λ c before. an_approval (λ n. matrix_in n (kind_of_change before n)) c.request) h in let few = few_approvals h legal in omega (arith, some, few)
 
 pub few_records : (h : List Call) → IsLegal h → (a : Name) → record_revision h a ≤ max_changes
-few_records h legal a = let some = fewer (λ c before. approved_sheet a before c.request) (λ c before. sheet_approval a before c.request) h in let few = few_approvals h legal in omega (arith, some, few)
+few_records h legal a = let some = fewer (λ c before. approved_sheet a before c.request) (λ c before. an_approval (λ n. sheet_in a n (kind_of_change before n)) c.request) h in let few = few_approvals h legal in omega (arith, some, few)
 
 pub few_limits : (h : List Call) → IsLegal h → (a : Name) → limit_revision h a ≤ max_changes
-few_limits h legal a = let some = fewer (λ c before. approved_limit a before c.request) (λ c before. limit_approval a before c.request) h in let few = few_approvals h legal in omega (arith, some, few)
+few_limits h legal a = let some = fewer (λ c before. approved_limit a before c.request) (λ c before. an_approval (λ n. limit_in a (kind_of_change before n)) c.request) h in let few = few_approvals h legal in omega (arith, some, few)

@@ -1,10 +1,8 @@
 -- Without ends, standing is holding.
-use Rattle.std.specs.List.{list_all}
+use Rattle.std.{specs.List.{list_all}, proofs.lemmas.Bool.{and_parts}}
 use Rattle.std.proofs.Common.{refl, Bool, List, None, Option, Some, [], false, is_none, is_some, option_map, true, unwrap_or, ℕ, ◌∷◌, ◌≡◌}
-use Rattle.std.proofs.lemmas.Bool.{and_parts}
-use Rattle.plant_model.specs.{Grants.{is_before, said_of_pair}, Histories.{Begins, Over, Said, latest, still}}
-use Rattle.plant_model.specs.{Laws.{WithoutEndsStandingIsHolding, has_no_end}, declared.call.{Call.{Call}, Request.{Request}}}
-use Rattle.plant_model.specs.declared.call.Request.TheVariants.{Grant, OpenUnit, Withdraw}
+use Rattle.plant_model.specs.{Grants.{is_before, said_of_pair}, Histories.{Begins, Over, Said, latest, still}, Laws.{WithoutEndsStandingIsHolding}}
+use Rattle.plant_model.specs.{Laws.{has_no_end}, declared.call.{Call.{Call}, Request.{Request, TheVariants.{Grant, OpenUnit, Withdraw}}}}
 use Rattle.plant_types.specs.{Options.{or_else, when}, Roles.{Pair, same_pair}, declared.role.Role.TheVariants.{Steward}}
 
 -- what is said of a pair gives it no end
@@ -37,10 +35,8 @@ latest_without k (c ∷ h) e =
     or_else_without (said_of_pair k c.request) _ (said_without_end k c.request parts.0) (latest_without k h parts.1)
 
 held_for_good : (t : ℕ) (o : Option (Said (Option ℕ))) → NoEnd o → unwrap_or (option_map (is_before t) (still o)) false ≡ is_some (still o)
-held_for_good t None n = refl
-held_for_good t (Some Over) n = refl
-held_for_good t (Some (Begins None)) n = refl
 held_for_good t (Some (Begins (Some until))) n = absurd n
+held_for_good t _ n = refl
 
 pub without_ends : WithoutEndsStandingIsHolding
 without_ends h e t k = held_for_good t (latest (λ c before. said_of_pair k c.request) h) (latest_without k h e)

@@ -1,19 +1,16 @@
 -- The rows of a history give its facts.
-use Rattle.std.specs.{Cmp.{eq_by_cmp_equiv}, List.{cons_option, list_any}, Ordering.{eq_by_cmp}}
-use Rattle.std.proofs.Common.{sym, ap, arith, refl, ◌∙◌, nat_cmp, filter_map, if◌then◌else◌, length, max, option_and_then, ◌+◌, ◌≤◌, Bool, List, None, Option, Some, [], cond, false, is_some, map, option_map, true, unwrap_or, ℕ, ◌<◌, ◌∷◌, ◌≡◌, Ordering}
-use Rattle.std.proofs.lemmas.Bool.{false_from_ne_true}
-use Rattle.plant_types.specs.{KeyedRows.{in_order, row_at}, Names.{same_name, Name, name_cmp}, Options.{or_else, when}}
-use Rattle.plant_types.{specs.Roles.{Pair, pair_cmp, same_pair}, proofs.public.KeyedRowLaws.{row_at-rows, tied}}
-use Rattle.plant_types.proofs.public.Orders.{same_names, number_total, same_numbers}
+use Rattle.std.{specs.{Cmp.{eq_by_cmp_equiv}, List.{cons_option, list_any}, Ordering.{eq_by_cmp}}, proofs.lemmas.Bool.{false_from_ne_true}}
+use Rattle.std.proofs.Common.{sym, ap, arith, refl, ◌∙◌, nat_cmp, filter_map, if◌then◌else◌, length, max, option_and_then, ◌+◌, ◌≤◌, Bool, List, None, Option, Some, [], cond, false, is_some, map, option_map, true, unwrap_or, ℕ, ◌∷◌, ◌≡◌, Ordering}
+use Rattle.plant_types.{proofs.public.{KeyedRowLaws.{row_at-rows, tied}, Orders.{same_names, number_total, same_numbers}}, specs.KeyedRows.{in_order}}
+use Rattle.plant_types.specs.{KeyedRows.{row_at}, Names.{same_name, Name, name_cmp}, Options.{or_else, when}, Roles.{Pair, pair_cmp, same_pair}}
 use Rattle.plant_model.specs.Changes.{Draft, approved_sheet, change, draft, is_proposal, kind_of_change, matrix, proposals, record_of, record_revision, said_of_draft, sheet, sheet_in}
 use Rattle.plant_model.specs.{Facts.{facts}, Grants.{held, is_before, standing, stands}, Histories.{counted, latest, same_number}}
 use Rattle.plant_model.specs.RowFacts.{change_found, change_number, change_read, facts_from, kind_read, matrix_read, record_found, record_from, record_read, record_tag, sheet_read, alarm_tag, pair_of, shelf_tag}
 use Rattle.plant_model.specs.Rows.{change_entry, changes_of, max_of_kind, record_entry, records_of, sheet_of_kind, tag_of_kind, topic, alarm_row, alarm_rows, grant_as, grant_row, grant_rows, rows_of, shelf_rows}
 use Rattle.plant_model.specs.{Shelves.{shelf}, declared.call.{Call.{Call}, Request.{Request, TheVariants.{Approve, Propose}}}}
 use Rattle.plant_model.specs.declared.{reply.{ChangeRow.{ChangeRow}, RecordRow.{RecordRow}}, rows.{ChangeEntry.{ChangeEntry}, GrantRow.{GrantRow}}}
-use Rattle.plant_model.specs.declared.rows.RecordEntry.{RecordEntry}
+use Rattle.plant_model.{specs.declared.rows.RecordEntry.{RecordEntry}, proofs.public.PutLaws.{is_some-find}}
 use Rattle.plant_model.proofs.public.HistoryLaws.{change_with, changes_told, numbers_of_changes, record_with, records_told, tags_of_records, when_Some, alarms_told, grants_told, pairs_of, shelves_told, tags_of_alarms, tags_of_shelves}
-use Rattle.plant_model.proofs.public.PutLaws.{is_some-find}
 use Rattle.plant_ration.specs.{Grid.{Grid}, declared.change.{ChangeKind.{ChangeKind, TheVariants.{Limit, Matrix, Rationale}}, Sheet.{Sheet}}}
 
 pub is_some-map : {A B : Type 0} (f : A → B) (o : Option A) → is_some (option_map f o) ≡ is_some o
@@ -47,9 +44,6 @@ same_number_of m n e = same_numbers m n (tied _ true e refl)
 pub is_same_number : (n : ℕ) → same_number n n ≡ true
 is_same_number n = (eq_by_cmp_equiv number_total).refl n
 
-other_number : (m n : ℕ) → m < n → same_number m n ≡ false
-other_number m n less = false_from_ne_true (same_number m n) (λ e. let is : m ≡ n = same_number_of m n e in omega (arith, less, is))
-
 -- Records and changes: rows that are made of other rows
 pub row_at-map : {A X K : Type 0} (R : K → K → Ordering) (key : X → K) (f : A → X) (k : K) (xs : List A) → row_at R key k (map f xs) ≡ option_map f (row_at R (λ x. key (f x)) k xs)
 row_at-map R key f k [] = refl
@@ -74,12 +68,13 @@ none_counted says (c ∷ h) e =
       | Some x ↦ λ some. cc
     ] e
 
-revision_by : (h : List Call) (a : Name) (o : Option (ℕ × Sheet)) → sheet h a ≡ o → unwrap_or (option_map (λ (r : RecordEntry). r.rev) (option_map record_entry (option_map (record_with h a) o))) 0 ≡ record_revision h a
-revision_by h a None e = sym (none_counted (λ c before. approved_sheet a before c.request) h e)
-revision_by h a (Some s) e = refl
-
 pub revision_in : (h : List Call) (a : Name) → unwrap_or (option_map (λ (r : RecordEntry). r.rev) (record_found (rows_of h) a)) 0 ≡ record_revision h a
-revision_in h a = ap (λ o. unwrap_or (option_map (λ (r : RecordEntry). r.rev) o) 0) (record_entry_in h a) ∙ revision_by h a (sheet h a) refl
+revision_in h a =
+    ap (λ o. unwrap_or (option_map (λ (r : RecordEntry). r.rev) o) 0) (record_entry_in h a)
+    ∙ elim (sheet h a) as (λ o. sheet h a ≡ o → unwrap_or (option_map (λ (r : RecordEntry). r.rev) (option_map record_entry (option_map (record_with h a) o))) 0 ≡ record_revision h a) [
+      | None ↦ λ e. sym (none_counted (λ c before. approved_sheet a before c.request) h e)
+      | Some s ↦ λ _. refl
+    ] refl
 
 -- A change keeps its number and its content
 bound_step : (h : List Call) (n : ℕ) (p : Name) (t : ℕ) (q : Request) (d : Draft) → (draft h n ≡ Some d → n ≤ proposals h) → or_else (said_of_draft n p t h q) (draft h n) ≡ Some d → n ≤ (if is_proposal q then proposals h + 1 else proposals h)
@@ -96,7 +91,7 @@ draft_bound (c ∷ h) n d e = bound_step h n c.person c.moment c.request d (draf
 
 kept_step : (h : List Call) (n : ℕ) (p : Name) (t : ℕ) (q : Request) (o : Option Draft) → n ≤ proposals h → or_else (said_of_draft n p t h q) o ≡ o
 kept_step h n p t (Propose u y) o less =
-    ap (λ b. or_else (when b (record { proposer = p; proposed = t; kind = y.kind; base = y.base })) o) (other_number n (proposals h + 1) (omega (arith, less)))
+    ap (λ b. or_else (when b (record { proposer = p; proposed = t; kind = y.kind; base = y.base })) o) (false_from_ne_true _ (λ e. let is : n ≡ proposals h + 1 = same_number_of n (proposals h + 1) e in omega (arith, less, is)))
 kept_step h n p t _ o less = refl
 
 -- a change is kept for good
@@ -118,10 +113,8 @@ sheet_when a b old new true same is =
 sheet_when a b old new false same is = cc
 
 sheet_of : (a : Name) (n m : ℕ) (s : Sheet) (k : Option ChangeKind) → sheet_in a n k ≡ Some (m, s) → (n ≡ m) × (k ≡ Some (Rationale a s))
-sheet_of a n m s None e = cc
 sheet_of a n m s (Some (Rationale b r)) e = sheet_when a b (n, r) (m, s) (same_name a b) refl e
-sheet_of a n m s (Some (Matrix x)) e = cc
-sheet_of a n m s (Some (Limit b x)) e = cc
+sheet_of a n m s _ e = cc
 
 approved_from : (a : Name) (c : Call) (h : List Call) (p : Name) (t : ℕ) (q : Request) (m : ℕ) (s : Sheet) → approved_sheet a h q ≡ Some (m, s) → kind_of_change h m ≡ Some (Rationale a s)
 approved_from a c h p t (Approve u n) m s e = let both = sheet_of a n m s (kind_of_change h n) e in ap (kind_of_change h) (sym both.0) ∙ both.1
@@ -153,20 +146,18 @@ record_back h a x e =
     ap (option_map (λ (c : ChangeEntry). record_from (record_entry (record_with h a x)) (sheet_read c))) (change_entry_in h x.0)
     ∙ read_draft h (record_entry (record_with h a x)) a x.1 (draft h x.0) (sheet_source h a x.0 x.1 e)
 
-record_by : (h : List Call) (a : Name) (o : Option (ℕ × Sheet)) → sheet h a ≡ o → option_and_then (record_read (rows_of h)) (option_map record_entry (option_map (record_with h a) o)) ≡ option_map (record_with h a) o
-record_by h a None e = refl
-record_by h a (Some x) e = record_back h a x e
-
 record_in : (h : List Call) (a : Name) → option_and_then (record_read (rows_of h)) (record_found (rows_of h) a) ≡ record_of h a
-record_in h a = ap (option_and_then (record_read (rows_of h))) (record_entry_in h a) ∙ record_by h a (sheet h a) refl
-
-cons_read : (h : List Call) (a : Name) (o : Option (ℕ × Sheet)) (rest : List RecordRow) → sheet h a ≡ o → filter_map (record_read (rows_of h)) (map record_entry (cons_option (option_map (record_with h a) o) rest)) ≡ cons_option (option_map (record_with h a) o) (filter_map (record_read (rows_of h)) (map record_entry rest))
-cons_read h a None rest e = refl
-cons_read h a (Some x) rest e = ap (λ o. cons_option o (filter_map (record_read (rows_of h)) (map record_entry rest))) (record_back h a x e)
+record_in h a =
+    ap (option_and_then (record_read (rows_of h))) (record_entry_in h a)
+    ∙ elim (sheet h a) as (λ o. sheet h a ≡ o → option_and_then (record_read (rows_of h)) (option_map record_entry (option_map (record_with h a) o)) ≡ option_map (record_with h a) o) [ None ↦ λ _. refl | Some x ↦ record_back h a x ] refl
 
 records_back : (h : List Call) (tags : List Name) → filter_map (record_read (rows_of h)) (map record_entry (filter_map (record_of h) tags)) ≡ filter_map (record_of h) tags
 records_back h [] = refl
-records_back h (a ∷ tags) = cons_read h a (sheet h a) (filter_map (record_of h) tags) refl ∙ ap (cons_option (record_of h a)) (records_back h tags)
+records_back h (a ∷ tags) =
+    elim (sheet h a) as (λ o. sheet h a ≡ o → filter_map (record_read (rows_of h)) (map record_entry (cons_option (option_map (record_with h a) o) (filter_map (record_of h) tags))) ≡ cons_option (option_map (record_with h a) o) (filter_map (record_of h) tags)) [
+      | None ↦ λ _. records_back h tags
+      | Some x ↦ λ e i. cons_option (record_back h a x e i) (records_back h tags i)
+    ] refl
 
 -- a change is read from its row
 kind_back : (h : List Call) → AreReadable h → (c : ChangeRow) (k : ChangeKind) → c.kind ≡ k → kind_of_change h c.number ≡ Some k → kind_read (rows_of h) (change_entry c) (topic k) ≡ k
@@ -174,12 +165,13 @@ kind_back h readable c (Rationale a s) e is = λ i. Rationale (unwrap_or (tag_of
 kind_back h readable c (Matrix m) e is = ap (λ x. Matrix x) (readable.proposed c.number m is)
 kind_back h readable c (Limit a max) e is = λ i. Limit (unwrap_or (tag_of_kind (e i)) []) (unwrap_or (max_of_kind (e i)) 0)
 
-change_by : (h : List Call) → AreReadable h → (n : ℕ) (o : Option Draft) → draft h n ≡ o → option_map (change_read (rows_of h)) (option_map change_entry (option_map (change_with h n) o)) ≡ option_map (change_with h n) o
-change_by h readable n None e = refl
-change_by h readable n (Some d) e = λ i. Some (record (change_with h n d) { kind = kind_back h readable (change_with h n d) d.kind refl (ap (option_map (λ (d : Draft). d.kind)) e) i })
-
 change_in : (h : List Call) → AreReadable h → (n : ℕ) → option_map (change_read (rows_of h)) (change_found (rows_of h) n) ≡ change h n
-change_in h readable n = ap (option_map (change_read (rows_of h))) (change_entry_in h n) ∙ change_by h readable n (draft h n) refl
+change_in h readable n =
+    ap (option_map (change_read (rows_of h))) (change_entry_in h n)
+    ∙ elim (draft h n) as (λ o. draft h n ≡ o → option_map (change_read (rows_of h)) (option_map change_entry (option_map (change_with h n) o)) ≡ option_map (change_with h n) o) [
+      | None ↦ λ _. refl
+      | Some d ↦ λ e i. Some (record (change_with h n d) { kind = kind_back h readable (change_with h n d) d.kind refl (ap (option_map (λ (d : Draft). d.kind)) e) i })
+    ] refl
 
 -- the facts read from the rows of a history, with the numbers of its alarms and proposals, are those of the history
 pub facts_told : (h : List Call) → AreReadable h → facts_from (rows_of h) (length (alarm_rows h)) (proposals h) ≡ facts h

@@ -1,14 +1,13 @@
 -- The roles that a person's grant rows show are those of the history.
 use Rattle.std.specs.{Cmp.{IsTotalOrder, nat_cmp_total, on_total}, FinMap.Entries.{below_all}, List.{cons_option, list_any, slice_get}}
-use Rattle.std.specs.Ordering.{eq_by_cmp, ordering_then}
+use Rattle.std.{specs.Ordering.{eq_by_cmp, ordering_then}, proofs.lemmas.Option.{slice_get-map}}
 use Rattle.std.proofs.Common.{ap, refl, subst, sym, ◌∙◌, is_eq, is_lt, nat_cmp, Bool, List, None, Option, Some, T, [], cond, false, filter, filter_map, if◌then◌else◌, is_some, map, option_map, true, unwrap_or, ℕ, ◌||◌, ◌∷◌, ◌≡◌, Ordering, Equal, Greater, Less}
 use Rattle.plant_model.specs.{Grants.{held, holds_any, is_before, roles_held}, RowFacts.{pair_of}, Rows.{grant_row, grant_rows}}
-use Rattle.plant_model.{specs.declared.{call.Call.{Call}, rows.GrantRow.{GrantRow}}, proofs.public.FactLaws.{held_in}}
-use Rattle.plant_model.proofs.public.{HistoryLaws.{grants_told, pairs_of, when_Some}, RowsFound.{both, first, second}}
-use Rattle.plant_types.specs.{KeyedRows.{IsInOrder, row_at}, Names.{Name, name_cmp, same_name}, Options.{when}}
-use Rattle.plant_types.specs.{Roles.{Pair, all_roles, pair_cmp, role_no}, declared.role.Role.{Role}}
-use Rattle.plant_types.specs.declared.role.Role.TheVariants.{Approver, Engineer, Maintainer, Operator, Steward, Viewer}
-use Rattle.plant_types.proofs.public.{KeyedRowLaws.{IsInOrder-rows, IsInOrder-told, row_at-told, same_rows}, Orders.{same_names, same_roles}}
+use Rattle.plant_model.{specs.declared.{call.Call.{Call}, rows.GrantRow.{GrantRow}}, proofs.public.FactLaws.{held_in, is_some-map}}
+use Rattle.plant_model.proofs.public.{HistoryLaws.{grants_told, pairs_of, when_Some}}
+use Rattle.plant_types.proofs.public.{Halves.{both, first, second}, KeyedRowLaws.{IsInOrder-rows, IsInOrder-told, row_at-told, same_rows}}
+use Rattle.plant_types.{proofs.public.Orders.{same_names, same_roles}, specs.{KeyedRows.{IsInOrder, row_at}, Names.{Name, name_cmp, same_name}}}
+use Rattle.plant_types.specs.{Options.{when}, Roles.{Pair, all_roles, pair_cmp, role_no}, declared.role.Role.{Role, TheVariants.{Viewer}}}
 
 abbrev pub role_cmp : Role → Role → Ordering
 role_cmp r s = nat_cmp (role_no r) (role_no s)
@@ -32,10 +31,6 @@ keyed_grants rows = map (λ g. (pair_of g, g)) rows
 abbrev keyed_roles : List Role → List (Role × Role)
 keyed_roles rs = map (λ r. (r, r)) rs
 
--- of two grants of one person the one with the greater pair has the greater role
-less_role : (a b : Ordering) → a ≡ Equal → T (is_lt (ordering_then a b)) → T (is_lt b)
-less_role a b e h = subst (λ x. T (is_lt (ordering_then x b))) e h
-
 held_person : (t : ℕ) (p : Name) (g : GrantRow) → is_held_row t p g ≡ true → name_cmp p g.person ≡ Equal
 held_person t p g =
     elim (name_cmp p g.person) as (λ o. (if is_eq o then is_before t g.end_s else false) ≡ true → o ≡ Equal) [ Less ↦ λ e. cc | Equal ↦ λ _. refl | Greater ↦ λ e. cc ]
@@ -43,12 +38,13 @@ held_person t p g =
 one_person : (p : Name) (a b : Name) → name_cmp p a ≡ Equal → name_cmp p b ≡ Equal → name_cmp a b ≡ Equal
 one_person p a b x y = subst (λ n. name_cmp n b ≡ Equal) (same_names p a x) y
 
+-- of two grants of one person the one with the greater pair has the greater role
 below_held : (t : ℕ) (p : Name) (x : GrantRow) (rows : List GrantRow) → is_held_row t p x ≡ true → T (below_all pair_cmp (pair_of x) (keyed_grants rows)) → T (below_all role_cmp (role_in x) (keyed_roles (map role_in (filter (is_held_row t p) rows))))
 below_held t p x [] held h = tt
 below_held t p x (g ∷ rows) held h =
     let rest = below_held t p x rows held (second _ _ h) in
     elim (is_held_row t p g) as (λ b. is_held_row t p g ≡ b → T (below_all role_cmp (role_in x) (keyed_roles (map role_in (cond b (g ∷ filter (is_held_row t p) rows) (filter (is_held_row t p) rows)))))) [
-      | true ↦ λ e. both _ _ (less_role (name_cmp x.person g.person) (role_cmp x.role_no g.role_no) (one_person p x.person g.person (held_person t p x held) (held_person t p g e)) (first _ _ h)) rest
+      | true ↦ λ e. both _ _ (subst (λ o. T (is_lt (ordering_then o (role_cmp x.role_no g.role_no)))) (one_person p x.person g.person (held_person t p x held) (held_person t p g e)) (first _ _ h)) rest
       | false ↦ λ _. rest
     ] refl
 
@@ -113,11 +109,7 @@ filter-when q (r ∷ rs) =
 
 each_role : (r : Role) → is_some (row_at role_cmp (λ x. x) r all_roles) ≡ true
 each_role Viewer = refl
-each_role Operator = refl
-each_role Maintainer = refl
-each_role Engineer = refl
-each_role Approver = refl
-each_role Steward = refl
+each_role _ = refl
 
 module _ (q : Role → Bool) where
   its_key : (k r : Role) → when (q k) k ≡ Some r → r ≡ k
@@ -143,12 +135,8 @@ any-filter : {A : Type 0} (q : A → Bool) (xs : List A) → list_any q xs ≡ i
 any-filter q [] = refl
 any-filter q (x ∷ xs) = elim (q x) as (λ b. (b || list_any q xs) ≡ is_some (slice_get (cond b (x ∷ filter q xs) (filter q xs)) 0)) [ true ↦ refl | false ↦ any-filter q xs ]
 
-some-mapped : {A B : Type 0} (f : A → B) (xs : List A) → is_some (slice_get xs 0) ≡ is_some (slice_get (map f xs) 0)
-some-mapped f [] = refl
-some-mapped f (x ∷ xs) = refl
-
 -- and whether they show one
 pub any_of_rows : (h : List Call) (t : ℕ) (p : Name) → list_any (is_held_row t p) (grant_rows h) ≡ holds_any h t p
 any_of_rows h t p =
-    any-filter (is_held_row t p) (grant_rows h) ∙ some-mapped role_in (filter (is_held_row t p) (grant_rows h))
+    any-filter (is_held_row t p) (grant_rows h) ∙ sym (ap is_some (slice_get-map role_in (filter (is_held_row t p) (grant_rows h)) 0) ∙ is_some-map role_in _)
     ∙ ap (λ (rs : List Role). is_some (slice_get rs 0)) (roles_of_rows h t p) ∙ sym (any-filter (λ r. held h t (p, r)) all_roles)

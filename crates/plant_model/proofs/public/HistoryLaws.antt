@@ -1,22 +1,19 @@
 -- A function gives each table of a history: its rows are at keys that the history names, and have their keys.
-use Rattle.std.specs.{List.{list_any}, Ordering.{eq_by_cmp}}
-use Rattle.std.proofs.Common.{◌+◌, Bool, List, None, Option, Some, [], false, option_map, true, unwrap_or, ℕ, ◌++◌, ◌||◌, ◌∷◌, ◌≡◌, ◌⊎◌, ap, cond, inl, inr, refl, subst, sym, ◌∙◌, find, nat_cmp, Ordering}
-use Rattle.std.proofs.lemmas.{Bool.{or_left, or_right}, List.Folds.{list_any-append}}
+use Rattle.std.{specs.{List.{list_any}, Ordering.{eq_by_cmp}}, proofs.lemmas.{Bool.{or_left, or_right}, List.Folds.{list_any-append}}}
+use Rattle.std.proofs.Common.{◌+◌, Bool, List, None, Option, Some, [], false, option_map, true, unwrap_or, ℕ, ◌++◌, ◌||◌, ◌∷◌, ◌≡◌, ◌⊎◌, ap, inl, inr, refl, subst, sym, ◌∙◌, find, nat_cmp, Ordering, is_some, option_to_list}
 use Rattle.plant_import.specs.Numbers.{has_number, numbers_of}
-use Rattle.plant_model.specs.Alarms.{latching, limit, said_of_latching}
+use Rattle.plant_model.{specs.{Alarms.{latching, limit, said_of_latching}, Kinds.{says}}, proofs.public.{RowsFound.{find_passes}, PutLaws.{key_in}}}
 use Rattle.plant_model.specs.Changes.{Draft, approved_sheet, change, change_as, decision, draft, kind_of_change, limit_revision, matrix, proposals, record_as, record_of, record_revision, said_of_draft, sheet, sheet_in}
-use Rattle.plant_model.specs.{Events.{event_numbered, events_of, imported}, Grants.{said_of_pair, standing}}
+use Rattle.plant_model.specs.{Events.{event_numbered, events_of, imported}, Grants.{said_of_pair, standing, pair_by}, Alarms.{latching_by}}
 use Rattle.plant_model.specs.{Histories.{Begins, Over, Said, all_named, latest, same_number, still}, Parts.{none, nothing}}
 use Rattle.plant_model.specs.RowFacts.{alarm_tag, event_number, pair_of, shelf_tag}
 use Rattle.plant_model.specs.Rows.{numbers_proposed, tag_rationalised, tags_approved, alarm_as, alarm_row, grant_as, grant_row, pairs_named, tags_registered, tags_shelved}
 use Rattle.plant_model.specs.{Service.{outage}, Shelves.{said_of_shelf, shelf}, declared.call.{Call.{Call}, Request.{Request}}}
-use Rattle.plant_model.specs.declared.call.Request.TheVariants.{Approve, Propose, Grant, OneShotShelve, OpenUnit, Register, TimedShelve, Unshelve, Withdraw}
+use Rattle.plant_model.specs.declared.call.Request.TheVariants.{Approve, Propose, OneShotShelve, TimedShelve, Unshelve}
 use Rattle.plant_model.specs.declared.{reply.{ChangeRow.{ChangeRow}, RecordRow.{RecordRow}}, rows.{AlarmRow.{AlarmRow}, ShelfRow.{ShelfRow}}}
 use Rattle.plant_ration.specs.declared.change.{ChangeKind.{ChangeKind, TheVariants.{Rationale}}, Sheet.{Sheet}}
-use Rattle.plant_alarm.specs.declared.event.Event.{Event}
 use Rattle.plant_types.specs.{Names.{Name, name_cmp, same_name}, Options.{or_else, when}, Roles.{Pair, pair_cmp}}
-use Rattle.plant_types.{specs.declared.role.Role.TheVariants.{Steward}, proofs.public.KeyedRowLaws.{Tells, tied}}
-use Rattle.plant_types.proofs.public.Orders.{name_total, number_total, pair_total, same_names, same_numbers, same_pairs}
+use Rattle.plant_types.proofs.public.{KeyedRowLaws.{Tells, tied}, Orders.{name_total, number_total, pair_total, same_names, same_numbers, same_pairs}}
 
 pub when_or : {A : Type 0} (b : Bool) (x : A) → (when b x ≡ None) ⊎ (b ≡ true)
 when_or true x = inr refl
@@ -29,7 +26,7 @@ when_Some false x y e = cc
 pub when_same : {A : Type 0} (a b : Name) (x y : A) → when (same_name a b) x ≡ Some y → a ≡ b
 when_same a b x y e = elim (when_or (same_name a b) x) [ inl none ↦ let no = sym none ∙ e in cc | inr same ↦ same_names a b (tied _ true same refl) ]
 
--- where each entry speaks of keys alone that it names, what is read of what the newest says is of keys that are named
+-- if each entry says something only of keys that it names, then the newest that says something of a key names it
 module _ {A X K : Type 0} (R : K → K → Ordering) (says : Call → List Call → Option A) (read : Option A → Option X) (names : Call → List Call → List K) (k : K) where
   abbrev IsNamed : Option X → List K → Type 0
   IsNamed o ks = (o ≡ None) ⊎ (list_any (eq_by_cmp R k) ks ≡ true)
@@ -62,10 +59,7 @@ one_named R k x v y e = elim (when_or (eq_by_cmp R k x) v) [ inl none ↦ let no
 
 -- Grants
 pair_is_named : (k : Pair) (q : Request) (v : Said (Option ℕ)) → said_of_pair k q ≡ Some v → list_any (eq_by_cmp pair_cmp k) (pairs_named q) ≡ true
-pair_is_named k (OpenUnit u s m q) v e = one_named pair_cmp k (s, Steward) _ v e
-pair_is_named k (Grant u p t) v e = one_named pair_cmp k (p, t.0) _ v e
-pair_is_named k (Withdraw u p r) v e = one_named pair_cmp k (p, r) _ v e
-pair_is_named k _ v e = cc
+pair_is_named k q v = elim (says q).pair as (λ o. pair_by k o ≡ Some v → list_any (eq_by_cmp pair_cmp k) (option_to_list (option_map (λ e. e.0) o)) ≡ true) [ None ↦ λ e. cc | Some x ↦ one_named pair_cmp k x.0 x.1 v ]
 
 abbrev pub pairs_of : List Call → List Pair
 pairs_of h = all_named (λ c before. pairs_named c.request) h
@@ -81,8 +75,7 @@ grants_told h =
 
 -- Alarms
 tag_is_registered : (a : Name) (q : Request) (l : Bool) → said_of_latching a q ≡ Some l → list_any (eq_by_cmp name_cmp a) (tags_registered q) ≡ true
-tag_is_registered a (Register u b l m) v e = one_named name_cmp a b l v e
-tag_is_registered a _ v e = cc
+tag_is_registered a q l = elim (says q).registration as (λ o. latching_by a o ≡ Some l → list_any (eq_by_cmp name_cmp a) (option_to_list (option_map (λ x. x.tag) o)) ≡ true) [ None ↦ λ e. cc | Some x ↦ one_named name_cmp a x.tag x.latching l ]
 
 abbrev pub tags_of_alarms : List Call → List Name
 tags_of_alarms h = all_named (λ c before. tags_registered c.request) h
@@ -121,9 +114,8 @@ shelf_has_tag a p t before (Unshelve u b) x e = when_HasTag (same_name a b) a _ 
 shelf_has_tag a p t before _ x e = cc
 
 shelf_row_tag : (a : Name) (o : Option (Said ShelfRow)) (r : ShelfRow) → ((x : Said ShelfRow) → o ≡ Some x → HasTag a x) → still o ≡ Some r → r.tag ≡ a
-shelf_row_tag a None r has e = cc
-shelf_row_tag a (Some Over) r has e = cc
 shelf_row_tag a (Some (Begins s)) r has e = let same : s ≡ r = cc in sym (ap (λ (x : ShelfRow). x.tag) same) ∙ has (Begins s) refl
+shelf_row_tag a _ r has e = cc
 
 abbrev pub tags_of_shelves : List Call → List Name
 tags_of_shelves h = all_named (λ c before. tags_shelved c.request) h
@@ -138,19 +130,6 @@ shelves_told h =
     }
 
 -- Events
-find_holds : (n : ℕ) (es : List Event) (e : Event) → find (has_number n) es ≡ Some e → same_number n e.seq ≡ true
-find_holds n [] e is = cc
-find_holds n (x ∷ es) e is =
-    elim (same_number n x.seq) as (λ b. same_number n x.seq ≡ b → cond b (Some x) (find (has_number n) es) ≡ Some e → same_number n e.seq ≡ true) [
-      | true ↦ λ t here. let same : x ≡ e = cc in ap (λ y. same_number n y.seq) (sym same) ∙ t
-      | false ↦ λ t rest. find_holds n es e rest
-    ] refl is
-
-find_any : (n : ℕ) (es : List Event) (e : Event) → find (has_number n) es ≡ Some e → list_any (eq_by_cmp nat_cmp n) (numbers_of es) ≡ true
-find_any n [] e is = cc
-find_any n (x ∷ es) e is =
-    elim (same_number n x.seq) as (λ b. cond b (Some x) (find (has_number n) es) ≡ Some e → (b || list_any (eq_by_cmp nat_cmp n) (numbers_of es)) ≡ true) [ true ↦ λ _. refl | false ↦ λ rest. find_any n es e rest ] is
-
 abbrev pub numbers_of_events : List Call → List ℕ
 numbers_of_events h = all_named (λ c before. numbers_of (imported c.request)) h
 
@@ -159,8 +138,8 @@ events_told h =
     record {
       order = number_total;
       same = same_numbers;
-      at_key = λ n r e. sym (same_numbers n r.seq (tied _ _ (latest-holds (λ c before. find (has_number n) (imported c.request)) (λ x. same_number n x.seq ≡ true) (λ c before x. find_holds n (imported c.request) x) h r e) refl));
-      among = λ n. latest-named nat_cmp (λ c before. find (has_number n) (imported c.request)) (λ o. o) (λ c before. numbers_of (imported c.request)) n refl (λ c before x is. inr (find_any n (imported c.request) x is)) h;
+      at_key = λ n r e. sym (same_numbers n r.seq (tied _ _ (latest-holds (λ c before. find (has_number n) (imported c.request)) (λ x. same_number n x.seq ≡ true) (λ c before x. find_passes (has_number n) (imported c.request) x) h r e) refl));
+      among = λ n. latest-named nat_cmp (λ c before. find (has_number n) (imported c.request)) (λ o. o) (λ c before. numbers_of (imported c.request)) n refl (λ c before x is. inr (key_in nat_cmp event_number n (imported c.request) ∙ ap is_some is)) h;
     }
 
 -- Records

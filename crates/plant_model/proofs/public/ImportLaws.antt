@@ -2,16 +2,15 @@
 use Rattle.std.specs.List.{cons_option, list_any}
 use Rattle.std.proofs.Common.{ap, cond, inl, inr, refl, subst, sym, true, ◌∙◌, ◌≡◌, find, nat_cmp, Bool, List, None, Ok, Option, Some, [], false, filter, filter_map, map, option_and_then, option_map, unwrap_or, ℕ, ◌∷◌}
 use Rattle.plant_import.{specs.{Merging.{first_fault, fresh}, Numbers.{has_number, with_events}}, proofs.public.Counted.{put_twice}}
-use Rattle.plant_import.proofs.public.FileLaws.{member, none_member}
+use Rattle.plant_import.proofs.public.FileLaws.{none_member}
 use Rattle.plant_model.specs.{Alarms.{latching, limit}, Changes.{limit_revision}, Events.{event_numbered, events, events_of}, Facts.{facts}}
 use Rattle.plant_model.specs.{Parts.{none}, Refusals.{tags_of}, RowChanges.{all_events, is_touched, new_events, put, with_state}}
 use Rattle.plant_model.specs.{RowFacts.{alarm_tag, event_number}, Rows.{alarm_as, alarm_row, alarm_rows, rows_of, unit_row}, Service.{outage}}
 use Rattle.plant_model.specs.declared.{call.{Call.{Call}, Request.TheVariants.{Import}}, rows.AlarmRow.{AlarmRow}}
 use Rattle.plant_model.specs.declared.rows.{Row.TheVariants.{Unit as UnitPut}, RowEdit.TheVariants.{PutEvents}, UnitRows.{UnitRows}}
 use Rattle.plant_model.proofs.{EventLists.{IsOf, new_alone, new_rows_say, of_said, only, only_told}, public.ChangeLaws.{Turns}}
-use Rattle.plant_model.proofs.public.EventLaws.{now, Kept, found_event, is_of}
+use Rattle.plant_model.proofs.public.{EventLaws.{now, Kept, found_event, is_of}, PutLaws.{put_alarms, puts, puts-rows, said, said-rows}}
 use Rattle.plant_model.proofs.public.HistoryLaws.{alarm_of, alarms_told, events_told, numbers_of_events, tags_of_alarms, when_Some}
-use Rattle.plant_model.proofs.public.PutLaws.{put_alarms, puts, puts-rows, said, said-rows}
 use Rattle.plant_alarm.specs.declared.event.Event.{Event}
 use Rattle.plant_floods.specs.Activations.{of_alarm}
 use Rattle.plant_types.specs.{KeyedRows.{in_order}, Names.{Name, name_cmp, same_name}, Options.{or_else, when}}
@@ -49,21 +48,14 @@ module _ (h : List Call) (p : Name) (t : ℕ) (u : Name) (rows : List Event) (ke
         among = λ n. elim (told.among n) [ inl none ↦ inl (ap (only a) none) | inr there ↦ inr there ];
       }
 
-  when_other : (b : Bool) (x : Event) → b ≡ false → when b x ≡ None
-  when_other true x e = cc
-  when_other false x e = refl
-
-  not_of : (a : Name) (y : Event) → list_any (is_of a) new ≡ false → member y new ≡ true → same_name a y.tag ≡ false
-  not_of a y none there = none_member (is_of a) new y none there
-
   kept_only : (a : Name) → list_any (is_of a) new ≡ false → (n : ℕ) → only a (event_numbered h n) ≡ only a (event_numbered after n)
   kept_only a none n =
       elim (said nat_cmp event_number new n) as (λ o. said nat_cmp event_number new n ≡ o → only a (event_numbered h n) ≡ only a (or_else o (event_numbered h n))) [
         | None ↦ λ _. refl
         | Some y ↦ λ is.
-            let away : same_name a y.tag ≡ false = not_of a y none (subst (IsOf new n) is (of_said n new)).0 in
+            let away : same_name a y.tag ≡ false = none_member (is_of a) new y none (subst (IsOf new n) is (of_said n new)).0 in
             elim (event_numbered h n) as (λ o. event_numbered h n ≡ o → only a o ≡ when (same_name a y.tag) y) [
-              | None ↦ λ _. sym (when_other (same_name a y.tag) y away)
+              | None ↦ λ _. sym (ap (λ b. when b y) away)
               | Some x ↦ λ found. ap (λ z. when (same_name a z.tag) z) (new_alone (tags_of (facts h)) t (events h) rows kept.fit clean n y is x (found_event h n ∙ found))
             ] refl
       ] refl

@@ -1,30 +1,21 @@
 -- The next world of a world of legal histories is one.
-use Rattle.std.specs.FinMap.{get, get-empty, get-insert}
+use Rattle.std.specs.FinMap.{get, get-insert}
 use Rattle.std.proofs.Common.{ap, refl, subst, sym, ◌∙◌, Bool, List, None, Option, Some, [], cond, false, if◌then◌else◌, is_some, not, true, unwrap_or, ℕ, ◌&&◌, ◌∷◌, ◌≡◌}
-use Rattle.std.proofs.lemmas.Bool.{false_from_ne_true}
-use Rattle.plant_model.specs.{Grants.{holds_any}, Laws.{NextWorldsAreLegal}, Legality.{IsLegal, has_matrix, may_follow}, Parts.{none}}
-use Rattle.plant_model.specs.Verdicts.{changes_history, is_opening, verdict}
-use Rattle.plant_model.specs.Worlds.{IsLegalWorld, World, answer_at, by_admin, empty_world, history, next, next_at, opening, unit_answer, unit_named, unit_seen, with_call}
+use Rattle.plant_model.specs.{Grants.{holds_any}, Laws.{NextWorldsAreLegal}, Legality.{IsLegal, has_matrix, may_follow}}
+use Rattle.plant_model.{specs.Verdicts.{changes_history, is_opening, verdict}, proofs.public.WorldLaws.{opening_changes}}
+use Rattle.plant_model.specs.Worlds.{IsLegalWorld, World, answer_at, by_admin, history, next, next_at, opening, unit_answer, unit_named, unit_seen, with_call}
 use Rattle.plant_model.specs.declared.{call.Call.{Call}, reply.Refused.TheVariants.{NotGranted}}
 use Rattle.plant_model.proofs.public.WorldLaws.{Alike, not_granted, own_answer, own_histories, refused_changes, seen_history, seen_holds}
-use Rattle.plant_types.{specs.Names.{Name, name_cmp, same_name}, proofs.public.Orders.{name_total}}
-
-no_change : (h : List Call) (c : Call) → holds_any h c.moment c.person ≡ false → changes_history (verdict h c) c ≡ false
-no_change h c none = false_from_ne_true _ (refused_changes (verdict h c) c NotGranted (not_granted h c none))
-
-opening_of : (by_admin taken : Bool) (c : Call) → changes_history (opening by_admin taken) c ≡ true → taken ≡ false
-opening_of true true c e = cc
-opening_of true false c e = refl
-opening_of false taken c e = cc
+use Rattle.plant_types.{specs.Names.{Name, same_name}, proofs.public.Orders.{name_total}}
 
 -- an accepted changing call on a code that was never opened is an opening
 pub first_entry : (by_admin taken opens : Bool) (c : Call) → is_opening c.request ≡ opens → changes_history (if opens then opening by_admin taken else verdict [] c) c ≡ true → is_opening c.request ≡ true
 first_entry by_admin taken true c is e = is
-first_entry by_admin taken false c is e = absurd (let no : true ≡ false = sym e ∙ no_change [] c refl in cc)
+first_entry by_admin taken false c is e = absurd (refused_changes (verdict [] c) c NotGranted (not_granted [] c refl) e)
 
 -- and one on a unit that is there is no opening
 pub later_entry : (by_admin opens : Bool) (h : List Call) (c : Call) → is_opening c.request ≡ opens → changes_history (if opens then opening by_admin true else verdict h c) c ≡ true → may_follow h c ≡ true
-later_entry by_admin true h c is e = absurd (let no : true ≡ false = opening_of by_admin true c e in cc)
+later_entry by_admin true h c is e = absurd (let no : true ≡ false = (opening_changes by_admin true c e).1 in cc)
 later_entry by_admin false h c is e = ap (λ b. not b && changes_history (verdict h c) c) is ∙ e
 
 pub followed : (h : List Call) (c : Call) → IsLegal h → may_follow h c ≡ true → has_matrix c.request ≡ true → IsLegal (c ∷ h)
@@ -48,13 +39,7 @@ module _ (w : World) (c : Call) (u : Name) (legal : IsLegalWorld w) (m : has_mat
       ] refl
 
 pub next_legal : NextWorldsAreLegal
-next_legal w c legal m = by_unit (unit_named c.request) where
-  by_unit : (o : Option Name) → IsLegalWorld (next_at w c o)
-  by_unit None = legal
-  by_unit (Some u) = next_at_legal w c u legal m
-
-pub empty_legal : (admin : Name) → IsLegalWorld (empty_world admin)
-empty_legal admin u h is = absurd (let no : None ≡ Some h = sym (get-empty name_cmp u) ∙ is in cc)
+next_legal w c legal m = elim (unit_named c.request) as (λ o. IsLegalWorld (next_at w c o)) [ None ↦ legal | Some u ↦ next_at_legal w c u legal m ]
 
 -- Own units after a call: two worlds that look alike to the caller have the same histories of these afterwards
 pub there_of_held : (w : World) (t : ℕ) (p u : Name) → holds_any (history w u) t p ≡ true → get w.units u ≡ Some (history w u)
@@ -76,7 +61,7 @@ own_after w v c u q a same holds =
     ∙ ap (λ x. get (if changes_history x c then with_call v c u else v).units q) same
 
 pub own_units_after : (w v : World) (c : Call) (q : Name) → Alike c.moment c.person w v → holds_any (history v q) c.moment c.person ≡ true → get (next w c).units q ≡ get (next v c).units q
-own_units_after w v c q a holds = by_unit (unit_named c.request) refl where
-  by_unit : (o : Option Name) → unit_named c.request ≡ o → get (next_at w c o).units q ≡ get (next_at v c o).units q
-  by_unit None is = same_unit c.moment c.person w v q (a.seen q) holds
-  by_unit (Some u) is = own_after w v c u q a (sym (ap (answer_at w c) is) ∙ (own_answer w v c a).0 ∙ ap (answer_at v c) is) holds
+own_units_after w v c q a holds = elim (unit_named c.request) as (λ o. unit_named c.request ≡ o → get (next_at w c o).units q ≡ get (next_at v c o).units q) [
+  | None ↦ λ is. same_unit c.moment c.person w v q (a.seen q) holds
+  | Some u ↦ λ is. own_after w v c u q a (sym (ap (answer_at w c) is) ∙ (own_answer w v c a).0 ∙ ap (answer_at v c) is) holds
+] refl

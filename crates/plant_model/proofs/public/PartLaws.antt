@@ -3,25 +3,22 @@ use Rattle.std.specs.List.{cons_option, list_any, range_with_len}
 use Rattle.std.proofs.Common.{ap, arith, refl, sym, ◌∙◌, ◌≤◌, option_to_list, is_eq, nat_cmp, Bool, Err, List, None, Option, Some, [], cond, count_by, false, filter, filter_map, if◌then◌else◌, is_none, is_some, length, map, nat_le, nat_lt, not, option_and_then, option_map, true, unwrap_or, ℕ, ◌++◌, ◌+◌, ◌||◌, ◌∷◌, ◌≡◌}
 use Rattle.std.proofs.lemmas.{Bool.{or_left, or_right, Decides.{nat_tests}}, List.Sums.{count_by-le-length, length-filter}}
 use Rattle.plant_model.specs.{Calls.{changes_for, own_refusals, record_reply, reply}, Changes.{no_matrix}, Facts.{Facts, others_shelved}}
-use Rattle.plant_model.specs.{Grants.{is_before}, Histories.{same_number}, Kinds.{role_needed}}
+use Rattle.plant_model.{specs.{Grants.{is_before}, Histories.{same_number}, Kinds.{role_needed}}, proofs.public.FactLaws.{is_same_number}}
 use Rattle.plant_model.specs.Parts.{Selection, every, has_shelf, is_crowded, is_source, of_approved, of_content, of_number, of_records, of_topic, part_of, part_of_holder, part_of_stranger, rows_selected, selected, with_number}
-use Rattle.plant_model.specs.Refusals.{first_refusal, holds_some, is_open, kind_refusals, lacks_role, of_change}
-use Rattle.plant_model.specs.Replies.{change_reply, line_of, status_reply}
+use Rattle.plant_model.specs.{Refusals.{first_refusal, holds_some, is_open, kind_refusals, lacks_role, of_change}, declared.call.Request.{Request}}
+use Rattle.plant_model.specs.{Replies.{change_reply, line_of, status_reply}, declared.reply.Refused.{Refused}}
 use Rattle.plant_model.specs.RowChanges.{approval_changes, approved_row, decision_change, for_change, in_force, placed_in, taken_out}
 use Rattle.plant_model.specs.RowFacts.{alarm_tag, change_found, change_number, change_read, facts_among, facts_from, facts_of, has_cells, held_by, holds_by, kind_read, last_number, last_return, matrix_read, pair_of, record_found, record_from, record_read, record_tag, sheet_read, shelf_tag, unit_read}
 use Rattle.plant_model.specs.{Shelves.{shelf_left, shelf_row_as}, Verdicts.{refusals_of_holder, refused_or, verdict_of}, declared.call.Call.{Call}}
-use Rattle.plant_model.specs.declared.call.Request.{Request}
 use Rattle.plant_model.specs.declared.call.Request.TheVariants.{Alarms, Approve, ChangeOf, Grant, Import, OneShotShelve, PlaceInService, Propose, RecordOf, Register, Reject, RemoveFromService, Shelves, Standing, Status, TimedShelve, Unshelve, Withdraw, WithdrawChange}
 use Rattle.plant_model.specs.declared.reply.{ChangeRow.{ChangeRow}, Full.TheVariants.{Alarms as TooManyAlarms}, RecordRow.{RecordRow}}
-use Rattle.plant_model.specs.declared.reply.Refused.{Refused}
 use Rattle.plant_model.specs.declared.reply.Refused.TheVariants.{AlarmTaken, AlarmUnknown, AlreadyOutOfService, ConditionAlreadyShelved, ConditionNotShelved, MomentBehind, NotGranted, NotOutOfService, NotProposed, RecordUnknown, RoleLacking, SamePerson, ShelfQuota, ShelvingTimeOutOfRange, UnitFull}
 use Rattle.plant_model.specs.declared.{reply.{Reply.TheVariants.{Shelves as ShelvesOf}, ShelfLine.{ShelfLine}}, rows.AlarmRow.{AlarmRow}}
-use Rattle.plant_model.specs.declared.rows.{ChangeEntry.{ChangeEntry}, ChangeTopic.{ChangeTopic}}
+use Rattle.plant_model.specs.declared.rows.{ChangeEntry.{ChangeEntry}, ChangeTopic.{ChangeTopic}, GrantRow.{GrantRow}, RecordEntry.{RecordEntry}}
 use Rattle.plant_model.specs.declared.rows.ChangeTopic.TheVariants.{Limit as LimitTopic, Matrix as MatrixTopic, Record as RecordTopic}
-use Rattle.plant_model.specs.declared.rows.{GrantRow.{GrantRow}, RecordEntry.{RecordEntry}}
 use Rattle.plant_model.specs.declared.rows.{Row.TheVariants.{Alarm as AlarmPut, Shelf as ShelfPut, Unit as UnitPut}, RowEdit.{RowEdit}}
 use Rattle.plant_model.specs.declared.rows.{RowEdit.TheVariants.{Put}, ShelfRow.{ShelfRow}, UnitPart.{UnitPart}, UnitRows.{UnitRows}}
-use Rattle.plant_model.proofs.public.PartLists.{cells_within, filter-true, itself_name, itself_number, limits_within, map-same, passes_name, passes_number, row_at-filter, row_at-key, source_found, then-same}
+use Rattle.plant_model.proofs.public.PartLists.{cells_within, filter-true, itself_name, limits_within, map-same, passes_name, passes_number, row_at-filter, row_at-key, source_found, then-same}
 use Rattle.plant_alarm.specs.{Shelves.{is_one_shot, is_timed, is_unshelved, shelf_state}, declared.event.Event.{Event}}
 use Rattle.plant_alarm.specs.declared.shelf.ShelfState.{ShelfState}
 use Rattle.plant_ration.specs.{Grid.{Grid}, declared.change.ChangeKind.{ChangeKind, TheVariants.{Limit, Matrix, Rationale}}}
@@ -76,11 +73,12 @@ module _ (rows : UnitRows) (p : Name) (t : ℕ) where
   own_lack q None = refl
   own_lack q (Some r) = ap (λ b. (not b, RoleLacking r) ∷ []) (own_held q r)
 
-  alarm_there : (a : Name) → row_at name_cmp alarm_tag a (filter (λ (r : AlarmRow). same_name a r.tag) rows.alarms) ≡ row_at name_cmp alarm_tag a rows.alarms
-  alarm_there a = row_at-filter name_cmp alarm_tag a (λ r. same_name a r.tag) (λ r e. e) rows.alarms
+  -- an alarm and its shelf are found alone and among all
+  own_alarm : (m : Bool) (a : Name) → row_at name_cmp alarm_tag a (filter (λ (r : AlarmRow). m || same_name a r.tag) rows.alarms) ≡ row_at name_cmp alarm_tag a rows.alarms
+  own_alarm m a = row_at-filter name_cmp alarm_tag a (λ r. m || same_name a r.tag) (λ r e. or_right m _ e) rows.alarms
 
-  shelf_there : (a : Name) → row_at name_cmp shelf_tag a (filter (λ (r : ShelfRow). same_name a r.tag) rows.shelves) ≡ row_at name_cmp shelf_tag a rows.shelves
-  shelf_there a = row_at-filter name_cmp shelf_tag a (λ r. same_name a r.tag) (λ r e. e) rows.shelves
+  own_shelf : (m : Bool) (a : Name) → row_at name_cmp shelf_tag a (filter (λ (r : ShelfRow). m || same_name a r.tag) rows.shelves) ≡ row_at name_cmp shelf_tag a rows.shelves
+  own_shelf m a = row_at-filter name_cmp shelf_tag a (λ r. m || same_name a r.tag) (λ r e. or_right m _ e) rows.shelves
 
   entry_there : (a : Name) → row_at name_cmp record_tag a (filter (λ (r : RecordEntry). same_name a r.tag) rows.records) ≡ record_found rows a
   entry_there a = row_at-filter name_cmp record_tag a (λ r. same_name a r.tag) (λ r e. e) rows.records
@@ -106,9 +104,8 @@ module _ (rows : UnitRows) (p : Name) (t : ℕ) where
     }
 
     content_there : (c : ChangeEntry) (k : ChangeTopic) → s.matrix c.number ≡ true → kind_read within c k ≡ kind_read rows c k
-    content_there c RecordTopic holds = refl
     content_there c MatrixTopic holds = ap (λ m. Matrix m) (matrix_there c.number holds)
-    content_there c LimitTopic holds = refl
+    content_there c _ holds = refl
 
     found_there : (n : ℕ) → s.change n ≡ true → change_found within n ≡ change_found rows n
     found_there n holds = row_at-filter nat_cmp change_number n (λ r. s.change r.number) (λ r e. passes_number s.change n r.number holds e) rows.changes
@@ -126,18 +123,11 @@ module _ (rows : UnitRows) (p : Name) (t : ℕ) where
     records_read : (records : List RecordEntry) → ((n : ℕ) → list_any (λ (r : RecordEntry). same_number n r.change_no) records ≡ true → s.change n ≡ true) → filter_map (record_read within) records ≡ filter_map (record_read rows) records
     records_read [] chosen = refl
     records_read (r ∷ records) chosen =
-        ap (λ o. cons_option o (filter_map (record_read within) records)) (record_there r (chosen r.change_no (or_left _ _ (itself_number r.change_no))))
+        ap (λ o. cons_option o (filter_map (record_read within) records)) (record_there r (chosen r.change_no (or_left _ _ (is_same_number r.change_no))))
         ∙ ap (cons_option (record_read rows r)) (records_read records (λ n e. chosen n (or_right _ _ e)))
 
     records_there : ((n : ℕ) → is_source rows every n ≡ true → s.change n ≡ true) → filter_map (record_read within) (filter (λ (r : RecordEntry). true) rows.records) ≡ filter_map (record_read rows) rows.records
     records_there chosen = ap (filter_map (record_read within)) (filter-true rows.records) ∙ records_read rows.records chosen
-
-  -- a shelving's own alarm and shelf, and how the others stand to the quota
-  own_alarm : (m : Bool) (a : Name) → row_at name_cmp alarm_tag a (filter (λ (r : AlarmRow). m || same_name a r.tag) rows.alarms) ≡ row_at name_cmp alarm_tag a rows.alarms
-  own_alarm m a = row_at-filter name_cmp alarm_tag a (λ r. m || same_name a r.tag) (λ r e. or_right m _ e) rows.alarms
-
-  own_shelf : (m : Bool) (a : Name) → row_at name_cmp shelf_tag a (filter (λ (r : ShelfRow). m || same_name a r.tag) rows.shelves) ≡ row_at name_cmp shelf_tag a rows.shelves
-  own_shelf m a = row_at-filter name_cmp shelf_tag a (λ r. m || same_name a r.tag) (λ r e. or_right m _ e) rows.shelves
 
   -- with these alarms and shelves the quota is used up by others than the tag's
   abbrev quota_used : List AlarmRow → List ShelfRow → Name → Bool
@@ -196,7 +186,7 @@ module _ (rows : UnitRows) (p : Name) (t : ℕ) where
 
   -- a change of a number, and what an approval of it looks at
   numbered_there : (n : ℕ) → option_map (change_read (within (of_number n))) (change_found (within (of_number n)) n) ≡ option_map (change_read rows) (change_found rows n)
-  numbered_there n = change_there (of_number n) n (itself_number n) (itself_number n)
+  numbered_there n = change_there (of_number n) n (is_same_number n) (is_same_number n)
 
   -- a change from the columns that its topic looks at
   abbrev kind_as : ChangeTopic → Name → Sheet → Grid → ℕ → ChangeKind
@@ -206,8 +196,7 @@ module _ (rows : UnitRows) (p : Name) (t : ℕ) where
 
   kind_is : (c : ChangeEntry) (k : ChangeTopic) → kind_read rows c k ≡ kind_as k (unwrap_or c.tag []) (sheet_read c) (matrix_read rows c.number) (unwrap_or c.max_s 0)
   kind_is c RecordTopic = refl
-  kind_is c MatrixTopic = refl
-  kind_is c LimitTopic = refl
+  kind_is c _ = refl
 
   -- the facts of a selection of the rows
   abbrev chosen : Selection → Facts
@@ -222,44 +211,37 @@ module _ (rows : UnitRows) (p : Name) (t : ℕ) where
   sources_there : (n : ℕ) → filter_map (record_read (within (with_number n (of_records rows)))) (filter (λ (r : RecordEntry). true) rows.records) ≡ filter_map (record_read rows) rows.records
   sources_there n = records_there (with_number n (of_records rows)) (λ m e. or_left _ _ e)
 
-  -- the refusals of a change's kind, and what it brings into force, from what its topic looks at
-  kind_same : (n base : ℕ) (tag : Option Name) (k : ChangeTopic) (s : Sheet) (m : Grid) (max : ℕ) → kind_refusals (chosen (approved n tag k)) base (kind_as k (unwrap_or tag []) s m max) ≡ kind_refusals (facts_of rows) base (kind_as k (unwrap_or tag []) s m max)
-  kind_same n base tag MatrixTopic s m max = ap (λ records. kind_refusals (with_rationales records) base (Matrix m)) (sources_there n)
-  kind_same n base (Some a) RecordTopic s m max = λ i. kind_refusals (with_content None (entry_there a i) (matrix_in_force n (of_content rows a) (itself_number (unit_read rows).matrix_no) i)) base (Rationale a s)
-  kind_same n base None RecordTopic s m max = λ i. kind_refusals (with_content None (row_at name_cmp record_tag [] (filter-true rows.records i)) (matrix_in_force n (of_records rows) (itself_number (unit_read rows).matrix_no) i)) base (Rationale [] s)
-  kind_same n base (Some a) LimitTopic s m max = ap (λ alarm. kind_refusals (with_content alarm None no_matrix.1) base (Limit a max)) (alarm_there a)
-  kind_same n base None LimitTopic s m max = ap (λ alarms. kind_refusals (with_alarms alarms) base (Limit [] max)) (filter-true rows.alarms)
+  -- the refusals of a change's kind with what it brings into force, from what its topic looks at
+  abbrev outcome : Facts → ℕ → ℕ → ChangeKind → List (Bool × Refused) × List RowEdit
+  outcome f base number k = (kind_refusals f base k, in_force f number k)
 
-  force_same : (n number : ℕ) (tag : Option Name) (k : ChangeTopic) (s : Sheet) (m : Grid) (max : ℕ) → in_force (chosen (approved n tag k)) number (kind_as k (unwrap_or tag []) s m max) ≡ in_force (facts_of rows) number (kind_as k (unwrap_or tag []) s m max)
-  force_same n number tag MatrixTopic s m max = ap (λ records. in_force (with_rationales records) number (Matrix m)) (sources_there n)
-  force_same n number (Some a) RecordTopic s m max = λ i. in_force (with_content None (entry_there a i) (matrix_in_force n (of_content rows a) (itself_number (unit_read rows).matrix_no) i)) number (Rationale a s)
-  force_same n number None RecordTopic s m max = λ i. in_force (with_content None (row_at name_cmp record_tag [] (filter-true rows.records i)) (matrix_in_force n (of_records rows) (itself_number (unit_read rows).matrix_no) i)) number (Rationale [] s)
-  force_same n number (Some a) LimitTopic s m max = ap (λ alarm. in_force (with_content alarm None no_matrix.1) number (Limit a max)) (alarm_there a)
-  force_same n number None LimitTopic s m max = ap (λ alarms. in_force (with_alarms alarms) number (Limit [] max)) (filter-true rows.alarms)
+  kind_same : (n base number : ℕ) (tag : Option Name) (k : ChangeTopic) (s : Sheet) (m : Grid) (max : ℕ) → outcome (chosen (approved n tag k)) base number (kind_as k (unwrap_or tag []) s m max) ≡ outcome (facts_of rows) base number (kind_as k (unwrap_or tag []) s m max)
+  kind_same n base number tag MatrixTopic s m max = ap (λ records. outcome (with_rationales records) base number (Matrix m)) (sources_there n)
+  kind_same n base number (Some a) RecordTopic s m max = λ i. outcome (with_content None (entry_there a i) (matrix_in_force n (of_content rows a) (is_same_number (unit_read rows).matrix_no) i)) base number (Rationale a s)
+  kind_same n base number None RecordTopic s m max = λ i. outcome (with_content None (row_at name_cmp record_tag [] (filter-true rows.records i)) (matrix_in_force n (of_records rows) (is_same_number (unit_read rows).matrix_no) i)) base number (Rationale [] s)
+  kind_same n base number (Some a) LimitTopic s m max = ap (λ alarm. outcome (with_content alarm None no_matrix.1) base number (Limit a max)) (own_alarm false a)
+  kind_same n base number None LimitTopic s m max = ap (λ alarms. outcome (with_alarms alarms) base number (Limit [] max)) (filter-true rows.alarms)
+
+  outcome_same : (n : ℕ) (c : ChangeEntry) → outcome (chosen (approved n c.tag c.kind_no)) c.base c.number (change_read rows c).kind ≡ outcome (facts_of rows) c.base c.number (change_read rows c).kind
+  outcome_same n c =
+      let kind = kind_is c c.kind_no in
+      ap (outcome (chosen (approved n c.tag c.kind_no)) c.base c.number) kind
+      ∙ kind_same n c.base c.number c.tag c.kind_no (sheet_read c) (matrix_read rows c.number) (unwrap_or c.max_s 0)
+      ∙ sym (ap (outcome (facts_of rows) c.base c.number) kind)
 
   -- the refusals and the changes of an approval of a change that is there
   abbrev refusals_by : Facts → ChangeRow → List (Bool × Refused)
   refusals_by f c = (same_name p c.proposer, SamePerson) ∷ kind_refusals f c.base c.kind
 
   refusals_same : (n : ℕ) (c : ChangeEntry) → refusals_by (chosen (approved n c.tag c.kind_no)) (change_read rows c) ≡ refusals_by (facts_of rows) (change_read rows c)
-  refusals_same n c =
-      let kind = kind_is c c.kind_no in
-      ap (λ refusals. (same_name p c.proposer, SamePerson) ∷ refusals)
-      (ap (kind_refusals (chosen (approved n c.tag c.kind_no)) c.base) kind
-      ∙ kind_same n c.base c.tag c.kind_no (sheet_read c) (matrix_read rows c.number) (unwrap_or c.max_s 0)
-      ∙ sym (ap (kind_refusals (facts_of rows) c.base) kind))
+  refusals_same n c = ap (λ o. (same_name p c.proposer, SamePerson) ∷ o.0) (outcome_same n c)
 
   brought_same : (n : ℕ) (c : ChangeEntry) → approval_changes (chosen (approved n c.tag c.kind_no)) p t (change_read rows c) ≡ approval_changes (facts_of rows) p t (change_read rows c)
-  brought_same n c =
-      let kind = kind_is c c.kind_no in
-      ap (λ changes. decision_change Approved p t (change_read rows c) ∷ changes)
-      (ap (in_force (chosen (approved n c.tag c.kind_no)) c.number) kind
-      ∙ force_same n c.number c.tag c.kind_no (sheet_read c) (matrix_read rows c.number) (unwrap_or c.max_s 0)
-      ∙ sym (ap (in_force (facts_of rows) c.number) kind))
+  brought_same n c = ap (λ o. decision_change Approved p t (change_read rows c) ∷ o.1) (outcome_same n c)
 
   approved_there : (n : ℕ) (o : Option ChangeEntry) → change_found rows n ≡ o → (chosen (of_approved rows n o)).change n ≡ option_map (change_read rows) o
   approved_there n None e = numbered_there n ∙ ap (option_map (change_read rows)) e
-  approved_there n (Some c) e = change_there (approved n c.tag c.kind_no) n (or_right _ _ (itself_number n)) (or_right _ _ (itself_number n)) ∙ ap (option_map (change_read rows)) e
+  approved_there n (Some c) e = change_there (approved n c.tag c.kind_no) n (or_right _ _ (is_same_number n)) (or_right _ _ (is_same_number n)) ∙ ap (option_map (change_read rows)) e
 
   abbrev row_after : Option ChangeRow → RowEdit
   row_after c = Put (UnitPut (approved_row t (unit_read rows) c))
@@ -281,17 +263,17 @@ module _ (rows : UnitRows) (p : Name) (t : ℕ) where
   proposal k base = record { kind = k; base = base }
 
   content_matrix : (a : Name) → matrix_read (within (of_content rows a)) (unit_read rows).matrix_no ≡ matrix_read rows (unit_read rows).matrix_no
-  content_matrix a = matrix_there (of_content rows a) (unit_read rows).matrix_no (itself_number (unit_read rows).matrix_no)
+  content_matrix a = matrix_there (of_content rows a) (unit_read rows).matrix_no (is_same_number (unit_read rows).matrix_no)
 
   proposal_same : (u : Name) (k : ChangeKind) (base : ℕ) → own_refusals (of_part (Propose u (proposal k base))) p t (Propose u (proposal k base)) ≡ own_refusals (facts_of rows) p t (Propose u (proposal k base))
-  proposal_same u (Rationale a s) base = λ i. own_refusals (with_content (alarm_there a i) (entry_there a i) (content_matrix a i)) p t (Propose u (proposal (Rationale a s) base))
+  proposal_same u (Rationale a s) base = λ i. own_refusals (with_content (own_alarm false a i) (entry_there a i) (content_matrix a i)) p t (Propose u (proposal (Rationale a s) base))
   proposal_same u (Matrix m) base = ap (λ records. own_refusals (with_rationales records) p t (Propose u (proposal (Matrix m) base))) (records_there (of_records rows) (λ n e. e))
-  proposal_same u (Limit a max) base = λ i. own_refusals (with_content (alarm_there a i) (entry_there a i) (content_matrix a i)) p t (Propose u (proposal (Limit a max) base))
+  proposal_same u (Limit a max) base = λ i. own_refusals (with_content (own_alarm false a i) (entry_there a i) (content_matrix a i)) p t (Propose u (proposal (Limit a max) base))
 
   own_same : (q : Request) → own_refusals (of_part q) p t q ≡ own_refusals (facts_of rows) p t q
   own_same (Grant u q r) = ap (λ gs. own_refusals (with_grants gs) p t (Grant u q r)) (all_grants p rows.grants)
   own_same (Withdraw u q r) = ap (λ gs. own_refusals (with_grants gs) p t (Withdraw u q r)) (all_grants p rows.grants)
-  own_same (Register u a l max) = ap (λ o. (nat_le max_alarms (length rows.alarms), UnitFull TooManyAlarms) ∷ (is_some o, AlarmTaken) ∷ []) (alarm_there a)
+  own_same (Register u a l max) = ap (λ o. (nat_le max_alarms (length rows.alarms), UnitFull TooManyAlarms) ∷ (is_some o, AlarmTaken) ∷ []) (own_alarm false a)
   own_same (Import u file) = ap (λ alarms. own_refusals (with_alarms alarms) p t (Import u file)) (filter-true rows.alarms)
   own_same (TimedShelve u a d w) = λ i.
       (is_none (own_alarm (is_crowded rows) a i), AlarmUnknown)
@@ -302,20 +284,20 @@ module _ (rows : UnitRows) (p : Name) (t : ℕ) where
       (is_none (own_alarm (is_crowded rows) a i), AlarmUnknown)
       ∷ (is_one_shot (state_now (own_alarm (is_crowded rows) a i) (own_shelf (is_crowded rows) a i)), ConditionAlreadyShelved)
       ∷ (quota_same (is_crowded rows) a refl i, ShelfQuota (unit_read rows).quota) ∷ []
-  own_same (Unshelve u a) = λ i. (is_none (alarm_there a i), AlarmUnknown) ∷ (is_unshelved (state_now (alarm_there a i) (shelf_there a i)), ConditionNotShelved) ∷ []
-  own_same (RemoveFromService u a w) = ap (λ o. (is_none o, AlarmUnknown) ∷ (removed o, AlreadyOutOfService) ∷ []) (alarm_there a)
-  own_same (PlaceInService u a) = ap (λ o. (is_none o, AlarmUnknown) ∷ (not (removed o), NotOutOfService) ∷ []) (alarm_there a)
+  own_same (Unshelve u a) = λ i. (is_none (own_alarm false a i), AlarmUnknown) ∷ (is_unshelved (state_now (own_alarm false a i) (own_shelf false a i)), ConditionNotShelved) ∷ []
+  own_same (RemoveFromService u a w) = ap (λ o. (is_none o, AlarmUnknown) ∷ (removed o, AlreadyOutOfService) ∷ []) (own_alarm false a)
+  own_same (PlaceInService u a) = ap (λ o. (is_none o, AlarmUnknown) ∷ (not (removed o), NotOutOfService) ∷ []) (own_alarm false a)
   own_same (Propose u x) = proposal_same u x.kind x.base
   own_same (WithdrawChange u n) = ap (λ c. own_refusals (with_change c) p t (WithdrawChange u n)) (numbered_there n)
   own_same (Approve u n) = approval_refused n (change_found rows n) refl
   own_same (Reject u n) = ap (λ c. own_refusals (with_change c) p t (Reject u n)) (numbered_there n)
-  own_same (Status u a) = ap (λ o. (is_none o, AlarmUnknown) ∷ []) (alarm_there a)
-  own_same (RecordOf u a) = λ i. (is_none (alarm_there a i), AlarmUnknown) ∷ (is_none (rationale_there a (selected rows (RecordOf u a)) (λ n e. e) i), RecordUnknown) ∷ []
+  own_same (Status u a) = ap (λ o. (is_none o, AlarmUnknown) ∷ []) (own_alarm false a)
+  own_same (RecordOf u a) = λ i. (is_none (own_alarm false a i), AlarmUnknown) ∷ (is_none (rationale_there a (selected rows (RecordOf u a)) (λ n e. e) i), RecordUnknown) ∷ []
   own_same (ChangeOf u n) = ap (λ c. own_refusals (with_change c) p t (ChangeOf u n)) (numbered_there n)
   own_same _ = refl
 
   reply_same : (q : Request) → reply (of_part q) t q ≡ reply (facts_of rows) t q
-  reply_same (Status u a) = λ i. status_reply (alarm_there a i) (state_now (alarm_there a i) (shelf_there a i))
+  reply_same (Status u a) = λ i. status_reply (own_alarm false a i) (state_now (own_alarm false a i) (own_shelf false a i))
   reply_same (RecordOf u a) = ap record_reply (rationale_there a (selected rows (RecordOf u a)) (λ n e. e))
   reply_same (ChangeOf u n) = ap change_reply (numbered_there n)
   reply_same (Shelves u) = ap (λ lines. ShelvesOf u t lines)
@@ -336,8 +318,8 @@ module _ (rows : UnitRows) (p : Name) (t : ℕ) where
   holder_changes : (q : Request) → changes_for (of_part q) (asked q) ≡ changes_for (facts_of rows) (asked q)
   holder_changes (Import u file) = ap (λ alarms. changes_for (with_alarms alarms) (asked (Import u file))) (filter-true rows.alarms)
   holder_changes (OneShotShelve u a w) = ap (λ max. Put (UnitPut (record (unit_read rows) { last_s = t })) ∷ Put (ShelfPut (shelf_row_as true t (t + max) p w a)) ∷ []) (ap longest (own_alarm (is_crowded rows) a))
-  holder_changes (RemoveFromService u a w) = ap (alarm_changed (taken_out p t w)) (alarm_there a)
-  holder_changes (PlaceInService u a) = ap (alarm_changed placed_in) (alarm_there a)
+  holder_changes (RemoveFromService u a w) = ap (alarm_changed (taken_out p t w)) (own_alarm false a)
+  holder_changes (PlaceInService u a) = ap (alarm_changed placed_in) (own_alarm false a)
   holder_changes (WithdrawChange u n) = ap (λ c. changes_for (with_change c) (asked (WithdrawChange u n))) (numbered_there n)
   holder_changes (Approve u n) = approval_made n (change_found rows n) refl
   holder_changes (Reject u n) = ap (λ c. changes_for (with_change c) (asked (Reject u n))) (numbered_there n)

@@ -1,11 +1,10 @@
 -- Rows that pass a test: what is found or read where the test holds is what all rows give.
-use Rattle.std.specs.{Cmp.{eq_by_cmp_equiv}, List.{list_any}, Ordering.{eq_by_cmp}}
+use Rattle.std.{specs.{Cmp.{eq_by_cmp_equiv}, List.{list_any}, Ordering.{eq_by_cmp}}, proofs.lemmas.Bool.{or_left, false_from_ne_true}}
 use Rattle.std.proofs.Common.{ap, cond, refl, sym, ◌∙◌, Bool, List, None, Option, Some, [], false, filter, map, option_and_then, option_map, true, ℕ, ◌&&◌, ◌||◌, ◌∷◌, ◌≡◌, Ordering}
-use Rattle.std.proofs.lemmas.Bool.{or_left, false_from_ne_true}
-use Rattle.plant_model.specs.{Histories.{same_number}, RowFacts.{cells_at, record_tag}, declared.rows.{BandRow.{BandRow}, CellRow.{CellRow}}}
-use Rattle.plant_model.{specs.declared.rows.RecordEntry.{RecordEntry}, proofs.public.FactLaws.{same_number_of}}
-use Rattle.plant_types.{specs.{KeyedRows.{row_at}, Names.{Name, name_cmp, same_name}}, proofs.public.KeyedRowLaws.{tied}}
-use Rattle.plant_types.proofs.public.Orders.{name_total, number_total, same_names}
+use Rattle.plant_model.{proofs.public.{FactLaws.{same_number_of, is_same_number}, RowsFound.{find_passes}}, specs.Histories.{same_number}}
+use Rattle.plant_model.specs.{RowFacts.{cells_at, record_tag}, declared.rows.{BandRow.{BandRow}, CellRow.{CellRow}, RecordEntry.{RecordEntry}}}
+use Rattle.plant_types.{specs.{KeyedRows.{row_at}, Names.{Name, name_cmp, same_name}}, proofs.public.{KeyedRowLaws.{tied}, Halves.{left}}}
+use Rattle.plant_types.proofs.public.Orders.{name_total, same_names}
 
 pub filter-true : {X : Type 0} (xs : List X) → filter (λ x. true) xs ≡ xs
 filter-true [] = refl
@@ -31,12 +30,7 @@ row_at-filter R key k test passes (r ∷ rows) =
 
 -- the row that is found has the key
 pub row_at-key : {K X : Type 0} (R : K → K → Ordering) (key : X → K) (k : K) (rows : List X) (r : X) → row_at R key k rows ≡ Some r → eq_by_cmp R k (key r) ≡ true
-row_at-key R key k [] r e = cc
-row_at-key R key k (x ∷ rows) r e =
-    elim (eq_by_cmp R k (key x)) as (λ b. eq_by_cmp R k (key x) ≡ b → cond b (Some x) (row_at R key k rows) ≡ Some r → eq_by_cmp R k (key r) ≡ true) [
-      | true ↦ λ is some. let same : x ≡ r = cc in ap (λ y. eq_by_cmp R k (key y)) (sym same) ∙ is
-      | false ↦ λ _ rest. row_at-key R key k rows r rest
-    ] refl e
+row_at-key R key k = find_passes (λ r. eq_by_cmp R k (key r))
 
 -- two readings that agree on what is there
 pub map-same : {A B : Type 0} (f g : A → B) (o : Option A) → ((x : A) → o ≡ Some x → f x ≡ g x) → option_map f o ≡ option_map g o
@@ -46,9 +40,6 @@ map-same f g (Some x) same = ap (λ y. Some y) (same x refl)
 pub then-same : {A B : Type 0} (f g : A → Option B) (o : Option A) → ((x : A) → o ≡ Some x → f x ≡ g x) → option_and_then f o ≡ option_and_then g o
 then-same f g None same = refl
 then-same f g (Some x) same = same x refl
-
-pub itself_number : (n : ℕ) → same_number n n ≡ true
-itself_number n = (eq_by_cmp_equiv number_total).refl n
 
 -- a test of numbers holds of a number that is the same
 pub passes_number : (test : ℕ → Bool) (n m : ℕ) → test n ≡ true → same_number n m ≡ true → test m ≡ true
@@ -65,20 +56,16 @@ passes_name test a b holds same = ap test (sym (same_names a b (tied _ true same
 pub limits_within : (test : ℕ → Bool) (n : ℕ) → test n ≡ true → (bands : List BandRow) → filter (λ (b : BandRow). same_number n b.matrix_no) (filter (λ (b : BandRow). test b.matrix_no) bands) ≡ filter (λ (b : BandRow). same_number n b.matrix_no) bands
 limits_within test n holds bands = filter-within (λ b. same_number n b.matrix_no) (λ b. test b.matrix_no) (λ b e. passes_number test n b.matrix_no holds e) bands
 
-and_first : (a b : Bool) → (a && b) ≡ true → a ≡ true
-and_first true b e = refl
-and_first false b e = cc
-
 pub cells_within : (test : ℕ → Bool) (n : ℕ) → test n ≡ true → (cells : List CellRow) (severity : ℕ) → cells_at (filter (λ (c : CellRow). test c.matrix_no) cells) n severity ≡ cells_at cells n severity
 cells_within test n holds cells severity =
     ap (map (λ (c : CellRow). c.cell_no))
-    (filter-within (λ c. same_number n c.matrix_no && same_number severity c.severity) (λ c. test c.matrix_no) (λ c e. passes_number test n c.matrix_no holds (and_first _ _ e)) cells)
+    (filter-within (λ c. same_number n c.matrix_no && same_number severity c.severity) (λ c. test c.matrix_no) (λ c e. passes_number test n c.matrix_no holds (left _ _ e)) cells)
 
 -- the record that is found is among the sources of its change
 pub source_found : (a : Name) (records : List RecordEntry) (r : RecordEntry) → row_at name_cmp record_tag a records ≡ Some r → list_any (λ (x : RecordEntry). same_name a x.tag && same_number r.change_no x.change_no) records ≡ true
 source_found a [] r e = cc
 source_found a (x ∷ records) r e =
     elim (same_name a x.tag) as (λ b. cond b (Some x) (row_at name_cmp record_tag a records) ≡ Some r → ((b && same_number r.change_no x.change_no) || list_any (λ (x : RecordEntry). same_name a x.tag && same_number r.change_no x.change_no) records) ≡ true) [
-      | true ↦ λ some. let same : x ≡ r = cc in or_left _ _ (ap (λ (y : RecordEntry). same_number r.change_no y.change_no) same ∙ itself_number r.change_no)
+      | true ↦ λ some. let same : x ≡ r = cc in or_left _ _ (ap (λ (y : RecordEntry). same_number r.change_no y.change_no) same ∙ is_same_number r.change_no)
       | false ↦ λ rest. source_found a records r rest
     ] e

@@ -1,11 +1,10 @@
 -- Rows that are put one after another.
-use Rattle.std.specs.{Cmp.{IsTotalOrder}, List.{cons_option, list_any}, Ordering.{eq_by_cmp}}
-use Rattle.std.proofs.Common.{ap, refl, sym, ◌∙◌, Bool, List, None, Option, Some, [], cond, false, filter_map, fold, is_some, map, true, ◌++◌, ◌∷◌, ◌≡◌, Ordering, Equal, find, ◌||◌}
+use Rattle.std.specs.{Cmp.{IsTotalOrder}, List.{cons_option, list_any}, Ordering.{eq_by_cmp}, FinMap.Entries.{by_order}}
+use Rattle.std.proofs.Common.{ap, refl, sym, ◌∙◌, Bool, List, None, Option, Some, [], cond, false, filter_map, fold, is_some, map, true, ◌++◌, ◌∷◌, ◌≡◌, Ordering, Equal, find, ◌||◌, Less, Greater, length, arith, ◌+◌, ◌≤◌}
 use Rattle.plant_model.specs.{Matrices.{band_cmp, cell_cmp}, RowChanges.{changed_by, put}, RowFacts.{record_tag, alarm_tag, band_key, cell_key}}
 use Rattle.plant_model.specs.declared.{reply.RecordRow.{RecordRow}, rows.{AlarmRow.{AlarmRow}, BandRow.{BandRow}, CellRow.{CellRow}}}
-use Rattle.plant_model.specs.declared.rows.RecordEntry.{RecordEntry}
+use Rattle.plant_model.specs.declared.rows.{RecordEntry.{RecordEntry}, RowEdit.{RowEdit, TheVariants.{Put}}, UnitRows.{UnitRows}}
 use Rattle.plant_model.specs.declared.rows.Row.TheVariants.{Record as RecordPut, Alarm as AlarmPut, Band as BandPut, Cell as CellPut}
-use Rattle.plant_model.specs.declared.rows.{RowEdit.{RowEdit, TheVariants.{Put}}, UnitRows.{UnitRows}}
 use Rattle.plant_types.specs.{KeyedRows.{IsInOrder, in_order, put_row, row_at}, Names.{name_cmp}, Options.{or_else, when}}
 use Rattle.plant_types.proofs.public.KeyedRowLaws.{IsInOrder-put_row, IsInOrder-rows, Tells, row_at-in_order, row_at-put_row, row_at-rows, same_rows, settled, tied}
 
@@ -17,6 +16,13 @@ pub key_in : {K X : Type 0} (R : K → K → Ordering) (key : X → K) (q : K) (
 key_in R key q [] = refl
 key_in R key q (r ∷ rows) = elim (eq_by_cmp R q (key r)) as (λ b. (b || list_any (eq_by_cmp R q) (map key rows)) ≡ is_some (cond b (Some r) (row_at R key q rows))) [ true ↦ refl | false ↦ key_in R key q rows ]
 
+-- a put adds one row at most
+pub length-put : {K X : Type 0} (R : K → K → Ordering) (key : X → K) (r : X) (rows : List X) → length (put_row R key r rows) ≤ length rows + 1
+length-put R key r [] = omega arith
+length-put R key r (e ∷ es) =
+    let rest = length-put R key r es in
+    elim (R (key r) (key e)) as (λ o. length (by_order o (r ∷ e ∷ es) (r ∷ es) (e ∷ put_row R key r es)) ≤ length (e ∷ es) + 1) [ Less ↦ omega arith | Equal ↦ omega arith | Greater ↦ omega (arith, rest) ]
+
 pub never_some : {A : Type 0} (o : Option A) → ((x : A) → o ≡ Some x → ⊥) → o ≡ None
 never_some None never = refl
 never_some (Some x) never = absurd (never x refl)
@@ -27,8 +33,7 @@ else_none (Some x) = refl
 
 else_else : {A : Type 0} (a : Option A) (b : Bool) (x : A) (c : Option A) → or_else a (cond b (Some x) c) ≡ or_else (or_else a (when b x)) c
 else_else None true x c = refl
-else_else None false x c = refl
-else_else (Some y) b x c = refl
+else_else _ _ x c = refl
 
 module _ {K X : Type 0} (R : K → K → Ordering) (key : X → K) where
   abbrev pub puts : List X → List X → List X

@@ -1,12 +1,12 @@
 -- A quota of 2,000 refuses nothing in a legal history: there are at most 2,000 alarms, and each shelf is of one of them.
-use Rattle.std.specs.{Cmp.{eq_by_cmp_equiv}, FinMap.Entries.{by_order}, List.{cons_option, list_any, AllByRecursion, IsDistinct}}
-use Rattle.std.proofs.Common.{ap, arith, refl, subst, sym, ◌++◌, ◌∙◌, is_eq, Bool, List, None, Option, Some, [], cond, count_by, false, filter, filter_map, is_some, length, map, max, not, suc, true, ℕ, ◌&&◌, ◌+◌, ◌<◌, ◌∷◌, ◌≡◌, ◌≤◌, Equal, Greater, Less}
+use Rattle.std.specs.{Cmp.{eq_by_cmp_equiv}, List.{cons_option, list_any, AllByRecursion, IsDistinct}}
+use Rattle.std.proofs.Common.{ap, arith, refl, subst, sym, ◌++◌, ◌∙◌, is_eq, Bool, List, None, Option, Some, [], cond, count_by, false, filter, filter_map, is_some, length, map, max, not, suc, true, ℕ, ◌&&◌, ◌+◌, ◌<◌, ◌∷◌, ◌≡◌, ◌≤◌}
 use Rattle.std.proofs.lemmas.{Bool.{leb-false}, List.{length-map, Sums.{length-filter, count_by-le-length}}, Map.Made.{length-le_from_is_member}}
 use Rattle.plant_model.specs.{Alarms.{latching, said_of_latching}, Facts.{facts, returned}, Histories.{Begins, Over, Said, latest, still}}
 use Rattle.plant_model.specs.{Laws.{QuotaOf2000RefusesNothing}, Legality.{IsLegal}, RowFacts.{alarm_tag, shelf_tag}}
 use Rattle.plant_model.specs.{Rows.{alarm_as, alarm_row, alarm_rows, shelf_rows, tags_registered}, Shelves.{said_of_shelf, shelf, shelf_left}}
 use Rattle.plant_model.specs.declared.call.{Call.{Call}, Request.{Request, TheVariants.{OneShotShelve, Register, TimedShelve, Unshelve}}}
-use Rattle.plant_model.specs.declared.rows.{AlarmRow.{AlarmRow}, ShelfRow.{ShelfRow}, UnitRows.{UnitRows}}
+use Rattle.plant_model.{specs.declared.rows.{ShelfRow.{ShelfRow}, UnitRows.{UnitRows}}, proofs.public.PutLaws.{length-put}}
 use Rattle.plant_model.proofs.public.{Accepted.{by_legal, latest_legal, IsEntry, made, unrefused}, ChangeLaws.{register_turns}, EventLaws.{unspoken}}
 use Rattle.plant_model.proofs.public.FactLaws.{alarm_in, shelf_in}
 use Rattle.plant_model.proofs.public.{HistoryLaws.{shelves_told, tags_of_alarms, tags_of_shelves, when_same, when_Some}, PutLaws.{said, key_in}}
@@ -17,18 +17,11 @@ use Rattle.plant_types.{specs.Options.{or_else}, proofs.public.KeyedRowLaws.{IsI
 use Rattle.plant_types.proofs.public.Orders.{name_total, same_names}
 
 -- Alarms: at most 2,000
-length-put : (r : AlarmRow) (rows : List AlarmRow) → length (put_row name_cmp alarm_tag r rows) ≤ length rows + 1
-length-put r [] = omega arith
-length-put r (e ∷ es) =
-    let rest = length-put r es in
-    elim (name_cmp r.tag e.tag) as (λ o. length (by_order o (r ∷ e ∷ es) (r ∷ es) (e ∷ put_row name_cmp alarm_tag r es)) ≤ length (e ∷ es) + 1) [ Less ↦ omega arith | Equal ↦ omega arith | Greater ↦ omega (arith, rest) ]
-
 -- there are as many rows where the same keys have one
 length-cons_option : {X : Type 0} (o p : Option X) (xs ys : List X) → is_some o ≡ is_some p → length xs ≡ length ys → length (cons_option o xs) ≡ length (cons_option p ys)
 length-cons_option None None xs ys e same = same
-length-cons_option None (Some y) xs ys e same = cc
-length-cons_option (Some x) None xs ys e same = cc
 length-cons_option (Some x) (Some y) xs ys e same = ap (λ n. suc n) same
+length-cons_option _ _ xs ys e same = cc
 
 length-told : {X : Type 0} (f g : Name → Option X) → ((k : Name) → is_some (f k) ≡ is_some (g k)) → (ks : List Name) → length (filter_map f ks) ≡ length (filter_map g ks)
 length-told f g same [] = refl
@@ -44,7 +37,7 @@ more_alarms : (h : List Call) → IsLegal h → (p : Name) (t : ℕ) (q : Reques
 more_alarms h legal p t (Register u a l max) entry le =
     let put : put_row name_cmp alarm_tag (alarm_as a max 0 [] None l) (alarm_rows h) ≡ alarm_rows (made p t (Register u a l max) ∷ h) = ap (λ (rows : UnitRows). rows.alarms) (register_turns h p t u a l max (unspoken h legal a (registered_anew h p t u a l max entry))) in
     let few : length (alarm_rows h) < max_alarms = leb-false max_alarms _ (unrefused h (made p t (Register u a l max)) entry).1.1.1.0 in
-    let long = length-put (alarm_as a max 0 [] None l) (alarm_rows h) in
+    let long = length-put name_cmp alarm_tag (alarm_as a max 0 [] None l) (alarm_rows h) in
     subst (λ rows. length rows ≤ max_alarms) put (omega (arith, few, long))
 more_alarms h legal p t q entry le = subst (λ n. n ≤ max_alarms) (as_many_alarms h (made p t q) (λ b. refl) refl) le
 
@@ -73,11 +66,10 @@ shelf_registered : (h : List Call) → IsLegal h → (a : Name) → is_some (she
 shelf_registered h legal a there =
     latched_of h a ∙ by_shelf (shelved h a) refl there where
       by_shelf : (o : Option (Said ShelfRow)) → shelved h a ≡ o → is_some (still o) ≡ true → is_some (latching h a) ≡ true
-      by_shelf None is e = cc
-      by_shelf (Some Over) is e = cc
       by_shelf (Some (Begins s)) is e = shelf_known h legal a (Begins s) is s refl
+      by_shelf _ is e = cc
 
--- Counting: the rows of other keys, one less than all where the key has one
+-- Counting rows: those of keys other than one are one fewer than all rows, if a row has that key
 module _ {X : Type 0} (key : X → Name) where
   apart : (a : Name) (rows : List X) → After name_cmp key a rows → AllByRecursion (λ b. same_name a b ≡ false) (map key rows)
   apart a [] h = tt

@@ -1,28 +1,25 @@
 -- The matrices of a legal history are read back from the rows of their bands and cells, each at its number.
-use Rattle.std.specs.{Cmp.{IsTotalOrder, nat_cmp_is}, FinMap.{get, Entries.{by_order, below_all}}}
+use Rattle.std.{specs.{Cmp.{IsTotalOrder, nat_cmp_is}, FinMap.{get, Entries.{by_order, below_all}}}, proofs.lemmas.Option.{slice_get-map}}
 use Rattle.std.specs.{List.{cons_option, enumerate_from, list_all, list_any, range_with_len, slice_get}, Ordering.{eq_by_cmp, ordering_then}}
-use Rattle.std.proofs.Common.{is_some, max, ◌-◌, Bool, List, None, Option, Some, [], false, filter, filter_map, length, map, nat_le, nat_lt, option_and_then, option_map, suc, true, unwrap_or, zero, ℕ, ◌&&◌, ◌++◌, ◌+◌, ◌<◌, ◌==◌, ◌∷◌, ◌≡◌, ◌≤◌, eqb→eq, T, ap, append_assoc, arith, cond, inl, inr, length-append, refl, subst, sym, ◌∙◌, ◌⊎◌, is_lt, nat_cmp, Ordering, Equal, Greater, Less}
-use Rattle.std.proofs.lemmas.Bool.{and_parts, not-true, false_from_ne_true, Decides.{nat_tests}}
+use Rattle.std.proofs.Common.{is_some, max, ◌-◌, Bool, List, None, Option, Some, [], false, filter, filter_map, length, map, option_and_then, option_map, suc, true, unwrap_or, zero, ℕ, ◌&&◌, ◌++◌, ◌+◌, ◌<◌, ◌==◌, ◌∷◌, ◌≡◌, ◌≤◌, eqb→eq, T, ap, append_assoc, arith, cond, inl, inr, length-append, refl, subst, sym, ◌∙◌, ◌⊎◌, is_lt, nat_cmp, Ordering, Equal, Greater}
+use Rattle.std.proofs.lemmas.{Bool.{and_parts, not-true, false_from_ne_true, leb-true}, Option.{unwrap_or-slice_get}, List.{length-map}}
+use Rattle.std.proofs.lemmas.List.FromFn.{length-range_with_len, get_or-range_with_len}
 use Rattle.plant_model.specs.Changes.{Draft, change, draft, kind_of_change, matrix, matrix_in, no_matrix, proposals, said_of_draft, said_of_matrix}
 use Rattle.plant_model.specs.{Facts.{facts}, Histories.{latest, same_number}, Legality.{IsLegal, has_matrix, is_matrix_kind}}
 use Rattle.plant_model.specs.Matrices.{numbered_matrix, when_number, BandKey, CellKey, at_place, band_at, band_cmp, band_places, cell_cmp, cell_of, matrix_numbered}
 use Rattle.plant_model.specs.RowFacts.{change_number, facts_from, facts_of, last_number, band_key, cell_key, cells_at, has_cells, matrix_read}
 use Rattle.plant_model.specs.{Rows.{alarm_rows, change_entry, change_rows, band_row, band_rows, cell_row, cell_rows, rows_of}, Verdicts.{is_opening}}
 use Rattle.plant_model.specs.declared.{call.{Call.{Call}, Request.{Request, TheVariants.{Approve, OpenUnit, Propose}}}, rows.BandRow.{BandRow}}
-use Rattle.plant_model.specs.declared.rows.CellRow.{CellRow}
+use Rattle.plant_model.{specs.declared.rows.CellRow.{CellRow}, proofs.{MatrixLaws.{band_keyed}, public.RowsFound.{lower}}}
 use Rattle.plant_model.proofs.MatrixLaws.{number_bound, band_here, band_key_of, band_keys, bands_told, cell_key_of, cell_keys, cells_told, row_here}
 use Rattle.plant_model.proofs.public.{Accepted.{by_legal, latest_legal}, FactLaws.{AreReadable, facts_told, is_same_number, same_number_of}}
 use Rattle.plant_model.proofs.public.HistoryLaws.{change_with, changes_told, numbers_of_changes, when_Some, mapped_key}
 use Rattle.plant_model.proofs.public.{PlaceOrders.{band_total, cell_total, same_bands, same_cells}, PutLaws.{is_some-find}}
-use Rattle.plant_model.proofs.public.RowsFound.{both, first, second}
 use Rattle.plant_ration.specs.{Grid.{Grid}, Matrix.{is_matrix}, declared.{cell.Cell.{Cell}, change.ChangeKind.{ChangeKind}}}
 use Rattle.plant_ration.specs.declared.change.ChangeKind.TheVariants.{Limit, Matrix, Rationale}
-use Rattle.plant_types.specs.{KeyedRows.{put_row, IsInOrder, in_order, row_at}, Names.{Name}, Options.{or_else, when}}
+use Rattle.plant_types.{specs.{KeyedRows.{put_row, IsInOrder, in_order, row_at}, Names.{Name}, Options.{or_else, when}}, proofs.public.Halves.{both}}
 use Rattle.plant_types.proofs.public.KeyedRowLaws.{put-rows, IsInOrder-rows, IsInOrder-told, Tells, row_at-rows, row_at-told, same_rows, settled, tied}
-
-no_row : {X : Type 0} (b : Bool) (o : Option X) → o ≡ None → o ≡ cond b o None
-no_row true o e = refl
-no_row false o e = e
+use Rattle.plant_types.proofs.public.Halves.{first, second}
 
 -- The rows of a table whose keys pass a test
 module _ {K X : Type 0} (R : K → K → Ordering) (key : X → K) where
@@ -41,7 +38,7 @@ module _ {K X : Type 0} (R : K → K → Ordering) (key : X → K) where
 
   module _ (o : IsTotalOrder R) (same : (x y : K) → R x y ≡ Equal → x ≡ y) (test : K → Bool) where
     pub row_at-left : (q : K) (rows : List X) → row_at R key q (filter (λ r. test (key r)) rows) ≡ cond (test q) (row_at R key q rows) None
-    row_at-left q [] = no_row (test q) None refl
+    row_at-left q [] = elim (test q) as (λ b. ◌≡◌ {A = Option X} None (cond b None None)) [ true ↦ refl | false ↦ refl ]
     row_at-left q (r ∷ rows) =
         let rest = row_at-left q rows in
         elim (test (key r)) as (λ b. test (key r) ≡ b → row_at R key q (cond b (r ∷ filter (λ r. test (key r)) rows) (filter (λ r. test (key r)) rows)) ≡ cond (test q) (row_at R key q (r ∷ rows)) None) [
@@ -88,19 +85,8 @@ told_back make get back [] s = refl
 told_back make get back (x ∷ xs) s = λ i. back s x i ∷ told_back make get back xs (s + 1) i
 
 -- Places rise
-lower : (a b : ℕ) → a < b → is_lt (nat_cmp a b) ≡ true
-lower a b less = ap (λ c. is_lt (cond c Less (cond (a == b) Equal Greater))) (test a b less) where
-  test : (a b : ℕ) → a < b → nat_lt a b ≡ true
-  test a b less = grind (arith, nat_tests)
-
 level : (n : ℕ) → nat_cmp n n ≡ Equal
 level n = tied _ true (is_same_number n) refl
-
-band_below : (n a b : ℕ) → a < b → is_lt (band_cmp (band_key_of n a) (band_key_of n b)) ≡ true
-band_below n a b less = ap (λ o. is_lt (ordering_then o (nat_cmp a b))) (level n) ∙ lower a b less
-
-cell_below : (n s a b : ℕ) → a < b → is_lt (cell_cmp (cell_key_of n s a) (cell_key_of n s b)) ≡ true
-cell_below n s a b less = (λ i. is_lt (ordering_then (level n i) (ordering_then (level s i) (nat_cmp a b)))) ∙ lower a b less
 
 module _ {K : Type 0} (R : K → K → Ordering) (place : ℕ → K) (below : (a b : ℕ) → a < b → is_lt (R (place a) (place b)) ≡ true) where
   below_range : (a s len : ℕ) → a < s → T (below_all R (place a) (map (λ k. (k, k)) (map place (range_with_len s len))))
@@ -120,10 +106,7 @@ module _ (h : List Call) (n : ℕ) (m : Grid) (numbered : matrix_numbered h n �
   band_make b l = record { matrix_no = n; band_no = b; limit_s = l }
 
   band_kept : (q : BandKey) (r : BandRow) → at_band q ≡ Some r → band_key r ≡ q
-  band_kept q r e = elim (same_number n q.0) as (λ b. cond b (band_at q m) None ≡ Some r → band_key r ≡ q) [
-    | true ↦ λ is. mapped_key band_key (λ l. record { matrix_no = q.0; band_no = q.1; limit_s = l }) q (at_place m.limits q.1) r (λ x. refl) is
-    | false ↦ λ no. cc
-  ] e
+  band_kept q r e = elim (same_number n q.0) as (λ b. cond b (band_at q m) None ≡ Some r → band_key r ≡ q) [ true ↦ band_keyed q m r | false ↦ λ no. cc ] e
 
   band_among : (q : BandKey) → (at_band q ≡ None) ⊎ (list_any (eq_by_cmp band_cmp q) (band_places n m) ≡ true)
   band_among q = elim (same_number n q.0) as (λ b. same_number n q.0 ≡ b → (cond b (band_at q m) None ≡ None) ⊎ (list_any (eq_by_cmp band_cmp q) (band_places n m) ≡ true)) [
@@ -141,7 +124,7 @@ module _ (h : List Call) (n : ℕ) (m : Grid) (numbered : matrix_numbered h n �
   unfolding band_make
   limits_back =
       ap (map (λ (b : BandRow). b.limit_s)) (
-      left_rows band_cmp band_key band_total same_bands (λ k. same_number n k.0) (band_row h) (band_keys h) (bands_told h) at_band (band_places n m) band_kept (places_rise band_cmp (band_key_of n) (band_below n) 1 (length m.limits)) band_among band_told
+      left_rows band_cmp band_key band_total same_bands (λ k. same_number n k.0) (band_row h) (band_keys h) (bands_told h) at_band (band_places n m) band_kept (places_rise band_cmp (band_key_of n) (λ a b less. ap (λ o. is_lt (ordering_then o (nat_cmp a b))) (level n) ∙ lower a b less) 1 (length m.limits)) band_among band_told
       ∙ filter_map-map at_band (band_key_of n) (range_with_len 1 (length m.limits))
       ∙ (λ i. filter_map (λ b. cond (is_same_number n i) (option_map (band_make b) (at_place m.limits b)) None) (range_with_len 1 (length m.limits)))
       ∙ listed band_make m.limits [] m.limits 1 refl refl)
@@ -154,23 +137,23 @@ module _ (h : List Call) (n : ℕ) (m : Grid) (numbered : matrix_numbered h n �
     abbrev is_cell : CellKey → Bool
     is_cell q = same_number n q.0 && same_number s q.1
 
+    abbrev cell_made : CellKey → Option CellRow
+    cell_made q = option_map (λ c. record { matrix_no = q.0; severity = q.1; band_no = q.2; cell_no = c }) (at_place row_there q.2)
+
     abbrev at_cell : CellKey → Option CellRow
-    at_cell q = cond (is_cell q) (option_map (λ c. record { matrix_no = q.0; severity = q.1; band_no = q.2; cell_no = c }) (at_place row_there q.2)) None
+    at_cell q = cond (is_cell q) (cell_made q) None
 
     cell_make : ℕ → Cell → CellRow
     cell_make b c = record { matrix_no = n; severity = s; band_no = b; cell_no = c }
 
     cell_kept : (q : CellKey) (r : CellRow) → at_cell q ≡ Some r → cell_key r ≡ q
-    cell_kept q r e = elim (is_cell q) as (λ b. cond b (option_map (λ c. record { matrix_no = q.0; severity = q.1; band_no = q.2; cell_no = c }) (at_place row_there q.2)) None ≡ Some r → cell_key r ≡ q) [
-      | true ↦ λ is. mapped_key cell_key (λ c. record { matrix_no = q.0; severity = q.1; band_no = q.2; cell_no = c }) q (at_place row_there q.2) r (λ x. refl) is
+    cell_kept q r e = elim (is_cell q) as (λ b. cond b (cell_made q) None ≡ Some r → cell_key r ≡ q) [
+      | true ↦ mapped_key cell_key (λ c. record { matrix_no = q.0; severity = q.1; band_no = q.2; cell_no = c }) q (at_place row_there q.2) r (λ x. refl)
       | false ↦ λ no. cc
     ] e
 
     cell_keyed : (q : CellKey) → is_cell q ≡ true → (n ≡ q.0) × (s ≡ q.1)
     cell_keyed q e = let parts = and_parts (same_number n q.0) (same_number s q.1) e in (same_number_of n q.0 parts.0, same_number_of s q.1 parts.1)
-
-    abbrev cell_made : CellKey → Option CellRow
-    cell_made q = option_map (λ c. record { matrix_no = q.0; severity = q.1; band_no = q.2; cell_no = c }) (at_place row_there q.2)
 
     abbrev cell_range : List CellKey
     cell_range = map (cell_key_of n s) (range_with_len 1 (length row_there))
@@ -191,7 +174,7 @@ module _ (h : List Call) (n : ℕ) (m : Grid) (numbered : matrix_numbered h n �
     row_of_place None (suc b) = refl
 
     cell_told : (q : CellKey) → cond (is_cell q) (cell_row h q) None ≡ at_cell q
-    cell_told q = elim (is_cell q) as (λ b. is_cell q ≡ b → cond b (cell_row h q) None ≡ cond b (option_map (λ c. record { matrix_no = q.0; severity = q.1; band_no = q.2; cell_no = c }) (at_place row_there q.2)) None) [
+    cell_told q = elim (is_cell q) as (λ b. is_cell q ≡ b → cond b (cell_row h q) None ≡ cond b (cell_made q) None) [
       | true ↦ λ t.
           let keys = cell_keyed q t in
           ap (λ k. option_and_then (cell_of q) (matrix_numbered h k)) (sym keys.0) ∙ ap (option_and_then (cell_of q)) numbered
@@ -206,60 +189,36 @@ module _ (h : List Call) (n : ℕ) (m : Grid) (numbered : matrix_numbered h n �
     unfolding cell_make
     cells_back =
         ap (map (λ (c : CellRow). c.cell_no)) (
-        left_rows cell_cmp cell_key cell_total same_cells is_cell (cell_row h) (cell_keys h) (cells_told h) at_cell (map (cell_key_of n s) (range_with_len 1 (length row_there))) cell_kept (places_rise cell_cmp (cell_key_of n s) (cell_below n s) 1 (length row_there)) cell_among cell_told
+        left_rows cell_cmp cell_key cell_total same_cells is_cell (cell_row h) (cell_keys h) (cells_told h) at_cell (map (cell_key_of n s) (range_with_len 1 (length row_there))) cell_kept (places_rise cell_cmp (cell_key_of n s) (λ a b less. (λ i. is_lt (ordering_then (level n i) (ordering_then (level s i) (nat_cmp a b)))) ∙ lower a b less) 1 (length row_there)) cell_among cell_told
         ∙ filter_map-map at_cell (cell_key_of n s) (range_with_len 1 (length row_there))
         ∙ (λ i. filter_map (λ b. cond (both_same i) (option_map (cell_make b) (at_place row_there b)) None) (range_with_len 1 (length row_there)))
         ∙ listed cell_make row_there [] row_there 1 refl refl)
         ∙ told_back cell_make (λ (c : CellRow). c.cell_no) (λ b x. refl) row_there 1
 
 -- The rows that have cells are all rows of a matrix
-le_of : (m n : ℕ) → nat_le m n ≡ true → m ≤ n
-le_of m n e = grind (arith, nat_tests)
+full : (width : ℕ) (row : List Cell) → (length row == width + 1) ≡ true → has_cells row ≡ true
+full width [] e = let same : 0 ≡ width + 1 = eqb→eq 0 (width + 1) (subst T (sym e) tt) in absurd (omega (arith, same))
+full width (c ∷ row) e = refl
 
-abbrev AllFull : List (List Cell) → Type 0
-AllFull [] = Unit {0}
-AllFull (row ∷ rows) = (has_cells row ≡ true) × AllFull rows
+all_full : (width : ℕ) (rows : List (List Cell)) → list_all (λ row. length row == width + 1) rows ≡ true → filter has_cells rows ≡ rows
+all_full width [] e = refl
+all_full width (row ∷ rows) e =
+    let parts = and_parts (length row == width + 1) (list_all (λ row. length row == width + 1) rows) e in
+    λ i. cond (full width row parts.0 i) (row ∷ all_full width rows parts.1 i) (filter has_cells rows)
 
-wide_full : (width : ℕ) (rows : List (List Cell)) → list_all (λ row. length row == width + 1) rows ≡ true → AllFull rows
-wide_full width [] e = tt
-wide_full width ([] ∷ rows) e = absurd (none width (and_parts (0 == width + 1) _ e).0) where
-  none : (w : ℕ) → (0 == w + 1) ≡ true → ⊥
-  none w t = let same : 0 ≡ w + 1 = eqb→eq 0 (w + 1) (subst T (sym t) tt) in omega (arith, same)
-wide_full width ((c ∷ row) ∷ rows) e = (refl, wide_full width rows (and_parts _ _ e).1)
-
-five_rows : (rows : List (List Cell)) → length rows ≤ 5 → AllFull rows → filter has_cells (map (λ s. unwrap_or (at_place rows s) []) (range_with_len 1 5)) ≡ rows
-five_rows [] few full = refl
-five_rows (a ∷ []) few full = λ i. cond (full.0 i) (a ∷ []) []
-five_rows (a ∷ b ∷ []) few full = λ i. cond (full.0 i) (a ∷ cond (full.1.0 i) (b ∷ []) []) (cond (full.1.0 i) (b ∷ []) [])
-five_rows (a ∷ b ∷ c ∷ []) few full = let f = full in ap (λ x. cond x (a ∷ filter has_cells (b ∷ c ∷ [])) (filter has_cells (b ∷ c ∷ []))) f.0 ∙ ap (λ xs. a ∷ xs) (five_rest2 b c f.1.0 f.1.1.0) where
-  five_rest2 : (b c : List Cell) → has_cells b ≡ true → has_cells c ≡ true → filter has_cells (b ∷ c ∷ []) ≡ b ∷ c ∷ []
-  five_rest2 b c p q = λ i. cond (p i) (b ∷ cond (q i) (c ∷ []) []) (cond (q i) (c ∷ []) [])
-five_rows (a ∷ b ∷ c ∷ d ∷ []) few full = four a b c d full.0 full.1.0 full.1.1.0 full.1.1.1.0 where
-  four : (a b c d : List Cell) → has_cells a ≡ true → has_cells b ≡ true → has_cells c ≡ true → has_cells d ≡ true → filter has_cells (a ∷ b ∷ c ∷ d ∷ []) ≡ a ∷ b ∷ c ∷ d ∷ []
-  four (x ∷ a) (y ∷ b) (z ∷ c) (w ∷ d) p q r s = refl
-  four [] b c d p q r s = cc
-  four (x ∷ a) [] c d p q r s = cc
-  four (x ∷ a) (y ∷ b) [] d p q r s = cc
-  four (x ∷ a) (y ∷ b) (z ∷ c) [] p q r s = cc
-five_rows (a ∷ b ∷ c ∷ d ∷ e ∷ []) few full = five a b c d e full.0 full.1.0 full.1.1.0 full.1.1.1.0 full.1.1.1.1.0 where
-  five : (a b c d e : List Cell) → has_cells a ≡ true → has_cells b ≡ true → has_cells c ≡ true → has_cells d ≡ true → has_cells e ≡ true → filter has_cells (a ∷ b ∷ c ∷ d ∷ e ∷ []) ≡ a ∷ b ∷ c ∷ d ∷ e ∷ []
-  five (x ∷ a) (y ∷ b) (z ∷ c) (w ∷ d) (v ∷ e) p q r s t = refl
-  five [] b c d e p q r s t = cc
-  five (x ∷ a) [] c d e p q r s t = cc
-  five (x ∷ a) (y ∷ b) [] d e p q r s t = cc
-  five (x ∷ a) (y ∷ b) (z ∷ c) [] e p q r s t = cc
-  five (x ∷ a) (y ∷ b) (z ∷ c) (w ∷ d) [] p q r s t = cc
-five_rows (a ∷ b ∷ c ∷ d ∷ e ∷ f ∷ rest) few full = absurd (omega (arith, few))
+five_rows : (rows : List (List Cell)) → length rows ≤ 5 → filter has_cells rows ≡ rows → filter has_cells (map (λ s. unwrap_or (at_place rows s) []) (range_with_len 1 5)) ≡ rows
+five_rows (a ∷ b ∷ c ∷ d ∷ e ∷ f ∷ rest) few all = absurd (omega (arith, few))
+five_rows rows few all = all
 
 pub read_back : (h : List Call) (n : ℕ) (m : Grid) → matrix_numbered h n ≡ Some m → is_matrix m.limits m.cells ≡ true → matrix_read (rows_of h) n ≡ m
 read_back h n m numbered shape =
     let has = (and_parts _ _ (and_parts _ _ shape).0).0 in
     let most = (and_parts _ _ has).0 in
-    let few = le_of (length m.cells) 5 (and_parts _ _ (and_parts _ _ (and_parts _ _ most).0).0).1 in
-    let full = wide_full (length m.limits) m.cells (and_parts _ _ most).1 in
+    let few = leb-true (length m.cells) 5 (and_parts _ _ (and_parts _ _ (and_parts _ _ most).0).0).1 in
+    let all = all_full (length m.limits) m.cells (and_parts _ _ most).1 in
     λ i. record {
       limits = limits_back h n m numbered i;
-      cells = ((λ j. filter has_cells (cells_back h n m numbered 1 j ∷ cells_back h n m numbered 2 j ∷ cells_back h n m numbered 3 j ∷ cells_back h n m numbered 4 j ∷ cells_back h n m numbered 5 j ∷ [])) ∙ five_rows m.cells few full) i;
+      cells = ((λ j. filter has_cells (cells_back h n m numbered 1 j ∷ cells_back h n m numbered 2 j ∷ cells_back h n m numbered 3 j ∷ cells_back h n m numbered 4 j ∷ cells_back h n m numbered 5 j ∷ [])) ∙ five_rows m.cells few all) i;
     }
 
 -- The matrix of a proposed change is that of its number
@@ -276,20 +235,15 @@ draft_positive [] n d e = cc
 draft_positive (c ∷ h) n d e = positive_step h n d c.person c.moment c.request (draft_positive h n d) e
 
 drafted_kind : (h : List Call) (n : ℕ) (k : ChangeKind) → kind_of_change h n ≡ Some k → 1 ≤ n
-drafted_kind h n k e = by (draft h n) refl e where
-  by : (o : Option Draft) → draft h n ≡ o → option_map (λ d. d.kind) o ≡ Some k → 1 ≤ n
-  by None is e = cc
-  by (Some d) is e = draft_positive h n d is
+drafted_kind h n k e = elim (draft h n) as (λ o. draft h n ≡ o → option_map (λ (d : Draft). d.kind) o ≡ Some k → 1 ≤ n) [ None ↦ λ _ no. cc | Some d ↦ λ is _. draft_positive h n d is ] refl e
 
 other_matrix : (n k : ℕ) (kind : ChangeKind) (rest : Option Grid) → same_number n k ≡ false → or_else (when_number n (matrix_in k (Some kind))) rest ≡ rest
 other_matrix n k (Matrix m) rest other = ap (λ b. or_else (when b m) rest) other
-other_matrix n k (Rationale a s) rest other = refl
-other_matrix n k (Limit a max) rest other = refl
+other_matrix n k _ rest other = refl
 
 own_matrix : (n k : ℕ) (kind : ChangeKind) (m : Grid) (rest : Option Grid) → same_number n k ≡ true → Some kind ≡ Some (Matrix m) → or_else (when_number n (matrix_in k (Some kind))) rest ≡ Some m
 own_matrix n k (Matrix x) m rest own e = ap (λ b. or_else (when b x) rest) own ∙ (let same : x ≡ m = cc in ap (λ y. Some y) same)
-own_matrix n k (Rationale a s) m rest own e = cc
-own_matrix n k (Limit a max) m rest own e = cc
+own_matrix n k _ m rest own e = cc
 
 numbered_step : (h : List Call) (n : ℕ) (m : Grid) (p : Name) (t : ℕ) (q : Request) → 1 ≤ n → (kind_of_change h n ≡ Some (Matrix m) → matrix_numbered h n ≡ Some m) → option_map (λ (d : Draft). d.kind) (or_else (said_of_draft n p t h q) (draft h n)) ≡ Some (Matrix m) → or_else (when_number n (numbered_matrix h q)) (matrix_numbered h n) ≡ Some m
 numbered_step h n m p t (OpenUnit u s x k) above before e = ap (λ b. or_else (when b x) (matrix_numbered h n)) (false_from_ne_true (same_number n 0) (λ z. let is : n ≡ 0 = same_number_of n 0 z in omega (arith, above, is))) ∙ before e
@@ -331,9 +285,7 @@ matrix_stays h _ k m plain e = e
 
 matrix_approved : (n : ℕ) (k : Option ChangeKind) (x : ℕ × Grid) → matrix_in n k ≡ Some x → (n ≡ x.0) × (k ≡ Some (Matrix x.1))
 matrix_approved n (Some (Matrix m)) x e = let same : (n, m) ≡ x = cc in (ap (λ (y : ℕ × Grid). y.0) same, ap (λ (y : ℕ × Grid). Some (Matrix y.1)) same)
-matrix_approved n (Some (Rationale a s)) x e = cc
-matrix_approved n (Some (Limit a max)) x e = cc
-matrix_approved n None x e = cc
+matrix_approved n _ x e = cc
 
 said_numbered : (h : List Call) (q : Request) (x : ℕ × Grid) → said_of_matrix h q ≡ Some x → or_else (when_number x.0 (numbered_matrix h q)) (matrix_numbered h x.0) ≡ Some x.1
 said_numbered h (OpenUnit u s m k) x e =
@@ -358,10 +310,8 @@ matrix_there : (h : List Call) → IsLegal h → is_some (matrix_said h) ≡ tru
 matrix_there = by_legal (λ h. is_some (matrix_said h) ≡ true) (λ p t u s m k shape. refl) (λ h c f. else_some (said_of_matrix h c.request) (matrix_said h))
 
 pub in_force_numbered : (h : List Call) → IsLegal h → matrix_numbered h (matrix h).0 ≡ Some (matrix h).1
-in_force_numbered h legal = by (matrix_said h) refl (matrix_there h legal) where
-  by : (o : Option (ℕ × Grid)) → matrix_said h ≡ o → is_some o ≡ true → matrix_numbered h (unwrap_or o no_matrix).0 ≡ Some (unwrap_or o no_matrix).1
-  by None is there = cc
-  by (Some x) is there = matrix_in_force h legal x is
+in_force_numbered h legal =
+    elim (matrix_said h) as (λ o. matrix_said h ≡ o → is_some o ≡ true → matrix_numbered h (unwrap_or o no_matrix).0 ≡ Some (unwrap_or o no_matrix).1) [ None ↦ λ _ there. cc | Some x ↦ λ is _. matrix_in_force h legal x is ] refl (matrix_there h legal)
 
 pub readable : (h : List Call) → IsLegal h → AreReadable h
 readable h legal =
@@ -381,12 +331,8 @@ numbers_told h =
       order = told.order;
       same = told.same;
       at_key = λ n r e. mapped_key (λ k. k) (λ (d : Draft). n) n (draft h n) r (λ x. refl) e;
-      among = λ n. elim (told.among n) [ inl none ↦ inl (by_draft n (draft h n) none) | inr there ↦ inr there ];
+      among = λ n. elim (told.among n) [ inl none ↦ inl (elim (draft h n) as (λ o. option_map (change_with h n) o ≡ None → option_map (λ d. n) o ≡ None) [ None ↦ λ _. refl | Some d ↦ λ e. cc ] none) | inr there ↦ inr there ];
     }
-  where
-    by_draft : (n : ℕ) (o : Option Draft) → option_map (change_with h n) o ≡ None → option_map (λ d. n) o ≡ None
-    by_draft n None e = refl
-    by_draft n (Some d) e = cc
 
 abbrev numbers_kept : List Call → List ℕ
 numbers_kept h = filter_map (numbered_draft h) (in_order nat_cmp (numbers_of_changes h))
@@ -427,38 +373,21 @@ kept_all (c ∷ h) = kept_step h c.person c.moment c.request (kept_all h)
 
 numbers_shown : (h : List Call) (ks : List ℕ) → map change_number (map change_entry (filter_map (change h) ks)) ≡ filter_map (numbered_draft h) ks
 numbers_shown h [] = refl
-numbers_shown h (k ∷ ks) = by (draft h k) (numbers_shown h ks) where
-  by : (o : Option Draft) → map change_number (map change_entry (filter_map (change h) ks)) ≡ filter_map (numbered_draft h) ks
-      → map change_number (map change_entry (cons_option (option_map (change_with h k) o) (filter_map (change h) ks))) ≡ cons_option (option_map (λ d. k) o) (filter_map (numbered_draft h) ks)
-  by None same = same
-  by (Some d) same = ap (λ ns. k ∷ ns) same
-
-last_mapped : {A B : Type 0} (f : A → B) (xs : List A) (i : ℕ) → option_map f (slice_get xs i) ≡ slice_get (map f xs) i
-last_mapped f [] i = refl
-last_mapped f (x ∷ xs) zero = refl
-last_mapped f (x ∷ xs) (suc i) = last_mapped f xs i
-
-length-map : {A B : Type 0} (f : A → B) (xs : List A) → length (map f xs) ≡ length xs
-length-map f [] = refl
-length-map f (x ∷ xs) = ap suc (length-map f xs)
-
-length-numbers : (s n : ℕ) → length (range_with_len s n) ≡ n
-length-numbers s zero = refl
-length-numbers s (suc n) = ap suc (length-numbers (s + 1) n)
-
-last_in_range : (s k : ℕ) → slice_get (range_with_len s (suc k)) k ≡ Some (s + k)
-last_in_range s zero = ap (λ n. Some n) (let e : s ≡ s + 0 = omega arith in e)
-last_in_range s (suc k) = last_in_range (s + 1) k ∙ ap (λ n. Some n) (let e : (s + 1) + k ≡ s + suc k = omega arith in e)
+numbers_shown h (k ∷ ks) =
+    elim (draft h k) as (λ o. map change_number (map change_entry (cons_option (option_map (change_with h k) o) (filter_map (change h) ks))) ≡ cons_option (option_map (λ d. k) o) (filter_map (numbered_draft h) ks)) [
+      | None ↦ numbers_shown h ks
+      | Some d ↦ ap (λ ns. k ∷ ns) (numbers_shown h ks)
+    ]
 
 last_of_numbers : (n : ℕ) → unwrap_or (slice_get (range_with_len 1 n) (n - 1)) 0 ≡ n
 last_of_numbers zero = refl
-last_of_numbers (suc k) = ap (λ o. unwrap_or o 0) (ap (slice_get (range_with_len 1 (suc k))) (let e : suc k - 1 ≡ k = omega arith in e) ∙ last_in_range 1 k) ∙ (let e : 1 + k ≡ suc k = omega arith in e)
+last_of_numbers (suc k) = unwrap_or-slice_get (range_with_len 1 (suc k)) (suc k - 1) 0 ∙ get_or-range_with_len 1 (suc k) (suc k - 1) 0 (omega arith) ∙ (let e : 1 + (suc k - 1) ≡ suc k = omega arith in e)
 
 pub change_count : (h : List Call) → last_number (change_rows h) ≡ proposals h
 change_count h =
     let numbers : map change_number (change_rows h) ≡ range_with_len 1 (proposals h) = numbers_shown h (in_order nat_cmp (numbers_of_changes h)) ∙ kept_all h in
-    let many : length (change_rows h) ≡ proposals h = sym (length-map change_number (change_rows h)) ∙ ap length numbers ∙ length-numbers 1 (proposals h) in
-    ap (λ o. unwrap_or o 0) (last_mapped change_number (change_rows h) (length (change_rows h) - 1) ∙ (λ i. slice_get (numbers i) (many i - 1)))
+    let many : length (change_rows h) ≡ proposals h = sym (length-map (change_rows h) change_number) ∙ ap length numbers ∙ length-range_with_len 1 (proposals h) in
+    ap (λ o. unwrap_or o 0) (sym (slice_get-map change_number (change_rows h) (length (change_rows h) - 1)) ∙ (λ i. slice_get (numbers i) (many i - 1)))
     ∙ last_of_numbers (proposals h)
 
 -- the rows of a legal history give its facts

@@ -1,37 +1,29 @@
 -- Rows in the order of their keys, and the one of a key among them.
 use Rattle.std.specs.{Cmp.{IsTotalOrder, nat_cmp_is, ranked}, FinMap.Entries.{below_all}, List.Sorted.{IsPartitionPoint, IsPartitionedBy}}
-use Rattle.std.specs.Ordering.{ordering_reverse, eq_by_cmp}
-use Rattle.std.proofs.Common.{ap, arith, get_or, refl, sym, ◌∙◌, is_eq, is_lt, Bool, List, None, Option, Some, T, [], cond, false, length, map, nat_lt, option_and_then, slice_get, suc, true, unwrap_or, zero, ℕ, ◌&&◌, ◌<◌, ◌∷◌, ◌≡◌, ◌≤◌, Ordering, Equal, Greater, Less, nat_cmp, true≢false}
-use Rattle.std.proofs.lemmas.Bool.{ltb-false, ltb-true, false_from_ne_true}
-use Rattle.std.proofs.lemmas.Option.{get_or_from_slice_get, slice_get-get_or, slice_get_past, slice_get_within}
+use Rattle.std.{specs.Ordering.{ordering_reverse, eq_by_cmp}, proofs.lemmas.{Bool.{ltb-false, ltb-true, false_from_ne_true}, List.Folds.{find_at}}}
+use Rattle.std.proofs.Common.{ap, arith, get_or, refl, sym, ◌∙◌, is_eq, is_lt, List, None, Option, Some, T, [], cond, false, length, map, nat_lt, option_and_then, slice_get, suc, true, unwrap_or, zero, ℕ, ◌<◌, ◌∷◌, ◌≡◌, ◌≤◌, Ordering, Equal, Greater, Less, nat_cmp, true≢false, find, Bool}
+use Rattle.std.proofs.lemmas.{Option.{get_or_from_slice_get, slice_get-get_or, slice_get_past, slice_get_within}, List.Sums.{passes_at_first}}
 use Rattle.plant_types.{specs.{KeyedRows.{IsInOrder, row_at}, Options.{when}}, proofs.public.{KeyedRowLaws.{tied}, Orders.{same_numbers}}}
+use Rattle.plant_types.proofs.public.Halves.{first, second}
+use Rattle.plant_model.specs.Histories.{same_number}
 
-pub both : (a b : Bool) → T a → T b → T (a && b)
-both true b p q = q
-both false b p q = p
-
-pub first : (a b : Bool) → T (a && b) → T a
-first true b p = tt
-first false b p = p
-
-pub second : (a b : Bool) → T (a && b) → T b
-second true b p = p
-second false b p = absurd p
+-- what is found passes the test
+pub find_passes : {X : Type 0} (p : X → Bool) (xs : List X) (x : X) → find p xs ≡ Some x → p x ≡ true
+find_passes p xs x e =
+    let at = sym (find_at p xs) ∙ e in
+    ap p (sym (get_or_from_slice_get xs _ x x at)) ∙ passes_at_first p xs x (slice_get_within xs _ x at)
 
 pub less : (r : Ordering) → T (is_lt r) → r ≡ Less
 less Less p = refl
-less Equal p = absurd p
-less Greater p = absurd p
+less _ p = absurd p
 
 pub lesser : (r : Ordering) → is_lt r ≡ true → r ≡ Less
 lesser Less e = refl
-lesser Equal e = cc
-lesser Greater e = cc
+lesser _ e = cc
 
 pub greater : (r : Ordering) → is_lt r ≡ false → is_eq r ≡ false → r ≡ Greater
-greater Less e f = cc
-greater Equal e f = cc
 greater Greater e f = refl
+greater _ e f = cc
 
 module _ {K : Type 0} {R : K → K → Ordering} (total : IsTotalOrder R) where
   pub turned : (a b : K) → R a b ≡ Less → R b a ≡ Greater
@@ -134,19 +126,15 @@ module _ {K X : Type 0} (R : K → K → Ordering) (key : X → K) where
         ∙ sym (ap (λ v. cond (is_eq v) (Some x) (row_at R key t rows)) (turned total (key x) t low))
 
 -- numbers
-abbrev pub ties : ℕ → ℕ → Bool
-ties m n = eq_by_cmp nat_cmp m n
-
-pub tied_numbers : (m n : ℕ) → m ≡ n → ties m n ≡ true
+pub tied_numbers : (m n : ℕ) → m ≡ n → same_number m n ≡ true
 tied_numbers m n same = sym (ap is_eq (nat_cmp_is m n Equal same))
 
-pub untied_numbers : (m n : ℕ) → (m ≡ n → ⊥) → ties m n ≡ false
-untied_numbers m n differs = false_from_ne_true (ties m n) (λ t. differs (same_numbers m n (tied (nat_cmp m n) true t refl)))
+pub untied_numbers : (m n : ℕ) → (m ≡ n → ⊥) → same_number m n ≡ false
+untied_numbers m n differs = false_from_ne_true (same_number m n) (λ t. differs (same_numbers m n (tied (nat_cmp m n) true t refl)))
+
+pub lower : (m n : ℕ) → m < n → is_lt (nat_cmp m n) ≡ true
+lower m n less = sym (ap is_lt (nat_cmp_is m n Less less))
 
 pub number_parts : {X : Type 0} (key : X → ℕ) (n : ℕ) (rows : List X) (p : ℕ) → IsPartitionPoint (λ r. key r < n) (λ r. n ≤ key r) rows p → Parts nat_cmp key n rows p
-number_parts key n rows p h = (λ k d low high. lower _ n (h.0 k d low high), λ k d low high. not_lower _ n (h.1 k d low high)) where
-  lower : (m n : ℕ) → m < n → is_lt (nat_cmp m n) ≡ true
-  lower m n lt = sym (ap is_lt (nat_cmp_is m n Less lt))
-
-  not_lower : (m n : ℕ) → n ≤ m → is_lt (nat_cmp m n) ≡ false
-  not_lower m n le = false_from_ne_true _ (λ t. let lt = ranked m n Less (sym (lesser (nat_cmp m n) t)) in omega (arith, lt, le))
+number_parts key n rows p h =
+    (λ k d low high. lower _ n (h.0 k d low high), λ k d low high. false_from_ne_true _ (λ t. let lt = ranked _ n Less (sym (lesser _ t)) in let le = h.1 k d low high in omega (arith, lt, le)))

@@ -1,13 +1,11 @@
 -- What a call does to a world, and to what a person sees of it.
 use Rattle.std.specs.FinMap.{FinMap, get, contains_key, keys, entries, entries_sorted, get-insert, contains_key-keys, Entries.{is_sorted, below_all}}
-use Rattle.std.specs.{List.{list_any}, Ordering.{eq_by_cmp}}
+use Rattle.std.{specs.{List.{list_any}, Ordering.{eq_by_cmp}}, proofs.lemmas.Bool.{false_from_ne_true, true_from_ne_false}}
 use Rattle.std.proofs.Common.{◌≡◌, ◌⊎◌, inl, inr, ℕ, List, [], ◌∷◌, Some, None, refl, sym, ap, subst, ◌∙◌, Bool, true, false, cond, T, ◌&&◌, ◌||◌, not, if◌then◌else◌, Option, Result, Ok, Err, is_some, unwrap_or, option_map, map, is_eq, is_lt}
-use Rattle.std.proofs.lemmas.Bool.{false_from_ne_true, true_from_ne_false}
-use Rattle.plant_model.specs.{Calls.{reply}, Facts.{facts}, Grants.{said_of_pair, is_before, held, holds_any}}
-use Rattle.plant_model.specs.Histories.{Over, Said as SaidOf, still}
+use Rattle.plant_model.specs.{Calls.{reply}, Facts.{facts}, Grants.{said_of_pair, is_before, held, holds_any}, Views.{codes_seen, view, grants_to}}
+use Rattle.plant_model.{specs.Histories.{Over, Said as SaidOf, still}, proofs.public.HistoryLaws.{when_Some}}
 use Rattle.plant_model.specs.Laws.{UnseenCallsChangeNothing, CodesAreTheAdministrators, EqualViewsEqualAnswers, CallsToSeenUnits}
 use Rattle.plant_model.specs.{Refusals.{holds_some, first_refusal}, Verdicts.{changes_history, is_opening, refusals_of_holder, refused_or, verdict}}
-use Rattle.plant_model.specs.Views.{codes_seen, view, grants_to}
 use Rattle.plant_model.specs.Worlds.{World, history, unit_named, unit_seen, units_held, opening, unit_answer, by_admin, is_taken, answer_at, answer, answer_of_units, with_call, next_at, next}
 use Rattle.plant_model.specs.declared.{call.{Call.{Call}, Request.{Request, TheVariants.{OpenUnit, Grant, Withdraw}}}, reply.Refused.{Refused}}
 use Rattle.plant_model.{specs.declared.reply.{Refused.TheVariants.{NotGranted}, Reply.{Reply}}, proofs.public.PutLaws.{is_some-find}}
@@ -30,9 +28,6 @@ sorted-keys (e ∷ es) = λ i. below-keys e.0 es i && sorted-keys es i
 module _ {X : Type 0} (m : FinMap name_cmp X) where
   keys_rise : IsInOrder name_cmp (λ k. k) (keys m)
   keys_rise = subst T (sym (sorted-keys (entries m))) (entries_sorted m)
-
-  key_found : (q : Name) → is_some (row_at name_cmp (λ k. k) q (keys m)) ≡ contains_key m q
-  key_found q = is_some-find (eq_by_cmp name_cmp q) (keys m) ∙ sym (contains_key-keys m q)
 
   found_itself : (q : Name) (ks : List Name) → row_at name_cmp (λ k. k) q ks ≡ cond (list_any (eq_by_cmp name_cmp q) ks) (Some q) None
   found_itself q [] = refl
@@ -78,7 +73,7 @@ seen_key t p u h e =
 seen_at : (w : World) (t : ℕ) (p q : Name) → row_at name_cmp (λ e. e.0) q (units_held w t p) ≡ unit_seen w t p q
 seen_at w t p q =
     row_at-told name_cmp (λ e. e.0) name_total same_names (unit_seen w t p) (λ u e. seen_key t p u (history w u) e) q (keys w.units)
-    ∙ ap (λ b. cond b (unit_seen w t p q) None) (key_found w.units q)
+    ∙ ap (λ b. cond b (unit_seen w t p q) None) (is_some-find (eq_by_cmp name_cmp q) (keys w.units) ∙ sym (contains_key-keys w.units q))
     ∙ elim (get w.units q) as (λ o. cond (is_some o) (seen t p q (unwrap_or o [])) None ≡ seen t p q (unwrap_or o [])) [ None ↦ refl | Some h ↦ refl ]
 
 seen_rise : (w : World) (t : ℕ) (p : Name) → IsInOrder name_cmp (λ (e : Name × List Call). e.0) (units_held w t p)
@@ -91,13 +86,8 @@ same_units w v t p is =
 pub same_seen : (w v : World) (t : ℕ) (p : Name) → units_held w t p ≡ units_held v t p → (u : Name) → unit_seen w t p u ≡ unit_seen v t p u
 same_seen w v t p e u = sym (seen_at w t p u) ∙ ap (row_at name_cmp (λ e. e.0) u) e ∙ seen_at v t p u
 
-when_same : {A : Type 0} (b c : Bool) (x y : A) → b ≡ true → when b x ≡ when c y → x ≡ y
-when_same true true x y t e = cc
-when_same true false x y t e = cc
-when_same false c x y t e = cc
-
 pub seen_history : (t : ℕ) (p u : Name) (h k : List Call) → seen t p u h ≡ seen t p u k → holds_any h t p ≡ true → h ≡ k
-seen_history t p u h k e holds = ap (λ x. x.1) (when_same (holds_any h t p) (holds_any k t p) (u, h) (u, k) holds e)
+seen_history t p u h k e holds = ap (λ (x : Name × List Call). x.1) (sym (when_Some (holds_any k t p) (u, k) (u, h) (sym e ∙ ap (λ b. when b (u, h)) holds)))
 
 is_some-when : {A : Type 0} (b : Bool) (x : A) → is_some (when b x) ≡ b
 is_some-when true x = refl
@@ -175,20 +165,16 @@ refused_changes (Ok r) c x e t = cc
 refused_changes (Err y) c x e t = cc
 
 -- who changes a unit holds a role in it, or is the administrator who opens it
-changes_held : (h : List Call) (c : Call) → changes_history (verdict h c) c ≡ true → holds_any h c.moment c.person ≡ true
-changes_held h c t = true_from_ne_false _ (λ e. refused_changes (verdict h c) c NotGranted (not_granted h c e) t)
-
 pub opening_changes : (admin taken : Bool) (c : Call) → changes_history (opening admin taken) c ≡ true → (admin ≡ true) × (taken ≡ false)
-opening_changes true true c t = cc
 opening_changes true false c t = (refl, refl)
-opening_changes false taken c t = cc
+opening_changes _ _ c t = cc
 
 -- what a change of a unit tells
 pub changes_by : (admin taken : Bool) (h : List Call) (c : Call) → changes_history (unit_answer admin taken h c) c ≡ true → ((admin ≡ true) × (taken ≡ false)) ⊎ (holds_any h c.moment c.person ≡ true)
 changes_by admin taken h c =
     elim (is_opening c.request) as (λ b. changes_history (if b then opening admin taken else verdict h c) c ≡ true → ((admin ≡ true) × (taken ≡ false)) ⊎ (holds_any h c.moment c.person ≡ true)) [
       | true ↦ λ t. inl (opening_changes admin taken c t)
-      | false ↦ λ t. inr (changes_held h c t)
+      | false ↦ λ t. inr (true_from_ne_false _ (λ e. refused_changes (verdict h c) c NotGranted (not_granted h c e) t))
     ]
 
 -- only the administrator's calls change which units there are
@@ -219,10 +205,6 @@ pub record Alike (t : ℕ) (p : Name) (w v : World) : Type 0 where
   pub seen : (u : Name) → unit_seen w t p u ≡ unit_seen v t p u
   pub taken : same_name p w.admin ≡ true → (u : Name) → is_taken w u ≡ is_taken v u
 
-only_if : {A : Type 0} (b : Bool) (x y z : A) → b ≡ true → (if b then x else z) ≡ (if b then y else z) → x ≡ y
-only_if true x y z t e = e
-only_if false x y z t e = cc
-
 if_same : {A : Type 0} (b : Bool) (x y z : A) → (b ≡ true → x ≡ y) → (if b then x else z) ≡ (if b then y else z)
 if_same true x y z h = h refl
 if_same false x y z h = refl
@@ -238,7 +220,7 @@ view_alike t p w v admin e =
     record {
       admin = admin;
       seen = same_seen w v t p (ap (λ x. x.0) e);
-      taken = λ is u. same_contains w.units v.units (only_if (same_name p w.admin) (keys w.units) (keys v.units) [] is (ap (λ x. x.1) e ∙ ap (λ x. if same_name p x then keys v.units else []) (sym admin))) u;
+      taken = λ is u. same_contains w.units v.units (sym (ap (λ b. if b then keys w.units else []) is) ∙ ap (λ x. x.1) e ∙ ap (λ x. if same_name p x then keys v.units else []) (sym admin) ∙ ap (λ b. if b then keys v.units else []) is) u;
     }
 
 -- a call that is answered alike, and that puts the same history after it, leaves them alike

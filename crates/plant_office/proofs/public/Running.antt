@@ -1,5 +1,5 @@
 -- A run with one more call.
-use Rattle.std.proofs.Common.{ap, arith, refl, subst, sym, ◌∙◌, List, [], cond, count_by, false, if◌then◌else◌, length, true, ℕ, ◌++◌, ◌+◌, ◌-◌, ◌<◌, ◌^◌, ◌∷◌, ◌≡◌, ◌≤◌}
+use Rattle.std.proofs.Common.{ap, arith, refl, subst, ◌∙◌, List, [], cond, count_by, false, if◌then◌else◌, length, true, ℕ, ◌++◌, ◌+◌, ◌-◌, ◌<◌, ◌^◌, ◌∷◌, ◌≡◌, ◌≤◌}
 use Rattle.std.proofs.lemmas.List.Sums.{count_by-le-length, sum_by-append}
 use Rattle.plant_model.specs.{Worlds.{IsLegalWorld, World, answer, answers}, declared.{call.Call.{Call}, reply.Answer.{Answer}}}
 use Rattle.plant_model.specs.declared.reply.Answer.TheVariants.{Fault as Faulted, Refused as WasRefused, Reply as Replied}
@@ -7,26 +7,28 @@ use Rattle.plant_model.proofs.public.PutLaws.{said}
 use Rattle.plant_types.{specs.declared.fault.Fault.TheVariants.{Memory, Store}, proofs.public.Halves.{left}}
 use Rattle.plant_books.specs.Contents.{Content}
 use Rattle.plant_office.specs.Answers.{CountsAnswer, IfSaid, OnFault}
-use Rattle.plant_office.specs.Runs.{AreAnswers, AreIsolated, IsAlike, IsRun, after_answer, is_store, stores_in, world_after}
+use Rattle.plant_office.specs.Runs.{AreAnswers, AreIsolated, IsRun, after_answer, is_store, stores_in, world_after}
 use Rattle.plant_office.{specs.Served.{Holds, IsServed}, proofs.Serving.{alike_if}}
 
-runs_more : (w : World) (calls : List Call) (answers : List Answer) (c : Call) (a : Answer) → AreAnswers w calls answers → IfSaid a (λ x. x ≡ answer (world_after w calls answers) c) → AreAnswers w (calls ++ c ∷ []) (answers ++ a ∷ [])
-runs_more w [] [] c a h said = (said, tt)
-runs_more w (d ∷ calls) (b ∷ answers) c a h said = (h.0, runs_more (after_answer w d b) calls answers c a h.1 said)
-runs_more w [] (b ∷ answers) c a h said = absurd h
-runs_more w (d ∷ calls) [] c a h said = absurd h
+-- two runs, one after the other
+joined : (w : World) (cs ds : List Call) (xs ys : List Answer) → AreAnswers w cs xs → AreIsolated w cs xs → AreAnswers (world_after w cs xs) ds ys → AreIsolated (world_after w cs xs) ds ys
+    → AreAnswers w (cs ++ ds) (xs ++ ys) × AreIsolated w (cs ++ ds) (xs ++ ys) × (world_after (world_after w cs xs) ds ys ≡ world_after w (cs ++ ds) (xs ++ ys))
+joined w [] ds [] ys h i k l = (k, l, refl)
+joined w (c ∷ cs) ds (a ∷ xs) ys h i k l = let rest = joined (after_answer w c a) cs ds xs ys h.1 i.1 k l in ((h.0, rest.0), (i.0, rest.1), rest.2)
+joined w [] ds (a ∷ xs) ys h i k l = absurd h
+joined w (c ∷ cs) ds [] ys h i k l = absurd h
 
-world_more : (w : World) (calls : List Call) (answers : List Answer) (c : Call) (a : Answer) → AreAnswers w calls answers → world_after w (calls ++ c ∷ []) (answers ++ a ∷ []) ≡ after_answer (world_after w calls answers) c a
-world_more w [] [] c a h = refl
-world_more w (d ∷ calls) (b ∷ answers) c a h = world_more (after_answer w d b) calls answers c a h.1
-world_more w [] (b ∷ answers) c a h = absurd h
-world_more w (d ∷ calls) [] c a h = absurd h
-
-isolated_more : (w : World) (calls : List Call) (answers : List Answer) (c : Call) (a : Answer) → AreAnswers w calls answers → AreIsolated w calls answers → IsAlike (world_after w calls answers) c a → AreIsolated w (calls ++ c ∷ []) (answers ++ a ∷ [])
-isolated_more w [] [] c a h i alike = (alike, tt)
-isolated_more w (d ∷ calls) (b ∷ answers) c a h i alike = (i.0, isolated_more (after_answer w d b) calls answers c a h.1 i.1 alike)
-isolated_more w [] (b ∷ answers) c a h i alike = absurd h
-isolated_more w (d ∷ calls) [] c a h i alike = absurd h
+pub run-append : (w : World) (cs ds : List Call) (xs ys : List Answer) (mid left : Content → Type 0) → IsRun w cs xs mid → IsRun (world_after w cs xs) ds ys left → IsRun w (cs ++ ds) (xs ++ ys) left
+run-append w cs ds xs ys mid left first second =
+    let both = joined w cs ds xs ys first.answered first.isolated second.answered second.isolated in
+    record {
+      answered = both.0;
+      isolated = both.1;
+      after = second.after;
+      left_it = second.left_it;
+      holds = subst (Holds second.after) both.2 second.holds;
+      legal = subst IsLegalWorld both.2 second.legal;
+    }
 
 -- what a served call says and leaves
 said_as : (v : World) (c : Call) (a : Answer) (new : Content → Type 0) → IfSaid a (λ x. IsServed v c x new) → IfSaid a (λ x. x ≡ answer v c)
@@ -51,15 +53,8 @@ run_more w calls answers c a old new s served fault =
     let now = served s.after s.left_it v s.legal s.holds in
     let said = said_as v c a new now in
     let left = left_as v c a s.after new s.legal s.holds now (fault s.after s.left_it) in
-    let world = sym (world_more w calls answers c a s.answered) in
-    record {
-      answered = runs_more w calls answers c a s.answered said;
-      isolated = isolated_more w calls answers c a s.answered s.isolated (alike_if v c a said);
-      after = left.after;
-      left_it = left.left_it;
-      holds = subst (Holds left.after) world left.holds;
-      legal = subst IsLegalWorld world left.legal;
-    }
+    run-append w calls (c ∷ []) answers (a ∷ []) old new s
+    (record { answered = (said, tt); isolated = (alike_if v c a said, tt); after = left.after; left_it = left.left_it; holds = left.holds; legal = left.legal })
 
 pub run_none : (w : World) (m : Content) (left : Content → Type 0) → left m → Holds m w → IsLegalWorld w → IsRun w [] [] left
 run_none w m left l h legal = record { answered = tt; isolated = tt; after = m; left_it = l; holds = h; legal = legal }

@@ -1,51 +1,36 @@
 -- What the tables have of units, and the content of the books.
 use Rattle.std.specs.{Cmp.Lexicographic.{nat_list_cmp_total}, FinMap.{get, contains_key, get-empty, get-insert}}
-use Rattle.std.proofs.Common.{◌≡◌, ◌≢◌, ◌⊎◌, inl, inr, Bool, true, false, cond, List, [], ◌∷◌, Option, None, Some, refl, sym, ap, ◌∙◌, subst, true≢false, unwrap_or, is_some}
+use Rattle.std.proofs.Common.{◌≡◌, ◌≢◌, ◌⊎◌, inl, inr, Bool, true, false, cond, List, [], ◌∷◌, Option, None, Some, refl, sym, ap, ◌∙◌, subst, true≢false, unwrap_or, is_eq, is_some}
+use Rattle.std.proofs.lemmas.Cmp.{tied_itself}
 use Rattle.sqlite.specs.State.{State}
 use Rattle.plant_books.specs.Contents.{Content, IsKnownTo, after_changes, no_units, rows_in}
 use Rattle.plant_model.specs.RowChanges.{changed, changed_by, no_rows, puts_unit}
-use Rattle.plant_model.specs.declared.rows.Key.TheVariants.{Grant as GrantKey, Shelf as ShelfKey}
-use Rattle.plant_model.specs.declared.rows.Row.TheVariants.{Alarm as AlarmPut, Band as BandPut, Cell as CellPut, Change as ChangePut, Event as EventPut, Grant as GrantPut, Record as RecordPut, Shelf as ShelfPut, Unit as UnitPut}
-use Rattle.plant_model.specs.declared.rows.{RowEdit.{RowEdit, TheVariants.{Put, PutEvents, Remove}}, UnitRows.{UnitRows}}
+use Rattle.plant_model.specs.declared.rows.{Key.TheVariants.{Grant as GrantKey}, Row.TheVariants.{Unit as UnitPut}}
+use Rattle.plant_model.specs.declared.rows.{RowEdit.{RowEdit, TheVariants.{Put, Remove}}, UnitRows.{UnitRows}}
 use Rattle.plant_types.{specs.Names.{Name, name_cmp, same_name}, proofs.public.{KeyedRowLaws.{tied}, Orders.{same_names}}}
 use Rattle.plant_store.specs.{Changes.{Applies, IsOfficeOf}, Keeping.{HasContent, has_any}, Making.{AreNew}}
 use Rattle.plant_columns.specs.Shape.{rows_in as rows_of}
-use Rattle.plant_columns.specs.Tables.Kept.{UnitKept, GrantKept, AlarmKept, ShelfKept, BandKept, CellKept, EventKept, RecordKept, ChangeKept}
+use Rattle.plant_columns.specs.Tables.Kept.{UnitKept}
 use Rattle.plant_columns.specs.Tables.{AreBooks, AreSeen, Kept, rows_at, rows_seen, shape}
 
 pub same_codes : (a b : Name) → same_name a b ≡ true → a ≡ b
 same_codes a b h = same_names a b (tied _ _ h refl)
 
+pub differs : (x u : Name) → same_name x u ≡ false → u ≢ x
+differs x u h e = true≢false (sym (subst (λ y. same_name x y ≡ true) (sym e) (ap is_eq (tied_itself nat_list_cmp_total x))) ∙ h)
+
 -- a unit that has its row keeps it, and one whose row is put has it
 still_there : (cs : List RowEdit) (rows : UnitRows) → has_any rows.units ≡ true → has_any (changed_by cs rows).units ≡ true
 still_there [] rows h = h
 still_there (Put (UnitPut r) ∷ cs) rows h = still_there cs (changed (Put (UnitPut r)) rows) refl
-still_there (Put (GrantPut r) ∷ cs) rows h = still_there cs (changed (Put (GrantPut r)) rows) h
-still_there (Put (AlarmPut r) ∷ cs) rows h = still_there cs (changed (Put (AlarmPut r)) rows) h
-still_there (Put (ShelfPut r) ∷ cs) rows h = still_there cs (changed (Put (ShelfPut r)) rows) h
-still_there (Put (BandPut r) ∷ cs) rows h = still_there cs (changed (Put (BandPut r)) rows) h
-still_there (Put (CellPut r) ∷ cs) rows h = still_there cs (changed (Put (CellPut r)) rows) h
-still_there (Put (EventPut r) ∷ cs) rows h = still_there cs (changed (Put (EventPut r)) rows) h
-still_there (Put (RecordPut r) ∷ cs) rows h = still_there cs (changed (Put (RecordPut r)) rows) h
-still_there (Put (ChangePut r) ∷ cs) rows h = still_there cs (changed (Put (ChangePut r)) rows) h
-still_there (PutEvents es ∷ cs) rows h = still_there cs (changed (PutEvents es) rows) h
 still_there (Remove (GrantKey p r) ∷ cs) rows h = still_there cs (changed (Remove (GrantKey p r)) rows) h
-still_there (Remove (ShelfKey a) ∷ cs) rows h = still_there cs (changed (Remove (ShelfKey a)) rows) h
+still_there (c ∷ cs) rows h = still_there cs (changed c rows) h
 
 comes_there : (cs : List RowEdit) (rows : UnitRows) → puts_unit cs ≡ true → has_any (changed_by cs rows).units ≡ true
 comes_there [] rows h = absurd (true≢false (sym h))
 comes_there (Put (UnitPut r) ∷ cs) rows h = still_there cs (changed (Put (UnitPut r)) rows) refl
-comes_there (Put (GrantPut r) ∷ cs) rows h = comes_there cs (changed (Put (GrantPut r)) rows) h
-comes_there (Put (AlarmPut r) ∷ cs) rows h = comes_there cs (changed (Put (AlarmPut r)) rows) h
-comes_there (Put (ShelfPut r) ∷ cs) rows h = comes_there cs (changed (Put (ShelfPut r)) rows) h
-comes_there (Put (BandPut r) ∷ cs) rows h = comes_there cs (changed (Put (BandPut r)) rows) h
-comes_there (Put (CellPut r) ∷ cs) rows h = comes_there cs (changed (Put (CellPut r)) rows) h
-comes_there (Put (EventPut r) ∷ cs) rows h = comes_there cs (changed (Put (EventPut r)) rows) h
-comes_there (Put (RecordPut r) ∷ cs) rows h = comes_there cs (changed (Put (RecordPut r)) rows) h
-comes_there (Put (ChangePut r) ∷ cs) rows h = comes_there cs (changed (Put (ChangePut r)) rows) h
-comes_there (PutEvents es ∷ cs) rows h = comes_there cs (changed (PutEvents es) rows) h
 comes_there (Remove (GrantKey p r) ∷ cs) rows h = comes_there cs (changed (Remove (GrantKey p r)) rows) h
-comes_there (Remove (ShelfKey a) ∷ cs) rows h = comes_there cs (changed (Remove (ShelfKey a)) rows) h
+comes_there (c ∷ cs) rows h = comes_there cs (changed c rows) h
 
 -- the content after changes is what is kept after them
 pub keeps_after : (old new : State) (m : Content) (u : Name) (cs : List RowEdit) → HasContent old m → IsKnownTo m u cs → Applies u cs old.now new.now → HasContent new (after_changes m u cs)
@@ -62,12 +47,9 @@ keeps_after old new m u cs k known it = record {
     kept_at : (q : Name) → get (after_changes m u cs).units q ≡ cond (same_name q u) (Some (changed_by cs (rows_in m u))) (get m.units q)
     kept_at q = get-insert nat_list_cmp_total m.units u (changed_by cs (rows_in m u)) q
 
-    apart : (q : Name) → same_name q u ≡ false → q ≢ u
-    apart q h e = true≢false (sym (subst (λ x. same_name x u ≡ true) (sym e) (ap Rattle.std.proofs.Common.is_eq (Rattle.std.proofs.lemmas.Cmp.tied_itself nat_list_cmp_total u))) ∙ h)
-
     seen : (q : Name) (b : Bool) → same_name q u ≡ b → AreSeen q new.now (unwrap_or (cond b (Some (changed_by cs (rows_in m u))) (get m.units q)) no_rows)
     seen q true h = subst (λ x. AreSeen x new.now (changed_by cs (rows_in m u))) (sym (same_codes q u h)) (it.mine (rows_in m u) (k.seen u))
-    seen q false h = λ i. it.others q (apart q h) i ∙ k.seen q i
+    seen q false h = λ i. it.others q (λ e. differs q u h (sym e)) i ∙ k.seen q i
 
     there : (contains_key m.units u ≡ true) ⊎ (puts_unit cs ≡ true) → has_any (changed_by cs (rows_in m u)).units ≡ true
     there (inl h) = still_there cs (rows_in m u) (sym (k.opened u) ∙ h)
@@ -91,7 +73,7 @@ some_rows : (o : Option UnitRows) → is_some o ≡ true → o ≡ Some (unwrap_
 some_rows None h = absurd (true≢false (sym h))
 some_rows (Some rows) h = refl
 
-no_some : (o : Option UnitRows) → is_some o ≡ false → o ≡ None
+pub no_some : (o : Option UnitRows) → is_some o ≡ false → o ≡ None
 no_some None h = refl
 no_some (Some rows) h = absurd (true≢false h)
 
@@ -110,22 +92,6 @@ pub any_is : {A : Type 0} (xs : List A) → Rattle.std.proofs.Common.not (Rattle
 any_is [] = refl
 any_is (x ∷ xs) = ap Rattle.std.proofs.Common.not (Rattle.std.proofs.Math.Dec.eqb-suc-zero (Rattle.std.proofs.Common.length xs))
 
--- the nine lists of a unit that was opened are its rows
-pub whole_found : (s : State) (m : Content) (u : Name) → HasContent s m → (rows : UnitRows) → AreSeen u s.now rows → has_any rows.units ≡ true → ◌≡◌ {A = Option UnitRows} (Some rows) (get m.units u)
-whole_found s m u k rows seen any =
-    let same : rows ≡ rows_in m u = λ i. record {
-      units = (sym (seen UnitKept) ∙ k.seen u UnitKept) i;
-      grants = (sym (seen GrantKept) ∙ k.seen u GrantKept) i;
-      alarms = (sym (seen AlarmKept) ∙ k.seen u AlarmKept) i;
-      shelves = (sym (seen ShelfKept) ∙ k.seen u ShelfKept) i;
-      bands = (sym (seen BandKept) ∙ k.seen u BandKept) i;
-      cells = (sym (seen CellKept) ∙ k.seen u CellKept) i;
-      events = (sym (seen EventKept) ∙ k.seen u EventKept) i;
-      records = (sym (seen RecordKept) ∙ k.seen u RecordKept) i;
-      changes = (sym (seen ChangeKept) ∙ k.seen u ChangeKept) i;
-    } in
-    ap Some same ∙ sym (kept_rows s m u k (ap has_any (seen UnitKept) ∙ any))
-
 pub none_found : (s : State) (m : Content) (u : Name) → HasContent s m → (units : List Rattle.plant_model.specs.declared.rows.UnitRow.UnitRow) → units ≡ rows_seen u s.now.trees UnitKept → has_any units ≡ false → ◌≡◌ {A = Option UnitRows} None (get m.units u)
 none_found s m u k units is any = sym (never_opened s m u k (ap has_any (sym is) ∙ any))
 
@@ -133,14 +99,7 @@ none_found s m u k units is any = sym (never_opened s m u k (ap has_any (sym is)
 
 pub nothing_at : (i : Kept) → [] ≡ rows_at i no_rows
 nothing_at UnitKept = refl
-nothing_at GrantKept = refl
-nothing_at AlarmKept = refl
-nothing_at ShelfKept = refl
-nothing_at BandKept = refl
-nothing_at CellKept = refl
-nothing_at EventKept = refl
-nothing_at RecordKept = refl
-nothing_at ChangeKept = refl
+nothing_at i = refl
 
 pub keeps_new : (s : State) (admin : Name) → AreNew admin s.now → HasContent s (no_units admin)
 keeps_new s admin it = record {

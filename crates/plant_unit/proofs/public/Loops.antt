@@ -1,8 +1,7 @@
 -- Lists that a loop makes, one element after another.
-use Rattle.std.specs.List.{enumerate_from, take-map}
-use Rattle.std.proofs.Common.{subst, ◌≡◌, ℕ, ◌+◌, ◌<◌, ◌≤◌, List, [], ◌∷◌, ◌++◌, Some, None, refl, ap, sym, ◌∙◌, length, get_or, take, arith, append_assoc, Bool, Option, false, filter, filter_map, if◌then◌else◌, option_to_list, map, flat_map, true}
+use Rattle.std.{specs.List.{enumerate_from, take-map}, proofs.lemmas.List.{take_more, map-append, length-take-le, length-map}}
+use Rattle.std.proofs.Common.{subst, ◌≡◌, ℕ, ◌+◌, ◌<◌, ◌≤◌, List, [], ◌∷◌, ◌++◌, Some, None, refl, ap, sym, ◌∙◌, length, get_or, take, arith, append_assoc, Bool, Option, false, filter, filter_map, if◌then◌else◌, option_to_list, map, flat_map, true, append-nil}
 use Rattle.std.proofs.{Math.ListN.{get_or-map}, lemmas.{Grind.{flat_map-append}, List.Elements.{filter_map-append}}}
-use Rattle.std.proofs.lemmas.List.{take_more, map-append, length-take-le, length-map}
 
 one : {X Y : Type 0} (f : X → Option Y) (x : X) (o : Option Y) → f x ≡ o → filter_map f (x ∷ []) ≡ option_to_list o
 one f x None e = rw e refl
@@ -36,14 +35,10 @@ next_mapped put make xs i d lt =
     ap (λ es. map put (map make es)) (numbered_next xs i d lt)
     ∙ ap (map put) (map-append make (enumerate_from 1 (take i xs)) _) ∙ map-append put (map make (enumerate_from 1 (take i xs))) _
 
-pub append-[] : {A : Type 0} (xs : List A) → xs ++ [] ≡ xs
-append-[] [] = refl
-append-[] (x ∷ xs) = ap (λ ys. x ∷ ys) (append-[] xs)
-
 pub next_flat_mapped : {A B C : Type 0} (put : B → C) (make : ℕ × A → List B) (xs : List A) (i : ℕ) (d : A) → i < length xs → map put (flat_map make (enumerate_from 1 (take (i + 1) xs))) ≡ map put (flat_map make (enumerate_from 1 (take i xs))) ++ map put (make (i + 1, get_or xs i d))
 next_flat_mapped put make xs i d lt =
     ap (λ es. map put (flat_map make es)) (numbered_next xs i d lt)
-    ∙ ap (map put) (flat_map-append make (enumerate_from 1 (take i xs)) _ ∙ ap (λ ys. flat_map make (enumerate_from 1 (take i xs)) ++ ys) (append-[] (make (i + 1, get_or xs i d))))
+    ∙ ap (map put) (flat_map-append make (enumerate_from 1 (take i xs)) _ ∙ ap (λ ys. flat_map make (enumerate_from 1 (take i xs)) ++ ys) (append-nil (make (i + 1, get_or xs i d))))
     ∙ map-append put (flat_map make (enumerate_from 1 (take i xs))) _
 
 -- the same where the list is seen through a view of its elements

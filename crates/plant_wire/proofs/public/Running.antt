@@ -1,43 +1,13 @@
 -- What the office did in one step after another.
-use Rattle.std.proofs.{Common.{◌≡◌, ◌<◌, ◌+◌, ℕ, List, [], ◌∷◌, ◌++◌, cond, refl, sym, subst, arith, ◌-◌, ◌^◌}, lemmas.List.Sums.{sum_by-append}}
+use Rattle.std.proofs.{Common.{◌≡◌, ◌<◌, ◌+◌, ℕ, List, [], ◌∷◌, ◌++◌, cond, refl, arith, ◌-◌, ◌^◌}, lemmas.List.Sums.{sum_by-append}}
 use Rattle.plant_model.specs.{Worlds.{World, IsLegalWorld}, declared.{call.Call.{Call}, reply.Answer.{Answer}}}
 use Rattle.plant_model.specs.declared.reply.Answer.TheVariants.{Fault as Faulted, Refused as WasRefused, Reply as Replied}
 use Rattle.plant_books.specs.Contents.{Content}
 use Rattle.plant_types.specs.declared.fault.Fault.TheVariants.{Memory, Store}
 use Rattle.plant_office.specs.Answers.{CountsAnswer, IfSaid, OnFault}
-use Rattle.plant_office.specs.{Runs.{AreAnswers, AreIsolated, IsRun, after_answer, is_store, stores_in, world_after}, Served.{Holds, IsServed}}
-use Rattle.plant_office.proofs.public.Running.{run_more, run_none}
+use Rattle.plant_office.specs.{Runs.{is_store, stores_in, world_after}, Served.{Holds, IsServed}}
+use Rattle.plant_office.proofs.public.Running.{run-append, run_more, run_none}
 use Rattle.plant_wire.specs.Ran.{Ran}
-
-answers-append : (w : World) (cs ds : List Call) (xs bs : List Answer) → AreAnswers w cs xs → AreAnswers (world_after w cs xs) ds bs → AreAnswers w (cs ++ ds) (xs ++ bs)
-answers-append w [] ds [] bs h k = k
-answers-append w (c ∷ cs) ds (a ∷ xs) bs h k = (h.0, answers-append (after_answer w c a) cs ds xs bs h.1 k)
-answers-append w [] ds (a ∷ xs) bs h k = absurd h
-answers-append w (c ∷ cs) ds [] bs h k = absurd h
-
-world-append : (w : World) (cs ds : List Call) (xs bs : List Answer) → AreAnswers w cs xs → world_after w (cs ++ ds) (xs ++ bs) ≡ world_after (world_after w cs xs) ds bs
-world-append w [] ds [] bs h = refl
-world-append w (c ∷ cs) ds (a ∷ xs) bs h = world-append (after_answer w c a) cs ds xs bs h.1
-world-append w [] ds (a ∷ xs) bs h = absurd h
-world-append w (c ∷ cs) ds [] bs h = absurd h
-
-isolated-append : (w : World) (cs ds : List Call) (xs bs : List Answer) → AreAnswers w cs xs → AreIsolated w cs xs → AreIsolated (world_after w cs xs) ds bs → AreIsolated w (cs ++ ds) (xs ++ bs)
-isolated-append w [] ds [] bs h i k = k
-isolated-append w (c ∷ cs) ds (a ∷ xs) bs h i k = (i.0, isolated-append (after_answer w c a) cs ds xs bs h.1 i.1 k)
-isolated-append w [] ds (a ∷ xs) bs h i k = absurd h
-isolated-append w (c ∷ cs) ds [] bs h i k = absurd h
-
-run-append : (w : World) (cs ds : List Call) (xs bs : List Answer) (mid left : Content → Type 0) → IsRun w cs xs mid → IsRun (world_after w cs xs) ds bs left → IsRun w (cs ++ ds) (xs ++ bs) left
-run-append w cs ds xs bs mid left first second =
-    let world = sym (world-append w cs ds xs bs first.answered) in
-    record {
-      answered = answers-append w cs ds xs bs first.answered second.answered;
-      isolated = isolated-append w cs ds xs bs first.answered first.isolated second.isolated;
-      after = second.after;
-      left_it = second.left_it;
-      holds = subst (Holds second.after) world second.holds;
-      legal = subst IsLegalWorld world second.legal;
-    }
 
 -- the count of answers Store
 stores-append : (xs ys : List Answer) → stores_in (xs ++ ys) ≡ stores_in xs + stores_in ys

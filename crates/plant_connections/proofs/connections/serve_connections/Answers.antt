@@ -1,11 +1,11 @@
-use Rattle.std.proofs.Common.{[], ◌∷◌, ◌∙◌, refl, arith}
-use Rattle.plant_wire.proofs.public.{Growing.{Appends-none}, Running.{ran_none}}
+use Rattle.std.proofs.{Common.{[], ◌∷◌, ◌∙◌, refl, arith}, KnownBytes.{Appends-nil}}
+use Rattle.plant_wire.proofs.public.Running.{ran_none}
 use Rattle.plant_connections.proofs.Serving.{made, ran_more, tells_more}
 use Rattle.plant_connections.proofs.connections.serve_connections.Goals as goal
 
 pub connections-init : goal.connections-init
 connections-init g c = record {
-  served = ([], refl, ([], refl, Appends-none (g.W.Write.contents c.args.log.now)), omega arith, refl);
+  served = ([], refl, ([], refl, Appends-nil (g.W.Write.contents c.args.log.now)), omega arith, refl);
   ran = ([], [], ran_none (g.B.Books.represents c.args.office.now.books) (g.B.Books.is_honest c.args.office.now.books) (g.B.Books.stores c.args.office.now.books));
   honest = λ t. t;
   failed = refl;

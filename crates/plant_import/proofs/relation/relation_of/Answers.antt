@@ -2,7 +2,7 @@ use Rattle.std.{specs.List.{list_any}, proofs.Common.{ap, false, refl, rules, sy
 use Rattle.std.proofs.lemmas.Bool.{eqb-false}
 use Rattle.plant_import.{specs.Relation.{below, from}, proofs.ByNumber.{halves}}
 use Rattle.plant_import.proofs.public.Nearest.{above_rising, below_rising, higher, stands_apart, stands_clash, related_known}
-use Rattle.plant_import.proofs.{public.Risings.{Each, rising_back}, relation.relation_of.Goals.{in-Some+else-eq, in_default}}
+use Rattle.plant_import.proofs.{public.{EachLaws.{Each}, Risings.{rising_back}}, relation.relation_of.Goals.{in-Some+else-eq, in_default}}
 use Rattle.plant_import.proofs.relation.relation_of.Goals as goal
 
 pub returns-then-is_same : goal.returns-then-is_same

@@ -1,7 +1,7 @@
-use Rattle.std.proofs.{Common.{◌≡◌, sym, subst, arith, rules, take, List, Ok}, lemmas.List.{take_all}}
+use Rattle.std.proofs.{Common.{◌≡◌, ◌∙◌, ◌++◌, ◌∷◌, [], ap, map, sym, subst, arith, rules, take, List, Ok}, lemmas.List.{map_more, take_all}}
 use Rattle.sqlite.specs.{Held.{state}, State.{HasCleanDisk}}
 use Rattle.plant_model.specs.declared.rows.RowEdit.{RowEdit, TheVariants.{Put}}
-use Rattle.plant_store.{specs.Changes.{Applies}, proofs.{StepsInside.{stays_then}, Upgrades.{mapped_more}, Writes.{applies_then}}}
+use Rattle.plant_store.{specs.Changes.{Applies}, proofs.{StepsInside.{stays_then}, Writes.{applies_then}}}
 use Rattle.plant_store.proofs.migration.put_rows.Goals as goal
 
 pub loop-row-preserved : goal.loop-row-preserved
@@ -17,7 +17,8 @@ loop-row-preserved g c =
           let one = c.in_ok-put.ensures.made clean (c.loop-row.invariant.stays.inside (early clean) started) so_far.books in
           let xs = c.args.rows.now in
           let at = c.loop-row.row-index in
-          let more = mapped_more (λ r. Put (g.T.OldRow.becomes r)) xs at c.row-item.result (omega arith) c.row-item.is in
+          let more = map_more (λ r. Put (g.T.OldRow.becomes r)) xs at c.row-item.result (omega arith)
+          ∙ ap (λ r. map (λ r. Put (g.T.OldRow.becomes r)) (take at xs) ++ Put (g.T.OldRow.becomes r) ∷ []) (sym c.row-item.is) in
           subst (λ (l : List RowEdit). Applies c.args.unit.now l old.now now.now) (sym more) (applies_then c.args.unit.now _ _ old.now mid.now now.now so_far one);
       stays = stays_then {W = Unit {0}} {result = Ok tt} c.loop-row.invariant.stays c.in_ok-put.ensures.stays;
     }

@@ -1,9 +1,9 @@
-use Rattle.std.proofs.{Common.{◌≡◌, ap, sym, subst, ◌∙◌, arith, rules, List, ◌∷◌, [], ◌++◌, take, ◌+◌, false, Less, Ok}, lemmas.List.{take_more}}
+use Rattle.std.proofs.{Common.{◌≡◌, ap, sym, subst, ◌∙◌, arith, rules, List, ◌∷◌, [], ◌++◌, take, ◌+◌, false, Less, Ok}, lemmas.List.{map_more}}
 use Rattle.sqlite.specs.{Effect.{Database}, Held.{state}, State.{HasCleanDisk}}
 use Rattle.sqlite_trees.specs.Tree.{IsAscending}
 use Rattle.plant_store.specs.{Changes.{Applies}, OldTables.{AreOldBooks}, Upgrading.{AreTakenOver, all_kinds, is_among, puts_all, upgraded_rows}}
 use Rattle.plant_store.{specs.declared.old_rows.CodeLine.{CodeLine}, proofs.{ReadsOnly.{reads_then}, StepsInside.{stays_then}}}
-use Rattle.plant_store.proofs.Upgrades.{codes_rise, mapped, not_before, taken_next, units_of}
+use Rattle.plant_store.proofs.Upgrades.{codes_rise, not_before, taken_next, units_of}
 use Rattle.plant_types.specs.Names.{Name, name_cmp}
 use Rattle.plant_store.proofs.migration.take_units.Goals as goal
 
@@ -32,7 +32,7 @@ loop-line-preserved g c =
           let up : IsAscending (λ a b. name_cmp a b ≡ Less) (units_of xs) = subst (IsAscending (λ a b. name_cmp a b ≡ Less)) (sym all) (codes_rise had.now old_books) in
           let fresh : is_among (units_of (take at xs)) x.unit ≡ false = subst (λ (y : CodeLine). is_among (units_of (take at xs)) y.unit ≡ false) (sym c.line-item.is) (not_before xs at x up (omega arith)) in
           let more : units_of (take (at + 1) xs) ≡ units_of (take at xs) ++ x.unit ∷ [] =
-          ap units_of (take_more xs at x (omega arith) ∙ ap (λ (y : CodeLine). take at xs ++ y ∷ []) (sym c.line-item.is)) ∙ mapped (λ (l : CodeLine). l.unit) (take at xs) x in
+          map_more (λ (l : CodeLine). l.unit) xs at x (omega arith) ∙ ap (λ (y : CodeLine). units_of (take at xs) ++ y.unit ∷ []) (sym c.line-item.is) in
           (subst (λ (us : List Name). AreTakenOver us had.now.trees now.now) (sym more) (taken_next (units_of (take at xs)) x.unit had.now old_books mid.now now.now fresh so_far.0 here), here.office ∙ so_far.1);
       stays = stays_then {W = Unit {0}} {result = Ok tt} c.loop-line.invariant.stays c.in_ok-take_unit.ensures.stays;
     }

@@ -1,8 +1,40 @@
-use Rattle.std.proofs.Common.{◌∙◌, ap}
+use Rattle.std.proofs.Common.{◌∙◌, ◌∷◌, ◌++◌, [], ap, map, refl}
 use Rattle.sqlite.specs.Held.{state}
-use Rattle.plant_store.{specs.Mine.{runs_of, standing_lines}, proofs.{Mines.{mine_found}, Queries.{if_ok}}}
+use Rattle.plant_books.{specs.Contents.{mine_as, mine_units, rows_in}, proofs.public.ShelfLists.{all_listed, more_listed}}
+use Rattle.plant_store.proofs.{Holdings.{mine_held}, ReadsOnly.{reads_then}, public.Contents.{keeps_same}}
+use Rattle.plant_types.specs.Names.{Name}
 use Rattle.plant_store.proofs.mine.mine_units.Goals as goal
+
+pub loop-unit-init : goal.loop-unit-init
+loop-unit-init g c =
+    record {
+      mode = c.held.ensures.mode;
+      found = λ honest m k.
+          let f = map (λ u. mine_as c.args.now c.args.person.now u (rows_in m u)) in
+          ap (λ xs. xs ++ f c.as_slice-unit-items.result.now) c.new-mine.ensures
+          ∙ ap f (c.as_slice-unit-items.ensures ∙ c.in_ok-codes.ensures.found honest m k)
+          ∙ mine_held m c.args.now c.args.person.now;
+      reads = c.held.ensures.reads;
+    }
+
+pub loop-unit-preserved : goal.loop-unit-preserved
+loop-unit-preserved g c =
+    let old = state g.S.Store c.args.conn.now in
+    let mid = state g.S.Store c.loop-unit.conn in
+    record {
+      mode = c.mine_unit.ensures.mode;
+      found = λ honest m k.
+          let before = c.mine_unit.ensures.reads.honest honest in
+          let k2 = keeps_same old mid m k (c.loop-unit.invariant.reads.same before k.books) in
+          let there = λ (u : Name). mine_as c.args.now c.args.person.now u (rows_in m u) in
+          let u = c.unit-item.result in
+          let pushed = c.in_ok-push.ensures ∙ ap (λ r. c.loop-unit.mine ++ r ∷ []) (c.in_ok-held.ensures.found honest m k2) in
+          more_listed (map there) c.loop-unit.mine (mine_units m c.args.now c.args.person.now) c.as_slice-unit-items.result.now c.loop-unit.unit-index (there u ∷ []) c.push.new.table
+          u c.loop-unit-test.true c.unit-item.is refl pushed (c.loop-unit.invariant.found before m k);
+      reads = reads_then c.loop-unit.invariant.reads c.mine_unit.ensures.reads;
+    }
 
 pub returns-clause-found : goal.returns-clause-found
 returns-clause-found g c honest m k =
-    if_ok c.group.result (λ units h. h ∙ ap (λ ls. runs_of (standing_lines c.args.now ls)) (c.as_slice.ensures ∙ c.in_ok-lines.ensures.found honest m k) ∙ mine_found (state g.S.Store c.args.conn.now) m k c.args.now c.args.person.now) c.group.ensures
+    let there = λ (u : Name). mine_as c.args.now c.args.person.now u (rows_in m u) in
+    all_listed (map there) c.loop-unit.mine (mine_units m c.args.now c.args.person.now) c.as_slice-unit-items.result.now c.loop-unit.unit-index refl c.loop-unit-test.false (c.loop-unit.invariant.found honest m k)

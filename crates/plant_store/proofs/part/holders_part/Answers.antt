@@ -7,7 +7,8 @@ use Rattle.plant_model.specs.declared.rows.{GrantRow.{GrantRow}, RecordEntry.{Re
 use Rattle.plant_types.specs.{KeyedRows.{IsInOrder}, Names.{same_name}}
 use Rattle.plant_columns.specs.Tables.Kept.{UnitKept, GrantKept, AlarmKept, ShelfKept, BandKept, CellKept, EventKept, RecordKept, ChangeKept}
 use Rattle.plant_columns.{specs.Tables.{rows_seen, alarm_shape, event_shape, shelf_shape}, proofs.public.{ShapeLaws.{good}, Shapes.{rises}}}
-use Rattle.plant_store.{specs.Wanted.{alarms_left, alarms_with, events_with, rows_with}, proofs.ReadsOnly.{begins, goes_on}}
+use Rattle.plant_store.specs.Wanted.{alarms_left, alarms_with, events_with, rows_with}
+use Rattle.plant_store.proofs.{NumberLaws.{bands_climb, cells_climb}, ReadsOnly.{begins, goes_on}}
 use Rattle.plant_store.proofs.Selected.{alarms_in_order, approved_found, part_found, read_in_order, records_asked, rows_in_order}
 use Rattle.plant_store.proofs.part.holders_part.Goals as goal
 
@@ -18,8 +19,8 @@ returns-clause-found g c honest m k units own =
     let old = state g.S.Store c.args.conn.now in
     let t10 = c.count_for.ensures.reads.honest honest in
     let t9 = c.some_changes.ensures.reads.honest t10 in
-    let t8 = c.some_cells.ensures.reads.honest t9 in
-    let t7 = c.some_bands.ensures.reads.honest t8 in
+    let t8 = c.matrix_rows-2.ensures.reads.honest t9 in
+    let t7 = c.matrix_rows.ensures.reads.honest t8 in
     let t6 = c.rows_wanted-2.ensures.reads.honest t7 in
     let t5 = c.some_events.ensures.reads.honest t6 in
     let t4 = c.rows_wanted.ensures.reads.honest t5 in
@@ -33,8 +34,8 @@ returns-clause-found g c honest m k units own =
     let r5 = goes_on c.rows_wanted.ensures.reads t5 r4 in
     let r6 = goes_on c.some_events.ensures.reads t6 r5 in
     let r7 = goes_on c.rows_wanted-2.ensures.reads t7 r6 in
-    let r8 = goes_on c.some_bands.ensures.reads t8 r7 in
-    let r9 = goes_on c.some_cells.ensures.reads t9 r8 in
+    let r8 = goes_on c.matrix_rows.ensures.reads t8 r7 in
+    let r9 = goes_on c.matrix_rows-2.ensures.reads t9 r8 in
     let r10 = goes_on c.some_changes.ensures.reads t10 r9 in
     let all = rows_in m u in
     let seen : IsSeenIn all call.request c.in_ok-crowded.crowded (slice_get c.in_ok-approved.approved 0) = record {
@@ -67,7 +68,7 @@ returns-clause-found g c honest m k units own =
     c.in_ok-all_events.all_events all_read
     c.in_ok-events.events (c.in_ok-events.ensures in_order all)
     c.in_ok-records.records records
-    c.in_ok-bands.bands (c.in_ok-bands.ensures.rows t8 r7.books all (sym (units ∙ k.seen u UnitKept)) ∙ ap (λ (d : Database). filter (λ (r : BandRow). chosen.matrix r.matrix_no) (rows_seen u d.trees BandKept)) r7.now)
-    c.in_ok-cells.cells (c.in_ok-cells.ensures.rows t9 r8.books all (sym (units ∙ k.seen u UnitKept)) ∙ ap (λ (d : Database). filter (λ (r : CellRow). chosen.matrix r.matrix_no) (rows_seen u d.trees CellKept)) r8.now)
+    c.in_ok-bands.bands (c.in_ok-bands.ensures.rows t8 r7.books (bands_climb u _ r7.books) all (sym (units ∙ k.seen u UnitKept)) ∙ ap (λ (d : Database). filter (λ (r : BandRow). chosen.matrix r.matrix_no) (rows_seen u d.trees BandKept)) r7.now)
+    c.in_ok-cells.cells (c.in_ok-cells.ensures.rows t9 r8.books (cells_climb u _ r8.books) all (sym (units ∙ k.seen u UnitKept)) ∙ ap (λ (d : Database). filter (λ (r : CellRow). chosen.matrix r.matrix_no) (rows_seen u d.trees CellKept)) r8.now)
     c.in_ok-changes.changes (c.in_ok-changes.ensures.rows t10 r9.books all records ∙ ap (λ (d : Database). filter (λ (r : ChangeEntry). chosen.change r.number) (rows_seen u d.trees ChangeKept)) r9.now)
     c.in_ok-count.count (λ rows h n es. c.in_ok-count.ensures.rows honest.0 r10.books rows (h ∙ ap (λ (d : Database). rows_seen u d.trees AlarmKept) (sym r10.now)) (n ∙ ap (λ (d : Database). rows_seen u d.trees ChangeKept) (sym r10.now)) es)

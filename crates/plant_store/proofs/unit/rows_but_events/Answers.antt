@@ -1,25 +1,12 @@
-use Rattle.std.{specs.FinMap.{get}, proofs.Common.{◌≡◌, List, Some, ap, refl, sym, ◌∙◌, rules, option_map}}
+use Rattle.std.{proofs.Common.{◌≡◌, Some, ap, sym, ◌∙◌, rules, option_map, true}}
 use Rattle.sqlite.specs.{Effect.{Database}, Held.{state}}
-use Rattle.plant_books.specs.Contents.{without_events}
+use Rattle.plant_books.specs.Contents.{rows_in, without_events}
 use Rattle.plant_columns.specs.Tables.Kept.{UnitKept, GrantKept, AlarmKept, ShelfKept, BandKept, CellKept, EventKept, RecordKept, ChangeKept}
-use Rattle.plant_columns.specs.Tables.{AreSeen, rows_seen}
+use Rattle.plant_columns.specs.Tables.{rows_seen}
 use Rattle.plant_model.specs.declared.rows.UnitRows.{UnitRows}
-use Rattle.plant_store.proofs.{ReadsOnly.{begins, goes_on}, public.Contents.{none_found, whole_found}}
+use Rattle.plant_store.specs.Keeping.{has_any}
+use Rattle.plant_store.proofs.{ReadsOnly.{begins, goes_on}, public.Contents.{kept_rows, none_found}}
 use Rattle.plant_store.proofs.unit.rows_but_events.Goals as goal
-
--- each list was seen in a database that is the first one
-all_seen : (u : List Rattle.std.proofs.Common.ℕ) (db : Database) (rows : UnitRows) → rows.units ≡ rows_seen u db.trees UnitKept → rows.grants ≡ rows_seen u db.trees GrantKept → rows.alarms ≡ rows_seen u db.trees AlarmKept
-    → rows.shelves ≡ rows_seen u db.trees ShelfKept → rows.bands ≡ rows_seen u db.trees BandKept → rows.cells ≡ rows_seen u db.trees CellKept → rows.events ≡ rows_seen u db.trees EventKept
-    → rows.records ≡ rows_seen u db.trees RecordKept → rows.changes ≡ rows_seen u db.trees ChangeKept → AreSeen u db rows
-all_seen u db rows a b c d e f h i j UnitKept = sym a
-all_seen u db rows a b c d e f h i j GrantKept = sym b
-all_seen u db rows a b c d e f h i j AlarmKept = sym c
-all_seen u db rows a b c d e f h i j ShelfKept = sym d
-all_seen u db rows a b c d e f h i j BandKept = sym e
-all_seen u db rows a b c d e f h i j CellKept = sym f
-all_seen u db rows a b c d e f h i j EventKept = sym h
-all_seen u db rows a b c d e f h i j RecordKept = sym i
-all_seen u db rows a b c d e f h i j ChangeKept = sym j
 
 pub returns-then-not-has_row-clause-found : goal.returns-then-not-has_row-clause-found
 returns-then-not-has_row-clause-found g c honest m k =
@@ -44,16 +31,17 @@ returns-clause-found g c honest m k =
     let r6 = goes_on c.all_rows-6.ensures.reads t6 r5 in
     let r7 = goes_on c.all_rows-7.ensures.reads t7 r6 in
     let rows : UnitRows = record { units = c.in_ok-units.units; grants = c.in_ok-grants.grants; alarms = c.in_ok-alarms.alarms; shelves = c.in_ok-shelves.shelves; events = rows_seen u old.now.trees EventKept; bands = c.in_ok-bands.bands; cells = c.in_ok-cells.cells; records = c.in_ok-records.records; changes = c.in_ok-changes.changes } in
-    let whole : Some rows ≡ get m.units u =
-    whole_found old m u k rows
-    (all_seen u old.now rows (c.in_ok-units.ensures.rows t1.0 k.books)
-    (c.in_ok-grants.ensures.rows t2.0 r1.books ∙ ap (λ (d : Database). rows_seen u d.trees GrantKept) r1.now)
-    (c.in_ok-alarms.ensures.rows t3.0 r2.books ∙ ap (λ (d : Database). rows_seen u d.trees AlarmKept) r2.now)
-    (c.in_ok-shelves.ensures.rows t4.0 r3.books ∙ ap (λ (d : Database). rows_seen u d.trees ShelfKept) r3.now)
-    (c.in_ok-bands.ensures.rows t5.0 r4.books ∙ ap (λ (d : Database). rows_seen u d.trees BandKept) r4.now)
-    (c.in_ok-cells.ensures.rows t6.0 r5.books ∙ ap (λ (d : Database). rows_seen u d.trees CellKept) r5.now)
-    refl
-    (c.in_ok-records.ensures.rows t7.0 r6.books ∙ ap (λ (d : Database). rows_seen u d.trees RecordKept) r6.now)
-    (c.in_ok-changes.ensures.rows honest.0 r7.books ∙ ap (λ (d : Database). rows_seen u d.trees ChangeKept) r7.now))
-    (search rules) in
-    ap (λ es. Some (record rows { events = es })) c.new.ensures ∙ ap (option_map without_events) whole
+    let units_seen = c.in_ok-units.ensures.rows t1.0 k.books in
+    let same : rows ≡ rows_in m u = λ i. record {
+      units = (units_seen ∙ k.seen u UnitKept) i;
+      grants = (c.in_ok-grants.ensures.rows t2.0 r1.books ∙ ap (λ (d : Database). rows_seen u d.trees GrantKept) r1.now ∙ k.seen u GrantKept) i;
+      alarms = (c.in_ok-alarms.ensures.rows t3.0 r2.books ∙ ap (λ (d : Database). rows_seen u d.trees AlarmKept) r2.now ∙ k.seen u AlarmKept) i;
+      shelves = (c.in_ok-shelves.ensures.rows t4.0 r3.books ∙ ap (λ (d : Database). rows_seen u d.trees ShelfKept) r3.now ∙ k.seen u ShelfKept) i;
+      bands = (c.in_ok-bands.ensures.rows t5.0 r4.books ∙ ap (λ (d : Database). rows_seen u d.trees BandKept) r4.now ∙ k.seen u BandKept) i;
+      cells = (c.in_ok-cells.ensures.rows t6.0 r5.books ∙ ap (λ (d : Database). rows_seen u d.trees CellKept) r5.now ∙ k.seen u CellKept) i;
+      events = k.seen u EventKept i;
+      records = (c.in_ok-records.ensures.rows t7.0 r6.books ∙ ap (λ (d : Database). rows_seen u d.trees RecordKept) r6.now ∙ k.seen u RecordKept) i;
+      changes = (c.in_ok-changes.ensures.rows honest.0 r7.books ∙ ap (λ (d : Database). rows_seen u d.trees ChangeKept) r7.now ∙ k.seen u ChangeKept) i;
+    } in
+    let any : has_any c.in_ok-units.units ≡ true = search rules in
+    ap (λ es. Some (record rows { events = es })) c.new.ensures ∙ ap (option_map without_events) (ap Some same ∙ sym (kept_rows old m u k (ap has_any (sym units_seen) ∙ any)))

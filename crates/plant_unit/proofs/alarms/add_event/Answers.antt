@@ -1,5 +1,5 @@
-use Rattle.std.proofs.Common.{rules}
-use Rattle.plant_unit.proofs.AlarmLists.{added_none, added_other, added_own}
+use Rattle.std.proofs.Common.{rules, ◌≡◌}
+use Rattle.plant_unit.proofs.AlarmLists.{added_other, added_own}
 use Rattle.plant_model.proofs.public.RowsFound.{get_none, get_some}
 use Rattle.plant_unit.proofs.alarms.add_event.Goals as goal
 
@@ -9,8 +9,10 @@ returns-then-eq-clause-value c order es so =
 
 pub returns-else-eq-clause-value : goal.returns-else-eq-clause-value
 returns-else-eq-clause-value c order es so =
-    added_other c.args.alarms.now es c.args.event.now c.args.summaries.now c.place_of-place.result c.in-Some.alarm.now order c.place_of-place.ensures (get_some c.args.alarms.now c.place_of-place.result c.in-Some.alarm.now c.in-Some.ensures.lookup.0 c.in-Some.ensures.lookup.1) (search rules) so
+    let is = get_some c.args.alarms.now c.place_of-place.result c.in-Some.alarm.now c.in-Some.ensures.lookup.0 c.in-Some.ensures.lookup.1 in
+    added_other c.args.alarms.now es c.args.event.now c.args.summaries.now c.place_of-place.result order c.place_of-place.ensures (λ r there. let same : r ≡ c.in-Some.alarm.now = cc in rw same (search rules)) so
 
 pub returns-in_default-clause-value : goal.returns-in_default-clause-value
 returns-in_default-clause-value c order es so =
-    added_none c.args.alarms.now es c.args.event.now c.args.summaries.now c.place_of-place.result order c.place_of-place.ensures (get_none c.args.alarms.now c.place_of-place.result c.in_default.ensures.lookup.0) so
+    let none = get_none c.args.alarms.now c.place_of-place.result c.in_default.ensures.lookup.0 in
+    added_other c.args.alarms.now es c.args.event.now c.args.summaries.now c.place_of-place.result order c.place_of-place.ensures (λ r there. cc) so

@@ -1,7 +1,7 @@
-use Rattle.std.proofs.Common.{ap, sym, ◌∙◌, ◌≡◌, List, Option, [], filter, if◌then◌else◌, map, option_to_list, take, ◌+◌, ◌++◌, ◌∷◌}
+use Rattle.std.proofs.Common.{ap, sym, ◌∙◌, ◌≡◌, List, Option, [], filter, if◌then◌else◌, map, option_to_list, take, ◌+◌, ◌++◌, ◌∷◌, append-nil}
 use Rattle.plant_model.specs.{RowChanges.{state_put}, declared.rows.{AlarmRow.{AlarmRow}, RowEdit.{RowEdit}}}
 use Rattle.plant_unit.{specs.Summaries.{is_named}, proofs.{AlarmLists.{summarized}, alarms.push_named.Goals.{in-Some+in_ok-push, in_default}}}
-use Rattle.plant_unit.proofs.public.Loops.{append-[], grown, passing_next}
+use Rattle.plant_unit.proofs.public.Loops.{grown, passing_next}
 use Rattle.plant_unit.proofs.alarms.push_named.Goals as goal
 
 pub loop-i-preserved : goal.loop-i-preserved
@@ -16,5 +16,5 @@ loop-i-preserved c es fresh named told =
     λ new pushed. grown c.args.changes.now c.loop-i.changes new made _ _ pushed (c.loop-i.invariant es fresh named told) next in
     elim c.match-branch-2.branch [
       | in-Some+in_ok-push w ↦ grows c.match-branch-2.changes (w.changes-is ∙ w.in_ok-push.ensures.ok ∙ ap (λ (o : Option RowEdit). c.loop-i.changes ++ option_to_list o) (sym w.in-Some.is))
-      | in_default w ↦ grows c.match-branch-2.changes (w.changes-is ∙ sym (append-[] c.loop-i.changes) ∙ ap (λ (o : Option RowEdit). c.loop-i.changes ++ option_to_list o) (sym w.in_default.is))
+      | in_default w ↦ grows c.match-branch-2.changes (w.changes-is ∙ sym (append-nil c.loop-i.changes) ∙ ap (λ (o : Option RowEdit). c.loop-i.changes ++ option_to_list o) (sym w.in_default.is))
     ]

@@ -1,11 +1,12 @@
 use Rattle.std.{specs.BTreeSet.{contains}, proofs.Common.{arith, rules, subst, sym, take, true, ◌+◌, ◌≡◌}}
-use Rattle.plant_types.specs.Names.{name_cmp}
-use Rattle.plant_unit.{specs.Summaries.{AreNamed}, proofs.NamedLaws.{named_before, named_more, named_none}}
+use Rattle.plant_alarm.specs.declared.event.Event.{Event}
+use Rattle.plant_types.{specs.Names.{name_cmp}, proofs.public.NameSets.{has_more, has_none}}
+use Rattle.plant_unit.{specs.Summaries.{AreNamed}, proofs.NamedLaws.{named_before}}
 use Rattle.plant_unit.proofs.alarms.tags_named.Goals.{else-not-contains, then-not-contains+in_ok-copy+in_ok-insert}
 use Rattle.plant_unit.proofs.alarms.tags_named.Goals as goal
 
 pub loop-event-init : goal.loop-event-init
-loop-event-init c = named_none c.new-tags.result c.new-tags.ensures.len
+loop-event-init c = has_none (λ (e : Event). e.tag) c.new-tags.result c.new-tags.ensures.len
 
 pub loop-event-preserved : goal.loop-event-preserved
 loop-event-preserved c =
@@ -15,7 +16,7 @@ loop-event-preserved c =
     elim c.if-not-contains.branch [
       | then-not-contains+in_ok-copy+in_ok-insert w ↦
           subst (λ s. AreNamed s (take (i + 1) events)) (sym w.tags-is)
-          (named_more c.loop-event.tags w.insert.new.self events i e w.in_ok-copy.field-0 (omega arith) c.event-item.is w.in_ok-copy.ensures.value w.in_ok-insert.ensures.updates c.loop-event.invariant)
+          (has_more (λ e. e.tag) c.loop-event.tags w.insert.new.self events i e w.in_ok-copy.field-0 (omega arith) c.event-item.is w.in_ok-copy.ensures.value w.in_ok-insert.ensures.updates c.loop-event.invariant)
       | else-not-contains w ↦
           let has : contains name_cmp c.loop-event.tags e.tag ≡ true = search rules in
           subst (λ s. AreNamed s (take (i + 1) events)) (sym w.tags-is)

@@ -1,8 +1,8 @@
-use Rattle.std.{specs.List.{list_all}, proofs.Common.{ap, sym, ◌∙◌, ◌≡◌, List, Option, filter_map, map, option_to_list, take, true, ◌+◌, ◌++◌}}
+use Rattle.std.{specs.List.{list_all}, proofs.Common.{ap, sym, ◌∙◌, ◌≡◌, List, Option, filter_map, map, option_to_list, take, true, ◌+◌, ◌++◌, append-nil}}
 use Rattle.plant_model.specs.{RowChanges.{rerated}, RowFacts.{record_read}, declared.{reply.RecordRow.{RecordRow}, rows.RecordEntry.{RecordEntry}}}
 use Rattle.plant_model.specs.declared.rows.{Row.TheVariants.{Record as RecordPut}, RowEdit.{RowEdit, TheVariants.{Put}}}
 use Rattle.plant_unit.{specs.Readings.{has_its_sheet}, proofs.ReadingLaws.{each_passes, told_more}}
-use Rattle.plant_unit.proofs.{decisions.push_rerated.Goals.{in-Some+in_ok-push, in_default}, public.Loops.{append-[], grown}}
+use Rattle.plant_unit.proofs.{decisions.push_rerated.Goals.{in-Some+in_ok-push, in_default}, public.Loops.{grown}}
 use Rattle.plant_unit.proofs.decisions.push_rerated.Goals as goal
 
 pub loop-row-preserved : goal.loop-row-preserved
@@ -18,5 +18,5 @@ loop-row-preserved c kept =
     λ new pushed. grown c.args.changes.now c.loop-row.changes new (map (λ r. put (rated r)) (filter_map read (take c.loop-row.row-index items))) _ _ pushed (c.loop-row.invariant kept) next in
     elim c.match-found.branch [
       | in-Some+in_ok-push w ↦ grows c.match-found.changes (w.changes-is ∙ w.in_ok-push.ensures.ok ∙ ap (λ (o : Option RecordEntry). c.loop-row.changes ++ map put (option_to_list o)) (sym w.in-Some.is))
-      | in_default w ↦ grows c.match-found.changes (w.changes-is ∙ sym (append-[] c.loop-row.changes) ∙ ap (λ (o : Option RecordEntry). c.loop-row.changes ++ map put (option_to_list o)) (sym w.in_default.is))
+      | in_default w ↦ grows c.match-found.changes (w.changes-is ∙ sym (append-nil c.loop-row.changes) ∙ ap (λ (o : Option RecordEntry). c.loop-row.changes ++ map put (option_to_list o)) (sym w.in_default.is))
     ]

@@ -1,24 +1,16 @@
-use Rattle.std.proofs.Common.{ap, sym, ◌∙◌, [], option_copied, ◌∷◌}
-use Rattle.plant_model.specs.{RowChanges.{decision_change}, RowFacts.{change_read, facts_in}, declared.reply.Refused.TheVariants.{SamePerson}}
-use Rattle.plant_ration.specs.declared.change.ChangeState.TheVariants.{Rejected}
-use Rattle.plant_types.specs.Names.{same_name}
-use Rattle.plant_unit.proofs.DecisionLaws.{change_there, decided_change, found_there, refused_change}
+use Rattle.std.proofs.Common.{ap, sym, ◌∙◌, ◌≡◌, Some, option_copied, option_map}
+use Rattle.plant_model.specs.RowFacts.{change_found, change_read}
+use Rattle.plant_unit.proofs.DecisionLaws.{decided_change, refused_change}
 use Rattle.plant_unit.proofs.decisions.reject.Goals as goal
 
 pub returns-in-Some-decision_refusal-clause-value : goal.returns-in-Some-decision_refusal-clause-value
 returns-in-Some-decision_refusal-clause-value c kept u =
-    let p = c.args.call.now.person in
     let rows = c.args.part.now.rows in
-    let e = c.in-Some.entry.now in
-    let there = change_there rows c.args.number e (found_there rows c.args.number _ _ _ (ap option_copied c.in-Some.is) c.entry_of.ensures c.as_slice.ensures) in
-    refused_change ((facts_in c.args.part.now).change c.args.number) (change_read rows e) there (λ x. (same_name p x.proposer, SamePerson) ∷ []) (λ x. decision_change Rejected p c.args.call.now.moment x ∷ [])
-    c.in-Some-decision_refusal.refused (sym c.in-Some-decision_refusal.is ∙ c.decision_refusal.ensures rows)
+    let found : Some c.in-Some.entry.now ≡ change_found rows c.args.number = sym (ap option_copied c.in-Some.is) ∙ c.entry_of.ensures in
+    refused_change _ _ (ap (option_map (change_read rows)) found) _ _ _ (sym c.in-Some-decision_refusal.is ∙ c.decision_refusal.ensures rows)
 
 pub returns-clause-value : goal.returns-clause-value
 returns-clause-value c kept u =
-    let p = c.args.call.now.person in
     let rows = c.args.part.now.rows in
-    let e = c.in-Some.entry.now in
-    let found = found_there rows c.args.number _ _ _ (ap option_copied c.in-Some.is) c.entry_of.ensures c.as_slice.ensures in
-    decided_change ((facts_in c.args.part.now).change c.args.number) (change_read rows e) e (change_there rows c.args.number e found) (kept.changes_read c.args.number e (sym found)) (λ x. (same_name p x.proposer, SamePerson) ∷ []) Rejected p c.args.call.now.moment
-    c.in_ok-decision_put.field-0 c.in_ok-decision_put.ensures.value (sym c.in_default-decision_refusal.is ∙ c.decision_refusal.ensures rows)
+    let found : Some c.in-Some.entry.now ≡ change_found rows c.args.number = sym (ap option_copied c.in-Some.is) ∙ c.entry_of.ensures in
+    decided_change _ _ _ (ap (option_map (change_read rows)) found) (kept.changes_read _ _ (sym found)) _ _ _ _ _ c.in_ok-decision_put.ensures.value (sym c.in_default-decision_refusal.is ∙ c.decision_refusal.ensures rows)

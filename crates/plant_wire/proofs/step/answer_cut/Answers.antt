@@ -1,4 +1,4 @@
-use Rattle.plant_call.{specs.Front.{body_length, item_of}, proofs.public.Cuts.{whole_fits, whole_positive}}
+use Rattle.plant_call.{specs.Front.{body_length, item_of}, proofs.public.Cuts.{whole_fits}}
 use Rattle.plant_wire.specs.Marks.{said, malformed, begun}
 use Rattle.plant_wire.proofs.{Serving.{serves_none, serves_one, part_none, part_one, part_broken, broken_now, stops_for}, public.Running.{ran_none}}
 use Rattle.plant_wire.proofs.step.answer_cut.Goals as goal
@@ -24,8 +24,8 @@ returns-in-Err-clause-does g c bytes front waits =
 
 pub returns-in-Ok-put_cause-clause-does : goal.returns-in-Ok-put_cause-clause-does
 returns-in-Ok-put_cause-clause-does g c bytes front waits = (
-  whole_positive body_length item_of bytes _ _ (rw c.in-Malformed.is at front),
-  whole_fits body_length item_of bytes _ _ (rw c.in-Malformed.is at front),
+  (whole_fits body_length item_of bytes _ _ (rw c.in-Malformed.is at front)).0,
+  (whole_fits body_length item_of bytes _ _ (rw c.in-Malformed.is at front)).1,
   serves_one bytes _ _ (malformed c.in-Malformed.cause) _ (rw c.in-Malformed.is at front) c.in-Ok-put_cause.ensures.does
       (ran_none (g.B.Books.represents c.args.office.now.books) (g.B.Books.is_honest c.args.office.now.books) (g.B.Books.stores c.args.office.now.books)),
 )
@@ -37,8 +37,8 @@ returns-in-Err-put_cause-clause-does g c bytes front waits =
 
 pub returns-in-Ok-answer_call-clause-does : goal.returns-in-Ok-answer_call-clause-does
 returns-in-Ok-answer_call-clause-does g c bytes front waits = (
-  whole_positive body_length item_of bytes _ _ (rw c.in-Call.is at front),
-  whole_fits body_length item_of bytes _ _ (rw c.in-Call.is at front),
+  (whole_fits body_length item_of bytes _ _ (rw c.in-Call.is at front)).0,
+  (whole_fits body_length item_of bytes _ _ (rw c.in-Call.is at front)).1,
   serves_one bytes _ _ (said c.in-Call.call c.in-Ok-answer_call.ensures.does.0) _ (rw c.in-Call.is at front) c.in-Ok-answer_call.ensures.does.1 c.in-Ok-answer_call.ensures.does.2,
 )
 

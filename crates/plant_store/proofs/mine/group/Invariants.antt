@@ -1,7 +1,0 @@
-use Rattle.std.proofs.Common.{◌≡◌, ◌++◌, drop}
-use Rattle.plant_store.specs.Mine.{runs_after, runs_of, standing_lines}
-use Rattle.plant_store.proofs.mine.group.Given as goal
-
--- what is grouped, and then what is left, is the whole
-abbrev pub invariant-loop-line : goal.invariant-loop-line
-invariant-loop-line l = l.units ++ runs_after l.current (standing_lines l.now (drop l.line-index l.lines)) ≡ runs_of (standing_lines l.now l.lines)
