@@ -4,7 +4,7 @@ use Rattle.plant_model.specs.{Histories.{counted, latest, same_number}, Kinds.{O
 use Rattle.plant_model.specs.declared.reply.{ChangeRow.{ChangeRow}, RecordRow.{RecordRow}}
 use Rattle.plant_ration.specs.{Grid.{Grid}, Matrix.{priority_of}, declared.{cell.Cell.{Cell, TheVariants.{N}}, change.ChangeKind.{ChangeKind}}}
 use Rattle.plant_ration.specs.declared.change.{ChangeKind.TheVariants.{Limit, Matrix, Rationale}, ChangeState.{ChangeState}}
-use Rattle.plant_ration.specs.declared.change.{ChangeState.TheVariants.{Approved, Proposed}, Proposal.{Proposal}, Sheet.{Sheet}}
+use Rattle.plant_ration.specs.declared.change.{ChangeState.TheVariants.{Approved, Proposed, Rejected, Withdrawn}, Proposal.{Proposal}, Sheet.{Sheet}}
 use Rattle.plant_types.specs.{Names.{Name, same_name}, Options.{when}}
 
 -- a change as it was proposed
@@ -69,20 +69,29 @@ kind_of_change h n = option_map (λ d. d.kind) (draft h n)
 
 -- a change of the matrix, with its number; of an alarm's record, with its number; of an alarm's limit
 abbrev pub matrix_in : ℕ → Option ChangeKind → Option (ℕ × Grid)
+matrix_in n None = None
+matrix_in n (Some (Rationale b s)) = None
 matrix_in n (Some (Matrix m)) = Some (n, m)
-matrix_in n _ = None
+matrix_in n (Some (Limit b max)) = None
 
 abbrev pub sheet_in : Name → ℕ → Option ChangeKind → Option (ℕ × Sheet)
+sheet_in a n None = None
 sheet_in a n (Some (Rationale b s)) = when (same_name a b) (n, s)
-sheet_in a n _ = None
+sheet_in a n (Some (Matrix m)) = None
+sheet_in a n (Some (Limit b max)) = None
 
 abbrev pub limit_in : Name → Option ChangeKind → Option ℕ
+limit_in a None = None
+limit_in a (Some (Rationale b s)) = None
+limit_in a (Some (Matrix m)) = None
 limit_in a (Some (Limit b max)) = when (same_name a b) max
-limit_in a _ = None
 
 abbrev pub number_if_approved : Option (ℕ × ChangeState) → Option ℕ
+number_if_approved None = None
 number_if_approved (Some (n, Approved)) = Some n
-number_if_approved _ = None
+number_if_approved (Some (n, Proposed)) = None
+number_if_approved (Some (n, Rejected)) = None
+number_if_approved (Some (n, Withdrawn)) = None
 
 -- the number of the change that a request approves
 abbrev pub number_approved : Request → Option ℕ

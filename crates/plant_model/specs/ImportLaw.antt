@@ -1,10 +1,10 @@
 -- Imports agree: which file has which rows, and in which order they come, makes no difference.
 use Rattle.std.specs.List.{list_all}
-use Rattle.std.specs.Prelude.{flat_map, List, Ok, Option, Result, Some, [], is_some, length, map, nat_le, true, ℕ, ◌++◌, ◌+◌, ◌∷◌, ◌≡◌, ◌≤◌}
+use Rattle.std.specs.Prelude.{flat_map, Err, List, None, Ok, Option, Result, Some, [], is_some, length, map, nat_le, true, ℕ, ◌++◌, ◌+◌, ◌∷◌, ◌≡◌, ◌≤◌}
 use Rattle.plant_alarm.specs.declared.event.Event.{Event}
 use Rattle.plant_import.specs.{Files.{SameMembers, is_fit}, Merging.{fresh}, declared.bad_file.BadFile.{BadFile}}
 use Rattle.plant_model.specs.{Alarms.{latching}, Events.{events, imported}, Grants.{held}, Histories.{last_moment}}
-use Rattle.plant_model.specs.{Kinds.{OneUnit, Subject, says, subject_of}, Legality.{IsLegal}, Rows.{rows_of}}
+use Rattle.plant_model.specs.{Kinds.{OneUnit, OwnShelves, OwnUnits, Subject, says, subject_of}, Legality.{IsLegal}, Rows.{rows_of}}
 use Rattle.plant_model.specs.{Verdicts.{changes_history, verdict}, declared.{call.{Call.{Call}, Request.{Request}}, reply.Refused.{Refused}}}
 use Rattle.plant_model.specs.declared.{reply.Reply.{Reply, TheVariants.{Imported}}, rows.{UnitRow.{UnitRow}, UnitRows.{UnitRows}}}
 use Rattle.plant_types.specs.{Limits.{max_events}, Names.{Name}, declared.role.Role.TheVariants.{Operator}}
@@ -15,8 +15,11 @@ rows_imported calls = flat_map (λ c. imported c.request) calls
 
 -- a request that imports a file that was read without fault
 abbrev pub IsFileFor : Name → Option (Result (List Event) BadFile) → Subject → Type 0
+IsFileFor u None about = ⊥
+IsFileFor u (Some (Err fault)) about = ⊥
 IsFileFor u (Some (Ok rows)) (OneUnit v) = v ≡ u
-IsFileFor u _ _ = ⊥
+IsFileFor u (Some (Ok rows)) OwnUnits = ⊥
+IsFileFor u (Some (Ok rows)) OwnShelves = ⊥
 
 abbrev pub IsImportOf : Name → Request → Type 0
 IsImportOf u r = IsFileFor u (says r).file (subject_of r)

@@ -7,7 +7,8 @@ use Rattle.plant_model.specs.{Histories.{same_number}, declared.{call.Request.{R
 use Rattle.plant_model.specs.Kinds.{AllAlarms, AllEvents, AllGrants, AllRecords, AllShelves, Approval, Content, File, NothingElse, OneAlarm, OneChange, OneRecord, Scope, Shelving, count_of, kind_of, scope_of}
 use Rattle.plant_model.specs.{RowChanges.{no_rows}, RowFacts.{change_found, holds_by, last_number, unit_read, pair_of}, declared.call.Call.{Call}}
 use Rattle.plant_model.specs.declared.kinds.Counted.TheVariants.{Alarms as AlarmsCounted, Changes as ChangesCounted, Events as EventsCounted, Nothing}
-use Rattle.plant_model.specs.declared.rows.{ChangeEntry.{ChangeEntry}, ChangeTopic.{ChangeTopic, TheVariants.{Matrix as MatrixTopic}}}
+use Rattle.plant_model.specs.declared.rows.{ChangeEntry.{ChangeEntry}, ChangeTopic.{ChangeTopic}}
+use Rattle.plant_model.specs.declared.rows.ChangeTopic.TheVariants.{Limit as LimitTopic, Matrix as MatrixTopic, Record as RecordTopic}
 use Rattle.plant_model.specs.declared.rows.{ShelfRow.{ShelfRow}, UnitPart.{UnitPart}, UnitRows.{UnitRows}}
 use Rattle.plant_types.specs.{Names.{Name, same_name}, Roles.{Pair}}
 
@@ -62,8 +63,10 @@ of_records rows = record nothing { rationale = every; matrix = is_in_force rows;
 -- what a change is of: a change of a record or of a limit that has no tag leaves nothing out
 abbrev pub of_topic : UnitRows → Option Name → ChangeTopic → Selection
 of_topic rows tag MatrixTopic = of_records rows
-of_topic rows (Some a) _ = of_content rows a
-of_topic rows None _ = record (of_records rows) { alarm = every }
+of_topic rows (Some a) RecordTopic = of_content rows a
+of_topic rows (Some a) LimitTopic = of_content rows a
+of_topic rows None RecordTopic = record (of_records rows) { alarm = every }
+of_topic rows None LimitTopic = record (of_records rows) { alarm = every }
 
 abbrev pub with_number : ℕ → Selection → Selection
 with_number n s = record s { matrix = λ m. s.matrix m || same_number n m; change = λ m. s.change m || same_number n m }

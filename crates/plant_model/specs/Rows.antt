@@ -83,8 +83,10 @@ abbrev pub cell_rows : List Call → List CellRow
 cell_rows h = filter_map (cell_row h) (in_order cell_cmp (all_named (λ c before. places_in cell_places (numbered_matrix before c.request)) h))
 
 abbrev pub tag_rationalised : Option ChangeKind → List Name
+tag_rationalised None = []
 tag_rationalised (Some (Rationale a s)) = a ∷ []
-tag_rationalised _ = []
+tag_rationalised (Some (Matrix m)) = []
+tag_rationalised (Some (Limit a max)) = []
 
 abbrev pub tags_approved : List Call → Request → List Name
 tags_approved before r = tag_rationalised (option_and_then (kind_of_change before) (number_approved r))

@@ -53,9 +53,19 @@ abbrev pub IsScopeOf : Request → Bool → Option ChangeEntry → Scope → Typ
 IsScopeOf q crowded approved scope = (rows : UnitRows) → IsSeenIn rows q crowded approved → selection_by rows scope ≡ selected rows q
 
 abbrev pub has_events : Looked → Bool
+has_events looked.NothingElse = false
+has_events looked.AllGrants = false
+has_events (looked.OneAlarm a) = false
+has_events (looked.Shelving a) = false
+has_events (looked.OneRecord a) = false
+has_events (looked.OneChange n) = false
+has_events (looked.Approval n) = false
+has_events (looked.Content a) = false
+has_events looked.AllRecords = false
 has_events (looked.File es) = true
+has_events looked.AllShelves = false
+has_events looked.AllAlarms = false
 has_events looked.AllEvents = true
-has_events _ = false
 
 -- a request that looks at events
 abbrev pub looks_at_events : Request → Bool

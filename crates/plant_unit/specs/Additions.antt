@@ -1,7 +1,8 @@
 -- What a file adds to a unit, or why it is refused.
 use Rattle.std.specs.{List.{list_all}, Ordering.{nat_cmp}}
 use Rattle.std.specs.Prelude.{Err, List, None, Ok, Option, Result, Some, length, true, ℕ, ◌-◌, ◌<◌, ◌||◌, ◌∷◌, ◌≡◌, ◌≤◌}
-use Rattle.plant_model.specs.{Calls.{unit_after}, Facts.{Facts, limit_revision_of}, Kinds.{Scope, scope_of, AllEvents, File}}
+use Rattle.plant_model.specs.{Calls.{unit_after}, Facts.{Facts, limit_revision_of}}
+use Rattle.plant_model.specs.Kinds.{Scope, scope_of, AllAlarms, AllEvents, AllGrants, AllRecords, AllShelves, Approval, Content, File, NothingElse, OneAlarm, OneChange, OneRecord, Shelving}
 use Rattle.plant_model.specs.{Refusals.{file_refusals, first_refusal}, RowChanges.{import_changes}}
 use Rattle.plant_model.specs.RowFacts.{alarm_tag, change_found, change_number, change_read, facts_among, facts_in, record_tag, shelf_tag, unit_read}
 use Rattle.plant_model.specs.{Rows.{change_entry}, declared.{call.Request.{Request, TheVariants.{Import}}, reply.{Refused.{Refused}, Reply.{Reply}}}}
@@ -46,9 +47,19 @@ GivesAddition part t rows said = (es : List Event) → AreEventsOf part rows es 
 
 -- the events that a request sees in a part: an import those of which it has some, a list of floods those that it has
 abbrev pub AreEventsIn : UnitPart → Scope → List Event → Type 0
+AreEventsIn part NothingElse es = Unit {0}
+AreEventsIn part AllGrants es = Unit {0}
+AreEventsIn part (OneAlarm a) es = Unit {0}
+AreEventsIn part (Shelving a) es = Unit {0}
+AreEventsIn part (OneRecord a) es = Unit {0}
+AreEventsIn part (OneChange n) es = Unit {0}
+AreEventsIn part (Approval n) es = Unit {0}
+AreEventsIn part (Content a) es = Unit {0}
+AreEventsIn part AllRecords es = Unit {0}
 AreEventsIn part (File rows) es = AreEventsOf part rows es
+AreEventsIn part AllShelves es = Unit {0}
+AreEventsIn part AllAlarms es = Unit {0}
 AreEventsIn part AllEvents es = part.rows.events ≡ es
-AreEventsIn part _ es = Unit {0}
 
 abbrev pub AreEventsFor : UnitPart → Request → List Event → Type 0
 AreEventsFor part r es = AreEventsIn part (scope_of r) es
