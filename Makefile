@@ -10,8 +10,8 @@ build:
 	mkdir -p out
 	cp crates/shelfoffice/out/shelfoffice out/shelfoffice
 
-# The gate: the schema in examples/, then every proof, the must-fail edits, the tests, and the programs. What an earlier run on this
-# machine passed on the same files is not done again, unless with ANEW=--anew.
+# The gate: the schema in examples/, then every proof, the must-fail edits, the tests, and the programs. A toolchain that has rt ci --anew
+# does not do again what an earlier run on this machine passed on the same files, unless with ANEW=--anew.
 test:
 	scripts/check-schema
 	rt ci $(ANEW)

@@ -131,7 +131,7 @@ fn renders_a_record(rt: HostRuntime) {
     is_replied(
         &rt,
         rt.alloc(),
-        Reply::RecordOf(record(&rt, rt.alloc())),
+        Reply::Record(record(&rt, rt.alloc())),
         b"{\"action\":\"close XV-7\",\"cause\":\"seal leak\",\"change\":1,\"consequence\":\"loss of pressure\",\"priority\":\"P1\",\"response\":120,\"revision\":1,\"severity\":2,\"tag\":\"PT-101\"}",
     );
 }
@@ -179,7 +179,7 @@ fn renders_a_change_of_a_record(rt: HostRuntime) {
     is_replied(
         &rt,
         rt.alloc(),
-        Reply::ChangeOf(withdrawn(&rt, rt.alloc())),
+        Reply::Change(withdrawn(&rt, rt.alloc())),
         b"{\"base\":0,\"content\":{\"action\":\"close XV-7\",\"cause\":\"seal leak\",\"consequence\":\"loss of \\\"pressure\\\"\",\"response\":120,\"severity\":2},\"decided\":\"2026-03-01T09:30:00Z\",\"decider\":\"eve\",\"kind\":\"record\",\"number\":2,\"proposed\":\"2026-03-01T09:00:00Z\",\"proposer\":\"eve\",\"state\":\"Withdrawn\",\"tag\":\"PT-101\"}",
     );
 }
@@ -207,7 +207,7 @@ fn renders_a_change_of_the_matrix(rt: HostRuntime) {
     is_replied(
         &rt,
         alloc,
-        Reply::ChangeOf(row),
+        Reply::Change(row),
         b"{\"base\":0,\"content\":{\"bands\":[300],\"cells\":[[\"P4\",\"N\"],[\"P1\",\"P2\"]]},\"decided\":null,\"decider\":null,\"kind\":\"matrix\",\"number\":2,\"proposed\":\"2026-03-01T09:00:00Z\",\"proposer\":\"eve\",\"state\":\"Proposed\",\"tag\":null}",
     );
 }
@@ -219,7 +219,7 @@ fn renders_a_change_of_a_limit(rt: HostRuntime) {
     is_replied(
         &rt,
         alloc,
-        Reply::ChangeOf(proposed(&rt, alloc, limit)),
+        Reply::Change(proposed(&rt, alloc, limit)),
         b"{\"base\":0,\"content\":{\"max\":600},\"decided\":null,\"decider\":null,\"kind\":\"limit\",\"number\":2,\"proposed\":\"2026-03-01T09:00:00Z\",\"proposer\":\"eve\",\"state\":\"Proposed\",\"tag\":\"PT-101\"}",
     );
 }

@@ -63,6 +63,7 @@ impl From<Fault> for BodyError {
 const BAD: BodyError = BodyError::Because(Unfit::Body);
 
 /// The JSON value that the bytes are.
+#[tactic(auto, using(crate::proofs::Values::value_found, crate::proofs::Values::value_missing))]
 pub(crate) fn value_in(alloc: Global, bytes: &[u8]) -> Result<Value, BodyError>
     ensures { ReadsAsSeen view result (or_body (value_of bytes.now)) }
 {

@@ -4,9 +4,10 @@ use Rattle.std.specs.Prelude.{Bool, IfOk, List, [], None, Option, Result, Some, 
 use Rattle.plant_alarm.specs.declared.event.Event.{Event}
 use Rattle.plant_model.specs.{Histories.{same_number}, Parts.{Selection, has_shelf, is_crowded, is_in_force, is_source, rows_selected}}
 use Rattle.plant_model.specs.{RowFacts.{change_found, pair_of}, Scopes.{number_approved, selection_by}, declared.call.Request.{Request}}
-use Rattle.plant_model.specs.declared.{kinds.Scope.{Scope, TheVariants.{Approval, OneChange}}, rows.{AlarmRow.{AlarmRow}, ChangeEntry.{ChangeEntry}}}
-use Rattle.plant_model.specs.declared.rows.{GrantRow.{GrantRow}, RecordEntry.{RecordEntry}, ShelfRow.{ShelfRow}, UnitRow.{UnitRow}}
-use Rattle.plant_model.specs.declared.rows.UnitRows.{UnitRows}
+use Rattle.plant_model.specs.declared.kinds.Scope.{Scope, TheVariants.{AllAlarms, AllEvents, AllGrants, AllRecords, AllShelves, Approval, Content}}
+use Rattle.plant_model.specs.declared.kinds.Scope.TheVariants.{File, NothingElse, OneAlarm, OneChange, OneRecord, Shelving}
+use Rattle.plant_model.specs.declared.rows.{AlarmRow.{AlarmRow}, ChangeEntry.{ChangeEntry}, GrantRow.{GrantRow}, RecordEntry.{RecordEntry}}
+use Rattle.plant_model.specs.declared.rows.{ShelfRow.{ShelfRow}, UnitRow.{UnitRow}, UnitRows.{UnitRows}}
 use Rattle.plant_books.specs.declared.asking.{Wanted.{Wanted, TheVariants.{Every, Nothing, One}}, WantedAlarms.{WantedAlarms}}
 use Rattle.plant_books.specs.declared.asking.{WantedAlarms.TheVariants.{Shelved, Those}, WantedEvents.{WantedEvents}}
 use Rattle.plant_books.specs.declared.asking.WantedEvents.TheVariants.{Beside, Every as EveryEvent, Nothing as NoEvents}
@@ -35,9 +36,19 @@ IsApprovedBy rows q approved = (n : ℕ) → number_approved q ≡ Some n → ch
 
 -- the number of the change that a scope takes in with its matrix
 abbrev pub number_named : Scope → Option ℕ
+number_named NothingElse = None
+number_named AllGrants = None
+number_named (OneAlarm tag) = None
+number_named (Shelving tag crowded) = None
+number_named (OneRecord tag) = None
 number_named (OneChange n) = Some n
 number_named (Approval n change) = Some n
-number_named _ = None
+number_named (Content tag) = None
+number_named AllRecords = None
+number_named (File rows) = None
+number_named AllShelves = None
+number_named AllAlarms = None
+number_named AllEvents = None
 
 -- the tag is among those that are wanted
 abbrev pub is_wanted : Wanted → Name → Bool

@@ -22,6 +22,7 @@ fn one_row(alloc: Global, row: UnitRow) -> Result<List<UnitRow>, Fault>
 }
 
 /// Puts a row of a unit.
+#[tactic(auto, using(crate::proofs::public::OrderLaws::put_by_keys, crate::proofs::public::OrderLaws::rows_rise, plant_types::proofs::public::Orders::name_total))]
 fn put_row(alloc: Global, rows: &mut UnitRows, row: Row) -> Result<(), Fault>
     ensures ok { PutsRow row rows.old rows.new result }
     ensures memory { OnlyMemory result }

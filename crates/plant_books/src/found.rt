@@ -51,6 +51,7 @@ pub fn rows_wanted<T: Tagged + Duplicate>(
 }
 
 /// Copies of the alarms that have one of these shelves.
+#[tactic(auto, using(crate::proofs::ShelvedLaws::all_shelved, crate::proofs::ShelvedLaws::next_shelved))]
 pub fn shelved_alarms(
     alloc: Global,
     alarms: &[AlarmRow],

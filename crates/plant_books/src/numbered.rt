@@ -65,6 +65,7 @@ fn push_all<T: Duplicate>(alloc: Global, all: &mut List<T>, rows: &[T]) -> Resul
 }
 
 /// Copies of the rows of these numbers, of rows whose numbers do not fall.
+#[tactic(auto, using(crate::proofs::public::NumberRanges::goes_on, crate::proofs::public::NumberRanges::of_none))]
 pub fn rows_of_numbers<T: Numbered>(
     alloc: Global,
     rows: &[T],

@@ -214,6 +214,7 @@ pub fn shelves_held(
 
 /// Makes the changes to the rows of a unit, which is put among the others where it was never
 /// opened. If memory runs out, nothing changes.
+#[tactic(auto, using(crate::proofs::public::OrderLaws::or_none_in_order, crate::proofs::public::OrderLaws::rows_in_order))]
 pub fn change_unit(
     alloc: Global,
     units: &mut List<OpenedUnit>,

@@ -94,6 +94,7 @@ pub fn events_asked(
 }
 
 /// The changes that the scope takes in.
+#[tactic(auto, using(crate::proofs::PassingLaws::passing_as, crate::proofs::public::NumberRanges::changes_rise, crate::proofs::public::NumberRanges::taken))]
 fn changes_asked(
     alloc: Global,
     rows: &UnitRows,

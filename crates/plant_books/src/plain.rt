@@ -79,6 +79,7 @@ impl Books for Plain {
         shelves_held(self.alloc, &self.units, person, now)
     }
 
+    #[tactic(auto, using(crate::proofs::ListedLaws::made_listed))]
     fn apply(
         &mut self,
         unit: &UnitCode,

@@ -22,6 +22,7 @@ pub(crate) fn is_numeral(text: &[u8]) -> bool
 }
 
 /// The number, or one more than the limit where it is above that.
+#[tactic(auto, using(crate::proofs::Digits::capped_push))]
 pub(crate) fn capped_value(text: &[u8]) -> usize
     requires { IsTrue (list_all is_ascii_digit text.now) }
     ensures { result ≡ min (digits_value 10 text.now) (MAX_BODY + 1) }

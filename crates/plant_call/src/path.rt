@@ -71,6 +71,7 @@ fn is_change_number(text: &[u8]) -> bool
 }
 
 /// The number that the text is: 1 to 5 digits, the first not 0.
+#[tactic(auto, using(crate::proofs::Digits::number_told))]
 fn change_number_of(text: &[u8]) -> Option<u32>
     ensures { result ≡ change_number_of text.now }
 {

@@ -6,9 +6,11 @@ use Rattle.sqlite_value.{specs.{Order.{Row, value_cmp}, declared.value.Value.The
 use Rattle.sqlite_trees.specs.Tree.{rowid, has_rowid, put_row, without_rowid}
 use Rattle.sqlite_keyed.{specs.Keyed.{IsKeyedBy}, proofs.KeyedLemmas.{lt_from_Less, Less-from_lt, above_all}}
 use Rattle.sqlite_rules.specs.{Calls.{ids_of}, Edit.{id_in, next_rowid, without_all}, Lists.{Has}}
-use Rattle.sqlite_rules.proofs.{ListLemmas.{all_has, all_from, some_has, some_from}, PlaceLemmas.{tied_same}, TableLemmas.{int_is}}
+use Rattle.sqlite_rules.proofs.{ListLemmas.{all_has, all_from, some_has, some_from}, PlaceLemmas.{tied_same}, ProbeLemmas.{has_mapped, mapped_has}}
+use Rattle.sqlite_rules.proofs.TableLemmas.{int_is}
 use Rattle.plant_columns.specs.Tidy.{AreRows}
 use Rattle.plant_types.proofs.public.KeyedRowLaws.{tied}
+use Rattle.plant_model.proofs.public.PartLists.{filter-true}
 
 -- the rowids of the rows that pass the test, and no other
 pub record AreFound (p : Row → Bool) (rows found : List Row) : Type 0 where
@@ -27,24 +29,10 @@ filter_both p q (r ∷ rows) = elim (p r) as (λ b. filter (λ r. not (q r)) (co
 has_any : List ℤ → Row → Bool
 has_any ids r = list_any (λ id. has_rowid id r) ids
 
-all_pass : (rows : List Row) → rows ≡ filter (λ r. true) rows
-all_pass [] = refl
-all_pass (r ∷ rows) = ap (λ l. r ∷ l) (all_pass rows)
-
 without_all_is : (ids : List ℤ) (rows : List Row) → without_all rows ids ≡ filter (λ r. not (has_any ids r)) rows
 unfolding has_any
-without_all_is [] rows = all_pass rows
+without_all_is [] rows = sym (filter-true rows)
 without_all_is (id ∷ ids) rows = without_all_is ids (without_rowid id rows) ∙ filter_both (has_rowid id) (has_any ids) rows
-
-found_ids : (found : List Row) (x : Row) → Has found x → Has (ids_of found) (id_in (rowid x))
-found_ids [] x h = absurd h
-found_ids (y ∷ ys) x (inl e) = inl (ap (λ r. id_in (rowid r)) e)
-found_ids (y ∷ ys) x (inr h) = inr (found_ids ys x h)
-
-ids_found : (found : List Row) (id : ℤ) → Has (ids_of found) id → (x : Row) × Has found x × (id ≡ id_in (rowid x))
-ids_found [] id h = absurd h
-ids_found (y ∷ ys) id (inl e) = (y, inl refl, e)
-ids_found (y ∷ ys) id (inr h) = let it = ids_found ys id h in (it.0, inr it.1, it.2)
 
 -- taking out the rowids that were found leaves the rows that do not pass
 pub without_found : (p : Row → Bool) (rows found : List Row) → AreRows rows → AreFound p rows found → without_all rows (ids_of found) ≡ filter (λ r. not (p r)) rows
@@ -55,13 +43,13 @@ without_found p rows found are it = without_all_is (ids_of found) rows ∙ filte
     int_at r h = int_is (rowid r) (all_has _ rows r are.ints h)
 
     goes : (r : Row) → Has rows r → p r ≡ true → has_any (ids_of found) r ≡ true
-    goes r h e = some_from (λ id. has_rowid id r) (ids_of found) (id_in (rowid r)) (found_ids found _ (it.complete r h e))
+    goes r h e = some_from (λ id. has_rowid id r) (ids_of found) (id_in (rowid r)) (mapped_has (λ r. id_in (rowid r)) found _ (it.complete r h e))
         (subst (λ v. is_eq (value_cmp (rowid r) v) ≡ true) (int_at r h) (ap is_eq (tied_itself value_cmp_total (rowid r))))
 
     stays : (r : Row) → Has rows r → has_any (ids_of found) r ≡ true → p r ≡ true
     stays r h e =
         let one = some_has (λ id. has_rowid id r) (ids_of found) e in
-        let from = ids_found found one.0 one.1 in
+        let from = has_mapped (λ r. id_in (rowid r)) found one.0 one.1 in
         let other = it.sound from.0 from.1 in
         let id : one.0 ≡ id_in (rowid other.0) = from.2 ∙ ap (λ x. id_in (rowid x)) other.3 in
         let tie : value_cmp (rowid r) (rowid other.0) ≡ Equal = tied _ _ (subst (λ v. is_eq (value_cmp (rowid r) v) ≡ true) (ap Int id ∙ sym (int_at other.0 other.1)) one.2) refl in

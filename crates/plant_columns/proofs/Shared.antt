@@ -1,18 +1,15 @@
 -- A table that all units share, seen by one unit. The unit is the first column of its key.
-use Rattle.std.specs.{Cmp.{IsTotalOrder}, FinMap.{slice_cmp-IsAntisymmetric, nat_cmp-IsAntisymmetric}, List.{AllByRecursion}}
+use Rattle.std.specs.{Cmp.{IsTotalOrder}, List.{AllByRecursion}}
 use Rattle.std.proofs.Common.{◌≡◌, ◌≢◌, ℕ, Bool, true, false, List, [], ◌∷◌, ◌++◌, map, filter, refl, sym, ap, ◌∙◌, subst, Ordering, Less, Equal, is_eq}
 use Rattle.std.proofs.lemmas.{Bool.{false_from_ne_true}, Cmp.{tied_itself, alike_right}}
 use Rattle.sqlite_keyed.proofs.ListLemmas.{all-filter, all-append}
 use Rattle.sqlite_value.specs.{Order.{Row, column, value_cmp, bytes}, declared.value.Value.TheVariants.{Text}}
-use Rattle.sqlite_value.proofs.OrderLemmas.{value_cmp_total, value_cmp-Text}
+use Rattle.sqlite_value.proofs.OrderLemmas.{value_cmp_total}
 use Rattle.plant_columns.{specs.{Kept.{taken_out, by_columns, kept, is_of}, Tidy.{AreRows, IsTidy}}, proofs.public.Bridge.{put_is}}
 use Rattle.plant_columns.proofs.public.Kept.{kept-put, kept-put_other, kept-out, kept-out_other, no_ties-out, no_ties-put, read-put, read-out, strict-sort}
-use Rattle.plant_columns.proofs.public.Keys.{by_columns_total, then_tied}
+use Rattle.plant_columns.proofs.public.Keys.{by_columns_total, same_text, then_tied}
 use Rattle.sqlite_trees.specs.Tree.{IsAscending}
 use Rattle.plant_types.{specs.KeyedRows.{put_row, remove_row}, proofs.public.{Halves.{left}, KeyedRowLaws.{tied}}}
-
-same_text : (a b : List ℕ) → is_eq (value_cmp (Text a) (Text b)) ≡ true → a ≡ b
-same_text a b h = slice_cmp-IsAntisymmetric nat_cmp-IsAntisymmetric a b (sym (value_cmp-Text a b) ∙ tied _ _ h refl)
 
 module _ (ks : List ℕ) where
   abbrev pub cmp : Row → Row → Ordering

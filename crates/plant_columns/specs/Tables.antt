@@ -1,5 +1,5 @@
 -- The tables that all units share, each by its shape, and the schema.
-use Rattle.std.specs.{Ordering.{nat_cmp}, Prelude.{List, Some, [], codes, false, map, suc, take, true, ℕ, ◌++◌, ◌∷◌, ◌≡◌}}
+use Rattle.std.specs.{Ordering.{nat_cmp}, Prelude.{List, Some, [], codes, false, length, map, suc, take, true, ℕ, ◌++◌, ◌∷◌, ◌≡◌}}
 use Rattle.sqlite.specs.{Effect.{Database}, Kind.TheVariants.{Integer, Text as TextKind}, Schema.{Schema}, Table.{Table}, Tree.{Trees}}
 use Rattle.sqlite_schema.specs.declared.schema.{Column.{Column}, Index.{Index}}
 use Rattle.sqlite_value.specs.{Order.{Row, bytes, column}, declared.value.Value.TheVariants.{Null, Text}}
@@ -9,42 +9,32 @@ use Rattle.plant_model.specs.RowFacts.{alarm_tag, band_key, cell_key, change_num
 use Rattle.plant_model.specs.declared.rows.{AlarmRow.{AlarmRow}, BandRow.{BandRow}, CellRow.{CellRow}, ChangeEntry.{ChangeEntry}, GrantRow.{GrantRow}}
 use Rattle.plant_model.specs.declared.rows.{RecordEntry.{RecordEntry}, ShelfRow.{ShelfRow}, UnitRow.{UnitRow}, UnitRows.{UnitRows}}
 use Rattle.plant_columns.specs.Codes.{alarm_state, cell, cell_in, change_state, change_state_in, flag, flag_in, kind, kind_in, number, number_in, open_number, open_number_in, open_text, open_text_in, role, role_in, state_in, topic, topic_in}
+use Rattle.plant_columns.specs.declared.tables.TableKind.{TableKind, TheVariants.{Units, Grants, Alarms, Shelves, Bands, Cells, Events, Records}}
+use Rattle.plant_columns.specs.declared.tables.TableKind.TheVariants.{Changes}
 use Rattle.plant_columns.specs.{Forms.{column_of, index_of, open_column}, Shape.{AreTables, Shape, seen, table_in}}
 use Rattle.plant_types.specs.{Names.{Name, name_cmp}, Roles.{Pair, pair_cmp}}
 
--- the tables, by the name of what a row is
-pub data Kept : Type 0 where
-  UnitKept : Kept
-  GrantKept : Kept
-  AlarmKept : Kept
-  ShelfKept : Kept
-  BandKept : Kept
-  CellKept : Kept
-  EventKept : Kept
-  RecordKept : Kept
-  ChangeKept : Kept
+abbrev pub RowOf : TableKind → Type 0
+RowOf Units = UnitRow
+RowOf Grants = GrantRow
+RowOf Alarms = AlarmRow
+RowOf Shelves = ShelfRow
+RowOf Bands = BandRow
+RowOf Cells = CellRow
+RowOf Events = Event
+RowOf Records = RecordEntry
+RowOf Changes = ChangeEntry
 
-abbrev pub RowOf : Kept → Type 0
-RowOf UnitKept = UnitRow
-RowOf GrantKept = GrantRow
-RowOf AlarmKept = AlarmRow
-RowOf ShelfKept = ShelfRow
-RowOf BandKept = BandRow
-RowOf CellKept = CellRow
-RowOf EventKept = Event
-RowOf RecordKept = RecordEntry
-RowOf ChangeKept = ChangeEntry
-
-abbrev pub KeyOf : Kept → Type 0
-KeyOf UnitKept = ℕ
-KeyOf GrantKept = Pair
-KeyOf AlarmKept = Name
-KeyOf ShelfKept = Name
-KeyOf BandKept = BandKey
-KeyOf CellKept = CellKey
-KeyOf EventKept = ℕ
-KeyOf RecordKept = Name
-KeyOf ChangeKept = ℕ
+abbrev pub KeyOf : TableKind → Type 0
+KeyOf Units = ℕ
+KeyOf Grants = Pair
+KeyOf Alarms = Name
+KeyOf Shelves = Name
+KeyOf Bands = BandKey
+KeyOf Cells = CellKey
+KeyOf Events = ℕ
+KeyOf Records = Name
+KeyOf Changes = ℕ
 
 abbrev pub text_column : List ℕ → Column
 text_column name = column_of name TextKind
@@ -210,28 +200,28 @@ change_shape = record {
   };
 }
 
-abbrev pub shape : (i : Kept) → Shape (RowOf i) (KeyOf i)
-shape UnitKept = unit_shape
-shape GrantKept = grant_shape
-shape AlarmKept = alarm_shape
-shape ShelfKept = shelf_shape
-shape BandKept = band_shape
-shape CellKept = cell_shape
-shape EventKept = event_shape
-shape RecordKept = record_shape
-shape ChangeKept = change_shape
+abbrev pub shape : (i : TableKind) → Shape (RowOf i) (KeyOf i)
+shape Units = unit_shape
+shape Grants = grant_shape
+shape Alarms = alarm_shape
+shape Shelves = shelf_shape
+shape Bands = band_shape
+shape Cells = cell_shape
+shape Events = event_shape
+shape Records = record_shape
+shape Changes = change_shape
 
 -- the rows of one table among a unit's rows
-abbrev pub rows_at : (i : Kept) → UnitRows → List (RowOf i)
-rows_at UnitKept rows = rows.units
-rows_at GrantKept rows = rows.grants
-rows_at AlarmKept rows = rows.alarms
-rows_at ShelfKept rows = rows.shelves
-rows_at BandKept rows = rows.bands
-rows_at CellKept rows = rows.cells
-rows_at EventKept rows = rows.events
-rows_at RecordKept rows = rows.records
-rows_at ChangeKept rows = rows.changes
+abbrev pub rows_at : (i : TableKind) → UnitRows → List (RowOf i)
+rows_at Units rows = rows.units
+rows_at Grants rows = rows.grants
+rows_at Alarms rows = rows.alarms
+rows_at Shelves rows = rows.shelves
+rows_at Bands rows = rows.bands
+rows_at Cells rows = rows.cells
+rows_at Events rows = rows.events
+rows_at Records rows = rows.records
+rows_at Changes rows = rows.changes
 
 -- the office's own table, whose key is the rowid
 abbrev pub office_table : Table
@@ -265,27 +255,33 @@ abbrev pub by_person : Index
 by_person = index_of (codes "grants_by_person") 19 grant_shape.tree (2 ∷ 1 ∷ []) false
 
 -- the tables in the order in which they are made
-abbrev pub all_kept : List Kept
-all_kept = UnitKept ∷ GrantKept ∷ AlarmKept ∷ ShelfKept ∷ BandKept ∷ CellKept ∷ EventKept ∷ RecordKept ∷ ChangeKept ∷ []
+abbrev pub all_tables : List TableKind
+all_tables = Units ∷ Grants ∷ Alarms ∷ Shelves ∷ Bands ∷ Cells ∷ Events ∷ Records ∷ Changes ∷ []
 
+-- before anything is made
 abbrev pub no_schema : Schema
 no_schema = record { tables = []; indexes = []; views = [] }
 
+-- how many they are
+abbrev pub table_count : ℕ
+table_count = length all_tables
+
 -- once the office's table and the first n of these are made
 abbrev pub schema_with : ℕ → Schema
-schema_with n = record { tables = office_table ∷ map (λ i. table_in (shape i)) (take n all_kept); indexes = map (λ i. key_index (shape i)) (take n all_kept); views = [] }
+schema_with n = record { tables = office_table ∷ map (λ i. table_in (shape i)) (take n all_tables); indexes = map (λ i. key_index (shape i)) (take n all_tables); views = [] }
 
+-- once all are made, and the index by person
 abbrev pub books_schema : Schema
-books_schema = record (schema_with 9) { indexes = map (λ i. key_index (shape i)) all_kept ++ by_person ∷ [] }
+books_schema = record (schema_with table_count) { indexes = map (λ i. key_index (shape i)) all_tables ++ by_person ∷ [] }
 
 -- a database with this schema that only these statements have written
 abbrev pub AreBooks : Database → Type 0
 AreBooks db = AreTables RowOf KeyOf shape books_schema db
 
 -- what the tables have of a unit
-abbrev pub rows_seen : List ℕ → Trees → (i : Kept) → List (RowOf i)
+abbrev pub rows_seen : List ℕ → Trees → (i : TableKind) → List (RowOf i)
 rows_seen unit trees = seen RowOf KeyOf shape unit trees
 
 -- they have these rows of it
 abbrev pub AreSeen : List ℕ → Database → UnitRows → Type 0
-AreSeen unit db rows = (i : Kept) → rows_seen unit db.trees i ≡ rows_at i rows
+AreSeen unit db rows = (i : TableKind) → rows_seen unit db.trees i ≡ rows_at i rows

@@ -1,6 +1,6 @@
 //! Typed rows from the rows that a query shows. A value outside its column's set is an error other than that memory ran out.
 
-ghost use Rattle.std.specs.Prelude.{◌≡◌, ◌∷◌, [], ℕ, map, IfErr, IfOk, IsTrue};
+ghost use Rattle.std.specs.Prelude.{◌≡◌, ℕ, map, IfErr, IfOk, IsTrue};
 ghost use Rattle.sqlite_value.specs.{Order.{column, Row as SqlRow}, declared.value.Value.TheVariants.{Text as TextValue}};
 ghost use Rattle.plant_columns.specs.{Causes.{IsNoMemory, MemoryIsOfText}, Codes.{ReadsColumn}, Shown.{columns}};
 ghost use Rattle.plant_columns.specs.Tables.{unit_shape, grant_shape, alarm_shape, shelf_shape, band_shape, cell_shape, event_shape, record_shape, change_shape};
@@ -12,7 +12,7 @@ use plant_alarm::{Event, Number};
 use plant_model::{
     AlarmRow, BandRow, CellRow, ChangeEntry, GrantRow, RecordEntry, ShelfRow, UnitRow,
 };
-use plant_types::{Alphabet, List, Moment, Quota, Role, Seconds, Text};
+use plant_types::{Alphabet, List, Moment, Quota, Seconds, Text};
 use sqlite::types::{Type, ValueRef};
 use sqlite::{Error, ErrorCode, Row};
 use std::alloc::Global;
@@ -145,7 +145,7 @@ pub fn flag(row: &Row, at: usize) -> Result<bool, Error>
 }
 
 /// The value that the column has by its number.
-fn coded<T: Coded>(row: &Row, at: usize) -> Result<T, Error>
+pub fn coded<T: Coded>(row: &Row, at: usize) -> Result<T, Error>
     ensures value { ReadsColumn (λ x. codes.number (T.no x)) row.now at result }
     ensures cause { IfErr result IsNoMemory }
 {
@@ -154,13 +154,6 @@ fn coded<T: Coded>(row: &Row, at: usize) -> Result<T, Error>
         Some(value) => Ok(*value),
         None => Err(Error::IntegralValueOutOfRange(at)),
     }
-}
-
-pub fn role(row: &Row, at: usize) -> Result<Role, Error>
-    ensures value { ReadsColumn codes.role row.now at result }
-    ensures cause { IfErr result IsNoMemory }
-{
-    coded(row, at)
 }
 
 fn event_number(row: &Row, at: usize) -> Result<Number, Error>
@@ -205,7 +198,7 @@ impl Shown for GrantRow {
     fn from_row(alloc: Global, row: &Row) -> Result<GrantRow, Error> {
         Ok(GrantRow {
             person: text(alloc, row, 0)?,
-            role_no: role(row, 1)?,
+            role_no: coded(row, 1)?,
             end_s: open_moment(row, 2)?,
         })
     }
@@ -342,9 +335,9 @@ pub fn read_all<T: Shown>(alloc: Global, rows: &[Row]) -> Result<List<T>, Error>
     let mut table = List::new(alloc);
     for row in rows {
         let read = T::from_row(alloc, row)?;
-        if table.push(read).is_err() {
-            return Err(Error::SqliteFailure(ErrorCode::OutOfMemory));
-        }
+        table
+            .push(read)
+            .map_err(|_| Error::SqliteFailure(ErrorCode::OutOfMemory))?;
     }
     Ok(table)
 }

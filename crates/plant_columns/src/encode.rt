@@ -79,37 +79,25 @@ fn quota(quota: Quota) -> ValueRef<'static>
 fn open_moment(moment_at: Option<Moment>) -> ValueRef<'static>
     ensures { bound_value (owned result) ≡ codes.open_number moment_at }
 {
-    match moment_at {
-        Some(at) => moment(at),
-        None => ValueRef::Null,
-    }
+    moment_at.map_or(ValueRef::Null, moment)
 }
 
 fn open_small(small: Option<u8>) -> ValueRef<'static>
     ensures { bound_value (owned result) ≡ codes.open_number small }
 {
-    match small {
-        Some(small) => number(u32::from(small)),
-        None => ValueRef::Null,
-    }
+    small.map_or(ValueRef::Null, |small| number(u32::from(small)))
 }
 
 fn open_seconds(length: Option<Seconds>) -> ValueRef<'static>
     ensures { bound_value (owned result) ≡ codes.open_number length }
 {
-    match length {
-        Some(length) => seconds(length),
-        None => ValueRef::Null,
-    }
+    length.map_or(ValueRef::Null, seconds)
 }
 
 fn open_text<C: Alphabet>(words: &Option<Text<C>>) -> ValueRef<'_>
     ensures { bound_value (owned result) ≡ codes.open_text words.now }
 {
-    match words {
-        Some(some) => text(some),
-        None => ValueRef::Null,
-    }
+    words.as_ref().map_or(ValueRef::Null, text)
 }
 
 /// The columns of a unit's own row.

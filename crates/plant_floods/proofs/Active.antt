@@ -1,56 +1,35 @@
 -- The alarms that are active, one event after another.
-use Rattle.std.specs.{BTreeSet.{UpdatesBy, contains}, Cmp.{eq_by_cmp_equiv, Lexicographic.{nat_list_cmp_total}}}
-use Rattle.std.specs.List.{range_with_len}
-use Rattle.std.proofs.Common.{IfOk, [], ap, append-nil, arith, cond, false, get_or, length, refl, subst, sym, take, true, ◌*◌, ◌++◌, ◌+◌, ◌-◌, ◌/◌, ◌<◌, ◌∙◌, ◌∷◌, ◌≡◌, ◌≤◌, add-zero, ℕ, Bool, Err, List, Ok, Result, Some, count_by, fold, map, option_map, unwrap_or, ◌||◌, BTreeSet}
-use Rattle.std.proofs.{Math.{ListN.{replicate}}}
-use Rattle.std.proofs.lemmas.List.FromFn.{get_or-map-range_with_len, length-map-range_with_len, length-range_with_len}
-use Rattle.std.proofs.lemmas.List.{ext_get_or, length-take-le, length-map, map-append, take_more}
-use Rattle.std.proofs.lemmas.{List.Sums.{count_by-le-length, count_by_more_no, count_by_more_yes}, Simd.{splat_is_map}}
-use Rattle.plant_alarm.specs.{States.{is_act, is_active, is_rtn, last_that, passing}, declared.event.Event.{Event}}
-use Rattle.plant_alarm.proofs.public.Push.{last_that-push, passing-push}
+use Rattle.std.specs.{BTreeSet.{UpdatesBy, contains}, Cmp.{eq_by_cmp_equiv, Lexicographic.{nat_list_cmp_total}}, List.{range_with_len}}
+use Rattle.std.{specs.Ordering.{eq_by_cmp}, proofs.lemmas.List.{ext_get_or, length-take-le, length-map, map-append, take_more}}
+use Rattle.std.proofs.lemmas.List.{Elements.{filter-append}, FromFn.{get_or-map-range_with_len, length-map-range_with_len, length-range_with_len}}
+use Rattle.std.proofs.{lemmas.{List.Sums.{count_by-le-length, count_by_more_no, count_by_more_yes}, Simd.{splat_is_map}}, Math.ListN.{replicate}}
+use Rattle.std.proofs.Common.{[], ap, append-nil, arith, cond, get_or, length, refl, subst, sym, take, true, ◌*◌, ◌++◌, ◌+◌, ◌-◌, ◌/◌, ◌<◌, ◌∙◌, ◌∷◌, ◌≡◌, ◌≤◌, ℕ, Bool, List, count_by, fold, map, ◌||◌, BTreeSet}
+use Rattle.plant_alarm.specs.declared.event.Event.{Event}
+use Rattle.plant_alarm.{specs.States.{is_act, is_active, is_rtn, passing}, proofs.public.Push.{last_that-push, passing-push}}
 use Rattle.plant_floods.specs.Activations.{AreActive, activations_of_all, is_activation_of, is_in_period, of_alarm, period_counts}
 use Rattle.plant_types.{specs.Names.{Name, same_name, name_cmp}, proofs.public.{KeyedRowLaws.{tied}, Orders.{same_names}}}
 
 active-push : (es : List Event) (e : Event) → is_active (es ++ e ∷ []) ≡ cond (is_act e || is_rtn e) (is_act e) (is_active es)
-active-push es e =
-    ap (λ o. unwrap_or (option_map is_act o) false) (last_that-push (λ x. is_act x || is_rtn x) es e)
-    ∙ elim (is_act e || is_rtn e) as (λ b. unwrap_or (option_map is_act (cond b (Some e) (last_that (λ x. is_act x || is_rtn x) es))) false ≡ cond b (is_act e) (is_active es)) [ true ↦ refl | false ↦ refl ]
+active-push es e = grind (arith, last_that-push (λ x. is_act x || is_rtn x) es e)
 
 -- of one alarm, one event more
 of_alarm-push : (a : Name) (es : List Event) (e : Event) → of_alarm a (es ++ e ∷ []) ≡ of_alarm a es ++ cond (same_name a e.tag) (e ∷ []) []
-of_alarm-push a [] e = elim (same_name a e.tag) as (λ b. cond b (e ∷ []) [] ≡ [] ++ cond b (e ∷ []) []) [ true ↦ refl | false ↦ refl ]
-of_alarm-push a (x ∷ es) e =
-    elim (same_name a x.tag) as (λ b. cond b (x ∷ of_alarm a (es ++ e ∷ [])) (of_alarm a (es ++ e ∷ [])) ≡ cond b (x ∷ of_alarm a es) (of_alarm a es) ++ cond (same_name a e.tag) (e ∷ []) []) [
-      | true ↦ ap (λ l. x ∷ l) (of_alarm-push a es e)
-      | false ↦ of_alarm-push a es e
-    ]
+of_alarm-push a es e = filter-append (λ x. same_name a x.tag) es (e ∷ [])
 
 active_of : (a : Name) (es : List Event) (e : Event) → is_active (of_alarm a (es ++ e ∷ [])) ≡ cond (same_name a e.tag) (cond (is_act e || is_rtn e) (is_act e) (is_active (of_alarm a es))) (is_active (of_alarm a es))
-active_of a es e =
-    ap is_active (of_alarm-push a es e)
-    ∙ elim (same_name a e.tag) as (λ b. is_active (of_alarm a es ++ cond b (e ∷ []) []) ≡ cond b (cond (is_act e || is_rtn e) (is_act e) (is_active (of_alarm a es))) (is_active (of_alarm a es))) [
-      | true ↦ active-push (of_alarm a es) e
-      | false ↦ ap is_active (append-nil (of_alarm a es))
-    ]
+active_of a es e = grind (arith, of_alarm-push a es e, active-push (of_alarm a es) e, append-nil (of_alarm a es))
 
 -- an activation puts its tag into the set, a return takes it out
 pub moved : (s n : BTreeSet Name) (es : List Event) (e : Event) (k : Name) (b : Bool) → k ≡ e.tag → UpdatesBy name_cmp (name_cmp k) s n b → (is_act e || is_rtn e) ≡ true → b ≡ is_act e → AreActive s es → AreActive n (es ++ e ∷ [])
 moved s n es e k b own new moves is are a =
-    new.0 a
-    ∙ (λ i. cond ((ap (λ x. same_name x a) own ∙ (eq_by_cmp_equiv nat_list_cmp_total).symm e.tag a) i) (is i) (are a i))
-    ∙ (λ i. cond (same_name a e.tag) (cond (sym moves i) (is_act e) (is_active (of_alarm a es))) (is_active (of_alarm a es)))
-    ∙ sym (active_of a es e)
+    let turned : eq_by_cmp name_cmp k a ≡ same_name a e.tag = ap (λ x. same_name x a) own ∙ (eq_by_cmp_equiv nat_list_cmp_total).symm e.tag a in
+    grind (arith, new.0 a, turned, are a, active_of a es e)
 
 -- an ACT of an alarm that is active leaves the set too
 pub still_active : (s : BTreeSet Name) (es : List Event) (e : Event) → is_act e ≡ true → contains name_cmp s e.tag ≡ true → AreActive s es → AreActive s (es ++ e ∷ [])
 still_active s es e act has are a =
-    are a
-    ∙ elim (same_name a e.tag) as (λ b. same_name a e.tag ≡ b → is_active (of_alarm a es) ≡ cond b true (is_active (of_alarm a es))) [
-      | true ↦ λ same. ap (λ x. is_active (of_alarm x es)) (same_names a e.tag (tied _ true same refl)) ∙ sym (are e.tag) ∙ has
-      | false ↦ λ _. refl
-    ] refl
-    ∙ (λ i. cond (same_name a e.tag) (cond (sym act i || is_rtn e) (sym act i) (is_active (of_alarm a es))) (is_active (of_alarm a es)))
-    ∙ sym (active_of a es e)
+    let same : same_name a e.tag ≡ true → a ≡ e.tag = λ t. same_names a e.tag (tied _ true t refl) in
+    grind (arith, are a, are e.tag, active_of a es e, same)
 
 -- the events up to one, and that one
 taken_more : (events : List Event) (i : ℕ) (e : Event) → i < length events → e ≡ get_or events i e → take (i + 1) events ≡ take i events ++ e ∷ []
@@ -62,12 +41,7 @@ active_more s events i e lt is are = subst (AreActive s) (sym (taken_more events
 pub moments_more : (events : List Event) (i : ℕ) (e : Event) (b : Bool) (old new : List ℕ) → i < length events → e ≡ get_or events i e → b ≡ is_activation_of (take i events) e
     → old ≡ map (λ e. e.moment) (activations_of_all (take i events)) → new ≡ old ++ cond b (e.moment ∷ []) [] → new ≡ map (λ e. e.moment) (activations_of_all (take (i + 1) events))
 moments_more events i e b old new lt is tells so_far grown =
-    grown ∙ ap (λ l. l ++ cond b (e.moment ∷ []) []) so_far
-    ∙ ap (λ l. map (λ (x : Event). x.moment) (activations_of_all (take i events)) ++ l) (elim b as (λ b. cond b (e.moment ∷ []) [] ≡ map (λ (x : Event). x.moment) (cond b (e ∷ []) [])) [ true ↦ refl | false ↦ refl ])
-    ∙ sym (map-append (λ (x : Event). x.moment) (activations_of_all (take i events)) (cond b (e ∷ []) []))
-    ∙ ap (λ c. map (λ (x : Event). x.moment) (activations_of_all (take i events) ++ cond c (e ∷ []) [])) tells
-    ∙ ap (map (λ (x : Event). x.moment)) (sym (passing-push is_activation_of [] (take i events) e))
-    ∙ ap (λ l. map (λ (x : Event). x.moment) (activations_of_all l)) (sym (taken_more events i e lt is))
+    grind (arith, taken_more events i e lt is, passing-push is_activation_of [] (take i events) e, map-append (λ (x : Event). x.moment) (activations_of_all (take i events)) (e ∷ []), append-nil old, append-nil (activations_of_all (take i events)))
 
 -- of the first moments, those in a period
 abbrev counted_in : List ℕ → ℕ → ℕ → ℕ → ℕ
@@ -93,10 +67,7 @@ counted_more ms old new start n k m d lt is few long grown so_far =
       few_at i = let le = count_by-le-length (λ m. is_in_period (start + 600 * i) m) (take k ms) in let short = length-take-le k ms (let w : k ≤ length ms = omega (arith, lt) in w) in omega (arith, le, short, lt, few)
 
       step : (i : ℕ) → counted_in ms start (k + 1) i ≡ counted_in ms start k i + cond (is_in_period (start + 600 * i) m) 1 0
-      step i = elim (is_in_period (start + 600 * i) m) as (λ b. is_in_period (start + 600 * i) m ≡ b → counted_in ms start (k + 1) i ≡ counted_in ms start k i + cond b 1 0) [
-        | true ↦ λ e. count_by_more_yes (λ m. is_in_period (start + 600 * i) m) ms k d lt (ap (is_in_period (start + 600 * i)) (sym is) ∙ e)
-        | false ↦ λ e. count_by_more_no (λ m. is_in_period (start + 600 * i) m) ms k d lt (ap (is_in_period (start + 600 * i)) (sym is) ∙ e) ∙ sym (add-zero (counted_in ms start k i))
-      ] refl
+      step i = grind (arith, count_by_more_yes (λ m. is_in_period (start + 600 * i) m) ms k d lt, count_by_more_no (λ m. is_in_period (start + 600 * i) m) ms k d lt)
 
       at : (i : ℕ) → i < length old → get_or new i 0 ≡ get_or (map (counted_in ms start (k + 1)) (range_with_len 0 n)) i 0
       at i below =
@@ -112,9 +83,7 @@ counted_none ms zeros start n is = is ∙ splat_is_map (range_with_len 0 n) n 0 
 -- no more activations than events
 few_passing : (test : List Event → Event → Bool) (before es : List Event) → length (passing test before es) ≤ length es
 few_passing test before [] = omega arith
-few_passing test before (e ∷ es) =
-    let rest = few_passing test (before ++ e ∷ []) es in
-    elim (test before e) as (λ b. length (cond b (e ∷ []) [] ++ passing test (before ++ e ∷ []) es) ≤ length (e ∷ es)) [ true ↦ omega (arith, rest) | false ↦ omega (arith, rest) ]
+few_passing test before (e ∷ es) = grind (arith, few_passing test (before ++ e ∷ []) es)
 
 fold_mapped : (p : ℕ → Bool) (a : ℕ) (es : List Event) → fold (λ n m. n + cond (p m) 1 0) a (map (λ e. e.moment) es) ≡ fold (λ n (e : Event). n + cond (p e.moment) 1 0) a es
 fold_mapped p a [] = refl
@@ -129,20 +98,9 @@ few_moments es moments is few =
     let less = few_passing is_activation_of [] es in
     omega (arith, long, less, few)
 
-pub counts_are : (es : List Event) (moments counts : List ℕ) (begin until : ℕ) → moments ≡ map (λ e. e.moment) (activations_of_all es)
-    → counts ≡ map (λ i. count_by (λ m. is_in_period (begin + 600 * i) m) moments) (range_with_len 0 ((until - begin) / 600)) → counts ≡ period_counts es begin until
-counts_are es moments counts begin until is counted =
-    counted
-    ∙ ap (λ ms. map (λ i. count_by (λ m. is_in_period (begin + 600 * i) m) ms) (range_with_len 0 ((until - begin) / 600))) is
-    ∙ (λ k. map (λ i. count_mapped (λ m. is_in_period (begin + 600 * i) m) (activations_of_all es) k) (range_with_len 0 ((until - begin) / 600)))
-
-pub if_ok : {A E : Type 0} (r : Result A E) (P Q : A → Type 0) → ((x : A) → P x → Q x) → IfOk r P → IfOk r Q
-if_ok (Ok x) P Q more h = more x h
-if_ok (Err e) P Q more h = tt
-
--- the same from a start and a number of periods that are those of the range
+-- from a start and a number of periods that are those of the range
 pub counts_at : (es : List Event) (moments counts : List ℕ) (begin until start periods : ℕ) → moments ≡ map (λ e. e.moment) (activations_of_all es) → start ≡ begin → periods ≡ (until - begin) / 600
     → counts ≡ map (λ i. count_by (λ m. is_in_period (start + 600 * i) m) moments) (range_with_len 0 periods) → counts ≡ period_counts es begin until
 counts_at es moments counts begin until start periods is from long counted =
-    counts_are es moments counts begin until is
-    (counted ∙ (λ k. map (λ i. count_by (λ m. is_in_period (from k + 600 * i) m) moments) (range_with_len 0 (long k))))
+    counted ∙ (λ k. map (λ i. count_by (λ m. is_in_period (from k + 600 * i) m) (is k)) (range_with_len 0 (long k)))
+    ∙ (λ k. map (λ i. count_mapped (λ m. is_in_period (begin + 600 * i) m) (activations_of_all es) k) (range_with_len 0 ((until - begin) / 600)))

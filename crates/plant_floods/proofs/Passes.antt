@@ -1,41 +1,15 @@
 -- What one more count does to the floods.
-use Rattle.std.specs.List.{list_all, slice_split, cons_option}
+use Rattle.std.specs.List.{slice_split, cons_option}
+use Rattle.std.proofs.lemmas.{Bool.{ltb-true, le-leb, Decides.{nat_tests}}, List.{append-nil, map-append, take_more, take_all, length-take-le}}
+use Rattle.std.proofs.lemmas.List.{Elements.{filter_map-append}, Folds.{list_all-append}, Sums.{fold-append, sum_by-append}}
 use Rattle.std.proofs.Common.{◌≡◌, ℕ, ◌+◌, ◌<◌, ◌≤◌, refl, sym, ap, ◌∙◌, List, [], ◌∷◌, ◌++◌, length, map, Bool, true, false, cond, arith, ◌&&◌, ◌||◌, not, Option, Some, None, sum, append_assoc, subst, length-append, zero-add, take, get_or, nat_lt, nat_le, filter_map, fold, max, option_to_list}
-use Rattle.std.proofs.{Math.Bool.{and-true}, lemmas.{Bool.{ltb-true, le-leb}, List.Elements.{filter_map-append}}}
-use Rattle.std.proofs.lemmas.List.{append-nil, map-append, take_more, take_all, length-take-le, Sums.{fold-append, sum_by-append}}
-use Rattle.plant_floods.specs.{Floods.{ends_in_flood, Period, period, periods_after, periods, run_of, floods}, Pass.{grown, next_runs}}
-use Rattle.plant_floods.{specs.declared.run.Run.{Run}, proofs.Splits.{split-yes, split-no}}
-
-and_assoc : (a b c : Bool) → (a && (b && c)) ≡ ((a && b) && c)
-and_assoc true b c = refl
-and_assoc false b c = refl
-
-all-push : (p : ℕ → Bool) (xs : List ℕ) (c : ℕ) → list_all p (xs ++ c ∷ []) ≡ (list_all p xs && p c)
-all-push p [] c = and-true (p c)
-all-push p (x ∷ xs) c = ap (λ b. p x && b) (all-push p xs c) ∙ and_assoc (p x) (list_all p xs) (p c)
+use Rattle.plant_floods.specs.{declared.run.Run.{Run}, Floods.{ends_in_flood, Period, period, periods_after, periods, run_of, floods}}
+use Rattle.plant_floods.{specs.Pass.{grown, next_runs}, proofs.Splits.{split-yes, split-no}}
 
 -- the test of the last period, with one more
-joined_by : (b f e t : Bool) → ((b && f) || ((e && f) || t)) ≡ (((b || e) && f) || t)
-joined_by true true e t = refl
-joined_by true false true t = refl
-joined_by true false false t = refl
-joined_by false f e t = refl
-
-joined : (a b f e t : Bool) → ((a && (b && f)) || ((e && f) || t)) ≡ ((((a && b) || e) && f) || t)
-joined a b f e t = ap (λ x. x || ((e && f) || t)) (and_assoc a b f) ∙ joined_by (a && b) f e t
-
-alone : (t f : Bool) → (t ≡ true → f ≡ true) → ((t && (f && true)) || false) ≡ t
-alone true true h = refl
-alone true false h = h refl
-alone false f h = refl
-
 pub ends-push : (xs : List ℕ) (c : ℕ) → ends_in_flood (xs ++ c ∷ []) ≡ ((ends_in_flood xs && nat_le 5 c) || nat_lt 10 c)
-ends-push [] c = alone (nat_lt 10 c) (nat_le 5 c) (λ h. le-leb 5 c (omega (arith, ltb-true 10 c h)))
-ends-push (x ∷ xs) c =
-    ap (λ b. (nat_lt 10 x && (nat_le 5 x && b)) || ends_in_flood (xs ++ c ∷ [])) (all-push (nat_le 5) xs c)
-    ∙ ap (λ b. (nat_lt 10 x && b) || ends_in_flood (xs ++ c ∷ [])) (and_assoc (nat_le 5 x) (list_all (nat_le 5) xs) (nat_le 5 c))
-    ∙ ap (λ b. (nat_lt 10 x && ((nat_le 5 x && list_all (nat_le 5) xs) && nat_le 5 c)) || b) (ends-push xs c)
-    ∙ joined (nat_lt 10 x) (nat_le 5 x && list_all (nat_le 5) xs) (nat_le 5 c) (ends_in_flood xs) (nat_lt 10 c)
+ends-push [] c = grind (arith, nat_tests)
+ends-push (x ∷ xs) c = grind (arith, ends-push xs c, list_all-append (nat_le 5) xs (c ∷ []))
 
 periods_after-push : (before xs : List ℕ) (c : ℕ) → periods_after before (xs ++ c ∷ []) ≡ periods_after before xs ++ period (before ++ xs) c ∷ []
 periods_after-push before [] c = ap (λ l. period l c ∷ []) (sym (append-nil before))
@@ -71,38 +45,18 @@ pub record Passed (xs : List ℕ) (runs : List Run) (current : Option Run) : Typ
 pub passed_none : Passed [] [] None
 passed_none = record { done = []; cur = []; parts = refl; runs_are = refl; current_is = refl; flag = refl; reaches = tt }
 
-cons_nil : (o : Option Run) → cons_option o [] ≡ option_to_list o
-cons_nil None = refl
-cons_nil (Some r) = refl
-
-two : (a b : List Run) (o q : Option Run) → a ≡ b → o ≡ q → b ++ option_to_list q ≡ a ++ option_to_list o
-two a b o q e f = cc
-
 pub passed_all : (xs : List ℕ) (runs : List Run) (current : Option Run) → Passed xs runs current → floods xs ≡ runs ++ option_to_list current
 unfolding floods
 passed_all xs runs current h =
-    ap (filter_map run_of) h.parts ∙ filter_map-append run_of h.done (h.cur ∷ []) ∙ ap (λ l. filter_map run_of h.done ++ l) (cons_nil (run_of h.cur)) ∙ two runs (filter_map run_of h.done) current (run_of h.cur) h.runs_are h.current_is
+    let is : floods xs ≡ filter_map run_of (h.done ++ h.cur ∷ []) = ap (filter_map run_of) h.parts in
+    let last : cons_option (run_of h.cur) [] ≡ option_to_list (run_of h.cur) = grind arith in
+    rw (h.runs_are, h.current_is) (is ∙ filter_map-append run_of h.done (h.cur ∷ []) ∙ ap (λ l. filter_map run_of h.done ++ l) last)
 
 abbrev the_run : ℕ → ℕ → ℕ → ℕ → Option Run
 the_run first last total peak = Some (record { first = first; last = last; total = total; peak = peak })
 
-sum_is : (xs : List ℕ) (c : ℕ) → sum xs + c ≡ sum (xs ++ c ∷ [])
-sum_is xs c = sym (sum_by-append (λ x. x) xs (c ∷ []) ∙ ap (λ n. sum xs + n) (zero-add c))
-
-fold_is : (xs : List ℕ) (c : ℕ) → max (fold max 0 xs) c ≡ fold max 0 (xs ++ c ∷ [])
-fold_is xs c = sym (fold-append max 0 xs (c ∷ []))
-
 run_is : (first : ℕ) {last total peak last' total' peak' : ℕ} → last ≡ last' → total ≡ total' → peak ≡ peak' → the_run first last total peak ≡ the_run first last' total' peak'
 run_is first p q r = cc
-
-not_is : (b d : Bool) → b ≡ d → not b ≡ not d
-not_is b d e = ap not e
-
-length-push : (xs : List ℕ) (c : ℕ) → length (xs ++ c ∷ []) ≡ length xs + 1
-length-push xs c = omega (arith, length-append xs (c ∷ []))
-
-length-end : (ps : List Period) (p : Period) → length (ps ++ p ∷ []) ≡ length ps + 1
-length-end ps p = omega (arith, length-append ps (p ∷ []))
 
 -- no run is open
 begin : (xs : List ℕ) (c : ℕ) (done : List (List Period)) → slice_split out (periods xs) ≡ done ++ [] ∷ [] → (b : Bool) → ends_in_flood (xs ++ c ∷ []) ≡ b
@@ -111,17 +65,17 @@ begin xs c done e true t =
     record {
       done = done;
       cur = period xs c ∷ [];
-      parts = ap (slice_split out) (periods-push xs c) ∙ split-no out (periods xs) (period xs c) done [] (not_is _ true t) e;
+      parts = ap (slice_split out) (periods-push xs c) ∙ split-no out (periods xs) (period xs c) done [] (ap not t) e;
       runs_are = refl;
       current_is = run_is (length xs) (omega arith) (omega arith) (omega arith);
       flag = t;
-      reaches = omega (arith, length-push xs c);
+      reaches = omega (arith, length-append xs (c ∷ []));
     }
 begin xs c done e false t =
     record {
       done = done ++ [] ∷ [];
       cur = [];
-      parts = ap (slice_split out) (periods-push xs c) ∙ split-yes out (periods xs) (period xs c) (not_is _ false t) ∙ ap (λ l. l ++ [] ∷ []) e;
+      parts = ap (slice_split out) (periods-push xs c) ∙ split-yes out (periods xs) (period xs c) (ap not t) ∙ ap (λ l. l ++ [] ∷ []) e;
       runs_are = sym (filter_map-append run_of done ([] ∷ []));
       current_is = refl;
       flag = t;
@@ -138,17 +92,20 @@ go_on xs c done p ps e r true t =
     record {
       done = done;
       cur = p ∷ (ps ++ period xs c ∷ []);
-      parts = ap (slice_split out) (periods-push xs c) ∙ split-no out (periods xs) (period xs c) done (p ∷ ps) (not_is _ true t) e;
+      parts = ap (slice_split out) (periods-push xs c) ∙ split-no out (periods xs) (period xs c) done (p ∷ ps) (ap not t) e;
       runs_are = refl;
-      current_is = run_is p.number (omega (arith, r, length-end ps (period xs c))) (sum_is (map (λ q. q.count) (p ∷ ps)) c ∙ ap sum (sym counts)) (fold_is (map (λ q. q.count) (p ∷ ps)) c ∙ ap (fold max 0) (sym counts));
+      current_is =
+          run_is p.number (omega (arith, r, length-append ps (period xs c ∷ [])))
+          (sym (ap sum counts ∙ sum_by-append (λ x. x) (map (λ q. q.count) (p ∷ ps)) (c ∷ []) ∙ ap (λ n. sum (map (λ q. q.count) (p ∷ ps)) + n) (zero-add c)))
+          (sym (ap (fold max 0) counts ∙ fold-append max 0 (map (λ q. q.count) (p ∷ ps)) (c ∷ [])));
       flag = t;
-      reaches = omega (arith, r, length-push xs c, length-end ps (period xs c));
+      reaches = omega (arith, r, length-append xs (c ∷ []), length-append ps (period xs c ∷ []));
     }
 go_on xs c done p ps e r false t =
     record {
       done = done ++ (p ∷ ps) ∷ [];
       cur = [];
-      parts = ap (slice_split out) (periods-push xs c) ∙ split-yes out (periods xs) (period xs c) (not_is _ false t) ∙ ap (λ l. l ++ [] ∷ []) e;
+      parts = ap (slice_split out) (periods-push xs c) ∙ split-yes out (periods xs) (period xs c) (ap not t) ∙ ap (λ l. l ++ [] ∷ []) e;
       runs_are = sym (filter_map-append run_of done ((p ∷ ps) ∷ []));
       current_is = refl;
       flag = t;
@@ -156,9 +113,7 @@ go_on xs c done p ps e r false t =
     }
 
 or_below : (f t : Bool) → (t ≡ true → f ≡ true) → (f || t) ≡ f
-or_below true t h = refl
-or_below false true h = sym (h refl)
-or_below false false h = refl
+or_below f t h = grind arith
 
 more_by : (xs : List ℕ) (c : ℕ) (done : List (List Period)) (cur : List Period) → slice_split out (periods xs) ≡ done ++ cur ∷ [] → ends_in_flood xs ≡ is_some_list cur → Reaches (length xs) cur
     → Passed (xs ++ c ∷ []) (next_runs (filter_map run_of done) (run_of cur) (grown (run_of cur) (length xs) c)) (grown (run_of cur) (length xs) c)

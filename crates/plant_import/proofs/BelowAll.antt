@@ -1,11 +1,10 @@
 -- The new rows of a file in rising number stand below each row that follows.
-use Rattle.std.specs.{Borrow.{Bor}, List.{list_all}}
+use Rattle.std.{specs.{Borrow.{Bor}, List.{list_all}}, proofs.lemmas.{Bool.{lt-ltb}, List.{append-nil, drop_more}}}
 use Rattle.std.proofs.Common.{List, [], ap, drop, get_or, length, refl, subst, sym, ◌++◌, ◌+◌, ◌<◌, ◌∙◌, ◌∷◌, ◌≡◌, ℕ, false, BTreeMap, IsTrue, MatchOption, None, Option, Some, nat_lt, not, true, ◌&&◌}
-use Rattle.std.proofs.lemmas.{Bool.{lt-ltb}, List.{append-nil, drop_more}}
 use Rattle.plant_alarm.specs.declared.event.Event.{Event}
-use Rattle.plant_import.specs.{Numbers.{AreByNumber, AreNumbered, event_number}, Relation.{AreNearest, IsLast, below, from}}
-use Rattle.plant_import.{specs.declared.relation.Nearest.{Nearest}, proofs.ByNumber.{put_in}}
-use Rattle.plant_import.proofs.public.EachLaws.{each_from_all, each_weaker, filter_all, filter_none}
+use Rattle.plant_import.specs.declared.relation.Nearest.{Nearest}
+use Rattle.plant_import.specs.{Numbers.{AreByNumber, AreNumbered, event_number}, Relation.{AreNearest, IsLast, from}}
+use Rattle.plant_import.proofs.{ByNumber.{put_in}, public.EachLaws.{each_from_all, each_weaker, filter_all, filter_none}}
 use Rattle.plant_import.proofs.public.Placed.{AllBelow, EachBehind, Rises, behind_end, put_after, rises_of}
 
 -- where all are below a number, the last is the nearest, and there is none from the number on

@@ -1,12 +1,14 @@
 -- Events by their numbers in a map: one more put, and those on both sides of a number.
-use Rattle.std.specs.{BTreeMap.{insert_entry, Range.{entries_between, range_contains}}, Cmp.{ranked}, FinMap.Entries.{by_order}, List.{list_any}}
-use Rattle.std.specs.{Ordering.{match_ordering}, declared.ops.Bound.TheVariants.{Excluded, Included, Unbounded}}
-use Rattle.std.proofs.Common.{List, [], ap, arith, refl, subst, sym, ◌++◌, ◌∙◌, ◌∷◌, is_eq, is_le, nat_cmp, Bool, Some, None, false, if◌then◌else◌, length, map, nat_lt, not, slice_get, true, ℕ, ◌-◌, ◌<◌, ◌≡◌, ◌≤◌, ◌&&◌, ◌||◌, suc, Equal, Greater, Less}
-use Rattle.std.proofs.lemmas.{Bool.{not-true, false≢true, le-ltb, lt-ltb, ltb-false, ltb-true, or_parts}, List.{map-append, Elements.{filter-append}}}
+use Rattle.std.specs.BTreeMap.{insert_entry, Range.{entries_between, range_contains}}
+use Rattle.std.specs.{Cmp.{ranked}, declared.ops.Bound.TheVariants.{Excluded, Included, Unbounded}, FinMap.Entries.{by_order}}
+use Rattle.std.{specs.List.{list_any}, proofs.lemmas.Bool.{not-true, false≢true, le-ltb, lt-ltb, ltb-false, ltb-true, or_parts}}
+use Rattle.std.proofs.lemmas.{Bool.Decides.{nat_tests}, Grind.{common_steps}, List.{map-append, Elements.{filter-append}}, Option.{slice_get-get_or}}
+use Rattle.std.proofs.Common.{List, [], ap, arith, refl, subst, sym, ◌++◌, ◌∙◌, ◌∷◌, is_eq, nat_cmp, Bool, Some, None, false, length, map, nat_lt, not, slice_get, true, ℕ, ◌-◌, ◌<◌, ◌≡◌, ◌≤◌, ◌||◌, Equal, Greater, Less}
 use Rattle.plant_alarm.specs.declared.event.Event.{Event}
 use Rattle.plant_import.specs.{Merging.{IsRising, out_of_order}, Numbers.{event_number, has_number}, Relation.{below, from}}
-use Rattle.plant_import.proofs.public.Nearest.{AreParts, order_above, order_below}
-use Rattle.plant_import.proofs.public.{EachLaws.{each_filter, filter_all, filter-of_map, filter_none, filter_parts, Each, each_weaker}, Risings.{Before, Rising, is_rising, rising_of}}
+use Rattle.plant_import.proofs.public.{Nearest.{AreParts, order_above, order_below}, Risings.{Before, Rising, is_rising, rising_of}}
+use Rattle.plant_import.proofs.public.EachLaws.{each_filter, filter_all, filter-of_map, filter_none, filter_parts, Each, each_weaker, pairs_weaker}
+use Rattle.plant_import.proofs.public.EachLaws.{split_by}
 use Rattle.plant_types.specs.KeyedRows.{put_row}
 
 abbrev pub numbered : List Event → List (ℕ × Event)
@@ -18,61 +20,23 @@ put_in = put_row nat_cmp event_number
 -- an event more
 pub put_entry : (r : Event) (es : List Event) → insert_entry nat_cmp (numbered es) r.seq r ≡ numbered (put_in r es)
 put_entry r [] = refl
-put_entry r (x ∷ xs) =
-    elim (nat_cmp r.seq x.seq) as (λ o. o ≡ nat_cmp r.seq x.seq
-    → match_ordering o ((r.seq, r) ∷ (x.seq, x) ∷ numbered xs) ((x.seq, r) ∷ numbered xs) ((x.seq, x) ∷ insert_entry nat_cmp (numbered xs) r.seq r)
-    ≡ numbered (by_order o (r ∷ x ∷ xs) (r ∷ xs) (x ∷ put_in r xs))) [
-      | Less ↦ λ _. refl
-      | Equal ↦ λ is. ap (λ n. (n, r) ∷ numbered xs) (sym (ranked r.seq x.seq Equal is))
-      | Greater ↦ λ _. ap (λ l. (x.seq, x) ∷ l) (put_entry r xs)
-    ] refl
+put_entry r (x ∷ xs) = grind (arith, nat_tests, put_entry r xs)
 
 pub values_are : (es : List Event) → map (λ e. e.1) (numbered es) ≡ es
 values_are [] = refl
 values_are (x ∷ xs) = ap (λ l. x ∷ l) (values_are xs)
 
 -- the entries on both sides of a number
-is_below : (n m : ℕ) → not (is_le (nat_cmp n m)) ≡ nat_lt m n
-is_below n m =
-    elim (nat_cmp n m) as (λ o. o ≡ nat_cmp n m → not (is_le o) ≡ nat_lt m n) [
-      | Less ↦ λ is. let lt : n < m = ranked n m Less is in sym (le-ltb m n (omega (arith, lt)))
-      | Equal ↦ λ is. let same : n ≡ m = ranked n m Equal is in sym (le-ltb m n (omega (arith, same)))
-      | Greater ↦ λ is. let gt : m < n = ranked n m Greater is in sym (lt-ltb m n gt)
-    ] refl
-
-is_from : (n m : ℕ) → (is_le (nat_cmp n m) && true) ≡ not (nat_lt m n)
-is_from n m = by (is_le (nat_cmp n m)) (nat_lt m n) (is_below n m)
-  where
-    by : (a b : Bool) → not a ≡ b → (a && true) ≡ not b
-    by true b e = ap not e
-    by false b e = ap not e
-
 pub entries_below : (n : ℕ) (es : List Event) → entries_between nat_cmp Unbounded (Excluded n) (numbered es) ≡ numbered (below n es)
-entries_below n es = filter-of_map (λ e. (e.seq, e)) (λ e. range_contains nat_cmp Unbounded (Excluded n) e.0) (λ e. nat_lt e.seq n) (λ e. is_below n e.seq) es
+entries_below n es = filter-of_map (λ e. (e.seq, e)) (λ e. range_contains nat_cmp Unbounded (Excluded n) e.0) (λ e. nat_lt e.seq n) (λ e. grind (arith, nat_tests)) es
 
 pub entries_from : (n : ℕ) (es : List Event) → entries_between nat_cmp (Included n) Unbounded (numbered es) ≡ numbered (from n es)
-entries_from n es = filter-of_map (λ e. (e.seq, e)) (λ e. range_contains nat_cmp (Included n) Unbounded e.0) (λ e. not (nat_lt e.seq n)) (λ e. is_from n e.seq) es
+entries_from n es = filter-of_map (λ e. (e.seq, e)) (λ e. range_contains nat_cmp (Included n) Unbounded e.0) (λ e. not (nat_lt e.seq n)) (λ e. grind (arith, nat_tests)) es
 
 -- rising events are those below a number and then the others
-not_below : (n : ℕ) (x : Event) → n ≤ x.seq → nat_lt x.seq n ≡ false
-not_below n x = le-ltb x.seq n
-
-whole_is : (n : ℕ) (es : List Event) → Rising es → es ≡ below n es ++ from n es
-whole_is n [] h = refl
-whole_is n (x ∷ xs) h =
-    elim (nat_lt x.seq n) as (λ b. nat_lt x.seq n ≡ b → x ∷ xs ≡ (if b then x ∷ below n xs else below n xs) ++ (if not b then x ∷ from n xs else from n xs)) [
-      | true ↦ λ _. ap (λ l. x ∷ l) (whole_is n xs h.1)
-      | false ↦ λ f.
-          let le : n ≤ x.seq = ltb-false x.seq n f in
-          let high = each_weaker (Before x) (λ y. n ≤ y.seq) (λ y b. omega (arith, le, b.0)) xs h.0 in
-          let none = each_weaker (λ y. n ≤ y.seq) (λ y. nat_lt y.seq n ≡ false) (not_below n) xs high in
-          sym (ap (λ l. l ++ x ∷ from n xs) (filter_none (λ y. nat_lt y.seq n) xs none)
-          ∙ ap (λ l. x ∷ l) (filter_all (λ y. not (nat_lt y.seq n)) xs (each_weaker (λ y. n ≤ y.seq) (λ y. not (nat_lt y.seq n) ≡ true) (λ y le. ap not (le-ltb y.seq n le)) xs high)))
-    ] refl
-
 pub halves : (n : ℕ) (es : List Event) → IsRising es → AreParts es n (below n es) (from n es)
 halves n es h =
-    let whole = whole_is n es (rising_of es h) in
+    let whole = split_by (λ e. nat_lt e.seq n) es (pairs_weaker Before (λ x y. nat_lt y.seq n ≡ true → nat_lt x.seq n ≡ true) (λ x y b t. lt-ltb x.seq n (omega (arith, b.0, ltb-true y.seq n t))) es (rising_of es h)) in
     record {
       whole = whole;
       rising = subst (λ (l : List Event). Rising l) whole (rising_of es h);
@@ -82,7 +46,7 @@ halves n es h =
 
 -- two parts of events at a number are those below it and the others
 pub below_is : (n : ℕ) (es xs ys : List Event) → AreParts es n xs ys → xs ≡ below n es
-below_is n es xs ys p = sym (ap (below n) p.whole ∙ filter_parts (λ x. nat_lt x.seq n) xs ys (each_weaker (λ x. x.seq < n) (λ x. nat_lt x.seq n ≡ true) (λ x. lt-ltb x.seq n) xs p.low) (each_weaker (λ x. n ≤ x.seq) (λ x. nat_lt x.seq n ≡ false) (not_below n) ys p.high))
+below_is n es xs ys p = sym (ap (below n) p.whole ∙ filter_parts (λ x. nat_lt x.seq n) xs ys (each_weaker (λ x. x.seq < n) (λ x. nat_lt x.seq n ≡ true) (λ x. lt-ltb x.seq n) xs p.low) (each_weaker (λ x. n ≤ x.seq) (λ x. nat_lt x.seq n ≡ false) (λ x. le-ltb x.seq n) ys p.high))
 
 pub from_is : (n : ℕ) (es xs ys : List Event) → AreParts es n xs ys → ys ≡ from n es
 from_is n es xs ys p = sym (ap (from n) p.whole ∙ filter-append (λ x. not (nat_lt x.seq n)) xs ys
@@ -90,20 +54,9 @@ from_is n es xs ys p = sym (ap (from n) p.whole ∙ filter-append (λ x. not (na
     ++ filter_all (λ x. not (nat_lt x.seq n)) ys (each_weaker (λ x. n ≤ x.seq) (λ x. not (nat_lt x.seq n) ≡ true) (λ x le. ap not (le-ltb x.seq n le)) ys p.high) i))
 
 -- an event put among those of other numbers
-either : (p q r : Bool) → (p || (q || r)) ≡ (q || (p || r))
-either true true r = refl
-either true false r = refl
-either false q r = refl
-
 pub any_put : (p : Event → Bool) (e : Event) (xs : List Event) → list_any (has_number e.seq) xs ≡ false → list_any p (put_in e xs) ≡ (p e || list_any p xs)
 any_put p e [] h = refl
-any_put p e (x ∷ xs) h =
-    let parts = or_parts (has_number e.seq x) (list_any (has_number e.seq) xs) h in
-    elim (nat_cmp e.seq x.seq) as (λ o. is_eq o ≡ false → list_any p (by_order o (e ∷ x ∷ xs) (e ∷ xs) (x ∷ put_in e xs)) ≡ (p e || (p x || list_any p xs))) [
-      | Less ↦ λ _. refl
-      | Equal ↦ λ f. absurd (false≢true (sym f))
-      | Greater ↦ λ _. ap (λ b. p x || b) (any_put p e xs parts.1) ∙ either (p x) (p e) (list_any p xs)
-    ] parts.0
+any_put p e (x ∷ xs) h = grind (arith, nat_tests, any_put p e xs)
 
 pub each_put : (P : Event → Type 0) (e : Event) (xs : List Event) → P e → Each P xs → Each P (put_in e xs)
 each_put P e [] h k = (h, tt)
@@ -143,11 +96,7 @@ pub no_first : (xs : List Event) → [] ≡ numbered xs → None ≡ slice_get x
 no_first xs e = ap (λ l. slice_get l 0) (ap (map (λ e. e.1)) e ∙ values_are xs)
 
 last_at_end : (ys : List Event) (v : Event) → Some v ≡ slice_get (ys ++ v ∷ []) (length (ys ++ v ∷ []) - 1)
-last_at_end [] v = refl
-last_at_end (y ∷ []) v = refl
-last_at_end (y ∷ z ∷ zs) v =
-    let one : length (y ∷ z ∷ zs ++ v ∷ []) - 1 ≡ suc (length (z ∷ zs ++ v ∷ []) - 1) = omega arith in
-    last_at_end (z ∷ zs) v ∙ ap (slice_get (y ∷ z ∷ zs ++ v ∷ [])) (sym one)
+last_at_end ys v = grind (arith, common_steps, slice_get-get_or (ys ++ v ∷ []) (length ys) v)
 
 pub last_value : (k : ℕ) (v : Event) (t : List (ℕ × Event)) (xs : List Event) → t ++ (k, v) ∷ [] ≡ numbered xs → Some v ≡ slice_get xs (length xs - 1)
 last_value k v t xs e =

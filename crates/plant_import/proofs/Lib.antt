@@ -8,5 +8,4 @@ pub mod public
 mod Appended
 mod ByNumber
 mod Examples
-mod CountedRising
 mod BelowAll

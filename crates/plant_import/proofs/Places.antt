@@ -1,18 +1,14 @@
 -- A record's fields by their places.
-use Rattle.std.specs.{List.{list_all}, Str.{is_utf8}}
-use Rattle.std.proofs.Common.{◌≡◌, ℕ, zero, suc, List, [], ◌∷◌, Option, refl, sym, ap, ◌∙◌, Bool, true, false, ◌&&◌, ◌+◌, ◌<◌, length, take, get_or, unwrap_or, slice_get}
-use Rattle.std.proofs.lemmas.{List.Folds.{list_all_more, list_all_at}, Option.{unwrap_or-slice_get}}
+use Rattle.std.{specs.{List.{list_all}, Str.{is_utf8}}, proofs.lemmas.{List.Folds.{list_all_more, list_all_at}, Option.{unwrap_or-slice_get}}}
+use Rattle.std.proofs.Common.{◌≡◌, ℕ, zero, suc, List, [], ◌∷◌, refl, sym, ap, ◌∙◌, Bool, true, false, ◌&&◌, ◌+◌, ◌<◌, length, take, get_or, slice_get}
 use Rattle.csv.specs.Records.{field_at}
 use Rattle.plant_import.specs.Fields.{field}
 
-field_at-get : (fields : List (List ℕ)) (i : ℕ) → field_at fields i ≡ slice_get fields i
+pub field_at_is : (fields : List (List ℕ)) (i : ℕ) → field_at fields i ≡ slice_get fields i
 unfolding field_at
-field_at-get [] i = refl
-field_at-get (f ∷ fs) zero = refl
-field_at-get (f ∷ fs) (suc i) = field_at-get fs i
-
-pub field_is : (fields : List (List ℕ)) (i : ℕ) (o : Option (List ℕ)) → o ≡ field_at fields i → unwrap_or o [] ≡ field fields i
-field_is fields i o e = ap (λ x. unwrap_or x []) (e ∙ field_at-get fields i)
+field_at_is [] i = refl
+field_at_is (f ∷ fs) zero = refl
+field_at_is (f ∷ fs) (suc i) = field_at_is fs i
 
 field-get_or : (fields : List (List ℕ)) (i : ℕ) → field fields i ≡ get_or fields i []
 field-get_or fields i = unwrap_or-slice_get fields i []

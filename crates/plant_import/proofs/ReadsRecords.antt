@@ -1,13 +1,10 @@
 -- What a read of a record does to how far a reader has come.
-use Rattle.std.proofs.Common.{Bor, ◌≡◌, ◌∙◌, ℕ, List, [], ◌∷◌, ◌++◌, Some, Ok, Err, true, false, Bool, refl, sym, inl, length, length-append, ◌+◌, arith, Result, IfOk}
-use Rattle.plant_types.specs.declared.fault.Fault.{Fault}
+use Rattle.std.proofs.Common.{Bor, ◌≡◌, ◌∙◌, ℕ, List, [], ◌∷◌, ◌++◌, Some, Ok, Err, true, false, Bool, sym, inl, length, length-append, ◌+◌, arith}
 use Rattle.plant_alarm.specs.declared.event.Event.{Event}
-use Rattle.plant_import.specs.{Reading.{bad, row_read, is_header, file_read}, Records.{HasRead, ReadsOne, AreRowsRead}}
-use Rattle.plant_import.specs.declared.bad_file.{BadFile.{BadFile}, Cause.{Cause, TheVariants.{Header}}}
-use Rattle.plant_import.proofs.RecordsReached.{all_reached, begins_with}
-use Rattle.plant_import.proofs.Rows.{AreReadRows, rows_none, rows_push, rows_stop, rows_whole, file_rows, file_no_header, file_empty}
-use Rattle.csv.specs.{Reading.{ReadRecord, default_config, strip_bom, records, took_first}, declared.reader.Reader.{Reader}}
-use Rattle.csv.proofs.ReadFacts.{rows-end, rows-more}
+use Rattle.plant_import.specs.{declared.bad_file.Cause.{Cause}, Reading.{bad, row_read}, Records.{HasRead, ReadsOne, AreRowsRead}}
+use Rattle.plant_import.proofs.{RecordsReached.{all_reached, begins_with}, Rows.{AreReadRows, rows_push, rows_stop, rows_whole}}
+use Rattle.csv.specs.declared.reader.Reader.{Reader}
+use Rattle.csv.{specs.Reading.{ReadRecord, default_config, strip_bom, records, took_first}, proofs.ReadFacts.{rows-end, rows-more}}
 use Rattle.csv.specs.declared.parser.State.TheVariants as st
 
 pub reads_one : (old new : Reader (Bor (List ℕ))) (text : List ℕ) (rows : List (List (List ℕ))) (found : Bool) (fields : List (List ℕ))
@@ -22,18 +19,15 @@ reads_one old new text rows false fields h r first =
 pub read_first : (reader : Reader (Bor (List ℕ))) (text : List ℕ) (rows : List (List (List ℕ))) → HasRead reader text rows → (rest : List (List (List ℕ))) × (records default_config (strip_bom text) ≡ rows ++ rest)
 read_first reader text rows h = begins_with default_config (strip_bom text) rows reader.state h.left h.reached
 
-found : (reader : Reader (Bor (List ℕ))) (text : List ℕ) (rows : List (List (List ℕ))) (b : Bool) (fields : List (List ℕ)) → b ≡ true → ReadsOne reader text rows b fields → HasRead reader text (rows ++ fields ∷ [])
+pub found : (reader : Reader (Bor (List ℕ))) (text : List ℕ) (rows : List (List (List ℕ))) (b : Bool) (fields : List (List ℕ)) → b ≡ true → ReadsOne reader text rows b fields → HasRead reader text (rows ++ fields ∷ [])
 found reader text rows b fields e h = rw e at h
 
-none : (reader : Reader (Bor (List ℕ))) (text : List ℕ) (rows : List (List (List ℕ))) (b : Bool) (fields : List (List ℕ)) → b ≡ false → ReadsOne reader text rows b fields → records default_config (strip_bom text) ≡ rows
+pub none : (reader : Reader (Bor (List ℕ))) (text : List ℕ) (rows : List (List (List ℕ))) (b : Bool) (fields : List (List ℕ)) → b ≡ false → ReadsOne reader text rows b fields → records default_config (strip_bom text) ≡ rows
 none reader text rows b fields e h = rw e at h
 
 -- how far the rows below the header are read: these, which have no fault
 abbrev pub ReadsRows : Reader (Bor (List ℕ)) → List ℕ → List (List ℕ) → List Event → ℕ → Type 0
 ReadsRows reader text header events place = (rows : List (List (List ℕ))) × HasRead reader text (header ∷ rows) × AreReadRows rows events × (place ≡ length rows + 1)
-
-pub reads_none : (reader : Reader (Bor (List ℕ))) (text : List ℕ) (header : List (List ℕ)) → HasRead reader text (header ∷ []) → ReadsRows reader text header [] 1
-reads_none reader text header h = ([], h, rows_none, refl)
 
 pub reads_more : (old new : Reader (Bor (List ℕ))) (text : List ℕ) (header : List (List ℕ)) (events : List Event) (place : ℕ) (b : Bool) (fields : List (List ℕ)) (event : Event)
     → ReadsRows old text header events place → ((rows : List (List (List ℕ))) → HasRead old text rows → ReadsOne new text rows b fields) → b ≡ true → row_read place fields ≡ Ok event
@@ -52,20 +46,3 @@ pub reads_all : (old new : Reader (Bor (List ℕ))) (text : List ℕ) (header : 
     → ReadsRows old text header events place → ((rows : List (List (List ℕ))) → HasRead old text rows → ReadsOne new text rows b fields) → b ≡ false
     → AreRowsRead text header (Ok events)
 reads_all old new text header events place b fields h one e = (h.0, none new text (header ∷ h.0) b fields e (one (header ∷ h.0) h.1), sym (rows_whole h.0 events h.2))
-
--- the file
-pub no_first : (old new : Reader (Bor (List ℕ))) (text : List ℕ) (b : Bool) (fields : List (List ℕ)) → HasRead old text [] → ((rows : List (List (List ℕ))) → HasRead old text rows → ReadsOne new text rows b fields) → b ≡ false
-    → file_read text ≡ Err (bad 1 Header)
-no_first old new text b fields h one e = file_empty text (none new text [] b fields e (one [] h))
-
-pub first_read : (old new : Reader (Bor (List ℕ))) (text : List ℕ) (b : Bool) (fields : List (List ℕ)) → HasRead old text [] → ((rows : List (List (List ℕ))) → HasRead old text rows → ReadsOne new text rows b fields) → b ≡ true
-    → HasRead new text (fields ∷ [])
-first_read old new text b fields h one e = found new text [] b fields e (one [] h)
-
-pub no_header : (reader : Reader (Bor (List ℕ))) (text : List ℕ) (fields : List (List ℕ)) → HasRead reader text (fields ∷ []) → is_header fields ≡ false → file_read text ≡ Err (bad 1 Header)
-no_header reader text fields h is = let all = read_first reader text (fields ∷ []) h in file_no_header text fields all.0 all.1 is
-
-pub header_then : (r : Result (Result (List Event) BadFile) Fault) (reader : Reader (Bor (List ℕ))) (text : List ℕ) (fields : List (List ℕ)) → HasRead reader text (fields ∷ []) → is_header fields ≡ true
-    → IfOk r (λ read. (text : List ℕ) → (header : List (List ℕ)) → HasRead reader text (header ∷ []) → AreRowsRead text header read) → IfOk r (λ read. read ≡ file_read text)
-header_then (Ok read) reader text fields h is told = let t = told text fields h in t.2 ∙ sym (file_rows text fields t.0 t.1 is)
-header_then (Err e) reader text fields h is told = tt

@@ -1,6 +1,6 @@
 -- The records that a reader reaches, one after another, are those of the text.
-use Rattle.std.proofs.Common.{◌≡◌, ℕ, zero, suc, ◌+◌, ◌<◌, sym, ap, ◌∙◌, arith, List, [], ◌∷◌, ◌++◌, length, Bool, true, false, cond, Some, None, append-nil, refl, ◌⊎◌, inl, inr}
-use Rattle.csv.specs.Machine.{Read, next_record, step, is_end, ends_at_end, fields_after, field_after}
+use Rattle.std.proofs.Common.{◌≡◌, ℕ, zero, suc, ◌+◌, ◌<◌, sym, ap, ◌∙◌, arith, List, [], ◌∷◌, ◌++◌, length, Bool, cond, Some, None, append-nil, refl, ◌⊎◌, inl, inr}
+use Rattle.csv.specs.Machine.{Read, next_record, step, ends_at_end, fields_after, field_after}
 use Rattle.csv.specs.{Reading.{records, records_from, records_next, Reached}, declared.parser.{Config.{Config}, State.{State}}}
 use Rattle.csv.specs.declared.parser.State.TheVariants as st
 
@@ -9,24 +9,13 @@ abbrev IsOver : State → List ℕ → Type 0
 IsOver s xs = (s ≡ st.StartRecord) × (xs ≡ [])
 
 at_end : (b : Bool) (fields : List (List ℕ)) (p : Read) → cond b (Some (fields, st.StartRecord, [])) None ≡ Some p → IsOver p.1 p.2
-at_end true fields p e = let q : Read = (fields, st.StartRecord, []) in let same : q ≡ p = cc in (ap (λ (r : Read). r.1) (sym same), ap (λ (r : Read). r.2) (sym same))
-at_end false fields p e = cc
+at_end b fields p e = (grind arith, grind arith)
 
 -- a record takes a byte, or it is the last
 takes : (cfg : Config) (s : State) (fields : List (List ℕ)) (field xs : List ℕ) (p : Read) → next_record cfg s fields field xs ≡ Some p → (length p.2 < length xs) ⊎ IsOver p.1 p.2
 unfolding next_record
 takes cfg s fields field [] p e = inr (at_end (ends_at_end s) (fields ++ (field ∷ [])) p e)
-takes cfg s fields field (c ∷ rest) p e = by (is_end (step cfg s c).1) e (takes cfg (step cfg s c).0 (fields_after (step cfg s c).1 fields field) (field_after (step cfg s c).1 c field) rest p)
-  where
-    by : (b : Bool) → cond b (Some (fields_after (step cfg s c).1 fields field, (step cfg s c).0, rest)) (next_record cfg (step cfg s c).0 (fields_after (step cfg s c).1 fields field) (field_after (step cfg s c).1 c field) rest) ≡ Some p
-        → (next_record cfg (step cfg s c).0 (fields_after (step cfg s c).1 fields field) (field_after (step cfg s c).1 c field) rest ≡ Some p → (length p.2 < length rest) ⊎ IsOver p.1 p.2)
-        → (length p.2 < length (c ∷ rest)) ⊎ IsOver p.1 p.2
-    by true e more =
-        let q : Read = (fields_after (step cfg s c).1 fields field, (step cfg s c).0, rest) in
-        let same : q ≡ p = cc in
-        let w : length rest ≡ length p.2 = ap (λ (r : Read). length r.2) same in
-        inl (omega (arith, w))
-    by false e more = elim (more e) [ inl less ↦ inl (omega (arith, less)) | inr over ↦ inr over ]
+takes cfg s fields field (c ∷ rest) p e = grind (arith, takes cfg (step cfg s c).0 (fields_after (step cfg s c).1 fields field) (field_after (step cfg s c).1 c field) rest p)
 
 -- the records reached, and then those that are left
 record Continues (cfg : Config) (n : ℕ) (s : State) (xs : List ℕ) (rows : List (List (List ℕ))) (s2 : State) (ys : List ℕ) : Type 0 where

@@ -1,4 +1,5 @@
 pub mod EachLaws
+pub mod FreshLaws
 pub mod Placed
 pub mod Counted
 pub mod Risings

@@ -20,6 +20,7 @@ fn all_digits(field: &[u8]) -> bool
     field.iter().all(|byte| byte.is_ascii_digit())
 }
 
+#[tactic(auto, using(crate::proofs::Digits::room_below))]
 fn value_of(digits: &[u8]) -> u64
     requires few { length digits.now ≤ 12 }
     requires digits { IsTrue (list_all is_digit digits.now) }

@@ -129,6 +129,7 @@ fn add(
 
 /// Whether a row is new beside the kept events and the earlier rows that were new, of which these are the nearest,
 /// or its first fault.
+#[tactic(auto, unfolding(crate::specs::Merging::merge_fault))]
 fn judged(
     kept: &[Event],
     nearest: Nearest<'_>,

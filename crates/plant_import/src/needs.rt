@@ -80,6 +80,7 @@ fn is_late(lasts: &BTreeMap<Tag, Number>, events: &[Event], row: &Event) -> bool
 }
 
 /// Whether a row has a new number, and a kept event of its alarm a greater one. The kept events are in rising number.
+#[tactic(auto, using(crate::proofs::public::NeededLaws::near_late, std::proofs::lemmas::List::take_all))]
 pub fn has_late(alloc: Global, kept: &[Event], rows: &[Event]) -> Result<bool, Fault>
     ensures value { AreNumbered kept.now
         → IfOk result (λ late. late ≡ needs.has_late kept.now rows.now) }

@@ -12,7 +12,7 @@ use crate::relation::place_of;
 use plant_alarm::{Event, Number};
 use plant_types::{Fault, List, duplicated};
 use std::alloc::Global;
-use std::collections::{BTreeMap, BTreeSet};
+use std::collections::BTreeMap;
 
 /// Whether the event at a place, if there is one, has this number.
 fn is_at(events: &[Event], place: usize, number: Number) -> bool
@@ -62,13 +62,8 @@ pub fn count_new(alloc: Global, kept: &[Event], file: &[Event]) -> Result<usize,
     if rise(file) {
         return Ok(count_rising(kept, file));
     }
-    let mut numbers = BTreeSet::new(alloc);
-    for event in file {
-        if !has_number(kept, event.seq) {
-            numbers.insert(event.seq)?;
-        }
-    }
-    Ok(numbers.len())
+    let rising = in_rising_number(alloc, duplicated(alloc, file)?)?;
+    Ok(count_rising(kept, rising.as_slice()))
 }
 
 /// Puts an event among others by their numbers, over the one of its number if any.

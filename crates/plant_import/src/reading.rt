@@ -74,6 +74,7 @@ fn read_rows(alloc: Global, mut reader: Reader<&[u8]>) -> Result<FileRead, Fault
 }
 
 /// The event of the row at a place from 1, or its first fault.
+#[tactic(auto, unfolding(crate::specs::Fields::row_fault, crate::specs::Fields::event_in))]
 fn read_row(alloc: Global, place: u64, row: &ByteRecord) -> Result<Result<Event, Cause>, Fault>
     ensures value { IfOk result (λ read. read ≡ row_read place (fields_of row.now)) }
     ensures err { OnlyMemory result }

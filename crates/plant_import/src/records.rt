@@ -32,6 +32,7 @@ pub fn next_record(reader: &mut Reader<&[u8]>, row: &mut ByteRecord) -> Result<b
 }
 
 /// A field of a record, empty past the last.
+#[tactic(auto, using(crate::proofs::Places::field_at_is))]
 pub fn field(row: &ByteRecord, place: usize) -> &[u8]
     ensures { result.now ≡ fields.field (fields_of row.now) place }
 {

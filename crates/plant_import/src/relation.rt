@@ -85,13 +85,13 @@ pub fn relation_of(nearest: Nearest<'_>, event: &Event) -> Relation
             };
         }
     }
-    if is_before_last(event, nearest.below) {
-        return Relation::OutOfOrder;
+    let is_early = is_before_last(event, nearest.below);
+    let is_late = is_after_first(event, nearest.from);
+    if is_early || is_late {
+        Relation::OutOfOrder
+    } else {
+        Relation::New
     }
-    if is_after_first(event, nearest.from) {
-        return Relation::OutOfOrder;
-    }
-    Relation::New
 }
 
 /// How many of the events, which stand in rising number, have a smaller number.
@@ -104,6 +104,7 @@ pub fn place_of(events: &[Event], seq: Number) -> usize
 }
 
 /// Whether an event is earlier than the last of others, and so than one of them.
+#[tactic(auto, using(crate::proofs::public::Risings::last_none))]
 fn is_before_last(event: &Event, last: Option<&Event>) -> bool
     ensures { (es : List TheEvent) → IsRising es → IsLast es last.entry
         → result ≡ list_any (λ e. nat_lt event.now.moment e.moment) es }
@@ -115,6 +116,7 @@ fn is_before_last(event: &Event, last: Option<&Event>) -> bool
 }
 
 /// Whether an event is later than the first of others, and so than one of them.
+#[tactic(auto, using(crate::proofs::public::Risings::first_none))]
 fn is_after_first(event: &Event, first: Option<&Event>) -> bool
     ensures { (es : List TheEvent) → IsRising es → IsFirst es first.entry
         → result ≡ list_any (λ e. nat_lt e.moment event.now.moment) es }

@@ -87,17 +87,11 @@ true_without u there after (c ∷ es) apart same h =
 pub count_removed : (u : Name) (es : List Copy) (c : Copy) → lookup_entry (same_name u) es ≡ Some c → rows_of_all es ≡ row_count c.1.rows + rows_of_all (remove_entry (same_name u) es)
 count_removed u [] c e = absurd (cc e)
 count_removed u (d ∷ es) c e =
-    elim (same_name u d.0) as (λ b. cond b (Some d) (lookup_entry (same_name u) es) ≡ Some c → row_count d.1.rows + rows_of_all es ≡ row_count c.1.rows + rows_of_all (cond b es (d ∷ remove_entry (same_name u) es))) [
-      | true ↦ λ q. let same : d ≡ c = cc q in ap (λ (x : Copy). row_count x.1.rows + rows_of_all es) same
-      | false ↦ λ q. let rest = count_removed u es c q in omega (arith, rest)
-    ] e
+    let here : ◌≡◌ {A = Option Copy} (Some d) (Some c) → row_count d.1.rows ≡ row_count c.1.rows = λ q. let same : d ≡ c = cc q in ap (λ (x : Copy). row_count x.1.rows) same in
+    grind (arith, here, count_removed u es c)
 
 pub count_promoted : (u : Name) (es : List Copy) → rows_of_all (promoted (same_name u) es) ≡ rows_of_all es
-count_promoted u es = by (lookup_entry (same_name u) es) refl
-  where
-    by : (o : Option Copy) → lookup_entry (same_name u) es ≡ o → rows_of_all (option_map_or (λ c. c ∷ remove_entry (same_name u) es) o es) ≡ rows_of_all es
-    by None e = refl
-    by (Some c) e = sym (count_removed u es c e)
+count_promoted u es = grind (arith, count_removed u es)
 
 pub count_taken : (n : ℕ) (es : List Copy) → rows_of_all (take n es) ≤ rows_of_all es
 count_taken zero es = omega arith
@@ -119,11 +113,7 @@ count_last (d ∷ es) c e =
 
 pub count_rest : (u : Name) (es : List Copy) → rows_of_all (remove_entry (same_name u) es) ≤ rows_of_all es
 count_rest u [] = omega arith
-count_rest u (d ∷ es) =
-    elim (same_name u d.0) as (λ b. rows_of_all (cond b es (d ∷ remove_entry (same_name u) es)) ≤ row_count d.1.rows + rows_of_all es) [
-      | true ↦ omega arith
-      | false ↦ let rest = count_rest u es in omega (arith, rest)
-    ]
+count_rest u (d ∷ es) = grind (arith, count_rest u es)
 
 pub count_put : (c : LruCache Name AtHand) (u : Name) (copy : AtHand) → rows_of_all (put_entries same_name c u copy) ≤ row_count copy.rows + rows_of_all c.entries
 count_put c u copy = by (lookup_entry (same_name u) c.entries) refl
@@ -135,25 +125,19 @@ count_put c u copy = by (lookup_entry (same_name u) c.entries) refl
 -- ---- what is at hand of the rows that there are
 
 pub is_there : (b : Bool) (o : Option UnitRows) (rows : UnitRows) → option_map (seen b) o ≡ Some rows → true ≡ is_some o
-is_there b None rows e = absurd (cc e)
-is_there b (Some r) rows e = refl
+is_there b o rows e = grind arith
 
 pub all_there : (b : Bool) (o : Option UnitRows) (rows : UnitRows) → b ≡ true → option_map (seen b) o ≡ Some rows → o ≡ Some rows
-all_there true None rows whole e = absurd (cc e)
-all_there true (Some r) rows whole e = e
-all_there false o rows whole e = absurd (cc whole)
+all_there b o rows whole e = grind arith
 
 seen_but_events : (b : Bool) (rows : UnitRows) → without_events (seen b rows) ≡ without_events rows
-seen_but_events true rows = refl
-seen_but_events false rows = refl
+seen_but_events b rows = grind arith
 
 pub all_but_events : (b : Bool) (o : Option UnitRows) (rows : UnitRows) → option_map (seen b) o ≡ Some rows → Some (without_events rows) ≡ option_map without_events o
-all_but_events b None rows e = absurd (cc e)
-all_but_events b (Some r) rows e = let same : seen b r ≡ rows = cc e in ap (λ x. Some (without_events x)) (sym same) ∙ ap (λ x. Some x) (seen_but_events b r)
+all_but_events b o rows e = grind (arith, seen_but_events b)
 
 events_again : (b : Bool) (rows : UnitRows) → record (seen b rows) { events = rows.events } ≡ rows
-events_again true rows = refl
-events_again false rows = refl
+events_again b rows = grind arith
 
 pub seen_with_events : (b : Bool) (o : Option UnitRows) (rows : UnitRows) → option_map (seen b) o ≡ Some rows → o ≡ Some (record rows { events = (unwrap_or o no_rows).events })
 seen_with_events b None rows e = absurd (cc e)
@@ -172,24 +156,21 @@ part_there c b None rows e h = absurd (cc e)
 part_there c b (Some r) rows e h = let same : seen b r ≡ rows = cc e in ap (λ x. Some x) (h r same)
 
 pub part_seen : (c : Call) (b : Bool) (kept rows : UnitRows) → seen b rows ≡ kept → looks_at_events c.request ≡ false → part_of c kept ≡ part_of c rows
-part_seen c true kept rows e none = ap (part_of c) (sym e)
-part_seen c false kept rows e none = ap (part_of c) (sym e) ∙ part_without c rows none
+part_seen c b kept rows e none = grind (arith, part_without c rows)
 
 -- ---- what changes of a unit leave of the others, and what they make of the unit
 
 pub others_stay : (m : Content) (u : Name) (cs : List RowEdit) (v : Name) → same_name u v ≡ false → get (after_changes m u cs).units v ≡ get m.units v
-others_stay m u cs v e = get-insert name_total m.units u (changed_by cs (rows_in m u)) v ∙ ap (λ b. cond b (Some (changed_by cs (rows_in m u))) (get m.units v)) ((eq_by_cmp_equiv name_total).symm v u ∙ e)
+others_stay m u cs v e = grind (arith, get-insert name_total m.units u (changed_by cs (rows_in m u)) v, (eq_by_cmp_equiv name_total).symm v u)
 
 pub unit_after : (m : Content) (u : Name) (cs : List RowEdit) → get (after_changes m u cs).units u ≡ Some (changed_by cs (rows_in m u))
-unit_after m u cs = get-insert name_total m.units u (changed_by cs (rows_in m u)) u ∙ ap (λ b. cond b (Some (changed_by cs (rows_in m u))) (get m.units u)) ((eq_by_cmp_equiv name_total).refl u)
+unit_after m u cs = grind (arith, get-insert name_total m.units u (changed_by cs (rows_in m u)) u, (eq_by_cmp_equiv name_total).refl u)
 
 seen_changed : (b : Bool) (cs : List RowEdit) (rows : UnitRows) → (not b && puts_event cs) ≡ false → seen b (changed_by cs rows) ≡ changed_by cs (seen b rows)
-seen_changed true cs rows none = refl
-seen_changed false cs rows none = sym (changed_without cs rows none)
+seen_changed b cs rows none = grind (arith, changed_without cs rows)
 
 seen_rows : (b : Bool) (o : Option UnitRows) (rows : UnitRows) → option_map (seen b) o ≡ Some rows → seen b (unwrap_or o no_rows) ≡ rows
-seen_rows b None rows e = absurd (cc e)
-seen_rows b (Some r) rows e = cc e
+seen_rows b o rows e = grind arith
 
 -- a copy after changes is one of the unit after them
 pub changed_there : (m : Content) (u : Name) (cs : List RowEdit) (copy after : AtHand) → IsCopy (get m.units) (u, copy) → after.has_events ≡ copy.has_events → after.rows ≡ changed_by cs copy.rows → (not copy.has_events && puts_event cs) ≡ false → IsCopy (get (after_changes m u cs).units) (u, after)

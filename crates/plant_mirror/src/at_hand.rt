@@ -36,6 +36,7 @@ impl AtHand {
     }
 
     /// Whether the call looks at nothing that is missing here. A caller who holds no role looks at no event.
+    #[tactic(auto, using(crate::proofs::CopyLaws::part_seen))]
     pub fn serves(&self, call: &Call) -> bool
         ensures { IsTrue result → (rows : TheRows) → seen self.now.has_events rows ≡ self.now.rows
             → part_of call.now self.now.rows ≡ part_of call.now rows }

@@ -36,6 +36,7 @@ impl Copies {
     }
 
     /// Makes the unit the one last used, if its rows are at hand.
+    #[tactic(auto, using(crate::proofs::CopyLaws::count_promoted, crate::proofs::CopyLaws::true_promoted))]
     pub fn touch(&mut self, unit: &UnitCode)
         ensures kept { StayCopies self.old.units.entries self.new.units.entries }
         ensures limit { self.new.limit ≡ self.old.limit }
@@ -83,6 +84,7 @@ impl Copies {
     }
 
     /// Takes the unit's rows out, with the code that they were kept under.
+    #[tactic(auto, using(crate::proofs::CopyLaws::count_removed, crate::proofs::CopyLaws::count_rest, crate::proofs::CopyLaws::true_without))]
     pub fn take(&mut self, unit: &UnitCode) -> Option<(UnitCode, AtHand)>
         ensures taken { result ≡ lookup_entry (same_name unit.now) self.old.units.entries }
         ensures rest { (there after : There) → DiffersAt unit.now there after
@@ -105,6 +107,7 @@ impl Copies {
     }
 
     /// Lets the unit go that was longest not used.
+    #[tactic(auto, using(crate::proofs::CopyLaws::count_last, crate::proofs::CopyLaws::count_taken, crate::proofs::CopyLaws::true_taken))]
     fn drop_last(&mut self)
         ensures kept { StayCopies self.old.units.entries self.new.units.entries }
         ensures limit { self.new.limit ≡ self.old.limit }
@@ -144,6 +147,7 @@ impl Copies {
     }
 
     /// Puts a copy, for which there is room.
+    #[tactic(auto, using(crate::proofs::CopyLaws::count_put, crate::proofs::CopyLaws::true_put))]
     fn put(&mut self, unit: UnitCode, copy: AtHand, more: u128)
         requires room { self.old.rows + more ≤ self.old.limit }
         requires counted { more ≡ copies.row_count copy.rows }

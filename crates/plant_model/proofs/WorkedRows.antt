@@ -2,19 +2,20 @@
 use Rattle.std.proofs.Common.{refl, List, Some, [], codes, true, ◌∷◌, ◌≡◌}
 use Rattle.plant_model.specs.{Calls.{changes_for}, Facts.{facts}, Parts.{part_of}, Refusals.{holds_some}, RowChanges.{changed_by, no_rows}}
 use Rattle.plant_model.specs.{RowFacts.{facts_in}, Rows.{rows_of}, Verdicts.{verdict, verdict_of}, declared.call.Call.{Call}}
-use Rattle.plant_model.specs.declared.call.Request.TheVariants.{Grant, OneShotShelve, OpenUnit, PlaceInService, Register, RemoveFromService, TimedShelve, Unshelve, Withdraw}
-use Rattle.plant_model.proofs.public.Base.{amy, ann, at, base, bob, call, eve, grid, lt, moe, opened, pt, root, ste, u1, vic, x}
+use Rattle.plant_model.specs.declared.call.Request.TheVariants.{Grant, OneShotShelve, OpenUnit, Register, TimedShelve, Unshelve, Withdraw}
+use Rattle.plant_model.proofs.public.Base.{amy, ann, at, base, bob, call, eve, grid, lt, opened, pt, root, ste, u1, vic, x}
 use Rattle.plant_ration.specs.declared.cell.Cell.TheVariants.{P1, P2, P3, P4}
 use Rattle.plant_types.specs.declared.role.Role.TheVariants.{Viewer}
 
-abbrev IsByPart : List Call → Call → Type 0
+-- the part of the rows that the call looks at gives its verdict and its changes
+abbrev pub IsByPart : List Call → Call → Type 0
 IsByPart h c = (verdict_of (facts_in (part_of c (rows_of h))) c ≡ verdict h c) × (changed_by (changes_for (facts_in (part_of c (rows_of h))) c) (rows_of h) ≡ rows_of (c ∷ h))
 
 opening_rows : changed_by (changes_for (facts []) (call root (at 8 0 0) (OpenUnit u1 ste (grid 300) 2000))) no_rows ≡ rows_of opened
 opening_rows = refl
 
 -- a history with shelves of both kinds and a grant that ends
-abbrev rich : List Call
+abbrev pub rich : List Call
 rich =
     call ann (at 9 36 0) (OneShotShelve u1 lt x) ∷ call ann (at 9 35 0) (TimedShelve u1 pt 60 x)
     ∷ call ste (at 9 0 0) (Grant u1 amy (Viewer, Some (at 12 0 0))) ∷ base
@@ -30,10 +31,6 @@ registered = (refl, refl)
 shelved_rows : IsByPart rich (call ann (at 10 0 0) (TimedShelve u1 lt 60 x)) × IsByPart rich (call ann (at 10 0 0) (OneShotShelve u1 pt x)) × IsByPart rich (call ann (at 10 0 0) (Unshelve u1 lt))
 unfolding holds_some
 shelved_rows = ((refl, refl), (refl, refl), (refl, refl))
-
-service_rows : IsByPart rich (call moe (at 10 0 0) (RemoveFromService u1 pt x)) × IsByPart (call moe (at 9 40 0) (RemoveFromService u1 lt x) ∷ rich) (call moe (at 10 0 0) (PlaceInService u1 lt))
-unfolding holds_some
-service_rows = ((refl, refl), (refl, refl))
 
 -- the rows of the opening's matrix
 matrix_rows : (rows_of opened).cells ≡

@@ -1,12 +1,13 @@
 -- Worked examples: out of service, and the list of alarms.
-use Rattle.std.proofs.Common.{refl, ◌≡◌, List, None, Ok, Some, [], codes, false, true, ◌∷◌}
+use Rattle.std.proofs.Common.{refl, ◌≡◌, List, None, Ok, Option, Some, [], codes, false, option_map, true, ℕ, ◌∷◌}
 use Rattle.plant_alarm.specs.declared.{shelf.ShelfState.TheVariants.{TimedShelved, Unshelved}, summary.AlarmState.TheVariants.{Normal}}
-use Rattle.plant_model.specs.{Refusals.{holds_some}, Rows.{alarm_row}, Verdicts.{verdict}, declared.call.Call.{Call}}
+use Rattle.plant_model.specs.{Refusals.{holds_some}, Rows.{alarm_row}, Verdicts.{verdict}, declared.{call.Call.{Call}, rows.AlarmRow.{AlarmRow}}}
 use Rattle.plant_model.specs.declared.call.Request.TheVariants.{Alarms, PlaceInService, RemoveFromService, Standing, TimedShelve}
 use Rattle.plant_model.specs.declared.reply.Refused.TheVariants.{AlarmUnknown, AlreadyOutOfService, NotOutOfService, RoleLacking}
 use Rattle.plant_model.specs.declared.reply.Reply.TheVariants.{Alarms as AlarmsOf, Standing as StandingOf, Status as StatusOf}
+use Rattle.plant_model.proofs.WorkedRows.{IsByPart, rich}
 use Rattle.plant_model.proofs.public.Base.{IsAnswered, IsDone, ann, at, base, call, lt, moe, pt, status, u1, vic, x}
-use Rattle.plant_types.specs.declared.role.Role.TheVariants.{Maintainer}
+use Rattle.plant_types.specs.{Names.{Name}, declared.role.Role.TheVariants.{Maintainer}}
 
 -- removed from service
 abbrev removed : List Call
@@ -49,5 +50,13 @@ unfolding holds_some
 placement = (refl, refl, refl)
 
 -- the row of an alarm that is out of service tells since when, by whom and why
-removed_row : alarm_row removed pt ≡ Some (record { tag = pt; latching = false; max_s = 3600; max_rev = 0; state_no = Normal; suppressed = false; active_s = None; return_s = None; out_s = Some (at 10 0 0); out_by = Some moe; out_words = Some (codes "valve") })
+abbrev outage : AlarmRow → Option ℕ × Option Name × Option Name
+outage r = (r.out_s, r.out_by, r.out_words)
+
+removed_row : option_map outage (alarm_row removed pt) ≡ Some (Some (at 10 0 0), Some moe, Some (codes "valve"))
 removed_row = refl
+
+-- the rows of a unit with shelves and a grant that ends
+service_rows : IsByPart rich (call moe (at 10 0 0) (RemoveFromService u1 pt x)) × IsByPart (call moe (at 9 40 0) (RemoveFromService u1 lt x) ∷ rich) (call moe (at 10 0 0) (PlaceInService u1 lt))
+unfolding holds_some
+service_rows = ((refl, refl), (refl, refl))

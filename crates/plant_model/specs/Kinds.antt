@@ -103,6 +103,7 @@ traits_of kind.Floods = (Reads, None, count.Nothing)
 traits_of kind.MyUnits = (Reads, None, count.Nothing)
 traits_of kind.MyShelves = (Reads, None, count.Nothing)
 
+-- each of them by itself
 abbrev pub effect_of : CallKind → Effect
 effect_of k = (traits_of k).0
 

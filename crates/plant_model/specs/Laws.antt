@@ -49,6 +49,10 @@ OthersCallsCanGo =
 abbrev pub NextWorldsAreLegal : Type 0
 NextWorldsAreLegal = (w : World) (c : Call) → IsLegalWorld w → has_matrix c.request ≡ true → IsLegalWorld (next w c)
 
+-- and so is the world in which no unit was opened
+abbrev pub FirstWorldsAreLegal : Type 0
+FirstWorldsAreLegal = (admin : Name) → IsLegalWorld (empty_world admin)
+
 -- no grant of the request has an end
 abbrev pub is_for_good : Option (Pair × Said (Option ℕ)) → Bool
 is_for_good None = true

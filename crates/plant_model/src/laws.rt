@@ -1,7 +1,7 @@
 //! What holds of the definitions alone: contracts that stand on empty bodies.
 
 ghost use Rattle.plant_model.specs.ImportLaw.{ImportsAgree};
-ghost use Rattle.plant_model.specs.Laws.{UnseenCallsChangeNothing, CodesAreTheAdministrators, EqualViewsEqualAnswers, CallsToSeenUnits, OthersCallsCanGo, NextWorldsAreLegal, WithoutEndsStandingIsHolding, QuotaOf2000RefusesNothing, ShelvesEndByReturns};
+ghost use Rattle.plant_model.specs.Laws.{UnseenCallsChangeNothing, CodesAreTheAdministrators, EqualViewsEqualAnswers, CallsToSeenUnits, FirstWorldsAreLegal, OthersCallsCanGo, NextWorldsAreLegal, WithoutEndsStandingIsHolding, QuotaOf2000RefusesNothing, ShelvesEndByReturns};
 ghost use Rattle.plant_model.specs.Openings.{HistoriesAreOwn};
 
 /// Isolation: what one person sees of two worlds.
@@ -18,10 +18,11 @@ pub fn purged()
     ensures { OthersCallsCanGo }
 {}
 
-/// The next world of a world of legal histories is one.
-#[tactic(auto, using(crate::proofs::public::LegalLaws::next_legal))]
+/// The world in which no unit was opened has legal histories, and the next world of a world that has them.
+#[tactic(auto, using(crate::proofs::public::LegalLaws::empty_legal, crate::proofs::public::LegalLaws::next_legal))]
 pub fn histories_stay_legal()
-    ensures { NextWorldsAreLegal }
+    ensures first { FirstWorldsAreLegal }
+    ensures next { NextWorldsAreLegal }
 {}
 
 /// Each unit's history is its own: opened by the administrator, with values of their sets.

@@ -12,7 +12,7 @@ use Rattle.plant_model.specs.declared.reply.{Answer.TheVariants.{Fault as Faulte
 use Rattle.plant_model.specs.declared.reply.{Refused.{Refused, TheVariants.{MomentBehind, NotGranted}}, Reply.{Reply, TheVariants.{Mine, Units}}}
 use Rattle.plant_model.specs.declared.{reply.UnitLine.{UnitLine}, rows.{AlarmRow.{AlarmRow}, RowEdit.{RowEdit}, UnitPart.{UnitPart}}}
 use Rattle.plant_model.specs.declared.rows.{UnitRows.{UnitRows}, Verdict.{Verdict, TheVariants.{Accepted as IsAccepted, Refused as IsRefused}}}
-use Rattle.plant_model.proofs.public.{Base.{lt}, FactLaws.{alarm_in}, HeldLaws.{any_of_rows, roles_of_rows}}
+use Rattle.plant_model.proofs.public.{FactLaws.{alarm_in}, HeldLaws.{any_of_rows, roles_of_rows}, ReadLaws.{filter_map-map}}
 use Rattle.plant_model.proofs.public.LegalLaws.{next_legal, own_units_after, same_unit, there_of_held}
 use Rattle.plant_model.proofs.public.WorldLaws.{Said, equal_views, not_granted, refused_changes, same_keys, same_seen, view_alike}
 use Rattle.plant_books.specs.Contents.{Content, IsKnownTo, after_changes, mine_row, mine_shelves, mine_unit, mine_units, part_in, rows_in, shelves_mine, with_rows}
@@ -39,12 +39,9 @@ part_left w c u (Some h) legal is = (refl, legal u h is)
 held_part : (b : Content) (w : World) (c : Call) (u : Name) → IsLegalWorld w → Holds b w → IsPartOf (part_in b c u) (history w u) c
 held_part b w c u legal h = subst (λ o. IsPartOf (option_map (part_of c) o) (history w u) c) (sym (h.rows u)) (part_left w c u (get w.units u) legal refl)
 
--- the rows of a unit that is there
-rows_there : (b : Content) (w : World) (u : Name) (h : List Call) → Holds b w → get w.units u ≡ Some h → rows_in b u ≡ rows_of h
-rows_there b w u h holds is = ap (λ o. unwrap_or o no_rows) (holds.rows u ∙ ap (option_map rows_of) is)
-
-no_rows_there : (b : Content) (w : World) (u : Name) → Holds b w → get w.units u ≡ None → rows_in b u ≡ no_rows
-no_rows_there b w u holds is = ap (λ o. unwrap_or o no_rows) (holds.rows u ∙ ap (option_map rows_of) is)
+-- the rows of a unit that is there, or not
+rows_told : (b : Content) (w : World) (u : Name) (o : Option (List Call)) → Holds b w → get w.units u ≡ o → rows_in b u ≡ unwrap_or (option_map rows_of o) no_rows
+rows_told b w u o holds is = ap (λ o. unwrap_or o no_rows) (holds.rows u ∙ ap (option_map rows_of) is)
 
 -- a unit that accepts a change is there
 there_of_accepted : (w : World) (c : Call) (u : Name) → changes_history (verdict (history w u) c) c ≡ true → get w.units u ≡ Some (history w u)
@@ -83,30 +80,27 @@ served b w c u a named is h =
       holds = subst (λ o. Holds b (next_at w c o)) (sym named) h;
     }
 
-not_opening_answer : (w : World) (c : Call) (u : Name) → is_opening c.request ≡ false → answer_at w c (Some u) ≡ verdict (history w u) c
-not_opening_answer w c u e = ap (λ x. if x then opening (by_admin w c) (is_taken w u) else verdict (history w u) c) e
-
-opening_answer : (w : World) (c : Call) (u : Name) → is_opening c.request ≡ true → answer_at w c (Some u) ≡ opening (by_admin w c) (is_taken w u)
-opening_answer w c u e = ap (λ x. if x then opening (by_admin w c) (is_taken w u) else verdict (history w u) c) e
+answer_told : (w : World) (c : Call) (u : Name) (opens : Bool) → is_opening c.request ≡ opens → answer_at w c (Some u) ≡ (if opens then opening (by_admin w c) (is_taken w u) else verdict (history w u) c)
+answer_told w c u opens e = ap (λ x. if x then opening (by_admin w c) (is_taken w u) else verdict (history w u) c) e
 
 -- a call on a unit that is there or not, and is no opening
 pub refused_call : (b : Content) (w : World) (c : Call) (u : Name) (r : Refused) → Holds b w → unit_named c.request ≡ Some u → is_opening c.request ≡ false → IsVerdictOn (history w u) c (IsRefused r) → IsAnswered w c (Err r) (λ m. m ≡ b)
 refused_call b w c u r h named plain v =
-    let is : answer_at w c (Some u) ≡ Err r = not_opening_answer w c u plain ∙ sym v.answer in
+    let is : answer_at w c (Some u) ≡ Err r = answer_told w c u false plain ∙ sym v.answer in
     served b w c u (Err r) named is (kept b w c u (Err r) h is refl)
 
 pub read_call : (b : Content) (w : World) (c : Call) (u : Name) (reply : Reply) (cs : List RowEdit) → Holds b w → unit_named c.request ≡ Some u → is_opening c.request ≡ false → is_read c.request ≡ true → IsVerdictOn (history w u) c (IsAccepted reply cs) → IsAnswered w c (Ok reply) (λ m. m ≡ b)
 read_call b w c u reply cs h named plain read v =
-    let is : answer_at w c (Some u) ≡ Ok reply = not_opening_answer w c u plain ∙ sym v.answer in
+    let is : answer_at w c (Some u) ≡ Ok reply = answer_told w c u false plain ∙ sym v.answer in
     served b w c u (Ok reply) named is (kept b w c u (Ok reply) h is (ap not read))
 
 pub changing_call : (b : Content) (w : World) (c : Call) (u : Name) (reply : Reply) (cs : List RowEdit) → Holds b w → unit_named c.request ≡ Some u → is_opening c.request ≡ false → is_read c.request ≡ false → IsVerdictOn (history w u) c (IsAccepted reply cs) → IsAnswered w c (Ok reply) (λ m. m ≡ after_changes b u cs)
 changing_call b w c u reply cs h named plain read v =
-    let is : answer_at w c (Some u) ≡ Ok reply = not_opening_answer w c u plain ∙ sym v.answer in
+    let is : answer_at w c (Some u) ≡ Ok reply = answer_told w c u false plain ∙ sym v.answer in
     let changing : changes_history (Ok reply) c ≡ true = ap not read in
     let accepted : changes_history (verdict (history w u) c) c ≡ true = ap (λ x. changes_history x c) (sym v.answer) ∙ changing in
     let there = there_of_accepted w c u accepted in
-    let left = ap (changed_by cs) (rows_there b w u (history w u) h there) ∙ v.changes ∙ ap (λ x. rows_of (if x then c ∷ history w u else history w u)) accepted in
+    let left = ap (changed_by cs) (rows_told b w u (Some (history w u)) h there) ∙ v.changes ∙ ap (λ x. rows_of (if x then c ∷ history w u else history w u)) accepted in
     served _ w c u (Ok reply) named is (put b w c u (Ok reply) _ h is changing left)
 
 -- a reply to a call that is no read changes a history
@@ -116,7 +110,7 @@ changing_reply reply c A plain still = absurd (true≢false (sym (ap not plain) 
 -- an opening
 pub refused_opening : (b : Content) (w : World) (c : Call) (u : Name) (r : Refused) → Holds b w → unit_named c.request ≡ Some u → is_opening c.request ≡ true → IsOpening (by_admin w c) (is_taken w u) c (IsRefused r) → IsAnswered w c (Err r) (λ m. m ≡ b)
 refused_opening b w c u r h named opens v =
-    let is : answer_at w c (Some u) ≡ Err r = opening_answer w c u opens ∙ sym v.answer in
+    let is : answer_at w c (Some u) ≡ Err r = answer_told w c u true opens ∙ sym v.answer in
     served b w c u (Err r) named is (kept b w c u (Err r) h is refl)
 
 taken_of : (admin taken : Bool) → is_ok (opening admin taken) ≡ true → taken ≡ false
@@ -133,11 +127,11 @@ opening_changes _ e = cc
 
 pub accepted_opening : (b : Content) (w : World) (c : Call) (u : Name) (reply : Reply) (cs : List RowEdit) → Holds b w → unit_named c.request ≡ Some u → is_opening c.request ≡ true → IsOpening (by_admin w c) (is_taken w u) c (IsAccepted reply cs) → IsAnswered w c (Ok reply) (λ m. m ≡ after_changes b u cs)
 accepted_opening b w c u reply cs h named opens v =
-    let is : answer_at w c (Some u) ≡ Ok reply = opening_answer w c u opens ∙ sym v.answer in
+    let is : answer_at w c (Some u) ≡ Ok reply = answer_told w c u true opens ∙ sym v.answer in
     let changing : changes_history (Ok reply) c ≡ true = ap not (opening_changes c.request opens) in
     let okay : is_ok (opening (by_admin w c) (is_taken w u)) ≡ true = ap is_ok (sym v.answer) in
     let none : get w.units u ≡ None = not_there w u (taken_of (by_admin w c) (is_taken w u) okay) in
-    let left = ap (changed_by cs) (no_rows_there b w u h none) ∙ v.changes okay ∙ ap (λ o. rows_of (c ∷ unwrap_or o [])) (sym none) in
+    let left = ap (changed_by cs) (rows_told b w u None h none) ∙ v.changes okay ∙ ap (λ o. rows_of (c ∷ unwrap_or o [])) (sym none) in
     served _ w c u (Ok reply) named is (put b w c u (Ok reply) _ h is changing left)
 
 -- what the office makes of the keeper's answers
@@ -180,7 +174,6 @@ alike_if w c (Faulted f) is = record { alike = λ v admin e. tt }
 pub leaves : (w : World) (c : Call) (a : Said) (b : Content) (left : Content → Type 0) → IsLegalWorld w → has_matrix c.request ≡ true → IsAnswered w c a (λ m. m ≡ b) → left b → IsServed w c a left
 leaves w c a b left legal matrix s h = record { answered = s.answered; after = s.after; left_it = subst left (sym s.left_it) h; holds = s.holds; legal = next_legal w c legal matrix }
 
--- the changes of an accepted call put the unit's own row
 -- a unit that accepts a change is there, so any changes may be made to its rows
 pub known_call : (b : Content) (w : World) (c : Call) (u : Name) (reply : Reply) (cs left : List RowEdit) → Holds b w → is_read c.request ≡ false → IsVerdictOn (history w u) c (IsAccepted reply cs) → IsKnownTo b u left
 known_call b w c u reply cs left h read v =
@@ -201,6 +194,7 @@ pub same_changes : (b : Content) (c : Call) (u : Name) (part : Option UnitPart) 
 same_changes b c u part cs left found same =
     ap (with_rows b u) (same (rows_in b u) (subst (λ o. IfSome o (λ p. (rows_in b u).units ≡ p.rows.units)) (sym found) (units_in_some_part c (get b.units u))))
 
+-- the changes of an accepted opening put the unit's own row
 pub known_opening : (b : Content) (w : World) (c : Call) (u : Name) (reply : Reply) (cs : List RowEdit) → IsOpening (by_admin w c) (is_taken w u) c (IsAccepted reply cs) → IsKnownTo b u cs
 known_opening b w c u reply cs v = inr (v.puts (ap is_ok (sym v.answer)))
 
@@ -303,14 +297,10 @@ shelves_told b w t p h =
     ∙ (λ i. flat_map (λ u. one_unit_shelves t p u (get w.units u) i) (keys w.units))
     ∙ flat_map-seen (unit_seen w t p) (keys w.units)
 
-filter_map-of_map : {A B C : Type 0} (f : B → Option C) (g : A → B) (xs : List A) → filter_map f (map g xs) ≡ filter_map (λ x. f (g x)) xs
-filter_map-of_map f g [] = refl
-filter_map-of_map f g (x ∷ xs) = ap (cons_option (f (g x))) (filter_map-of_map f g xs)
-
 -- the lines of one unit's shelves
 unit_shelf_lines : (t : ℕ) (u : Name) (h : List Call) → filter_map (line_of_shelf t) (shelves_of (u, h)) ≡ map (mine_line u) (shelf_lines (facts h) t)
 unit_shelf_lines t u h =
-    filter_map-of_map (line_of_shelf t) (mine_row u (rows_of h)) (shelf_rows h)
+    filter_map-map (line_of_shelf t) (mine_row u (rows_of h)) (shelf_rows h)
     ∙ (λ i. filter_map (λ s. option_map (mine_line u) (line_of s (shelf_state (shelf_left (Some s)) (returned_in h s.tag i) t))) (shelf_rows h))
     ∙ filter_map-mapped (mine_line u) (λ s. line_of s (shelf_state (shelf_left (Some s)) (returned (facts h) s.tag) t)) (shelf_rows h)
 

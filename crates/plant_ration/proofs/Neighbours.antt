@@ -1,14 +1,13 @@
 -- Tests of neighbours, place by place.
-use Rattle.std.specs.List.{list_all}
+use Rattle.std.{specs.List.{list_all}, proofs.lemmas.{Bool.{and_right}, List.{length-map, get_or_default, Folds.{list_all-map}}}}
 use Rattle.std.proofs.Common.{◌≡◌, ℕ, zero, suc, ◌+◌, ◌<◌, ◌≤◌, refl, sym, ap, ◌∙◌, List, [], ◌∷◌, length, get_or, map, Bool, true, false, ◌&&◌, arith, ◌-◌, subst, Vec, Global, eqb, nat_le}
-use Rattle.std.proofs.lemmas.{Bool.{and_from, and_right}, List.{get_or_default, Folds.{list_all-map}}}
 use Rattle.plant_types.specs.Numbers.{is_seconds}
-use Rattle.plant_ration.specs.{Matrix.{neighbours, no_lower, is_no_lower_row, is_ordered, has_shape}, declared.cell.Cell.{Cell}}
+use Rattle.plant_ration.specs.{declared.cell.Cell.{Cell}, Matrix.{neighbours, no_lower, is_no_lower_row, is_ordered, has_shape}}
 
 all_by : {A : Type 0} (ok : A → A → Bool) (xs : List A) → ((k : ℕ) (d : A) → suc k < length xs → ok (get_or xs k d) (get_or xs (suc k) d) ≡ true) → neighbours ok xs ≡ true
 all_by ok [] h = refl
 all_by ok (x ∷ []) h = refl
-all_by ok (x ∷ y ∷ rest) h = and_from _ _ (h 0 x (omega arith)) (all_by ok (y ∷ rest) (λ k d lt. h (suc k) d (omega arith)))
+all_by ok (x ∷ y ∷ rest) h = grind (arith, h 0 x, all_by ok (y ∷ rest) (λ k d lt. h (suc k) d (omega arith)))
 
 not_by : {A : Type 0} (ok : A → A → Bool) (xs : List A) (k : ℕ) → suc k < length xs → ((d : A) → ok (get_or xs k d) (get_or xs (suc k) d) ≡ false) → neighbours ok xs ≡ false
 not_by ok [] k lt h = absurd (omega arith)
@@ -43,8 +42,7 @@ pub ordered_is : (cells : List (Vec Cell Global)) (a b : Bool) → a ≡ list_al
 ordered_is cells a b p q = both (p ∙ sym (list_all-map (neighbours no_lower) (λ row. row.items) cells)) (q ∙ sym (neighbours-map is_no_lower_row (λ row. row.items) cells))
 
 length-rows : (cells : List (Vec Cell Global)) → length (rows cells) ≡ length cells
-length-rows [] = refl
-length-rows (x ∷ cells) = ap suc (length-rows cells)
+length-rows cells = length-map cells (λ row. row.items)
 
 pub shape_is : (limits : List ℕ) (cells : List (Vec Cell Global)) (a b c : Bool)
     → a ≡ (nat_le 1 (length cells) && nat_le (length cells) 5 && nat_le (length limits) 4)

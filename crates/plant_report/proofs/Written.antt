@@ -1,6 +1,6 @@
 -- The text computed by the calendar is the one that is read as the moment.
-use Rattle.std.proofs.Common.{◌≡◌, ℕ, ◌+◌, ◌*◌, ◌/◌, ◌%◌, ◌≤◌, ◌<◌, refl, sym, arith, Bool, true, false, cond, Some, None, List, pos}
-use Rattle.std.proofs.lemmas.{Bool.{leb-true, ltb-true}, Int.{ints}}
+use Rattle.std.proofs.Common.{◌≡◌, ℕ, ◌+◌, ◌*◌, ◌/◌, ◌%◌, ◌≤◌, ◌<◌, sym, arith, true, Some, List, pos}
+use Rattle.std.proofs.lemmas.{Bool.{leb-true, ltb-true}, Int.{ints}, Option.{cond_some}}
 use Rattle.jiff_core.specs.Calendar.{days_in_month, IsCivilDate}
 use Rattle.plant_types.specs.{Moment.{moment_of, is_date, is_time, has_form, civil_of, is_civil, days_since_2000}, Spelling.{spelled}}
 use Rattle.plant_types.proofs.public.{Days.{day_count-2000, until-2100, is_date_true, years}, Halves.{left, right}, Round.{written}}
@@ -44,15 +44,11 @@ time_is_short h m s e =
     let second : s < 60 = ltb-true s 60 (right _ _ e) in
     omega arith
 
-picked : (b : Bool) (n k : ℕ) → cond b (Some n) None ≡ Some k → (b ≡ true) × (n ≡ k)
-picked true n k e = (refl, cc)
-picked false n k e = cc
-
 -- what a text is read as is a moment
 pub moment_of_bound : (text : List ℕ) (n : ℕ) → moment_of text ≡ Some n → n < 3155760000
 unfolding moment_of
 moment_of_bound text n e =
-    let p = picked _ _ n e in
+    let p = cond_some _ _ n e in
     let c = civil_of text in
     let both = right (has_form text) (is_civil c) p.0 in
     let day = day_is_early c.year c.month c.day (left _ _ both) in

@@ -79,7 +79,7 @@ fn reads_its_words(rt: HostRuntime) {
 /// The version and the toolchain, and nothing is served.
 #[test]
 fn prints_its_version(rt: HostRuntime) {
-    let text = "shelfoffice 1.0.0\nrattle-kit-13f logic dac8208d650f15bf\n";
+    let text = "shelfoffice 1.0.0\nrattle-kit-13b logic dac8208d650f15bf\n";
     for word in ["--version", "-V"] {
         let version = said(&rt, &["shelfoffice", word], STATUS);
         assert_eq!(rt; version.status, 0, "{word}");

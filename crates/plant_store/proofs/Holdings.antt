@@ -10,7 +10,7 @@ use Rattle.sqlite_tied.proofs.RuleLemmas.{and_true}
 use Rattle.sqlite_value.specs.{Order.{Row, bytes, column}, declared.value.Value.TheVariants.{Text}}
 use Rattle.plant_books.specs.Contents.{Content, codes_held, is_held_by, is_held_in, mine_as, mine_unit, mine_units, rows_in}
 use Rattle.plant_columns.specs.{Codes.{open_number_in}, Kept.{by_columns, is_of, kept}, Shape.{IsRowIn}, Shown.{columns}}
-use Rattle.plant_columns.specs.Tables.{AreBooks, books_schema, grant_shape, Kept.{GrantKept}}
+use Rattle.plant_columns.specs.{Tables.{AreBooks, books_schema, grant_shape}, declared.tables.TableKind.TheVariants.{Grants}}
 use Rattle.plant_columns.proofs.public.{Kept.{all-sort, sort-filter}, Keys.{by_columns_total}, ShapeLaws.{good, open_number_back}}
 use Rattle.plant_columns.proofs.public.Shapes.{finds_rows}
 use Rattle.plant_model.specs.{Grants.{is_before}, RowChanges.{no_rows}, declared.rows.{GrantRow.{GrantRow}, UnitRows.{UnitRows}}}
@@ -38,7 +38,7 @@ unfolding holding_back
 holdings_read p old new books rows shown read said =
     told holding_cells holding_back (λ h i. record { unit = h.unit; end_s = open_number_back h.end_s i }) _ read said
     ∙ map-map holding_back (columns 2) rows
-    ∙ ap (map (λ r. holding_back (columns 2 r))) (finds_rows grant_shape (good GrantKept) books_schema holdings_text by_holder _ (by_key grant_shape) _ holdings.is holdings.unlisted holdings.plain (Text p ∷ []) refl (is_named p) (λ r. one_test (column r 2) p) old new books.same_schema (books.tidy GrantKept).apart rows shown)
+    ∙ ap (map (λ r. holding_back (columns 2 r))) (finds_rows grant_shape (good Grants) books_schema holdings_text by_holder _ (by_key grant_shape) _ holdings.is holdings.unlisted holdings.plain (Text p ∷ []) refl (is_named p) (λ r. one_test (column r 2) p) old new books.same_schema (books.tidy Grants).apart rows shown)
     ∙ map-map (λ r. holding_back (columns 2 r)) (λ r. column r 1 ∷ column r 4 ∷ []) _
 
 -- ---- the units in which the person holds a role
@@ -120,9 +120,9 @@ module _ (m : Content) (t : ℕ) (p : Name) where
         let total = by_columns_total (1 ∷ grant_shape.keys) in
         are.0 q
         ∙ ap (λ rows. list_any (same_name q) (units_standing rows)) (sort-filter by_grant total (is_named p) (s.now.trees 3))
-        ∙ any_alike q _ (all-sort by_grant total (IsRowIn grant_shape) (s.now.trees 3) (k.books.tidy GrantKept).each)
+        ∙ any_alike q _ (all-sort by_grant total (IsRowIn grant_shape) (s.now.trees 3) (k.books.tidy Grants).each)
         ∙ ap (λ rows. list_any (is_held_by t p) (map grant_shape.read rows)) (sym (sort-filter by_grant total (is_of q) (s.now.trees 3)))
-        ∙ ap (list_any (is_held_by t p)) (k.seen q GrantKept)
+        ∙ ap (list_any (is_held_by t p)) (k.seen q Grants)
         ∙ held_there (get m.units q))
       where
         held_there : (o : Option UnitRows) → list_any (is_held_by t p) (unwrap_or o no_rows).grants ≡ is_held_in t p o

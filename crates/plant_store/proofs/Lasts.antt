@@ -13,7 +13,7 @@ use Rattle.sqlite_sql.proofs.QueryLemmas.{output_cmp_total}
 use Rattle.sqlite_value.specs.{Order.{Row, column}, declared.{keys.Key.{Key}, value.Value.TheVariants.{Null, Int, Text}}}
 use Rattle.plant_model.specs.{RowFacts.{change_number, last_number}, declared.rows.ChangeEntry.{ChangeEntry}}
 use Rattle.plant_types.specs.Names.{Name}
-use Rattle.plant_columns.specs.{Codes.{number}, Kept.{by_columns, is_of, kept, plain_query}, Tables.Kept.{ChangeKept}}
+use Rattle.plant_columns.specs.{Codes.{number}, Kept.{by_columns, is_of, kept, plain_query}, declared.tables.TableKind.TheVariants.{Changes}}
 use Rattle.plant_columns.specs.{Tables.{AreBooks, books_schema, rows_seen, change_shape}, Tidy.{AreApart}}
 use Rattle.plant_columns.proofs.public.{Kept.{no_ties-out, strict-sort}, Keys.{by_columns_total}, Laws.{reads, passes, shows}, ShapeLaws.{good}}
 use Rattle.plant_columns.proofs.public.Shapes.{shown_kept}
@@ -21,16 +21,13 @@ use Rattle.plant_store.{specs.Texts.{last_change_text}, proofs.{Meanings.{by_uni
 
 -- ---- lists the other way round
 
-turn_step : {X : Type 0} (x : X) (xs : List X) → reverse (x ∷ xs) ≡ reverse xs ++ x ∷ []
-turn_step x xs = reverse-append (x ∷ []) xs
-
 all-reverse : {X : Type 0} (P : X → Type 0) (xs : List X) → AllByRecursion P xs → AllByRecursion P (reverse xs)
 all-reverse P [] all = tt
-all-reverse P (x ∷ xs) all = subst (AllByRecursion P) (sym (turn_step x xs)) (all-append P (reverse xs) (x ∷ []) (all-reverse P xs all.1) (all.0, tt))
+all-reverse P (x ∷ xs) all = subst (AllByRecursion P) (sym (reverse-append (x ∷ []) xs)) (all-append P (reverse xs) (x ∷ []) (all-reverse P xs all.1) (all.0, tt))
 
 ascending-reverse : {X : Type 0} (R : X → X → Type 0) (xs : List X) → IsAscending R xs → IsAscending (λ a b. R b a) (reverse xs)
 ascending-reverse R [] up = tt
-ascending-reverse R (x ∷ xs) up = subst (IsAscending (λ a b. R b a)) (sym (turn_step x xs)) (ascending-append (λ a b. R b a) (reverse xs) (x ∷ []) (ascending-reverse R xs up.1) (tt, tt) (all_weaker _ (λ a. AllByRecursion (λ b. R b a) (x ∷ [])) (λ a h. (h, tt)) (reverse xs) (all-reverse (R x) xs up.0)))
+ascending-reverse R (x ∷ xs) up = subst (IsAscending (λ a b. R b a)) (sym (reverse-append (x ∷ []) xs)) (ascending-append (λ a b. R b a) (reverse xs) (x ∷ []) (ascending-reverse R xs up.1) (tt, tt) (all_weaker _ (λ a. AllByRecursion (λ b. R b a) (x ∷ [])) (λ a h. (h, tt)) (reverse xs) (all-reverse (R x) xs up.0)))
 
 -- the first of a list the other way round is its last
 last_turned : {X : Type 0} (xs : List X) → slice_get (reverse xs) 0 ≡ slice_get xs (length xs - 1)
@@ -71,17 +68,17 @@ abbrev drawn : ChangeEntry → Row
 drawn c = number c.number ∷ []
 
 last_found : (u : Name) (old new : State) → AreBooks old.now → (rows : List Row) → Shown last_change_text (Text u ∷ []) old new rows
-    → slice_get rows 0 ≡ option_map drawn (slice_get (rows_seen u old.now.trees ChangeKept) (length (rows_seen u old.now.trees ChangeKept) - 1))
+    → slice_get rows 0 ≡ option_map drawn (slice_get (rows_seen u old.now.trees Changes) (length (rows_seen u old.now.trees Changes) - 1))
 last_found u old new books rows h =
     let got = reads_as last_change_text (Text u ∷ []) old new books_schema books.same_schema _ last_change.is last_change.plain last_change.unlisted rows h in
     let key : List ℕ = 1 ∷ 2 ∷ [] in
     let show = λ (r : Row). (shows 17 by_unit (col 1 2 ∷ []) falling_2 (Text u ∷ []) r).1 in
     let passing = filter_same (passes 17 by_unit (col 1 2 ∷ []) falling_2 (Text u ∷ [])) (is_of u) (λ r. one_test (column r 1) u) (old.now.trees 17) in
     let rows_kept = kept (by_columns key) (is_of u) (old.now.trees 17) in
-    first_falling 17 by_unit (col 1 2 ∷ []) falling_2 key (Text u ∷ []) refl old.now.trees rows (books.tidy ChangeKept).apart (got.answer Null)
+    first_falling 17 by_unit (col 1 2 ∷ []) falling_2 key (Text u ∷ []) refl old.now.trees rows (books.tidy Changes).apart (got.answer Null)
     ∙ ap (λ l. slice_get (map show (sort_by (by_columns key) l)) (length (sort_by (by_columns key) l) - 1)) passing
-    ∙ (λ i. slice_get (shown_kept change_shape (good ChangeKept) show drawn (λ id v x. refl) (is_of u) (old.now.trees 17) (books.tidy ChangeKept).each i) (sym (length-map rows_kept change_shape.read) i - 1))
-    ∙ slice_get-map drawn (rows_seen u old.now.trees ChangeKept) _
+    ∙ (λ i. slice_get (shown_kept change_shape (good Changes) show drawn (λ id v x. refl) (is_of u) (old.now.trees 17) (books.tidy Changes).each i) (sym (length-map rows_kept change_shape.read) i - 1))
+    ∙ slice_get-map drawn (rows_seen u old.now.trees Changes) _
 
 one_came : (o : Option ChangeEntry) (row : Row) (n : ℕ) → Some row ≡ option_map drawn o → column row 0 ≡ number n → n ≡ unwrap_or (option_map change_number o) 0
 one_came None row n is at = absurd (cc is)
@@ -96,8 +93,8 @@ none_came None is = refl
 none_came (Some x) is = absurd (cc is)
 
 -- the number of the last change, from the row that came, and where none came
-pub last_came : (u : Name) (old new : State) → AreBooks old.now → (rows : List Row) → Shown last_change_text (Text u ∷ []) old new rows → (row : Row) → Some row ≡ slice_get rows 0 → (n : ℕ) → column row 0 ≡ number n → n ≡ last_number (rows_seen u old.now.trees ChangeKept)
+pub last_came : (u : Name) (old new : State) → AreBooks old.now → (rows : List Row) → Shown last_change_text (Text u ∷ []) old new rows → (row : Row) → Some row ≡ slice_get rows 0 → (n : ℕ) → column row 0 ≡ number n → n ≡ last_number (rows_seen u old.now.trees Changes)
 last_came u old new books rows h row first n at = one_came _ row n (first ∙ last_found u old new books rows h) at
 
-pub no_last_came : (u : Name) (old new : State) → AreBooks old.now → (rows : List Row) → Shown last_change_text (Text u ∷ []) old new rows → None ≡ slice_get rows 0 → 0 ≡ last_number (rows_seen u old.now.trees ChangeKept)
+pub no_last_came : (u : Name) (old new : State) → AreBooks old.now → (rows : List Row) → Shown last_change_text (Text u ∷ []) old new rows → None ≡ slice_get rows 0 → 0 ≡ last_number (rows_seen u old.now.trees Changes)
 no_last_came u old new books rows h first = none_came _ (first ∙ last_found u old new books rows h)

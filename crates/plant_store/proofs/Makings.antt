@@ -8,9 +8,8 @@ use Rattle.sqlite.proofs.Callers.{runs_as, statement_of}
 use Rattle.sqlite_keyed.proofs.ListLemmas.{all-append}
 use Rattle.sqlite_trees.proofs.ListLemmas.{all-slice_get}
 use Rattle.sqlite_value.specs.{Order.{Row}, declared.value.Value.TheVariants.{Int, Null, Text}}
-use Rattle.plant_columns.specs.Shape.{IsRowIn, table_in}
-use Rattle.plant_columns.specs.Tables.Kept.{UnitKept}
-use Rattle.plant_columns.specs.Tables.{Kept, books_schema, grant_shape, no_schema, office_row, office_table, schema_with, shape, unit_shape}
+use Rattle.plant_columns.specs.{Shape.{IsRowIn, table_in}, declared.tables.TableKind.{TableKind, TheVariants.{Units}}}
+use Rattle.plant_columns.specs.Tables.{books_schema, grant_shape, no_schema, office_row, office_table, schema_with, shape, table_count, unit_shape}
 use Rattle.plant_columns.{specs.Tidy.{IsTidy}, proofs.public.{Changes.{KeepsOthers, creates, indexes, lone_step, same_value, went}, Family.{kept_at}}}
 use Rattle.plant_columns.proofs.public.{Laws.{cast_int, cast_null}, ShapeLaws.{all_listed}}
 use Rattle.plant_store.specs.{Making.{AreEmpty, AreNew}, Texts.{by_person_text, office_text, put_office_text, table_text}}
@@ -34,21 +33,21 @@ pub makes_office : (old new : State) → AreEmpty no_schema old.now → (count :
 makes_office = makes _ _ _ _ office_means office_table refl refl refl
 
 -- by computing, for each table
-pub makes_each : (i : Kept) (old new : State) → AreEmpty (schema_with ((shape i).place - 1)) old.now → (count : ℕ) → Executes (table_text i) [] old new (Ok count) → AreEmpty (schema_with (shape i).place) new.now
-makes_each UnitKept = makes _ _ _ _ (makes_table UnitKept) (table_in unit_shape) refl refl refl
+pub makes_each : (i : TableKind) (old new : State) → AreEmpty (schema_with ((shape i).place - 1)) old.now → (count : ℕ) → Executes (table_text i) [] old new (Ok count) → AreEmpty (schema_with (shape i).place) new.now
+makes_each Units = makes _ _ _ _ (makes_table Units) (table_in unit_shape) refl refl refl
 makes_each i = makes _ _ _ _ (makes_table i) (table_in (shape i)) refl refl refl
 
-pub makes_index : (old new : State) → AreEmpty (schema_with 9) old.now → (count : ℕ) → Executes by_person_text [] old new (Ok count) → AreEmpty books_schema new.now
+pub makes_index : (old new : State) → AreEmpty (schema_with table_count) old.now → (count : ℕ) → Executes by_person_text [] old new (Ok count) → AreEmpty books_schema new.now
 makes_index old new has count h =
-    let it = indexes by_person_text (schema_with 9) books_schema 2 (table_in grant_shape) _ old new has.same_schema refl by_person_means.is by_person_whole by_person_means.plain by_person_made by_person_created count h in
-    record { same_schema = it.schema; empty = still_empty (schema_with 9).tables old.now.trees new.now.trees it.kept has.empty }
+    let it = indexes by_person_text (schema_with table_count) books_schema 2 (table_in grant_shape) _ old new has.same_schema refl by_person_means.is by_person_whole by_person_means.plain by_person_made by_person_created count h in
+    record { same_schema = it.schema; empty = still_empty (schema_with table_count).tables old.now.trees new.now.trees it.kept has.empty }
 
 -- ---- the office's row
 
 tidy_none : (Wf : Row → Type 0) (key : List ℕ) → IsTidy Wf key []
 tidy_none Wf key = record { are = record { rise = tt; ints = tt }; each = tt; apart = tt }
 
-empty_at : (i : Kept) (db : Database) → AreEmpty books_schema db → db.trees (shape i).tree ≡ []
+empty_at : (i : TableKind) (db : Database) → AreEmpty books_schema db → db.trees (shape i).tree ≡ []
 empty_at i db h = all-slice_get (λ t. db.trees t.tree ≡ []) books_schema.tables (shape i).place (table_in (shape i)) (all_listed.at i) h.empty
 
 pub makes_new : (admin : List ℕ) (old new : State) → AreEmpty books_schema old.now → (count : ℕ) → Executes put_office_text (Text admin ∷ []) old new (Ok count) → AreNew admin new.now
@@ -68,7 +67,7 @@ makes_new admin old new has count h =
     let edit : edited db (edit_of db office_table [] Chosen 0 given.0) ≡ office_row admin ∷ [] = ap (λ all. edited db (edit_of db office_table [] Chosen 0 all)) given.1.1 ∙ rw (has.empty.0, cast_int (pos 1), cast_null, cast_int (pos 2)) in
     let all : new.now.trees ≡ written.0 = ap (λ (d : Database). d.trees) now ∙ trees in
     let kept : KeepsOthers books_schema 0 db new.now.trees = subst (KeepsOthers books_schema 0 db) (sym all) step.tables in
-    let none : (i : Kept) → new.now.trees (shape i).tree ≡ [] = λ i. kept_at books_schema 0 db new.now.trees kept (shape i).place (table_in (shape i)) (all_listed.at i) (λ e. office_apart i (sym e)) ∙ empty_at i old.now has in
+    let none : (i : TableKind) → new.now.trees (shape i).tree ≡ [] = λ i. kept_at books_schema 0 db new.now.trees kept (shape i).place (table_in (shape i)) (all_listed.at i) (λ e. office_apart i (sym e)) ∙ empty_at i old.now has in
     record {
       books = record {
         same_schema = ap (λ (d : Database). d.schema) now;

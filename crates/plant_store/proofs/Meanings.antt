@@ -9,8 +9,9 @@ use Rattle.sqlite_sql.specs.declared.ops.{BinaryOp.TheVariants.{Compare}, Compar
 use Rattle.sqlite_tied.specs.Compute.{everything}
 use Rattle.sqlite_value.specs.{Keys.{ascending}, declared.{keys.Key.{Key}, value.Value.TheVariants.{Null, Int}}}
 use Rattle.plant_store.specs.Texts.{office_text, by_person_text, put_office_text, office_row_text, over_unit_text, over_grant_text, over_alarm_text, over_shelf_text, over_record_text, over_change_text, remove_grant_text, remove_shelf_text, own_grants_text, alarm_at_text, shelf_at_text, tags_of_text, shelf_tags_text, holdings_text, record_at_text, bands_at_text, cells_at_text, change_at_text, last_change_text, put_text, rows_text, table_text}
-use Rattle.plant_columns.specs.{Kept.{plain_query}, Shape.{Shape, table_in}, Tables.Kept.{UnitKept}}
-use Rattle.plant_columns.specs.Tables.{Kept, shape, office_table, unit_shape, grant_shape, alarm_shape, shelf_shape, band_shape, cell_shape, by_person, no_schema, books_schema, record_shape, change_shape, schema_with}
+use Rattle.plant_columns.specs.{Kept.{plain_query}, Shape.{Shape, table_in}, declared.tables.TableKind.{TableKind, TheVariants.{Units}}}
+use Rattle.plant_columns.specs.Tables.{shape, office_table, unit_shape, grant_shape, alarm_shape, shelf_shape, band_shape, cell_shape, by_person}
+use Rattle.plant_columns.specs.Tables.{no_schema, books_schema, record_shape, change_shape, schema_with, table_count}
 
 -- under this schema the text is this command, and plain
 pub record Means (schema : Schema) (text : List ℕ) (command : Command) : Type 0 where
@@ -37,23 +38,23 @@ unfolding understood everything digits
 makes_office = record { means = record { is = refl; plain = (refl, refl) }; whole = refl; defines = refl; leaves = refl }
 
 -- by running it for each table
-pub makes_table : (i : Kept) → Makes (schema_with ((shape i).place - 1)) (table_text i) (table_in (record (shape i) { tree = 0 })) (schema_with (shape i).place)
+pub makes_table : (i : TableKind) → Makes (schema_with ((shape i).place - 1)) (table_text i) (table_in (record (shape i) { tree = 0 })) (schema_with (shape i).place)
 unfolding understood everything digits
-makes_table UnitKept = record { means = record { is = refl; plain = (refl, refl) }; whole = refl; defines = refl; leaves = refl }
+makes_table Units = record { means = record { is = refl; plain = (refl, refl) }; whole = refl; defines = refl; leaves = refl }
 makes_table i = record { means = record { is = refl; plain = (refl, refl) }; whole = refl; defines = refl; leaves = refl }
 
 pub by_person_made : index_defined_by (table_in grant_shape) by_person_text ≡ Ok (record by_person { tree = 0 })
 unfolding everything
 by_person_made = refl
 
-pub by_person_created : indexed (schema_with 9) (table_in grant_shape) (record by_person { tree = 0 }) ≡ books_schema
+pub by_person_created : indexed (schema_with table_count) (table_in grant_shape) (record by_person { tree = 0 }) ≡ books_schema
 by_person_created = refl
 
-pub by_person_whole : statement_of by_person_text (understood (schema_with 9) by_person_text) ≡ by_person_text
+pub by_person_whole : statement_of by_person_text (understood (schema_with table_count) by_person_text) ≡ by_person_text
 unfolding understood everything
 by_person_whole = refl
 
-pub by_person_means : Means (schema_with 9) by_person_text (CreateIndex 2)
+pub by_person_means : Means (schema_with table_count) by_person_text (CreateIndex 2)
 unfolding understood everything
 by_person_means = record { is = refl; plain = (refl, refl) }
 
@@ -75,16 +76,16 @@ terms source n [] = []
 terms source n (c ∷ cs) = col source n ∷ terms source (suc n) cs
 
 -- the cells that are given, behind a rowid that is to be chosen
-abbrev pub put_terms : Kept → List Term
+abbrev pub put_terms : TableKind → List Term
 put_terms i = lit Null ∷ terms 0 0 (shape i).columns
 
-abbrev pub put_width : Kept → ℕ
+abbrev pub put_width : TableKind → ℕ
 put_width i = suc (length (shape i).columns)
 
 -- by running it for each table
-pub puts : (i : Kept) → Means books_schema (put_text i) (Insert (shape i).place (Values (put_terms i) (put_width i)))
+pub puts : (i : TableKind) → Means books_schema (put_text i) (Insert (shape i).place (Values (put_terms i) (put_width i)))
 unfolding understood everything
-puts UnitKept = record { is = refl; plain = (refl, refl) }
+puts Units = record { is = refl; plain = (refl, refl) }
 puts i = record { is = refl; plain = (refl, refl) }
 
 -- ---- tests of the first columns against the parameters
@@ -171,9 +172,9 @@ module _ {X K : Type 0} (s : Shape X K) where
   Lists schema text tests = Asks schema text (plain_query (inner s.tree end) tests own_columns by_key) own_names
 
 -- by running it for each table
-pub lists_all : (i : Kept) → Lists (shape i) books_schema (rows_text i) by_unit
+pub lists_all : (i : TableKind) → Lists (shape i) books_schema (rows_text i) by_unit
 unfolding understood everything
-lists_all UnitKept = record { is = refl; unlisted = refl; plain = (refl, refl) }
+lists_all Units = record { is = refl; unlisted = refl; plain = (refl, refl) }
 lists_all i = record { is = refl; unlisted = refl; plain = (refl, refl) }
 
 pub lists_own_grants : Lists grant_shape books_schema own_grants_text by_two

@@ -17,7 +17,8 @@ pub record IsShownColumn (s : written.Shown) (n : Name) : Type 0 where
   pub one : written.out-Shown s ≡ Shown-F.One e None text
   pub out : out-Expr e ≡ Expr-F.Column None n
 
-pub record Asks (s : Select) : Type 0 where
+-- a query of the one table of this name, which shows these three columns of it
+pub record Asks (s : Select) (table n₁ n₂ n₃ : Name) : Type 0 where
   pub core : Core
   pub src : Source
   pub with : (out-Select s).with ≡ []
@@ -31,7 +32,7 @@ pub record Asks (s : Select) : Type 0 where
   pub group : (out-Core core).group ≡ []
   pub having : (out-Core core).having ≡ None
   pub distinct : (out-Core core).distinct ≡ false
-  pub from : (out-Source src).origin ≡ origin.Table (codes "office")
+  pub from : (out-Source src).origin ≡ origin.Table table
   pub alias : (out-Source src).alias ≡ None
   pub using : (out-Source src).using ≡ []
   pub left : (out-Source src).is_left ≡ false
@@ -40,9 +41,9 @@ pub record Asks (s : Select) : Type 0 where
   pub s₂ : written.Shown
   pub s₃ : written.Shown
   pub shown : (out-Core core).shown ≡ s₁ ∷ s₂ ∷ s₃ ∷ []
-  pub id : IsShownColumn s₁ (codes "id")
-  pub schema_no : IsShownColumn s₂ (codes "schema_no")
-  pub admin : IsShownColumn s₃ (codes "admin")
+  pub w₁ : IsShownColumn s₁ n₁
+  pub w₂ : IsShownColumn s₂ n₂
+  pub w₃ : IsShownColumn s₃ n₃
 
 pub record IsAsked : Type 0 where
   pub p : Parsed
@@ -51,7 +52,7 @@ pub record IsAsked : Type 0 where
   pub statement_is : p.statement ≡ statement.Select s
   pub formats : p.formats ≡ []
   pub names : p.names ≡ []
-  pub asks : Asks s
+  pub asks : Asks s (codes "office") (codes "id") (codes "schema_no") (codes "admin")
 
 pub asked : IsAsked
 unfolding everything
@@ -85,8 +86,8 @@ asked = record {
     s₂ = _;
     s₃ = _;
     shown = refl;
-    id = record { text = _; e = _; one = refl; out = refl };
-    schema_no = record { text = _; e = _; one = refl; out = refl };
-    admin = record { text = _; e = _; one = refl; out = refl };
+    w₁ = record { text = _; e = _; one = refl; out = refl };
+    w₂ = record { text = _; e = _; one = refl; out = refl };
+    w₃ = record { text = _; e = _; one = refl; out = refl };
   };
 }

@@ -6,7 +6,7 @@ use Rattle.sqlite_schema.specs.{Names.{table_named, place_of}, declared.{command
 use Rattle.sqlite_schema.specs.declared.schema.{Schema.{Schema}, Table.{Table}}
 use Rattle.sqlite_typing.specs.Types.{accepts_program}
 use Rattle.plant_columns.specs.Kept.{plain_query}
-use Rattle.plant_store.{specs.Texts.{office_row_text}, proofs.{OfficeAsked.{Asks, asked}, ThreeColumns.{IsColumn, is_read}}}
+use Rattle.plant_store.{specs.Texts.{office_row_text}, proofs.{OfficeAsked.{asked}, ThreeColumns.{IsColumn, is_read}}}
 use Rattle.sqlite_resolve.specs.Compile as compile
 
 module _ (schema : Schema) (k : ℕ) (t : Table) (named : table_named schema (codes "office") ≡ Some k) (is : slice_get schema.tables k ≡ Some t)
@@ -23,14 +23,8 @@ module _ (schema : Schema) (k : ℕ) (t : Table) (named : table_named schema (co
   abbrev pub meant : Compiled
   meant = record { command = Select program names; returning = None; names = []; formats = []; start = asked.p.start; end = asked.p.end; tail = asked.p.tail }
 
-  abbrev written : Asks asked.s
-  written = asked.asks
-
   reads : (b : Bool) → accepts_program schema [] query [] ≡ b → compile.read schema asked.s ≡ cond b (Ok (Select program names)) (Err Mismatch)
-  reads = is_read schema (codes "office") k t named is written.src written.from written.alias written.using written.left written.on
-      (codes "id") (codes "schema_no") (codes "admin") id schema_no admin
-      written.id.e written.schema_no.e written.admin.e written.id.out written.schema_no.out written.admin.out written.s₁ written.s₂ written.s₃ written.id.text written.schema_no.text written.admin.text written.id.one written.schema_no.one written.admin.one
-      written.core written.froms written.shown written.filter written.group written.having written.distinct asked.s written.with written.first_is written.others written.order written.limit written.offset
+  reads = is_read schema (codes "office") k t named is (codes "id") (codes "schema_no") (codes "admin") asked.s asked.asks id schema_no admin
 
   compiles : (b : Bool) → accepts_program schema [] query [] ≡ b → compiled schema office_row_text ≡ cond b (Ok meant) (Err Mismatch)
   unfolding compiled compile.planned compile.meaning compile.returning compile.command compile.timed

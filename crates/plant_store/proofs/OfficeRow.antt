@@ -5,15 +5,16 @@ use Rattle.std.proofs.lemmas.{Bool.{and_parts, cases_Bool, false≢true, ltb-tru
 use Rattle.std.proofs.lemmas.{List.Sorted.{IsPermutation-map, IsPermutation-sym}, Option.{slice_get-get_or}}
 use Rattle.sqlite.specs.{Kind.TheVariants.{Integer}, Query.{Output}, Schema.{Schema}, State.{State, Shown}, Table.{Table}, Term.{col}}
 use Rattle.sqlite.proofs.Callers.{IsPlain, command_of, one_permutation, reads_as}
+use Rattle.sqlite_keyed.proofs.ListLemmas.{map-map}
 use Rattle.sqlite_schema.specs.Names.{column_named, place_of, same_name, table_named}
 use Rattle.sqlite_typing.specs.Types.{accepts_program}
 use Rattle.sqlite_value.specs.{Order.{Row, column}, declared.value.Value.TheVariants.{Null}}
 use Rattle.plant_books.specs.Contents.{Content}
-use Rattle.plant_columns.{specs.{Forms.{column_of}, Shown.{columns}, Tables.{AreBooks, office_table}}, proofs.public.Laws.{reads, shows}}
-use Rattle.plant_store.specs.{Changes.{IsHonest}, Keeping.{Represents, HasContent}}
+use Rattle.plant_columns.{specs.{Forms.{column_of}, Shown.{columns}, Tables.{office_table}}, proofs.public.Laws.{reads, shows}}
+use Rattle.plant_store.specs.Keeping.{HasContent}
 use Rattle.plant_store.specs.Opening.{IsOffice, IsThisOffice, has_office, is_office, office_cells, office_in, office_shown, place_named}
 use Rattle.plant_store.{specs.Texts.{office_row_text}, proofs.{OfficeMeaning.{is_refused, is_understood, query}, ThreeColumns.{IsColumn}}}
-use Rattle.plant_store.proofs.{Queries.{passing_all}, public.Contents.{keeps_same}}
+use Rattle.plant_model.proofs.public.PartLists.{filter-true}
 use Rattle.plant_types.specs.Names.{Name}
 
 -- ---- a table and its columns are found by their names
@@ -42,14 +43,6 @@ found_column t n h =
 
 abbrev three : ℕ → ℕ → ℕ → Row → Row
 three a b c r = column r a ∷ column r b ∷ column r c ∷ []
-
-shown_rows : (tree a b c : ℕ) (rows : List Row) → map (λ (o : Output). o.1) (map (shows tree [] (col 1 a ∷ col 1 b ∷ col 1 c ∷ []) [] []) rows) ≡ map (three a b c) rows
-shown_rows tree a b c [] = refl
-shown_rows tree a b c (r ∷ rows) = ap (λ l. three a b c r ∷ l) (shown_rows tree a b c rows)
-
-columns_each : (a b c : ℕ) (rows : List Row) → map (columns 3) (map (three a b c) rows) ≡ map (three a b c) rows
-columns_each a b c [] = refl
-columns_each a b c (r ∷ rows) = ap (λ l. three a b c r ∷ l) (columns_each a b c rows)
 
 -- rows in some order, of which one is shown
 one_shown : (x : Row) (all rows : List Row) → map (columns 3) all ≡ all → IsPermutation all rows → (map (columns 3) rows ≡ x ∷ []) ↔ (all ≡ x ∷ [])
@@ -101,8 +94,8 @@ module _ (n : ℕ) (admin : Name) (old new : State) (t : Table) (is_there : offi
       let got = reads_as office_row_text [] old new old.now.schema refl _ (ap command_of known.0) (subst IsPlain (sym known.0) (refl, refl)) known.1 rows h in
       let it = reads t.tree [] (col 1 a ∷ col 1 b ∷ col 1 c ∷ []) [] old.now.trees [] rows (got.answer Null) in
       let show = shows t.tree [] (col 1 a ∷ col 1 b ∷ col 1 c ∷ []) [] [] in
-      let all = subst (λ rs. IsPermutation (map show rs) it.ordered) (passing_all (old.now.trees t.tree)) it.same in
-      subst (λ l. IsPermutation l rows) (shown_rows t.tree a b c (old.now.trees t.tree)) (subst (IsPermutation (map (λ (o : Output). o.1) (map show (old.now.trees t.tree)))) (sym it.rows_are) (IsPermutation-map (λ (o : Output). o.1) _ _ all))
+      let all = subst (λ rs. IsPermutation (map show rs) it.ordered) (filter-true (old.now.trees t.tree)) it.same in
+      subst (λ l. IsPermutation l rows) (map-map (λ (o : Output). o.1) show (old.now.trees t.tree)) (subst (IsPermutation (map (λ (o : Output). o.1) (map show (old.now.trees t.tree)))) (sym it.rows_are) (IsPermutation-map (λ (o : Output). o.1) _ _ all))
 
   by_names : (rs : List Row) → map (office_shown t) rs ≡ map (three a b c) rs
   by_names rs =
@@ -112,7 +105,7 @@ module _ (n : ℕ) (admin : Name) (old new : State) (t : Table) (is_there : offi
 
   this_row : (map (columns 3) rows ≡ office_cells n admin ∷ []) ↔ (map (office_shown t) (old.now.trees t.tree) ≡ office_cells n admin ∷ [])
   this_row =
-      let it = one_shown (office_cells n admin) (map (three a b c) (old.now.trees t.tree)) rows (columns_each a b c (old.now.trees t.tree)) some_order in
+      let it = one_shown (office_cells n admin) (map (three a b c) (old.now.trees t.tree)) rows (map-map (columns 3) (three a b c) (old.now.trees t.tree)) some_order in
       (λ e. by_names (old.now.trees t.tree) ∙ it.0 e, λ e. it.1 (sym (by_names (old.now.trees t.tree)) ∙ e))
 
   -- the rows that are shown tell whether it is this office
@@ -125,9 +118,6 @@ module _ (n : ℕ) (admin : Name) (old new : State) (t : Table) (is_there : offi
   )
 
 -- ---- the books of this office
-
-pub keeps_asked : (old new : State) (m : Content) → Represents old m → (IsHonest new → IsHonest old) → (IsHonest new → AreBooks old.now → new.now ≡ old.now) → Represents new m
-keeps_asked old new m keeps honest same now = let k = keeps (honest now) in keeps_same old new m k (same now k.books)
 
 pub is_this_office : (s : State) (m : Content) → HasContent s m → IsThisOffice m.admin s.now
 unfolding same_name

@@ -2,7 +2,7 @@
 use Rattle.std.proofs.Common.{refl, List, ℕ, [], ◌∷◌, codes}
 use Rattle.sqlite.{specs.{Listing.{understood}, Query.{inner, end}, Term.{col}}, proofs.Callers.{IsPlain}}
 use Rattle.sqlite_tied.specs.Compute.{everything}
-use Rattle.plant_columns.specs.{Kept.{plain_query}, Tables.{Kept, Kept.{GrantKept, UnitKept}}}
+use Rattle.plant_columns.specs.{Kept.{plain_query}, declared.tables.TableKind.{TableKind, TheVariants.{Grants, Units}}}
 use Rattle.plant_store.specs.OldTables.{old_books_schema, old_shape, old_unit_shape}
 use Rattle.plant_store.specs.Texts.{office_row_text, old_codes_text, old_grants_text, old_units_text, rows_text}
 use Rattle.plant_store.proofs.Meanings.{Asks, Lists, by_key, by_unit}
@@ -16,13 +16,13 @@ unfolding understood everything
 asks_codes = record { is = refl; unlisted = refl; plain = (refl, refl) }
 
 -- two tables are read by texts of their own, the others by those of today
-abbrev pub old_text : Kept → List ℕ
-old_text UnitKept = old_units_text
-old_text GrantKept = old_grants_text
+abbrev pub old_text : TableKind → List ℕ
+old_text Units = old_units_text
+old_text Grants = old_grants_text
 old_text i = rows_text i
 
 -- by running it for each table
-pub lists_old : (i : Kept) → Lists (old_shape i) old_books_schema (old_text i) by_unit
+pub lists_old : (i : TableKind) → Lists (old_shape i) old_books_schema (old_text i) by_unit
 unfolding understood everything
-lists_old UnitKept = record { is = refl; unlisted = refl; plain = (refl, refl) }
+lists_old Units = record { is = refl; unlisted = refl; plain = (refl, refl) }
 lists_old i = record { is = refl; unlisted = refl; plain = (refl, refl) }

@@ -3,7 +3,7 @@ use Rattle.std.{specs.Ordering.{ordering_then}, proofs.Common.{◌≡◌, true, 
 use Rattle.std.proofs.lemmas.Cmp.{nat_cmp_total}
 use Rattle.sqlite.specs.State.{State, Shown}
 use Rattle.sqlite_value.{specs.{Order.{Row, bytes, column}, declared.value.Value.TheVariants.{Text}}, proofs.OrderLemmas.{value_cmp-Text}}
-use Rattle.plant_columns.specs.{Shown.{columns}, Tables.{Kept, KeyOf, Kept.{GrantKept, UnitKept}}}
+use Rattle.plant_columns.specs.{Shown.{columns}, Tables.{KeyOf}, declared.tables.TableKind.{TableKind, TheVariants.{Grants, Units}}}
 use Rattle.plant_columns.proofs.public.{ShapeLaws.{cast_number, good, numbers, one, role_back}, Shapes.{IsShape, finds_rows}}
 use Rattle.plant_store.specs.OldTables.{AreOldBooks, OldRowOf, old_books_schema, old_grant_shape, old_rows, old_shape, old_unit_shape}
 use Rattle.plant_store.specs.{Statements.{ReadsOld}, Texts.{old_codes_text}, Upgrading.{old_codes}, declared.old_rows.CodeLine.{CodeLine}}
@@ -31,15 +31,15 @@ old_grant_good = record {
   fits = λ u x i. Text u ∷ Text x.person ∷ cast_number (role_no x.role_no) i ∷ [];
 }
 
-pub old_good : (i : Kept) → IsShape (old_shape i)
-old_good UnitKept = old_unit_good
-old_good GrantKept = old_grant_good
+pub old_good : (i : TableKind) → IsShape (old_shape i)
+old_good Units = old_unit_good
+old_good Grants = old_grant_good
 old_good i = good i
 
 -- ---- all rows of a unit, by computing for each table
 
-pub old_read : (i : Kept) (u : Name) → ReadsOld (length (drop 1 (old_shape i).columns)) (old_shape i).cells (λ trees. old_rows u trees i) (Text u ∷ []) (old_text i)
-old_read UnitKept u = reads_all OldRowOf KeyOf old_shape old_good old_books_schema UnitKept _ (λ x. refl) _ (lists_old UnitKept) u refl (λ r. one_test (column r 1) u) (λ id v x. refl)
+pub old_read : (i : TableKind) (u : Name) → ReadsOld (length (drop 1 (old_shape i).columns)) (old_shape i).cells (λ trees. old_rows u trees i) (Text u ∷ []) (old_text i)
+old_read Units u = reads_all OldRowOf KeyOf old_shape old_good old_books_schema Units _ (λ x. refl) _ (lists_old Units) u refl (λ r. one_test (column r 1) u) (λ id v x. refl)
 old_read i u = reads_all OldRowOf KeyOf old_shape old_good old_books_schema i _ (λ x. refl) _ (lists_old i) u refl (λ r. one_test (column r 1) u) (λ id v x. refl)
 
 -- ---- the codes of all units
@@ -52,7 +52,7 @@ pub old_codes_read : (old new : State) → AreOldBooks old.now → (rows : List 
 unfolding code_back
 old_codes_read old new books rows h lines said =
     let found = finds_rows old_unit_shape old_unit_good old_books_schema old_codes_text [] _ (by_key old_unit_shape) _ asks_codes.is asks_codes.unlisted asks_codes.plain [] refl (λ r. true) (λ r. refl)
-    old new books.same_schema (books.tidy UnitKept).apart rows h in
+    old new books.same_schema (books.tidy Units).apart rows h in
     ap (map (λ (l : CodeLine). l.unit)) (told (λ (l : CodeLine). Text l.unit ∷ []) code_back (λ l. refl) _ lines said) ∙ ap (λ rs. codes_in (map (columns 1) rs)) found ∙ again _
   where
     codes_in : List Row → List Name

@@ -8,11 +8,11 @@ use Rattle.sqlite_schema.specs.Rules.{equal}
 use Rattle.sqlite_tied.proofs.RuleLemmas.{and_true}
 use Rattle.sqlite_value.specs.{Order.{Row, column, value_cmp}, declared.value.Value.{Value, TheVariants.{Text}}}
 use Rattle.sqlite_value.proofs.OrderLemmas.{value_cmp-Text}
-use Rattle.plant_model.specs.Histories.{same_number}
+use Rattle.plant_model.{specs.Histories.{same_number}, proofs.public.PartLists.{filter-true}}
 use Rattle.plant_types.specs.Names.{Name, same_name}
-use Rattle.plant_columns.specs.{Codes.{number}, Kept.{is_of}}
-use Rattle.plant_columns.specs.Tables.Kept.{UnitKept, GrantKept, AlarmKept, ShelfKept, BandKept, CellKept, RecordKept, ChangeKept}
-use Rattle.plant_columns.specs.Tables.{AreBooks, Kept, KeyOf, RowOf, books_schema, shape, rows_seen, grant_shape, alarm_shape, shelf_shape, band_shape, cell_shape, record_shape, change_shape}
+use Rattle.plant_columns.specs.{Codes.{number}, Kept.{is_of}, Shown.{columns}}
+use Rattle.plant_columns.specs.declared.tables.TableKind.{TableKind, TheVariants.{Units, Grants, Alarms, Shelves, Bands, Cells, Records, Changes}}
+use Rattle.plant_columns.specs.Tables.{AreBooks, KeyOf, RowOf, books_schema, shape, rows_seen, grant_shape, alarm_shape, shelf_shape, band_shape, cell_shape, record_shape, change_shape}
 use Rattle.plant_columns.proofs.public.{Keys.{equal_is}, ShapeLaws.{good, numbers}, Shapes.{finds_rows}}
 use Rattle.plant_store.specs.Statements.{Reads}
 use Rattle.plant_store.specs.Texts.{own_grants_text, alarm_at_text, shelf_at_text, tags_of_text, shelf_tags_text, record_at_text, bands_at_text, cells_at_text, change_at_text, rows_text}
@@ -51,74 +51,70 @@ numbered_same m n = ap is_eq (numbers m n) ∙ (eq_by_cmp_equiv nat_cmp_total).s
 -- ---- all rows of a unit
 
 -- how many columns a table has of its own
-abbrev pub own_width : Kept → ℕ
+abbrev pub own_width : TableKind → ℕ
 own_width i = length (drop 1 (shape i).columns)
 
 -- by computing, for each table
-pub all_read : (i : Kept) (u : Name) → Reads (own_width i) (shape i).cells (λ trees. rows_seen u trees i) (Text u ∷ []) (rows_text i)
-all_read UnitKept u = reads_all RowOf KeyOf shape good books_schema UnitKept _ (λ x. refl) _ (lists_all UnitKept) u refl (λ r. one_test (column r 1) u) (λ id v x. refl)
+pub all_read : (i : TableKind) (u : Name) → Reads (own_width i) (shape i).cells (λ trees. rows_seen u trees i) (Text u ∷ []) (rows_text i)
+all_read Units u = reads_all RowOf KeyOf shape good books_schema Units _ (λ x. refl) _ (lists_all Units) u refl (λ r. one_test (column r 1) u) (λ id v x. refl)
 all_read i u = reads_all RowOf KeyOf shape good books_schema i _ (λ x. refl) _ (lists_all i) u refl (λ r. one_test (column r 1) u) (λ id v x. refl)
 
 -- ---- those of one person, of one tag, or of one number
 
-pub own_grants_read : (u p : Name) → Reads 3 grant_shape.cells (λ trees. filter (λ g. same_name p g.person) (rows_seen u trees GrantKept)) (Text u ∷ Text p ∷ []) own_grants_text
+pub own_grants_read : (u p : Name) → Reads 3 grant_shape.cells (λ trees. filter (λ g. same_name p g.person) (rows_seen u trees Grants)) (Text u ∷ Text p ∷ []) own_grants_text
 own_grants_read u p =
-    reads_some RowOf KeyOf shape good books_schema GrantKept 3 (λ x. refl) own_grants_text lists_own_grants u (Text p) refl (is_named p) (λ r. two_tests (column r 1) (column r 2) u p) (λ id v x. refl)
+    reads_some RowOf KeyOf shape good books_schema Grants 3 (λ x. refl) own_grants_text lists_own_grants u (Text p) refl (is_named p) (λ r. two_tests (column r 1) (column r 2) u p) (λ id v x. refl)
     (λ g. same_name p g.person) (λ id v x. named_same x.person p)
 
-pub alarm_read : (u a : Name) → Reads 11 alarm_shape.cells (λ trees. filter (λ r. same_name a r.tag) (rows_seen u trees AlarmKept)) (Text u ∷ Text a ∷ []) alarm_at_text
+pub alarm_read : (u a : Name) → Reads 11 alarm_shape.cells (λ trees. filter (λ r. same_name a r.tag) (rows_seen u trees Alarms)) (Text u ∷ Text a ∷ []) alarm_at_text
 alarm_read u a =
-    reads_some RowOf KeyOf shape good books_schema AlarmKept 11 (λ x. refl) alarm_at_text lists_alarm u (Text a) refl (is_named a) (λ r. two_tests (column r 1) (column r 2) u a) (λ id v x. refl)
+    reads_some RowOf KeyOf shape good books_schema Alarms 11 (λ x. refl) alarm_at_text lists_alarm u (Text a) refl (is_named a) (λ r. two_tests (column r 1) (column r 2) u a) (λ id v x. refl)
     (λ r. same_name a r.tag) (λ id v x. named_same x.tag a)
 
-pub shelf_read : (u a : Name) → Reads 6 shelf_shape.cells (λ trees. filter (λ r. same_name a r.tag) (rows_seen u trees ShelfKept)) (Text u ∷ Text a ∷ []) shelf_at_text
+pub shelf_read : (u a : Name) → Reads 6 shelf_shape.cells (λ trees. filter (λ r. same_name a r.tag) (rows_seen u trees Shelves)) (Text u ∷ Text a ∷ []) shelf_at_text
 shelf_read u a =
-    reads_some RowOf KeyOf shape good books_schema ShelfKept 6 (λ x. refl) shelf_at_text lists_shelf u (Text a) refl (is_named a) (λ r. two_tests (column r 1) (column r 2) u a) (λ id v x. refl)
+    reads_some RowOf KeyOf shape good books_schema Shelves 6 (λ x. refl) shelf_at_text lists_shelf u (Text a) refl (is_named a) (λ r. two_tests (column r 1) (column r 2) u a) (λ id v x. refl)
     (λ r. same_name a r.tag) (λ id v x. named_same x.tag a)
 
-pub record_read : (u a : Name) → Reads 4 record_shape.cells (λ trees. filter (λ r. same_name a r.tag) (rows_seen u trees RecordKept)) (Text u ∷ Text a ∷ []) record_at_text
+pub record_read : (u a : Name) → Reads 4 record_shape.cells (λ trees. filter (λ r. same_name a r.tag) (rows_seen u trees Records)) (Text u ∷ Text a ∷ []) record_at_text
 record_read u a =
-    reads_some RowOf KeyOf shape good books_schema RecordKept 4 (λ x. refl) record_at_text lists_record u (Text a) refl (is_named a) (λ r. two_tests (column r 1) (column r 2) u a) (λ id v x. refl)
+    reads_some RowOf KeyOf shape good books_schema Records 4 (λ x. refl) record_at_text lists_record u (Text a) refl (is_named a) (λ r. two_tests (column r 1) (column r 2) u a) (λ id v x. refl)
     (λ r. same_name a r.tag) (λ id v x. named_same x.tag a)
 
-pub bands_at_read : (u : Name) (n : ℕ) → Reads 3 band_shape.cells (λ trees. filter (λ r. same_number n r.matrix_no) (rows_seen u trees BandKept)) (Text u ∷ number n ∷ []) bands_at_text
+pub bands_at_read : (u : Name) (n : ℕ) → Reads 3 band_shape.cells (λ trees. filter (λ r. same_number n r.matrix_no) (rows_seen u trees Bands)) (Text u ∷ number n ∷ []) bands_at_text
 bands_at_read u n =
-    reads_some RowOf KeyOf shape good books_schema BandKept 3 (λ x. refl) bands_at_text lists_bands u (number n) refl (is_numbered n) (λ r. number_tests (column r 1) (column r 2) u n) (λ id v x. refl)
+    reads_some RowOf KeyOf shape good books_schema Bands 3 (λ x. refl) bands_at_text lists_bands u (number n) refl (is_numbered n) (λ r. number_tests (column r 1) (column r 2) u n) (λ id v x. refl)
     (λ r. same_number n r.matrix_no) (λ id v x. numbered_same x.matrix_no n)
 
-pub cells_at_read : (u : Name) (n : ℕ) → Reads 4 cell_shape.cells (λ trees. filter (λ r. same_number n r.matrix_no) (rows_seen u trees CellKept)) (Text u ∷ number n ∷ []) cells_at_text
+pub cells_at_read : (u : Name) (n : ℕ) → Reads 4 cell_shape.cells (λ trees. filter (λ r. same_number n r.matrix_no) (rows_seen u trees Cells)) (Text u ∷ number n ∷ []) cells_at_text
 cells_at_read u n =
-    reads_some RowOf KeyOf shape good books_schema CellKept 4 (λ x. refl) cells_at_text lists_cells u (number n) refl (is_numbered n) (λ r. number_tests (column r 1) (column r 2) u n) (λ id v x. refl)
+    reads_some RowOf KeyOf shape good books_schema Cells 4 (λ x. refl) cells_at_text lists_cells u (number n) refl (is_numbered n) (λ r. number_tests (column r 1) (column r 2) u n) (λ id v x. refl)
     (λ r. same_number n r.matrix_no) (λ id v x. numbered_same x.matrix_no n)
 
-pub change_read : (u : Name) (n : ℕ) → Reads 15 change_shape.cells (λ trees. filter (λ r. same_number n r.number) (rows_seen u trees ChangeKept)) (Text u ∷ number n ∷ []) change_at_text
+pub change_read : (u : Name) (n : ℕ) → Reads 15 change_shape.cells (λ trees. filter (λ r. same_number n r.number) (rows_seen u trees Changes)) (Text u ∷ number n ∷ []) change_at_text
 change_read u n =
-    reads_some RowOf KeyOf shape good books_schema ChangeKept 15 (λ x. refl) change_at_text lists_change u (number n) refl (is_numbered n) (λ r. number_tests (column r 1) (column r 2) u n) (λ id v x. refl)
+    reads_some RowOf KeyOf shape good books_schema Changes 15 (λ x. refl) change_at_text lists_change u (number n) refl (is_numbered n) (λ r. number_tests (column r 1) (column r 2) u n) (λ id v x. refl)
     (λ r. same_number n r.number) (λ id v x. numbered_same x.number n)
 
 -- ---- how many alarms and how many shelves a unit has
 
-pub alarms_counted : (u : Name) (old new : State) → AreBooks old.now → (rows : List Row) → Shown tags_of_text (Text u ∷ []) old new rows → length rows ≡ length (rows_seen u old.now.trees AlarmKept)
+pub alarms_counted : (u : Name) (old new : State) → AreBooks old.now → (rows : List Row) → Shown tags_of_text (Text u ∷ []) old new rows → length rows ≡ length (rows_seen u old.now.trees Alarms)
 alarms_counted u old new books rows h =
-    let found = finds_rows alarm_shape (good AlarmKept) books_schema tags_of_text by_unit _ (by_key alarm_shape) _ tags_of.is tags_of.unlisted tags_of.plain (Text u ∷ []) refl (is_of u) (λ r. one_test (column r 1) u)
-    old new books.same_schema (books.tidy AlarmKept).apart rows h in
+    let found = finds_rows alarm_shape (good Alarms) books_schema tags_of_text by_unit _ (by_key alarm_shape) _ tags_of.is tags_of.unlisted tags_of.plain (Text u ∷ []) refl (is_of u) (λ r. one_test (column r 1) u)
+    old new books.same_schema (books.tidy Alarms).apart rows h in
     ap length found ∙ length-map _ _ ∙ sym (length-map _ alarm_shape.read)
 
-pub shelves_counted : (u : Name) (old new : State) → AreBooks old.now → (rows : List Row) → Shown shelf_tags_text (Text u ∷ []) old new rows → length rows ≡ length (rows_seen u old.now.trees ShelfKept)
+pub shelves_counted : (u : Name) (old new : State) → AreBooks old.now → (rows : List Row) → Shown shelf_tags_text (Text u ∷ []) old new rows → length rows ≡ length (rows_seen u old.now.trees Shelves)
 shelves_counted u old new books rows h =
-    let found = finds_rows shelf_shape (good ShelfKept) books_schema shelf_tags_text by_unit _ (by_key shelf_shape) _ shelf_tags.is shelf_tags.unlisted shelf_tags.plain (Text u ∷ []) refl (is_of u) (λ r. one_test (column r 1) u)
-    old new books.same_schema (books.tidy ShelfKept).apart rows h in
+    let found = finds_rows shelf_shape (good Shelves) books_schema shelf_tags_text by_unit _ (by_key shelf_shape) _ shelf_tags.is shelf_tags.unlisted shelf_tags.plain (Text u ∷ []) refl (is_of u) (λ r. one_test (column r 1) u)
+    old new books.same_schema (books.tidy Shelves).apart rows h in
     ap length found ∙ length-map _ _ ∙ sym (length-map _ shelf_shape.read)
 
 -- ---- which rows a call looks at
-
-pub passing_all : {A : Type 0} (xs : List A) → filter (λ x. true) xs ≡ xs
-passing_all [] = refl
-passing_all (x ∷ xs) = ap (λ l. x ∷ l) (passing_all xs)
 
 pub passing_none : {A : Type 0} (xs : List A) → filter (λ x. false) xs ≡ []
 passing_none [] = refl
 passing_none (x ∷ xs) = passing_none xs
 
 pub every_one : {A : Type 0} (all : Bool) → all ≡ true → (f : A → Bool) (xs : List A) → xs ≡ filter (λ x. f x || all) xs
-every_one all h f xs = sym (filter_same (λ x. f x || all) (λ x. true) (λ x. or_right (f x) all h) xs ∙ passing_all xs)
+every_one all h f xs = sym (filter_same (λ x. f x || all) (λ x. true) (λ x. or_right (f x) all h) xs ∙ filter-true xs)

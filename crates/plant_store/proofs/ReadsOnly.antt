@@ -1,7 +1,10 @@
 -- What was only read: by one query that writes nothing, and by reads one after another.
 use Rattle.std.proofs.Common.{◌≡◌, List, ℕ, refl, sym, subst, ◌∙◌}
-use Rattle.sqlite.{specs.{Effect.{Database}, Listing.{understood}, Schema.{Schema}, State.{State}}, proofs.Callers.{IsPlain}}
+use Rattle.sqlite.{specs.{Effect.{Database}, Held.{Held, state}, Listing.{understood}, Schema.{Schema}, State.{State}}, proofs.Callers.{IsPlain}}
+use Rattle.sqlite_trees.specs.declared.store.Store.{Ghosts}
+use Rattle.plant_books.specs.Contents.{Content}
 use Rattle.plant_columns.specs.Tables.{AreBooks, books_schema}
+use Rattle.plant_store.{specs.{Keeping.{HasContent, Represents}, Reading.{HasNoTransaction, ReadsBooks}}, proofs.public.Contents.{keeps_same}}
 use Rattle.plant_store.specs.{Changes.{IsHonest}, OldTables.{old_books_schema}, OnlyReads.{OnlyReads, OnlyReadsIn, OnlyReadsOld}}
 
 -- what was only read twice was only read
@@ -12,6 +15,10 @@ reads_then {AreIts} {first} {mid} {last} one two = record {
       two.same honest (subst AreIts (sym e) are) ∙ e;
   honest = λ honest. one.honest (two.honest honest);
 }
+
+-- and has what it had
+pub keeps_read : {old new : State} (m : Content) → Represents old m → OnlyReads old new → Represents new m
+keeps_read {old} {new} m keeps it honest = let k = keeps (it.honest honest) in keeps_same old new m k (it.same honest k.books)
 
 -- a plain query only reads the books
 pub reads_plain : {before after : State} (text : List ℕ) → IsPlain (understood books_schema text) → (IsHonest after → (schema : Schema) → before.now.schema ≡ schema → IsPlain (understood schema text) → after.now ≡ before.now)
@@ -36,3 +43,22 @@ pub goes_on : {old s next : State} → OnlyReads s next → IsHonest next → St
 goes_on it honest so_far =
     let same = it.same honest so_far.books in
     record { now = same ∙ so_far.now; books = subst AreBooks (sym same) so_far.books }
+
+-- ---- lists that are made read by read
+
+-- what is listed, and then what is left, is the whole, and the books were only read
+pub record IsListed {S X : Type 0} (g : Ghosts S) (before after : Held S) (listed whole : Content → List X) : Type 0 where
+  pub mode : HasNoTransaction after
+  pub found : IsHonest (state g after) → (m : Content) → HasContent (state g before) m → listed m ≡ whole m
+  pub reads : ReadsBooks g before after
+
+-- also after one read more, if that leaves the whole
+pub lists_on : {S X : Type 0} {g : Ghosts S} {before mid after : Held S} {listed more whole : Content → List X} → IsListed g before mid listed whole → HasNoTransaction after → ReadsBooks g mid after
+    → (IsHonest (state g after) → (m : Content) → HasContent (state g mid) m → listed m ≡ whole m → more m ≡ whole m) → IsListed g before after more whole
+lists_on {S} {X} {g} {before} {mid} {after} so_far mode reads next = record {
+  mode = mode;
+  found = λ honest m k.
+      let was = reads.honest honest in
+      next honest m (keeps_same (state g before) (state g mid) m k (so_far.reads.same was k.books)) (so_far.found was m k);
+  reads = reads_then so_far.reads reads;
+}

@@ -2,7 +2,7 @@
 use Rattle.std.specs.List.{slice_get}
 use Rattle.std.proofs.Common.{◌≡◌, ℕ, Bool, true, false, List, filter, Option, None, Some, sym, ap, ◌∙◌, [], arith, length, refl, ◌∷◌, if◌then◌else◌, option_map, ◌||◌, nat_cmp}
 use Rattle.sqlite.specs.State.{State}
-use Rattle.sqlite_keyed.proofs.ListLemmas.{filter_same}
+use Rattle.sqlite_keyed.proofs.ListLemmas.{filter_same, slice_get-filter}
 use Rattle.plant_books.specs.{Asking.{HasTheirShelves, is_alarm_wanted, is_wanted}, Contents.{Content, part_in, rows_in}, Found.{shelved}}
 use Rattle.plant_books.specs.declared.asking.{Wanted.{Wanted, TheVariants.{Every, Nothing, One}}, WantedAlarms.{WantedAlarms}}
 use Rattle.plant_books.{specs.declared.asking.WantedAlarms.TheVariants.{Shelved, Those}, proofs.public.EventLaws.{none_asked}}
@@ -10,29 +10,30 @@ use Rattle.plant_alarm.specs.declared.event.{Event.{Event}, EventKind.TheVariant
 use Rattle.plant_model.specs.{Histories.{same_number}, Order.{TagsRise}}
 use Rattle.plant_model.specs.Parts.{Selection, counted_for, has_shelf, part_of, part_of_holder, part_of_stranger, rows_selected, selected}
 use Rattle.plant_model.specs.RowChanges.{no_rows}
-use Rattle.plant_model.specs.RowFacts.{alarm_tag, change_found, change_number, event_number, holds_by, pair_of, record_tag, shelf_tag}
+use Rattle.plant_model.specs.RowFacts.{alarm_tag, change_found, event_number, holds_by, pair_of, record_tag, shelf_tag}
 use Rattle.plant_model.specs.{Scopes.{looks_at_events}, declared.call.{Call.{Call}, Request.{Request, TheVariants.{Floods, Import}}}}
 use Rattle.plant_model.specs.declared.rows.{AlarmRow.{AlarmRow}, BandRow.{BandRow}, CellRow.{CellRow}, ChangeEntry.{ChangeEntry}, GrantRow.{GrantRow}}
 use Rattle.plant_model.specs.declared.rows.{RecordEntry.{RecordEntry}, ShelfRow.{ShelfRow}, UnitPart.{UnitPart}, UnitRow.{UnitRow}}
-use Rattle.plant_model.{specs.declared.rows.UnitRows.{UnitRows}, proofs.public.{PartLaws.{own_holds}, ReadLaws.{left_in_order}}}
-use Rattle.plant_types.specs.{KeyedRows.{IsInOrder, row_at}, Names.{Name, name_cmp, same_name}, Roles.{Pair}}
+use Rattle.plant_model.{specs.declared.rows.UnitRows.{UnitRows}, proofs.public.{PartLaws.{own_holds}, PartLists.{filter-true}}}
+use Rattle.plant_model.proofs.public.ReadLaws.{left_in_order}
+use Rattle.plant_types.specs.{KeyedRows.{IsInOrder}, Names.{Name, name_cmp, same_name}, Roles.{Pair}}
 use Rattle.plant_store.specs.{Keeping.{HasContent, has_any}, Wanted.{alarms_left, alarms_with, events_with, rows_with}}
-use Rattle.plant_store.proofs.{Queries.{passing_all, passing_none}, public.Contents.{kept_rows, never_opened}}
-use Rattle.plant_columns.specs.Tables.Kept.{UnitKept, GrantKept, AlarmKept, ShelfKept, BandKept, CellKept, EventKept, RecordKept, ChangeKept}
+use Rattle.plant_store.proofs.{Queries.{passing_none}, public.Contents.{kept_rows, never_opened}}
+use Rattle.plant_columns.specs.declared.tables.TableKind.TheVariants.{Units, Grants, Alarms, Shelves, Bands, Cells, Events, Records, Changes}
 use Rattle.plant_columns.specs.Tables.{rows_seen}
 
 -- rows that are wanted are those that pass a test which says so
 rows_are : {X : Type 0} (tag_of : X → Name) (test : Name → Bool) (w : Wanted) → ((a : Name) → test a ≡ is_wanted w a) → (rows : List X) → rows_with tag_of w rows ≡ filter (λ r. test (tag_of r)) rows
 rows_are {X} tag_of test Nothing h rows = sym (filter_same (λ (r : X). test (tag_of r)) (λ r. false) (λ r. h (tag_of r)) rows ∙ passing_none rows)
 rows_are {X} tag_of test (One tag) h rows = sym (filter_same (λ (r : X). test (tag_of r)) (λ r. same_name tag.now (tag_of r)) (λ r. h (tag_of r)) rows)
-rows_are {X} tag_of test Every h rows = sym (filter_same (λ (r : X). test (tag_of r)) (λ r. true) (λ r. h (tag_of r)) rows ∙ passing_all rows)
+rows_are {X} tag_of test Every h rows = sym (filter_same (λ (r : X). test (tag_of r)) (λ r. true) (λ r. h (tag_of r)) rows ∙ filter-true rows)
 
 -- the shelves are those that are selected of all
 alarms_are : (s : Selection) (all shelves : List ShelfRow) (w : WantedAlarms) → ((a : Name) → s.alarm a ≡ is_alarm_wanted all w a) → HasTheirShelves s w → shelves ≡ filter (λ r. s.shelf r.tag) all → (rows : List AlarmRow)
     → alarms_left w shelves (alarms_with w rows) ≡ filter (λ r. s.alarm r.tag) rows
 alarms_are s all shelves (Those wanted) h beside is rows = rows_are alarm_tag s.alarm wanted h rows
 alarms_are s all shelves Shelved h beside is rows =
-    ap (λ some. shelved some rows) (is ∙ filter_same (λ (r : ShelfRow). s.shelf r.tag) (λ r. true) (λ r. beside r.tag) all ∙ passing_all all)
+    ap (λ some. shelved some rows) (is ∙ filter_same (λ (r : ShelfRow). s.shelf r.tag) (λ r. true) (λ r. beside r.tag) all ∙ filter-true all)
     ∙ sym (filter_same (λ (r : AlarmRow). s.alarm r.tag) (λ r. has_shelf all r.tag) (λ r. h r.tag) rows)
 
 -- what a request takes in of the events that were read for it
@@ -63,78 +64,70 @@ counts_events (Floods u begin until) counts = refl
 counts_events _ counts = absurd (let no = counts (record no_rows { events = some_event ∷ [] }) in omega (arith, no))
 
 module _ (s : State) (m : Content) (u : Name) (k : HasContent s m) where
-  seen_grants : (c : Call) (chosen : Selection) (all : Bool) → ((p : Pair) → chosen.pair p ≡ all) → filter (λ g. same_name c.person g.person || all) (rows_seen u s.now.trees GrantKept) ≡ (rows_selected c.person chosen (rows_in m u)).grants
-  seen_grants c chosen all h = filter_same (λ g. same_name c.person g.person || all) (λ g. same_name c.person g.person || chosen.pair (pair_of g)) (λ g. ap (λ b. same_name c.person g.person || b) (sym (h (pair_of g)))) (rows_seen u s.now.trees GrantKept)
-      ∙ ap (filter (λ g. same_name c.person g.person || chosen.pair (pair_of g))) (k.seen u GrantKept)
+  seen_grants : (c : Call) (chosen : Selection) (all : Bool) → ((p : Pair) → chosen.pair p ≡ all) → filter (λ g. same_name c.person g.person || all) (rows_seen u s.now.trees Grants) ≡ (rows_selected c.person chosen (rows_in m u)).grants
+  seen_grants c chosen all h = filter_same (λ g. same_name c.person g.person || all) (λ g. same_name c.person g.person || chosen.pair (pair_of g)) (λ g. ap (λ b. same_name c.person g.person || b) (sym (h (pair_of g)))) (rows_seen u s.now.trees Grants)
+      ∙ ap (filter (λ g. same_name c.person g.person || chosen.pair (pair_of g))) (k.seen u Grants)
 
   -- the records that a call looks at, as they were read
-  pub records_asked : (chosen : Selection) (w : Wanted) → ((a : Name) → chosen.rationale a ≡ is_wanted w a) → (records : List RecordEntry) → records ≡ rows_with record_tag w (rows_seen u s.now.trees RecordKept)
+  pub records_asked : (chosen : Selection) (w : Wanted) → ((a : Name) → chosen.rationale a ≡ is_wanted w a) → (records : List RecordEntry) → records ≡ rows_with record_tag w (rows_seen u s.now.trees Records)
       → records ≡ filter (λ r. chosen.rationale r.tag) (rows_in m u).records
-  records_asked chosen w h records is = is ∙ rows_are record_tag chosen.rationale w h _ ∙ ap (filter (λ r. chosen.rationale r.tag)) (k.seen u RecordKept)
+  records_asked chosen w h records is = is ∙ rows_are record_tag chosen.rationale w h _ ∙ ap (filter (λ r. chosen.rationale r.tag)) (k.seen u Records)
 
   -- the change that is approved, as it was read
-  found_first : (n : ℕ) (changes : List ChangeEntry) → row_at nat_cmp change_number n changes ≡ slice_get (filter (λ r. same_number n r.number) changes) 0
-  found_first n [] = refl
-  found_first n (c ∷ changes) = by (same_number n c.number) (found_first n changes) where
-    by : (b : Bool) → row_at nat_cmp change_number n changes ≡ slice_get (filter (λ r. same_number n r.number) changes) 0
-        → (if b then Some c else row_at nat_cmp change_number n changes) ≡ slice_get (if b then c ∷ filter (λ r. same_number n r.number) changes else filter (λ r. same_number n r.number) changes) 0
-    by true rest = refl
-    by false rest = rest
+  pub approved_found : (n : ℕ) (read : List ChangeEntry) → read ≡ filter (λ r. same_number n r.number) (rows_seen u s.now.trees Changes) → change_found (rows_in m u) n ≡ slice_get read 0
+  approved_found n read is = sym (slice_get-filter (λ (r : ChangeEntry). same_number n r.number) (rows_in m u).changes) ∙ ap (λ rows. slice_get (filter (λ (r : ChangeEntry). same_number n r.number) rows) 0) (sym (k.seen u Changes)) ∙ ap (λ rows. slice_get rows 0) (sym is)
 
-  pub approved_found : (n : ℕ) (read : List ChangeEntry) → read ≡ filter (λ r. same_number n r.number) (rows_seen u s.now.trees ChangeKept) → change_found (rows_in m u) n ≡ slice_get read 0
-  approved_found n read is = found_first n (rows_in m u).changes ∙ ap (λ rows. slice_get (filter (λ (r : ChangeEntry). same_number n r.number) rows) 0) (sym (k.seen u ChangeKept)) ∙ ap (λ rows. slice_get rows 0) (sym is)
-
-  pub part_found : (c : Call) (chosen : Selection) → chosen ≡ selected (rows_in m u) c.request → (units : List UnitRow) → units ≡ rows_seen u s.now.trees UnitKept
-      → (all : Bool) → ((p : Pair) → chosen.pair p ≡ all) → (grants : List GrantRow) → grants ≡ filter (λ g. same_name c.person g.person || all) (rows_seen u s.now.trees GrantKept)
+  pub part_found : (c : Call) (chosen : Selection) → chosen ≡ selected (rows_in m u) c.request → (units : List UnitRow) → units ≡ rows_seen u s.now.trees Units
+      → (all : Bool) → ((p : Pair) → chosen.pair p ≡ all) → (grants : List GrantRow) → grants ≡ filter (λ g. same_name c.person g.person || all) (rows_seen u s.now.trees Grants)
       → (tags : WantedAlarms) → ((a : Name) → chosen.alarm a ≡ is_alarm_wanted (rows_in m u).shelves tags a) → HasTheirShelves chosen tags
-      → (shelved : Wanted) → ((a : Name) → chosen.shelf a ≡ is_wanted shelved a) → (shelves : List ShelfRow) → shelves ≡ rows_with shelf_tag shelved (rows_seen u s.now.trees ShelfKept)
-      → (alarms : List AlarmRow) → alarms ≡ alarms_left tags shelves (alarms_with tags (rows_seen u s.now.trees AlarmKept))
-      → (looks : Bool) → looks ≡ looks_at_events c.request → (all_events : List Event) → all_events ≡ events_with looks (rows_seen u s.now.trees EventKept) → (events : List Event) → events ≡ chosen.events all_events
+      → (shelved : Wanted) → ((a : Name) → chosen.shelf a ≡ is_wanted shelved a) → (shelves : List ShelfRow) → shelves ≡ rows_with shelf_tag shelved (rows_seen u s.now.trees Shelves)
+      → (alarms : List AlarmRow) → alarms ≡ alarms_left tags shelves (alarms_with tags (rows_seen u s.now.trees Alarms))
+      → (looks : Bool) → looks ≡ looks_at_events c.request → (all_events : List Event) → all_events ≡ events_with looks (rows_seen u s.now.trees Events) → (events : List Event) → events ≡ chosen.events all_events
       → (records : List RecordEntry) → records ≡ filter (λ r. chosen.rationale r.tag) (rows_in m u).records
-      → (bands : List BandRow) → bands ≡ filter (λ r. chosen.matrix r.matrix_no) (rows_seen u s.now.trees BandKept)
-      → (cells : List CellRow) → cells ≡ filter (λ r. chosen.matrix r.matrix_no) (rows_seen u s.now.trees CellKept)
-      → (changes : List ChangeEntry) → changes ≡ filter (λ r. chosen.change r.number) (rows_seen u s.now.trees ChangeKept)
-      → (count : ℕ) → ((rows : UnitRows) → rows.alarms ≡ rows_seen u s.now.trees AlarmKept → rows.changes ≡ rows_seen u s.now.trees ChangeKept → (looks_at_events c.request ≡ true → rows.events ≡ all_events) → count ≡ counted_for rows c.request)
+      → (bands : List BandRow) → bands ≡ filter (λ r. chosen.matrix r.matrix_no) (rows_seen u s.now.trees Bands)
+      → (cells : List CellRow) → cells ≡ filter (λ r. chosen.matrix r.matrix_no) (rows_seen u s.now.trees Cells)
+      → (changes : List ChangeEntry) → changes ≡ filter (λ r. chosen.change r.number) (rows_seen u s.now.trees Changes)
+      → (count : ℕ) → ((rows : UnitRows) → rows.alarms ≡ rows_seen u s.now.trees Alarms → rows.changes ≡ rows_seen u s.now.trees Changes → (looks_at_events c.request ≡ true → rows.events ≡ all_events) → count ≡ counted_for rows c.request)
       → ◌≡◌ {A = UnitPart} (record { rows = record { units = units; grants = grants; alarms = alarms; shelves = shelves; events = events; bands = bands; cells = cells; records = records; changes = changes }; count = count }) (part_of_holder c (rows_in m u))
   part_found c chosen is units us all ha grants gs tags ts beside shelved hs shelves ss alarms as_ looks he all_events ae events es records rs bands bs cells ls changes cs count ns =
       let rows = rows_in m u in
-      let shelves_so : shelves ≡ filter (λ r. chosen.shelf r.tag) rows.shelves = ss ∙ rows_are shelf_tag chosen.shelf shelved hs _ ∙ ap (filter (λ r. chosen.shelf r.tag)) (k.seen u ShelfKept) in
+      let shelves_so : shelves ≡ filter (λ r. chosen.shelf r.tag) rows.shelves = ss ∙ rows_are shelf_tag chosen.shelf shelved hs _ ∙ ap (filter (λ r. chosen.shelf r.tag)) (k.seen u Shelves) in
       let whole : ◌≡◌ {A = UnitPart} (record { rows = record { units = units; grants = grants; alarms = alarms; shelves = shelves; events = events; bands = bands; cells = cells; records = records; changes = changes }; count = count }) (record { rows = rows_selected c.person chosen rows; count = counted_for rows c.request }) = λ i. record {
         rows = record {
-          units = (us ∙ k.seen u UnitKept) i;
+          units = (us ∙ k.seen u Units) i;
           grants = (gs ∙ seen_grants c chosen all ha) i;
-          alarms = (as_ ∙ alarms_are chosen rows.shelves shelves tags ts beside shelves_so _ ∙ ap (filter (λ r. chosen.alarm r.tag)) (k.seen u AlarmKept)) i;
+          alarms = (as_ ∙ alarms_are chosen rows.shelves shelves tags ts beside shelves_so _ ∙ ap (filter (λ r. chosen.alarm r.tag)) (k.seen u Alarms)) i;
           shelves = shelves_so i;
-          events = (es ∙ ap chosen.events ae ∙ ap (λ (x : Selection). x.events (events_with looks (rows_seen u s.now.trees EventKept))) is ∙ events_are rows c.request looks he _ ∙ sym (ap (λ (x : Selection). x.events (rows_seen u s.now.trees EventKept)) is) ∙ ap chosen.events (k.seen u EventKept)) i;
-          bands = (bs ∙ ap (filter (λ r. chosen.matrix r.matrix_no)) (k.seen u BandKept)) i;
-          cells = (ls ∙ ap (filter (λ r. chosen.matrix r.matrix_no)) (k.seen u CellKept)) i;
+          events = (es ∙ ap chosen.events ae ∙ ap (λ (x : Selection). x.events (events_with looks (rows_seen u s.now.trees Events))) is ∙ events_are rows c.request looks he _ ∙ sym (ap (λ (x : Selection). x.events (rows_seen u s.now.trees Events)) is) ∙ ap chosen.events (k.seen u Events)) i;
+          bands = (bs ∙ ap (filter (λ r. chosen.matrix r.matrix_no)) (k.seen u Bands)) i;
+          cells = (ls ∙ ap (filter (λ r. chosen.matrix r.matrix_no)) (k.seen u Cells)) i;
           records = rs i;
-          changes = (cs ∙ ap (filter (λ r. chosen.change r.number)) (k.seen u ChangeKept)) i;
+          changes = (cs ∙ ap (filter (λ r. chosen.change r.number)) (k.seen u Changes)) i;
         };
-        count = (ns rows (sym (k.seen u AlarmKept)) (sym (k.seen u ChangeKept)) (λ looks. sym (ae ∙ ap (λ b. events_with b (rows_seen u s.now.trees EventKept)) (he ∙ looks) ∙ k.seen u EventKept))) i;
+        count = (ns rows (sym (k.seen u Alarms)) (sym (k.seen u Changes)) (λ looks. sym (ae ∙ ap (λ b. events_with b (rows_seen u s.now.trees Events)) (he ∙ looks) ∙ k.seen u Events))) i;
       } in
       whole ∙ ap (λ (x : Selection). record { rows = rows_selected c.person x rows; count = counted_for rows c.request }) is
 
   -- the caller's grants tell whether the caller holds a role in the unit
-  own_tell : (c : Call) (own : List GrantRow) → own ≡ filter (λ g. same_name c.person g.person) (rows_seen u s.now.trees GrantKept) → holds_by own c.moment c.person ≡ holds_by (rows_in m u).grants c.moment c.person
-  own_tell c own is = ap (λ gs. holds_by gs c.moment c.person) (is ∙ ap (filter (λ (g : GrantRow). same_name c.person g.person)) (k.seen u GrantKept)) ∙ own_holds (rows_in m u) c.person c.moment
+  own_tell : (c : Call) (own : List GrantRow) → own ≡ filter (λ g. same_name c.person g.person) (rows_seen u s.now.trees Grants) → holds_by own c.moment c.person ≡ holds_by (rows_in m u).grants c.moment c.person
+  own_tell c own is = ap (λ gs. holds_by gs c.moment c.person) (is ∙ ap (filter (λ (g : GrantRow). same_name c.person g.person)) (k.seen u Grants)) ∙ own_holds (rows_in m u) c.person c.moment
 
   -- the part of one who holds a role, and of one who holds none
-  pub holder_found : (c : Call) (units : List UnitRow) → units ≡ rows_seen u s.now.trees UnitKept → has_any units ≡ true → (own : List GrantRow) → own ≡ filter (λ g. same_name c.person g.person) (rows_seen u s.now.trees GrantKept) → holds_by own c.moment c.person ≡ true
+  pub holder_found : (c : Call) (units : List UnitRow) → units ≡ rows_seen u s.now.trees Units → has_any units ≡ true → (own : List GrantRow) → own ≡ filter (λ g. same_name c.person g.person) (rows_seen u s.now.trees Grants) → holds_by own c.moment c.person ≡ true
       → (part : UnitPart) → part ≡ part_of_holder c (rows_in m u) → ◌≡◌ {A = Option UnitPart} (Some part) (part_in m c u)
   holder_found c units us any own os held part is =
       ap Some (is ∙ sym (ap (λ b. if b then part_of_holder c (rows_in m u) else part_of_stranger c (rows_in m u)) (sym (own_tell c own os) ∙ held)))
       ∙ sym (ap (option_map (part_of c)) (kept_rows s m u k (ap has_any (sym us) ∙ any)))
 
-  pub stranger_found : (c : Call) (units : List UnitRow) → units ≡ rows_seen u s.now.trees UnitKept → has_any units ≡ true → (own : List GrantRow) → own ≡ filter (λ g. same_name c.person g.person) (rows_seen u s.now.trees GrantKept) → holds_by own c.moment c.person ≡ false
+  pub stranger_found : (c : Call) (units : List UnitRow) → units ≡ rows_seen u s.now.trees Units → has_any units ≡ true → (own : List GrantRow) → own ≡ filter (λ g. same_name c.person g.person) (rows_seen u s.now.trees Grants) → holds_by own c.moment c.person ≡ false
       → (part : UnitPart) → part.rows ≡ record no_rows { units = units; grants = own } → part.count ≡ 0 → ◌≡◌ {A = Option UnitPart} (Some part) (part_in m c u)
   stranger_found c units us any own os held part rows none =
       let whole : ◌≡◌ {A = UnitPart} part (part_of_stranger c (rows_in m u)) = λ i. record {
-        rows = (rows ∙ (λ j. record no_rows { units = (us ∙ k.seen u UnitKept) j; grants = (os ∙ ap (filter (λ (g : GrantRow). same_name c.person g.person)) (k.seen u GrantKept)) j })) i;
+        rows = (rows ∙ (λ j. record no_rows { units = (us ∙ k.seen u Units) j; grants = (os ∙ ap (filter (λ (g : GrantRow). same_name c.person g.person)) (k.seen u Grants)) j })) i;
         count = none i;
       } in
       ap Some (whole ∙ sym (ap (λ b. if b then part_of_holder c (rows_in m u) else part_of_stranger c (rows_in m u)) (sym (own_tell c own os) ∙ held)))
       ∙ sym (ap (option_map (part_of c)) (kept_rows s m u k (ap has_any (sym us) ∙ any)))
 
-  pub no_part : (c : Call) (units : List UnitRow) → units ≡ rows_seen u s.now.trees UnitKept → has_any units ≡ false → ◌≡◌ {A = Option UnitPart} None (part_in m c u)
+  pub no_part : (c : Call) (units : List UnitRow) → units ≡ rows_seen u s.now.trees Units → has_any units ≡ false → ◌≡◌ {A = Option UnitPart} None (part_in m c u)
   no_part c units us any = sym (ap (option_map (part_of c)) (never_opened s m u k (ap has_any (sym us) ∙ any)))

@@ -1,7 +1,6 @@
 -- What a query means that shows three columns of one table, under any schema that has the table with these columns.
 use Rattle.std.proofs.Common.{◌≡◌, refl, ◌∙◌, ℕ, List, [], ◌∷◌, ◌++◌, Bool, cond, false, true, Some, None, Ok, Err, slice_get, pos, negsuc, ◌-◌, nat_lt}
-use Rattle.sqlite_ast.specs.declared.{Core.{Core, out-Core}, Expr.{Expr, out-Expr, TheOpen.{Expr-F, Shown-F}}, Select.{Select, out-Select}}
-use Rattle.sqlite_ast.specs.declared.Source.{Source, out-Source}
+use Rattle.sqlite_ast.specs.declared.{Core.{out-Core}, Expr.{Expr}, Select.{Select}}
 use Rattle.sqlite_draft.specs.{Query.{query_of}, declared.{join.Step.TheVariants.{Inner}, query.Draft.{Draft}}}
 use Rattle.sqlite_schema.specs.{Names.{table_named, column_named, place_of}, declared.{program.Program.{Program}, schema.Column.{Column}}}
 use Rattle.sqlite_schema.specs.declared.schema.{Schema.{Schema}, Table.{Table}}
@@ -12,6 +11,7 @@ use Rattle.sqlite_resolve.specs.{Select.{parts, named, outermost, assembled, ung
 use Rattle.sqlite_resolve.specs.declared.{error.CompileError.TheVariants.{Mismatch}, scope.{Bound.{Bound}, Level.{Level}, Output.{Output}}}
 use Rattle.sqlite_resolve.{specs.declared.{select.Clauses.{Clauses}, state.{Carried.{Carried}, State.{State}}}, proofs.ProgramLemmas.{single_named}}
 use Rattle.sqlite_typing.specs.Types.{accepts_program}
+use Rattle.plant_store.proofs.OfficeAsked.{Asks, IsShownColumn}
 use Rattle.sqlite_value.specs.declared.value.Value.TheVariants.{Int}
 use Rattle.sqlite_ast.specs.declared.Shown as written
 use Rattle.sqlite_ast.specs.declared.Origin.TheVariants as origin
@@ -90,140 +90,132 @@ module _ (schema : Schema) (name : Name) (k : ℕ) (t : Table) (is_named : table
     unfolding column
     is_column s = rw (is_found, is_term s)
 
-    module _ (e : Expr) (out : out-Expr e ≡ Expr-F.Column None n) where
-      is_opened : (s : State) (deeper : Context → Expr → Lowering Term) → opened deeper showing e s ≡ Ok (term, record s { last = carried })
+    module _ (s : written.Shown) (w : IsShownColumn s n) where
+      is_opened : (s' : State) (deeper : Context → Expr → Lowering Term) → opened deeper showing w.e s' ≡ Ok (term, record s' { last = carried })
       unfolding opened
-      is_opened s deeper = rw (out, is_column s)
+      is_opened s' deeper = rw (w.out, is_column s')
 
-      is_node : (b : ℕ) → nat_lt 1 b ≡ true → (l : Carried) (deeper : Context → Expr → Lowering Term) → node deeper showing e (state_with b l) ≡ Ok (term, state_with (b - 1) carried)
+      is_node : (b : ℕ) → nat_lt 1 b ≡ true → (l : Carried) (deeper : Context → Expr → Lowering Term) → node deeper showing w.e (state_with b l) ≡ Ok (term, state_with (b - 1) carried)
       unfolding node Rattle.sqlite_resolve.specs.Lowering.spend Rattle.sqlite_resolve.specs.Lowering.begin Rattle.sqlite_resolve.specs.Lowering.finish Rattle.sqlite_resolve.specs.Expr.passes
-      is_node b many l deeper = rw (many, is_opened (state_with (b - 1) nothing) deeper, out)
+      is_node b many l deeper = rw (many, is_opened (state_with (b - 1) nothing) deeper, w.out)
 
-      is_lowered : (b : ℕ) → nat_lt 1 b ≡ true → (l : Carried) → lower showing e (state_with b l) ≡ Ok (term, state_with (b - 1) carried)
+      is_lowered : (b : ℕ) → nat_lt 1 b ≡ true → (l : Carried) → lower showing w.e (state_with b l) ≡ Ok (term, state_with (b - 1) carried)
       unfolding lower_to
       is_lowered b many l = is_node b many l (lower_to 699)
 
-      is_headed : (text : Name) → body.heading showing e text ≡ c.column.name
+      is_headed : body.heading showing w.e w.text ≡ c.column.name
       unfolding body.heading body.declared
-      is_headed text = rw (out, is_found, is, c.it)
+      is_headed = rw (w.out, is_found, is, c.it)
 
-      is_plain : body.is_column e ≡ true
+      is_plain : body.is_column w.e ≡ true
       unfolding body.is_column
-      is_plain = rw out
+      is_plain = rw w.out
 
-      module _ (s : written.Shown) (text : Name) (one : written.out-Shown s ≡ Shown-F.One e None text) where
-        is_shown : (b : ℕ) → nat_lt 1 b ≡ true → (l : Carried) (done : List Output) → body.shown lower showing (table_bound ∷ []) done s (state_with b l) ≡ Ok (done ++ output ∷ [], state_with (b - 1) carried)
-        unfolding body.shown
-        is_shown b many l done = rw (one, is_lowered b many l, is_headed text, is_plain)
+      is_shown : (b : ℕ) → nat_lt 1 b ≡ true → (l : Carried) (done : List Output) → body.shown lower showing (table_bound ∷ []) done s (state_with b l) ≡ Ok (done ++ output ∷ [], state_with (b - 1) carried)
+      unfolding body.shown
+      is_shown b many l done = rw (w.one, is_lowered b many l, is_headed, is_plain)
 
   -- ---- FROM, the columns that are shown, and the query
 
-  module _ (src : Source) (from : (out-Source src).origin ≡ origin.Table name) (alias : (out-Source src).alias ≡ None) (using : (out-Source src).using ≡ [])
-      (left : (out-Source src).is_left ≡ false) (on : (out-Source src).on ≡ None) where
-    is_bound : body.bound schema src (fresh 1 max_budget) ≡ Ok (table_bound, state_with max_budget nothing)
+  module _ (n₁ n₂ n₃ : Name) (s : Select) (w : Asks s name n₁ n₂ n₃) where
+    is_bound : body.bound schema w.src (fresh 1 max_budget) ≡ Ok (table_bound, state_with max_budget nothing)
     unfolding body.bound Rattle.sqlite_resolve.specs.Lowering.take_slot
-    is_bound = rw (from, alias, using, found_table)
+    is_bound = rw (w.from, w.alias, w.using, found_table)
 
-    are_bound : body.bounds schema (src ∷ []) (fresh 1 max_budget) ≡ Ok (table_bound ∷ [], state_with max_budget nothing)
+    are_bound : body.bounds schema (w.src ∷ []) (fresh 1 max_budget) ≡ Ok (table_bound ∷ [], state_with max_budget nothing)
     unfolding body.bounds
     are_bound = rw is_bound
 
-    is_joined : (x : Context) → x.schema ≡ schema → (s : State) → body.join lower x (table_bound ∷ []) (record { steps = []; filter = [] }) table_bound src s ≡ Ok (record { steps = Inner t.tree ∷ []; filter = [] }, s)
+    is_joined : (x : Context) → x.schema ≡ schema → (s' : State) → body.join lower x (table_bound ∷ []) (record { steps = []; filter = [] }) table_bound w.src s' ≡ Ok (record { steps = Inner t.tree ∷ []; filter = [] }, s')
     unfolding body.join body.shared body.inner_join body.tests
-    is_joined x under s = rw (under, is, left, on)
+    is_joined x under s' = rw (under, is, w.left, w.on)
 
-    are_joined : (x : Context) → x.schema ≡ schema → (s : State) → body.joins lower x (table_bound ∷ []) (src ∷ []) s ≡ Ok (record { steps = Inner t.tree ∷ []; filter = [] }, s)
+    are_joined : (x : Context) → x.schema ≡ schema → (s' : State) → body.joins lower x (table_bound ∷ []) (w.src ∷ []) s' ≡ Ok (record { steps = Inner t.tree ∷ []; filter = [] }, s')
     unfolding body.joins
-    are_joined x under s = rw (on, using, is_joined x under s)
+    are_joined x under s' = rw (w.on, w.using, is_joined x under s')
 
-    module _ (n₁ n₂ n₃ : Name) (c₁ : IsColumn t n₁) (c₂ : IsColumn t n₂) (c₃ : IsColumn t n₃)
-        (e₁ e₂ e₃ : Expr) (out₁ : out-Expr e₁ ≡ Expr-F.Column None n₁) (out₂ : out-Expr e₂ ≡ Expr-F.Column None n₂) (out₃ : out-Expr e₃ ≡ Expr-F.Column None n₃)
-        (s₁ s₂ s₃ : written.Shown) (x₁ x₂ x₃ : Name) (one₁ : written.out-Shown s₁ ≡ Shown-F.One e₁ None x₁) (one₂ : written.out-Shown s₂ ≡ Shown-F.One e₂ None x₂) (one₃ : written.out-Shown s₃ ≡ Shown-F.One e₃ None x₃) where
+    module _ (c₁ : IsColumn t n₁) (c₂ : IsColumn t n₂) (c₃ : IsColumn t n₃) where
       abbrev all : List Output
       all = output n₁ c₁ ∷ output n₂ c₂ ∷ output n₃ c₃ ∷ []
 
       abbrev after : State
       after = state_with 99997 (carried n₃ c₃)
 
-      are_shown : body.outputs lower showing (table_bound ∷ []) (s₁ ∷ s₂ ∷ s₃ ∷ []) (state_with max_budget nothing) ≡ Ok (all, after)
+      are_shown : body.outputs lower showing (table_bound ∷ []) (w.s₁ ∷ w.s₂ ∷ w.s₃ ∷ []) (state_with max_budget nothing) ≡ Ok (all, after)
       unfolding body.outputs
-      are_shown = rw (is_shown n₁ c₁ e₁ out₁ s₁ x₁ one₁ max_budget refl nothing [], is_shown n₂ c₂ e₂ out₂ s₂ x₂ one₂ 99999 refl (carried n₁ c₁) (output n₁ c₁ ∷ []), is_shown n₃ c₃ e₃ out₃ s₃ x₃ one₃ 99998 refl (carried n₂ c₂) (output n₁ c₁ ∷ output n₂ c₂ ∷ []))
+      are_shown = rw (is_shown n₁ c₁ w.s₁ w.w₁ max_budget refl nothing [], is_shown n₂ c₂ w.s₂ w.w₂ 99999 refl (carried n₁ c₁) (output n₁ c₁ ∷ []), is_shown n₃ c₃ w.s₃ w.w₃ 99998 refl (carried n₂ c₂) (output n₁ c₁ ∷ output n₂ c₂ ∷ []))
 
-      module _ (core : Core) (froms : (out-Core core).from ≡ src ∷ []) (shown : (out-Core core).shown ≡ s₁ ∷ s₂ ∷ s₃ ∷ []) (filter : (out-Core core).filter ≡ None)
-          (group : (out-Core core).group ≡ []) (having : (out-Core core).having ≡ None) (distinct : (out-Core core).distinct ≡ false) where
-        is_result : body.result lower (outermost schema) tables_level core (state_with max_budget nothing) ≡ Ok (all, after)
-        unfolding body.result
-        is_result = rw (shown, are_shown)
+      is_result : body.result lower (outermost schema) tables_level w.core (state_with max_budget nothing) ≡ Ok (all, after)
+      unfolding body.result
+      is_result = rw (w.shown, are_shown)
 
-        abbrev shown_level : Level
-        shown_level = record { tables = table_bound ∷ []; shown = all }
+      abbrev shown_level : Level
+      shown_level = record { tables = table_bound ∷ []; shown = all }
 
-        is_matching : body.matching lower (outermost schema) shown_level core after ≡ Ok (record { steps = Inner t.tree ∷ []; filter = [] }, after)
-        unfolding body.matching body.tests
-        is_matching = rw (froms, filter, are_joined (body.within (outermost schema) shown_level false) refl after)
+      is_matching : body.matching lower (outermost schema) shown_level w.core after ≡ Ok (record { steps = Inner t.tree ∷ []; filter = [] }, after)
+      unfolding body.matching body.tests
+      is_matching = rw (w.froms, w.filter, are_joined (body.within (outermost schema) shown_level false) refl after)
 
-        is_body : body.body lower (outermost schema) core (fresh 1 max_budget) ≡ Ok (record { level = shown_level; steps = Inner t.tree ∷ []; filter = [] }, after)
-        unfolding body.body
-        is_body = rw (froms, are_bound, is_result, is_matching)
+      is_body : body.body lower (outermost schema) w.core (fresh 1 max_budget) ≡ Ok (record { level = shown_level; steps = Inner t.tree ∷ []; filter = [] }, after)
+      unfolding body.body
+      is_body = rw (w.froms, are_bound, is_result, is_matching)
 
-        abbrev clauses : Clauses
-        clauses = record { body = record { level = shown_level; steps = Inner t.tree ∷ []; filter = [] }; is_grouped = false; keys = []; collations = []; having = []; order = [] }
+      abbrev clauses : Clauses
+      clauses = record { body = record { level = shown_level; steps = Inner t.tree ∷ []; filter = [] }; is_grouped = false; keys = []; collations = []; having = []; order = [] }
 
-        are_parts : parts schema core [] (fresh 1 max_budget) ≡ Ok (clauses, after)
-        unfolding parts Rattle.sqlite_resolve.specs.Order.keys Rattle.sqlite_resolve.specs.Order.sorts Rattle.sqlite_resolve.specs.Select.having body.tests
-        are_parts = rw (group, having, is_body)
+      are_parts : parts schema w.core [] (fresh 1 max_budget) ≡ Ok (clauses, after)
+      unfolding parts Rattle.sqlite_resolve.specs.Order.keys Rattle.sqlite_resolve.specs.Order.sorts Rattle.sqlite_resolve.specs.Select.having body.tests
+      are_parts = rw (w.group, w.having, is_body)
 
-        abbrev page : Term × Term
-        page = (lit (Int (negsuc 0)), number 0)
+      abbrev page : Term × Term
+      page = (lit (Int (negsuc 0)), number 0)
 
-        abbrev pub draft : Draft
-        draft = record {
-          from = inner t.tree end;
-          filter = [];
-          group = None;
-          project = term n₁ c₁ ∷ term n₂ c₂ ∷ term n₃ c₃ ∷ [];
-          distinct = false;
-          collations = [];
-          order = [];
-          limit = lit (Int (negsuc 0));
-          offset = lit (Int (pos 0));
-        }
+      abbrev pub draft : Draft
+      draft = record {
+        from = inner t.tree end;
+        filter = [];
+        group = None;
+        project = term n₁ c₁ ∷ term n₂ c₂ ∷ term n₃ c₃ ∷ [];
+        distinct = false;
+        collations = [];
+        order = [];
+        limit = lit (Int (negsuc 0));
+        offset = lit (Int (pos 0));
+      }
 
-        abbrev pub headings : List Name
-        headings = c₁.column.name ∷ c₂.column.name ∷ c₃.column.name ∷ []
+      abbrev pub headings : List Name
+      headings = c₁.column.name ∷ c₂.column.name ∷ c₃.column.name ∷ []
 
-        abbrev shown_so : program.Shown
-        shown_so = (draft, headings, (carried n₁ c₁).collation ∷ (carried n₂ c₂).collation ∷ (carried n₃ c₃).collation ∷ [])
+      abbrev shown_so : program.Shown
+      shown_so = (draft, headings, (carried n₁ c₁).collation ∷ (carried n₂ c₂).collation ∷ (carried n₃ c₃).collation ∷ [])
 
-        is_drafted : named schema core [] page ≡ Ok shown_so
-        unfolding named assembled ungrouped
-        is_drafted = rw (are_parts, distinct)
+      is_drafted : named schema w.core [] page ≡ Ok shown_so
+      unfolding named assembled ungrouped
+      is_drafted = rw (are_parts, w.distinct)
 
-        module _ (s : Select) (with : (out-Select s).with ≡ []) (first : (out-Select s).first ≡ core) (others : (out-Select s).others ≡ []) (order : (out-Select s).order ≡ [])
-            (limit : (out-Select s).limit ≡ None) (offset : (out-Select s).offset ≡ None) where
-          is_paged : paging schema s ≡ Ok page
-          unfolding paging constant_or
-          is_paged = rw (limit, offset)
+      is_paged : paging schema s ≡ Ok page
+      unfolding paging constant_or
+      is_paged = rw (w.limit, w.offset)
 
-          sources_named : program.are_named (out-Core core).from ≡ true
-          sources_named = rw (froms, from)
+      sources_named : program.are_named (out-Core w.core).from ≡ true
+      sources_named = rw (w.froms, w.from)
 
-          is_single : (deeper : Schema → Select → program.Building program.Shown) → program.single deeper schema core [] page [] ≡ Ok ((shown_so, schema), [])
-          is_single deeper = single_named deeper schema core [] page [] sources_named ∙ rw is_drafted
+      is_single : (deeper : Schema → Select → program.Building program.Shown) → program.single deeper schema w.core [] page [] ≡ Ok ((shown_so, schema), [])
+      is_single deeper = single_named deeper schema w.core [] page [] sources_named ∙ rw is_drafted
 
-          is_whole : (deeper : Schema → Select → program.Building program.Shown) → program.whole deeper schema s [] ≡ Ok (shown_so, [])
-          unfolding program.whole program.alone
-          is_whole deeper = rw (is_paged, others, first, order, is_single deeper)
+      is_whole : (deeper : Schema → Select → program.Building program.Shown) → program.whole deeper schema s [] ≡ Ok (shown_so, [])
+      unfolding program.whole program.alone
+      is_whole deeper = rw (is_paged, w.others, w.first_is, w.order, is_single deeper)
 
-          is_queried : query schema s ≡ Ok (shown_so, [])
-          unfolding query query_to program.level program.with
-          is_queried = rw (with, is_whole (query_to 15))
+      is_queried : query schema s ≡ Ok (shown_so, [])
+      unfolding query query_to program.level program.with
+      is_queried = rw (w.with, is_whole (query_to 15))
 
-          abbrev pub body_of : Program
-          body_of = record { lets = []; body = query_of draft }
+      abbrev pub body_of : Program
+      body_of = record { lets = []; body = query_of draft }
 
-          -- it is read where its types fit, and else refused
-          pub is_read : (b : Bool) → accepts_program schema [] (query_of draft) [] ≡ b → compile.read schema s ≡ cond b (Ok (command.Select body_of headings)) (Err Mismatch)
-          unfolding compile.read program.program
-          is_read true accepted = rw (is_queried, accepted)
-          is_read false refused = rw (is_queried, refused)
+      -- it is read where its types fit, and else refused
+      pub is_read : (b : Bool) → accepts_program schema [] (query_of draft) [] ≡ b → compile.read schema s ≡ cond b (Ok (command.Select body_of headings)) (Err Mismatch)
+      unfolding compile.read program.program
+      is_read true accepted = rw (is_queried, accepted)
+      is_read false refused = rw (is_queried, refused)

@@ -5,24 +5,25 @@ use Rattle.std.proofs.Common.{◌≡◌, ◌≢◌, ℕ, ◌<◌, ◌+◌, get_o
 use Rattle.std.proofs.Math.Bool.{or-false}
 use Rattle.std.proofs.lemmas.{Bool.{or_left, or_right}, List.{append-nil, append_assoc, Folds.{list_any-append}}}
 use Rattle.sqlite.specs.{Effect.{Database}, Tree.{Trees}}
-use Rattle.sqlite_keyed.{specs.Lists.{sort_by}, proofs.ListLemmas.{all-append, ascending-map}}
+use Rattle.sqlite_keyed.{specs.Lists.{sort_by}, proofs.ListLemmas.{all-append, all_weaker, ascending-map}}
 use Rattle.sqlite_trees.specs.Tree.{IsAscending}
 use Rattle.sqlite_value.specs.{Order.{Row, bytes, column, value_cmp}, declared.value.Value.TheVariants.{Text}}
 use Rattle.sqlite_value.proofs.OrderLemmas.{then-Equal, value_cmp-Text}
 use Rattle.plant_books.specs.Contents.{Content, rows_in}
 use Rattle.plant_columns.specs.{Kept.{by_columns, is_of}, Shape.{IsRowIn, rows_in as rows_of}}
-use Rattle.plant_columns.specs.Tables.Kept.{AlarmKept, BandKept, CellKept, ChangeKept, EventKept, GrantKept, RecordKept, ShelfKept, UnitKept}
-use Rattle.plant_columns.specs.Tables.{AreSeen, Kept, RowOf, rows_at, shape}
+use Rattle.plant_columns.specs.declared.tables.TableKind.{TableKind, TheVariants.{Alarms, Bands, Cells, Changes, Events, Grants, Records, Shelves}}
+use Rattle.plant_columns.specs.declared.tables.TableKind.TheVariants.{Units}
+use Rattle.plant_columns.specs.Tables.{AreSeen, RowOf, rows_at, shape}
 use Rattle.plant_columns.proofs.public.{Bridge.{AreRising as Rise}, Kept.{all-sort, sort-filter, strict-sort}}
 use Rattle.plant_columns.proofs.public.{Keys.{by_columns_total}, ShapeLaws.{good}, Shapes.{named, rising}}
 use Rattle.plant_model.specs.{RowChanges.{changed_by, no_rows}, RowFacts.{pair_of}, declared.rows.Row.TheVariants.{Unit as UnitPut}}
 use Rattle.plant_model.specs.declared.rows.{RowEdit.{RowEdit, TheVariants.{Put}}, UnitRow.{UnitRow}, UnitRows.{UnitRows}}
 use Rattle.plant_store.specs.{Changes.{Applies, IsOfficeOf}, Keeping.{HaveRows, has_any}, Making.{AreNew}}
 use Rattle.plant_store.specs.OldTables.{AreOldBooks, old_rows, old_unit_shape}
-use Rattle.plant_store.specs.Upgrading.{AreTakenOver, HaveOldRows, all_kinds, is_among, old_codes, puts_all, puts_of, upgraded_grant, upgraded_rows, upgraded_unit}
-use Rattle.plant_store.specs.declared.make.TableKind.TheVariants.{Alarms, Bands, Cells, Changes, Events, Grants, Records, Shelves, Units}
+use Rattle.plant_store.specs.Upgrading.{AreTakenOver, HaveOldRows, as_row, is_among, old_codes, puts_all, puts_of, upgraded_grant, upgraded_rows, upgraded_unit}
 use Rattle.plant_store.{specs.declared.old_rows.CodeLine.{CodeLine}, proofs.OldQueries.{old_good, old_unit_good}}
-use Rattle.plant_store.proofs.{Queries.{passing_all}, Writes.{as_row, changed_by-append, with_rows}}
+use Rattle.plant_store.proofs.Writes.{changed_by-append, with_rows}
+use Rattle.plant_model.proofs.public.PartLists.{filter-true}
 use Rattle.plant_store.proofs.public.Contents.{differs, no_some, nothing_at, same_codes}
 use Rattle.plant_types.specs.{KeyedRows.{put_row}, Names.{Name, name_cmp, same_name}, Roles.{pair_cmp}}
 
@@ -43,17 +44,9 @@ module _ {K X : Type 0} (R : K → K → Ordering) (key : X → K) where
     filled_end : (xs ys : List X) → AllByRecursion (λ y. AllByRecursion (λ x. R (key y) (key x) ≡ Less) xs) ys → Rise R key xs → filled xs ys ≡ ys ++ xs
     filled_end [] ys across up = sym (append-nil ys)
     filled_end (x ∷ xs) ys across up =
-        ap (filled xs) (at_end x ys (firsts ys across))
-        ∙ filled_end xs (ys ++ x ∷ []) (all-append (λ y. AllByRecursion (λ z. R (key y) (key z) ≡ Less) xs) ys (x ∷ []) (rests ys across) (up.0, tt)) up.1
+        ap (filled xs) (at_end x ys (all_weaker _ (λ y. R (key y) (key x) ≡ Less) (λ y h. h.0) ys across))
+        ∙ filled_end xs (ys ++ x ∷ []) (all-append (λ y. AllByRecursion (λ z. R (key y) (key z) ≡ Less) xs) ys (x ∷ []) (all_weaker _ (λ y. AllByRecursion (λ z. R (key y) (key z) ≡ Less) xs) (λ y h. h.1) ys across) (up.0, tt)) up.1
         ∙ append_assoc ys (x ∷ []) xs
-      where
-        firsts : (zs : List X) → AllByRecursion (λ y. AllByRecursion (λ z. R (key y) (key z) ≡ Less) (x ∷ xs)) zs → AllByRecursion (λ y. R (key y) (key x) ≡ Less) zs
-        firsts [] all = tt
-        firsts (z ∷ zs) all = (all.0.0, firsts zs all.1)
-
-        rests : (zs : List X) → AllByRecursion (λ y. AllByRecursion (λ z. R (key y) (key z) ≡ Less) (x ∷ xs)) zs → AllByRecursion (λ y. AllByRecursion (λ z. R (key y) (key z) ≡ Less) xs) zs
-        rests [] all = tt
-        rests (z ∷ zs) all = (all.0.1, rests zs all.1)
 
     pub filled_none : (xs : List X) → Rise R key xs → filled xs [] ≡ xs
     filled_none xs up = filled_end xs [] tt up
@@ -66,52 +59,52 @@ puts_units (x ∷ []) up = refl
 puts_units (x ∷ y ∷ xs) up = absurd (cc up.0.0)
 
 -- of any other table
-puts_into : (i : Kept) → i ≢ UnitKept → (xs : List (RowOf i)) (rows : UnitRows) → changed_by (map (λ r. Put (as_row i r)) xs) rows ≡ with_rows i (filled (shape i).order (shape i).key xs (rows_at i rows)) rows
-puts_into UnitKept apart xs rows = absurd (apart refl)
+puts_into : (i : TableKind) → i ≢ Units → (xs : List (RowOf i)) (rows : UnitRows) → changed_by (map (λ r. Put (as_row i r)) xs) rows ≡ with_rows i (filled (shape i).order (shape i).key xs (rows_at i rows)) rows
+puts_into Units apart xs rows = absurd (apart refl)
 puts_into i apart [] rows = refl
 puts_into i apart (x ∷ xs) rows = puts_into i apart xs (with_rows i (put_row (shape i).order (shape i).key x (rows_at i rows)) rows)
 
 -- into one without rows
-puts_rising : (i : Kept) → i ≢ UnitKept → (xs : List (RowOf i)) → Rise (shape i).order (shape i).key xs → (rows : UnitRows) → rows_at i rows ≡ [] → changed_by (map (λ r. Put (as_row i r)) xs) rows ≡ with_rows i xs rows
+puts_rising : (i : TableKind) → i ≢ Units → (xs : List (RowOf i)) → Rise (shape i).order (shape i).key xs → (rows : UnitRows) → rows_at i rows ≡ [] → changed_by (map (λ r. Put (as_row i r)) xs) rows ≡ with_rows i xs rows
 puts_rising i apart xs up rows none =
     puts_into i apart xs rows ∙ ap (λ l. with_rows i l rows) (ap (filled (shape i).order (shape i).key xs) none ∙ filled_none (shape i).order (shape i).key (good i).total xs up)
 
 -- the rows of each table rise
 abbrev AreRising : UnitRows → Type 0
-AreRising rows = (i : Kept) → Rise (shape i).order (shape i).key (rows_at i rows)
+AreRising rows = (i : TableKind) → Rise (shape i).order (shape i).key (rows_at i rows)
 
 then : (xs ys : List RowEdit) (a b c : UnitRows) → changed_by xs a ≡ b → changed_by ys b ≡ c → changed_by (xs ++ ys) a ≡ c
 then xs ys a b c p q = changed_by-append xs ys a ∙ ap (changed_by ys) p ∙ q
 
-pub all_put : (rows : UnitRows) → AreRising rows → changed_by (puts_all rows all_kinds) no_rows ≡ rows
+pub all_put : (rows : UnitRows) → AreRising rows → changed_by (puts_all rows) no_rows ≡ rows
 all_put rows up =
     let r1 : UnitRows = record no_rows { units = rows.units } in
     let r2 : UnitRows = record r1 { grants = rows.grants } in
     let r3 : UnitRows = record r2 { alarms = rows.alarms } in
     let r4 : UnitRows = record r3 { shelves = rows.shelves } in
-    let r5 : UnitRows = record r4 { events = rows.events } in
-    let r6 : UnitRows = record r5 { bands = rows.bands } in
-    let r7 : UnitRows = record r6 { cells = rows.cells } in
+    let r5 : UnitRows = record r4 { bands = rows.bands } in
+    let r6 : UnitRows = record r5 { cells = rows.cells } in
+    let r7 : UnitRows = record r6 { events = rows.events } in
     let r8 : UnitRows = record r7 { records = rows.records } in
-    then (puts_of rows Units) _ no_rows r1 rows (puts_units rows.units (up UnitKept))
-    (then (puts_of rows Grants) _ r1 r2 rows (puts_rising GrantKept (λ e. cc) rows.grants (up GrantKept) r1 refl)
-    (then (puts_of rows Alarms) _ r2 r3 rows (puts_rising AlarmKept (λ e. cc) rows.alarms (up AlarmKept) r2 refl)
-    (then (puts_of rows Shelves) _ r3 r4 rows (puts_rising ShelfKept (λ e. cc) rows.shelves (up ShelfKept) r3 refl)
-    (then (puts_of rows Events) _ r4 r5 rows (puts_rising EventKept (λ e. cc) rows.events (up EventKept) r4 refl)
-    (then (puts_of rows Bands) _ r5 r6 rows (puts_rising BandKept (λ e. cc) rows.bands (up BandKept) r5 refl)
-    (then (puts_of rows Cells) _ r6 r7 rows (puts_rising CellKept (λ e. cc) rows.cells (up CellKept) r6 refl)
-    (then (puts_of rows Records) _ r7 r8 rows (puts_rising RecordKept (λ e. cc) rows.records (up RecordKept) r7 refl)
-    (then (puts_of rows Changes) [] r8 rows rows (puts_rising ChangeKept (λ e. cc) rows.changes (up ChangeKept) r8 refl) refl))))))))
+    then (puts_of rows Units) _ no_rows r1 rows (puts_units rows.units (up Units))
+    (then (puts_of rows Grants) _ r1 r2 rows (puts_rising Grants (λ e. cc) rows.grants (up Grants) r1 refl)
+    (then (puts_of rows Alarms) _ r2 r3 rows (puts_rising Alarms (λ e. cc) rows.alarms (up Alarms) r2 refl)
+    (then (puts_of rows Shelves) _ r3 r4 rows (puts_rising Shelves (λ e. cc) rows.shelves (up Shelves) r3 refl)
+    (then (puts_of rows Bands) _ r4 r5 rows (puts_rising Bands (λ e. cc) rows.bands (up Bands) r4 refl)
+    (then (puts_of rows Cells) _ r5 r6 rows (puts_rising Cells (λ e. cc) rows.cells (up Cells) r5 refl)
+    (then (puts_of rows Events) _ r6 r7 rows (puts_rising Events (λ e. cc) rows.events (up Events) r6 refl)
+    (then (puts_of rows Records) _ r7 r8 rows (puts_rising Records (λ e. cc) rows.records (up Records) r7 refl)
+    (then (puts_of rows Changes) [] r8 rows rows (puts_rising Changes (λ e. cc) rows.changes (up Changes) r8 refl) refl))))))))
 
 -- ---- the rows of a store of schema 1 rise
 
 old_rise : (u : Name) (db : Database) → AreOldBooks db → AreRising (upgraded_rows u db.trees)
-old_rise u db books UnitKept = ascending-map (λ (a b : UnitRow). nat_cmp 0 0 ≡ Less) upgraded_unit (old_rows u db.trees UnitKept) (rising _ (old_good UnitKept) u (db.trees 1) (books.tidy UnitKept))
-old_rise u db books GrantKept = ascending-map (λ a b. pair_cmp (pair_of a) (pair_of b) ≡ Less) upgraded_grant (old_rows u db.trees GrantKept) (rising _ (old_good GrantKept) u (db.trees 3) (books.tidy GrantKept))
+old_rise u db books Units = ascending-map (λ (a b : UnitRow). nat_cmp 0 0 ≡ Less) upgraded_unit (old_rows u db.trees Units) (rising _ (old_good Units) u (db.trees 1) (books.tidy Units))
+old_rise u db books Grants = ascending-map (λ a b. pair_cmp (pair_of a) (pair_of b) ≡ Less) upgraded_grant (old_rows u db.trees Grants) (rising _ (old_good Grants) u (db.trees 3) (books.tidy Grants))
 old_rise u db books i = rising _ (old_good i) u (db.trees (shape i).tree) (books.tidy i)
 
 -- a unit without rows has, after the puts, the rows that it had in the old store
-pub unit_taken : (u : Name) (db : Database) → AreOldBooks db → (old new : Database) → AreSeen u old no_rows → Applies u (puts_all (upgraded_rows u db.trees) all_kinds) old new → AreSeen u new (upgraded_rows u db.trees)
+pub unit_taken : (u : Name) (db : Database) → AreOldBooks db → (old new : Database) → AreSeen u old no_rows → Applies u (puts_all (upgraded_rows u db.trees)) old new → AreSeen u new (upgraded_rows u db.trees)
 unit_taken u db books old new none it = subst (AreSeen u new) (all_put (upgraded_rows u db.trees) (old_rise u db books)) (it.mine no_rows none)
 
 -- ---- the codes of the units
@@ -127,10 +120,10 @@ module _ (db : Database) (books : AreOldBooks db) where
   sorted = sort_by (by_columns unit_key) (db.trees 1)
 
   well_formed : AllByRecursion (IsRowIn old_unit_shape) sorted
-  well_formed = all-sort (by_columns unit_key) (by_columns_total unit_key) (IsRowIn old_unit_shape) (db.trees 1) (books.tidy UnitKept).each
+  well_formed = all-sort (by_columns unit_key) (by_columns_total unit_key) (IsRowIn old_unit_shape) (db.trees 1) (books.tidy Units).each
 
   codes_are : old_codes db.trees ≡ map code sorted
-  codes_are = ap (λ rs. map code (sort_by (by_columns unit_key) rs)) (passing_all (db.trees 1))
+  codes_are = ap (λ rs. map code (sort_by (by_columns unit_key) rs)) (filter-true (db.trees 1))
 
   name_at : (r : Row) → IsRowIn old_unit_shape r → column r 1 ≡ Text (code r)
   name_at r h = named old_unit_shape old_unit_good r h
@@ -149,7 +142,7 @@ module _ (db : Database) (books : AreOldBooks db) where
       go false true e more = absurd (true≢false e)
       go false false e more = more
 
-  pub code_known : (u : Name) → is_among (old_codes db.trees) u ≡ has_any (old_rows u db.trees UnitKept)
+  pub code_known : (u : Name) → is_among (old_codes db.trees) u ≡ has_any (old_rows u db.trees Units)
   code_known u =
       ap (λ cs. is_among cs u) codes_are ∙ among u sorted well_formed
       ∙ ap (λ rs. has_any (map old_unit_shape.read rs)) (sym (sort-filter (by_columns unit_key) (by_columns_total unit_key) (is_of u) (db.trees 1)))
@@ -166,7 +159,7 @@ module _ (db : Database) (books : AreOldBooks db) where
       above (q ∷ qs) more h = (less_code r q all.0 more.0 h.0, above qs more.1 h.1)
 
   pub codes_rise : IsAscending (λ a b. name_cmp a b ≡ Less) (old_codes db.trees)
-  codes_rise = subst (IsAscending (λ a b. name_cmp a b ≡ Less)) (sym codes_are) (codes_up sorted well_formed (strict-sort (by_columns unit_key) (by_columns_total unit_key) (db.trees 1) (books.tidy UnitKept).apart))
+  codes_rise = subst (IsAscending (λ a b. name_cmp a b ≡ Less)) (sym codes_are) (codes_up sorted well_formed (strict-sort (by_columns unit_key) (by_columns_total unit_key) (db.trees 1) (books.tidy Units).apart))
 
 -- ---- one unit after another
 
@@ -189,7 +182,7 @@ not_before (l ∷ ls) (suc k) d up h =
 among_more : (us : List Name) (x u : Name) → is_among (us ++ x ∷ []) u ≡ (is_among us u || same_name x u)
 among_more us x u = list_any-append (λ k. same_name k u) us (x ∷ []) ∙ ap (λ b. is_among us u || b) (or-false (same_name x u))
 
-pub taken_next : (us : List Name) (x : Name) (db : Database) → AreOldBooks db → (old new : Database) → is_among us x ≡ false → AreTakenOver us db.trees old → Applies x (puts_all (upgraded_rows x db.trees) all_kinds) old new
+pub taken_next : (us : List Name) (x : Name) (db : Database) → AreOldBooks db → (old new : Database) → is_among us x ≡ false → AreTakenOver us db.trees old → Applies x (puts_all (upgraded_rows x db.trees)) old new
     → AreTakenOver (us ++ x ∷ []) db.trees new
 taken_next us x db books old new fresh so_far it = record {
   books = it.books;
@@ -232,7 +225,7 @@ all_taken m db new h it office = record {
 }
   where
     known : (u : Name) → is_among (old_codes db.trees) u ≡ contains_key m.units u
-    known u = code_known db h.books u ∙ sym (any_map upgraded_unit (old_rows u db.trees UnitKept)) ∙ ap (λ (rows : UnitRows). has_any rows.units) (h.seen u) ∙ sym (h.opened u)
+    known u = code_known db h.books u ∙ sym (any_map upgraded_unit (old_rows u db.trees Units)) ∙ ap (λ (rows : UnitRows). has_any rows.units) (h.seen u) ∙ sym (h.opened u)
 
     seen : (u : Name) (b : Bool) → is_among (old_codes db.trees) u ≡ b → AreSeen u new (rows_in m u)
     seen u true e = subst (AreSeen u new) (h.seen u) (it.taken u e)

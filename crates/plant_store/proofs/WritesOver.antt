@@ -1,42 +1,38 @@
 -- A row is written over the one of its key where there is one, and put anew where there is none.
-use Rattle.std.specs.{FinMap.{slice_cmp-IsAntisymmetric, nat_cmp-IsAntisymmetric}, Ordering.{ordering_then}}
-use Rattle.std.proofs.Common.{arith, ◌≡◌, ℕ, zero, suc, true, false, List, [], ◌∷◌, drop, Ok, refl, sym, ap, ◌∙◌, subst, is_eq, Ordering, Less, Equal, Greater, true≢false, nat_eq}
-use Rattle.std.proofs.lemmas.Bool.Decides.{nat_tests}
-use Rattle.sqlite.specs.{Effect.{Database}, State.{State, Executes}, Term.{Term}}
+use Rattle.std.specs.{FinMap.{nat_cmp-IsAntisymmetric}, Ordering.{ordering_then}}
+use Rattle.std.proofs.Common.{IfOk, Result, arith, ◌≡◌, ℕ, zero, suc, true, false, List, [], ◌∷◌, drop, Ok, refl, sym, ap, ◌∙◌, subst, is_eq, Ordering, Equal, true≢false, nat_eq}
+use Rattle.std.proofs.lemmas.Bool.{and_parts, Decides.{nat_tests}}
+use Rattle.sqlite.specs.{Effect.{Database}, Held.{Held, state}, State.{State, Executes}, Term.{Term}, Values.{bound}, declared.error.Error.{Error}}
+use Rattle.sqlite_trees.specs.declared.store.Store.{Ghosts}
 use Rattle.sqlite_schema.specs.Rules.{agree}
 use Rattle.sqlite_value.specs.{Keys.{first_key, plain}, Order.{Row, value_cmp}, declared.value.Value.{Value, TheVariants.{Text}}}
-use Rattle.sqlite_value.proofs.OrderLemmas.{value_cmp-Text}
-use Rattle.plant_model.specs.declared.rows.{AlarmRow.{AlarmRow}, ChangeEntry.{ChangeEntry}, GrantRow.{GrantRow}, RecordEntry.{RecordEntry}}
-use Rattle.plant_model.specs.declared.rows.Row.TheVariants.{Alarm as AlarmPut, Change as ChangePut, Grant as GrantPut, Record as RecordPut, Shelf as ShelfPut, Unit as UnitPut}
-use Rattle.plant_model.specs.declared.rows.{RowEdit.{RowEdit, TheVariants.{Put}}, ShelfRow.{ShelfRow}, UnitRow.{UnitRow}}
+use Rattle.sqlite_value.specs.declared.value.ValueRef.{ValueRef}
+use Rattle.plant_model.specs.declared.rows.GrantRow.{GrantRow}
+use Rattle.plant_model.specs.declared.rows.{RowEdit.{RowEdit, TheVariants.{Put}}, UnitRow.{UnitRow}}
 use Rattle.plant_model.specs.RowFacts.{alarm_tag, record_tag, shelf_tag}
 use Rattle.plant_types.{specs.{KeyedRows.{put_row}, Names.{Name}, Roles.{role_no}}, proofs.public.KeyedRowLaws.{tied}}
 use Rattle.plant_columns.specs.{Codes.{number, open_number, role}, Kept.{by_columns}, Shape.{row_in}}
-use Rattle.plant_columns.specs.Tables.Kept.{AlarmKept, ChangeKept, GrantKept, RecordKept, ShelfKept, UnitKept}
-use Rattle.plant_columns.specs.Tables.{AreBooks, Kept, KeyOf, RowOf, alarm_shape, books_schema, change_shape, grant_shape, record_shape, shape, shelf_shape, unit_shape}
-use Rattle.plant_columns.proofs.public.{Family.{Edits, no_edits, set_edits}, Keys.{agree_is}, Laws.{passes, shows}}
-use Rattle.plant_columns.proofs.public.{ShapeLaws.{all_listed, good, listed, numbers}, Updated.{leaves, sets_some}}
-use Rattle.plant_store.specs.{Changes.{Applies}, Statements.{changes_written}}
+use Rattle.plant_columns.specs.declared.tables.TableKind.{TableKind, TheVariants.{Alarms, Changes, Grants, Records, Shelves, Units}}
+use Rattle.plant_columns.specs.Tables.{AreBooks, KeyOf, RowOf, alarm_shape, books_schema, change_shape, grant_shape, record_shape, shape, shelf_shape, unit_shape}
+use Rattle.plant_columns.proofs.public.{Family.{Edits, edits}, Keys.{agree_is, same_text, then_tied}, Laws.{passes, shows}}
+use Rattle.plant_columns.proofs.public.{ShapeLaws.{all_listed, good, listed, numbers}, Updated.{leaves, set_changes, sets_some}}
+use Rattle.plant_store.specs.{Changes.{Applies}, Statements.{changes_written}, Upgrading.{as_row}}
 use Rattle.plant_store.specs.Texts.{over_alarm_text, over_change_text, over_grant_text, over_record_text, over_shelf_text, over_unit_text}
 use Rattle.plant_store.proofs.Meanings.{Updates, by_three, by_two, by_unit, over_alarm, over_change, over_grant, over_grant_shows, over_record, over_shelf, over_unit, over_unit_shows}
-use Rattle.plant_store.proofs.Writes.{as_row, edited, edits_apply, free}
+use Rattle.plant_store.proofs.Queries.{if_ok}
+use Rattle.plant_store.proofs.Writes.{edited, edits_apply, free}
 
 -- ---- cells of a key that tie are the same
-
-same_text : (a b : List ℕ) → is_eq (value_cmp (Text a) (Text b)) ≡ true → a ≡ b
-same_text a b h = slice_cmp-IsAntisymmetric nat_cmp-IsAntisymmetric a b (sym (value_cmp-Text a b) ∙ tied _ _ h refl)
 
 same_number : (m n : ℕ) → is_eq (value_cmp (number m) (number n)) ≡ true → m ≡ n
 same_number m n h = nat_cmp-IsAntisymmetric m n (sym (numbers m n) ∙ tied _ _ h refl)
 
 both_tie : (a b : Ordering) → is_eq (ordering_then a b) ≡ true → (is_eq a ≡ true) × (is_eq b ≡ true)
-both_tie Less b h = absurd (true≢false (sym h))
-both_tie Equal b h = (refl, h)
-both_tie Greater b h = absurd (true≢false (sym h))
+both_tie a b h = and_parts _ _ (sym (then_tied a b) ∙ h)
 
 -- ---- in one table
 
-written_over : (i : Kept) (text : List ℕ) (tests terms : List Term) → Updates (shape i) text tests terms
+written_over : (i : TableKind) (text : List ℕ) (tests terms : List Term) → Updates (shape i) text tests terms
     → (u : Name) (x : RowOf i)
     → ((id : Value) (y : Row) → passes (shape i).tree tests terms [] (Text u ∷ (shape i).cells x) y ≡ agree plain (1 ∷ (shape i).keys) y (1 ∷ (shape i).keys) (row_in (shape i) id u x))
     → ((id : Value) (v : Name) (y : RowOf i) → is_eq (by_columns (1 ∷ (shape i).keys) (row_in (shape i) id u x) (row_in (shape i) id v y)) ≡ true
@@ -44,27 +40,34 @@ written_over : (i : Kept) (text : List ℕ) (tests terms : List Term) → Update
     → (old new : State) → AreBooks old.now → (count : ℕ) → nat_eq count 0 ≡ false → Executes text (Text u ∷ (shape i).cells x) old new (Ok count)
     → Edits RowOf KeyOf shape books_schema i u (put_row (shape i).order (shape i).key x) old.now new.now
 written_over i text tests terms over u x same shown old new books count some h =
-    set_edits RowOf KeyOf shape books_schema all_listed i (good i) u x old.now new.now books
+    edits RowOf KeyOf shape books_schema all_listed i u _ old.now new.now books (set_changes (shape i) (good i) books_schema u x old.now new.now
     (sets_some (shape i) (good i) books_schema free (listed i) text tests terms over.is over.plain (Text u ∷ (shape i).cells x) u x
-    (λ id y. same id y ∙ agree_is (1 ∷ (shape i).keys) y (row_in (shape i) id u x) ((good i).keyed id u x)) shown old new books.same_schema (books.tidy i) count some h)
+    (λ id y. same id y ∙ agree_is (1 ∷ (shape i).keys) y (row_in (shape i) id u x) ((good i).keyed id u x)) shown old new books.same_schema (books.tidy i) count some h) (books.tidy i))
 
-none_written : (i : Kept) (text : List ℕ) (tests terms : List Term) → Updates (shape i) text tests terms
+none_written : (i : TableKind) (text : List ℕ) (tests terms : List Term) → Updates (shape i) text tests terms
     → (u : Name) (params : Row) (old new : State) → AreBooks old.now → Executes text params old new (Ok 0) → Applies u [] old.now new.now
 none_written i text tests terms over u params old new books h =
     edits_apply i u (λ rows. rows) [] old.now new.now
-    (no_edits RowOf KeyOf shape books_schema all_listed i u old.now new.now books (leaves (shape i) books_schema free (listed i) text tests terms over.is over.plain params old new books.same_schema h))
+    (edits RowOf KeyOf shape books_schema all_listed i u _ old.now new.now books (leaves (shape i) books_schema free (listed i) text tests terms over.is over.plain params old new books.same_schema h (books.tidy i) u))
     (λ rows seen. refl) (λ rows j other. refl)
 
 not_zero : (n : ℕ) → nat_eq (suc n) 0 ≡ false
 not_zero n = grind (arith, nat_tests)
 
-puts_over : (i : Kept) (text : List ℕ) (tests terms : List Term) → Updates (shape i) text tests terms
+-- the statement that writes a row over that of its key, where there is one, does so if it succeeds
+abbrev pub PutsOver : TableKind → List ℕ → Type 1
+PutsOver i text = (S : Type 0) (g : Ghosts S) (before after : Held S) (u : Name) (x : RowOf i) (cells : List ValueRef) (said : Result ℕ Error) → bound cells ≡ Text u ∷ (shape i).cells x → AreBooks (state g before).now
+    → IfOk said (λ count. Executes text (bound cells) (state g before) (state g after) (Ok count)) → IfOk said (λ count. Applies u (changes_written count (Put (as_row i x))) (state g before).now (state g after).now)
+
+puts_over : (i : TableKind) (text : List ℕ) (tests terms : List Term) → Updates (shape i) text tests terms
     → ((u : Name) (x : RowOf i) (id : Value) (y : Row) → passes (shape i).tree tests terms [] (Text u ∷ (shape i).cells x) y ≡ agree plain (1 ∷ (shape i).keys) y (1 ∷ (shape i).keys) (row_in (shape i) id u x))
     → ((u : Name) (x : RowOf i) (id : Value) (v : Name) (y : RowOf i) → is_eq (by_columns (1 ∷ (shape i).keys) (row_in (shape i) id u x) (row_in (shape i) id v y)) ≡ true
-    → (shows (shape i).tree tests terms [] (Text u ∷ (shape i).cells x) (row_in (shape i) id v y)).1 ≡ id ∷ row_in (shape i) id u x)
-    → (u : Name) (x : RowOf i) (old new : State) → AreBooks old.now → (count : ℕ) → Executes text (Text u ∷ (shape i).cells x) old new (Ok count) → Applies u (changes_written count (Put (as_row i x))) old.now new.now
-puts_over i text tests terms over same shown u x old new books zero h = none_written i text tests terms over u (Text u ∷ (shape i).cells x) old new books h
-puts_over i text tests terms over same shown u x old new books (suc n) h = edited i u x old.now new.now books (written_over i text tests terms over u x (same u x) (shown u x) old new books (suc n) (not_zero n) h)
+    → (shows (shape i).tree tests terms [] (Text u ∷ (shape i).cells x) (row_in (shape i) id v y)).1 ≡ id ∷ row_in (shape i) id u x) → PutsOver i text
+puts_over i text tests terms over same shown S g before after u x cells said is books h = if_ok said each (rw is at h)
+  where
+    each : (count : ℕ) → Executes text (Text u ∷ (shape i).cells x) (state g before) (state g after) (Ok count) → Applies u (changes_written count (Put (as_row i x))) (state g before).now (state g after).now
+    each zero done = none_written i text tests terms over u (Text u ∷ (shape i).cells x) (state g before) (state g after) books done
+    each (suc n) done = edited i u x (state g before).now (state g after).now books (written_over i text tests terms over u x (same u x) (shown u x) (state g before) (state g after) books (suc n) (not_zero n) done)
 
 is_zero : (n : ℕ) → nat_eq n 0 ≡ true → n ≡ 0
 is_zero n e = grind (arith, nat_tests)
@@ -84,9 +87,9 @@ unit_shown u x id v y tie =
     let unit : v ≡ u = sym (same_text u v (both_tie (value_cmp (Text u) (Text v)) Equal tie).0) in
     ap (λ w. (shows 1 by_unit over_unit_shows [] (Text u ∷ unit_shape.cells x) (row_in unit_shape id w y)).1) unit
 
-pub unit_over : (u : Name) (x : UnitRow) (old new : State) → AreBooks old.now → (count : ℕ) → Executes over_unit_text (Text u ∷ unit_shape.cells x) old new (Ok count) → Applies u (changes_written count (Put (UnitPut x))) old.now new.now
+pub unit_over : PutsOver Units over_unit_text
 unfolding first_key
-unit_over = puts_over UnitKept over_unit_text by_unit _ over_unit (λ u x id y. refl) unit_shown
+unit_over = puts_over Units over_unit_text by_unit _ over_unit (λ u x id y. refl) unit_shown
 
 -- ---- a grant
 
@@ -101,9 +104,9 @@ grant_shown u x id v y tie =
     let n : role_no y.role_no ≡ role_no x.role_no = sym (same_number (role_no x.role_no) (role_no y.role_no) (both_tie (value_cmp (role x.role_no) (role y.role_no)) Equal second.1).0) in
     λ i. id ∷ id ∷ Text (unit i) ∷ Text (person i) ∷ number (n i) ∷ open_number x.end_s ∷ []
 
-pub grant_over : (u : Name) (x : GrantRow) (old new : State) → AreBooks old.now → (count : ℕ) → Executes over_grant_text (Text u ∷ grant_shape.cells x) old new (Ok count) → Applies u (changes_written count (Put (GrantPut x))) old.now new.now
+pub grant_over : PutsOver Grants over_grant_text
 unfolding first_key
-grant_over = puts_over GrantKept over_grant_text by_three _ over_grant (λ u x id y. refl) grant_shown
+grant_over = puts_over Grants over_grant_text by_three _ over_grant (λ u x id y. refl) grant_shown
 
 -- ---- where the key is the unit and a name or a number
 
@@ -123,24 +126,24 @@ tag_shown tag rest = two_shown (λ x. Text (tag x)) (λ x y tie. ap Text (same_t
 
 -- ---- an alarm
 
-pub alarm_over : (u : Name) (x : AlarmRow) (old new : State) → AreBooks old.now → (count : ℕ) → Executes over_alarm_text (Text u ∷ alarm_shape.cells x) old new (Ok count) → Applies u (changes_written count (Put (AlarmPut x))) old.now new.now
+pub alarm_over : PutsOver Alarms over_alarm_text
 unfolding first_key
-alarm_over = puts_over AlarmKept over_alarm_text by_two _ over_alarm (λ u x id y. refl) (tag_shown alarm_tag (λ x. drop 1 (alarm_shape.cells x)))
+alarm_over = puts_over Alarms over_alarm_text by_two _ over_alarm (λ u x id y. refl) (tag_shown alarm_tag (λ x. drop 1 (alarm_shape.cells x)))
 
 -- ---- a shelf
 
-pub shelf_over : (u : Name) (x : ShelfRow) (old new : State) → AreBooks old.now → (count : ℕ) → Executes over_shelf_text (Text u ∷ shelf_shape.cells x) old new (Ok count) → Applies u (changes_written count (Put (ShelfPut x))) old.now new.now
+pub shelf_over : PutsOver Shelves over_shelf_text
 unfolding first_key
-shelf_over = puts_over ShelfKept over_shelf_text by_two _ over_shelf (λ u x id y. refl) (tag_shown shelf_tag (λ x. drop 1 (shelf_shape.cells x)))
+shelf_over = puts_over Shelves over_shelf_text by_two _ over_shelf (λ u x id y. refl) (tag_shown shelf_tag (λ x. drop 1 (shelf_shape.cells x)))
 
 -- ---- a record
 
-pub record_over : (u : Name) (x : RecordEntry) (old new : State) → AreBooks old.now → (count : ℕ) → Executes over_record_text (Text u ∷ record_shape.cells x) old new (Ok count) → Applies u (changes_written count (Put (RecordPut x))) old.now new.now
+pub record_over : PutsOver Records over_record_text
 unfolding first_key
-record_over = puts_over RecordKept over_record_text by_two _ over_record (λ u x id y. refl) (tag_shown record_tag (λ x. drop 1 (record_shape.cells x)))
+record_over = puts_over Records over_record_text by_two _ over_record (λ u x id y. refl) (tag_shown record_tag (λ x. drop 1 (record_shape.cells x)))
 
 -- ---- a change
 
-pub change_over : (u : Name) (x : ChangeEntry) (old new : State) → AreBooks old.now → (count : ℕ) → Executes over_change_text (Text u ∷ change_shape.cells x) old new (Ok count) → Applies u (changes_written count (Put (ChangePut x))) old.now new.now
+pub change_over : PutsOver Changes over_change_text
 unfolding first_key
-change_over = puts_over ChangeKept over_change_text by_two _ over_change (λ u x id y. refl) (two_shown (λ x. number x.number) (λ x y tie. ap number (same_number x.number y.number tie)) (λ x. drop 1 (change_shape.cells x)))
+change_over = puts_over Changes over_change_text by_two _ over_change (λ u x id y. refl) (two_shown (λ x. number x.number) (λ x y tie. ap number (same_number x.number y.number tie)) (λ x. drop 1 (change_shape.cells x)))

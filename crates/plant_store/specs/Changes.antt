@@ -2,14 +2,14 @@
 use Rattle.std.specs.Prelude.{IsTrue, List, [], ◌∷◌, ◌≡◌, ◌≢◌}
 use Rattle.sqlite.specs.{Effect.{Database}, State.{HasCleanDisk, State}}
 use Rattle.plant_model.specs.{RowChanges.{changed_by}, declared.rows.{RowEdit.{RowEdit}, UnitRows.{UnitRows}}}
-use Rattle.plant_columns.specs.Tables.{AreBooks, AreSeen, Kept, office_row, rows_seen}
+use Rattle.plant_columns.specs.{Tables.{AreBooks, AreSeen, office_row, rows_seen}, declared.tables.TableKind.{TableKind}}
 use Rattle.plant_types.specs.Names.{Name}
 
 -- the unit's rows are changed, in the order of the list, and nothing else is
 pub record Applies (unit : Name) (changes : List RowEdit) (old new : Database) : Type 0 where
   pub books : AreBooks new
   pub mine : (rows : UnitRows) → AreSeen unit old rows → AreSeen unit new (changed_by changes rows)
-  pub others : (other : Name) → other ≢ unit → (i : Kept) → rows_seen other new.trees i ≡ rows_seen other old.trees i
+  pub others : (other : Name) → other ≢ unit → (i : TableKind) → rows_seen other new.trees i ≡ rows_seen other old.trees i
   pub office : new.trees 0 ≡ old.trees 0
 
 -- the disk has returned what was written, and no failure has shut the database

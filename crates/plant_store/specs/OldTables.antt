@@ -2,8 +2,9 @@
 use Rattle.std.specs.{Ordering.{nat_cmp}, Prelude.{List, [], codes, map, ℕ, ◌++◌, ◌∷◌}}
 use Rattle.sqlite.specs.{Effect.{Database}, Schema.{Schema}, Tree.{Trees}}
 use Rattle.sqlite_value.specs.{Order.{Row, bytes, column}, declared.value.Value.TheVariants.{Null, Text}}
-use Rattle.plant_columns.specs.{Codes.{number, number_in, role, role_in}, Shape.{AreTables, Shape, seen, table_in}, Tables.Kept.{GrantKept, UnitKept}}
-use Rattle.plant_columns.specs.Tables.{Kept, KeyOf, RowOf, all_kept, by_person, key_index, number_column, office_table, shape, text_column}
+use Rattle.plant_columns.specs.{Codes.{number, number_in, role, role_in}, Shape.{AreTables, Shape, seen, table_in}}
+use Rattle.plant_columns.specs.declared.tables.TableKind.{TableKind, TheVariants.{Grants, Units}}
+use Rattle.plant_columns.specs.Tables.{KeyOf, RowOf, all_tables, by_person, key_index, number_column, office_table, shape, text_column}
 use Rattle.plant_store.specs.declared.old_rows.{OldGrantRow.{OldGrantRow}, OldUnitRow.{OldUnitRow}}
 use Rattle.plant_types.specs.{Names.{Name}, Roles.{Pair, pair_cmp}}
 
@@ -48,21 +49,21 @@ old_grant_shape = record {
 }
 
 -- a row of each table of that schema: two are of their own, the others those of today
-abbrev pub OldRowOf : Kept → Type 0
-OldRowOf UnitKept = OldUnitRow
-OldRowOf GrantKept = OldGrantRow
+abbrev pub OldRowOf : TableKind → Type 0
+OldRowOf Units = OldUnitRow
+OldRowOf Grants = OldGrantRow
 OldRowOf i = RowOf i
 
 -- the shape of each table of that schema
-abbrev pub old_shape : (i : Kept) → Shape (OldRowOf i) (KeyOf i)
-old_shape UnitKept = old_unit_shape
-old_shape GrantKept = old_grant_shape
+abbrev pub old_shape : (i : TableKind) → Shape (OldRowOf i) (KeyOf i)
+old_shape Units = old_unit_shape
+old_shape Grants = old_grant_shape
 old_shape i = shape i
 
 abbrev pub old_books_schema : Schema
 old_books_schema = record {
-  tables = office_table ∷ map (λ i. table_in (old_shape i)) all_kept;
-  indexes = map (λ i. key_index (old_shape i)) all_kept ++ by_person ∷ [];
+  tables = office_table ∷ map (λ i. table_in (old_shape i)) all_tables;
+  indexes = map (λ i. key_index (old_shape i)) all_tables ++ by_person ∷ [];
   views = [];
 }
 
@@ -71,5 +72,5 @@ abbrev pub AreOldBooks : Database → Type 0
 AreOldBooks db = AreTables OldRowOf KeyOf old_shape old_books_schema db
 
 -- what its tables have of a unit
-abbrev pub old_rows : Name → Trees → (i : Kept) → List (OldRowOf i)
+abbrev pub old_rows : Name → Trees → (i : TableKind) → List (OldRowOf i)
 old_rows unit trees = seen OldRowOf KeyOf old_shape unit trees

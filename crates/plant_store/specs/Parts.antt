@@ -9,7 +9,8 @@ use Rattle.plant_model.specs.declared.{kinds.Scope.{Scope}, rows.{AlarmRow.{Alar
 use Rattle.plant_model.specs.declared.rows.{ChangeEntry.{ChangeEntry}, GrantRow.{GrantRow}, RecordEntry.{RecordEntry}, UnitRow.{UnitRow}}
 use Rattle.plant_model.specs.declared.rows.UnitRows.{UnitRows}
 use Rattle.plant_books.specs.{Numbered.{NumbersRise, of_numbers}, declared.asking.WantedAlarms.{WantedAlarms}}
-use Rattle.plant_columns.specs.Tables.{AreBooks, Kept, rows_seen, Kept.{AlarmKept, ChangeKept, EventKept, GrantKept, ShelfKept}}
+use Rattle.plant_columns.specs.declared.tables.TableKind.{TableKind, TheVariants.{Alarms, Changes, Events, Grants, Shelves}}
+use Rattle.plant_columns.specs.Tables.{AreBooks, rows_seen}
 use Rattle.plant_store.specs.{Changes.{IsHonest}, Wanted.{alarms_with, events_with}}
 use Rattle.plant_types.specs.Names.{Name, same_name}
 
@@ -17,22 +18,22 @@ use Rattle.plant_types.specs.Names.{Name, same_name}
 
 -- the grants of a person in a unit
 abbrev pub grants_of : Name → Name → Trees → List GrantRow
-grants_of person unit trees = filter (λ g. same_name person g.person) (rows_seen unit trees GrantKept)
+grants_of person unit trees = filter (λ g. same_name person g.person) (rows_seen unit trees Grants)
 
 -- how many rows a unit has in one table
-abbrev pub count_seen : Name → Kept → Trees → ℕ
+abbrev pub count_seen : Name → TableKind → Trees → ℕ
 count_seen unit i trees = length (rows_seen unit trees i)
 
 -- the number of a unit's last change
 abbrev pub last_change_seen : Name → Trees → ℕ
-last_change_seen unit trees = last_number (rows_seen unit trees ChangeKept)
+last_change_seen unit trees = last_number (rows_seen unit trees Changes)
 
 -- the alarms and events of a unit that are read for those that are wanted
 abbrev pub alarms_seen : WantedAlarms → Name → Trees → List AlarmRow
-alarms_seen wanted unit trees = alarms_with wanted (rows_seen unit trees AlarmKept)
+alarms_seen wanted unit trees = alarms_with wanted (rows_seen unit trees Alarms)
 
 abbrev pub events_seen : Bool → Name → Trees → List Event
-events_seen wanted unit trees = events_with wanted (rows_seen unit trees EventKept)
+events_seen wanted unit trees = events_with wanted (rows_seen unit trees Events)
 
 -- ---- of a connection before and after, on a clean disk
 
@@ -41,21 +42,21 @@ abbrev pub LoadsGrants : {S E : Type 0} → Ghosts S → Held S → Held S → N
 LoadsGrants g before after unit own all said =
     HasCleanDisk (state g after) → AreBooks (state g before).now
     → IfOk said (λ rows. (p : Name) → own ≡ grants_of p unit (state g before).now.trees
-    → rows ≡ filter (λ r. same_name p r.person || all) (rows_seen unit (state g before).now.trees GrantKept))
+    → rows ≡ filter (λ r. same_name p r.person || all) (rows_seen unit (state g before).now.trees Grants))
 
 -- the result is the count that the request needs in the unit, if the events are the unit's where the request looks at them
 abbrev pub LoadsCount : {S E : Type 0} → Ghosts S → Held S → Held S → Name → Request → List Event → Result ℕ E → Type 0
 LoadsCount g before after unit request events said =
     HasCleanDisk (state g after) → AreBooks (state g before).now
-    → IfOk said (λ n. (rows : UnitRows) → rows.alarms ≡ rows_seen unit (state g before).now.trees AlarmKept
-    → rows.changes ≡ rows_seen unit (state g before).now.trees ChangeKept
+    → IfOk said (λ n. (rows : UnitRows) → rows.alarms ≡ rows_seen unit (state g before).now.trees Alarms
+    → rows.changes ≡ rows_seen unit (state g before).now.trees Changes
     → (looks_at_events request ≡ true → rows.events ≡ events) → n ≡ counted_for rows request)
 
 -- for a request that shelves, the result is whether the unit with this row of its own is crowded
 abbrev pub LoadsCrowding : {S E : Type 0} → Ghosts S → Held S → Held S → Name → List UnitRow → Request → Result Bool E → Type 0
 LoadsCrowding g before after unit units request said =
     HasCleanDisk (state g after) → AreBooks (state g before).now
-    → IfOk said (λ crowded. (rows : UnitRows) → rows.units ≡ units → rows.shelves ≡ rows_seen unit (state g before).now.trees ShelfKept
+    → IfOk said (λ crowded. (rows : UnitRows) → rows.units ≡ units → rows.shelves ≡ rows_seen unit (state g before).now.trees Shelves
     → is_shelving request ≡ true → is_crowded rows ≡ crowded)
 
 -- for a request that approves a change, the result is that change, if the unit has it
@@ -63,7 +64,7 @@ abbrev pub LoadsApproved : {S E : Type 0} → Ghosts S → Held S → Held S →
 LoadsApproved g before after unit request said =
     HasCleanDisk (state g after) → AreBooks (state g before).now
     → IfOk said (λ rows. (n : ℕ) → number_approved request ≡ Some n
-    → rows ≡ filter (λ r. same_number n r.number) (rows_seen unit (state g before).now.trees ChangeKept))
+    → rows ≡ filter (λ r. same_number n r.number) (rows_seen unit (state g before).now.trees Changes))
 
 -- ---- of a connection before and after, on an honest disk
 
@@ -87,7 +88,7 @@ abbrev pub LoadsChanges : {S E : Type 0} → Ghosts S → Held S → Held S → 
 LoadsChanges g before after unit records scope said =
     IsHonest (state g after) → AreBooks (state g before).now
     → (rows : UnitRows) → records ≡ filter (λ r. (selection_by rows scope).rationale r.tag) rows.records
-    → IfOk said (λ changes. changes ≡ filter (λ r. (selection_by rows scope).change r.number) (rows_seen unit (state g before).now.trees ChangeKept))
+    → IfOk said (λ changes. changes ≡ filter (λ r. (selection_by rows scope).change r.number) (rows_seen unit (state g before).now.trees Changes))
 
 -- ---- of lists
 

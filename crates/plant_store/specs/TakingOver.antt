@@ -3,8 +3,8 @@ use Rattle.std.specs.Prelude.{IsTrue, List, OnOk, Result, [], map, ◌≡◌}
 use Rattle.sqlite.specs.{Held.{Held, state}, State.{HasCleanDisk}, Tree.{Trees}, declared.transaction.Transaction.{Transaction}}
 use Rattle.sqlite_trees.specs.declared.store.Store.{Ghosts}
 use Rattle.plant_model.specs.declared.rows.{Row.{Row}, RowEdit.TheVariants.{Put}}
-use Rattle.plant_store.specs.{Changes.{IsHonest}, OldTables.{AreOldBooks}, Upgrading.{AreTakenOver, old_codes, puts_all, puts_of, upgraded_rows}}
-use Rattle.plant_store.specs.{Writing.{Writes}, declared.{make.TableKind.{TableKind}, old_rows.CodeLine.{CodeLine}}}
+use Rattle.plant_store.specs.{Changes.{IsHonest}, OldTables.{AreOldBooks}, Upgrading.{AreTakenOver, old_codes, puts_all, upgraded_rows}}
+use Rattle.plant_store.specs.{Writing.{Writes}, declared.old_rows.CodeLine.{CodeLine}}
 use Rattle.plant_types.specs.Names.{Name}
 
 -- on an honest disk this holds of the tables of schema 1
@@ -16,15 +16,10 @@ abbrev pub Takes : {S N X V E : Type 0} → Ghosts S → Held S → Held S → G
 Takes g from from_after h tx tx_after unit had becomes said =
     OfOldTables g from from_after (λ trees. Writes h tx tx_after unit (map (λ r. Put (becomes r)) (had unit trees)) said)
 
--- the unit's rows of the table of this kind are taken over
-abbrev pub TakesTable : {S N V E : Type 0} → Ghosts S → Held S → Held S → Ghosts N → Transaction N → Transaction N → Name → TableKind → Result V E → Type 0
-TakesTable g from from_after h tx tx_after unit kind said =
-    OfOldTables g from from_after (λ trees. Writes h tx tx_after unit (puts_of (upgraded_rows unit trees) kind) said)
-
--- the unit's rows of the tables of these kinds are taken over
-abbrev pub TakesTables : {S N V E : Type 0} → Ghosts S → Held S → Held S → Ghosts N → Transaction N → Transaction N → Name → List TableKind → Result V E → Type 0
-TakesTables g from from_after h tx tx_after unit kinds said =
-    OfOldTables g from from_after (λ trees. Writes h tx tx_after unit (puts_all (upgraded_rows unit trees) kinds) said)
+-- the unit's rows of all tables are taken over
+abbrev pub TakesUnit : {S N V E : Type 0} → Ghosts S → Held S → Held S → Ghosts N → Transaction N → Transaction N → Name → Result V E → Type 0
+TakesUnit g from from_after h tx tx_after unit said =
+    OfOldTables g from from_after (λ trees. Writes h tx tx_after unit (puts_all (upgraded_rows unit trees)) said)
 
 -- if the lines are the codes of all units, the rows of all units are taken over into books without rows, and the office stays
 abbrev pub TakesUnits : {S N V E : Type 0} → Ghosts S → Held S → Held S → Ghosts N → Transaction N → Transaction N → List CodeLine → Result V E → Type 0

@@ -6,13 +6,13 @@ use Rattle.sqlite.specs.{Effect.{Database}, Tree.{Trees}}
 use Rattle.sqlite_value.specs.Order.{bytes, column}
 use Rattle.plant_books.specs.Contents.{Content, rows_in}
 use Rattle.plant_columns.specs.Kept.{by_columns, kept}
-use Rattle.plant_columns.specs.Tables.Kept.{AlarmKept, BandKept, CellKept, ChangeKept, EventKept, GrantKept, RecordKept, ShelfKept, UnitKept}
-use Rattle.plant_columns.specs.Tables.{AreBooks, AreSeen}
+use Rattle.plant_columns.specs.declared.tables.TableKind.{TableKind, TheVariants.{Alarms, Bands, Cells, Changes, Events, Grants, Records, Shelves}}
+use Rattle.plant_columns.specs.declared.tables.TableKind.TheVariants.{Units}
+use Rattle.plant_columns.specs.Tables.{AreBooks, AreSeen, RowOf, all_tables, rows_at}
 use Rattle.plant_model.specs.{RowChanges.{no_rows}, declared.rows.GrantRow.{GrantRow}}
 use Rattle.plant_model.specs.declared.rows.Row.TheVariants.{Alarm as AlarmPut, Band as BandPut, Cell as CellPut, Change as ChangePut, Event as EventPut, Grant as GrantPut, Record as RecordPut, Shelf as ShelfPut, Unit as UnitPut}
-use Rattle.plant_model.specs.declared.rows.{RowEdit.{RowEdit, TheVariants.{Put}}, UnitRow.{UnitRow}, UnitRows.{UnitRows}}
-use Rattle.plant_store.specs.{Keeping.{has_any}, OldTables.{AreOldBooks, old_office_row, old_rows}, declared.make.TableKind.{TableKind}}
-use Rattle.plant_store.specs.declared.make.TableKind.TheVariants.{Alarms, Bands, Cells, Changes, Events, Grants, Records, Shelves, Units}
+use Rattle.plant_model.specs.declared.rows.{Row.{Row}, RowEdit.{RowEdit, TheVariants.{Put}}, UnitRow.{UnitRow}, UnitRows.{UnitRows}}
+use Rattle.plant_store.specs.{Keeping.{has_any}, OldTables.{AreOldBooks, old_office_row, old_rows}}
 use Rattle.plant_store.specs.declared.old_rows.{OldGrantRow.{OldGrantRow}, OldUnitRow.{OldUnitRow}}
 
 abbrev pub upgraded_unit : OldUnitRow → UnitRow
@@ -24,15 +24,15 @@ upgraded_grant g = record { person = g.person; role_no = g.role_no; end_s = None
 -- a unit's rows, as this schema has them
 abbrev pub upgraded_rows : Name → Trees → UnitRows
 upgraded_rows u trees = record {
-  units = map upgraded_unit (old_rows u trees UnitKept);
-  grants = map upgraded_grant (old_rows u trees GrantKept);
-  alarms = old_rows u trees AlarmKept;
-  shelves = old_rows u trees ShelfKept;
-  events = old_rows u trees EventKept;
-  bands = old_rows u trees BandKept;
-  cells = old_rows u trees CellKept;
-  records = old_rows u trees RecordKept;
-  changes = old_rows u trees ChangeKept;
+  units = map upgraded_unit (old_rows u trees Units);
+  grants = map upgraded_grant (old_rows u trees Grants);
+  alarms = old_rows u trees Alarms;
+  shelves = old_rows u trees Shelves;
+  events = old_rows u trees Events;
+  bands = old_rows u trees Bands;
+  cells = old_rows u trees Cells;
+  records = old_rows u trees Records;
+  changes = old_rows u trees Changes;
 }
 
 -- tables of schema 1 that have a content: its units have the greatest quota, and its grants no end
@@ -46,23 +46,24 @@ pub record HaveOldRows (m : Content) (db : Database) : Type 0 where
 abbrev pub old_codes : Trees → List Name
 old_codes trees = map (λ r. bytes (column r 1)) (kept (by_columns (1 ∷ [])) (λ r. true) (trees 1))
 
--- the puts of the rows of one table, and of several
+-- a row, as changes name it
+abbrev pub as_row : (i : TableKind) → RowOf i → Row
+as_row Units x = UnitPut x
+as_row Grants x = GrantPut x
+as_row Alarms x = AlarmPut x
+as_row Shelves x = ShelfPut x
+as_row Bands x = BandPut x
+as_row Cells x = CellPut x
+as_row Events x = EventPut x
+as_row Records x = RecordPut x
+as_row Changes x = ChangePut x
+
+-- the puts of the rows of one table, and of all
 abbrev pub puts_of : UnitRows → TableKind → List RowEdit
-puts_of rows Units = map (λ r. Put (UnitPut r)) rows.units
-puts_of rows Grants = map (λ r. Put (GrantPut r)) rows.grants
-puts_of rows Alarms = map (λ r. Put (AlarmPut r)) rows.alarms
-puts_of rows Shelves = map (λ r. Put (ShelfPut r)) rows.shelves
-puts_of rows Events = map (λ r. Put (EventPut r)) rows.events
-puts_of rows Bands = map (λ r. Put (BandPut r)) rows.bands
-puts_of rows Cells = map (λ r. Put (CellPut r)) rows.cells
-puts_of rows Records = map (λ r. Put (RecordPut r)) rows.records
-puts_of rows Changes = map (λ r. Put (ChangePut r)) rows.changes
+puts_of rows i = map (λ r. Put (as_row i r)) (rows_at i rows)
 
-abbrev pub all_kinds : List TableKind
-all_kinds = Units ∷ Grants ∷ Alarms ∷ Shelves ∷ Events ∷ Bands ∷ Cells ∷ Records ∷ Changes ∷ []
-
-abbrev pub puts_all : UnitRows → List TableKind → List RowEdit
-puts_all rows kinds = flat_map (puts_of rows) kinds
+abbrev pub puts_all : UnitRows → List RowEdit
+puts_all rows = flat_map (puts_of rows) all_tables
 
 abbrev pub is_among : List Name → Name → Bool
 is_among us u = list_any (λ k. same_name k u) us

@@ -3,13 +3,14 @@
 ghost use Rattle.std.specs.Prelude.{◌-◌, ◌≡◌, OnOk};
 ghost use Rattle.sqlite.specs.Held.{state};
 ghost use Rattle.plant_books.specs.Books.{WasHonest};
-ghost use Rattle.plant_store.specs.{Changes.{IsHonest}, Making.{AreEmpty, AreNew, kept_as}};
+ghost use Rattle.plant_store.specs.{Changes.{IsHonest}, Making.{AreEmpty, AreNew}};
 ghost use Rattle.plant_store.specs.{Reading.{HasNoTransaction, IsHonestIn}, Writing.{IsBlank, LeadsTo, SameOnErr, SameReference, StaysOpen}};
-ghost use Rattle.plant_columns.specs.Tables.{no_schema, schema_with, shape};
+ghost use Rattle.plant_columns.specs.Tables.{no_schema, schema_with, shape, table_count};
 ghost use Rattle.plant_store.specs.Texts as texts;
 
 use crate::write::run;
 use plant_columns::encode::single;
+use plant_columns::tables::TableKind;
 use plant_types::Person;
 use sqlite::{Alter, Connection, Error, Transaction};
 
@@ -27,22 +28,9 @@ fn make_office<S: Alter>(tx: &mut Transaction<'_, S>) -> Result<(), Error>
     )
 }
 
-/// The tables that have rows of units.
-pub enum TableKind {
-    Units,
-    Grants,
-    Alarms,
-    Shelves,
-    Events,
-    Bands,
-    Cells,
-    Records,
-    Changes,
-}
-
 /// The text that makes the table. They stand in the order in which the tables are made: scripts/check-schema reads them so.
 fn table_text(kind: &TableKind) -> &'static str
-    ensures { result.now ≡ texts.table_text (kept_as kind.now) }
+    ensures { result.now ≡ texts.table_text kind.now }
 {
     match kind {
         TableKind::Units =>
@@ -67,49 +55,22 @@ fn table_text(kind: &TableKind) -> &'static str
 }
 
 /// Makes a table, after those before it.
+#[tactic(auto, using(crate::proofs::Makings::makes_each))]
 fn make_table<S: Alter>(tx: &mut Transaction<'_, S>, kind: &TableKind) -> Result<(), Error>
     ensures same_reference { SameReference tx.old tx.new }
     ensures made { LeadsTo S.Store tx.old tx.new
-        (AreEmpty (schema_with ((shape (kept_as kind.now)).place - 1)))
-        (AreEmpty (schema_with (shape (kept_as kind.now)).place)) result }
+        (AreEmpty (schema_with ((shape kind.now).place - 1)))
+        (AreEmpty (schema_with (shape kind.now).place)) result }
     ensures stays { StaysOpen S.Store tx.old tx.new result }
 {
     run(tx, table_text(kind), &[])
-}
-
-/// Makes the tables of the office, of units, of grants, of alarms and of shelves.
-fn make_first_tables<S: Alter>(tx: &mut Transaction<'_, S>) -> Result<(), Error>
-    ensures same_reference { SameReference tx.old tx.new }
-    ensures made { LeadsTo S.Store tx.old tx.new
-        (AreEmpty no_schema) (AreEmpty (schema_with 4)) result }
-    ensures stays { StaysOpen S.Store tx.old tx.new result }
-{
-    make_office(tx)?;
-    make_table(tx, &TableKind::Units)?;
-    make_table(tx, &TableKind::Grants)?;
-    make_table(tx, &TableKind::Alarms)?;
-    make_table(tx, &TableKind::Shelves)
-}
-
-/// Makes the tables of matrices, of events, of records and of changes.
-fn make_other_tables<S: Alter>(tx: &mut Transaction<'_, S>) -> Result<(), Error>
-    ensures same_reference { SameReference tx.old tx.new }
-    ensures made { LeadsTo S.Store tx.old tx.new
-        (AreEmpty (schema_with 4)) (AreEmpty (schema_with 9)) result }
-    ensures stays { StaysOpen S.Store tx.old tx.new result }
-{
-    make_table(tx, &TableKind::Bands)?;
-    make_table(tx, &TableKind::Cells)?;
-    make_table(tx, &TableKind::Events)?;
-    make_table(tx, &TableKind::Records)?;
-    make_table(tx, &TableKind::Changes)
 }
 
 /// Makes the index of grants by persons, and the office's row.
 fn fill_office<S: Alter>(tx: &mut Transaction<'_, S>, admin: &Person) -> Result<(), Error>
     ensures same_reference { SameReference tx.old tx.new }
     ensures made { LeadsTo S.Store tx.old tx.new
-        (AreEmpty (schema_with 9)) (AreNew admin.now) result }
+        (AreEmpty (schema_with table_count)) (AreNew admin.now) result }
     ensures stays { StaysOpen S.Store tx.old tx.new result }
 {
     run(
@@ -131,8 +92,16 @@ pub fn make_tables<S: Alter>(tx: &mut Transaction<'_, S>, admin: &Person) -> Res
     ensures made { LeadsTo S.Store tx.old tx.new IsBlank (AreNew admin.now) result }
     ensures stays { StaysOpen S.Store tx.old tx.new result }
 {
-    make_first_tables(tx)?;
-    make_other_tables(tx)?;
+    make_office(tx)?;
+    make_table(tx, &TableKind::Units)?;
+    make_table(tx, &TableKind::Grants)?;
+    make_table(tx, &TableKind::Alarms)?;
+    make_table(tx, &TableKind::Shelves)?;
+    make_table(tx, &TableKind::Bands)?;
+    make_table(tx, &TableKind::Cells)?;
+    make_table(tx, &TableKind::Events)?;
+    make_table(tx, &TableKind::Records)?;
+    make_table(tx, &TableKind::Changes)?;
     fill_office(tx, admin)
 }
 

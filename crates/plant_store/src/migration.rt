@@ -8,11 +8,11 @@ ghost use Rattle.plant_model.specs.declared.rows.RowEdit.TheVariants.{Put};
 ghost use Rattle.plant_types.specs.declared.fault.Fault.TheVariants.{Store};
 ghost use Rattle.plant_store.specs.{Changes.{IsHonest}, Keeping.{HaveRows, Represents}, OldTables.{old_schema_no}};
 ghost use Rattle.plant_store.specs.{Opened.{HasNoOffice, HasOldBooks, IsAnothers, WasOffice}, Opening.{IsOffice}};
-ghost use Rattle.plant_store.specs.{Reading.{HasNoTransaction, ReadsOldBooks}, TakingOver.{Takes, TakesTable, TakesTables, TakesUnits}};
-ghost use Rattle.plant_store.specs.{Upgrading.{HaveOldRows, all_kinds}, Writing.{IsBlank, SameDatabase, SameOnErr, SameReference, StaysOpen, Writes}};
+ghost use Rattle.plant_store.specs.{Reading.{HasNoTransaction, ReadsOldBooks}, TakingOver.{Takes, TakesUnit, TakesUnits}};
+ghost use Rattle.plant_store.specs.{Upgrading.{HaveOldRows}, Writing.{IsBlank, SameDatabase, SameOnErr, SameReference, StaysOpen, Writes}};
 ghost use Rattle.plant_store.specs.declared.tables.StoreFault.TheVariants.{NotThisStore};
 
-use crate::make::{TableKind, make_tables};
+use crate::make::make_tables;
 use crate::old_rows::{CodeLine, OldGrantRow, OldRow, OldUnitRow, old_codes_of, old_rows_of};
 use crate::opening::is_office_of;
 use crate::tables::{StoreFault, Tables, fault_of, is_blank};
@@ -71,58 +71,8 @@ fn take_rows<T: OldRow, O: Alter, N: Alter>(
     put_rows::<T, N>(alloc, tx, unit, rows.as_slice())
 }
 
-/// Takes a unit's rows of one table over, as its kind says.
-fn take_table<O: Alter, N: Alter>(
-    alloc: Global,
-    from: &mut Connection<O>,
-    tx: &mut Transaction<'_, N>,
-    unit: &UnitCode,
-    kind: &TableKind,
-) -> Result<(), Error>
-    requires reading { HasNoTransaction from.old }
-    ensures mode { HasNoTransaction from.new }
-    ensures reads { ReadsOldBooks O.Store from.old from.new }
-    ensures same_reference { SameReference tx.old tx.new }
-    ensures made { TakesTable O.Store from.old from.new N.Store tx.old tx.new unit.now
-        kind.now result }
-    ensures stays { StaysOpen N.Store tx.old tx.new result }
-{
-    match kind {
-        TableKind::Units => take_rows::<OldUnitRow, O, N>(alloc, from, tx, unit),
-        TableKind::Grants => take_rows::<OldGrantRow, O, N>(alloc, from, tx, unit),
-        TableKind::Alarms => take_rows::<AlarmRow, O, N>(alloc, from, tx, unit),
-        TableKind::Shelves => take_rows::<ShelfRow, O, N>(alloc, from, tx, unit),
-        TableKind::Events => take_rows::<Event, O, N>(alloc, from, tx, unit),
-        TableKind::Bands => take_rows::<BandRow, O, N>(alloc, from, tx, unit),
-        TableKind::Cells => take_rows::<CellRow, O, N>(alloc, from, tx, unit),
-        TableKind::Records => take_rows::<RecordEntry, O, N>(alloc, from, tx, unit),
-        TableKind::Changes => take_rows::<ChangeEntry, O, N>(alloc, from, tx, unit),
-    }
-}
-
-/// Takes a unit's rows of these tables over.
-fn take_tables<O: Alter, N: Alter>(
-    alloc: Global,
-    from: &mut Connection<O>,
-    tx: &mut Transaction<'_, N>,
-    unit: &UnitCode,
-    kinds: &[TableKind],
-) -> Result<(), Error>
-    requires reading { HasNoTransaction from.old }
-    ensures mode { HasNoTransaction from.new }
-    ensures reads { ReadsOldBooks O.Store from.old from.new }
-    ensures same_reference { SameReference tx.old tx.new }
-    ensures made { TakesTables O.Store from.old from.new N.Store tx.old tx.new unit.now
-        kinds.now result }
-    ensures stays { StaysOpen N.Store tx.old tx.new result }
-{
-    for kind in kinds {
-        take_table(alloc, from, tx, unit, kind)?;
-    }
-    Ok(())
-}
-
-/// Takes all rows of a unit over.
+/// Takes all rows of a unit over, table by table.
+#[tactic(auto, using(crate::proofs::ReadsOnly::reads_then, crate::proofs::StepsInside::stays_then))]
 fn take_unit<O: Alter, N: Alter>(
     alloc: Global,
     from: &mut Connection<O>,
@@ -133,27 +83,19 @@ fn take_unit<O: Alter, N: Alter>(
     ensures mode { HasNoTransaction from.new }
     ensures reads { ReadsOldBooks O.Store from.old from.new }
     ensures same_reference { SameReference tx.old tx.new }
-    ensures made { TakesTables O.Store from.old from.new N.Store tx.old tx.new unit.now
-        all_kinds result }
+    ensures made { TakesUnit O.Store from.old from.new N.Store tx.old tx.new unit.now result }
     ensures stays { StaysOpen N.Store tx.old tx.new result }
 {
-    take_tables(
-        alloc,
-        from,
-        tx,
-        unit,
-        &[
-            TableKind::Units,
-            TableKind::Grants,
-            TableKind::Alarms,
-            TableKind::Shelves,
-            TableKind::Events,
-            TableKind::Bands,
-            TableKind::Cells,
-            TableKind::Records,
-            TableKind::Changes,
-        ],
-    )
+    take_rows::<OldUnitRow, O, N>(alloc, from, tx, unit)?;
+    take_rows::<OldGrantRow, O, N>(alloc, from, tx, unit)?;
+    take_rows::<AlarmRow, O, N>(alloc, from, tx, unit)?;
+    take_rows::<ShelfRow, O, N>(alloc, from, tx, unit)?;
+    take_rows::<BandRow, O, N>(alloc, from, tx, unit)?;
+    take_rows::<CellRow, O, N>(alloc, from, tx, unit)?;
+    take_rows::<Event, O, N>(alloc, from, tx, unit)?;
+    take_rows::<RecordEntry, O, N>(alloc, from, tx, unit)?;
+    take_rows::<ChangeEntry, O, N>(alloc, from, tx, unit)?;
+    Ok(())
 }
 
 /// Takes all rows of units over, one unit after another.

@@ -1,7 +1,6 @@
 //! The units in which a person holds roles.
 
 ghost use Rattle.std.specs.Prelude.{◌≡◌, ◌++◌, ◌∷◌, [], filter, map, IfOk, OnOk};
-ghost use Rattle.sqlite.specs.Held.{state};
 ghost use Rattle.plant_books.specs.Contents.{codes_held, mine_as, mine_units as units_held, rows_in};
 ghost use Rattle.plant_model.specs.{RowFacts.{unit_read}, declared.rows.UnitRows.{UnitRows}};
 ghost use Rattle.plant_model.specs.Grants as grants;
@@ -42,20 +41,18 @@ impl Shown for Holding {
 pub fn push<T: Drop>(table: &mut List<T>, row: T) -> Result<(), Error>
     ensures { OnOk result (table.new ≡ table.old ++ row ∷ []) }
 {
-    match table.push(row) {
-        Ok(()) => Ok(()),
-        Err(_) => Err(Error::SqliteFailure(ErrorCode::OutOfMemory)),
-    }
+    table
+        .push(row)
+        .map_err(|_| Error::SqliteFailure(ErrorCode::OutOfMemory))
 }
 
 /// The same value again.
 pub fn copy_of<T: Duplicate>(alloc: Global, value: &T) -> Result<T, Error>
     ensures { IfOk result (λ copy. copy ≡ value.now) }
 {
-    match value.duplicate(alloc) {
-        Ok(copy) => Ok(copy),
-        Err(_) => Err(Error::SqliteFailure(ErrorCode::OutOfMemory)),
-    }
+    value
+        .duplicate(alloc)
+        .map_err(|_| Error::SqliteFailure(ErrorCode::OutOfMemory))
 }
 
 /// The units of the grants that have not ended, each once, rising.
@@ -76,6 +73,7 @@ fn standing_codes(
 }
 
 /// The codes of the units in which the person holds a role at the moment.
+#[tactic(auto, using(crate::proofs::Meanings::holdings, crate::proofs::ReadsOnly::reads_plain))]
 pub fn held<S: Alter>(
     alloc: Global,
     conn: &mut Connection<S>,

@@ -3,24 +3,25 @@
 ghost use Rattle.std.specs.Prelude.{◌∷◌, [], List};
 ghost use Rattle.sqlite.specs.Tree.{Trees};
 ghost use Rattle.sqlite_value.specs.declared.value.Value.TheVariants.{Text as TextValue};
-ghost use Rattle.plant_columns.specs.Tables.Kept.{AlarmKept, BandKept, CellKept, ChangeKept, EventKept, GrantKept, RecordKept, ShelfKept, UnitKept};
+ghost use Rattle.plant_columns.specs.declared.tables.TableKind.TheVariants.{Alarms, Bands, Cells, Changes, Events, Grants, Records, Shelves, Units};
 ghost use Rattle.plant_model.specs.declared.rows.{Row.{Row as AnyRow, TheVariants.{Grant as GrantPut, Unit as UnitPut}}, RowEdit.TheVariants.{Put}};
 ghost use Rattle.plant_store.specs.OldTables.{old_grant_shape, old_rows, old_unit_shape};
 ghost use Rattle.plant_store.specs.{Reading.{HasNoTransaction, LoadsOld, LoadsOldCodes, ReadsOldBooks}, Statements.{ReadsOldUnit}};
 ghost use Rattle.plant_store.specs.{Upgrading.{upgraded_grant, upgraded_unit}, Writing.{SameReference, StaysOpen, Writes}};
 ghost use Rattle.plant_types.specs.Names.{Name};
 
+use crate::mine::copy_of;
 use crate::read::read_rows;
 use crate::stored::Stored;
 use plant_alarm::Event;
-use plant_columns::decode::{Shown, moment, number, role, text};
+use plant_columns::decode::{Shown, coded, moment, number, text};
 use plant_columns::encode::single;
 use plant_model::{
     AlarmRow, BandRow, CellRow, ChangeEntry, GrantRow, RecordEntry, ShelfRow, UnitRow,
 };
 use plant_types::limits::MAX_QUOTA;
 use plant_types::{List, Moment, Person, Quota, Role, UnitCode};
-use sqlite::{Alter, Connection, Error, ErrorCode, Row, Transaction};
+use sqlite::{Alter, Connection, Error, Row, Transaction};
 use std::alloc::Global;
 
 /// A unit's own row: there was no quota.
@@ -66,7 +67,7 @@ impl Shown for OldGrantRow {
     fn from_row(alloc: Global, row: &Row) -> Result<OldGrantRow, Error> {
         Ok(OldGrantRow {
             person: text(alloc, row, 0)?,
-            role_no: role(row, 1)?,
+            role_no: coded(row, 1)?,
         })
     }
 }
@@ -120,7 +121,7 @@ pub trait Unchanged: Stored {
 impl OldRow for OldUnitRow {
     ghost becomes = { λ r. UnitPut (upgraded_unit r) };
 
-    ghost had = { λ unit trees. old_rows unit trees UnitKept };
+    ghost had = { λ unit trees. old_rows unit trees Units };
 
     fn old_select() -> &'static str {
         "SELECT last_s, matrix_no, matrix_rev FROM units WHERE unit = ?1 ORDER BY unit"
@@ -145,7 +146,7 @@ impl OldRow for OldUnitRow {
 impl OldRow for OldGrantRow {
     ghost becomes = { λ g. GrantPut (upgraded_grant g) };
 
-    ghost had = { λ unit trees. old_rows unit trees GrantKept };
+    ghost had = { λ unit trees. old_rows unit trees Grants };
 
     fn old_select() -> &'static str {
         "SELECT person, role_no FROM grants WHERE unit = ?1 ORDER BY unit, person, role_no"
@@ -157,11 +158,8 @@ impl OldRow for OldGrantRow {
         tx: &mut Transaction<'_, N>,
         unit: &UnitCode,
     ) -> Result<(), Error> {
-        let Ok(person) = self.person.copy(alloc) else {
-            return Err(Error::SqliteFailure(ErrorCode::OutOfMemory));
-        };
         let row = GrantRow {
-            person,
+            person: copy_of(alloc, &self.person)?,
             role_no: self.role_no,
             end_s: None,
         };
@@ -189,7 +187,7 @@ impl<T: Unchanged> OldRow for T {
 }
 
 impl Unchanged for AlarmRow {
-    ghost had_before = { λ unit trees. old_rows unit trees AlarmKept };
+    ghost had_before = { λ unit trees. old_rows unit trees Alarms };
 
     fn same_select() -> &'static str {
         AlarmRow::select()
@@ -197,7 +195,7 @@ impl Unchanged for AlarmRow {
 }
 
 impl Unchanged for ShelfRow {
-    ghost had_before = { λ unit trees. old_rows unit trees ShelfKept };
+    ghost had_before = { λ unit trees. old_rows unit trees Shelves };
 
     fn same_select() -> &'static str {
         ShelfRow::select()
@@ -205,7 +203,7 @@ impl Unchanged for ShelfRow {
 }
 
 impl Unchanged for Event {
-    ghost had_before = { λ unit trees. old_rows unit trees EventKept };
+    ghost had_before = { λ unit trees. old_rows unit trees Events };
 
     fn same_select() -> &'static str {
         Event::select()
@@ -213,7 +211,7 @@ impl Unchanged for Event {
 }
 
 impl Unchanged for BandRow {
-    ghost had_before = { λ unit trees. old_rows unit trees BandKept };
+    ghost had_before = { λ unit trees. old_rows unit trees Bands };
 
     fn same_select() -> &'static str {
         BandRow::select()
@@ -221,7 +219,7 @@ impl Unchanged for BandRow {
 }
 
 impl Unchanged for CellRow {
-    ghost had_before = { λ unit trees. old_rows unit trees CellKept };
+    ghost had_before = { λ unit trees. old_rows unit trees Cells };
 
     fn same_select() -> &'static str {
         CellRow::select()
@@ -229,7 +227,7 @@ impl Unchanged for CellRow {
 }
 
 impl Unchanged for RecordEntry {
-    ghost had_before = { λ unit trees. old_rows unit trees RecordKept };
+    ghost had_before = { λ unit trees. old_rows unit trees Records };
 
     fn same_select() -> &'static str {
         RecordEntry::select()
@@ -237,7 +235,7 @@ impl Unchanged for RecordEntry {
 }
 
 impl Unchanged for ChangeEntry {
-    ghost had_before = { λ unit trees. old_rows unit trees ChangeKept };
+    ghost had_before = { λ unit trees. old_rows unit trees Changes };
 
     fn same_select() -> &'static str {
         ChangeEntry::select()

@@ -43,19 +43,13 @@ fn has_office(schema: &Schema) -> bool
 fn is_number(row: &Row, at: usize, number: u32) -> bool
     ensures { IsTrue result ↔ (column row.now at ≡ codings.number number) }
 {
-    match row.get_ref(at) {
-        Ok(ValueRef::Int(found)) => found == i64::from(number),
-        _ => false,
-    }
+    matches!(row.get_ref(at), Ok(ValueRef::Int(found)) if found == i64::from(number))
 }
 
 fn is_text(row: &Row, at: usize, text: &[u8]) -> bool
     ensures { IsTrue result ↔ (column row.now at ≡ TextValue text.now) }
 {
-    match row.get_ref(at) {
-        Ok(ValueRef::Text(found)) => found == text,
-        _ => false,
-    }
+    matches!(row.get_ref(at), Ok(ValueRef::Text(found)) if found == text)
 }
 
 /// Whether the row is of this schema's number and this person's name.
@@ -77,6 +71,7 @@ fn is_office_row(rows: &[Row], schema: u32, admin: &Person) -> bool
 
 /// Whether the office's table, where it is there with its columns, has one row, with this schema's number and this
 /// person's name.
+#[tactic(auto, using(crate::proofs::Meanings::office_row_plain, crate::proofs::OldMeanings::office_row_plain, crate::proofs::ReadsOnly::reads_plain, crate::proofs::ReadsOnly::reads_plain_old))]
 fn has_its_row<S: Alter>(
     conn: &mut Connection<S>,
     schema: u32,

@@ -8,7 +8,7 @@ ghost use Rattle.plant_books.specs.Contents.{Content, part_in, rows_in};
 ghost use Rattle.plant_store.specs.{Changes.{IsHonest}, Keeping.{HasContent}};
 ghost use Rattle.plant_store.specs.Parts.{AreAskedBy, LoadsApproved, LoadsCount, LoadsCrowding, LoadsGrants, alarms_seen, events_seen, grants_of};
 ghost use Rattle.plant_store.specs.{Reading.{HasNoTransaction, Loads, ReadsBooks, ReadsContent}, Wanted.{alarms_left, rows_with}};
-ghost use Rattle.plant_columns.specs.Tables.{rows_seen, Kept.{UnitKept}};
+ghost use Rattle.plant_columns.specs.{Tables.{rows_seen}, declared.tables.TableKind.TheVariants.{Units}};
 
 use crate::numbers::{matrix_rows, some_changes};
 use crate::read::{
@@ -100,12 +100,9 @@ fn alarms_for(
 {
     match wanted {
         WantedAlarms::Those(_) => Ok(read),
-        WantedAlarms::Shelved => {
-            match shelved_alarms(alloc, read.as_slice(), shelves.as_slice()) {
-                Ok(shelved) => Ok(shelved),
-                Err(_) => Err(Error::SqliteFailure(ErrorCode::OutOfMemory)),
-            }
-        }
+        WantedAlarms::Shelved => shelved_alarms(alloc, read.as_slice(), shelves.as_slice()).map_err(
+            |_| Error::SqliteFailure(ErrorCode::OutOfMemory),
+        ),
     }
 }
 
@@ -136,14 +133,12 @@ fn events_for(alloc: Global, events: List<Event>, scope: Scope<'_>) -> Result<Li
     if matches!(wanted, WantedEvents::Every) {
         return Ok(events);
     }
-    match events_asked(alloc, &events, wanted) {
-        Ok(asked) => Ok(asked),
-        Err(_) => Err(Error::SqliteFailure(ErrorCode::OutOfMemory)),
-    }
+    events_asked(alloc, &events, wanted).map_err(|_| Error::SqliteFailure(ErrorCode::OutOfMemory))
 }
 
 /// How many alarms the unit has, how many events, or the number of its last change, for a call that needs it. The events were read
 /// where the request looks at them.
+#[tactic(auto, using(crate::proofs::Selected::counts_events))]
 fn count_for<S: Alter>(
     conn: &mut Connection<S>,
     unit: &UnitCode,
@@ -213,7 +208,7 @@ fn holders_part<S: Alter>(
     ensures mode { HasNoTransaction conn.new }
     ensures found { IsHonest (state S.Store conn.new) → (m : Content)
         → HasContent (state S.Store conn.old) m
-        → units ≡ rows_seen unit.now (state S.Store conn.old).now.trees UnitKept
+        → units ≡ rows_seen unit.now (state S.Store conn.old).now.trees Units
         → own ≡ grants_of call.now.person unit.now (state S.Store conn.old).now.trees
         → IfOk result (λ part. part ≡ part_of_holder call.now (rows_in m unit.now)) }
     ensures reads { ReadsBooks S.Store conn.old conn.new }

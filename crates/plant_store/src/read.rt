@@ -1,7 +1,7 @@
 //! The statements that read one unit's rows of one table.
 
 ghost use Rattle.plant_books.specs.Books.{WasHonest};
-ghost use Rattle.plant_columns.specs.Tables.Kept.{AlarmKept, ShelfKept};
+ghost use Rattle.plant_columns.specs.declared.tables.TableKind.TheVariants.{Alarms, Shelves};
 ghost use Rattle.plant_store.specs.Parts.{count_seen, grants_of, last_change_seen};
 ghost use Rattle.plant_store.specs.Reading.{Asks, Decodes, HasNoTransaction, IsHonestIn, Loads, LoadsNumber, LoadsTag, ReadsBooks, SameIfPlain};
 
@@ -93,6 +93,7 @@ pub fn rows_of_number<T: Numbered, S: Alter>(
 }
 
 /// One person's grants in the unit.
+#[tactic(auto, using(crate::proofs::ReadsOnly::reads_plain, crate::proofs::Meanings::lists_own_grants))]
 pub fn own_grants<S: Alter>(
     alloc: Global,
     conn: &mut Connection<S>,
@@ -113,10 +114,11 @@ pub fn own_grants<S: Alter>(
 }
 
 /// How many alarms the unit has.
+#[tactic(auto, using(crate::proofs::Meanings::tags_of, crate::proofs::ReadsOnly::reads_plain))]
 pub fn count_of_alarms<S: Alter>(conn: &mut Connection<S>, unit: &UnitCode) -> Result<u64, Error>
     requires { HasNoTransaction conn.old }
     ensures mode { HasNoTransaction conn.new }
-    ensures rows { Loads S.Store conn.old conn.new (count_seen unit.now AlarmKept) result }
+    ensures rows { Loads S.Store conn.old conn.new (count_seen unit.now Alarms) result }
     ensures reads { ReadsBooks S.Store conn.old conn.new }
 {
     let tags = ask(
@@ -128,10 +130,11 @@ pub fn count_of_alarms<S: Alter>(conn: &mut Connection<S>, unit: &UnitCode) -> R
 }
 
 /// How many shelves the unit keeps.
+#[tactic(auto, using(crate::proofs::Meanings::shelf_tags, crate::proofs::ReadsOnly::reads_plain))]
 pub fn count_of_shelves<S: Alter>(conn: &mut Connection<S>, unit: &UnitCode) -> Result<u64, Error>
     requires { HasNoTransaction conn.old }
     ensures mode { HasNoTransaction conn.new }
-    ensures rows { Loads S.Store conn.old conn.new (count_seen unit.now ShelfKept) result }
+    ensures rows { Loads S.Store conn.old conn.new (count_seen unit.now Shelves) result }
     ensures reads { ReadsBooks S.Store conn.old conn.new }
 {
     let tags = ask(

@@ -2,7 +2,7 @@
 
 ghost use Rattle.std.specs.Prelude.{◌≡◌, ◌∷◌, [], ℕ, List, true};
 ghost use Rattle.sqlite.specs.Tree.{Trees};
-ghost use Rattle.plant_columns.specs.Tables.Kept.{AlarmKept, BandKept, CellKept, ChangeKept, EventKept, GrantKept, RecordKept, ShelfKept, UnitKept};
+ghost use Rattle.plant_columns.specs.declared.tables.TableKind.TheVariants.{Alarms, Bands, Cells, Changes, Events, Grants, Records, Shelves, Units};
 ghost use Rattle.plant_columns.specs.Tables.{rows_seen};
 ghost use Rattle.plant_model.specs.{Order.{AreInOrder}, RowFacts.{change_number}, declared.rows.Row.{Row as AnyRow}};
 ghost use Rattle.plant_model.specs.declared.rows.Row.TheVariants.{Alarm as AlarmPut, Band as BandPut, Cell as CellPut, Change as ChangePut, Event as EventPut, Grant as GrantPut, Record as RecordPut, Shelf as ShelfPut, Unit as UnitPut};
@@ -49,6 +49,7 @@ pub trait Stored: Shown {
     }
 
     /// Updates the row with the same key, and returns how many rows were written. Rows of some tables never change: 0.
+    #[tactic(auto, using(crate::proofs::Writes::applies_none))]
     fn update<S: Alter>(&self, tx: &mut Transaction<'_, S>, unit: &UnitCode) -> Result<usize, Error>
         ensures same_reference { SameReference tx.old tx.new }
         ensures made { Updates S.Store tx.old tx.new unit.now (Put (as_row self.now)) result }
@@ -83,11 +84,11 @@ pub trait Numbered: Stored {
 }
 
 impl Stored for UnitRow {
-    ghost seen = { λ unit trees. rows_seen unit trees UnitKept };
+    ghost seen = { λ unit trees. rows_seen unit trees Units };
 
     ghost as_row = { UnitPut };
 
-    ghost select_text = { rows_text UnitKept };
+    ghost select_text = { rows_text Units };
 
     fn select() -> &'static str {
         "SELECT last_s, matrix_no, matrix_rev, quota FROM units WHERE unit = ?1 ORDER BY unit"
@@ -105,6 +106,7 @@ impl Stored for UnitRow {
         )
     }
 
+    #[tactic(auto, using(crate::proofs::StoredLaws::unit_new))]
     fn insert<S: Alter>(&self, tx: &mut Transaction<'_, S>, unit: &UnitCode) -> Result<(), Error> {
         run(
             tx,
@@ -115,11 +117,11 @@ impl Stored for UnitRow {
 }
 
 impl Stored for GrantRow {
-    ghost seen = { λ unit trees. rows_seen unit trees GrantKept };
+    ghost seen = { λ unit trees. rows_seen unit trees Grants };
 
     ghost as_row = { GrantPut };
 
-    ghost select_text = { rows_text GrantKept };
+    ghost select_text = { rows_text Grants };
 
     fn select() -> &'static str {
         "SELECT person, role_no, end_s FROM grants WHERE unit = ?1 ORDER BY unit, person, role_no"
@@ -141,6 +143,7 @@ impl Stored for GrantRow {
         )
     }
 
+    #[tactic(auto, using(crate::proofs::StoredLaws::grant_new))]
     fn insert<S: Alter>(&self, tx: &mut Transaction<'_, S>, unit: &UnitCode) -> Result<(), Error> {
         run(
             tx,
@@ -151,16 +154,17 @@ impl Stored for GrantRow {
 }
 
 impl Stored for AlarmRow {
-    ghost seen = { λ unit trees. rows_seen unit trees AlarmKept };
+    ghost seen = { λ unit trees. rows_seen unit trees Alarms };
 
     ghost as_row = { AlarmPut };
 
-    ghost select_text = { rows_text AlarmKept };
+    ghost select_text = { rows_text Alarms };
 
     fn select() -> &'static str {
         "SELECT tag, latching, max_s, max_rev, state_no, suppressed, active_s, return_s, out_s, out_by, out_words FROM alarms WHERE unit = ?1 ORDER BY unit, tag"
     }
 
+    #[tactic(auto, using(crate::proofs::StoredLaws::found_there))]
     fn has_key_in(&self, rows: &UnitRows) -> bool {
         row_of(rows.alarms.as_slice(), &self.tag).is_some()
     }
@@ -177,6 +181,7 @@ impl Stored for AlarmRow {
         )
     }
 
+    #[tactic(auto, using(crate::proofs::StoredLaws::alarm_new))]
     fn insert<S: Alter>(&self, tx: &mut Transaction<'_, S>, unit: &UnitCode) -> Result<(), Error> {
         run(
             tx,
@@ -195,16 +200,17 @@ impl Tagged for AlarmRow {
 }
 
 impl Stored for ShelfRow {
-    ghost seen = { λ unit trees. rows_seen unit trees ShelfKept };
+    ghost seen = { λ unit trees. rows_seen unit trees Shelves };
 
     ghost as_row = { ShelfPut };
 
-    ghost select_text = { rows_text ShelfKept };
+    ghost select_text = { rows_text Shelves };
 
     fn select() -> &'static str {
         "SELECT tag, one_shot, start_s, until_s, person, words FROM shelves WHERE unit = ?1 ORDER BY unit, tag"
     }
 
+    #[tactic(auto, using(crate::proofs::StoredLaws::found_there))]
     fn has_key_in(&self, rows: &UnitRows) -> bool {
         row_of(rows.shelves.as_slice(), &self.tag).is_some()
     }
@@ -222,6 +228,7 @@ impl Stored for ShelfRow {
         )
     }
 
+    #[tactic(auto, using(crate::proofs::StoredLaws::shelf_new))]
     fn insert<S: Alter>(&self, tx: &mut Transaction<'_, S>, unit: &UnitCode) -> Result<(), Error> {
         let until = wide(self.until_s)?;
         run(
@@ -241,16 +248,17 @@ impl Tagged for ShelfRow {
 }
 
 impl Stored for BandRow {
-    ghost seen = { λ unit trees. rows_seen unit trees BandKept };
+    ghost seen = { λ unit trees. rows_seen unit trees Bands };
 
     ghost as_row = { BandPut };
 
-    ghost select_text = { rows_text BandKept };
+    ghost select_text = { rows_text Bands };
 
     fn select() -> &'static str {
         "SELECT matrix_no, band_no, limit_s FROM bands WHERE unit = ?1 ORDER BY unit, matrix_no, band_no"
     }
 
+    #[tactic(auto, using(crate::proofs::StoredLaws::band_new))]
     fn insert<S: Alter>(&self, tx: &mut Transaction<'_, S>, unit: &UnitCode) -> Result<(), Error> {
         let limit = wide(self.limit_s)?;
         run(
@@ -270,16 +278,17 @@ impl Numbered for BandRow {
 }
 
 impl Stored for CellRow {
-    ghost seen = { λ unit trees. rows_seen unit trees CellKept };
+    ghost seen = { λ unit trees. rows_seen unit trees Cells };
 
     ghost as_row = { CellPut };
 
-    ghost select_text = { rows_text CellKept };
+    ghost select_text = { rows_text Cells };
 
     fn select() -> &'static str {
         "SELECT matrix_no, severity, band_no, cell_no FROM cells WHERE unit = ?1 ORDER BY unit, matrix_no, severity, band_no"
     }
 
+    #[tactic(auto, using(crate::proofs::StoredLaws::cell_new))]
     fn insert<S: Alter>(&self, tx: &mut Transaction<'_, S>, unit: &UnitCode) -> Result<(), Error> {
         run(
             tx,
@@ -298,16 +307,17 @@ impl Numbered for CellRow {
 }
 
 impl Stored for Event {
-    ghost seen = { λ unit trees. rows_seen unit trees EventKept };
+    ghost seen = { λ unit trees. rows_seen unit trees Events };
 
     ghost as_row = { EventPut };
 
-    ghost select_text = { rows_text EventKept };
+    ghost select_text = { rows_text Events };
 
     fn select() -> &'static str {
         "SELECT seq, moment_s, tag, kind_no FROM events WHERE unit = ?1 ORDER BY unit, seq"
     }
 
+    #[tactic(auto, using(crate::proofs::StoredLaws::event_new))]
     fn insert<S: Alter>(&self, tx: &mut Transaction<'_, S>, unit: &UnitCode) -> Result<(), Error> {
         run(
             tx,
@@ -318,16 +328,17 @@ impl Stored for Event {
 }
 
 impl Stored for RecordEntry {
-    ghost seen = { λ unit trees. rows_seen unit trees RecordKept };
+    ghost seen = { λ unit trees. rows_seen unit trees Records };
 
     ghost as_row = { RecordPut };
 
-    ghost select_text = { rows_text RecordKept };
+    ghost select_text = { rows_text Records };
 
     fn select() -> &'static str {
         "SELECT tag, change_no, rev, cell_no FROM records WHERE unit = ?1 ORDER BY unit, tag"
     }
 
+    #[tactic(auto, using(crate::proofs::StoredLaws::found_there))]
     fn has_key_in(&self, rows: &UnitRows) -> bool {
         row_of(rows.records.as_slice(), &self.tag).is_some()
     }
@@ -344,6 +355,7 @@ impl Stored for RecordEntry {
         )
     }
 
+    #[tactic(auto, using(crate::proofs::StoredLaws::record_new))]
     fn insert<S: Alter>(&self, tx: &mut Transaction<'_, S>, unit: &UnitCode) -> Result<(), Error> {
         run(
             tx,
@@ -362,16 +374,17 @@ impl Tagged for RecordEntry {
 }
 
 impl Stored for ChangeEntry {
-    ghost seen = { λ unit trees. rows_seen unit trees ChangeKept };
+    ghost seen = { λ unit trees. rows_seen unit trees Changes };
 
     ghost as_row = { ChangePut };
 
-    ghost select_text = { rows_text ChangeKept };
+    ghost select_text = { rows_text Changes };
 
     fn select() -> &'static str {
         "SELECT number, proposer, proposed_s, kind_no, tag, base, cause, consequence, remedy, severity, response_s, max_s, state_no, decider, decided_s FROM changes WHERE unit = ?1 ORDER BY unit, number"
     }
 
+    #[tactic(auto, using(crate::proofs::StoredLaws::found_there))]
     fn has_key_in(&self, rows: &UnitRows) -> bool {
         change_at(rows.changes.as_slice(), self.number).is_some()
     }
@@ -388,6 +401,7 @@ impl Stored for ChangeEntry {
         )
     }
 
+    #[tactic(auto, using(crate::proofs::StoredLaws::change_new))]
     fn insert<S: Alter>(&self, tx: &mut Transaction<'_, S>, unit: &UnitCode) -> Result<(), Error> {
         run(
             tx,

@@ -137,12 +137,7 @@ impl<S: Alter> Tables<S> {
             });
         }
         match make_all(&mut conn, &admin) {
-            Ok(()) => Ok(Tables {
-                conn,
-                admin,
-                stores: 0,
-                alloc,
-            }),
+            Ok(()) => Ok(Tables::of(alloc, conn, admin)),
             Err(error) => Err(Unopened {
                 conn,
                 admin,
@@ -153,6 +148,7 @@ impl<S: Alter> Tables<S> {
 
     /// Opens a database that `create` made for this administrator. One is refused as `NotThisStore` where the office's table or
     /// a column of it is missing, or where its one row is not this schema's and this administrator's.
+    #[tactic(auto, using(crate::proofs::ReadsOnly::keeps_read))]
     pub fn open(
         alloc: Global,
         mut conn: Connection<S>,
@@ -170,24 +166,12 @@ impl<S: Alter> Tables<S> {
         ensures left { KeepsIfErr S.Store conn result (λ e. e.conn) }
         ensures back { IfErr result (λ e. (e.admin ≡ admin) × HasNoTransaction e.conn) }
     {
-        match is_office_of(&mut conn, SCHEMA, &admin) {
-            Ok(true) => Ok(Tables {
-                conn,
-                admin,
-                stores: 0,
-                alloc,
-            }),
-            Ok(false) => Err(Unopened {
-                conn,
-                admin,
-                fault: StoreFault::NotThisStore,
-            }),
-            Err(error) => Err(Unopened {
-                conn,
-                admin,
-                fault: StoreFault::Fault(fault_of(&error)),
-            }),
-        }
+        let fault = match is_office_of(&mut conn, SCHEMA, &admin) {
+            Ok(true) => return Ok(Tables::of(alloc, conn, admin)),
+            Ok(false) => StoreFault::NotThisStore,
+            Err(error) => StoreFault::Fault(fault_of(&error)),
+        };
+        Err(Unopened { conn, admin, fault })
     }
 
     /// The books in these tables, where they were just made.
@@ -210,12 +194,7 @@ impl<S: Alter> Tables<S> {
         ensures same { result ≡ self.0.0 }
         ensures mode { HasNoTransaction result }
     {
-        let Tables {
-            conn,
-            admin: _,
-            stores: _,
-            alloc: _,
-        } = self;
+        let Tables { conn, .. } = self;
         conn
     }
 
@@ -230,6 +209,7 @@ impl<S: Alter> Tables<S> {
     }
 }
 
+#[tactic(auto, using(crate::proofs::ReadsOnly::keeps_read))]
 impl<S: Alter> Books for Tables<S> {
     ghost is_honest = { λ t. IsHonest (state S.Store t.0.0) };
 

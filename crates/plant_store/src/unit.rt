@@ -12,6 +12,7 @@ use sqlite::{Alter, Connection, Error};
 use std::alloc::Global;
 
 /// Whether there is a row: a unit was opened where it has a row of its own.
+#[tactic(auto, using(crate::proofs::public::Contents::any_is))]
 pub fn has_row(units: &List<UnitRow>) -> bool
     ensures { result ≡ has_any units.now }
 {

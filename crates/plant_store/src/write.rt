@@ -62,6 +62,7 @@ fn put_over<T: Stored, S: Alter>(
 
 /// Puts a row: over the one of its key, or as a new one. In a table whose rows do not change it fails if there is one, and so
 /// it does where the rows that were seen of the unit have none of its key.
+#[tactic(auto, using(crate::proofs::WritesOver::one_put))]
 pub fn put<T: Stored, S: Alter>(
     tx: &mut Transaction<'_, S>,
     unit: &UnitCode,
@@ -99,6 +100,7 @@ fn remove_grant<S: Alter>(
 }
 
 /// Removes a shelf.
+#[tactic(auto, using(crate::proofs::Writes::shelf_removed))]
 fn remove_shelf<S: Alter>(
     tx: &mut Transaction<'_, S>,
     unit: &UnitCode,

@@ -1,39 +1,32 @@
 -- A moment has one text: two texts that are read as one moment are the same.
-use Rattle.std.specs.List.{list_all}
-use Rattle.std.proofs.Common.{◌≡◌, ℕ, ◌+◌, ◌*◌, ◌/◌, ◌%◌, ◌≤◌, ◌<◌, ◌⊎◌, inl, inr, refl, sym, ap, ◌∙◌, arith, Bool, true, false, Some, None, cond, List, [], ◌∷◌, length, pos, subst, ◌==◌, zip}
-use Rattle.std.proofs.lemmas.{Bool.{leb-true, eqb-true, cases_lt}, Int.{ints}}
+use Rattle.std.proofs.lemmas.{Bool.{leb-true, eqb-true, cases_lt, Decides.{nat_tests}}, Int.{ints}}
+use Rattle.std.proofs.Common.{⊎_elim, ◌&&◌, ◌≡◌, ℕ, ◌+◌, ◌*◌, ◌/◌, ◌%◌, ◌≤◌, refl, sym, ap, ◌∙◌, arith, Bool, true, Some, None, cond, List, [], ◌∷◌, length, pos, subst}
 use Rattle.jiff_core.{specs.Calendar.{day_count, IsCivilDate}, proofs.CalendarLemmas.{day_count-lt_year, day_count-lt_month, day_count-day}}
-use Rattle.plant_types.specs.Moment.{decimal_value, form, fits_at, has_form, Civil, civil_of, is_civil, is_date, days_since_2000, seconds_since_2000, moment_of}
-use Rattle.plant_types.{specs.{Spelling.{digit, spelled}, Text.{is_digit}}, proofs.public.DateTests.{date_is, IsTime, time_is}}
-use Rattle.plant_types.proofs.public.{Days.{day_count-2000, since-2000}, Halves.{left, right}}
+use Rattle.plant_types.specs.{Spelling.{digit, spelled}, Text.{is_digit}}
+use Rattle.plant_types.proofs.public.{DateTests.{date_is, IsTime, time_is}, Days.{day_count-2000, since-2000}, Halves.{left, right}}
+use Rattle.plant_types.specs.Moment.{decimal_value, has_form, Civil, civil_of, is_civil, is_date, days_since_2000, seconds_since_2000, moment_of}
 
 -- what a digit is
-low_digit : (b : ℕ) → is_digit b ≡ true → 48 ≤ b
-low_digit b e = leb-true 48 b (left _ _ e)
+within : (b : ℕ) → is_digit b ≡ true → (48 ≤ b) × (b ≤ 57)
+within b e = (leb-true 48 b (left _ _ e), leb-true b 57 (right _ _ e))
 
-high_digit : (b : ℕ) → is_digit b ≡ true → b ≤ 57
-high_digit b e = leb-true b 57 (right _ _ e)
-
-first_of_two : (a b : ℕ) → is_digit a ≡ true → is_digit b ≡ true → a ≡ digit (decimal_value (a ∷ b ∷ []) / 10)
-first_of_two a b p q = omega (arith, low_digit a p, high_digit a p, low_digit b q, high_digit b q)
-
-second_of_two : (a b : ℕ) → is_digit a ≡ true → is_digit b ≡ true → b ≡ digit (decimal_value (a ∷ b ∷ []) % 10)
-second_of_two a b p q = omega (arith, low_digit a p, high_digit a p, low_digit b q, high_digit b q)
+of_two : (a b : ℕ) → is_digit a ≡ true → is_digit b ≡ true → (a ≡ digit (decimal_value (a ∷ b ∷ []) / 10)) × (b ≡ digit (decimal_value (a ∷ b ∷ []) % 10))
+of_two a b p q =
+    let u = within a p in
+    let v = within b q in
+    (omega arith, omega arith)
 
 abbrev number_of : ℕ → ℕ → ℕ → ℕ → ℕ
 number_of a b c d = decimal_value (a ∷ b ∷ c ∷ d ∷ [])
 
-first_of_four : (a b c d : ℕ) → is_digit a ≡ true → is_digit b ≡ true → is_digit c ≡ true → is_digit d ≡ true → a ≡ digit (number_of a b c d / 100 / 10)
-first_of_four a b c d p q r s = omega (arith, low_digit a p, high_digit a p, low_digit b q, high_digit b q, low_digit c r, high_digit c r, low_digit d s, high_digit d s)
-
-second_of_four : (a b c d : ℕ) → is_digit a ≡ true → is_digit b ≡ true → is_digit c ≡ true → is_digit d ≡ true → b ≡ digit (number_of a b c d / 100 % 10)
-second_of_four a b c d p q r s = omega (arith, low_digit a p, high_digit a p, low_digit b q, high_digit b q, low_digit c r, high_digit c r, low_digit d s, high_digit d s)
-
-third_of_four : (a b c d : ℕ) → is_digit a ≡ true → is_digit b ≡ true → is_digit c ≡ true → is_digit d ≡ true → c ≡ digit (number_of a b c d % 100 / 10)
-third_of_four a b c d p q r s = omega (arith, low_digit a p, high_digit a p, low_digit b q, high_digit b q, low_digit c r, high_digit c r, low_digit d s, high_digit d s)
-
-fourth_of_four : (a b c d : ℕ) → is_digit a ≡ true → is_digit b ≡ true → is_digit c ≡ true → is_digit d ≡ true → d ≡ digit (number_of a b c d % 100 % 10)
-fourth_of_four a b c d p q r s = omega (arith, low_digit a p, high_digit a p, low_digit b q, high_digit b q, low_digit c r, high_digit c r, low_digit d s, high_digit d s)
+of_four : (a b c d : ℕ) → is_digit a ≡ true → is_digit b ≡ true → is_digit c ≡ true → is_digit d ≡ true
+    → (a ≡ digit (number_of a b c d / 100 / 10)) × (b ≡ digit (number_of a b c d / 100 % 10)) × (c ≡ digit (number_of a b c d % 100 / 10)) × (d ≡ digit (number_of a b c d % 100 % 10))
+of_four a b c d p q r s =
+    let u = within a p in
+    let v = within b q in
+    let w = within c r in
+    let x = within d s in
+    (omega arith, omega arith, omega arith, omega arith)
 
 -- a text of the form is spelled by its parts
 abbrev spelled_by : Civil → List ℕ
@@ -43,51 +36,27 @@ put : {x y : ℕ} {xs ys : List ℕ} → x ≡ y → xs ≡ ys → x ∷ xs ≡ 
 put p q = cc
 
 is_long : (text : List ℕ) → has_form text ≡ true → length text ≡ 20
-is_long text is = eqb-true (length text) 20 (left (length text == 20) (list_all (λ e. fits_at e.0 e.1) (zip form text)) is)
+is_long text is = grind (arith, nat_tests)
+
+three : (a b c rest : Bool) → (a && (b && (c && rest))) ≡ true → (a ≡ true) × (b ≡ true) × (c ≡ true) × (rest ≡ true)
+three a b c rest h = (grind arith, grind arith, grind arith, grind arith)
 
 spelled_by_parts : (text : List ℕ) → has_form text ≡ true → text ≡ spelled_by (civil_of text)
 spelled_by_parts (a ∷ b ∷ c ∷ d ∷ e ∷ f ∷ g ∷ h ∷ i ∷ j ∷ k ∷ l ∷ m ∷ n ∷ o ∷ p ∷ q ∷ r ∷ s ∷ t ∷ []) is =
-    let f0 = is in
-    let f1 = right _ _ f0 in
-    let f2 = right _ _ f1 in
-    let f3 = right _ _ f2 in
-    let f4 = right _ _ f3 in
-    let f5 = right _ _ f4 in
-    let f6 = right _ _ f5 in
-    let f7 = right _ _ f6 in
-    let f8 = right _ _ f7 in
-    let f9 = right _ _ f8 in
-    let f10 = right _ _ f9 in
-    let f11 = right _ _ f10 in
-    let f12 = right _ _ f11 in
-    let f13 = right _ _ f12 in
-    let f14 = right _ _ f13 in
-    let f15 = right _ _ f14 in
-    let f16 = right _ _ f15 in
-    let f17 = right _ _ f16 in
-    let f18 = right _ _ f17 in
-    let f19 = right _ _ f18 in
-    let da = left _ _ f0 in
-    let db = left _ _ f1 in
-    let dc = left _ _ f2 in
-    let dd = left _ _ f3 in
-    let df = left _ _ f5 in
-    let dg = left _ _ f6 in
-    let di = left _ _ f8 in
-    let dj = left _ _ f9 in
-    let dl = left _ _ f11 in
-    let dm = left _ _ f12 in
-    let do' = left _ _ f14 in
-    let dp = left _ _ f15 in
-    let dr = left _ _ f17 in
-    let ds = left _ _ f18 in
-    put (first_of_four a b c d da db dc dd) (put (second_of_four a b c d da db dc dd) (put (third_of_four a b c d da db dc dd) (put (fourth_of_four a b c d da db dc dd)
-    (put (eqb-true e 45 (left _ _ f4)) (put (first_of_two f g df dg) (put (second_of_two f g df dg)
-    (put (eqb-true h 45 (left _ _ f7)) (put (first_of_two i j di dj) (put (second_of_two i j di dj)
-    (put (eqb-true k 84 (left _ _ f10)) (put (first_of_two l m dl dm) (put (second_of_two l m dl dm)
-    (put (eqb-true n 58 (left _ _ f13)) (put (first_of_two o p do' dp) (put (second_of_two o p do' dp)
-    (put (eqb-true q 58 (left _ _ f16)) (put (first_of_two r s dr ds) (put (second_of_two r s dr ds)
-    (put (eqb-true t 90 (left _ _ f19)) refl)))))))))))))))))))
+    let abc = three _ _ _ _ is in
+    let def = three _ _ _ _ abc.3 in
+    let ghi = three _ _ _ _ def.3 in
+    let jkl = three _ _ _ _ ghi.3 in
+    let mno = three _ _ _ _ jkl.3 in
+    let pqr = three _ _ _ _ mno.3 in
+    let year = of_four a b c d abc.0 abc.1 abc.2 def.0 in
+    let month = of_two f g def.2 ghi.0 in
+    let day = of_two i j ghi.2 jkl.0 in
+    let hour = of_two l m jkl.2 mno.0 in
+    let minute = of_two o p mno.2 pqr.0 in
+    let second = of_two r s pqr.2 (left _ _ pqr.3) in
+    put year.0 (put year.1 (put year.2 (put year.3 (put (eqb-true e 45 def.1) (put month.0 (put month.1 (put (eqb-true h 45 ghi.1) (put day.0 (put day.1 (put (eqb-true k 84 jkl.1)
+    (put hour.0 (put hour.1 (put (eqb-true n 58 mno.1) (put minute.0 (put minute.1 (put (eqb-true q 58 pqr.1) (put second.0 (put second.1 (put (eqb-true t 90 (left _ _ (right _ _ pqr.3))) refl)))))))))))))))))))
 spelled_by_parts text is = absurd (omega (arith, is_long text is))
 
 -- a day of these years
@@ -102,18 +71,10 @@ day_of y m d e =
 
 -- days with one number are the same day
 no_earlier_year : (y m d z n e : ℕ) → IsDay y m d → IsDay z n e → day_count (pos y) m d ≡ day_count (pos z) n e → z ≤ y
-no_earlier_year y m d z n e p q same = by_case (cases_lt y z)
-  where
-    by_case : (y < z) ⊎ (z ≤ y) → z ≤ y
-    by_case (inl lt) = absurd (omega (arith, same, day_count-lt_year (pos y) m d (pos z) n e p.civil q.civil.2.0 (omega (arith, ints))))
-    by_case (inr le) = le
+no_earlier_year y m d z n e p q same = ⊎_elim (λ lt. absurd (omega (arith, same, day_count-lt_year (pos y) m d (pos z) n e p.civil q.civil.2.0 (omega (arith, ints))))) (λ le. le) (cases_lt y z)
 
 no_earlier_month : (y m d n e : ℕ) → IsDay y m d → IsDay y n e → day_count (pos y) m d ≡ day_count (pos y) n e → n ≤ m
-no_earlier_month y m d n e p q same = by_case (cases_lt m n)
-  where
-    by_case : (m < n) ⊎ (n ≤ m) → n ≤ m
-    by_case (inl lt) = absurd (omega (arith, same, day_count-lt_month (pos y) m d n e p.civil q.civil.2.0 lt))
-    by_case (inr le) = le
+no_earlier_month y m d n e p q same = ⊎_elim (λ lt. absurd (omega (arith, same, day_count-lt_month (pos y) m d n e p.civil q.civil.2.0 lt))) (λ le. le) (cases_lt m n)
 
 same_year : (y m d z n e : ℕ) → IsDay y m d → IsDay z n e → day_count (pos y) m d ≡ day_count (pos z) n e → y ≡ z
 same_year y m d z n e p q same = omega (arith, no_earlier_year y m d z n e p q same, no_earlier_year z n e y m d q p (sym same))
@@ -161,21 +122,17 @@ same_clock x h m s y i n t p q same =
       second = omega (arith, p.hour, p.minute, p.second, q.hour, q.minute, q.second);
     }
 
-spelled_alike : {y m d h i s y' m' d' h' i' s' : ℕ} → y ≡ y' → m ≡ m' → d ≡ d' → h ≡ h' → i ≡ i' → s ≡ s' → spelled y m d h i s ≡ spelled y' m' d' h' i' s'
-spelled_alike a b c d e f = cc
-
 same_spelling : (a b : Civil) → is_civil a ≡ true → is_civil b ≡ true → seconds_since_2000 a ≡ seconds_since_2000 b → spelled_by a ≡ spelled_by b
 same_spelling a b p q same =
     let day = day_of a.year a.month a.day (left _ _ p) in
     let day' = day_of b.year b.month b.day (left _ _ q) in
     let clock = same_clock _ a.hour a.minute a.second _ b.hour b.minute b.second (time_is _ _ _ (right _ _ p)) (time_is _ _ _ (right _ _ q)) same in
     let date = same_date a.year a.month a.day b.year b.month b.day day day' (since_same a.year a.month a.day b.year b.month b.day day day' clock.days) in
-    spelled_alike date.year date.month date.day clock.hour clock.minute clock.second
+    rw (date.year, date.month, date.day, clock.hour, clock.minute, clock.second) refl
 
 -- what is read was of the form, a day and a time
 picked : (b : Bool) (n k : ℕ) → cond b (Some n) None ≡ Some k → (b ≡ true) × (n ≡ k)
-picked true n k e = (refl, cc)
-picked false n k e = cc
+picked b n k e = (grind arith, grind arith)
 
 pub same_text : (a b : List ℕ) (n : ℕ) → moment_of a ≡ Some n → moment_of b ≡ Some n → a ≡ b
 unfolding moment_of

@@ -100,6 +100,7 @@ fn summaries_from_events(
 
 /// Brings the summaries of alarms, which stand in the order of their tags, forward by more events in rising number, however
 /// they stand here.
+#[tactic(auto, using(plant_import::proofs::public::Placed::puts_none, plant_import::proofs::public::Placed::rises_of))]
 fn add_rising(
     alloc: Global,
     summaries: &mut List<Summary>,
@@ -165,6 +166,7 @@ fn tags_named(alloc: Global, events: &[Event]) -> Result<BTreeSet<Tag>, Fault>
 }
 
 /// The change of an alarm's row, where the alarm is named.
+#[tactic(auto, using(crate::proofs::AlarmLists::summary_state))]
 fn alarm_change(
     alloc: Global,
     named: &BTreeSet<Tag>,

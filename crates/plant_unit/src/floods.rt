@@ -53,6 +53,7 @@ fn lines_of(alloc: Global, begin: Moment, runs: &[Run]) -> Result<List<FloodLine
 }
 
 /// The floods of a range, in order of time, from the unit's events in rising number.
+#[tactic(auto, using(crate::proofs::FloodLines::lines_whole))]
 pub fn flood_lines(
     alloc: Global,
     events: &[Event],

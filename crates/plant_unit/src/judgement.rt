@@ -131,6 +131,7 @@ pub fn judge(alloc: Global, part: Option<&UnitPart>, call: &Call) -> Result<Verd
 }
 
 /// What is answered to an opening, whether its code is taken or not.
+#[tactic(auto, using(crate::proofs::JudgedLaws::opened_verdict))]
 pub fn judge_open(
     alloc: Global,
     administrator: &Person,

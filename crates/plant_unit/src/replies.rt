@@ -264,7 +264,7 @@ pub fn record(alloc: Global, part: &UnitPart, tag: &Tag) -> Result<Result<Reply,
     }
     match rationale_of(alloc, part, tag)? {
         None => Ok(Err(Refused::RecordUnknown)),
-        Some(row) => Ok(Ok(Reply::RecordOf(row))),
+        Some(row) => Ok(Ok(Reply::Record(row))),
     }
 }
 
@@ -275,6 +275,6 @@ pub fn change(alloc: Global, part: &UnitPart, number: u32) -> Result<Result<Repl
 {
     match change_of(alloc, part, number)? {
         None => Ok(Err(Refused::ChangeUnknown)),
-        Some(change) => Ok(Ok(Reply::ChangeOf(change))),
+        Some(change) => Ok(Ok(Reply::Change(change))),
     }
 }

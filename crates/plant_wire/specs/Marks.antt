@@ -25,19 +25,21 @@ mark_text (malformed cause) = cause_text cause
 abbrev pub out_of : List Mark → List ℕ
 out_of ms = flat_map mark_text ms
 
--- the calls among them
+-- the call of a request, if it is one
 abbrev pub call_in : Mark → Option Call
 call_in (said call answer) = Some call
 call_in (malformed cause) = None
 
+-- the calls among these requests
 abbrev pub calls_of : List Mark → List Call
 calls_of ms = filter_map call_in ms
 
--- the answers to these
+-- the answer to a call
 abbrev pub answer_in : Mark → Option Answer
 answer_in (said call answer) = Some answer
 answer_in (malformed cause) = None
 
+-- the answers to the calls among these requests
 abbrev pub answers_of : List Mark → List Answer
 answers_of ms = filter_map answer_in ms
 

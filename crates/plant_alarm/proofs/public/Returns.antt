@@ -1,13 +1,11 @@
 -- Where moments do not fall, some return comes after a moment where the last return does.
-use Rattle.std.specs.List.{list_any, list_all}
-use Rattle.std.proofs.Common.{◌≡◌, ℕ, suc, ◌≤◌, ◌<◌, refl, sym, ap, ◌∙◌, List, [], ◌∷◌, ◌++◌, length, get_or, Option, Bool, true, false, cond, ◌&&◌, ◌||◌, arith, subst, nat_lt, nat_le}
-use Rattle.std.proofs.Math.{ListN.{get_or-append}, Seq.{take-append_seam, get_or-append_seam}}
-use Rattle.std.proofs.lemmas.{Bool.{false≢true, le-leb, leb-true, lt-ltb, ltb-true, and_from}, List.{append-nil, length-append}}
-use Rattle.std.proofs.lemmas.List.Sorted.{IsNonDecreasingBy-take}
-use Rattle.plant_alarm.specs.Shelves.{shelf_while, start_of, is_after, returns_after, shelf_of, shelf_state}
-use Rattle.plant_alarm.specs.{States.{passing, is_return, returns, last_moment, last_return, IsInTime}, declared.event.Event.{Event}}
-use Rattle.plant_alarm.{specs.declared.shelf.Shelf.{Shelf}, proofs.public.Push.{by_last, list_any-push, passing-push, last_moment-push}}
-use Rattle.plant_types.proofs.public.Halves.{left, right}
+use Rattle.std.{specs.List.{list_any, list_all}, proofs.lemmas.{Bool.{false≢true, Decides.{nat_tests}}, List.{append-nil, length-append}}}
+use Rattle.std.proofs.{lemmas.List.Sorted.{IsNonDecreasingBy-take}, Math.{ListN.{get_or-append}, Seq.{take-append_seam, get_or-append_seam}}}
+use Rattle.std.proofs.Common.{◌≡◌, ℕ, suc, ◌≤◌, ◌<◌, refl, sym, ap, ◌∙◌, List, [], ◌∷◌, ◌++◌, length, get_or, Option, Bool, true, cond, arith, subst, nat_lt, nat_le}
+use Rattle.plant_alarm.specs.declared.event.Event.{Event}
+use Rattle.plant_alarm.specs.{declared.shelf.Shelf.{Shelf}, Shelves.{shelf_while, start_of, is_after, returns_after, shelf_of, shelf_state}}
+use Rattle.plant_alarm.specs.States.{passing, is_return, returns, last_moment, last_return, IsInTime}
+use Rattle.plant_alarm.proofs.public.Push.{by_last, list_any-push, passing-push, last_moment-push}
 
 abbrev is_late : ℕ → Event → Bool
 is_late s e = nat_lt s e.moment
@@ -17,27 +15,17 @@ is_within b e = nat_le e.moment b
 
 within : (b : ℕ) (es : List Event) → ((k : ℕ) (d : Event) → k < length es → (get_or es k d).moment ≤ b) → list_all (is_within b) es ≡ true
 within b [] h = refl
-within b (x ∷ es) h = and_from _ _ (le-leb x.moment b (h 0 x (omega arith))) (within b es (λ k d lt. h (suc k) d (omega arith)))
+within b (x ∷ es) h = grind (arith, nat_tests, h 0 x, within b es (λ k d lt. h (suc k) d (omega arith)))
 
 -- what passes is among the events
 passing_within : (b : ℕ) (test : List Event → Event → Bool) (before es : List Event) → list_all (is_within b) es ≡ true → list_all (is_within b) (passing test before es) ≡ true
 passing_within b test before [] h = refl
-passing_within b test before (x ∷ es) h =
-    let rest = passing_within b test (before ++ x ∷ []) es (right (is_within b x) (list_all (is_within b) es) h) in
-    elim (test before x) as (λ v. list_all (is_within b) (cond v (x ∷ []) [] ++ passing test (before ++ x ∷ []) es) ≡ true) [
-      | true ↦ and_from _ _ (left (is_within b x) (list_all (is_within b) es) h) rest
-      | false ↦ rest
-    ]
+passing_within b test before (x ∷ es) h = grind (arith, passing_within b test (before ++ x ∷ []) es)
 
 -- a moment below one of those is below their bound
-bound_by : (s b m : ℕ) (late any in_bound all_within : Bool) → nat_lt s m ≡ late → nat_le m b ≡ in_bound → (in_bound && all_within) ≡ true → (late || any) ≡ true
-    → (all_within ≡ true → any ≡ true → s < b) → s < b
-bound_by s b m true any in_bound all_within late inside all some rest = omega (arith, ltb-true s m late, leb-true m b (inside ∙ left in_bound all_within all))
-bound_by s b m false any in_bound all_within late inside all some rest = rest (right in_bound all_within all) some
-
 below_bound : (s b : ℕ) (es : List Event) → list_all (is_within b) es ≡ true → list_any (is_late s) es ≡ true → s < b
 below_bound s b [] h some = absurd (false≢true some)
-below_bound s b (x ∷ es) h some = bound_by s b x.moment _ _ _ _ refl refl h some (below_bound s b es)
+below_bound s b (x ∷ es) h some = grind (arith, nat_tests, below_bound s b es)
 
 -- the events before the last one are in time, and none is later than it
 front_in_time : (es : List Event) (e : Event) → IsInTime (es ++ e ∷ []) → IsInTime es
@@ -54,13 +42,8 @@ Agrees es = IsInTime es → (s : ℕ) → returns_after s es ≡ is_after s (las
 
 one_more : (es xs : List Event) (e : Event) (s : ℕ) (r : Bool) → list_all (is_within e.moment) xs ≡ true → list_any (is_late s) xs ≡ is_after s (last_moment xs)
     → list_any (is_late s) (xs ++ cond r (e ∷ []) []) ≡ is_after s (last_moment (xs ++ cond r (e ∷ []) []))
-one_more es xs e s true in_bound agrees =
-    list_any-push (is_late s) xs e ∙ joined (list_any (is_late s) xs) refl ∙ ap (is_after s) (sym (last_moment-push xs e))
-  where
-    joined : (v : Bool) → list_any (is_late s) xs ≡ v → (v || is_late s e) ≡ is_late s e
-    joined true any = sym (lt-ltb s e.moment (below_bound s e.moment xs in_bound any))
-    joined false any = refl
-one_more es xs e s false in_bound agrees = ap (list_any (is_late s)) (append-nil xs) ∙ agrees ∙ ap (λ l. is_after s (last_moment l)) (sym (append-nil xs))
+one_more es xs e s r in_bound agrees =
+    grind (arith, nat_tests, list_any-push (is_late s) xs e, last_moment-push xs e, below_bound s e.moment xs, append-nil xs)
 
 agrees_more : (es : List Event) (e : Event) → Agrees es → Agrees (es ++ e ∷ [])
 agrees_more es e agrees h s =

@@ -20,7 +20,7 @@ module _ {K X : Type 0} (R : K → K → Ordering) (key : X → K) where
   at_front x (y ∷ ys) all = rw all.0 refl
 
   module _ (total : IsTotalOrder R) where
-    alike_left : (x e y : K) → R x e ≡ Equal → R x y ≡ R e y
+    pub alike_left : (x e y : K) → R x e ≡ Equal → R x y ≡ R e y
     alike_left x e y h = total.antisymm x y ∙ ap ordering_reverse (alike_right total x e y h) ∙ sym (total.antisymm e y)
 
     pub put_is : (x : X) (rows : List X) → AreRising rows → put_in (λ a b. R (key a) (key b)) x rows ≡ put_row R key x rows

@@ -1,29 +1,14 @@
 -- Several tables, each with its shape, in one schema: what a put into one, a change of a row or a remove out of one leaves of all.
-use Rattle.std.specs.{Cmp.{ranks}, Ordering.{MatchOrdering}}
-use Rattle.std.proofs.Common.{◌≡◌, ◌≢◌, ◌⊎◌, inl, inr, ℕ, ◌<◌, zero, suc, List, [], ◌∷◌, slice_get, Some, sym, ap, ◌∙◌, subst, Ordering, Less, Equal, Greater, nat_cmp, arith}
+use Rattle.std.proofs.Common.{◌≡◌, ◌≢◌, ◌⊎◌, inl, inr, ℕ, List, ◌∷◌, slice_get, Some, sym, ap, ◌∙◌, subst}
+use Rattle.std.proofs.lemmas.Bool.{cases_eq}
 use Rattle.sqlite.specs.{Effect.{Database}, Schema.{Schema}, Table.{Table}, Tree.{Trees}}
-use Rattle.sqlite_rules.{specs.Lists.{Has}, proofs.ListLemmas.{all_has}}
-use Rattle.plant_types.specs.KeyedRows.{put_row, remove_row}
-use Rattle.plant_columns.{specs.{Shape.{Shape, table_in, IsRowIn, rows_in, seen, AreTables}, Tidy.{IsTidy}}, proofs.public.Changes.{KeepsOthers}}
-use Rattle.plant_columns.proofs.public.Shapes.{IsShape, PutsRow, RemovesRow, tidy_after_put, mine_after_put, others_after_put, tidy_after_out, mine_after_out, others_after_out}
-use Rattle.plant_columns.proofs.public.Updated.{Leaves, SetsRow, mine_after_set, others_after_set, tidy_after_set}
-
-same_or_not : (m n : ℕ) → (m ≡ n) ⊎ (m ≢ n)
-same_or_not m n = go (nat_cmp m n) (ranks m n)
-  where
-    go : (o : Ordering) → MatchOrdering o (m < n) (m ≡ n) (n < m) → (m ≡ n) ⊎ (m ≢ n)
-    go Less h = inr (λ e. omega arith)
-    go Equal h = inl h
-    go Greater h = inr (λ e. omega arith)
-
-has_at : (ts : List Table) (n : ℕ) (t : Table) → slice_get ts n ≡ Some t → Has ts t
-has_at [] n t e = absurd (cc e)
-has_at (x ∷ ts) zero t e = inl (cc)
-has_at (x ∷ ts) (suc n) t e = inr (has_at ts n t e)
+use Rattle.sqlite_rules.proofs.ListLemmas.{all_has, has_got}
+use Rattle.plant_columns.{specs.{Shape.{Shape, table_in, IsRowIn, seen, AreTables}, Tidy.{IsTidy}}, proofs.public.Changes.{KeepsOthers}}
+use Rattle.plant_columns.proofs.public.Shapes.{ChangesRows}
 
 -- the rows of a table that is listed, where another was written
 pub kept_at : (schema : Schema) (tree : ℕ) (old new : Trees) → KeepsOthers schema tree old new → (place : ℕ) (t : Table) → slice_get schema.tables place ≡ Some t → t.tree ≢ tree → new t.tree ≡ old t.tree
-kept_at schema tree old new kept place t e other = all_has (λ t. t.tree ≢ tree → new t.tree ≡ old t.tree) schema.tables t kept (has_at schema.tables place t e) other
+kept_at schema tree old new kept place t e other = all_has (λ t. t.tree ≢ tree → new t.tree ≡ old t.tree) schema.tables t kept (has_got schema.tables place t e) other
 
 module _ {I : Type 0} (X K : I → Type 0) (shape : (i : I) → Shape (X i) (K i)) (schema : Schema) where
   -- each table has a tree of its own, and the schema lists it
@@ -45,7 +30,7 @@ module _ {I : Type 0} (X K : I → Type 0) (shape : (i : I) → Shape (X i) (K i
     apart i j other e = other (sym (all.placed j) ∙ ap all.which e ∙ all.placed i)
 
     pub same_table : (i j : I) → (j ≡ i) ⊎ (j ≢ i)
-    same_table i j = go (same_or_not (shape j).tree (shape i).tree)
+    same_table i j = go (cases_eq (shape j).tree (shape i).tree)
       where
         go : ((shape j).tree ≡ (shape i).tree) ⊎ ((shape j).tree ≢ (shape i).tree) → (j ≡ i) ⊎ (j ≢ i)
         go (inl same) = inl (sym (all.placed j) ∙ ap all.which same ∙ all.placed i)
@@ -56,47 +41,18 @@ module _ {I : Type 0} (X K : I → Type 0) (shape : (i : I) → Shape (X i) (K i
 
     tidy_all : (i : I) (old new : Database) → KeepsOthers schema (shape i).tree old.trees new.trees → AreTables X K shape schema old → IsTidy (IsRowIn (shape i)) (1 ∷ (shape i).keys) (new.trees (shape i).tree)
         → (j : I) → IsTidy (IsRowIn (shape j)) (1 ∷ (shape j).keys) (new.trees (shape j).tree)
-    tidy_all i old new kept was now j = go (same_or_not (shape j).tree (shape i).tree)
+    tidy_all i old new kept was now j = go (cases_eq (shape j).tree (shape i).tree)
       where
         go : ((shape j).tree ≡ (shape i).tree) ⊎ ((shape j).tree ≢ (shape i).tree) → IsTidy (IsRowIn (shape j)) (1 ∷ (shape j).keys) (new.trees (shape j).tree)
         go (inl same) = subst (λ k. IsTidy (IsRowIn (shape k)) (1 ∷ (shape k).keys) (new.trees (shape k).tree)) (sym (all.placed i) ∙ ap all.which (sym same) ∙ all.placed j) now
         go (inr other) = subst (IsTidy (IsRowIn (shape j)) (1 ∷ (shape j).keys)) (sym (kept_at schema (shape i).tree old.trees new.trees kept (shape j).place (table_in (shape j)) (all.at j) other)) (was.tidy j)
 
-    pub put_edits : (i : I) → IsShape (shape i) → (u : List ℕ) (x : X i) (old new : Database) → AreTables X K shape schema old → PutsRow schema (shape i) u x old new
-        → Edits i u (put_row (shape i).order (shape i).key x) old new
-    put_edits i good u x old new was it = record {
-      tables = record { same_schema = it.same_schema; tidy = tidy_all i old new it.others was (tidy_after_put (shape i) good schema u x old new it (was.tidy i)) };
-      mine = mine_after_put (shape i) good schema u x old new it (was.tidy i);
-      other_units = λ v other. others_after_put (shape i) good schema u v x old new it other;
-      other_tables = λ j other. elsewhere i j old.trees new.trees it.others other;
-      others = it.others;
-    }
-
-    pub set_edits : (i : I) → IsShape (shape i) → (u : List ℕ) (x : X i) (old new : Database) → AreTables X K shape schema old → SetsRow schema (shape i) u x old new
-        → Edits i u (put_row (shape i).order (shape i).key x) old new
-    set_edits i good u x old new was it = record {
-      tables = record { same_schema = it.same_schema; tidy = tidy_all i old new it.others was (tidy_after_set (shape i) good schema u x old new it (was.tidy i)) };
-      mine = mine_after_set (shape i) good schema u x old new it (was.tidy i);
-      other_units = λ v other. others_after_set (shape i) good schema u x old new it (was.tidy i) v other;
-      other_tables = λ j other. elsewhere i j old.trees new.trees it.others other;
-      others = it.others;
-    }
-
-    pub no_edits : (i : I) (u : List ℕ) (old new : Database) → AreTables X K shape schema old → Leaves schema (shape i).tree old new → Edits i u (λ rows. rows) old new
-    no_edits i u old new was it = record {
-      tables = record { same_schema = it.same_schema; tidy = tidy_all i old new it.others was (subst (IsTidy (IsRowIn (shape i)) (1 ∷ (shape i).keys)) (sym it.rows) (was.tidy i)) };
-      mine = ap (rows_in (shape i) u) it.rows;
-      other_units = λ v other. ap (rows_in (shape i) v) it.rows;
-      other_tables = λ j other. elsewhere i j old.trees new.trees it.others other;
-      others = it.others;
-    }
-
-    pub remove_edits : (i : I) → IsShape (shape i) → (u : List ℕ) (x : X i) (old new : Database) → AreTables X K shape schema old → RemovesRow schema (shape i) u x old new
-        → Edits i u (remove_row (shape i).order (shape i).key ((shape i).key x)) old new
-    remove_edits i good u x old new was it = record {
-      tables = record { same_schema = it.same_schema; tidy = tidy_all i old new it.others was (tidy_after_out (shape i) good schema u x old new it (was.tidy i)) };
-      mine = mine_after_out (shape i) good schema u x old new it (was.tidy i);
-      other_units = λ v other. others_after_out (shape i) good schema u v x old new it other;
+    -- what is changed in one table is changed in the database
+    pub edits : (i : I) (u : List ℕ) (change : List (X i) → List (X i)) (old new : Database) → AreTables X K shape schema old → ChangesRows schema (shape i) u change old new → Edits i u change old new
+    edits i u change old new was it = record {
+      tables = record { same_schema = it.same_schema; tidy = tidy_all i old new it.others was it.tidy };
+      mine = it.mine;
+      other_units = it.other_units;
       other_tables = λ j other. elsewhere i j old.trees new.trees it.others other;
       others = it.others;
     }

@@ -1,11 +1,20 @@
 -- A table as it lies, in the order of its rowids, against the same in the order of its keys.
-use Rattle.std.specs.{Cmp.{IsTotalOrder}, List.{AllByRecursion}, Ordering.{ordering_reverse}}
-use Rattle.std.proofs.Common.{◌≡◌, Bool, true, false, not, cond, List, [], ◌∷◌, ◌++◌, filter, map, refl, sym, ap, ◌∙◌, Ordering, Less, Equal, Greater, is_gt, is_eq, true≢false}
+use Rattle.std.specs.{Cmp.{IsTotalOrder, eq_by_cmp_equiv}, List.{AllByRecursion}, Ordering.{ordering_reverse}}
+use Rattle.std.proofs.Common.{◌≡◌, ◌&&◌, Bool, true, false, not, cond, List, [], ◌∷◌, ◌++◌, filter, map, refl, sym, ap, ◌∙◌, Ordering, Less, Equal}
+use Rattle.std.proofs.Common.{Greater, is_gt, is_eq, true≢false}
 use Rattle.std.proofs.lemmas.{Cmp.{upto}, List.Elements.{filter-append}}
 use Rattle.sqlite_catalog.proofs.ListFacts.{filter_swap}
 use Rattle.sqlite_trees.specs.Tree.{IsAscending}
 use Rattle.sqlite_keyed.{specs.Lists.{insert_sorted, sort_by}, proofs.ListLemmas.{all_weaker, all-filter, ascending-filter}}
 use Rattle.plant_columns.specs.Kept.{taken_out, put_in, kept}
+
+-- those that pass both of two tests
+pub filter_and : {X : Type 0} (p q : X → Bool) (xs : List X) → filter (λ x. p x && q x) xs ≡ filter q (filter p xs)
+filter_and p q [] = refl
+filter_and p q (x ∷ xs) = elim (p x) as (λ b. cond (b && q x) (x ∷ filter (λ x. p x && q x) xs) (filter (λ x. p x && q x) xs) ≡ filter q (cond b (x ∷ filter p xs) (filter p xs))) [
+  | true ↦ ap (λ l. cond (q x) (x ∷ l) l) (filter_and p q xs)
+  | false ↦ filter_and p q xs
+]
 
 module _ {X : Type 0} (cmp : X → X → Ordering) (total : IsTotalOrder cmp) where
   abbrev pub AtMost : X → X → Type 0
@@ -16,20 +25,11 @@ module _ {X : Type 0} (cmp : X → X → Ordering) (total : IsTotalOrder cmp) wh
   HasNoTies = IsAscending (λ a b. is_eq (cmp a b) ≡ false)
 
   over : (a b : X) → is_gt (cmp a b) ≡ true → is_gt (cmp b a) ≡ false
-  over a b h = go (cmp a b) refl h
-    where
-      go : (o : Ordering) → cmp a b ≡ o → is_gt o ≡ true → is_gt (cmp b a) ≡ false
-      go Less e h = absurd (true≢false (sym h))
-      go Equal e h = absurd (true≢false (sym h))
-      go Greater e h = ap is_gt (total.antisymm b a ∙ ap ordering_reverse e)
+  over a b h = rw (total.antisymm b a) (elim (cmp a b) as (λ o. is_gt o ≡ true → is_gt (ordering_reverse o) ≡ false) [ Less ↦ λ e. sym e | Equal ↦ λ e. refl | Greater ↦ λ e. refl ] h)
 
   under : (a b : X) → is_gt (cmp a b) ≡ false → is_eq (cmp a b) ≡ false → is_gt (cmp b a) ≡ true
-  under a b h k = go (cmp a b) refl h k
-    where
-      go : (o : Ordering) → cmp a b ≡ o → is_gt o ≡ false → is_eq o ≡ false → is_gt (cmp b a) ≡ true
-      go Less e h k = ap is_gt (total.antisymm b a ∙ ap ordering_reverse e)
-      go Equal e h k = absurd (true≢false k)
-      go Greater e h k = absurd (true≢false h)
+  under a b h k =
+      rw (total.antisymm b a) (elim (cmp a b) as (λ o. is_gt o ≡ false → is_eq o ≡ false → is_gt (ordering_reverse o) ≡ true) [ Less ↦ λ e f. refl | Equal ↦ λ e f. sym f | Greater ↦ λ e f. sym e ] h k)
 
   pub all-insert : (P : X → Type 0) (new : X) (xs : List X) → P new → AllByRecursion P xs → AllByRecursion P (insert_sorted cmp new xs)
   all-insert P new [] h all = (h, tt)
@@ -151,12 +151,7 @@ module _ {X : Type 0} (cmp : X → X → Ordering) (total : IsTotalOrder cmp) wh
   no_ties-out p xs apart = ascending-filter _ p xs apart
 
   pub tied_turns : (x z : X) → is_eq (cmp x z) ≡ false → is_eq (cmp z x) ≡ false
-  tied_turns x z h = go (cmp x z) refl h
-    where
-      go : (o : Ordering) → cmp x z ≡ o → is_eq o ≡ false → is_eq (cmp z x) ≡ false
-      go Less e h = ap is_eq (total.antisymm z x ∙ ap ordering_reverse e)
-      go Equal e h = absurd (true≢false h)
-      go Greater e h = ap is_eq (total.antisymm z x ∙ ap ordering_reverse e)
+  tied_turns x z h = (eq_by_cmp_equiv total).symm z x ∙ h
 
   push_apart : (x : X) (xs : List X) → AllByRecursion (λ z. is_eq (cmp x z) ≡ false) xs → HasNoTies xs → HasNoTies (xs ++ x ∷ [])
   push_apart x [] all apart = (tt, tt)

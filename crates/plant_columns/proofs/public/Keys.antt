@@ -1,13 +1,16 @@
 -- When SQL takes two keys for one.
-use Rattle.std.specs.{Cmp.{IsTotalOrder}, List.{AllByRecursion}, Ordering.{ordering_then, ordering_reverse}}
+use Rattle.std.specs.{Cmp.{IsTotalOrder}, FinMap.{slice_cmp-IsAntisymmetric, nat_cmp-IsAntisymmetric}, List.{AllByRecursion}}
+use Rattle.std.specs.Ordering.{ordering_then, ordering_reverse}
 use Rattle.std.proofs.Common.{◌≡◌, ℕ, Bool, true, false, ◌&&◌, List, [], ◌∷◌, refl, sym, ap, ap₂, ◌∙◌, Ordering, Less, Equal, Greater, is_eq, true≢false}
 use Rattle.std.proofs.lemmas.Cmp.{on_total, then_total}
 use Rattle.sqlite.specs.Collation.TheVariants.{Binary}
 use Rattle.sqlite_value.specs.{Keys.{plain, first_key}, Order.{Row, column, value_cmp}, declared.value.Value.{Value}}
 use Rattle.sqlite_value.{specs.declared.value.Value.TheVariants.{Null, Int, Real, Text, Blob}, proofs.OrderLemmas.{value_cmp_total, value_cmp-Null}}
+use Rattle.sqlite_value.proofs.OrderLemmas.{value_cmp-Text}
 use Rattle.sqlite_sql.{specs.Ops.{binary, is_null, is_true, from_truth}, proofs.QueryLemmas.{key_cmp_total}}
 use Rattle.sqlite_schema.specs.Rules.{equal, agree}
 use Rattle.plant_columns.specs.Kept.{by_columns}
+use Rattle.plant_types.proofs.public.KeyedRowLaws.{tied}
 
 pub by_columns_total : (ks : List ℕ) → IsTotalOrder (by_columns ks)
 by_columns_total [] = key_cmp_total [] 0
@@ -42,6 +45,10 @@ pub then_tied : (a b : Ordering) → is_eq (ordering_then a b) ≡ (is_eq a && i
 then_tied Less b = refl
 then_tied Equal b = refl
 then_tied Greater b = refl
+
+-- texts that tie are the same
+pub same_text : (a b : List ℕ) → is_eq (value_cmp (Text a) (Text b)) ≡ true → a ≡ b
+same_text a b h = slice_cmp-IsAntisymmetric nat_cmp-IsAntisymmetric a b (sym (value_cmp-Text a b) ∙ tied _ _ h refl)
 
 -- no key column is NULL
 abbrev pub HasKey : List ℕ → Row → Type 0

@@ -1,12 +1,13 @@
 -- The laws of a table that is written by its key and read in the order of its key, whatever the table.
 use Rattle.std.specs.List.{list_all}
-use Rattle.std.proofs.Common.{◌≡◌, ℕ, ℤ, ◌-◌, ◌^◌, nat_le, unwrap_or, Bool, true, false, not, cond, List, [], ◌∷◌, ◌++◌, map, filter, flat_map, refl, sym, ap, ◌∙◌, subst, Ordering, is_eq, IsPermutation, IsSorted, None, inl, inr, slice_get}
+use Rattle.std.proofs.Common.{◌≡◌, ℕ, ℤ, ◌-◌, ◌^◌, nat_le, unwrap_or, Bool, true, false, not, cond, List, [], ◌∷◌, ◌++◌, map, filter, flat_map, refl, sym, ap, ◌∙◌, subst, Ordering, is_eq, IsPermutation, IsSorted, None, slice_get}
 use Rattle.std.proofs.lemmas.List.Sorted.{Contains-permutation, IsPermutation-sym}
 use Rattle.sqlite.specs.{Cast.{cast}, Effect.{Database}, Kind.TheVariants.{Integer}, Program.{overlay, given_at}}
 use Rattle.sqlite.specs.{Query.{IsAnswer, Output, output, output_cmp, inner, end}, Tree.{Trees, rowid}}
 use Rattle.sqlite_keyed.{specs.Lists.{sort_by}, proofs.ListLemmas.{all-filter, ascending-filter, ascending-map, map-map}}
 use Rattle.sqlite_keyed.proofs.SortLemmas.{sorted_is-sort_by, sort_by-map}
-use Rattle.sqlite_rules.{specs.Lists.{Has}, proofs.ListLemmas.{has_filtered, has_kept, has_contained, contains_had}}
+use Rattle.sqlite_rules.{specs.Lists.{Has}, proofs.{ListLemmas.{has_filtered, has_kept, has_contained, contains_had}, ProbeLemmas.{has_mapped}}}
+use Rattle.sqlite_rules.proofs.ProbeLemmas.{mapped_has}
 use Rattle.sqlite_schema.specs.declared.schema.Column.{Column}
 use Rattle.sqlite_sql.{specs.{Ops.{unary}, Term.{Term, holds}}, proofs.QueryLemmas.{output_cmp_total}}
 use Rattle.sqlite_value.specs.{Order.{Row}, declared.{keys.Key.{Key}, value.Value.{Value, TheVariants.{Null, Int}}}}
@@ -43,14 +44,10 @@ module _ (tree : ℕ) (tests project : List Term) (order : List (Term × Key)) w
   matched params (r ∷ rows) = elim (passes params r) as (λ b. cond b ((params ∷ r ∷ []) ∷ []) [] ++ flat_map (λ r. cond (passes params r) ((params ∷ r ∷ []) ∷ []) []) rows ≡ map (λ r. params ∷ r ∷ []) (cond b (r ∷ filter (passes params) rows) (filter (passes params) rows)))
       [ true ↦ ap (λ l. (params ∷ r ∷ []) ∷ l) (matched params rows) | false ↦ matched params rows ]
 
-  shown : (params : Row) (rows : List Row) → map (output (plain_query (inner tree end) tests project order)) (map (λ r. params ∷ r ∷ []) rows) ≡ map (shows params) rows
-  shown params [] = refl
-  shown params (r ∷ rows) = ap (λ l. shows params r ∷ l) (shown params rows)
-
   pub reads : (trees : Trees) (params : Row) (rows : List Row) → IsAnswer (plain_query (inner tree end) tests project order) (overlay trees []) params rows → Reads trees params rows
   reads trees params rows a =
       let staged = a.grouped ∙ ap (flat_map (λ r. cond (passes params r) ((params ∷ r ∷ []) ∷ []) [])) (overlay_none trees tree) ∙ matched params (trees tree) in
-      let kept = a.distinct ∙ ap (map (output (plain_query (inner tree end) tests project order))) staged ∙ shown params (filter (passes params) (trees tree)) in
+      let kept = a.distinct ∙ ap (map (output (plain_query (inner tree end) tests project order))) staged ∙ map-map (output (plain_query (inner tree end) tests project order)) (λ r. params ∷ r ∷ []) (filter (passes params) (trees tree)) in
       record { ordered = a.ordered; same = subst (λ k. IsPermutation k a.ordered) kept a.same; sorted = a.sorted; rows_are = a.shown }
 
 -- ---- writing
@@ -70,19 +67,6 @@ cast_int n = either _ (Int n)
 has_permuted : {X : Type 0} (xs ys : List X) (x : X) → IsPermutation xs ys → Has ys x → Has xs x
 has_permuted xs ys x same h = has_contained xs x (Contains-permutation ys xs x (IsPermutation-sym xs ys same) (contains_had ys x h))
 
-permuted_has : {X : Type 0} (xs ys : List X) (x : X) → IsPermutation xs ys → Has xs x → Has ys x
-permuted_has xs ys x same h = has_contained ys x (Contains-permutation xs ys x same (contains_had xs x h))
-
-mapped : {X Y : Type 0} (f : X → Y) (xs : List X) (y : Y) → Has (map f xs) y → (x : X) × Has xs x × (y ≡ f x)
-mapped f [] y h = absurd h
-mapped f (x ∷ xs) y (inl e) = (x, inl refl, e)
-mapped f (x ∷ xs) y (inr h) = let it = mapped f xs y h in (it.0, inr it.1, it.2)
-
-has_mapped : {X Y : Type 0} (f : X → Y) (xs : List X) (x : X) → Has xs x → Has (map f xs) (f x)
-has_mapped f [] x h = absurd h
-has_mapped f (y ∷ xs) x (inl e) = inl (ap f e)
-has_mapped f (y ∷ xs) x (inr h) = inr (has_mapped f xs x h)
-
 -- a query that shows the rowids finds the rows that pass
 pub found_by : (tree : ℕ) (tests : List Term) (trees : Trees) (params : Row) (found : List Row)
     → Reads tree tests (Rattle.sqlite.specs.Term.col 1 0 ∷ []) [] trees params found → AreFound (passes tree tests (Rattle.sqlite.specs.Term.col 1 0 ∷ []) [] params) (trees tree) found
@@ -91,13 +75,13 @@ found_by tree tests trees params found it =
     let show = shows tree tests (Rattle.sqlite.specs.Term.col 1 0 ∷ []) [] params in
     record {
       sound = λ x h.
-          let o = mapped (λ (o : Output). o.1) it.ordered x (subst (λ l. Has l x) it.rows_are h) in
-          let r = mapped show (filter p (trees tree)) o.0 (has_permuted _ it.ordered o.0 it.same o.1) in
+          let o = has_mapped (λ (o : Output). o.1) it.ordered x (subst (λ l. Has l x) it.rows_are h) in
+          let r = has_mapped show (filter p (trees tree)) o.0 (has_permuted _ it.ordered o.0 it.same o.1) in
           let k = has_filtered p (trees tree) r.0 r.1 in
           (r.0, k.0, k.1, o.2 ∙ ap (λ (o : Output). o.1) r.2);
       complete = λ r h e.
-          let o = permuted_has _ it.ordered (show r) it.same (has_mapped show (filter p (trees tree)) r (has_kept p (trees tree) r h e)) in
-          subst (λ l. Has l (rowid r ∷ [])) (sym it.rows_are) (has_mapped (λ (o : Output). o.1) it.ordered (show r) o);
+          let o = has_permuted it.ordered _ (show r) (IsPermutation-sym _ _ it.same) (mapped_has show (filter p (trees tree)) r (has_kept p (trees tree) r h e)) in
+          subst (λ l. Has l (rowid r ∷ [])) (sym it.rows_are) (mapped_has (λ (o : Output). o.1) it.ordered (show r) o);
     }
 
 are_left : (p : Row → Bool) (rows : List Row) → AreRows rows → AreRows (filter p rows)

@@ -1,6 +1,7 @@
 -- The shape of each table is a shape, and the schema lists each.
 use Rattle.std.specs.{Cmp.Lexicographic.{nat_list_cmp_total}, Ordering.{ordering_then}}
-use Rattle.std.proofs.Common.{◌≡◌, ℕ, pos, Bool, true, false, ◌&&◌, ◌||◌, List, [], ◌∷◌, Option, None, Some, refl, ap₂, sym, ◌∙◌, nat_cmp, Ordering, Equal}
+use Rattle.std.proofs.Common.{◌≡◌, ℕ, pos, Bool, true, false, ◌&&◌, ◌||◌, List, [], ◌∷◌, Option, None, Some, cond, find, nat_eq, unwrap_or, refl, ap₂}
+use Rattle.std.proofs.Common.{sym, ◌∙◌, nat_cmp, Ordering, Equal}
 use Rattle.std.proofs.lemmas.Cmp.{nat_cmp_total}
 use Rattle.sqlite.specs.{Cast.{cast}, Collation.TheVariants.{Binary}, Kind.TheVariants.{Integer, Text as TextKind}, Tree.{rowid}}
 use Rattle.sqlite_rules.specs.Keys.{conflicts}
@@ -15,8 +16,8 @@ use Rattle.plant_model.specs.declared.rows.ChangeTopic.{ChangeTopic, TheVariants
 use Rattle.plant_model.proofs.public.PlaceOrders.{band_total, cell_total}
 use Rattle.plant_columns.specs.Codes.{cell_no, cell_numbered, decision_no, decision_numbered, flag, flag_in, kind_no, kind_numbered, number, open_number, open_number_in, open_text, open_text_in, role_numbered, state_no, state_numbered, topic_no, topic_numbered}
 use Rattle.plant_columns.specs.Shape.{table_in}
-use Rattle.plant_columns.specs.Tables.Kept.{UnitKept, GrantKept, AlarmKept, ShelfKept, BandKept, CellKept, EventKept, RecordKept, ChangeKept}
-use Rattle.plant_columns.specs.Tables.{Kept, RowOf, KeyOf, alarm_shape, band_shape, books_schema, cell_shape, change_shape, event_shape, grant_shape, record_shape, shape, shelf_shape, unit_shape}
+use Rattle.plant_columns.specs.declared.tables.TableKind.{TableKind, TheVariants.{Units, Grants, Alarms, Shelves, Bands, Cells, Events, Records, Changes}}
+use Rattle.plant_columns.specs.Tables.{RowOf, KeyOf, all_tables, books_schema, shape, unit_shape}
 use Rattle.plant_columns.proofs.public.{Bridge.{int_cmp-pos}, Family.{AreListed}, Laws.{cast_int, cast_null}, Shapes.{IsListed, IsShape}}
 
 -- ---- what is written is read back
@@ -81,26 +82,22 @@ one {a} {b} h = then-Equal a ∙ h
 
 -- ---- table by table
 
-pub unit_good : IsShape unit_shape
-unit_good = record {
+pub good : (i : TableKind) → IsShape (shape i)
+good Units = record {
   total = nat_cmp_total;
   back = λ id u x. refl;
   agrees = λ id jd u v x y. refl;
   keyed = λ id u x. (refl, tt);
   fits = λ u x i. Text u ∷ cast_number x.last_s i ∷ cast_number x.matrix_no i ∷ cast_number x.matrix_rev i ∷ cast_number x.quota i ∷ [];
 }
-
-pub grant_good : IsShape grant_shape
-grant_good = record {
+good Grants = record {
   total = pair_total;
   back = λ id u x i. record { person = x.person; role_no = role_back x.role_no i; end_s = open_number_back x.end_s i };
   agrees = λ id jd u v x y. sym (ap₂ ordering_then (value_cmp-Text x.person y.person) (one (numbers (role_no x.role_no) (role_no y.role_no))));
   keyed = λ id u x. (refl, (refl, (refl, tt)));
   fits = λ u x i. Text u ∷ Text x.person ∷ cast_number (role_no x.role_no) i ∷ cast_open_number x.end_s i ∷ [];
 }
-
-pub alarm_good : IsShape alarm_shape
-alarm_good = record {
+good Alarms = record {
   total = nat_list_cmp_total;
   back = λ id u x i. record {
     tag = x.tag;
@@ -117,57 +114,45 @@ alarm_good = record {
   };
   agrees = λ id jd u v x y. sym (one (value_cmp-Text x.tag y.tag));
   keyed = λ id u x. (refl, (refl, tt));
-  fits = λ u x i. Text u ∷ Text x.tag ∷ cast_int (pos (Rattle.std.proofs.Common.cond x.latching 1 0)) i ∷ cast_number x.max_s i ∷ cast_number x.max_rev i ∷ cast_number (state_no x.state_no) i ∷ cast_int (pos (Rattle.std.proofs.Common.cond x.suppressed 1 0)) i
+  fits = λ u x i. Text u ∷ Text x.tag ∷ cast_int (pos (cond x.latching 1 0)) i ∷ cast_number x.max_s i ∷ cast_number x.max_rev i ∷ cast_number (state_no x.state_no) i ∷ cast_int (pos (cond x.suppressed 1 0)) i
       ∷ cast_open_number x.active_s i ∷ cast_open_number x.return_s i ∷ cast_open_number x.out_s i ∷ cast_open_text x.out_by i ∷ cast_open_text x.out_words i ∷ [];
 }
-
-pub shelf_good : IsShape shelf_shape
-shelf_good = record {
+good Shelves = record {
   total = nat_list_cmp_total;
   back = λ id u x i. record { tag = x.tag; one_shot = flag_back x.one_shot i; start_s = x.start_s; until_s = x.until_s; person = x.person; words = x.words };
   agrees = λ id jd u v x y. sym (one (value_cmp-Text x.tag y.tag));
   keyed = λ id u x. (refl, (refl, tt));
-  fits = λ u x i. Text u ∷ Text x.tag ∷ cast_int (pos (Rattle.std.proofs.Common.cond x.one_shot 1 0)) i ∷ cast_number x.start_s i ∷ cast_number x.until_s i ∷ Text x.person ∷ Text x.words ∷ [];
+  fits = λ u x i. Text u ∷ Text x.tag ∷ cast_int (pos (cond x.one_shot 1 0)) i ∷ cast_number x.start_s i ∷ cast_number x.until_s i ∷ Text x.person ∷ Text x.words ∷ [];
 }
-
-pub band_good : IsShape band_shape
-band_good = record {
+good Bands = record {
   total = band_total;
   back = λ id u x. refl;
   agrees = λ id jd u v x y. sym (ap₂ ordering_then (numbers x.matrix_no y.matrix_no) (one (numbers x.band_no y.band_no)));
   keyed = λ id u x. (refl, (refl, (refl, tt)));
   fits = λ u x i. Text u ∷ cast_number x.matrix_no i ∷ cast_number x.band_no i ∷ cast_number x.limit_s i ∷ [];
 }
-
-pub cell_good : IsShape cell_shape
-cell_good = record {
+good Cells = record {
   total = cell_total;
   back = λ id u x i. record { matrix_no = x.matrix_no; severity = x.severity; band_no = x.band_no; cell_no = cell_back x.cell_no i };
   agrees = λ id jd u v x y. sym (ap₂ ordering_then (numbers x.matrix_no y.matrix_no) (ap₂ ordering_then (numbers x.severity y.severity) (one (numbers x.band_no y.band_no))));
   keyed = λ id u x. (refl, (refl, (refl, (refl, tt))));
   fits = λ u x i. Text u ∷ cast_number x.matrix_no i ∷ cast_number x.severity i ∷ cast_number x.band_no i ∷ cast_number (cell_no x.cell_no) i ∷ [];
 }
-
-pub event_good : IsShape event_shape
-event_good = record {
+good Events = record {
   total = nat_cmp_total;
   back = λ id u x i. record { seq = x.seq; moment = x.moment; tag = x.tag; kind = kind_back x.kind i };
   agrees = λ id jd u v x y. sym (one (numbers x.seq y.seq));
   keyed = λ id u x. (refl, (refl, tt));
   fits = λ u x i. Text u ∷ cast_number x.seq i ∷ cast_number x.moment i ∷ Text x.tag ∷ cast_number (kind_no x.kind) i ∷ [];
 }
-
-pub record_good : IsShape record_shape
-record_good = record {
+good Records = record {
   total = nat_list_cmp_total;
   back = λ id u x i. record { tag = x.tag; change_no = x.change_no; rev = x.rev; cell_no = cell_back x.cell_no i };
   agrees = λ id jd u v x y. sym (one (value_cmp-Text x.tag y.tag));
   keyed = λ id u x. (refl, (refl, tt));
   fits = λ u x i. Text u ∷ Text x.tag ∷ cast_number x.change_no i ∷ cast_number x.rev i ∷ cast_number (cell_no x.cell_no) i ∷ [];
 }
-
-pub change_good : IsShape change_shape
-change_good = record {
+good Changes = record {
   total = nat_cmp_total;
   back = λ id u x i. record {
     number = x.number;
@@ -193,47 +178,28 @@ change_good = record {
       ∷ cast_number (decision_no x.state_no) i ∷ cast_open_text x.decider i ∷ cast_open_number x.decided_s i ∷ [];
 }
 
-pub good : (i : Kept) → IsShape (shape i)
-good UnitKept = unit_good
-good GrantKept = grant_good
-good AlarmKept = alarm_good
-good ShelfKept = shelf_good
-good BandKept = band_good
-good CellKept = cell_good
-good EventKept = event_good
-good RecordKept = record_good
-good ChangeKept = change_good
-
 -- ---- the schema lists each, and only its key is unique
 
 lone : (e a : Bool) → e ≡ false → ((e && true) || (a || false)) ≡ a
 lone e true h = rw h refl
 lone e false h = rw h refl
 
-alone : (i : Kept) (cells r : Row) (id : Value) → equal Binary (rowid r) id ≡ false
+alone : (i : TableKind) (cells r : Row) (id : Value) → equal Binary (rowid r) id ≡ false
     → conflicts None books_schema.indexes (table_in (shape i)) (id ∷ cells) r ≡ agree plain (1 ∷ (shape i).keys) r (1 ∷ (shape i).keys) (id ∷ cells)
 unfolding first_key
-alone UnitKept cells r id free = lone (equal Binary (rowid r) id) (agree plain (1 ∷ unit_shape.keys) r (1 ∷ unit_shape.keys) (id ∷ cells)) free
+alone Units cells r id free = lone (equal Binary (rowid r) id) (agree plain (1 ∷ unit_shape.keys) r (1 ∷ unit_shape.keys) (id ∷ cells)) free
 alone i cells r id free = lone (equal Binary (rowid r) id) (agree plain (1 ∷ (shape i).keys) r (1 ∷ (shape i).keys) (id ∷ cells)) free
 
-pub listed : (i : Kept) → IsListed books_schema (shape i)
-listed UnitKept = record { at = refl; alone = alone UnitKept }
+pub listed : (i : TableKind) → IsListed books_schema (shape i)
+listed Units = record { at = refl; alone = alone Units }
 listed i = record { at = refl; alone = alone i }
 
-which : ℕ → Kept
-which n =
-    Rattle.std.proofs.Common.cond (Rattle.std.specs.Prelude.nat_eq n 1) UnitKept
-    (Rattle.std.proofs.Common.cond (Rattle.std.specs.Prelude.nat_eq n 3) GrantKept
-    (Rattle.std.proofs.Common.cond (Rattle.std.specs.Prelude.nat_eq n 5) AlarmKept
-    (Rattle.std.proofs.Common.cond (Rattle.std.specs.Prelude.nat_eq n 7) ShelfKept
-    (Rattle.std.proofs.Common.cond (Rattle.std.specs.Prelude.nat_eq n 9) BandKept
-    (Rattle.std.proofs.Common.cond (Rattle.std.specs.Prelude.nat_eq n 11) CellKept
-    (Rattle.std.proofs.Common.cond (Rattle.std.specs.Prelude.nat_eq n 13) EventKept
-    (Rattle.std.proofs.Common.cond (Rattle.std.specs.Prelude.nat_eq n 15) RecordKept ChangeKept)))))))
+which : ℕ → TableKind
+which n = unwrap_or (find (λ i. nat_eq n (shape i).tree) all_tables) Changes
 
-placed : (i : Kept) → which (shape i).tree ≡ i
+placed : (i : TableKind) → which (shape i).tree ≡ i
 unfolding which
-placed UnitKept = refl
+placed Units = refl
 placed i = refl
 
 pub all_listed : AreListed RowOf KeyOf shape books_schema

@@ -14,7 +14,7 @@ use Rattle.plant_columns.specs.Kept.{taken_out, by_columns, plain_query, kept, i
 use Rattle.plant_columns.specs.{Shape.{Shape, table_in, row_in, IsRowIn, rows_in, rows_passing}, Tidy.{AreRows, AreApart, IsTidy}}
 use Rattle.plant_columns.proofs.Shared.{tidy-put, tidy-out, put_mine, put_other, out_mine, out_other, rising as risen}
 use Rattle.plant_columns.proofs.public.{Bridge.{AreRising, IsInOrder-rising}, Changes.{HasNoReferences, KeepsOthers, deletes}}
-use Rattle.plant_columns.proofs.public.Kept.{all-kept, sort-filter}
+use Rattle.plant_columns.proofs.public.Kept.{all-kept, filter_and, sort-filter}
 use Rattle.plant_columns.proofs.public.{Keys.{HasKey, agree_is, by_columns_total}, Laws.{removes, passes, shows, reads, one_answer}}
 
 -- what is to be shown of one shape
@@ -45,6 +45,14 @@ pub record PutsRow {X K : Type 0} (schema : Schema) (s : Shape X K) (u : List �
 pub record RemovesRow {X K : Type 0} (schema : Schema) (s : Shape X K) (u : List ℕ) (x : X) (old new : Database) : Type 0 where
   pub rows : new.trees s.tree ≡ taken_out (by_columns (1 ∷ s.keys)) (row_in s Null u x) (old.trees s.tree)
   pub are : AreRows (new.trees s.tree)
+  pub others : KeepsOthers schema s.tree old.trees new.trees
+  pub same_schema : new.schema ≡ schema
+
+-- what that leaves: the rows of one unit are changed so, and no others
+pub record ChangesRows {X K : Type 0} (schema : Schema) (s : Shape X K) (u : List ℕ) (change : List X → List X) (old new : Database) : Type 0 where
+  pub tidy : IsTidy (IsRowIn s) (1 ∷ s.keys) (new.trees s.tree)
+  pub mine : rows_in s u (new.trees s.tree) ≡ change (rows_in s u (old.trees s.tree))
+  pub other_units : (v : List ℕ) → v ≢ u → rows_in s v (new.trees s.tree) ≡ rows_in s v (old.trees s.tree)
   pub others : KeepsOthers schema s.tree old.trees new.trees
   pub same_schema : new.schema ≡ schema
 
@@ -93,13 +101,6 @@ module _ {X K : Type 0} (s : Shape X K) (good : IsShape s) where
   shown_kept show told same p rows all = show_all show told same _ (all-kept (by_columns (1 ∷ s.keys)) (by_columns_total (1 ∷ s.keys)) (IsRowIn s) p rows all)
 
   -- a test of columns after the unit's, as a test of rows
-  filter_and : (p q : Row → Bool) (xs : List Row) → filter (λ x. p x && q x) xs ≡ filter q (filter p xs)
-  filter_and p q [] = refl
-  filter_and p q (x ∷ xs) = elim (p x) as (λ b. cond (b && q x) (x ∷ filter (λ x. p x && q x) xs) (filter (λ x. p x && q x) xs) ≡ filter q (cond b (x ∷ filter p xs) (filter p xs))) [
-    | true ↦ ap (λ l. cond (q x) (x ∷ l) l) (filter_and p q xs)
-    | false ↦ filter_and p q xs
-  ]
-
   filter_read : (p : Row → Bool) (q : X → Bool) → ((id : Value) (u : List ℕ) (x : X) → p (row_in s id u x) ≡ q x) → (rows : List Row) → AllByRecursion (IsRowIn s) rows → map s.read (filter p rows) ≡ filter q (map s.read rows)
   filter_read p q same [] all = refl
   filter_read p q same (r ∷ rows) all = rw (ap p all.0 ∙ same (rowid r) (bytes (column r 1)) (s.read r)) (elim (q (s.read r)) as (λ b. map s.read (cond b (r ∷ filter p rows) (filter p rows)) ≡ cond b (s.read r ∷ filter q (map s.read rows)) (filter q (map s.read rows))) [
@@ -123,34 +124,26 @@ module _ {X K : Type 0} (s : Shape X K) (good : IsShape s) where
 
   -- ---- the rows of one table, after a put or a remove
 
-  pub tidy_after_put : (schema : Schema) (u : List ℕ) (x : X) (old new : Database) → PutsRow schema s u x old new → IsTidy (IsRowIn s) (1 ∷ s.keys) (old.trees s.tree) → IsTidy (IsRowIn s) (1 ∷ s.keys) (new.trees s.tree)
-  tidy_after_put schema u x old new it tidy =
-      subst (IsTidy (IsRowIn s) (1 ∷ s.keys)) (sym it.rows) (tidy-put s.keys (IsRowIn s) (row_in s (Int it.id) u x) (old.trees s.tree) (is_row (Int it.id) u x) tidy (subst AreRows it.rows it.are))
+  pub put_changes : (schema : Schema) (u : List ℕ) (x : X) (old new : Database) → PutsRow schema s u x old new → IsTidy (IsRowIn s) (1 ∷ s.keys) (old.trees s.tree) → ChangesRows schema s u (put_row s.order s.key x) old new
+  put_changes schema u x old new it tidy =
+      let row = row_in s (Int it.id) u x in
+      record {
+        tidy = subst (IsTidy (IsRowIn s) (1 ∷ s.keys)) (sym it.rows) (tidy-put s.keys (IsRowIn s) row (old.trees s.tree) (is_row (Int it.id) u x) tidy (subst AreRows it.rows it.are));
+        mine = ap (rows_in s u) it.rows ∙ put_mine s.keys (IsRowIn s) s.order good.total s.key s.read named agrees_in u row (old.trees s.tree) refl (is_row (Int it.id) u x) tidy
+            ∙ ap (λ y. put_row s.order s.key y (rows_in s u (old.trees s.tree))) (good.back (Int it.id) u x);
+        other_units = λ v other. ap (rows_in s v) it.rows ∙ put_other s.keys (IsRowIn s) s.order good.total s.key s.read named agrees_in u v row (old.trees s.tree) refl other;
+        others = it.others;
+        same_schema = it.same_schema;
+      }
 
-  pub mine_after_put : (schema : Schema) (u : List ℕ) (x : X) (old new : Database) → PutsRow schema s u x old new → IsTidy (IsRowIn s) (1 ∷ s.keys) (old.trees s.tree)
-      → rows_in s u (new.trees s.tree) ≡ put_row s.order s.key x (rows_in s u (old.trees s.tree))
-  mine_after_put schema u x old new it tidy =
-      ap (rows_in s u) it.rows
-      ∙ put_mine s.keys (IsRowIn s) s.order good.total s.key s.read named agrees_in u (row_in s (Int it.id) u x) (old.trees s.tree) refl (is_row (Int it.id) u x) tidy
-      ∙ ap (λ y. put_row s.order s.key y (rows_in s u (old.trees s.tree))) (good.back (Int it.id) u x)
-
-  pub others_after_put : (schema : Schema) (u v : List ℕ) (x : X) (old new : Database) → PutsRow schema s u x old new → v ≢ u → rows_in s v (new.trees s.tree) ≡ rows_in s v (old.trees s.tree)
-  others_after_put schema u v x old new it other =
-      ap (rows_in s v) it.rows
-      ∙ put_other s.keys (IsRowIn s) s.order good.total s.key s.read named agrees_in u v (row_in s (Int it.id) u x) (old.trees s.tree) refl other
-
-  pub tidy_after_out : (schema : Schema) (u : List ℕ) (x : X) (old new : Database) → RemovesRow schema s u x old new → IsTidy (IsRowIn s) (1 ∷ s.keys) (old.trees s.tree) → IsTidy (IsRowIn s) (1 ∷ s.keys) (new.trees s.tree)
-  tidy_after_out schema u x old new it tidy =
-      subst (IsTidy (IsRowIn s) (1 ∷ s.keys)) (sym it.rows) (tidy-out s.keys (IsRowIn s) (row_in s Null u x) (old.trees s.tree) tidy (subst AreRows it.rows it.are))
-
-  pub mine_after_out : (schema : Schema) (u : List ℕ) (x : X) (old new : Database) → RemovesRow schema s u x old new → IsTidy (IsRowIn s) (1 ∷ s.keys) (old.trees s.tree)
-      → rows_in s u (new.trees s.tree) ≡ remove_row s.order s.key (s.key x) (rows_in s u (old.trees s.tree))
-  mine_after_out schema u x old new it tidy =
-      ap (rows_in s u) it.rows
-      ∙ out_mine s.keys (IsRowIn s) s.order good.total s.key s.read named agrees_in u (row_in s Null u x) (old.trees s.tree) refl (is_row Null u x) tidy
-      ∙ ap (λ y. remove_row s.order s.key (s.key y) (rows_in s u (old.trees s.tree))) (good.back Null u x)
-
-  pub others_after_out : (schema : Schema) (u v : List ℕ) (x : X) (old new : Database) → RemovesRow schema s u x old new → v ≢ u → rows_in s v (new.trees s.tree) ≡ rows_in s v (old.trees s.tree)
-  others_after_out schema u v x old new it other =
-      ap (rows_in s v) it.rows
-      ∙ out_other s.keys (IsRowIn s) s.order good.total s.key s.read named agrees_in u v (row_in s Null u x) (old.trees s.tree) refl other
+  pub remove_changes : (schema : Schema) (u : List ℕ) (x : X) (old new : Database) → RemovesRow schema s u x old new → IsTidy (IsRowIn s) (1 ∷ s.keys) (old.trees s.tree) → ChangesRows schema s u (remove_row s.order s.key (s.key x)) old new
+  remove_changes schema u x old new it tidy =
+      let row = row_in s Null u x in
+      record {
+        tidy = subst (IsTidy (IsRowIn s) (1 ∷ s.keys)) (sym it.rows) (tidy-out s.keys (IsRowIn s) row (old.trees s.tree) tidy (subst AreRows it.rows it.are));
+        mine = ap (rows_in s u) it.rows ∙ out_mine s.keys (IsRowIn s) s.order good.total s.key s.read named agrees_in u row (old.trees s.tree) refl (is_row Null u x) tidy
+            ∙ ap (λ y. remove_row s.order s.key (s.key y) (rows_in s u (old.trees s.tree))) (good.back Null u x);
+        other_units = λ v other. ap (rows_in s v) it.rows ∙ out_other s.keys (IsRowIn s) s.order good.total s.key s.read named agrees_in u v row (old.trees s.tree) refl other;
+        others = it.others;
+        same_schema = it.same_schema;
+      }

@@ -16,9 +16,10 @@ use Rattle.sqlite_value.specs.{Order.{bytes, column, value_cmp}, declared.value.
 use Rattle.plant_columns.specs.{Kept.{taken_out, by_columns, is_of, kept, plain_query}, Shape.{Shape, table_in, row_in, IsRowIn, rows_in}}
 use Rattle.plant_columns.{specs.Tidy.{AreRows, AreApart, IsTidy}, proofs.{Rows.{AreFound, without_found}, Shared.{put_mine, put_other}}}
 use Rattle.plant_columns.proofs.public.Changes.{went, same_value, KeepsOthers, HasNoReferences, lone_step}
+use Rattle.plant_columns.proofs.public.Bridge.{alike_left}
 use Rattle.plant_columns.proofs.public.Kept.{HasNoTies, apart_from, no_ties-out, sort_push, tied_turns}
 use Rattle.plant_columns.proofs.public.{Keys.{by_columns_total}, Laws.{cast_int, reads, passes, shows}}
-use Rattle.plant_columns.proofs.public.Shapes.{IsShape, IsListed, agrees_in, is_row, named}
+use Rattle.plant_columns.proofs.public.Shapes.{ChangesRows, IsShape, IsListed, agrees_in, is_row, named}
 use Rattle.plant_types.proofs.public.KeyedRowLaws.{tied}
 use Rattle.plant_types.specs.KeyedRows as model
 
@@ -69,9 +70,6 @@ module _ (cmp : Row → Row → Ordering) (total : IsTotalOrder cmp) (p : Row �
   pushed l apart true = sym (sort_push cmp total x (filter p l) (all-filter _ p l apart))
   pushed l apart false = ap (sort_by cmp) (sym (append-nil (filter p l)))
 
-  ties_alike : (y : Row) → is_eq (cmp x y) ≡ true → (z : Row) → cmp x z ≡ cmp y z
-  ties_alike y h z = total.antisymm x z ∙ ap ordering_reverse (alike_right total x y z (tied _ _ h refl)) ∙ sym (total.antisymm y z)
-
   -- sorted, a row that lies elsewhere lies in its place all the same
   pub kept-placed : (zs : List Row) → AllByRecursion (λ z. is_eq (value_cmp (rowid z) (rowid x)) ≡ false) zs → AllByRecursion (λ z. is_eq (cmp x z) ≡ false) zs → kept cmp p (put_row x zs) ≡ kept cmp p (zs ++ x ∷ [])
   kept-placed [] far apart = refl
@@ -89,11 +87,11 @@ module _ (cmp : Row → Row → Ordering) (total : IsTotalOrder cmp) (p : Row �
   lone [] apart r h tie = absurd h
   lone (y ∷ ys) apart r (inl e) tie =
       let first : is_eq (cmp x y) ≡ true = subst (λ z. is_eq (cmp x z) ≡ true) e tie in
-      let none : filter (λ y. is_eq (cmp x y)) ys ≡ [] = filter_none _ ys (all_weaker _ (λ z. is_eq (cmp x z) ≡ false) (λ z far. ap is_eq (ties_alike y first z) ∙ far) ys apart.0) in
+      let none : filter (λ y. is_eq (cmp x y)) ys ≡ [] = filter_none _ ys (all_weaker _ (λ z. is_eq (cmp x z) ≡ false) (λ z far. ap is_eq (alike_left cmp (λ r. r) total x y z (tied _ _ first refl)) ∙ far) ys apart.0) in
       rw (first, none) (ap (λ z. z ∷ []) (sym e))
   lone (y ∷ ys) apart r (inr h) tie =
       let far : is_eq (cmp y r) ≡ false = all_has _ ys r apart.0 h in
-      let second : is_eq (cmp x y) ≡ false = false_from_ne_true _ (λ k. true≢false (sym tie ∙ ap is_eq (ties_alike y k r) ∙ far)) in
+      let second : is_eq (cmp x y) ≡ false = false_from_ne_true _ (λ k. true≢false (sym tie ∙ ap is_eq (alike_left cmp (λ r. r) total x y r (tied _ _ k refl)) ∙ far)) in
       rw second (lone ys apart.1 r h tie)
 
 pub no_ties-placed : (cmp : Row → Row → Ordering) (total : IsTotalOrder cmp) (x : Row) (zs : List Row) → AllByRecursion (λ z. is_eq (cmp x z) ≡ false) zs → HasNoTies cmp total zs → HasNoTies cmp total (put_row x zs)
@@ -163,11 +161,6 @@ module _ {X K : Type 0} (s : Shape X K) (good : IsShape s) (schema : Schema) (fr
 
 -- ---- where no row passes, none is changed
 
-pub record Leaves (schema : Schema) (tree : ℕ) (old new : Database) : Type 0 where
-  pub rows : new.trees tree ≡ old.trees tree
-  pub others : KeepsOthers schema tree old.trees new.trees
-  pub same_schema : new.schema ≡ schema
-
 module _ {X K : Type 0} (s : Shape X K) (schema : Schema) (free : HasNoReferences schema) (listed : IsListed schema s) where
   -- the count is that of the rows that pass
   pub counts : (text : List ℕ) (tests project : List Term) → command_of (understood schema text) ≡ Update s.place (record { lets = []; body = plain_query (inner s.tree end) tests project [] }) → IsPlain (understood schema text)
@@ -179,12 +172,15 @@ module _ {X K : Type 0} (s : Shape X K) (schema : Schema) (free : HasNoReference
       it.counted ∙ ap length read.rows_are ∙ length-map read.ordered (λ (o : Output). o.1) ∙ length_permutation (map (shows s.tree tests project [] params) some) read.ordered read.same ∙ length-map some (shows s.tree tests project [] params)
 
   pub leaves : (text : List ℕ) (tests project : List Term) → command_of (understood schema text) ≡ Update s.place (record { lets = []; body = plain_query (inner s.tree end) tests project [] }) → IsPlain (understood schema text)
-      → (params : Row) (old new : State) → old.now.schema ≡ schema → Executes text params old new (Ok 0) → Leaves schema s.tree old.now new.now
-  leaves text tests project is plain_text params old new has h =
+      → (params : Row) (old new : State) → old.now.schema ≡ schema → Executes text params old new (Ok 0) → IsTidy (IsRowIn s) (1 ∷ s.keys) (old.now.trees s.tree) → (u : List ℕ) → ChangesRows schema s u (λ rows. rows) old.now new.now
+  leaves text tests project is plain_text params old new has h tidy u =
       let it = updates schema free text params old new s.place (table_in s) (plain_query (inner s.tree end) tests project []) has listed.at is plain_text 0 h in
       let none : it.found ≡ [] = nil_from_length it.found (sym it.counted) in
+      let same = it.rows ∙ ap (λ (found : List Row). put_all (without_all (old.now.trees s.tree) (ids_of found)) (map (λ (s' : Row). cast_row (table_in s) (Rattle.std.proofs.Common.drop 1 s')) found)) none in
       record {
-        rows = it.rows ∙ ap (λ (found : List Row). put_all (without_all (old.now.trees s.tree) (ids_of found)) (map (λ (s' : Row). cast_row (table_in s) (Rattle.std.proofs.Common.drop 1 s')) found)) none;
+        tidy = subst (IsTidy (IsRowIn s) (1 ∷ s.keys)) (sym same) tidy;
+        mine = ap (rows_in s u) same;
+        other_units = λ v other. ap (rows_in s v) same;
         others = it.others;
         same_schema = it.same_schema;
       }
@@ -225,18 +221,16 @@ module _ {X K : Type 0} (s : Shape X K) (good : IsShape s) (schema : Schema) (u 
   placed : (v : List ℕ) → rows_in s v (new.trees s.tree) ≡ rows_in s v (left ++ row ∷ [])
   placed v = ap (rows_in s v) it.rows ∙ ap (map s.read) (kept-placed cmp (by_columns_total (1 ∷ s.keys)) (is_of v) row left it.far (apart_from cmp (by_columns_total (1 ∷ s.keys)) row (old.trees s.tree)))
 
-  pub tidy_after_set : IsTidy (IsRowIn s) (1 ∷ s.keys) (new.trees s.tree)
-  tidy_after_set = subst (IsTidy (IsRowIn s) (1 ∷ s.keys)) (sym it.rows) (record {
-    are = subst AreRows it.rows it.are;
-    each = all-put_row (IsRowIn s) row left (is_row s good it.id u x) (all-filter (IsRowIn s) _ (old.trees s.tree) tidy.each);
-    apart = no_ties-placed cmp (by_columns_total (1 ∷ s.keys)) row left (apart_from cmp (by_columns_total (1 ∷ s.keys)) row (old.trees s.tree)) (no_ties-out cmp (by_columns_total (1 ∷ s.keys)) _ (old.trees s.tree) tidy.apart);
-  })
-
-  pub mine_after_set : rows_in s u (new.trees s.tree) ≡ model.put_row s.order s.key x (rows_in s u (old.trees s.tree))
-  mine_after_set =
-      placed u
-      ∙ put_mine s.keys (IsRowIn s) s.order good.total s.key s.read (named s good) (agrees_in s good) u row (old.trees s.tree) refl (is_row s good it.id u x) tidy
-      ∙ ap (λ y. model.put_row s.order s.key y (rows_in s u (old.trees s.tree))) (good.back it.id u x)
-
-  pub others_after_set : (v : List ℕ) → v ≢ u → rows_in s v (new.trees s.tree) ≡ rows_in s v (old.trees s.tree)
-  others_after_set v other = placed v ∙ put_other s.keys (IsRowIn s) s.order good.total s.key s.read (named s good) (agrees_in s good) u v row (old.trees s.tree) refl other
+  pub set_changes : ChangesRows schema s u (model.put_row s.order s.key x) old new
+  set_changes = record {
+    tidy = subst (IsTidy (IsRowIn s) (1 ∷ s.keys)) (sym it.rows) (record {
+      are = subst AreRows it.rows it.are;
+      each = all-put_row (IsRowIn s) row left (is_row s good it.id u x) (all-filter (IsRowIn s) _ (old.trees s.tree) tidy.each);
+      apart = no_ties-placed cmp (by_columns_total (1 ∷ s.keys)) row left (apart_from cmp (by_columns_total (1 ∷ s.keys)) row (old.trees s.tree)) (no_ties-out cmp (by_columns_total (1 ∷ s.keys)) _ (old.trees s.tree) tidy.apart);
+    });
+    mine = placed u ∙ put_mine s.keys (IsRowIn s) s.order good.total s.key s.read (named s good) (agrees_in s good) u row (old.trees s.tree) refl (is_row s good it.id u x) tidy
+        ∙ ap (λ y. model.put_row s.order s.key y (rows_in s u (old.trees s.tree))) (good.back it.id u x);
+    other_units = λ v other. placed v ∙ put_other s.keys (IsRowIn s) s.order good.total s.key s.read (named s good) (agrees_in s good) u v row (old.trees s.tree) refl other;
+    others = it.others;
+    same_schema = it.same_schema;
+  }

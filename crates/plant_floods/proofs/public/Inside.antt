@@ -1,7 +1,7 @@
 -- Each run of floods lies among the periods that are counted.
-use Rattle.std.specs.List.{onto_first, range_with_len, slice_split}
-use Rattle.std.proofs.Common.{arith, cond, get_or, refl, subst, sym, ◌∙◌, Bool, List, [], false, filter_map, length, not, suc, true, zero, ℕ, ◌*◌, ◌++◌, ◌+◌, ◌-◌, ◌/◌, ◌<◌, ◌∷◌, ◌≡◌, ◌≤◌}
-use Rattle.std.proofs.lemmas.List.{length-map, length-append, FromFn.{length-range_with_len}}
+use Rattle.std.specs.List.{AllByRecursion, onto_first, range_with_len, slice_split}
+use Rattle.std.proofs.Common.{arith, cond, get_or, refl, subst, sym, ◌∙◌, Bool, List, [], false, filter_map, length, not, true, ℕ, ◌*◌, ◌++◌, ◌+◌, ◌-◌, ◌/◌, ◌<◌, ◌∷◌, ◌≡◌, ◌≤◌}
+use Rattle.std.proofs.lemmas.List.{length-map, length-append, Elements.{All-from_recursion}, FromFn.{length-range_with_len}}
 use Rattle.plant_alarm.specs.declared.event.Event.{Event}
 use Rattle.plant_floods.specs.{Activations.{activations_from, period_counts}, Floods.{Period, floods, period, periods_after, run_of}}
 use Rattle.plant_floods.specs.declared.run.Run.{Run}
@@ -15,13 +15,9 @@ abbrev Inside : ℕ → List Period → Type 0
 Inside n [] = Unit {0}
 Inside n (p ∷ ps) = p.number + length (p ∷ ps) ≤ n
 
-abbrev AllInside : ℕ → List (List Period) → Type 0
-AllInside n [] = Unit {0}
-AllInside n (q ∷ qs) = Inside n q × AllInside n qs
-
 abbrev Parted : ℕ → ℕ → List (List Period) → Type 0
 Parted k n [] = ⊥
-Parted k n (q ∷ qs) = Begins k n q × AllInside n qs
+Parted k n (q ∷ qs) = Begins k n q × AllByRecursion (Inside n) qs
 
 begun : (k n : ℕ) (q : List Period) → Begins k n q → Inside n q
 begun k n [] h = tt
@@ -54,27 +50,18 @@ parted before (c ∷ counts) k n ek en =
 abbrev pub IsWithin : ℕ → Run → Type 0
 IsWithin n r = (r.first ≤ r.last) × (r.last < n)
 
-abbrev RunsWithin : ℕ → List Run → Type 0
-RunsWithin n [] = Unit {0}
-RunsWithin n (r ∷ rs) = IsWithin n r × RunsWithin n rs
-
-runs_within : (n : ℕ) (parts : List (List Period)) → AllInside n parts → RunsWithin n (filter_map run_of parts)
+runs_within : (n : ℕ) (parts : List (List Period)) → AllByRecursion (Inside n) parts → AllByRecursion (IsWithin n) (filter_map run_of parts)
 runs_within n [] h = tt
 runs_within n ([] ∷ qs) h = runs_within n qs h.1
 runs_within n ((p ∷ ps) ∷ qs) h = ((omega arith, omega (arith, h.0)), runs_within n qs h.1)
 
-all_inside : (k n : ℕ) (parts : List (List Period)) → Parted k n parts → AllInside n parts
+all_inside : (k n : ℕ) (parts : List (List Period)) → Parted k n parts → AllByRecursion (Inside n) parts
 all_inside k n [] h = absurd h
 all_inside k n (q ∷ qs) h = (begun k n q h.0, h.1)
 
-floods_within : (counts : List ℕ) → RunsWithin (length counts) (floods counts)
+floods_within : (counts : List ℕ) → AllByRecursion (IsWithin (length counts)) (floods counts)
 unfolding floods
 floods_within counts = runs_within (length counts) _ (all_inside 0 (length counts) _ (parted [] counts 0 (length counts) refl (omega arith)))
-
-within_at : (n : ℕ) (runs : List Run) → RunsWithin n runs → (i : ℕ) (d : Run) → i < length runs → IsWithin n (get_or runs i d)
-within_at n [] h i d lt = absurd (omega arith)
-within_at n (r ∷ rs) h zero d lt = h.0
-within_at n (r ∷ rs) h (suc i) d lt = within_at n rs h.1 i d (omega arith)
 
 counted : (es : List Event) (begin until : ℕ) → length (period_counts es begin until) ≡ (until - begin) / 600
 counted es begin until = length-map (range_with_len 0 ((until - begin) / 600)) (λ i. activations_from es (begin + 600 * i)) ∙ length-range_with_len 0 ((until - begin) / 600)
@@ -82,7 +69,7 @@ counted es begin until = length-map (range_with_len 0 ((until - begin) / 600)) (
 -- each run of a range ends within it
 pub run_at : (es : List Event) (begin until : ℕ) (i : ℕ) (d : Run) → i < length (floods (period_counts es begin until)) → IsWithin ((until - begin) / 600) (get_or (floods (period_counts es begin until)) i d)
 run_at es begin until i d lt =
-    subst (λ (n : ℕ). IsWithin n (get_or (floods (period_counts es begin until)) i d)) (counted es begin until) (within_at _ _ (floods_within (period_counts es begin until)) i d lt)
+    subst (λ (n : ℕ). IsWithin n (get_or (floods (period_counts es begin until)) i d)) (counted es begin until) (All-from_recursion _ _ (floods_within (period_counts es begin until)) i d lt)
 
 pub ends_within : (begin until : ℕ) (r : Run) → IsWithin ((until - begin) / 600) r → begin + 600 * r.last + 600 ≤ until
 ends_within begin until r h = omega (arith, h.0, h.1)

@@ -1,19 +1,18 @@
 -- Files that bring the same rows leave the same events.
 use Rattle.std.specs.{Cmp.{IsEquivalence, both_ways, eq_by_cmp_equiv}, List.{IsDistinct, list_all, list_any}}
-use Rattle.std.proofs.Common.{Some, [], inl, inr, ◌⊎◌, subst, ap, append-nil, append_assoc, arith, false, length, length-append, refl, sym, true, ◌++◌, ◌+◌, ◌∙◌, ◌∷◌, ◌≡◌, ◌≤◌, Bool, List, None, Option, if◌then◌else◌, is_none, nat_lt, not, option_map, ℕ, ◌&&◌, ◌==◌, ◌||◌}
-use Rattle.std.proofs.{Math.Bool.{or-false, and-false, or_comm}, lemmas.{Bool.Decides.{nat_tests}, Map.Made.{length-le_from_is_member}}}
-use Rattle.std.proofs.lemmas.{Bool.{eq-eqb, eqb-true, or_left, or_right, and_parts, not-true, false_from_ne_true}, List.Folds.{list_any-append}}
-use Rattle.plant_alarm.specs.{States.{passing}, declared.event.{Event.{Event}}}
-use Rattle.plant_import.specs.Fields.{first_cause}
-use Rattle.plant_import.specs.Files.{Brought, FilesAgree, SameMembers, TakenFilesFit, are_known, are_taken, is_fit, kept_after, new_rows, none_ahead, rows_brought}
+use Rattle.std.proofs.lemmas.Bool.{eq-eqb, or_left, or_right, and_parts, not-true, false_from_ne_true}
+use Rattle.std.proofs.lemmas.{Bool.Decides.{nat_tests}, List.Folds.{list_any-append}}
+use Rattle.std.proofs.{lemmas.Map.Made.{length-from_same_keys, length-le_from_is_member}, Math.Bool.{or-false, and-false}}
+use Rattle.std.proofs.Common.{[], inl, inr, ◌⊎◌, subst, ap, append-nil, append_assoc, arith, false, length, length-append, refl, sym, true, ◌++◌, ◌+◌, ◌∙◌, ◌∷◌, ◌≡◌, ◌≤◌, Bool, List, None, Option, if◌then◌else◌, is_none, nat_lt, not, option_map, ℕ, ◌&&◌, ◌==◌, ◌||◌}
+use Rattle.plant_alarm.specs.{declared.event.Event.{Event}, States.{passing}}
 use Rattle.plant_import.specs.{Merging.{clashes, first_fault, fresh, is_new, kind_no, merge_fault, out_of_order, same_event}, Reading.{bad}}
-use Rattle.plant_import.specs.declared.bad_file.Cause.TheVariants.{MomentAhead, MomentOutOfOrder, SequenceClash, TagUnknown}
-use Rattle.plant_import.proofs.public.{Counted.{no_first, row_fits}, EachLaws.{each_not}, Nearest.{same_any, same_is}}
+use Rattle.plant_import.proofs.public.{Counted.{no_first, row_fits}, FreshLaws.{distinct_firsts, member_first}, Nearest.{same_any, same_is}}
+use Rattle.plant_import.specs.Files.{Brought, FilesAgree, SameMembers, TakenFilesFit, are_known, are_taken, is_fit, kept_after, new_rows, none_ahead}
+use Rattle.plant_import.specs.Files.{rows_brought}
 use Rattle.plant_types.{specs.{Names.{Name, same_name}, Options.{or_else}}, proofs.public.Orders.{name_total}}
 
 pub clash_of : (b : Bool) → b ≡ true → b ≡ false → ⊥
-clash_of true t f = cc
-clash_of false t f = cc
+clash_of b t f = cc
 
 -- members
 abbrev pub member : Event → List Event → Bool
@@ -25,7 +24,7 @@ Within xs ys = (e : Event) → member e xs ≡ true → member e ys ≡ true
 itself : (e : Event) → same_event e e ≡ true
 itself e = λ i. eq-eqb e.seq e.seq refl i && eq-eqb e.moment e.moment refl i && (eq_by_cmp_equiv name_total).refl e.tag i && eq-eqb (kind_no e.kind) (kind_no e.kind) refl i
 
-same_events : IsEquivalence same_event
+pub same_events : IsEquivalence same_event
 same_events = record {
   refl = itself;
   symm = λ a b. both_ways _ _ (λ h. ap (same_event b) (same_is a b h) ∙ itself b) (λ h. ap (same_event a) (same_is b a h) ∙ itself a);
@@ -38,24 +37,17 @@ first_member e xs = or_left (same_event e e) (member e xs) (itself e)
 -- what is so of each member
 pub all_from : (p : Event → Bool) (xs : List Event) → ((e : Event) → member e xs ≡ true → p e ≡ true) → list_all p xs ≡ true
 all_from p [] each = refl
-all_from p (x ∷ xs) each =
-    let rest = all_from p xs (λ e h. each e (or_right (same_event e x) (member e xs) h)) in
-    λ i. each x (first_member x xs) i && rest i
+all_from p (x ∷ xs) each = grind (arith, each x, first_member x xs, all_from p xs (λ e h. each e (or_right (same_event e x) (member e xs) h)))
 
 none_from : (p : Event → Bool) (xs : List Event) → ((e : Event) → member e xs ≡ true → p e ≡ false) → list_any p xs ≡ false
 none_from p [] each = refl
-none_from p (x ∷ xs) each =
-    let rest = none_from p xs (λ e h. each e (or_right (same_event e x) (member e xs) h)) in
-    λ i. each x (first_member x xs) i || rest i
+none_from p (x ∷ xs) each = grind (arith, each x, first_member x xs, none_from p xs (λ e h. each e (or_right (same_event e x) (member e xs) h)))
 
 pub all_member : (p : Event → Bool) (xs : List Event) (e : Event) → list_all p xs ≡ true → member e xs ≡ true → p e ≡ true
 all_member p [] e all h = cc
 all_member p (x ∷ xs) e all h =
-    let parts = and_parts (p x) (list_all p xs) all in
-    elim (same_event e x) as (λ b. same_event e x ≡ b → (b || member e xs) ≡ true → p e ≡ true) [
-      | true ↦ λ is _. ap p (same_is e x is) ∙ parts.0
-      | false ↦ λ _ rest. all_member p xs e parts.1 rest
-    ] refl h
+    let same : same_event e x ≡ true → p e ≡ p x = λ is. ap p (same_is e x is) in
+    grind (arith, same, all_member p xs e)
 
 pub none_member : (p : Event → Bool) (xs : List Event) (e : Event) → list_any p xs ≡ false → member e xs ≡ true → p e ≡ false
 none_member p xs e none there = false_from_ne_true (p e) (λ h. clash_of (list_any p xs) (same_any p e xs there h) none)
@@ -74,9 +66,7 @@ pub in_back : (xs ys : List Event) → Within ys (xs ++ ys)
 in_back xs ys e h = list_any-append (same_event e) xs ys ∙ or_right (member e xs) (member e ys) h
 
 pub within_both : (xs ys zs : List Event) → Within xs zs → Within ys zs → Within (xs ++ ys) zs
-within_both xs ys zs first second e h =
-    elim (member e xs) as (λ b. member e xs ≡ b → (b || member e ys) ≡ true → member e zs ≡ true) [ true ↦ λ is _. first e is | false ↦ λ _ rest. second e rest ] refl
-    (sym (list_any-append (same_event e) xs ys) ∙ h)
+within_both xs ys zs first second e h = grind (arith, list_any-append (same_event e) xs ys, first e, second e)
 
 pub front_within : (xs ys zs : List Event) → Within (xs ++ ys) zs → Within xs zs
 front_within xs ys zs within e h = within e (in_front xs ys e h)
@@ -93,11 +83,7 @@ one_within e zs there q h = ap (λ x. member x zs) (only_one q e h) ∙ there
 -- what is new depends on the members of what is kept alone
 pub passing-append : (test : List Event → Event → Bool) (before xs ys : List Event) → passing test before (xs ++ ys) ≡ passing test before xs ++ passing test (before ++ xs) ys
 passing-append test before [] ys = ap (λ l. passing test l ys) (sym (append-nil before))
-passing-append test before (x ∷ xs) ys =
-    let here : List Event = if test before x then x ∷ [] else [] in
-    ap (λ l. here ++ l) (passing-append test (before ++ x ∷ []) xs ys)
-    ∙ sym (append_assoc here (passing test (before ++ x ∷ []) xs) (passing test ((before ++ x ∷ []) ++ xs) ys))
-    ∙ ap (λ l. (here ++ passing test (before ++ x ∷ []) xs) ++ passing test l ys) (append_assoc before (x ∷ []) xs)
+passing-append test before (x ∷ xs) ys = grind (arith, passing-append test (before ++ x ∷ []) xs ys, append_assoc before (x ∷ []) xs)
 
 pub same_more : (xs ys zs : List Event) → SameMembers xs ys → SameMembers (xs ++ zs) (ys ++ zs)
 same_more xs ys zs same q = list_any-append (same_event q) xs zs ∙ ap (λ b. b || member q zs) (same q) ∙ sym (list_any-append (same_event q) ys zs)
@@ -107,19 +93,8 @@ fresh_alike xs ys [] same = refl
 fresh_alike xs ys (e ∷ file) same =
     λ i. (if not (same e i) then e ∷ [] else []) ++ fresh_alike (xs ++ e ∷ []) (ys ++ e ∷ []) file (same_more xs ys (e ∷ []) same) i
 
--- one that is kept already adds no member
-known_adds : (kept : List Event) (e : Event) → member e kept ≡ true → SameMembers kept (kept ++ e ∷ [])
-known_adds kept e known q = both_ways _ _ (in_front kept (e ∷ []) q) (within_both kept (e ∷ []) kept (λ x h. h) (one_within e kept known) q)
-
 pub kept_fresh : (kept file : List Event) → SameMembers (kept ++ fresh kept file) (kept ++ file)
-kept_fresh kept [] q = refl
-kept_fresh kept (e ∷ file) q =
-    let more : List Event = fresh (kept ++ e ∷ []) file in
-    let rest : member q ((kept ++ e ∷ []) ++ more) ≡ member q (kept ++ e ∷ file) = kept_fresh (kept ++ e ∷ []) file q ∙ ap (member q) (append_assoc kept (e ∷ []) file) in
-    elim (member e kept) as (λ b. member e kept ≡ b → member q (kept ++ ((if not b then e ∷ [] else []) ++ more)) ≡ member q (kept ++ e ∷ file)) [
-      | true ↦ λ known. same_more kept (kept ++ e ∷ []) more (known_adds kept e known) q ∙ rest
-      | false ↦ λ _. ap (member q) (sym (append_assoc kept (e ∷ []) more)) ∙ rest
-    ] refl
+kept_fresh kept file q = grind (arith, member_first same_events q kept file, list_any-append (same_event q) kept)
 
 -- the members of what is kept after files, and the count of new rows
 kept_members : (kept : List Event) (files : List Brought) → SameMembers (kept_after kept files) (kept ++ rows_brought files)
@@ -155,10 +130,7 @@ fit_of es fit a b h k =
 
 fit_from : (es : List Event) → ((a b : Event) → member a es ≡ true → member b es ≡ true → Agrees a b) → is_fit es ≡ true
 fit_from es each =
-    all_from (fits_in es) es (λ a h.
-    let clash = none_from (clashes a) es (λ b k. (each a b h k).0) in
-    let order = none_from (out_of_order a) es (λ b k. (each a b h k).1) in
-    λ i. not (clash i) && not (order i))
+    all_from (fits_in es) es (λ a h i. not (none_from (clashes a) es (λ b k. (each a b h k).0) i) && not (none_from (out_of_order a) es (λ b k. (each a b h k).1) i))
 
 pub fit_within : (xs ys : List Event) → is_fit xs ≡ true → Within ys xs → is_fit ys ≡ true
 fit_within xs ys fit within = fit_from ys (λ a b h k. fit_of xs fit a b (within a h) (within b k))
@@ -166,10 +138,7 @@ fit_within xs ys fit within = fit_from ys (λ a b h k. fit_of xs fit a b (within
 -- rows that fit have no fault
 fault_none : (tags : List Name) (now : ℕ) (others all : List Event) (e : Event) → list_any (same_name e.tag) tags ≡ true → nat_lt now e.moment ≡ false → Within others all → (list_any (clashes e) all ≡ false) × (list_any (out_of_order e) all ≡ false) → merge_fault tags now others e ≡ None
 unfolding merge_fault
-fault_none tags now others all e tag ahead within fits =
-    let no_clash = none_within (clashes e) others all within fits.0 in
-    let no_order = none_within (out_of_order e) others all within fits.1 in
-    λ i. first_cause ((not (tag i), TagUnknown) ∷ (ahead i, MomentAhead) ∷ (no_clash i, SequenceClash) ∷ (no_order i, MomentOutOfOrder) ∷ [])
+fault_none tags now others all e tag ahead within fits = rw (tag, ahead, none_within (clashes e) others all within fits.0, none_within (out_of_order e) others all within fits.1) refl
 
 pub no_fault : (tags : List Name) (now line : ℕ) (all others rows : List Event) → are_known tags rows ≡ true → list_all (λ e. not (nat_lt now e.moment)) rows ≡ true → is_fit all ≡ true → Within others all → Within rows all → first_fault tags now line others rows ≡ None
 no_fault tags now line all others [] known ahead fit o w = refl
@@ -193,45 +162,15 @@ taken tags rows all kept (b ∷ files) known ahead fit inside k w =
     let rest = taken tags rows all (kept ++ fresh kept b.1) files known a.1 fit inside more (back_within b.1 (rows_brought files) rows w) in
     λ i. is_none (here i) && rest i
 
--- new rows are distinct, and none of them is kept
-pub away : (q : Event) (kept file : List Event) → member q kept ≡ true → member q (fresh kept file) ≡ false
-away q kept [] there = refl
-away q kept (e ∷ file) there =
-    let rest : member q (fresh (kept ++ e ∷ []) file) ≡ false = away q (kept ++ e ∷ []) file (in_front kept (e ∷ []) q there) in
-    elim (member e kept) as (λ b. member e kept ≡ b → member q ((if not b then e ∷ [] else []) ++ fresh (kept ++ e ∷ []) file) ≡ false) [
-      | true ↦ λ _. rest
-      | false ↦ λ new.
-          let other : same_event q e ≡ false = false_from_ne_true (same_event q e) (λ is. clash_of (member e kept) (ap (λ x. member x kept) (sym (same_is q e is)) ∙ there) new) in
-          λ i. other i || rest i
-    ] refl
-
-distinct_fresh : (kept file : List Event) → IsDistinct same_event (fresh kept file)
-unfolding IsDistinct
-distinct_fresh kept [] = tt
-distinct_fresh kept (e ∷ file) =
-    let there : member e (kept ++ e ∷ []) ≡ true = in_back kept (e ∷ []) e (first_member e []) in
-    elim (member e kept) as (λ b. IsDistinct same_event ((if not b then e ∷ [] else []) ++ fresh (kept ++ e ∷ []) file)) [
-      | true ↦ distinct_fresh (kept ++ e ∷ []) file
-      | false ↦ (each_not (same_event e) (fresh (kept ++ e ∷ []) file) (away e (kept ++ e ∷ []) file there), distinct_fresh (kept ++ e ∷ []) file)
-    ]
-
 -- distinct events that are all among others are no more than these
 pub no_more : (xs ys : List Event) → IsDistinct same_event xs → Within xs ys → length xs ≤ length ys
 no_more xs ys distinct within = length-le_from_is_member same_events xs ys distinct within
 
--- rows with the same members bring the same new ones
-fresh_within : (kept xs ys : List Event) → Within xs ys → Within (fresh kept xs) (fresh kept ys)
-fresh_within kept xs ys within q there =
-    let not_kept : member q kept ≡ false = false_from_ne_true (member q kept) (λ h. clash_of (member q (fresh kept xs)) there (away q kept xs h)) in
-    let kept_or : (zs : List Event) → member q (kept ++ zs) ≡ member q zs = λ zs. list_any-append (same_event q) kept zs ∙ ap (λ b. b || member q zs) not_kept in
-    let brought : member q xs ≡ true = sym (kept_or xs) ∙ sym (kept_fresh kept xs q) ∙ kept_or (fresh kept xs) ∙ there in
-    sym (kept_or (fresh kept ys)) ∙ kept_fresh kept ys q ∙ kept_or ys ∙ within q brought
-
+-- rows with the same members bring as many new ones
 pub same_number_new : (kept xs ys : List Event) → SameMembers xs ys → length (fresh kept xs) ≡ length (fresh kept ys)
 same_number_new kept xs ys same =
-    let few = no_more (fresh kept xs) (fresh kept ys) (distinct_fresh kept xs) (fresh_within kept xs ys (λ q h. sym (same q) ∙ h)) in
-    let many = no_more (fresh kept ys) (fresh kept xs) (distinct_fresh kept ys) (fresh_within kept ys xs (λ q h. same q ∙ h)) in
-    omega (arith, few, many)
+    length-from_same_keys same_events (fresh kept xs) (fresh kept ys) (distinct_firsts same_events kept xs) (distinct_firsts same_events kept ys)
+    (λ q. member_first same_events q kept xs ∙ ap (λ b. not (member q kept) && b) (same q) ∙ sym (member_first same_events q kept ys))
 
 pub files_agree : FilesAgree
 files_agree tags kept xs ys known first_ahead second_ahead fit same =
@@ -249,27 +188,16 @@ files_agree tags kept xs ys known first_ahead second_ahead fit same =
 
 -- two events clash, or are out of order, whichever is named first
 turned : (a b : Event) → Agrees a b → Agrees b a
-turned a b so = (
-  (λ i. both_ways (b.seq == a.seq) (a.seq == b.seq) (λ h. eq-eqb a.seq b.seq (sym (eqb-true b.seq a.seq h))) (λ h. eq-eqb b.seq a.seq (sym (eqb-true a.seq b.seq h))) i && not (same_events.symm b a i)) ∙ so.0,
-  or_comm (nat_lt b.seq a.seq && nat_lt a.moment b.moment) (nat_lt a.seq b.seq && nat_lt b.moment a.moment) ∙ so.1,
-)
+turned a b so = (grind (arith, nat_tests, same_events.symm a b, so.0), grind (arith, so.1))
 
 never_itself : (e : Event) → Agrees e e
-never_itself e =
-    (ap (λ b. (e.seq == e.seq) && not b) (itself e) ∙ and-false (e.seq == e.seq), λ i. less i || less i) where
-      below : (n : ℕ) → nat_lt n n ≡ false
-      below n = grind (arith, nat_tests)
-
-      less : (nat_lt e.seq e.seq && nat_lt e.moment e.moment) ≡ false
-      less = ap (λ b. b && nat_lt e.moment e.moment) (below e.seq)
+never_itself e = (ap (λ b. (e.seq == e.seq) && not b) (itself e) ∙ and-false (e.seq == e.seq), grind (arith, nat_tests))
 
 -- one more event that fits
 fit_more : (others : List Event) (e : Event) → is_fit others ≡ true → list_any (clashes e) others ≡ false → list_any (out_of_order e) others ≡ false → is_fit (others ++ e ∷ []) ≡ true
 fit_more others e fit clash order = fit_from (others ++ e ∷ []) (λ a b h k. by a b (among a h) (among b k)) where
   among : (a : Event) → member a (others ++ e ∷ []) ≡ true → (member a others ≡ true) ⊎ (a ≡ e)
-  among a h =
-      elim (member a others) as (λ b. member a others ≡ b → (b || member a (e ∷ [])) ≡ true → (member a others ≡ true) ⊎ (a ≡ e)) [ true ↦ λ is _. inl is | false ↦ λ _ rest. inr (only_one a e rest) ] refl
-      (sym (list_any-append (same_event a) others (e ∷ [])) ∙ h)
+  among a h = grind (arith, list_any-append (same_event a) others (e ∷ []), only_one a e)
 
   with_old : (b : Event) → member b others ≡ true → Agrees e b
   with_old b k = (none_member (clashes e) others b clash k, none_member (out_of_order e) others b order k)
@@ -280,6 +208,7 @@ fit_more others e fit clash order = fit_from (others ++ e ∷ []) (λ a b h k. b
   by a b (inr h) (inl k) = subst (λ x. Agrees x b) (sym h) (with_old b k)
   by a b (inr h) (inr k) = subst (λ x. Agrees x b) (sym h) (subst (Agrees e) (sym k) (never_itself e))
 
+-- a file without fault fits with the events that it is seen beside
 pub file_fits : (tags : List Name) (now line : ℕ) (others rows : List Event) → is_fit others ≡ true → first_fault tags now line others rows ≡ None → is_fit (others ++ rows) ≡ true
 file_fits tags now line others [] fit h = ap is_fit (append-nil others) ∙ fit
 file_fits tags now line others (e ∷ rows) fit h =
@@ -288,8 +217,7 @@ file_fits tags now line others (e ∷ rows) fit h =
     ap is_fit (sym (append_assoc others (e ∷ []) rows)) ∙ file_fits tags now (line + 1) (others ++ e ∷ []) rows (fit_more others e fit here.0 here.1) parts.1
 
 none_of : {A : Type 0} (o : Option A) → is_none o ≡ true → o ≡ None
-none_of None e = refl
-none_of (Some x) e = cc
+none_of o e = grind arith
 
 -- files that are taken leave events that fit
 pub taken_files_fit : TakenFilesFit

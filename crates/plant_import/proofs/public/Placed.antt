@@ -1,43 +1,27 @@
 -- Rows in the order of their numbers: the place of a number among them, and rows put among them.
-use Rattle.std.specs.{Cmp.{nat_cmp_is, ranked}, FinMap.Entries.{below_all, by_order}, List.{IsAllAdjacentAnswer, IsDistinct, list_any}}
-use Rattle.std.specs.{List.Sorted.{IsNonDecreasingBy, IsPartitionPoint, IsPartitionedBy}, Ordering.{eq_by_cmp}}
-use Rattle.std.proofs.Common.{ap, append_assoc, arith, drop, get_or, nat_lt, refl, subst, sym, take, ◌∙◌, is_eq, is_lt, nat_cmp, Bool, IsTrue, List, T, [], false, filter, fold, if◌then◌else◌, length, map, option_map, slice_get, suc, true, unwrap_or, zero, ℕ, ◌++◌, ◌+◌, ◌<◌, ◌∷◌, ◌≡◌, ◌≤◌, ◌||◌, ◌↔◌, Equal, Greater, Less}
-use Rattle.std.proofs.{Math.Bool.{or-false}, lemmas.{Bool.{ltb-false, ltb-true}, List.{drop_more, Sorted.{IsPartitionedBy-ltb}}}}
-use Rattle.plant_import.proofs.public.EachLaws.{Each, any_none, each_append, each_at, each_weaker}
+use Rattle.std.proofs.lemmas.List.Elements.{All-filter, All-from_recursion, All-map, recursion_from_All}
+use Rattle.std.specs.{FinMap.Entries.{below_all}}
+use Rattle.std.specs.List.{AllAdjacentBelow, IsAllAdjacentAnswer, IsDistinct, list_any, Sorted.{IsNonDecreasingBy, IsPartitionPoint, IsPartitionedBy}}
+use Rattle.std.{specs.Ordering.{eq_by_cmp}, proofs.lemmas.Bool.{ltb-false, ltb-true, Decides.{nat_tests}}}
+use Rattle.std.proofs.lemmas.List.{drop_more, take-append-drop, Sorted.{IsNonDecreasingBy-from_all_adjacent, IsPartitionedBy-ltb}}
+use Rattle.std.proofs.Common.{ap, append_assoc, arith, drop, get_or, nat_lt, refl, subst, sym, take, ◌∙◌, is_lt, nat_cmp, Bool, IsTrue, List, T, [], false, filter, fold, if◌then◌else◌, length, map, option_map, slice_get, suc, true, unwrap_or, zero, ℕ, ◌++◌, ◌+◌, ◌<◌, ◌∷◌, ◌≡◌, ◌≤◌, ◌||◌, ◌↔◌}
+use Rattle.plant_import.proofs.public.EachLaws.{Each, Pairs, all_pairs, any_by_first, each_append, each_weaker, pairs_drop, pairs_of, parted_each}
 use Rattle.plant_types.{specs.KeyedRows.{IsInOrder, put_row}, proofs.public.Halves.{both, first, second}}
 
 less_of : (m n : ℕ) → T (is_lt (nat_cmp m n)) → m < n
-less_of m n h =
-    elim (nat_cmp m n) as (λ r. r ≡ nat_cmp m n → T (is_lt r) → m < n) [
-      | Less ↦ λ is _. ranked m n Less is
-      | Equal ↦ λ is t. absurd t
-      | Greater ↦ λ is t. absurd t
-    ] refl h
+less_of m n h = grind (arith, nat_tests)
 
 is_less : (m n : ℕ) → m < n → T (is_lt (nat_cmp m n))
-is_less m n lt = subst (λ r. T (is_lt r)) (nat_cmp_is m n Less lt) tt
+is_less m n lt = grind (arith, nat_tests)
 
 pub other : (m n : ℕ) → n < m → eq_by_cmp nat_cmp m n ≡ false
-other m n lt = sym (ap is_eq (nat_cmp_is m n Greater lt))
+other m n lt = grind (arith, nat_tests)
 
 pub other_above : (m n : ℕ) → m < n → eq_by_cmp nat_cmp m n ≡ false
-other_above m n lt = sym (ap is_eq (nat_cmp_is m n Less lt))
+other_above m n lt = grind (arith, nat_tests)
 
-pub above_it : (m n : ℕ) → m ≤ n → eq_by_cmp nat_cmp m n ≡ false → m < n
-above_it m n le differs =
-    elim (nat_cmp m n) as (λ r. r ≡ nat_cmp m n → is_eq r ≡ false → m < n) [
-      | Less ↦ λ is _. ranked m n Less is
-      | Equal ↦ λ is e. cc
-      | Greater ↦ λ is _. let gt : n < m = ranked m n Greater is in absurd (omega (arith, gt, le))
-    ] refl differs
-
-same_it : (m n : ℕ) → eq_by_cmp nat_cmp m n ≡ true → m ≡ n
-same_it m n ties =
-    elim (nat_cmp m n) as (λ r. r ≡ nat_cmp m n → is_eq r ≡ true → m ≡ n) [
-      | Less ↦ λ is e. cc
-      | Equal ↦ λ is _. ranked m n Equal is
-      | Greater ↦ λ is e. cc
-    ] refl ties
+pub same_it : (m n : ℕ) → eq_by_cmp nat_cmp m n ≡ true → m ≡ n
+same_it m n ties = grind (arith, nat_tests)
 
 module _ {X : Type 0} (key : X → ℕ) where
   abbrev pub AllAbove : ℕ → List X → Type 0
@@ -50,8 +34,7 @@ module _ {X : Type 0} (key : X → ℕ) where
   AllBelow n xs = Each (λ x. key x < n) xs
 
   abbrev pub Rises : List X → Type 0
-  Rises [] = Unit {0}
-  Rises (x ∷ xs) = AllAbove (key x) xs × Rises xs
+  Rises = Pairs (λ x y. key x < key y)
 
   above_of : (n : ℕ) (xs : List X) → T (below_all nat_cmp n (map (λ r. (key r, r)) xs)) → AllAbove n xs
   above_of n [] h = tt
@@ -69,16 +52,12 @@ module _ {X : Type 0} (key : X → ℕ) where
   in_order_of [] h = tt
   in_order_of (x ∷ xs) h = both _ _ (of_above (key x) xs h.0) (in_order_of xs h.1)
 
-  not_falling : (xs : List X) → Rises xs → IsNonDecreasingBy key xs
-  not_falling [] h i j d le lt = absurd (omega arith)
-  not_falling (x ∷ xs) h zero zero d le lt = omega arith
-  not_falling (x ∷ xs) h zero (suc j) d le lt = let above = each_at (λ y. key x < key y) xs h.0 j d (omega arith) in omega (arith, above)
-  not_falling (x ∷ xs) h (suc i) zero d le lt = absurd (omega arith)
-  not_falling (x ∷ xs) h (suc i) (suc j) d le lt = not_falling xs h.1 i j d (omega arith) (omega arith)
+  not_falling : (xs : List X) → AllAdjacentBelow (λ x y. key x < key y) xs (length xs) → IsNonDecreasingBy key xs
+  not_falling xs h = IsNonDecreasingBy-from_all_adjacent key xs (λ k d lt. let less = h k d lt in omega (arith, less))
 
   -- the numbers before a place are smaller, and the others aren't
   pub parted : (xs : List X) (n : ℕ) → IsInOrder nat_cmp key xs → IsPartitionedBy (λ x. nat_lt (key x) n) xs
-  parted xs n h = IsPartitionedBy-ltb key xs n (not_falling xs (rises_of xs h))
+  parted xs n h = IsPartitionedBy-ltb key xs n (not_falling xs (λ k d lt. all_pairs (λ x y. key x < key y) xs (rises_of xs h) k (k + 1) d (omega arith) lt))
 
   abbrev pub Parts : ℕ → List X → ℕ → Type 0
   Parts n xs p = IsPartitionPoint (λ x. key x < n) (λ x. n ≤ key x) xs p
@@ -89,14 +68,8 @@ module _ {X : Type 0} (key : X → ℕ) where
   abbrev pub put : X → List X → List X
   put = put_row nat_cmp key
 
-  pub put_before : (r x : X) (xs : List X) → key r < key x → put r (x ∷ xs) ≡ r ∷ x ∷ xs
-  put_before r x xs lt = sym (ap (λ o. by_order o (r ∷ x ∷ xs) (r ∷ xs) (x ∷ put r xs)) (nat_cmp_is (key r) (key x) Less lt))
-
-  pub put_over : (r x : X) (xs : List X) → key r ≡ key x → put r (x ∷ xs) ≡ r ∷ xs
-  put_over r x xs same = sym (ap (λ o. by_order o (r ∷ x ∷ xs) (r ∷ xs) (x ∷ put r xs)) (nat_cmp_is (key r) (key x) Equal same))
-
   pub put_behind : (r x : X) (xs : List X) → key x < key r → put r (x ∷ xs) ≡ x ∷ put r xs
-  put_behind r x xs lt = sym (ap (λ o. by_order o (r ∷ x ∷ xs) (r ∷ xs) (x ∷ put r xs)) (nat_cmp_is (key r) (key x) Greater lt))
+  put_behind r x xs lt = grind (arith, nat_tests)
 
   -- whether the row at a place, if there is one, has a number
   abbrev pub is_at : List X → ℕ → ℕ → Bool
@@ -106,7 +79,8 @@ module _ {X : Type 0} (key : X → ℕ) where
   there n [] zero rises h le = refl
   there n [] (suc p) rises h le = absurd (omega arith)
   there n (x ∷ xs) zero rises h le =
-      ap (λ b. eq_by_cmp nat_cmp n (key x) || b) (any_none (λ y. eq_by_cmp nat_cmp n (key y)) xs (each_weaker (λ y. key x < key y) (λ y. eq_by_cmp nat_cmp n (key y) ≡ false) (λ y lt. let le = h.1 0 x (omega arith) (omega arith) in other_above n (key y) (omega (arith, le, lt))) xs rises.0)) ∙ or-false _
+      let from : n ≤ key x = h.1 0 x (omega arith) (omega arith) in
+      any_by_first (λ y. eq_by_cmp nat_cmp n (key y)) x xs (each_weaker (λ y. key x < key y) (λ y. eq_by_cmp nat_cmp n (key y) ≡ true → eq_by_cmp nat_cmp n (key x) ≡ true) (λ y lt t. let same = same_it n (key y) t in absurd (omega (arith, from, lt, same))) xs rises.0)
   there n (x ∷ xs) (suc p) rises h le =
       ap (λ b. b || list_any (λ y. eq_by_cmp nat_cmp n (key y)) xs) (other n (key x) (h.0 0 x (omega arith) (omega arith))) ∙ there n xs p rises.1 (later n x xs p h) (omega arith)
 
@@ -136,25 +110,12 @@ module _ {X : Type 0} (key : X → ℕ) where
   puts_none (r ∷ rs) h = puts_after rs (r ∷ []) [] (behind_end r [] rs tt h.0) ∙ ap (λ l. r ∷ l) (puts_none rs h.1)
 
   -- rows of which each is above the one before it rise, and no others
-  pub neighbours_rise : (rows : List X) → ((k : ℕ) (d : X) → k + 1 < length rows → key (get_or rows k d) < key (get_or rows (k + 1) d)) → Rises rows
-  neighbours_rise [] h = tt
-  neighbours_rise (x ∷ []) h = (tt, tt)
-  neighbours_rise (x ∷ y ∷ rows) h =
-      let rest : Rises (y ∷ rows) = neighbours_rise (y ∷ rows) (λ k d within. subst (λ n. key (get_or (y ∷ rows) k d) < key (get_or (x ∷ y ∷ rows) n d)) (one_more k) (h (suc k) d (omega (arith, within)))) in
-      let lt : key x < key y = h 0 x (omega arith) in
-      ((lt, each_weaker (λ z. key y < key z) (λ z. key x < key z) (λ z less. omega (arith, lt, less)) rows rest.0), rest)
-    where
-      one_more : (k : ℕ) → suc k + 1 ≡ suc (k + 1)
-      one_more k = omega arith
-
-  pub rise_neighbours : (rows : List X) → Rises rows → (k : ℕ) (d : X) → k + 1 < length rows → key (get_or rows k d) < key (get_or rows (k + 1) d)
-  rise_neighbours [] h k d within = absurd (omega (arith, within))
-  rise_neighbours (x ∷ xs) h zero d within = each_at (λ y. key x < key y) xs h.0 0 d (omega (arith, within))
-  rise_neighbours (x ∷ xs) h (suc k) d within =
-      subst (λ n. key (get_or xs k d) < key (get_or (x ∷ xs) n d)) (one_less k) (rise_neighbours xs h.1 k d (omega (arith, within)))
-    where
-      one_less : (k : ℕ) → suc (k + 1) ≡ suc k + 1
-      one_less k = omega arith
+  neighbours_rise : (rows : List X) → AllAdjacentBelow (λ x y. key x < key y) rows (length rows) → Rises rows
+  neighbours_rise rows h =
+      pairs_of (λ x y. key x < key y) rows (λ i j d lt within.
+      let next = h i d (omega arith) in
+      let far = not_falling rows h (i + 1) j d (omega arith) within in
+      omega (arith, next, far))
 
   -- the answer of is_sorted_by says whether the numbers rise
   pub rise_is_told : (rows : List X) (b : Bool) → IsAllAdjacentAnswer (λ x y b. b ≡ nat_lt (key x) (key y)) rows b → IsTrue b ↔ IsInOrder nat_cmp key rows
@@ -163,7 +124,7 @@ module _ {X : Type 0} (key : X → ℕ) where
   rise_is_told (x ∷ xs) false h = (
     λ f. cc f,
     λ order.
-        let up = rise_neighbours (x ∷ xs) (rises_of (x ∷ xs) order) h.0 x h.1 in
+        let up = all_pairs (λ x y. key x < key y) (x ∷ xs) (rises_of (x ∷ xs) order) h.0 (h.0 + 1) x (omega arith) h.1 in
         let le = ltb-false _ _ (sym (h.2 x)) in
         absurd (omega (arith, up, le)),
   )
@@ -174,11 +135,7 @@ module _ {X : Type 0} (key : X → ℕ) where
 
   put_first : (r : X) (xs : List X) → AllFrom (key r) xs → put r xs ≡ r ∷ without_first (key r) xs
   put_first r [] h = refl
-  put_first r (x ∷ xs) h =
-      elim (eq_by_cmp nat_cmp (key r) (key x)) as (λ b. eq_by_cmp nat_cmp (key r) (key x) ≡ b → put r (x ∷ xs) ≡ r ∷ (if b then xs else x ∷ xs)) [
-        | true ↦ λ ties. put_over r x xs (same_it (key r) (key x) ties)
-        | false ↦ λ differs. put_before r x xs (above_it (key r) (key x) h.0 differs)
-      ] refl
+  put_first r (x ∷ xs) h = grind (arith, nat_tests, h.0)
 
   -- the first of rising rows is put between those below it and those from it on, and the rest behind it
   pub puts_first : (r : X) (below above rs : List X) → AllBelow (key r) below → AllFrom (key r) above → AllAbove (key r) rs
@@ -193,21 +150,14 @@ module _ {X : Type 0} (key : X → ℕ) where
     pub low : AllBelow n below
     pub high : AllFrom n above
 
-  pub cut : (n : ℕ) (xs : List X) (p : ℕ) → Rises xs → Parts n xs p → p ≤ length xs → AreCut n xs (take p xs) (drop p xs)
-  cut n [] zero rises h le = record { whole = refl; low = tt; high = tt }
-  cut n [] (suc p) rises h le = absurd (omega arith)
-  cut n (x ∷ xs) zero rises h le =
-      let from : n ≤ key x = h.1 0 x (omega arith) (omega arith) in
-      record { whole = refl; low = tt; high = (from, each_weaker (λ y. key x < key y) (λ y. n ≤ key y) (λ y lt. omega (arith, from, lt)) xs rises.0) }
-  cut n (x ∷ xs) (suc p) rises h le =
-      let rest = cut n xs p rises.1 (later n x xs p h) (omega arith) in
-      record { whole = ap (λ l. x ∷ l) rest.whole; low = (h.0 0 x (omega arith) (omega arith), rest.low); high = rest.high }
+  pub cut : (n : ℕ) (xs : List X) (p : ℕ) → Parts n xs p → p ≤ length xs → AreCut n xs (take p xs) (drop p xs)
+  cut n xs p h le =
+      let parts = parted_each (λ x. key x < n) (λ x. n ≤ key x) xs p h le in
+      record { whole = sym (take-append-drop p xs); low = parts.0; high = parts.1 }
 
   -- parts of rising rows rise
   pub rises_drop : (k : ℕ) (xs : List X) → Rises xs → Rises (drop k xs)
-  rises_drop zero xs h = h
-  rises_drop (suc k) [] h = tt
-  rises_drop (suc k) (x ∷ xs) h = rises_drop k xs h.1
+  rises_drop = pairs_drop (λ x y. key x < key y)
 
   pub rises_without : (n : ℕ) (xs : List X) → Rises xs → Rises (without_first n xs)
   rises_without n xs h = elim (is_at xs 0 n) as (λ b. Rises (if b then drop 1 xs else xs)) [ true ↦ rises_drop 1 xs h | false ↦ h ]
@@ -218,7 +168,7 @@ module _ {X : Type 0} (key : X → ℕ) where
       → ((all ++ below) ++ r ∷ []) ++ puts (without_first (key r) above) (drop (i + 1) more) ≡ whole
   puts_next all rest more below above whole p i r so rises goes lt is parts le eb ea =
       let here : drop i more ≡ r ∷ drop (i + 1) more = drop_more more i r lt ∙ ap (λ x. x ∷ drop (i + 1) more) (sym is) in
-      let parted_so : AreCut (key r) rest (take p rest) (drop p rest) = cut (key r) rest p rises parts le in
+      let parted_so : AreCut (key r) rest (take p rest) (drop p rest) = cut (key r) rest p parts le in
       let tail : Rises (r ∷ drop (i + 1) more) = subst (λ (l : List X). Rises l) here (rises_drop i more goes) in
       let step : puts rest (drop i more) ≡ (take p rest ++ r ∷ []) ++ puts (without_first (key r) (drop p rest)) (drop (i + 1) more) =
       ap (puts rest) here ∙ ap (λ l. puts l (r ∷ drop (i + 1) more)) parted_so.whole ∙ puts_first r (take p rest) (drop p rest) (drop (i + 1) more) parted_so.low parted_so.high tail.0 in
@@ -238,12 +188,7 @@ rising_distinct (n ∷ ns) h = (each_weaker (λ m. n < m) (λ m. eq_by_cmp nat_c
 -- the keys of some of rising rows rise
 module _ {X : Type 0} (key : X → ℕ) (p : X → Bool) where
   keys_above : (n : ℕ) (xs : List X) → AllAbove key n xs → AllAbove (λ m. m) n (map key (filter p xs))
-  keys_above n [] h = tt
-  keys_above n (x ∷ xs) h =
-      elim (p x) as (λ b. AllAbove (λ m. m) n (map key (if b then x ∷ filter p xs else filter p xs))) [
-        | true ↦ (h.0, keys_above n xs h.1)
-        | false ↦ keys_above n xs h.1
-      ]
+  keys_above n xs h = recursion_from_All _ _ (All-map (λ m. n < m) key (filter p xs) (All-filter p (λ x. n < key x) xs (All-from_recursion (λ x. n < key x) xs h)))
 
   pub keys_rise : (xs : List X) → Rises key xs → Rises (λ m. m) (map key (filter p xs))
   keys_rise [] h = tt

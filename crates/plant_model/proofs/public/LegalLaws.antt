@@ -1,12 +1,12 @@
 -- The next world of a world of legal histories is one.
-use Rattle.std.specs.FinMap.{get, get-insert}
+use Rattle.std.specs.FinMap.{get, get-empty, get-insert}
 use Rattle.std.proofs.Common.{ap, refl, subst, sym, ◌∙◌, Bool, List, None, Option, Some, [], cond, false, if◌then◌else◌, is_some, not, true, unwrap_or, ℕ, ◌&&◌, ◌∷◌, ◌≡◌}
-use Rattle.plant_model.specs.{Grants.{holds_any}, Laws.{NextWorldsAreLegal}, Legality.{IsLegal, has_matrix, may_follow}}
+use Rattle.plant_model.specs.{Grants.{holds_any}, Laws.{FirstWorldsAreLegal, NextWorldsAreLegal}, Legality.{IsLegal, has_matrix, may_follow}}
 use Rattle.plant_model.{specs.Verdicts.{changes_history, is_opening, verdict}, proofs.public.WorldLaws.{opening_changes}}
 use Rattle.plant_model.specs.Worlds.{IsLegalWorld, World, answer_at, by_admin, history, next, next_at, opening, unit_answer, unit_named, unit_seen, with_call}
 use Rattle.plant_model.specs.declared.{call.Call.{Call}, reply.Refused.TheVariants.{NotGranted}}
 use Rattle.plant_model.proofs.public.WorldLaws.{Alike, not_granted, own_answer, own_histories, refused_changes, seen_history, seen_holds}
-use Rattle.plant_types.{specs.Names.{Name, same_name}, proofs.public.Orders.{name_total}}
+use Rattle.plant_types.{specs.Names.{Name, name_cmp, same_name}, proofs.public.Orders.{name_total}}
 
 -- an accepted changing call on a code that was never opened is an opening
 pub first_entry : (by_admin taken opens : Bool) (c : Call) → is_opening c.request ≡ opens → changes_history (if opens then opening by_admin taken else verdict [] c) c ≡ true → is_opening c.request ≡ true
@@ -37,6 +37,9 @@ module _ (w : World) (c : Call) (u : Name) (legal : IsLegalWorld w) (m : has_mat
         | true ↦ λ changing q h is. at_code q h (same_name q u) (entered (get w.units u) refl changing) (sym (get-insert name_total w.units u (c ∷ history w u) q) ∙ is)
         | false ↦ λ _. legal
       ] refl
+
+pub empty_legal : FirstWorldsAreLegal
+empty_legal admin u h is = absurd (let no : None ≡ Some h = sym (get-empty name_cmp u) ∙ is in cc)
 
 pub next_legal : NextWorldsAreLegal
 next_legal w c legal m = elim (unit_named c.request) as (λ o. IsLegalWorld (next_at w c o)) [ None ↦ legal | Some u ↦ next_at_legal w c u legal m ]

@@ -10,8 +10,7 @@ use Rattle.plant_model.specs.declared.rows.{RowEdit.{RowEdit, TheVariants.{Put, 
 use Rattle.plant_types.{specs.Names.{Name, name_cmp, same_name}, proofs.public.{KeyedRowLaws.{tied}, Orders.{same_names}}}
 use Rattle.plant_store.specs.{Changes.{Applies, IsOfficeOf}, Keeping.{HasContent, has_any}, Making.{AreNew}}
 use Rattle.plant_columns.specs.Shape.{rows_in as rows_of}
-use Rattle.plant_columns.specs.Tables.Kept.{UnitKept}
-use Rattle.plant_columns.specs.Tables.{AreBooks, AreSeen, Kept, rows_at, rows_seen, shape}
+use Rattle.plant_columns.specs.{Tables.{AreBooks, AreSeen, rows_at, rows_seen, shape}, declared.tables.TableKind.{TableKind, TheVariants.{Units}}}
 
 pub same_codes : (a b : Name) → same_name a b ≡ true → a ≡ b
 same_codes a b h = same_names a b (tied _ _ h refl)
@@ -78,27 +77,27 @@ no_some None h = refl
 no_some (Some rows) h = absurd (true≢false h)
 
 module _ (s : State) (m : Content) (u : Name) (k : HasContent s m) where
-  pub was_opened : contains_key m.units u ≡ has_any (rows_seen u s.now.trees UnitKept)
-  was_opened = k.opened u ∙ ap has_any (sym (k.seen u UnitKept))
+  pub was_opened : contains_key m.units u ≡ has_any (rows_seen u s.now.trees Units)
+  was_opened = k.opened u ∙ ap has_any (sym (k.seen u Units))
 
   -- a unit with a row of its own has these rows
-  pub kept_rows : has_any (rows_seen u s.now.trees UnitKept) ≡ true → get m.units u ≡ Some (rows_in m u)
+  pub kept_rows : has_any (rows_seen u s.now.trees Units) ≡ true → get m.units u ≡ Some (rows_in m u)
   kept_rows h = some_rows (get m.units u) (was_opened ∙ h)
 
-  pub never_opened : has_any (rows_seen u s.now.trees UnitKept) ≡ false → get m.units u ≡ None
+  pub never_opened : has_any (rows_seen u s.now.trees Units) ≡ false → get m.units u ≡ None
   never_opened h = no_some (get m.units u) (was_opened ∙ h)
 
 pub any_is : {A : Type 0} (xs : List A) → Rattle.std.proofs.Common.not (Rattle.std.specs.Prelude.nat_eq (Rattle.std.proofs.Common.length xs) 0) ≡ has_any xs
 any_is [] = refl
 any_is (x ∷ xs) = ap Rattle.std.proofs.Common.not (Rattle.std.proofs.Math.Dec.eqb-suc-zero (Rattle.std.proofs.Common.length xs))
 
-pub none_found : (s : State) (m : Content) (u : Name) → HasContent s m → (units : List Rattle.plant_model.specs.declared.rows.UnitRow.UnitRow) → units ≡ rows_seen u s.now.trees UnitKept → has_any units ≡ false → ◌≡◌ {A = Option UnitRows} None (get m.units u)
+pub none_found : (s : State) (m : Content) (u : Name) → HasContent s m → (units : List Rattle.plant_model.specs.declared.rows.UnitRow.UnitRow) → units ≡ rows_seen u s.now.trees Units → has_any units ≡ false → ◌≡◌ {A = Option UnitRows} None (get m.units u)
 none_found s m u k units is any = sym (never_opened s m u k (ap has_any (sym is) ∙ any))
 
 -- ---- new books
 
-pub nothing_at : (i : Kept) → [] ≡ rows_at i no_rows
-nothing_at UnitKept = refl
+pub nothing_at : (i : TableKind) → [] ≡ rows_at i no_rows
+nothing_at Units = refl
 nothing_at i = refl
 
 pub keeps_new : (s : State) (admin : Name) → AreNew admin s.now → HasContent s (no_units admin)

@@ -1,14 +1,11 @@
 -- Rows in the order of their keys: what is at a key after a change, and that what is at each key settles the rows.
-use Rattle.std.specs.Cmp.{IsTotalOrder, alike_right, eq_by_cmp_equiv}
-use Rattle.std.specs.FinMap.Entries.{by_order, is_sorted, below_all, put, where_key, find as found, is_sorted-put, is_sorted-where_key, find-put, find-where_key, same_entries}
-use Rattle.std.specs.{List.{list_any, cons_option}, Ordering.{eq_by_cmp}}
-use Rattle.std.proofs.Common.{◌⊎◌, inl, inr, ◌≡◌, List, [], ◌∷◌, Some, None, refl, sym, ap, subst, ◌∙◌, Bool, true, false, cond, T, ◌||◌, not, Option, filter, filter_map, map, is_some, Ordering, Less, Equal, Greater, is_eq, is_lt}
+use Rattle.std.specs.{Cmp.{IsTotalOrder, alike_right, eq_by_cmp_equiv}, List.{list_any, cons_option}, Ordering.{eq_by_cmp}}
+use Rattle.std.proofs.Common.{arith, ◌⊎◌, inl, inr, ◌≡◌, List, [], ◌∷◌, Some, None, refl, sym, ap, subst, ◌∙◌, Bool, true, cond, T, ◌||◌, not, Option, filter, filter_map, map, is_some, Ordering, Equal, is_eq, is_lt}
 use Rattle.plant_types.{specs.KeyedRows.{row_at, put_row, remove_row, in_order, IsInOrder}, proofs.public.Halves.{both, first, second}}
+use Rattle.std.specs.FinMap.Entries.{is_sorted, below_all, put, where_key, find as found, is_sorted-put, is_sorted-where_key, find-put, find-where_key, same_entries}
 
 pub tied : (r : Ordering) (b : Bool) → is_eq r ≡ b → b ≡ true → r ≡ Equal
-tied Less b e t = cc
-tied Equal b e t = refl
-tied Greater b e t = cc
+tied r b e t = grind arith
 
 module _ {K X : Type 0} (R : K → K → Ordering) (key : X → K) where
   abbrev keyed : List X → List (K × X)
@@ -24,21 +21,12 @@ module _ {K X : Type 0} (R : K → K → Ordering) (key : X → K) where
 
   keyed-where : (p : K → Bool) (rows : List X) → keyed (filter (λ r. p (key r)) rows) ≡ where_key R p (keyed rows)
   keyed-where p [] = refl
-  keyed-where p (r ∷ rows) =
-      elim (p (key r)) as (λ b. keyed (cond b (r ∷ filter (λ r. p (key r)) rows) (filter (λ r. p (key r)) rows)) ≡ cond b ((key r, r) ∷ where_key R p (keyed rows)) (where_key R p (keyed rows))) [
-        | true ↦ ap (λ es. (key r, r) ∷ es) (keyed-where p rows)
-        | false ↦ keyed-where p rows
-      ]
+  keyed-where p (r ∷ rows) = grind (arith, keyed-where p rows)
 
   module _ (o : IsTotalOrder R) (same : (x y : K) → R x y ≡ Equal → x ≡ y) where
     keyed-put : (r : X) (rows : List X) → keyed (put_row R key r rows) ≡ put R (key r) r (keyed rows)
     keyed-put r [] = refl
-    keyed-put r (e ∷ es) =
-        elim (R (key r) (key e)) as (λ v. R (key r) (key e) ≡ v → keyed (by_order v (r ∷ e ∷ es) (r ∷ es) (e ∷ put_row R key r es)) ≡ by_order v ((key r, r) ∷ (key e, e) ∷ keyed es) ((key e, r) ∷ keyed es) ((key e, e) ∷ put R (key r) r (keyed es))) [
-          | Less ↦ λ p. refl
-          | Equal ↦ λ p. ap (λ (k : K). let pair : K × X = (k, r) in pair ∷ keyed es) (same _ _ p)
-          | Greater ↦ λ p. ap (λ es. (key e, e) ∷ es) (keyed-put r es)
-        ] refl
+    keyed-put r (e ∷ es) = grind (arith, keyed-put r es, same (key r) (key e))
 
     pub row_at-put_row : (q : K) (r : X) (rows : List X) → row_at R key q (put_row R key r rows) ≡ cond (eq_by_cmp R q (key r)) (Some r) (row_at R key q rows)
     row_at-put_row q r rows =
@@ -48,8 +36,7 @@ module _ {K X : Type 0} (R : K → K → Ordering) (key : X → K) where
     IsInOrder-put_row r rows h = subst (λ es. T (is_sorted R es)) (sym (keyed-put r rows)) (is_sorted-put R o (key r) r (keyed rows) h)
 
     turned : {A : Type 0} (b : Bool) (x y : A) → cond (not b) x y ≡ cond b y x
-    turned true x y = refl
-    turned false x y = refl
+    turned b x y = grind arith
 
     pub row_at-remove_row : (q k : K) (rows : List X) → row_at R key q (remove_row R key k rows) ≡ cond (eq_by_cmp R q k) None (row_at R key q rows)
     row_at-remove_row q k rows =
@@ -71,19 +58,8 @@ module _ {K X : Type 0} (R : K → K → Ordering) (key : X → K) where
       pub row_at-told : (q : K) (ks : List K) → row_at R key q (filter_map row ks) ≡ cond (is_some (row_at R (λ k. k) q ks)) (row q) None
       row_at-told q [] = refl
       row_at-told q (k ∷ ks) =
-          let rest = row_at-told q ks in
-          elim (row k) as (λ o. row k ≡ o → row_at R key q (cons_option o (filter_map row ks)) ≡ cond (is_some (cond (eq_by_cmp R q k) (Some k) (row_at R (λ k. k) q ks))) (row q) None) [
-            | None ↦ λ none. rest ∙ elim (eq_by_cmp R q k) as (λ b. eq_by_cmp R q k ≡ b → cond (is_some (row_at R (λ k. k) q ks)) (row q) None ≡ cond (is_some (cond b (Some k) (row_at R (λ k. k) q ks))) (row q) None) [
-              | true ↦ λ t. let is : row q ≡ None = ap row (same q k (tied _ _ t refl)) ∙ none in
-                  elim (is_some (row_at R (λ k. k) q ks)) as (λ b. cond b (row q) None ≡ row q) [ true ↦ refl | false ↦ sym is ]
-              | false ↦ λ t. refl
-            ] refl
-            | Some r ↦ λ some. ap (λ x. cond (eq_by_cmp R q x) (Some r) (row_at R key q (filter_map row ks))) (at_key k r some)
-                ∙ elim (eq_by_cmp R q k) as (λ b. eq_by_cmp R q k ≡ b → cond b (Some r) (row_at R key q (filter_map row ks)) ≡ cond (is_some (cond b (Some k) (row_at R (λ k. k) q ks))) (row q) None) [
-                  | true ↦ λ t. sym (ap row (same q k (tied _ _ t refl)) ∙ some)
-                  | false ↦ λ t. rest
-                ] refl
-          ] refl
+          let here : eq_by_cmp R q k ≡ true → row q ≡ row k = λ t. ap row (same q k (tied _ _ t refl)) in
+          grind (arith, row_at-told q ks, here, at_key k)
 
       below_told : (x : K) (ks : List K) → T (below_all R x (map (λ k. (k, k)) ks)) → T (below_all R x (keyed (filter_map row ks)))
       below_told x [] h = tt
@@ -109,8 +85,7 @@ module _ {K : Type 0} (R : K → K → Ordering) (o : IsTotalOrder R) (same : (x
   IsInOrder-in_order (k ∷ ks) = IsInOrder-put_row R (λ k. k) o same k (in_order R ks) (IsInOrder-in_order ks)
 
   is_some-cond : (b : Bool) (k : K) (x : Option K) → is_some (cond b (Some k) x) ≡ (b || is_some x)
-  is_some-cond true k x = refl
-  is_some-cond false k x = refl
+  is_some-cond b k x = grind arith
 
   pub row_at-in_order : (q : K) (ks : List K) → is_some (row_at R (λ k. k) q (in_order R ks)) ≡ list_any (eq_by_cmp R q) ks
   row_at-in_order q [] = refl
@@ -125,9 +100,8 @@ pub record Tells {K X : Type 0} (R : K → K → Ordering) (key : X → K) (row 
   pub among : (q : K) → (row q ≡ None) ⊎ (list_any (eq_by_cmp R q) ks ≡ true)
 
 pub settled : {X : Type 0} (a : Bool) (x : Option X) → (x ≡ None) ⊎ (a ≡ true) → cond a x None ≡ x
-settled true x h = refl
-settled false x (inl none) = sym none
-settled false x (inr t) = cc
+settled a x (inl none) = grind arith
+settled a x (inr t) = grind arith
 
 module _ {K X : Type 0} {R : K → K → Ordering} {key : X → K} where
   pub IsInOrder-rows : (row : K → Option X) (ks : List K) → Tells R key row ks → IsInOrder R key (filter_map row (in_order R ks))

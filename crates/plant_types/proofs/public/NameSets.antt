@@ -1,13 +1,8 @@
 -- A set of the names of a list's elements, one more at a time.
-use Rattle.std.specs.{BTreeMap.{is_at}, BTreeSet.{UpdatesBy, contains}, Cmp.{eq_by_cmp_equiv, Lexicographic.{nat_list_cmp_total}}, List.{list_any}}
-use Rattle.std.proofs.Common.{List, ap, cond, get_or, length, refl, sym, take, true, false, ◌+◌, ◌<◌, ◌∙◌, ◌≡◌, [], BTreeSet, btree_set_len, Bool, ℕ, ◌||◌}
-use Rattle.std.proofs.lemmas.List.{Folds.{list_any_more}, nil_from_length}
+use Rattle.std.specs.{BTreeMap.{is_at}, BTreeSet.{UpdatesBy, contains}, Cmp.{eq_by_cmp_equiv, Lexicographic.{nat_list_cmp_total}}}
+use Rattle.std.{specs.{List.{list_any}, Ordering.{eq_by_cmp}}, proofs.lemmas.List.{nil_from_length, Folds.{list_any_more}}}
+use Rattle.std.proofs.Common.{arith, List, ap, get_or, length, take, true, ◌+◌, ◌<◌, ◌∙◌, ◌≡◌, [], BTreeSet, btree_set_len, ℕ}
 use Rattle.plant_types.specs.Names.{Name, name_cmp, same_name}
-
-or_swap : (a b : Bool) → cond a true b ≡ (b || a)
-or_swap true true = refl
-or_swap false true = refl
-or_swap _ _ = refl
 
 module _ {X : Type 0} (name : X → Name) where
   abbrev pub HasNames : BTreeSet Name → List X → Type 0
@@ -18,7 +13,5 @@ module _ {X : Type 0} (name : X → Name) where
 
   pub has_more : (s n : BTreeSet Name) (xs : List X) (i : ℕ) (x : X) (k : Name) → i < length xs → x ≡ get_or xs i x → k ≡ name x → UpdatesBy name_cmp (name_cmp k) s n true → HasNames s (take i xs) → HasNames n (take (i + 1) xs)
   has_more s n xs i x k lt is own new are a =
-      new.0 a
-      ∙ (λ j. cond ((ap (λ y. same_name y a) own ∙ (eq_by_cmp_equiv nat_list_cmp_total).symm (name x) a) j) true (are a j))
-      ∙ or_swap (same_name a (name x)) (list_any (λ y. same_name a (name y)) (take i xs))
-      ∙ sym (list_any_more (λ y. same_name a (name y)) xs i x lt ∙ ap (λ y. list_any (λ z. same_name a (name z)) (take i xs) || same_name a (name y)) (sym is))
+      let turned : eq_by_cmp name_cmp k a ≡ same_name a (name x) = ap (λ y. same_name y a) own ∙ (eq_by_cmp_equiv nat_list_cmp_total).symm (name x) a in
+      grind (arith, new.0 a, turned, are a, list_any_more (λ y. same_name a (name y)) xs i x)

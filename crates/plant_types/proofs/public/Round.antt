@@ -1,15 +1,15 @@
 -- What is spelled is read again.
-use Rattle.std.proofs.Common.{◌≡◌, ℕ, ◌+◌, ◌*◌, ◌/◌, ◌%◌, ◌<◌, refl, ap, ◌∙◌, arith, Bool, true, ◌&&◌, Some, None, cond, List, [], ◌∷◌, pos}
-use Rattle.std.proofs.lemmas.Bool.{le-leb, lt-ltb}
+use Rattle.std.proofs.lemmas.Bool.{lt-ltb, Decides.{nat_tests}}
+use Rattle.std.proofs.Common.{◌≡◌, ℕ, ◌+◌, ◌*◌, ◌/◌, ◌%◌, ◌<◌, refl, ap, ◌∙◌, arith, Bool, true, ◌&&◌, Some, List, [], ◌∷◌, pos}
 use Rattle.jiff_core.proofs.CalendarLemmas.{days_in_month_bounds}
-use Rattle.plant_types.specs.{Moment.{decimal_value, has_form, is_date, is_time, days_since_2000, moment_of}, Spelling.{digit, spelled}}
-use Rattle.plant_types.{specs.Text.{is_digit}, proofs.public.DateTests.{date_is}}
+use Rattle.plant_types.specs.Moment.{decimal_value, has_form, is_date, is_time, days_since_2000, moment_of}
+use Rattle.plant_types.{specs.{Spelling.{digit, spelled}, Text.{is_digit}}, proofs.public.DateTests.{date_is}}
 
 two : {a b : Bool} → a ≡ true → b ≡ true → (a && b) ≡ true
 two {a} {b} p q = ap (λ x. x && b) p ∙ q
 
 dig : (n : ℕ) → n < 10 → is_digit (48 + n) ≡ true
-dig n h = two (le-leb 48 (48 + n) (omega arith)) (le-leb (48 + n) 57 (omega arith))
+dig n h = grind (arith, nat_tests)
 
 pub decimal_two : (n : ℕ) → n < 100 → decimal_value (digit (n / 10) ∷ digit (n % 10) ∷ []) ≡ n
 decimal_two n h = omega arith
@@ -21,29 +21,11 @@ pub form_of : (y m d h mi s : ℕ) → y < 10000 → m < 100 → d < 100 → h <
 form_of y m d h mi s hy hm hd hh hmi hs =
     two (dig (y / 100 / 10) (omega arith)) (two (dig (y / 100 % 10) (omega arith)) (two (dig (y % 100 / 10) (omega arith)) (two (dig (y % 100 % 10) (omega arith)) (two (dig (m / 10) (omega arith)) (two (dig (m % 10) (omega arith)) (two (dig (d / 10) (omega arith)) (two (dig (d % 10) (omega arith)) (two (dig (h / 10) (omega arith)) (two (dig (h % 10) (omega arith)) (two (dig (mi / 10) (omega arith)) (two (dig (mi % 10) (omega arith)) (two (dig (s / 10) (omega arith)) (two (dig (s % 10) (omega arith)) (refl))))))))))))))
 
-pick : {b : Bool} {n : ℕ} → b ≡ true → cond b (Some n) None ≡ Some n
-pick {b} {n} p = ap (λ v. cond v (Some n) None) p
-
-six : {A : Type 0} (f : ℕ → ℕ → ℕ → ℕ → ℕ → ℕ → A) {a b c d e g a' b' c' d' e' g' : ℕ} → a ≡ a' → b ≡ b' → c ≡ c' → d ≡ d' → e ≡ e' → g ≡ g' → f a b c d e g ≡ f a' b' c' d' e' g'
-six f p q r s t u = cc
-
-abbrev the_test : ℕ → ℕ → ℕ → ℕ → ℕ → ℕ → Bool
-the_test y m d h mi s = is_date y m d && is_time h mi s
-
-abbrev the_number : ℕ → ℕ → ℕ → ℕ → ℕ → ℕ → ℕ
-the_number y m d h mi s = 86400 * days_since_2000 y m d + 3600 * h + 60 * mi + s
-
 pub round : (y m d h mi s : ℕ) → is_date y m d ≡ true → is_time h mi s ≡ true → y < 10000 → m < 100 → d < 100 → h < 100 → mi < 100 → s < 100
     → moment_of (spelled y m d h mi s) ≡ Some (86400 * days_since_2000 y m d + 3600 * h + 60 * mi + s)
 unfolding moment_of
 round y m d h mi s date time hy hm hd hh hmi hs =
-    let yy = decimal_four y in
-    let mm = decimal_two m hm in
-    let dd = decimal_two d hd in
-    let hh' = decimal_two h hh in
-    let mmi = decimal_two mi hmi in
-    let ss = decimal_two s hs in
-    pick (two (form_of y m d h mi s hy hm hd hh hmi hs) (six the_test yy mm dd hh' mmi ss ∙ two date time)) ∙ ap Some (six the_number yy mm dd hh' mmi ss)
+    rw (form_of y m d h mi s hy hm hd hh hmi hs, decimal_four y, decimal_two m hm, decimal_two d hd, decimal_two h hh, decimal_two mi hmi, decimal_two s hs, date, time) refl
 
 -- the parts of a date are small
 pub date_bounds : (y m d : ℕ) → is_date y m d ≡ true → (y < 10000) × (m < 100) × (d < 100)

@@ -1,34 +1,14 @@
 use Rattle.std.{specs.Cmp.{nat_cmp_total, on_total}, proofs.Common.{ap, nat_cmp}}
 use Rattle.plant_books.proofs.public.OrderLaws.{put_by_keys, rows_rise}
-use Rattle.plant_model.specs.Matrices.{band_cmp, cell_cmp}
-use Rattle.plant_model.specs.RowFacts.{alarm_tag, band_key, cell_key, change_number, event_number, record_tag, shelf_tag}
+use Rattle.plant_model.specs.{Matrices.{band_cmp, cell_cmp}, RowFacts.{band_key, cell_key, change_number, event_number}}
 use Rattle.plant_model.proofs.public.PlaceOrders.{band_total, cell_total}
-use Rattle.plant_types.{specs.Names.{name_cmp}, proofs.public.Orders.{name_total}}
 use Rattle.plant_books.proofs.changes.put_row.Goals as goal
-
-pub returns-in-Alarm-clause-ok : goal.returns-in-Alarm-clause-ok
-returns-in-Alarm-clause-ok c order =
-    rw c.in-Alarm.is
-    (put_by_keys name_cmp alarm_tag c.put_sorted.result c.put_sorted.new.rows c.args.rows.now.alarms c.in-Alarm.row (λ is. ap (λ rows. record c.args.rows.now { alarms = rows }) is)
-    (c.put_sorted.ensures.ok (on_total alarm_tag name_total) (rows_rise name_cmp alarm_tag c.args.rows.now.alarms order.alarms)))
-
-pub returns-in-Shelf-clause-ok : goal.returns-in-Shelf-clause-ok
-returns-in-Shelf-clause-ok c order =
-    rw c.in-Shelf.is
-    (put_by_keys name_cmp shelf_tag c.put_sorted-in-Shelf.result c.put_sorted-in-Shelf.new.rows c.args.rows.now.shelves c.in-Shelf.row (λ is. ap (λ rows. record c.args.rows.now { shelves = rows }) is)
-    (c.put_sorted-in-Shelf.ensures.ok (on_total shelf_tag name_total) (rows_rise name_cmp shelf_tag c.args.rows.now.shelves order.shelves)))
 
 pub returns-in-Event-clause-ok : goal.returns-in-Event-clause-ok
 returns-in-Event-clause-ok c order =
     rw c.in-Event.is
     (put_by_keys nat_cmp event_number c.put_sorted-in-Event.result c.put_sorted-in-Event.new.rows c.args.rows.now.events c.in-Event.row (λ is. ap (λ rows. record c.args.rows.now { events = rows }) is)
     (c.put_sorted-in-Event.ensures.ok (on_total event_number nat_cmp_total) (rows_rise nat_cmp event_number c.args.rows.now.events order.events)))
-
-pub returns-in-Record-clause-ok : goal.returns-in-Record-clause-ok
-returns-in-Record-clause-ok c order =
-    rw c.in-Record.is
-    (put_by_keys name_cmp record_tag c.put_sorted-in-Record.result c.put_sorted-in-Record.new.rows c.args.rows.now.records c.in-Record.row (λ is. ap (λ rows. record c.args.rows.now { records = rows }) is)
-    (c.put_sorted-in-Record.ensures.ok (on_total record_tag name_total) (rows_rise name_cmp record_tag c.args.rows.now.records order.records)))
 
 pub returns-in-Change-clause-ok : goal.returns-in-Change-clause-ok
 returns-in-Change-clause-ok c order =

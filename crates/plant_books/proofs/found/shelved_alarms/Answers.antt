@@ -1,5 +1,5 @@
 use Rattle.std.proofs.{Common.{None, Some, [], ap, drop, sym, ◌+◌, ◌++◌, ◌∙◌, ◌∷◌, option_copied}, lemmas.List.{append-nil}}
-use Rattle.plant_books.{specs.Found.{shelved}, proofs.ShelvedLaws.{all_shelved, next_shelved}}
+use Rattle.plant_books.{specs.Found.{shelved}, proofs.ShelvedLaws.{next_shelved}}
 use Rattle.plant_books.proofs.found.shelved_alarms.Goals.{in-Some+in_ok-duplicate+in_ok-push, in_default}
 use Rattle.plant_books.proofs.found.shelved_alarms.Goals as goal
 
@@ -18,7 +18,3 @@ loop-shelf-preserved c alarms_rise shelves_rise =
           ap (λ l. l ++ shelved (drop (i + 1) shelves) alarms) (w.found-is ∙ sym (append-nil so_far))
           ∙ next_shelved shelves alarms i c.shelf-item.result None so_far alarms_rise shelves_rise c.loop-shelf-test.true c.shelf-item.is (sym (ap option_copied w.in_default.is) ∙ c.row_of.ensures alarms_rise) so
     ]
-
-pub returns-clause-value : goal.returns-clause-value
-returns-clause-value c alarms_rise shelves_rise =
-    all_shelved c.args.shelves.now c.args.alarms.now c.loop-shelf.shelf-index c.loop-shelf.found c.loop-shelf-test.false (c.loop-shelf.invariant alarms_rise shelves_rise)

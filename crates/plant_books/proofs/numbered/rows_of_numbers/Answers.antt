@@ -1,9 +1,6 @@
-use Rattle.std.proofs.Common.{[], ap, append_assoc, refl, sym, ◌++◌, ◌∙◌, ◌∷◌, ◌≡◌}
-use Rattle.plant_books.proofs.public.NumberRanges.{goes_on, of_none}
+use Rattle.std.proofs.Common.{[], ap, append_assoc, sym, ◌++◌, ◌∙◌, ◌∷◌, ◌≡◌}
+use Rattle.plant_books.proofs.public.NumberRanges.{goes_on}
 use Rattle.plant_books.proofs.numbered.rows_of_numbers.Goals as goal
-
-pub loop-number-init : goal.loop-number-init
-loop-number-init g c = ([], refl, λ rise. c.new-found.ensures ∙ sym (of_none g.T.Numbered.number c.args.rows.now))
 
 pub loop-number-preserved : goal.loop-number-preserved
 loop-number-preserved g c =

@@ -1,14 +1,6 @@
-use Rattle.std.proofs.{Common.{◌≡◌, rules, sym, ◌∙◌, subst, Bool, Result, nat_lt}, lemmas.Bool.{ltb-true, ltb-false}}
-use Rattle.plant_import.{specs.{Relation.{JudgesRow}, declared.bad_file.Cause.{Cause}}, proofs.Merges.{judged_unknown, judged_ahead, judged_so}}
+use Rattle.std.proofs.{Common.{◌≡◌, rules, sym, ◌∙◌, subst, Bool, Result, nat_lt}, lemmas.Bool.{ltb-false}}
+use Rattle.plant_import.{specs.{Relation.{JudgesRow}, declared.bad_file.Cause.{Cause}}, proofs.Merges.{judged_so}}
 use Rattle.plant_import.proofs.merging.judged.Goals as goal
-
-pub returns-then-not-contains : goal.returns-then-not-contains
-returns-then-not-contains c tags are kept seen rises near = judged_unknown tags c.args.now c.args.kept.now seen c.args.event.now (sym (are c.args.event.now.tag) ∙ sym c.contains.ensures ∙ search rules)
-
-pub returns-then-lt : goal.returns-then-lt
-returns-then-lt c tags are kept seen rises near =
-    let less : c.lt.result ≡ nat_lt c.args.now c.args.event.now.moment = search rules in
-    judged_ahead tags c.args.now c.args.kept.now seen c.args.event.now (sym (are c.args.event.now.tag) ∙ sym c.contains.ensures ∙ search rules) (ltb-true _ _ (sym less ∙ c.if-lt.true))
 
 pub returns : goal.returns
 returns c tags are kept seen rises near =

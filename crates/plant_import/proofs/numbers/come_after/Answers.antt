@@ -1,9 +1,6 @@
 use Rattle.std.{specs.List.{list_all}, proofs.Common.{ap, rules, sym, ◌∙◌, ◌≡◌, nat_lt}}
-use Rattle.plant_import.{specs.Needed.{is_before_all}, proofs.{Appended.{after_last, after_none}, public.Risings.{first_none, last_none}}}
+use Rattle.plant_import.{specs.Needed.{is_before_all}, proofs.{Appended.{after_last, after_none}, public.Risings.{first_none}}}
 use Rattle.plant_import.proofs.numbers.come_after.Goals as goal
-
-pub returns-in_default : goal.returns-in_default
-returns-in_default c low high = ap (list_all (is_before_all c.args.events.now)) (sym (last_none c.args.others.now c.in_default.ensures.value))
 
 pub returns-in_default-first : goal.returns-in_default-first
 returns-in_default-first c low high = sym (ap (λ es. list_all (is_before_all es) c.args.others.now) (first_none c.args.events.now c.in_default-first.ensures.value) ∙ after_none c.args.others.now)

@@ -1,5 +1,5 @@
 use Rattle.std.proofs.{Common.{ap, arith, length, sym, ◌∙◌, filter}, lemmas.List.{take_all}}
-use Rattle.plant_import.proofs.CountedRising.{counted_after, counted_rising, is_other}
+use Rattle.plant_import.proofs.{Appended.{counted_after}, public.Counted.{counted_rising, is_other}}
 use Rattle.plant_import.proofs.numbers.count_rising.Goals as goal
 
 pub returns-then-come_after : goal.returns-then-come_after

@@ -1,5 +1,5 @@
 use Rattle.std.proofs.Common.{length, take, ◌≡◌, ◌≤◌, filter}
-use Rattle.plant_import.{specs.Numbers.{AreNumbered}, proofs.CountedRising.{is_other}}
+use Rattle.plant_import.{specs.Numbers.{AreNumbered}, proofs.public.Counted.{is_other}}
 use Rattle.plant_import.proofs.numbers.count_rising.Given as goal
 
 abbrev pub invariant-loop-event : goal.invariant-loop-event

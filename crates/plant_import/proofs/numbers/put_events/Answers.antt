@@ -1,7 +1,7 @@
 use Rattle.std.{specs.List.{list_all}, proofs.Common.{List, ap, refl, subst, sym, ◌++◌, ◌∙◌, ◌≡◌, true, [], OnOk}}
 use Rattle.plant_alarm.specs.declared.event.Event.{Event}
-use Rattle.plant_import.{specs.{Needed.{is_before_all}, Numbers.{AreNumbered, event_number, with_events}}, proofs.Appended.{appended, sorted}}
-use Rattle.plant_import.proofs.public.{Counted.{put_twice}, Placed.{puts_none, rises_of}}
+use Rattle.plant_import.{specs.{Needed.{is_before_all}, Numbers.{AreNumbered, event_number, with_events}}, proofs.Appended.{appended}}
+use Rattle.plant_import.proofs.public.{Counted.{order_puts, put_twice}, Placed.{puts_none, rises_of}}
 use Rattle.plant_import.proofs.numbers.put_events.Goals as goal
 
 pub returns-then-come_after-clause-value : goal.returns-then-come_after-clause-value
@@ -21,5 +21,5 @@ returns-clause-value c order =
     let more = c.args.more.now in
     let fresh : c.as_slice-3.result.now ≡ with_events [] more = c.as_slice-3.ensures ∙ c.in_ok-rising.ensures.value ∙ ap (with_events []) c.in_ok-duplicated.ensures.value in
     let low : AreNumbered c.as_slice-2.result.now = subst (λ (l : List Event). AreNumbered l) (sym c.as_slice-2.ensures) order in
-    let high : AreNumbered c.as_slice-3.result.now = subst (λ (l : List Event). AreNumbered l) (sym fresh) (sorted more) in
+    let high : AreNumbered c.as_slice-3.result.now = subst (λ (l : List Event). AreNumbered l) (sym fresh) (order_puts more [] tt) in
     c.in_ok-kept.ensures.value low high ∙ (λ i. with_events (c.as_slice-2.ensures i) (fresh i)) ∙ put_twice kept more order

@@ -1,4 +1,4 @@
-use Rattle.std.proofs.{Common.{sym, rules, arith}, lemmas.List.{take_all}}
+use Rattle.std.proofs.{Common.{sym, rules, arith}}
 use Rattle.csv.specs.Records.{fields_of}
 use Rattle.plant_import.proofs.Places.{text_more, text_at}
 use Rattle.plant_import.proofs.reading.all_text.Goals as goal
@@ -8,6 +8,3 @@ loop-place-preserved c = text_more (fields_of c.args.row.now) c.loop-place.place
 
 pub returns-then-not-is_text : goal.returns-then-not-is_text
 returns-then-not-is_text c = sym (text_at (fields_of c.args.row.now) c.loop-place.place c.is_text.result c.field.result.now (omega arith) c.field.ensures c.is_text.ensures c.if-not-is_text.true)
-
-pub returns : goal.returns
-returns c = sym (rw (take_all c.loop-place.place (fields_of c.args.row.now) (omega arith)) at c.loop-place.invariant)

@@ -1,11 +1,8 @@
 use Rattle.std.proofs.Common.{◌≡◌, ◌≤◌, ◌∙◌, ◌++◌, ◌∷◌, [], sym, rules, arith, Ok}
 use Rattle.plant_types.specs.Limits.{max_file_rows}
 use Rattle.csv.specs.Records.{fields_of}
-use Rattle.plant_import.{specs.Reading.{row_read}, proofs.{ReadsRecords.{reads_none, reads_more, reads_fault, reads_all}, Rows.{in_limit}}}
+use Rattle.plant_import.{specs.Reading.{row_read}, proofs.{ReadsRecords.{reads_more, reads_fault, reads_all}, Rows.{in_limit}}}
 use Rattle.plant_import.proofs.reading.read_rows.Goals as goal
-
-pub loop-row-init : goal.loop-row-init
-loop-row-init c = record { short = omega arith; so = λ text header h. rw c.new-events.ensures (reads_none c.args.reader text header h) }
 
 pub returns-in-Err-clause-value : goal.returns-in-Err-clause-value
 returns-in-Err-clause-value c text header h =

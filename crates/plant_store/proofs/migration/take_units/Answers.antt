@@ -1,7 +1,7 @@
 use Rattle.std.proofs.{Common.{◌≡◌, ap, sym, subst, ◌∙◌, arith, rules, List, ◌∷◌, [], ◌++◌, take, ◌+◌, false, Less, Ok}, lemmas.List.{map_more}}
 use Rattle.sqlite.specs.{Effect.{Database}, Held.{state}, State.{HasCleanDisk}}
 use Rattle.sqlite_trees.specs.Tree.{IsAscending}
-use Rattle.plant_store.specs.{Changes.{Applies}, OldTables.{AreOldBooks}, Upgrading.{AreTakenOver, all_kinds, is_among, puts_all, upgraded_rows}}
+use Rattle.plant_store.specs.{Changes.{Applies}, OldTables.{AreOldBooks}, Upgrading.{AreTakenOver, is_among, puts_all, upgraded_rows}}
 use Rattle.plant_store.{specs.declared.old_rows.CodeLine.{CodeLine}, proofs.{ReadsOnly.{reads_then}, StepsInside.{stays_then}}}
 use Rattle.plant_store.proofs.Upgrades.{codes_rise, not_before, taken_next, units_of}
 use Rattle.plant_types.specs.Names.{Name, name_cmp}
@@ -28,7 +28,7 @@ loop-line-preserved g c =
           let xs = c.args.lines.now in
           let at = c.loop-line.line-index in
           let x : CodeLine = c.line-item.result in
-          let here = subst (λ (d : Database). Applies x.unit (puts_all (upgraded_rows x.unit d.trees) all_kinds) mid.now now.now) is one in
+          let here = subst (λ (d : Database). Applies x.unit (puts_all (upgraded_rows x.unit d.trees)) mid.now now.now) is one in
           let up : IsAscending (λ a b. name_cmp a b ≡ Less) (units_of xs) = subst (IsAscending (λ a b. name_cmp a b ≡ Less)) (sym all) (codes_rise had.now old_books) in
           let fresh : is_among (units_of (take at xs)) x.unit ≡ false = subst (λ (y : CodeLine). is_among (units_of (take at xs)) y.unit ≡ false) (sym c.line-item.is) (not_before xs at x up (omega arith)) in
           let more : units_of (take (at + 1) xs) ≡ units_of (take at xs) ++ x.unit ∷ [] =

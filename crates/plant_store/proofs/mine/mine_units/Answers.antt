@@ -1,7 +1,6 @@
 use Rattle.std.proofs.Common.{◌∙◌, ◌∷◌, ◌++◌, [], ap, map, refl}
-use Rattle.sqlite.specs.Held.{state}
 use Rattle.plant_books.{specs.Contents.{mine_as, mine_units, rows_in}, proofs.public.ShelfLists.{all_listed, more_listed}}
-use Rattle.plant_store.proofs.{Holdings.{mine_held}, ReadsOnly.{reads_then}, public.Contents.{keeps_same}}
+use Rattle.plant_store.proofs.{Holdings.{mine_held}, ReadsOnly.{lists_on}}
 use Rattle.plant_types.specs.Names.{Name}
 use Rattle.plant_store.proofs.mine.mine_units.Goals as goal
 
@@ -18,21 +17,12 @@ loop-unit-init g c =
     }
 
 pub loop-unit-preserved : goal.loop-unit-preserved
-loop-unit-preserved g c =
-    let old = state g.S.Store c.args.conn.now in
-    let mid = state g.S.Store c.loop-unit.conn in
-    record {
-      mode = c.mine_unit.ensures.mode;
-      found = λ honest m k.
-          let before = c.mine_unit.ensures.reads.honest honest in
-          let k2 = keeps_same old mid m k (c.loop-unit.invariant.reads.same before k.books) in
-          let there = λ (u : Name). mine_as c.args.now c.args.person.now u (rows_in m u) in
-          let u = c.unit-item.result in
-          let pushed = c.in_ok-push.ensures ∙ ap (λ r. c.loop-unit.mine ++ r ∷ []) (c.in_ok-held.ensures.found honest m k2) in
-          more_listed (map there) c.loop-unit.mine (mine_units m c.args.now c.args.person.now) c.as_slice-unit-items.result.now c.loop-unit.unit-index (there u ∷ []) c.push.new.table
-          u c.loop-unit-test.true c.unit-item.is refl pushed (c.loop-unit.invariant.found before m k);
-      reads = reads_then c.loop-unit.invariant.reads c.mine_unit.ensures.reads;
-    }
+loop-unit-preserved g c = lists_on c.loop-unit.invariant c.mine_unit.ensures.mode c.mine_unit.ensures.reads (λ honest m k so_far.
+    let there = λ (u : Name). mine_as c.args.now c.args.person.now u (rows_in m u) in
+    let u = c.unit-item.result in
+    let pushed = c.in_ok-push.ensures ∙ ap (λ r. c.loop-unit.mine ++ r ∷ []) (c.in_ok-held.ensures.found honest m k) in
+    more_listed (map there) c.loop-unit.mine (mine_units m c.args.now c.args.person.now) c.as_slice-unit-items.result.now c.loop-unit.unit-index (there u ∷ []) c.push.new.table
+    u c.loop-unit-test.true c.unit-item.is refl pushed so_far)
 
 pub returns-clause-found : goal.returns-clause-found
 returns-clause-found g c honest m k =

@@ -1,12 +1,8 @@
-use Rattle.sqlite.specs.Held.{state}
-use Rattle.plant_store.proofs.{Queries.{if_ok}, Reading.{shown_decoded}, ReadsOnly.{reads_plain}}
+use Rattle.plant_store.proofs.{Reading.{loads}, ReadsOnly.{reads_plain}}
 use Rattle.plant_store.proofs.read.rows_of_number.Goals as goal
 
 pub returns-clause-rows : goal.returns-clause-rows
-returns-clause-rows g c clean books =
-    let old = state g.S.Store c.args.conn.now in
-    let new = state g.S.Store c.read_rows.new.conn in
-    if_ok c.read_rows.result (λ read it. shown_decoded (c.select_of_number.ensures c.args.unit.now c.args.number) old new books.same_schema books it.0 (rw c.numbered.ensures at it.1.0) read it.1.1) (c.read_rows.ensures.rows clean)
+returns-clause-rows g c clean books = loads (c.select_of_number.ensures c.args.unit.now c.args.number) _ _ _ _ c.numbered.ensures (c.read_rows.ensures.rows clean) books.same_schema books
 
 pub returns-clause-reads : goal.returns-clause-reads
 returns-clause-reads g c = reads_plain _ (c.select_of_number.ensures c.args.unit.now c.args.number).plain c.read_rows.ensures.same c.read_rows.ensures.honest

@@ -1,7 +1,6 @@
 use Rattle.std.{specs.FinMap.{get, keys}, proofs.Common.{◌∙◌, ◌++◌, ap, flat_map, refl}}
-use Rattle.sqlite.specs.Held.{state}
 use Rattle.plant_books.{specs.Contents.{mine_shelves, shelves_there}, proofs.public.ShelfLists.{all_listed, held_shelves, more_listed}}
-use Rattle.plant_store.proofs.{ReadsOnly.{reads_then}, public.Contents.{keeps_same}}
+use Rattle.plant_store.proofs.ReadsOnly.{lists_on}
 use Rattle.plant_store.proofs.shelves.mine_shelves.Goals as goal
 
 pub loop-unit-init : goal.loop-unit-init
@@ -17,19 +16,10 @@ loop-unit-init g c =
     }
 
 pub loop-unit-preserved : goal.loop-unit-preserved
-loop-unit-preserved g c =
-    let old = state g.S.Store c.args.conn.now in
-    let mid = state g.S.Store c.loop-unit.conn in
-    record {
-      mode = c.push_shelves.ensures.mode;
-      found = λ honest m k.
-          let before = c.push_shelves.ensures.reads.honest honest in
-          let k2 = keeps_same old mid m k (c.loop-unit.invariant.reads.same before k.books) in
-          let u = c.unit-item.result in
-          more_listed (flat_map (λ u. shelves_there u (get m.units u))) c.loop-unit.mine (mine_shelves m c.args.now c.args.person.now) c.as_slice-unit-items.result.now c.loop-unit.unit-index (shelves_there u (get m.units u)) c.push_shelves.new.mine
-          u c.loop-unit-test.true c.unit-item.is refl (c.in_ok-push_shelves.ensures.found honest m k2) (c.loop-unit.invariant.found before m k);
-      reads = reads_then c.loop-unit.invariant.reads c.push_shelves.ensures.reads;
-    }
+loop-unit-preserved g c = lists_on c.loop-unit.invariant c.push_shelves.ensures.mode c.push_shelves.ensures.reads (λ honest m k so_far.
+    let u = c.unit-item.result in
+    more_listed (flat_map (λ u. shelves_there u (get m.units u))) c.loop-unit.mine (mine_shelves m c.args.now c.args.person.now) c.as_slice-unit-items.result.now c.loop-unit.unit-index (shelves_there u (get m.units u)) c.push_shelves.new.mine
+    u c.loop-unit-test.true c.unit-item.is refl (c.in_ok-push_shelves.ensures.found honest m k) so_far)
 
 pub returns-clause-found : goal.returns-clause-found
 returns-clause-found g c honest m k =

@@ -1,7 +1,7 @@
 use Rattle.std.{proofs.Common.{◌≡◌, Some, ap, sym, ◌∙◌, rules, option_map, true}}
 use Rattle.sqlite.specs.{Effect.{Database}, Held.{state}}
 use Rattle.plant_books.specs.Contents.{rows_in, without_events}
-use Rattle.plant_columns.specs.Tables.Kept.{UnitKept, GrantKept, AlarmKept, ShelfKept, BandKept, CellKept, EventKept, RecordKept, ChangeKept}
+use Rattle.plant_columns.specs.declared.tables.TableKind.TheVariants.{Units, Grants, Alarms, Shelves, Bands, Cells, Events, Records, Changes}
 use Rattle.plant_columns.specs.Tables.{rows_seen}
 use Rattle.plant_model.specs.declared.rows.UnitRows.{UnitRows}
 use Rattle.plant_store.specs.Keeping.{has_any}
@@ -30,18 +30,18 @@ returns-clause-found g c honest m k =
     let r5 = goes_on c.all_rows-5.ensures.reads t5 r4 in
     let r6 = goes_on c.all_rows-6.ensures.reads t6 r5 in
     let r7 = goes_on c.all_rows-7.ensures.reads t7 r6 in
-    let rows : UnitRows = record { units = c.in_ok-units.units; grants = c.in_ok-grants.grants; alarms = c.in_ok-alarms.alarms; shelves = c.in_ok-shelves.shelves; events = rows_seen u old.now.trees EventKept; bands = c.in_ok-bands.bands; cells = c.in_ok-cells.cells; records = c.in_ok-records.records; changes = c.in_ok-changes.changes } in
+    let rows : UnitRows = record { units = c.in_ok-units.units; grants = c.in_ok-grants.grants; alarms = c.in_ok-alarms.alarms; shelves = c.in_ok-shelves.shelves; events = rows_seen u old.now.trees Events; bands = c.in_ok-bands.bands; cells = c.in_ok-cells.cells; records = c.in_ok-records.records; changes = c.in_ok-changes.changes } in
     let units_seen = c.in_ok-units.ensures.rows t1.0 k.books in
     let same : rows ≡ rows_in m u = λ i. record {
-      units = (units_seen ∙ k.seen u UnitKept) i;
-      grants = (c.in_ok-grants.ensures.rows t2.0 r1.books ∙ ap (λ (d : Database). rows_seen u d.trees GrantKept) r1.now ∙ k.seen u GrantKept) i;
-      alarms = (c.in_ok-alarms.ensures.rows t3.0 r2.books ∙ ap (λ (d : Database). rows_seen u d.trees AlarmKept) r2.now ∙ k.seen u AlarmKept) i;
-      shelves = (c.in_ok-shelves.ensures.rows t4.0 r3.books ∙ ap (λ (d : Database). rows_seen u d.trees ShelfKept) r3.now ∙ k.seen u ShelfKept) i;
-      bands = (c.in_ok-bands.ensures.rows t5.0 r4.books ∙ ap (λ (d : Database). rows_seen u d.trees BandKept) r4.now ∙ k.seen u BandKept) i;
-      cells = (c.in_ok-cells.ensures.rows t6.0 r5.books ∙ ap (λ (d : Database). rows_seen u d.trees CellKept) r5.now ∙ k.seen u CellKept) i;
-      events = k.seen u EventKept i;
-      records = (c.in_ok-records.ensures.rows t7.0 r6.books ∙ ap (λ (d : Database). rows_seen u d.trees RecordKept) r6.now ∙ k.seen u RecordKept) i;
-      changes = (c.in_ok-changes.ensures.rows honest.0 r7.books ∙ ap (λ (d : Database). rows_seen u d.trees ChangeKept) r7.now ∙ k.seen u ChangeKept) i;
+      units = (units_seen ∙ k.seen u Units) i;
+      grants = (c.in_ok-grants.ensures.rows t2.0 r1.books ∙ ap (λ (d : Database). rows_seen u d.trees Grants) r1.now ∙ k.seen u Grants) i;
+      alarms = (c.in_ok-alarms.ensures.rows t3.0 r2.books ∙ ap (λ (d : Database). rows_seen u d.trees Alarms) r2.now ∙ k.seen u Alarms) i;
+      shelves = (c.in_ok-shelves.ensures.rows t4.0 r3.books ∙ ap (λ (d : Database). rows_seen u d.trees Shelves) r3.now ∙ k.seen u Shelves) i;
+      bands = (c.in_ok-bands.ensures.rows t5.0 r4.books ∙ ap (λ (d : Database). rows_seen u d.trees Bands) r4.now ∙ k.seen u Bands) i;
+      cells = (c.in_ok-cells.ensures.rows t6.0 r5.books ∙ ap (λ (d : Database). rows_seen u d.trees Cells) r5.now ∙ k.seen u Cells) i;
+      events = k.seen u Events i;
+      records = (c.in_ok-records.ensures.rows t7.0 r6.books ∙ ap (λ (d : Database). rows_seen u d.trees Records) r6.now ∙ k.seen u Records) i;
+      changes = (c.in_ok-changes.ensures.rows honest.0 r7.books ∙ ap (λ (d : Database). rows_seen u d.trees Changes) r7.now ∙ k.seen u Changes) i;
     } in
     let any : has_any c.in_ok-units.units ≡ true = search rules in
     ap (λ es. Some (record rows { events = es })) c.new.ensures ∙ ap (option_map without_events) (ap Some same ∙ sym (kept_rows old m u k (ap has_any (sym units_seen) ∙ any)))

@@ -1,14 +1,8 @@
 use Rattle.std.proofs.Common.{◌∷◌, [], arith, rules}
 use Rattle.sqlite.specs.{Held.{state}, State.{HasCleanDisk}}
 use Rattle.plant_model.specs.declared.rows.RowEdit.TheVariants.{Put}
-use Rattle.plant_store.proofs.{Writes.{applies_then, on_ok}, WritesOver.{none_put, one_put}}
+use Rattle.plant_store.proofs.{Writes.{applies_then, on_ok}, WritesOver.{none_put}}
 use Rattle.plant_store.proofs.write.put.Goals as goal
-
-pub returns-then-written-ne0-clause-made : goal.returns-then-written-ne0-clause-made
-returns-then-written-ne0-clause-made g c clean inside books =
-    let old = state g.S.Store c.args.tx.now.conn.now in
-    let new = state g.S.Store c.put_over.new.tx.conn.now in
-    one_put c.args.unit.now (Put (g.T.Stored.as_row c.args.row.now)) old.now new.now c.in_ok-written.written (search rules) (c.in_ok-written.ensures.made clean inside books)
 
 pub returns-clause-made : goal.returns-clause-made
 returns-clause-made g c clean inside books =

@@ -1,12 +1,8 @@
 use Rattle.std.{specs.BTreeSet.{contains}, proofs.Common.{arith, rules, subst, sym, take, true, ◌+◌, ◌≡◌}}
-use Rattle.plant_alarm.specs.declared.event.Event.{Event}
-use Rattle.plant_types.{specs.Names.{name_cmp}, proofs.public.NameSets.{has_more, has_none}}
+use Rattle.plant_types.{specs.Names.{name_cmp}, proofs.public.NameSets.{has_more}}
 use Rattle.plant_unit.{specs.Summaries.{AreNamed}, proofs.NamedLaws.{named_before}}
 use Rattle.plant_unit.proofs.alarms.tags_named.Goals.{else-not-contains, then-not-contains+in_ok-copy+in_ok-insert}
 use Rattle.plant_unit.proofs.alarms.tags_named.Goals as goal
-
-pub loop-event-init : goal.loop-event-init
-loop-event-init c = has_none (λ (e : Event). e.tag) c.new-tags.result c.new-tags.ensures.len
 
 pub loop-event-preserved : goal.loop-event-preserved
 loop-event-preserved c =

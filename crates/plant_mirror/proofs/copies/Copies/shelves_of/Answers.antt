@@ -1,11 +1,7 @@
-use Rattle.std.proofs.Common.{ap, drop, flat_map, map, refl, sym, ◌+◌, ◌++◌}
-use Rattle.plant_books.{specs.Contents.{mine_row, shelves_there}, proofs.public.ShelfLists.{all_listed, more_listed}}
+use Rattle.std.proofs.Common.{ap, drop, flat_map, map, sym, ◌+◌, ◌++◌}
+use Rattle.plant_books.{specs.Contents.{mine_row, shelves_there}, proofs.public.ShelfLists.{more_listed}}
 use Rattle.plant_mirror.proofs.CopyLaws.{found_there, shelves_seen}
 use Rattle.plant_mirror.proofs.copies.Copies.shelves_of.Goals as goal
-
-pub returns-clause-found : goal.returns-clause-found
-returns-clause-found g there = λ copies.
-    all_listed (flat_map (λ u. shelves_there u (there u))) g.loop-unit.mine _ g.args.units.now g.loop-unit.unit-index refl g.loop-unit-test.false (g.loop-unit.invariant there copies)
 
 pub loop-unit-preserved : goal.loop-unit-preserved
 loop-unit-preserved g there copies =

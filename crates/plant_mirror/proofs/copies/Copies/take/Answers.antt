@@ -1,18 +1,8 @@
 use Rattle.std.proofs.Common.{ap, arith, subst, sym}
 use Rattle.lru.specs.LruCache.{LruCache}
-use Rattle.plant_mirror.specs.{Copies.{AreCopies, rows_of_all}, declared.at_hand.AtHand.{AtHand}}
-use Rattle.plant_mirror.proofs.CopyLaws.{count_removed, count_rest, true_without}
+use Rattle.plant_mirror.{specs.{Copies.{AreCopies, rows_of_all}, declared.at_hand.AtHand.{AtHand}}, proofs.CopyLaws.{count_removed, true_without}}
 use Rattle.plant_types.specs.Names.{Name}
 use Rattle.plant_mirror.proofs.copies.Copies.take.Goals as goal
-
-pub invariant_of-self : goal.invariant_of-self
-invariant_of-self c =
-    let less = count_rest c.args.unit.now c.args.self.now.units.entries in
-    let same = ap (λ (x : LruCache Name AtHand). rows_of_all x.entries) c.pop_entry.ensures.entries in
-    record {
-      counted = omega (arith, less, same, c.args.self.now.counted);
-      within = c.args.self.now.within;
-    }
 
 pub returns-in_err-unit-clause-rest : goal.returns-in_err-unit-clause-rest
 returns-in_err-unit-clause-rest c = λ there after same h.

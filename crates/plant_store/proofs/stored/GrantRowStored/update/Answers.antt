@@ -1,6 +1,5 @@
-use Rattle.plant_store.proofs.{Queries.{if_ok}, WritesOver.{grant_over}}
+use Rattle.plant_store.proofs.WritesOver.{grant_over}
 use Rattle.plant_store.proofs.stored.GrantRowStored.update.Goals as goal
 
 pub returns-clause-made : goal.returns-clause-made
-returns-clause-made g c clean inside books =
-    if_ok c.run_counting.result (grant_over c.args.unit.now c.args.self.now _ _ books) (rw c.grant_cells.ensures at (c.run_counting.ensures.made clean inside))
+returns-clause-made g c clean inside books = grant_over _ g.S.Store c.args.tx.now.conn.now c.run_counting.new.tx.conn.now c.args.unit.now c.args.self.now _ _ c.grant_cells.ensures books (c.run_counting.ensures.made clean inside)

@@ -1,4 +1,4 @@
-use Rattle.std.proofs.Common.{◌≡◌, refl, rules}
+use Rattle.std.proofs.Common.{◌≡◌, rules}
 use Rattle.sqlite.specs.Held.{state}
 use Rattle.plant_columns.specs.Tables.{no_schema}
 use Rattle.plant_store.proofs.public.Contents.{keeps_new}
@@ -7,4 +7,4 @@ use Rattle.plant_store.proofs.tables.Tables.create.Goals as goal
 pub returns-in-Ok-clause-made : goal.returns-in-Ok-clause-made
 returns-in-Ok-clause-made g c =
     let blank : (state g.S.Store c.args.conn).now.schema ≡ no_schema = search rules in
-    (refl, λ honest. keeps_new (state g.S.Store c.make_all.new.conn) c.args.admin (c.in-Ok.ensures.made honest blank))
+    (c.of.ensures.admin, rw c.of.ensures.same (λ honest. keeps_new (state g.S.Store c.make_all.new.conn) c.args.admin (c.in-Ok.ensures.made honest blank)))

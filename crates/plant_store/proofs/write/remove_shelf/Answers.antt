@@ -1,9 +1,0 @@
-use Rattle.sqlite.specs.Held.{state}
-use Rattle.plant_store.proofs.Writes.{on_ok, remove_shelf_applies}
-use Rattle.plant_store.proofs.write.remove_shelf.Goals as goal
-
-pub returns-clause-made : goal.returns-clause-made
-returns-clause-made g c clean inside books =
-    let old = state g.S.Store c.args.tx.now.conn.now in
-    let new = state g.S.Store c.run.new.tx.conn.now in
-    on_ok c.run.result (λ it. remove_shelf_applies c.args.unit.now c.args.tag.now old new books it.0 it.1) (rw c.pair.ensures at (c.run.ensures.made clean inside))
