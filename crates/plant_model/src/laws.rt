@@ -18,7 +18,7 @@ pub fn purged()
     ensures { OthersCallsCanGo }
 {}
 
-/// The world in which no unit was opened has legal histories, and the next world of a world that has them.
+/// The histories of a world without units are legal, and a call leaves legal histories legal.
 #[tactic(auto, using(crate::proofs::public::LegalLaws::empty_legal, crate::proofs::public::LegalLaws::next_legal))]
 pub fn histories_stay_legal()
     ensures first { FirstWorldsAreLegal }

@@ -54,7 +54,7 @@ none_written i text tests terms over u params old new books h =
 not_zero : (n : ℕ) → nat_eq (suc n) 0 ≡ false
 not_zero n = grind (arith, nat_tests)
 
--- the statement that writes a row over that of its key, where there is one, does so if it succeeds
+-- if the statement that writes over the row of a key succeeds, that row is replaced, if any
 abbrev pub PutsOver : TableKind → List ℕ → Type 1
 PutsOver i text = (S : Type 0) (g : Ghosts S) (before after : Held S) (u : Name) (x : RowOf i) (cells : List ValueRef) (said : Result ℕ Error) → bound cells ≡ Text u ∷ (shape i).cells x → AreBooks (state g before).now
     → IfOk said (λ count. Executes text (bound cells) (state g before) (state g after) (Ok count)) → IfOk said (λ count. Applies u (changes_written count (Put (as_row i x))) (state g before).now (state g after).now)
