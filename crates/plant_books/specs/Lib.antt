@@ -7,3 +7,4 @@ pub mod Changing
 pub mod Found
 pub mod Keyed
 pub mod Numbered
+pub mod Crashes

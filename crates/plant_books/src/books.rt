@@ -1,4 +1,5 @@
-ghost use Rattle.std.specs.Prelude.{◌≡◌, IfOk, None, ℕ};
+ghost use Rattle.std.specs.Prelude.{◌≡◌, IfOk, None, OnOk, ℕ};
+ghost use Rattle.plant_books.specs.Crashes.{IsSettled, LosesNoPart, LosesNothing};
 ghost use Rattle.plant_books.specs.Books.{CountsBy, Finds, FindsPart, Keeps, KeepsOnErr, Makes, WasHonest};
 ghost use Rattle.plant_books.specs.Contents.{Content, codes_held, events_in, mine_shelves, mine_units, rows_but_events};
 ghost use Rattle.plant_model.specs.Worlds.{unit_named};
@@ -35,6 +36,20 @@ pub trait Books {
     /// How many answers were `Store`.
     ghost stores: { Self → ℕ };
 
+    /// The keeper's premise on a crash: that its store's disk has returned what was written to it, whether or not a failure
+    /// has shut the store. Where it holds after a call, it held before.
+    ghost is_clean: { Self → Type 0 };
+
+    /// The next opening after a crash at this moment may find books with this content.
+    ghost may_leave: { Self → Content → Type 0 };
+
+    /// Whatever a crash at this moment leaves is books.
+    ghost leaves_books: { Self → Type 0 };
+
+    /// Tells the proof what a crash leaves while the store is open. It does nothing.
+    fn settle(&self)
+        ensures { IsSettled represents is_honest is_clean leaves_books may_leave self.now };
+
     /// The administrator's name.
     fn administrator(&self) -> &Person
         ensures { (m : Content) → represents self.now m → result.now ≡ m.admin };
@@ -45,6 +60,7 @@ pub trait Books {
             (λ m. fin.contains_key m.units unit.now) }
         ensures same { Keeps represents self.old self.new }
         ensures honest { WasHonest is_honest self.old self.new }
+        ensures crash { LosesNothing represents is_honest is_clean leaves_books may_leave self.old self.new }
         ensures count { CountsBy stores self.old self.new result };
 
     /// All rows of the unit, none where it was never opened.
@@ -53,6 +69,7 @@ pub trait Books {
             (λ m. fin.get m.units unit.now) }
         ensures same { Keeps represents self.old self.new }
         ensures honest { WasHonest is_honest self.old self.new }
+        ensures crash { LosesNothing represents is_honest is_clean leaves_books may_leave self.old self.new }
         ensures count { CountsBy stores self.old self.new result };
 
     /// All rows of the unit but its events, none where it was never opened.
@@ -61,6 +78,7 @@ pub trait Books {
             (λ m. rows_but_events m unit.now) }
         ensures same { Keeps represents self.old self.new }
         ensures honest { WasHonest is_honest self.old self.new }
+        ensures crash { LosesNothing represents is_honest is_clean leaves_books may_leave self.old self.new }
         ensures count { CountsBy stores self.old self.new result };
 
     /// All events of the unit, none where it was never opened.
@@ -69,6 +87,7 @@ pub trait Books {
             (λ m. events_in m unit.now) }
         ensures same { Keeps represents self.old self.new }
         ensures honest { WasHonest is_honest self.old self.new }
+        ensures crash { LosesNothing represents is_honest is_clean leaves_books may_leave self.old self.new }
         ensures count { CountsBy stores self.old self.new result };
 
     /// The rows of the unit that the call looks at, none where the unit was never opened or the call names none.
@@ -77,6 +96,7 @@ pub trait Books {
         ensures none { unit_named call.now.request ≡ None → IfOk result (λ part. part ≡ None) }
         ensures same { Keeps represents self.old self.new }
         ensures honest { WasHonest is_honest self.old self.new }
+        ensures crash { LosesNothing represents is_honest is_clean leaves_books may_leave self.old self.new }
         ensures count { CountsBy stores self.old self.new result };
 
     /// The codes of the units in which the person holds a role at the moment, rising, each once.
@@ -85,6 +105,7 @@ pub trait Books {
             (λ m. codes_held m now person.now) }
         ensures same { Keeps represents self.old self.new }
         ensures honest { WasHonest is_honest self.old self.new }
+        ensures crash { LosesNothing represents is_honest is_clean leaves_books may_leave self.old self.new }
         ensures count { CountsBy stores self.old self.new result };
 
     /// The units in which the person holds a role at the moment, in the order of their codes, each once, with the roles in
@@ -94,6 +115,7 @@ pub trait Books {
             (λ m. mine_units m now person.now) }
         ensures same { Keeps represents self.old self.new }
         ensures honest { WasHonest is_honest self.old self.new }
+        ensures crash { LosesNothing represents is_honest is_clean leaves_books may_leave self.old self.new }
         ensures count { CountsBy stores self.old self.new result };
 
     /// Every shelf of the units in which the person holds a role at the moment, in the order of units and tags, each once.
@@ -103,6 +125,7 @@ pub trait Books {
             (λ m. mine_shelves m now person.now) }
         ensures same { Keeps represents self.old self.new }
         ensures honest { WasHonest is_honest self.old self.new }
+        ensures crash { LosesNothing represents is_honest is_clean leaves_books may_leave self.old self.new }
         ensures count { CountsBy stores self.old self.new result };
 
     /// Makes the changes to this unit's rows in their order: all of them, or none. Where the caller has seen the unit's
@@ -117,5 +140,7 @@ pub trait Books {
         ensures made { Makes represents self.old self.new unit.now changes.now result }
         ensures unchanged { KeepsOnErr represents self.old self.new result }
         ensures honest { WasHonest is_honest self.old self.new }
+        ensures crash { LosesNoPart represents is_honest is_clean leaves_books may_leave unit.now changes.now self.old self.new }
+        ensures kept { OnOk result (is_clean self.new → is_honest self.new) }
         ensures count { CountsBy stores self.old self.new result };
 }

@@ -40,6 +40,15 @@ impl Books for Plain {
 
     ghost stores = { λ _. 0 };
 
+    ghost is_clean = { λ _. ⊤ };
+
+    // a crash leaves nothing of lists
+    ghost may_leave = { λ _ _. ⊥ };
+
+    ghost leaves_books = { λ _. ⊤ };
+
+    fn settle(&self) {}
+
     fn administrator(&self) -> &Person {
         &self.administrator
     }

@@ -2,7 +2,7 @@
 use Rattle.std.{specs.Io.KnownBytes.{Appends}, proofs.KnownBytes.{Appends-trans}}
 use Rattle.std.proofs.Common.{◌≡◌, ℕ, ◌+◌, List, [], ◌∷◌, ◌++◌, length, take, Bool, true, Option, None, Some, refl, sym, subst, inl, inr}
 use Rattle.plant_model.specs.declared.{call.Call.{Call}, reply.Answer.{Answer}}
-use Rattle.plant_books.specs.Contents.{Content}
+use Rattle.plant_office.specs.Keep.{Standing}
 use Rattle.plant_wire.specs.{Causes.{cause_text}, Marks.{answers_of, calls_of, last_marks, last_text, out_of}, Ran.{Ran}}
 use Rattle.plant_wire.specs.{Session.{IsCutShort, IsSession}, Step.{AnswersFront, ServesBroken, ServesPart}, declared.reads.End.{End}}
 use Rattle.plant_wire.specs.declared.reads.End.TheVariants.{BrokenInput, Closed, Fault, ReadFailed, WriteFailed}
@@ -53,9 +53,9 @@ tells_more o o' o'' ends count is end (text, lines, h) (part, k) =
     (text ++ line, (text, part, lines, refl), Appends-trans o o' o'' text line h k')
 
 -- what was done before a connection, and then over it
-pub ran_more : (held mid left : Content → Type 0) (premise_first premise : Type 0) (before between after : ℕ) → (premise → premise_first)
-    → (calls : List Call) × (answers : List Answer) × Ran held premise_first mid before between calls answers
-    → (calls : List Call) × (answers : List Answer) × Ran mid premise left between after calls answers
-    → (calls : List Call) × (answers : List Answer) × Ran held premise left before after calls answers
-ran_more held mid left premise_first premise before between after honest (cs, xs, first) (ds, ys, second) =
-    (cs ++ ds, xs ++ ys, (ran_joins held mid left premise_first premise before between after honest).join cs ds xs ys first second)
+pub ran_more : (before mid after : Standing) (count between counted_to : ℕ) → (after.honest → mid.honest)
+    → (calls : List Call) × (answers : List Answer) × Ran before mid count between calls answers
+    → (calls : List Call) × (answers : List Answer) × Ran mid after between counted_to calls answers
+    → (calls : List Call) × (answers : List Answer) × Ran before after count counted_to calls answers
+ran_more before mid after count between counted_to honest (cs, xs, first) (ds, ys, second) =
+    (cs ++ ds, xs ++ ys, (ran_joins before mid after count between counted_to honest).join cs ds xs ys first second)

@@ -2,8 +2,8 @@
 use Rattle.std.specs.Io.KnownBytes.{Appends}
 use Rattle.std.specs.Prelude.{None, Option, Result, Ok, Err, Some, true, ℕ, ◌≡◌, ◌<◌, ◌+◌, List, [], ◌∷◌, ◌++◌, codes, decimal, length, take}
 use Rattle.plant_model.specs.declared.{call.Call.{Call}, reply.Answer.{Answer}}
-use Rattle.plant_books.specs.Contents.{Content}
-use Rattle.plant_wire.specs.{Ran.{Ran}, Session.{EndsAs}, declared.reads.End.{End, TheVariants.{BrokenInput, Closed, Fault, ReadFailed, WriteFailed}}}
+use Rattle.plant_books.specs.declared.books.Books.{Ghosts}
+use Rattle.plant_wire.specs.{Over.{RanOn}, Session.{EndsAs}, declared.reads.End.{End, TheVariants.{BrokenInput, Closed, Fault, ReadFailed, WriteFailed}}}
 use Rattle.plant_wire.specs.declared.streams.Failed.{Failed}
 
 abbrev pub end_name : End → List ℕ
@@ -24,12 +24,11 @@ pub record IsConnection (ran : List Call → List Answer → Type 0) (end : End)
   pub went : List ℕ
   pub ends : EndsAs came None true (Some []) (Some went) ran end
 
--- Sessions with these ends were served in turn, each starting from the books that the previous one left. The keeper gives
--- `holds` (what books hold), `premise` (its premise on them) and `stores` (how many answers were Store).
-abbrev pub GoesThrough : {B : Type 0} → (B → Content → Type 0) → (B → Type 0) → (B → ℕ) → B → List End → B → Type 0
-GoesThrough holds premise stores before [] after = after ≡ before
-GoesThrough {B} holds premise stores before (end ∷ earlier) after = (books : B) × GoesThrough holds premise stores before earlier books
-    × (premise after → premise books) × IsConnection (Ran (holds books) (premise after) (holds after) (stores books) (stores after)) end
+-- Sessions with these ends were served in turn, each starting from the books that the previous one left.
+abbrev pub GoesThrough : {B : Type 0} → Ghosts B → B → List End → B → Type 0
+GoesThrough b before [] after = after ≡ before
+GoesThrough {B} b before (end ∷ earlier) after = (books : B) × GoesThrough b before earlier books
+    × (b.is_honest after → b.is_honest books) × IsConnection (RanOn b books after) end
 
 -- the log got a line for each connection, by its number and its end, whole or, where it can't be written, a part from
 -- the front

@@ -105,7 +105,7 @@ pub fn serve_connections<L: Listener, B: Books, W: Write>(
     log: &mut W,
 ) -> Result<(), Failed>
     ensures served { (ends : List End)
-        × GoesThrough B.represents B.is_honest B.stores office.old.books ends office.new.books
+        × GoesThrough B.Books office.old.books ends office.new.books
         × Tells (W.contents log.old) ends (W.contents log.new)
         × (L.accepted listener.new ≡ L.accepted listener.old + length ends)
         × StopsAfter n (L.failures listener.old) (L.failures listener.new) (length ends) result }

@@ -1,5 +1,6 @@
 -- What a question leaves of the books, and of the copies beside them.
 use Rattle.std.specs.Prelude.{IfOk, Result}
+use Rattle.plant_books.specs.Crashes.{LosesNothing}
 use Rattle.plant_books.specs.{Contents.{Content}, Counting.{Counts}, declared.books.Books.{Ghosts}}
 use Rattle.plant_mirror.specs.{Copies.{IsMirrored}, declared.mirror.Mirror.{Mirror}}
 use Rattle.plant_types.specs.declared.fault.Fault.{Fault}
@@ -11,6 +12,7 @@ pub record Leaves {B A : Type 0} (books : Ghosts B) (said : Result A Fault) (bef
       → IsMirrored (books.represents after.books) (books.is_honest after.books) after.copies.units.entries m
   pub honest : books.is_honest after.books → books.is_honest before.books
   pub count : Counts (books.stores before.books) (books.stores after.books) said
+  pub crash : LosesNothing books.represents books.is_honest books.is_clean books.leaves_books books.may_leave before.books after.books
 
 -- the books hold the content, and the copies beside them are true of it
 abbrev pub Mirrors : {B : Type 0} → Ghosts B → Mirror B → Content → Type 0

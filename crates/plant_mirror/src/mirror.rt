@@ -1,4 +1,5 @@
-ghost use Rattle.std.specs.{List.{list_any}, Prelude.{◌≡◌, [], IfErr, IfOk, IfSome, Some, option_map}};
+ghost use Rattle.std.specs.{List.{list_any}, Prelude.{◌≡◌, [], IfErr, IfOk, IfSome, OnOk, Some, option_map}};
+ghost use Rattle.plant_books.specs.Crashes.{LosesNoPart};
 ghost use Rattle.plant_books.specs.{Books.{CountsBy, KeepsOnErr, Makes, WasHonest}, Contents.{Content, codes_held, part_in}};
 ghost use Rattle.plant_mirror.specs.{Copies.{IsMirrored, seen}, Leaves.{Leaves, AnswersOf, Mirrors}};
 ghost use Rattle.plant_model.specs.Worlds.{unit_named};
@@ -36,6 +37,10 @@ impl<B: Books> Mirror<B> {
         ensures represents { (m : Content) → B.represents books m
             → ⟦<Mirror<B> as Books>⟧.represents result m }
         ensures stores { ⟦<Mirror<B> as Books>⟧.stores result ≡ B.stores books }
+        ensures clean { ⟦<Mirror<B> as Books>⟧.is_clean result → B.is_clean books }
+        ensures leaves { (x : Content) → ⟦<Mirror<B> as Books>⟧.may_leave result x
+            → B.may_leave books x }
+        ensures sound { B.leaves_books books → ⟦<Mirror<B> as Books>⟧.leaves_books result }
     {
         Mirror {
             books,
@@ -50,6 +55,10 @@ impl<B: Books> Mirror<B> {
             → B.represents result m }
         ensures honest { B.is_honest result → ⟦<Mirror<B> as Books>⟧.is_honest self }
         ensures stores { B.stores result ≡ ⟦<Mirror<B> as Books>⟧.stores self }
+        ensures clean { B.is_clean result → ⟦<Mirror<B> as Books>⟧.is_clean self }
+        ensures leaves { (x : Content) → B.may_leave result x
+            → ⟦<Mirror<B> as Books>⟧.may_leave self x }
+        ensures sound { ⟦<Mirror<B> as Books>⟧.leaves_books self → B.leaves_books result }
     {
         let Mirror {
             books,
@@ -162,6 +171,9 @@ impl<B: Books> Mirror<B> {
         ensures unchanged { KeepsOnErr B.represents self.old.books self.new.books result }
         ensures honest { WasHonest B.is_honest self.old.books self.new.books }
         ensures count { CountsBy B.stores self.old.books self.new.books result }
+        ensures crash { LosesNoPart B.represents B.is_honest B.is_clean B.leaves_books B.may_leave
+            unit.now changes.now self.old.books self.new.books }
+        ensures open { OnOk result (B.is_clean self.new.books → B.is_honest self.new.books) }
         ensures kept { IfOk result (λ _. self.new.copies ≡ self.old.copies) }
         ensures forgets { IfErr result (λ _. self.new.copies.units.entries ≡ []) }
     {
@@ -230,6 +242,16 @@ impl<B: Books> Books for Mirror<B> {
     ghost is_honest = { λ t. B.is_honest t.books };
 
     ghost stores = { λ t. B.stores t.books };
+
+    ghost is_clean = { λ t. B.is_clean t.books };
+
+    ghost may_leave = { λ t. B.may_leave t.books };
+
+    ghost leaves_books = { λ t. B.leaves_books t.books };
+
+    fn settle(&self) {
+        self.books.settle();
+    }
 
     fn administrator(&self) -> &Person {
         self.books.administrator()

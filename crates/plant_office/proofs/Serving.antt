@@ -1,6 +1,6 @@
 -- Books that hold the rows of a world, and what a call does to them.
 use Rattle.std.specs.{FinMap.{contains_key, get, get-insert, keys, Entries.{find as found}}, List.{cons_option}}
-use Rattle.std.proofs.Common.{true≢false, ap, arith, inl, inr, refl, subst, sym, ◌++◌, ◌∙◌, flat_map, Bool, Err, IfOk, IfSome, IsErrAnd, List, None, Ok, OnErr, Option, Result, Some, [], cond, false, filter_map, fold, if◌then◌else◌, is_ok, is_some, map, max, nat_lt, not, option_and_then, option_map, true, unwrap_or, ℕ, ◌<◌, ◌∷◌, ◌≡◌, ◌≤◌}
+use Rattle.std.proofs.Common.{true≢false, ap, arith, inl, inr, refl, subst, sym, ◌++◌, ◌∙◌, flat_map, Bool, Err, IfOk, IfSome, IsErrAnd, List, None, Ok, OnErr, Option, Result, Some, [], cond, false, filter_map, ◌⊎◌, fold, if◌then◌else◌, is_ok, is_some, map, max, nat_lt, not, option_and_then, option_map, true, unwrap_or, ℕ, ◌<◌, ◌∷◌, ◌≡◌, ◌≤◌}
 use Rattle.std.proofs.lemmas.{Bool.Decides.{nat_tests}, List.Elements.{filter_map-append}, Simd.{map-map}}
 use Rattle.plant_model.specs.{Calls.{reply}, Facts.{facts, returned}, Grants.{held, holds_any, roles_held}, Histories.{last_moment}}
 use Rattle.plant_model.specs.{Legality.{has_matrix}, Parts.{part_of, part_of_holder, part_of_stranger}, Replies.{line_of, shelf_lines}}
@@ -21,7 +21,9 @@ use Rattle.plant_types.{specs.{Names.{Name, same_name}, Options.{when}, declared
 use Rattle.plant_types.proofs.public.Orders.{name_total}
 use Rattle.plant_alarm.specs.Shelves.{shelf_state}
 use Rattle.plant_office.specs.{Answers.{CountsAnswer, IfSaid, OnFault, answer_as}, Lines.{line_of_mine, line_of_shelf}, Runs.{IsAlike}}
-use Rattle.plant_office.specs.{Served.{Holds, IsIsolated, IsOwnUnit, IsServed}, Serves.{Serves}}
+use Rattle.plant_office.specs.{Keep.{AreOf, Endures, IsSaidUnmade, standing}, Outcomes.{says_made}, Served.{Holds, IsIsolated, IsOwnUnit, IsServed}, Serves.{Serves}}
+use Rattle.plant_office.proofs.public.Keeping.{holds_alike}
+use Rattle.plant_books.specs.Crashes.{LosesNoPart, LosesNothing}
 use Rattle.plant_unit.specs.Judged.{IsOpening, IsPartOf, IsVerdictOn}
 
 -- a call was answered as the world answers it, and these contents hold the rows of the world after it
@@ -316,20 +318,140 @@ told_shelves b w c units last shelves lines person h asked is e found l le copie
     let same : lines ≡ mine_lines c.moment us = l ∙ ap (filter_map (line_of_shelf c.moment)) (found ∙ shelves_told b w c.moment c.person h) ∙ all_shelf_lines c.moment us in
     answered_of_units b w c _ h (ap unit_named asked) (units_told us c last (Mine person c.moment lines) (last_told c.moment c.person us units last (is ∙ mine_told b w c.moment c.person h) e) ((λ i. Mine (copied i) c.moment (same i)) ∙ ap (reply_of_units us c) (sym asked)) le)
 
+-- the content after the changes of a call that is accepted holds the world after it
+pub holds_meant : (b : Content) (w : World) (c : Call) (u : Name) (reply : Reply) (cs left : List RowEdit) → IsLegalWorld w → Holds b w → has_matrix c.request ≡ true → unit_named c.request ≡ Some u → is_opening c.request ≡ false → is_read c.request ≡ false
+    → IsVerdictOn (history w u) c (IsAccepted reply cs) → after_changes b u left ≡ after_changes b u cs → Holds (after_changes b u left) (next w c)
+holds_meant b w c u reply cs left legal h matrix named plain changes v same =
+    let s = leaves w c (Ok reply) (after_changes b u cs) (λ m. m ≡ after_changes b u cs) legal matrix (changing_call b w c u reply cs h named plain changes v) refl in
+    subst (λ (m : Content). Holds m (next w c)) (s.left_it ∙ sym same) s.holds
+
+pub holds_opened : (b : Content) (w : World) (c : Call) (u : Name) (reply : Reply) (cs : List RowEdit) → IsLegalWorld w → Holds b w → has_matrix c.request ≡ true → unit_named c.request ≡ Some u → is_opening c.request ≡ true
+    → IsOpening (by_admin w c) (is_taken w u) c (IsAccepted reply cs) → Holds (after_changes b u cs) (next w c)
+holds_opened b w c u reply cs legal h matrix named opens v =
+    let s = leaves w c (Ok reply) (after_changes b u cs) (λ m. m ≡ after_changes b u cs) legal matrix (accepted_opening b w c u reply cs h named opens v) refl in
+    subst (λ (m : Content). Holds m (next w c)) s.left_it s.holds
+
+-- ---- what a crash leaves of a call
+
+-- the books were only read
+abbrev pub Loses : {B : Type 0} → Ghosts B → B → B → Type 0
+Loses books before after = LosesNothing books.represents books.is_honest books.is_clean books.leaves_books books.may_leave before after
+
+pub loses_then : {B : Type 0} (books : Ghosts B) {before mid after : B} → Loses books before mid → Loses books mid after → Loses books before after
+loses_then books one two = record {
+  clean = λ h. one.clean (two.clean h);
+  fewer = λ h x l. one.fewer (two.clean h) x (two.fewer h x l);
+  sound = λ h s. two.sound h (one.sound (two.clean h) s);
+}
+
+unmade_says : (c : Call) (a : Answer) → IsSaidUnmade c a → says_made c a ≡ false
+unmade_says c (Replied r) reads = ap (λ (b : Bool). if b then false else true) reads
+unmade_says c (WasRefused r) none = refl
+unmade_says c (Faulted f) none = absurd none
+
+module _ {B : Type 0} (books : Ghosts B) (c : Call) where
+  -- a call that asks, or is refused
+  pub endures_unmade : (a : Answer) (before after : B) → IsSaidUnmade c a → ((m : Content) → books.represents before m → books.represents after m) → Loses books before after → Endures c a (standing books before) (standing books after)
+  endures_unmade a before after none same crash = record {
+    clean = crash.clean;
+    kept = λ _ told. absurd (true≢false (sym told ∙ unmade_says c a none));
+    made = λ _ told. absurd (true≢false (sym told ∙ unmade_says c a none));
+    unmade = λ _. same;
+    each = λ tidy w of x l. inl (crash.fewer tidy x l);
+    quiet = λ tidy _ x l. crash.fewer tidy x l;
+    sound = λ tidy w of s. crash.sound tidy s;
+  }
+
+  -- a call that a read ended by a fault
+  pub endures_fault : (f : Fault) (before after : B) → ((m : Content) → books.represents before m → books.represents after m) → Loses books before after → Endures c (Faulted f) (standing books before) (standing books after)
+  endures_fault f before after same crash = record {
+    clean = crash.clean;
+    kept = λ _ told. absurd (true≢false (sym told));
+    made = λ _ told. absurd (true≢false (sym told));
+    unmade = λ _. same;
+    each = λ tidy w of x l. inl (crash.fewer tidy x l);
+    quiet = λ _ none. absurd none;
+    sound = λ tidy w of s. crash.sound tidy s;
+  }
+
+-- the books were read, and then these changes of the unit were to be made, which are those of the call
+pub record Makes {B : Type 0} (books : Ghosts B) (c : Call) (u : Name) (cs : List RowEdit) (before mid after : B) : Type 0 where
+  pub read : Loses books before mid
+  pub same : (m : Content) → books.represents before m → books.represents mid m
+  pub writes : LosesNoPart books.represents books.is_honest books.is_clean books.leaves_books books.may_leave u cs mid after
+  pub known : (m : Content) → books.represents before m → (w : World) → IsLegalWorld w → Holds m w → books.is_honest mid → IsKnownTo m u cs
+  pub meant : (m : Content) → books.represents before m → (w : World) → IsLegalWorld w → Holds m w → books.is_honest mid → Holds (after_changes m u cs) (next w c)
+
+module _ {B : Type 0} (books : Ghosts B) (c : Call) (u : Name) (cs : List RowEdit) (before mid after : B) (it : Makes books c u cs before mid after) where
+  made_each : books.is_clean after → (w : World) → AreOf w (standing books before) → (x : Content) → books.may_leave after x → books.may_leave before x ⊎ Holds x (next w c)
+  made_each tidy w of x l = elim (it.writes.fewer tidy x l) [
+    | inl was ↦ inl (it.read.fewer (it.writes.clean tidy) x was)
+    | inr new ↦
+        let m = of.content in
+        inr (holds_alike x (after_changes m u cs) (next w c) (new.1 m (it.same m of.held) (it.known m of.held w of.legal of.holds new.0)) (it.meant m of.held w of.legal of.holds new.0))
+  ]
+
+  made_sound : books.is_clean after → (w : World) → AreOf w (standing books before) → books.leaves_books before → books.leaves_books after
+  made_sound tidy w of s =
+      it.writes.sound tidy of.content (it.same of.content of.held) (λ honest. it.known of.content of.held w of.legal of.holds honest) (it.read.sound (it.writes.clean tidy) s)
+
+  -- a call that was made
+  pub endures_made : (reply : Reply) → is_read c.request ≡ false → (books.is_clean after → books.is_honest after)
+      → ((m : Content) → books.represents before m → (w : World) → IsLegalWorld w → Holds m w → books.is_honest after → IsServed w c (Ok reply) (books.represents after))
+      → Endures c (Replied reply) (standing books before) (standing books after)
+  endures_made reply changes kept served = record {
+    clean = λ tidy. it.read.clean (it.writes.clean tidy);
+    kept = λ tidy _. kept tidy;
+    made = λ honest _ w of.
+        let s = served of.content of.held w of.legal of.holds honest in
+        record { content = s.after; held = s.left_it; holds = s.holds; legal = s.legal };
+    unmade = λ none. absurd (true≢false (sym (ap (λ (b : Bool). if b then false else true) changes) ∙ none));
+    each = made_each;
+    quiet = λ _ reads. absurd (true≢false (sym reads ∙ changes));
+    sound = made_sound;
+  }
+
+  -- a call whose changes failed
+  pub endures_failed : (f : Fault) → ((m : Content) → books.represents before m → books.represents after m) → Endures c (Faulted f) (standing books before) (standing books after)
+  endures_failed f same = record {
+    clean = λ tidy. it.read.clean (it.writes.clean tidy);
+    kept = λ _ told. absurd (true≢false (sym told));
+    made = λ _ told. absurd (true≢false (sym told));
+    unmade = λ _. same;
+    each = made_each;
+    quiet = λ _ none. absurd none;
+    sound = made_sound;
+  }
+
 -- a call whose answer leaves the books as they were
-pub serves_same : {B : Type 0} {books : Ghosts B} {c : Call} {a : Said} {before after : B} → ((m : Content) → books.represents before m → (w : World) → IsLegalWorld w → Holds m w → books.is_honest after → IsServed w c a (books.represents after)) → (books.is_honest after → books.is_honest before) → ((m : Content) → books.represents before m → books.represents after m) → books.stores after ≡ books.stores before → Serves books c (Ok a) before after
-serves_same served honest same count = record { served = served; honest = honest; unchanged = λ m k _. same m k; fault = λ _ _. tt; count = count }
+pub serves_same : {B : Type 0} {books : Ghosts B} {c : Call} {a : Said} {before after : B} → ((m : Content) → books.represents before m → (w : World) → IsLegalWorld w → Holds m w → books.is_honest after → IsServed w c a (books.represents after)) → (books.is_honest after → books.is_honest before) → ((m : Content) → books.represents before m → books.represents after m) → books.stores after ≡ books.stores before → IsSaidUnmade c (answer_as (Ok a)) → Loses books before after → Serves books c (Ok a) before after
+serves_same {B} {books} {c} {a} {before} {after} served honest same count none crash =
+    record { served = served; honest = honest; unchanged = λ m k _. same m k; fault = λ _ _. tt; count = count; endures = endures_unmade books c (answer_as (Ok a)) before after none same crash }
 
 -- a call whose reply changed the books
-pub serves_changing : {B : Type 0} {books : Ghosts B} {c : Call} {reply : Reply} {before after : B} → ((m : Content) → books.represents before m → (w : World) → IsLegalWorld w → Holds m w → books.is_honest after → IsServed w c (Ok reply) (books.represents after)) → (books.is_honest after → books.is_honest before) → is_read c.request ≡ false → books.stores after ≡ books.stores before → Serves books c (Ok (Ok reply)) before after
-serves_changing {B} {books} {c} {reply} {before} {after} served honest changes count =
-    record { served = served; honest = honest; unchanged = λ m _ still. changing_reply reply c (books.represents after m) changes still; fault = λ _ _. tt; count = count }
+pub serves_changing : {B : Type 0} {books : Ghosts B} {c : Call} {reply : Reply} {before after : B} → ((m : Content) → books.represents before m → (w : World) → IsLegalWorld w → Holds m w → books.is_honest after → IsServed w c (Ok reply) (books.represents after)) → (books.is_honest after → books.is_honest before) → is_read c.request ≡ false → books.stores after ≡ books.stores before → {u : Name} {cs : List RowEdit} {mid : B} → Makes books c u cs before mid after → (books.is_clean after → books.is_honest after) → Serves books c (Ok (Ok reply)) before after
+serves_changing {B} {books} {c} {reply} {before} {after} served honest changes count {u} {cs} {mid} makes kept =
+    record {
+      served = served;
+      honest = honest;
+      unchanged = λ m _ still. changing_reply reply c (books.represents after m) changes still;
+      fault = λ _ _. tt;
+      count = count;
+      endures = endures_made books c u cs before mid after makes reply changes kept served;
+    }
 
 -- a call that a fault ended, after a read that left the count as it was
-pub serves_fault : {B : Type 0} {books : Ghosts B} {c : Call} {before after : B} {n : ℕ} (said : Result Said Fault) (e : Fault) → IsErrAnd said (λ f. f ≡ e) → (books.is_honest after → books.is_honest before) → ((m : Content) → books.represents before m → books.represents after m) → n ≡ books.stores before → CountsFault n (books.stores after) e → Serves books c said before after
-serves_fault (Ok a) e is honest same read count = absurd is
-serves_fault {B} {books} {c} {before} {after} {n} (Err f) e is honest same read count =
-    record { served = λ _ _ _ _ _ _. tt; honest = honest; unchanged = λ _ _. tt; fault = same; count = subst (λ k. CountsFault k (books.stores after) f) read (subst (CountsFault n (books.stores after)) (sym is) count) }
+pub serves_fault : {B : Type 0} {books : Ghosts B} {c : Call} {before after : B} {n : ℕ} (said : Result Said Fault) (e : Fault) → IsErrAnd said (λ f. f ≡ e) → (books.is_honest after → books.is_honest before) → ((m : Content) → books.represents before m → books.represents after m) → n ≡ books.stores before → CountsFault n (books.stores after) e → {u : Name} {cs : List RowEdit} {mid : B} → Makes books c u cs before mid after → Serves books c said before after
+serves_fault (Ok a) e is honest same read count makes = absurd is
+serves_fault {B} {books} {c} {before} {after} {n} (Err f) e is honest same read count {u} {cs} {mid} makes =
+    record {
+      served = λ _ _ _ _ _ _. tt;
+      honest = honest;
+      unchanged = λ _ _. tt;
+      fault = same;
+      count = subst (λ k. CountsFault k (books.stores after) f) read (subst (CountsFault n (books.stores after)) (sym is) count);
+      endures = endures_failed books c u cs before mid after makes f same;
+    }
 
 -- what a call said, as an answer
 pub said_if : (r : Result Said Fault) (P : Said → Type 0) → IfOk r P → IfSaid (answer_as r) P

@@ -5,6 +5,7 @@ ghost use Rattle.plant_model.specs.{Legality.{has_matrix, is_matrix_kind}, RowCh
 ghost use Rattle.plant_model.specs.{Views.{view}, Worlds.{World, IsLegalWorld, unit_named}, declared.call.Request.TheVariants.{MyShelves, MyUnits}};
 ghost use Rattle.plant_model.specs.declared.rows.UnitRows.{UnitRows};
 ghost use Rattle.plant_office.specs.{Answers.{CountsAnswer, IfSaid, OnFault, answer_as}, Lines.{line_of_mine, line_of_shelf}};
+ghost use Rattle.plant_office.specs.Keep.{Lands, standing};
 ghost use Rattle.plant_office.specs.{Runs.{IsRun, stores_in}, Served.{Holds, IsIsolated, IsServed}, Serves.{Serves}};
 
 use plant_books::{Books, MineRow, MineUnit};
@@ -222,8 +223,12 @@ impl<B: Books> Office<B> {
         ensures fault { (m : Content) → B.represents self.old.books m
             → OnFault result (B.represents self.new.books m) }
         ensures count { CountsAnswer (B.stores self.old.books) (B.stores self.new.books) result }
+        ensures lands { Lands call.now result (standing B.Books self.old.books) (standing B.Books self.new.books) }
     {
-        answer_of(self.serve_call(call))
+        let said = self.serve_call(call);
+        // Tells the proof what a crash leaves now.
+        self.books.settle();
+        answer_of(said)
     }
 
     /// Answers the calls in their order, each as `serve` does. Room for all answers is made first: a fault of its own

@@ -2,17 +2,36 @@
 use Rattle.std.proofs.Common.{List, sym, subst, ℕ, ◌+◌, ◌<◌, ◌^◌, ◌≡◌}
 use Rattle.plant_books.specs.Contents.{Content}
 use Rattle.plant_model.specs.declared.{call.Call.{Call}, reply.Answer.{Answer}}
-use Rattle.plant_office.specs.Runs.{stores_in}
+use Rattle.plant_model.specs.Worlds.{World}
+use Rattle.plant_office.specs.{Keep.{Keep, Lasts, Standing}, Runs.{stores_in}}
 use Rattle.plant_wire.specs.Ran.{Ran}
 
-pub ran_below : (held held_below left left_below : Content → Type 0) (premise premise_below : Type 0) (before after before_below after_below : ℕ)
-    → ((m : Content) → held_below m → held m) → (premise_below → premise) → ((m : Content) → left m → left_below m)
-    → before ≡ before_below → after_below ≡ after
-    → (calls : List Call) (answers : List Answer) → Ran held premise left before after calls answers → Ran held_below premise_below left_below before_below after_below calls answers
-ran_below held held_below left left_below premise premise_below before after before_below after_below holds honest leaves first last calls answers is =
+-- what holds of a run up to some books holds up to others that hold as much, where a crash leaves no more
+pub record Hands (upper lower : Standing) : Type 0 where
+  pub held : (m : Content) → upper.held m → lower.held m
+  pub leaves : (x : Content) → lower.leaves x → upper.leaves x
+  pub sound : upper.sound → lower.sound
+
+keep_handed : (upper lower : Standing) → Hands upper lower → (w : World) (calls : List Call) (answers : List Answer) → Keep w calls answers upper → Keep w calls answers lower
+keep_handed upper lower it w calls answers k = record {
+  long = k.long;
+  now = record { content = k.now.content; held = it.held k.now.content k.now.held; holds = k.now.holds; legal = k.now.legal };
+  sound = it.sound k.sound;
+  outcomes = λ x l. k.outcomes x (it.leaves x l);
+}
+
+pub ran_below : (before after before_below after_below : Standing) (count counted_to count_below counted_below : ℕ)
+    → Hands before_below before → Hands after after_below → (after_below.honest → after.honest) → (after_below.clean → after.clean) → (before.clean → before_below.clean)
+    → count ≡ count_below → counted_below ≡ counted_to
+    → (calls : List Call) (answers : List Answer) → Ran before after count counted_to calls answers → Ran before_below after_below count_below counted_below calls answers
+ran_below before after before_below after_below count counted_to count_below counted_below down up honest clean_after clean_before first last calls answers is =
     record {
       run = λ m h w legal rows told.
-          let run = is.run m (holds m h) w legal rows (honest told) in
-          record { answered = run.answered; isolated = run.isolated; after = run.after; left_it = leaves run.after run.left_it; holds = run.holds; legal = run.legal };
-      counted = λ room. subst (λ n. after_below ≡ n + stores_in answers) first (subst (λ n. n ≡ before + stores_in answers) (sym last) (is.counted (subst (λ n. n + stores_in answers < 2 ^ 64) (sym first) room)));
+          let run = is.run m (down.held m h) w legal rows (honest told) in
+          record { answered = run.answered; isolated = run.isolated; after = run.after; left_it = up.held run.after run.left_it; holds = run.holds; legal = run.legal };
+      counted = λ room. subst (λ n. counted_below ≡ n + stores_in answers) first (subst (λ n. n ≡ count + stores_in answers) (sym last) (is.counted (subst (λ n. n + stores_in answers < 2 ^ 64) (sym first) room)));
+      lasts = record {
+        clean = λ h. clean_before (is.lasts.clean (clean_after h));
+        goes_on = λ w earlier said tidy k. keep_handed after after_below up w _ _ (is.lasts.goes_on w earlier said (clean_after tidy) (keep_handed before_below before down w earlier said k));
+      };
     }

@@ -1,6 +1,13 @@
-ghost use Rattle.std.specs.{Duration.{as_nanos}, Prelude.{◌≡◌, ◌⊎◌, ◌+◌, ◌*◌, [], IfErr, IfOk, IsSomeAnd, List, OnErr, OnOk, option_map}};
+ghost use Rattle.std.specs.{Duration.{as_nanos}, Prelude.{◌≡◌, ◌⊎◌, ◌+◌, ◌*◌, [], IfErr, IfOk, IfSome, IsSomeAnd, List, OnErr, OnOk, option_map}};
 ghost use Rattle.plant_books.specs.Books.{WasHonest};
 ghost use Rattle.plant_model.specs.declared.{call.Call.{Call}, reply.Answer.{Answer}};
+ghost use Rattle.sqlite_store.specs.FileStore.{view};
+ghost use Rattle.sqlite_trees.specs.View.{IsClean};
+ghost use Rattle.sqlite_wal.specs.Files.{image_at};
+ghost use Rattle.plant_books.specs.Contents.{Content};
+ghost use Rattle.plant_model.specs.Worlds.{IsLegalWorld, World};
+ghost use Rattle.plant_office.specs.Served.{Holds};
+ghost use Rattle.plant_server.specs.{Crashes.{LeavesOutcomes}, Files.{HoldBooks}};
 ghost use Rattle.plant_server.specs.Statuses.{IsFollowed, IsOfMigration, IsOfPort, HasServed, IsStreamed, Whatever};
 ghost use Rattle.plant_server.specs.declared.statuses.ExitStatus.TheVariants.{NoBooks};
 ghost use Rattle.plant_wire.specs.Over.{RanOn};
@@ -8,6 +15,7 @@ ghost use Rattle.plant_server.specs.Statuses as statuses;
 
 use crate::books::in_memory;
 use crate::files::{close_file, in_file};
+use crate::left::leave;
 use crate::migrations::migrate_file;
 use crate::sockets::Port;
 use crate::statuses::ExitStatus;
@@ -273,6 +281,36 @@ fn serve_opened<S: Alter + Drop, I: Inlet, O: Outlet + Write, E: Write>(
 fn close_and_say<S: Start>(books: Tables<FileStore<FileFrom<S>>>, errors: &mut impl Write) {
     if close_file(books).is_err() {
         say(errors, b"store: log not copied\n");
+    }
+}
+
+/// Serves the books of a file, and gives the status and the store as serving left it. Where the file held the rows of a world,
+/// and the disk has returned what was written, each image that a crash may leave of the files now holds books: with the calls
+/// whose callers were told that they were made, or with these and one that was answered by a fault. The same is true at each
+/// moment of the serving, read as the end of the one that fails from then on.
+pub fn serve_file<S: Start, I: Inlet, O: Outlet + Write, E: Write>(
+    rt: &HostRuntime,
+    path: &str,
+    admin: Person,
+    service: Option<Service>,
+    inlet: &mut I,
+    outlet: &mut O,
+    errors: &mut E,
+    start: S,
+) -> (ExitStatus, Option<FileStore<FileFrom<S>>>)
+    ensures crash { (m : Content) → HoldBooks (image_at S.Start) m → m.admin ≡ admin
+        → (w : World) → IsLegalWorld w → Holds m w
+        → IfSome result.1 (λ store. IsClean (view store)
+        → HasServed (LeavesOutcomes store w) service
+        (I.remaining inlet.old) (I.remaining inlet.new)
+        (O.written outlet.old) (O.written outlet.new) result.0) }
+{
+    match in_file(rt, path, admin, start) {
+        Ok(books) => {
+            let (status, served) = serve_books(rt, books, service, inlet, outlet, errors);
+            (status, Some(leave(served)))
+        }
+        Err(fault) => (report_unopened(errors, &fault), None),
     }
 }
 

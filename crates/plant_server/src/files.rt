@@ -6,7 +6,7 @@ ghost use Rattle.sqlite.specs.{State.{HasCleanDisk}, declared.error.Error.{Error
 ghost use Rattle.sqlite_store.specs.FileStore.{view};
 ghost use Rattle.sqlite_wal.specs.Files.{image_at};
 ghost use Rattle.plant_books.specs.Contents.{Content};
-ghost use Rattle.plant_server.specs.Files.{HoldBooks, HoldDatabase};
+ghost use Rattle.plant_server.specs.{Crashes.{LeavesAlike}, Files.{HoldBooks, HoldDatabase}};
 ghost use Rattle.plant_store.specs.{Changes.{IsHonest}, Keeping.{Represents}, Opening.{IsThisOffice}, Reading.{HasNoTransaction}};
 ghost use Rattle.plant_server.specs.Files as files;
 
@@ -66,6 +66,8 @@ fn open_file<S: Start>(
     ensures own { IfOk result (λ books. (books.0.1 ≡ admin) × (books.1 ≡ 0)) }
     ensures kept { (m : Content) → HoldBooks (image_at S.Start) m
         → IfOk result (λ books. Represents (file_state books.0.0) m) }
+    ensures crash { (m : Content) → HoldBooks (image_at S.Start) m
+        → IfOk result (λ books. LeavesAlike (file_state books.0.0) m) }
     ensures office { (db : Database) → HoldDatabase (image_at S.Start) db
         → IfOk result (λ books. IsHonest (file_state books.0.0) → IsThisOffice admin db) }
 {
@@ -177,6 +179,8 @@ pub fn in_file<S: Start>(
     ensures own { IfOk result (λ books. (books.0.1 ≡ admin) × (books.1 ≡ 0)) }
     ensures kept { (m : Content) → HoldBooks (image_at S.Start) m
         → IfOk result (λ books. Represents (file_state books.0.0) m) }
+    ensures crash { (m : Content) → HoldBooks (image_at S.Start) m
+        → IfOk result (λ books. LeavesAlike (file_state books.0.0) m) }
     ensures office { (db : Database) → HoldDatabase (image_at S.Start) db
         → IfOk result (λ books. IsHonest (file_state books.0.0) → IsThisOffice admin db) }
 {

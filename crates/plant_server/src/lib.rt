@@ -5,11 +5,12 @@
 mod books;
 mod commands;
 mod files;
+mod left;
 mod migrations;
 mod sockets;
 mod statuses;
 
-pub use commands::command;
+pub use commands::{command, serve_file};
 pub use plant_connections::{Listener, serve_connections};
 pub use sockets::Port;
 pub use statuses::ExitStatus;

@@ -1,6 +1,9 @@
 -- What was only read: by one query that writes nothing, and by reads one after another.
 use Rattle.std.proofs.Common.{◌≡◌, List, ℕ, refl, sym, subst, ◌∙◌}
-use Rattle.sqlite.{specs.{Effect.{Database}, Held.{Held, state}, Listing.{understood}, Schema.{Schema}, State.{State}}, proofs.Callers.{IsPlain}}
+use Rattle.sqlite.{specs.{Effect.{Database}, Held.{Held, state}, Listing.{understood}, Schema.{Schema}, State.{CommitsShowing, State, Survives}}, proofs.Callers.{IsPlain}}
+use Rattle.sqlite.proofs.StateLemmas.{survives_then, survives_weaker}
+use Rattle.sqlite_value.specs.Order.{Row}
+use Rattle.plant_store.proofs.PlainAnywhere.{never_commits_anywhere}
 use Rattle.sqlite_trees.specs.declared.store.Store.{Ghosts}
 use Rattle.plant_books.specs.Contents.{Content}
 use Rattle.plant_columns.specs.Tables.{AreBooks, books_schema}
@@ -14,21 +17,29 @@ reads_then {AreIts} {first} {mid} {last} one two = record {
       let e = one.same (two.honest honest) are in
       two.same honest (subst AreIts (sym e) are) ∙ e;
   honest = λ honest. one.honest (two.honest honest);
+  quiet = survives_then first mid last (λ _. ⊥) (λ _. ⊥) (λ _. ⊥) (λ _ db none. none) (λ _ db none. none) one.quiet two.quiet;
 }
 
 -- and has what it had
 pub keeps_read : {old new : State} (m : Content) → Represents old m → OnlyReads old new → Represents new m
 keeps_read {old} {new} m keeps it honest = let k = keeps (it.honest honest) in keeps_same old new m k (it.same honest k.books)
 
+-- a query that is plain under some schema commits nothing
+asks_nothing : (schema : Schema) (text : List ℕ) → IsPlain (understood schema text) → (params : Row) (before after : State) → Survives before after (CommitsShowing text params before) → Survives before after (λ _. ⊥)
+asks_nothing schema text plain params before after shows =
+    survives_weaker before after (CommitsShowing text params before) (λ _. ⊥) (λ _ db commits. never_commits_anywhere schema text plain params before db commits) shows
+
 -- a plain query only reads the books
 pub reads_plain : {before after : State} (text : List ℕ) → IsPlain (understood books_schema text) → (IsHonest after → (schema : Schema) → before.now.schema ≡ schema → IsPlain (understood schema text) → after.now ≡ before.now)
-    → (IsHonest after → IsHonest before) → OnlyReads before after
-reads_plain text plain same honest = record { same = λ tell books. same tell books_schema books.same_schema plain; honest = honest }
+    → (IsHonest after → IsHonest before) → (params : Row) → Survives before after (CommitsShowing text params before) → OnlyReads before after
+reads_plain {before} {after} text plain same honest params shows =
+    record { same = λ tell books. same tell books_schema books.same_schema plain; honest = honest; quiet = asks_nothing books_schema text plain params before after shows }
 
 -- and so of schema 1
 pub reads_plain_old : {before after : State} (text : List ℕ) → IsPlain (understood old_books_schema text) → (IsHonest after → (schema : Schema) → before.now.schema ≡ schema → IsPlain (understood schema text) → after.now ≡ before.now)
-    → (IsHonest after → IsHonest before) → OnlyReadsOld before after
-reads_plain_old text plain same honest = record { same = λ tell books. same tell old_books_schema books.same_schema plain; honest = honest }
+    → (IsHonest after → IsHonest before) → (params : Row) → Survives before after (CommitsShowing text params before) → OnlyReadsOld before after
+reads_plain_old {before} {after} text plain same honest params shows =
+    record { same = λ tell books. same tell old_books_schema books.same_schema plain; honest = honest; quiet = asks_nothing old_books_schema text plain params before after shows }
 
 -- the books stand as in an earlier state
 pub record Still (old s : State) : Type 0 where

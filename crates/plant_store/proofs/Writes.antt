@@ -2,7 +2,7 @@
 use Rattle.std.proofs.Common.{Err, OnOk, Result, ◌≡◌, ◌≢◌, ◌⊎◌, inl, inr, ℕ, ◌/◌, length, List, [], ◌∷◌, ◌++◌, Ok, refl, sym, ap, ◌∙◌, subst, arith}
 use Rattle.std.proofs.Common.{nat_cmp, false}
 use Rattle.std.proofs.lemmas.List.Sums.{fold-append}
-use Rattle.sqlite.specs.{Effect.{Database, value_rows}, Rows.{stamped}, State.{State, Executes}}
+use Rattle.sqlite.specs.{Effect.{Database, IsDatabase, value_rows}, Rows.{stamped}, State.{State, Executes}}
 use Rattle.sqlite_value.specs.{Keys.{first_key}, declared.value.Value.TheVariants.{Null, Text}}
 use Rattle.plant_alarm.specs.declared.event.Event.{Event}
 use Rattle.plant_import.specs.Numbers.{event_number, with_events}
@@ -15,6 +15,7 @@ use Rattle.plant_columns.specs.{Codes.{role}, Shape.{rows_in, row_in, table_in}}
 use Rattle.plant_columns.specs.declared.tables.TableKind.{TableKind, TheVariants.{Units, Grants, Alarms, Shelves, Bands, Cells, Events, Records}}
 use Rattle.plant_columns.specs.declared.tables.TableKind.TheVariants.{Changes}
 use Rattle.plant_columns.specs.Tables.{AreBooks, AreSeen, KeyOf, RowOf, books_schema, office_table, own_key, rows_at, rows_seen, shape, unit_shape}
+use Rattle.sqlite.proofs.Callers.{runs_as}
 use Rattle.plant_columns.proofs.public.{Changes.{HasNoReferences}, Family.{Edits, edits, kept_at, same_table}, Inserted.{adds_row}}
 use Rattle.plant_columns.proofs.public.{ShapeLaws.{all_listed, good, listed}, Shapes.{put_changes, remove_changes, removes_row, rises}}
 use Rattle.sqlite.specs.{Held.{Held, state}, Values.{bound}, declared.error.Error.{Error}}
@@ -39,12 +40,13 @@ office_apart i e = omega arith
 
 pub edits_apply : (i : TableKind) (u : Name) (change : List (RowOf i) → List (RowOf i)) (cs : List RowEdit) (old new : Database) → Edits RowOf KeyOf shape books_schema i u change old new
     → ((rows : UnitRows) → AreSeen u old rows → rows_at i (changed_by cs rows) ≡ change (rows_at i rows)) → ((rows : UnitRows) (j : TableKind) → j ≢ i → rows_at j (changed_by cs rows) ≡ rows_at j rows)
-    → Applies u cs old new
-edits_apply i u change cs old new it here elsewhere = record {
+    → (IsDatabase old → IsDatabase new) → Applies u cs old new
+edits_apply i u change cs old new it here elsewhere database = record {
   books = it.tables;
   mine = λ rows seen j. one rows seen j (same_table RowOf KeyOf shape books_schema all_listed i j);
   others = λ v apart j. other v apart j (same_table RowOf KeyOf shape books_schema all_listed i j);
   office = kept_at books_schema (shape i).tree old.trees new.trees it.others 0 office_table refl (office_apart i);
+  database = database;
 }
   where
     one : (rows : UnitRows) → AreSeen u old rows → (j : TableKind) → (j ≡ i) ⊎ (j ≢ i) → rows_seen u new.trees j ≡ rows_at j (changed_by cs rows)
@@ -66,6 +68,10 @@ put_in_table : (i : TableKind) (u : Name) (x : RowOf i) (old new : State) → Ar
 put_in_table i u x old new books count h =
     edits RowOf KeyOf shape books_schema all_listed i u _ old.now new.now books (put_changes (shape i) (good i) books_schema u x old.now new.now
     (adds_row (shape i) (good i) books_schema (listed i) free (put_text i) (put_terms i) (put_width i) (puts i).is (puts i).plain u x (values i u x) old new books.same_schema (books.tidy i).are count h) (books.tidy i))
+
+-- which leaves a database
+put_database : (i : TableKind) (u : Name) (x : RowOf i) (old new : State) → AreBooks old.now → (count : ℕ) → Executes (put_text i) (Text u ∷ (shape i).cells x) old new (Ok count) → IsDatabase new.now
+put_database i u x old new books count h = (runs_as (put_text i) (Text u ∷ (shape i).cells x) old new books_schema books.same_schema _ (puts i).is (puts i).plain count h).sound
 
 -- ---- a unit has one row of its own at most
 
@@ -102,12 +108,12 @@ away Changes xs rows Changes h = absurd (h refl)
 away i xs rows j h = refl
 
 -- a put into one table is the put of a unit
-pub edited : (i : TableKind) (u : Name) (x : RowOf i) (old new : Database) → AreBooks old → Edits RowOf KeyOf shape books_schema i u (put_row (shape i).order (shape i).key x) old new → Applies u (Put (as_row i x) ∷ []) old new
-edited Units u x old new books it =
+pub edited : (i : TableKind) (u : Name) (x : RowOf i) (old new : Database) → AreBooks old → Edits RowOf KeyOf shape books_schema i u (put_row (shape i).order (shape i).key x) old new → (IsDatabase old → IsDatabase new) → Applies u (Put (as_row i x) ∷ []) old new
+edited Units u x old new books it database =
     edits_apply Units u (put_row nat_cmp own_key x) (Put (UnitPut x) ∷ []) old new it
-    (λ rows seen. sym (one_at_most x rows.units (subst (IsInOrder nat_cmp own_key) (seen Units) (rises unit_shape (good Units) u (old.trees 1) (books.tidy Units))))) (λ rows. away Units (x ∷ []) rows)
-edited i u x old new books it =
-    edits_apply i u (put_row (shape i).order (shape i).key x) (Put (as_row i x) ∷ []) old new it (λ rows seen. refl) (λ rows. away i (put_row (shape i).order (shape i).key x (rows_at i rows)) rows)
+    (λ rows seen. sym (one_at_most x rows.units (subst (IsInOrder nat_cmp own_key) (seen Units) (rises unit_shape (good Units) u (old.trees 1) (books.tidy Units))))) (λ rows. away Units (x ∷ []) rows) database
+edited i u x old new books it database =
+    edits_apply i u (put_row (shape i).order (shape i).key x) (Put (as_row i x) ∷ []) old new it (λ rows seen. refl) (λ rows. away i (put_row (shape i).order (shape i).key x (rows_at i rows)) rows) database
 
 -- the statement that puts a row as a new one puts it, if it succeeds
 abbrev pub PutsNew : TableKind → Type 1
@@ -118,7 +124,7 @@ pub put_applies : (i : TableKind) → PutsNew i
 put_applies i S V g before after u x cells said is books h =
     let old = state g before in
     let new = state g after in
-    on_ok said (λ it. edited i u x old.now new.now books (put_in_table i u x old new books it.0 it.1)) (rw is at h)
+    on_ok said (λ it. edited i u x old.now new.now books (put_in_table i u x old new books it.0 it.1) (λ _. put_database i u x old new books it.0 it.1)) (rw is at h)
 
 -- ---- the removes: a row of the key stands for the one that goes
 
@@ -136,6 +142,7 @@ remove_grant_applies u p r old new books count h =
     (edits RowOf KeyOf shape books_schema all_listed Grants u _ old.now new.now books (remove_changes (shape Grants) (good Grants) books_schema u (grant_with p r) old.now new.now
     (removes_row (shape Grants) (good Grants) books_schema free (listed Grants) remove_grant_text by_three remove_grant.is remove_grant.plain (Text u ∷ Text p ∷ role r ∷ []) u (grant_with p r) (λ row. refl) old new books.same_schema (books.tidy Grants).are count h) (books.tidy Grants)))
     (λ rows seen. refl) (λ rows. away Grants _ rows)
+    (λ _. (runs_as remove_grant_text (Text u ∷ Text p ∷ role r ∷ []) old new books_schema books.same_schema _ remove_grant.is remove_grant.plain count h).sound)
 
 pub remove_shelf_applies : (u a : Name) (old new : State) → AreBooks old.now → (count : ℕ) → Executes remove_shelf_text (Text u ∷ Text a ∷ []) old new (Ok count)
     → Applies u (Remove (ShelfKey a) ∷ []) old.now new.now
@@ -145,6 +152,7 @@ remove_shelf_applies u a old new books count h =
     (edits RowOf KeyOf shape books_schema all_listed Shelves u _ old.now new.now books (remove_changes (shape Shelves) (good Shelves) books_schema u (shelf_with a) old.now new.now
     (removes_row (shape Shelves) (good Shelves) books_schema free (listed Shelves) remove_shelf_text by_two remove_shelf.is remove_shelf.plain (Text u ∷ Text a ∷ []) u (shelf_with a) (λ row. refl) old new books.same_schema (books.tidy Shelves).are count h) (books.tidy Shelves)))
     (λ rows seen. refl) (λ rows. away Shelves _ rows)
+    (λ _. (runs_as remove_shelf_text (Text u ∷ Text a ∷ []) old new books_schema books.same_schema _ remove_shelf.is remove_shelf.plain count h).sound)
 
 pub shelf_removed : {S V : Type 0} (g : Ghosts S) (before after : Held S) (u a : Name) (cells : List ValueRef) (said : Result V Error) → bound cells ≡ Text u ∷ Text a ∷ [] → AreBooks (state g before).now
     → OnOk said ((count : ℕ) × Executes remove_shelf_text (bound cells) (state g before) (state g after) (Ok count)) → OnOk said (Applies u (Remove (ShelfKey a) ∷ []) (state g before).now (state g after).now)
@@ -157,7 +165,7 @@ changed_by-append [] ys rows = refl
 changed_by-append (x ∷ xs) ys rows = changed_by-append xs ys (changed_by (x ∷ []) rows)
 
 pub applies_none : (u : Name) (db : Database) → AreBooks db → Applies u [] db db
-applies_none u db books = record { books = books; mine = λ rows seen. seen; others = λ other apart i. refl; office = refl }
+applies_none u db books = record { books = books; mine = λ rows seen. seen; others = λ other apart i. refl; office = refl; database = λ h. h }
 
 pub applies_then : (u : Name) (xs ys : List RowEdit) (a b c : Database) → Applies u xs a b → Applies u ys b c → Applies u (xs ++ ys) a c
 applies_then u xs ys a b c p q = record {
@@ -165,6 +173,7 @@ applies_then u xs ys a b c p q = record {
   mine = λ rows seen. subst (AreSeen u c) (sym (changed_by-append xs ys rows)) (q.mine (changed_by xs rows) (p.mine rows seen));
   others = λ other apart i. q.others other apart i ∙ p.others other apart i;
   office = q.office ∙ p.office;
+  database = λ h. q.database (p.database h);
 }
 
 -- one event more
@@ -179,4 +188,5 @@ applies_event u xs e a b c p q = record {
       subst (λ (es : List Event). AreSeen u c (record rows { events = es })) (sym (with_one_more rows.events xs e)) (q.mine before (p.mine rows seen));
   others = λ other apart i. q.others other apart i ∙ p.others other apart i;
   office = q.office ∙ p.office;
+  database = λ h. q.database (p.database h);
 }

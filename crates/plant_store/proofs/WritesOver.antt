@@ -2,6 +2,7 @@
 use Rattle.std.specs.{FinMap.{nat_cmp-IsAntisymmetric}, Ordering.{ordering_then}}
 use Rattle.std.proofs.Common.{IfOk, Result, arith, ◌≡◌, ℕ, zero, suc, true, false, List, [], ◌∷◌, drop, Ok, refl, sym, ap, ◌∙◌, subst, is_eq, Ordering, Equal, true≢false, nat_eq}
 use Rattle.std.proofs.lemmas.Bool.{and_parts, Decides.{nat_tests}}
+use Rattle.sqlite.proofs.Callers.{runs_as}
 use Rattle.sqlite.specs.{Effect.{Database}, Held.{Held, state}, State.{State, Executes}, Term.{Term}, Values.{bound}, declared.error.Error.{Error}}
 use Rattle.sqlite_trees.specs.declared.store.Store.{Ghosts}
 use Rattle.sqlite_schema.specs.Rules.{agree}
@@ -50,6 +51,7 @@ none_written i text tests terms over u params old new books h =
     edits_apply i u (λ rows. rows) [] old.now new.now
     (edits RowOf KeyOf shape books_schema all_listed i u _ old.now new.now books (leaves (shape i) books_schema free (listed i) text tests terms over.is over.plain params old new books.same_schema h (books.tidy i) u))
     (λ rows seen. refl) (λ rows j other. refl)
+    (λ _. (runs_as text params old new books_schema books.same_schema _ over.is over.plain 0 h).sound)
 
 not_zero : (n : ℕ) → nat_eq (suc n) 0 ≡ false
 not_zero n = grind (arith, nat_tests)
@@ -68,6 +70,7 @@ puts_over i text tests terms over same shown S g before after u x cells said is 
     each : (count : ℕ) → Executes text (Text u ∷ (shape i).cells x) (state g before) (state g after) (Ok count) → Applies u (changes_written count (Put (as_row i x))) (state g before).now (state g after).now
     each zero done = none_written i text tests terms over u (Text u ∷ (shape i).cells x) (state g before) (state g after) books done
     each (suc n) done = edited i u x (state g before).now (state g after).now books (written_over i text tests terms over u x (same u x) (shown u x) (state g before) (state g after) books (suc n) (not_zero n) done)
+        (λ _. (runs_as text (Text u ∷ (shape i).cells x) (state g before) (state g after) books_schema books.same_schema _ over.is over.plain (suc n) done).sound)
 
 is_zero : (n : ℕ) → nat_eq n 0 ≡ true → n ≡ 0
 is_zero n e = grind (arith, nat_tests)

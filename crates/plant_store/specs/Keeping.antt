@@ -1,7 +1,7 @@
 -- What it is for a connection to keep a content of the books.
-use Rattle.std.specs.{FinMap.{contains_key}, Prelude.{Bool, List, [], false, true, ◌∷◌, ◌≡◌}}
-use Rattle.sqlite.specs.{Effect.{Database}, State.{State}}
-use Rattle.plant_books.specs.Contents.{Content, rows_in}
+use Rattle.std.specs.{FinMap.{contains_key}, Prelude.{Bool, IsTrue, List, [], false, true, ◌∷◌, ◌≡◌}}
+use Rattle.sqlite.specs.{Effect.{Database, IsDatabase}, State.{HasCleanDisk, State}, Tree.{Trees}}
+use Rattle.plant_books.specs.{Contents.{Content, rows_in}, Crashes.{Alike}}
 use Rattle.plant_store.specs.Changes.{IsHonest, IsOfficeOf}
 use Rattle.plant_columns.specs.Tables.{AreBooks, AreSeen}
 use Rattle.plant_types.specs.Names.{Name}
@@ -25,3 +25,20 @@ HasContent s m = HaveRows m s.now
 -- the same of a connection that is honest
 abbrev pub Represents : State → Content → Type 0
 Represents s m = IsHonest s → HasContent s m
+
+-- a database of the engine that has the rows of a content
+pub record AreBooksOf (m : Content) (d : Database) : Type 0 where
+  pub database : IsDatabase d
+  pub rows : HaveRows m d
+
+-- the next opening after a crash at this moment may find books with this content
+abbrev pub LeavesContent : State → Content → Type 0
+LeavesContent s m = (d : Database) × s.may_leave d.trees × AreBooksOf m d
+
+-- whatever it finds is books
+abbrev pub LeavesBooks : State → Type 0
+LeavesBooks s = (db : Trees) → s.may_leave db → (m : Content) × (d : Database) × (d.trees ≡ db) × AreBooksOf m d
+
+-- where the store was open, and on a clean disk, a crash leaves books that are alike to this content, and nothing else
+abbrev pub LeavesAlike : State → State → Content → Type 0
+LeavesAlike before after m = HasCleanDisk after → (HasCleanDisk before → IsTrue before.is_open) → LeavesBooks after × ((x : Content) → LeavesContent after x → Alike x m)

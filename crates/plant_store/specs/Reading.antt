@@ -1,7 +1,7 @@
 -- What a read returns, and what it leaves of the tables. Each word takes the connection before and after. A disk is clean
 -- if it has returned what was written, and honest if besides no failure has shut the database.
 use Rattle.std.specs.Prelude.{IfOk, List, Result, false, filter, map, ℕ, ◌≡◌}
-use Rattle.sqlite.specs.{Held.{Held, state}, Listing.{understood}, Schema.{Schema}, State.{HasCleanDisk, Shown as IsShown}, Tree.{Trees}}
+use Rattle.sqlite.specs.{Held.{Held, state}, Listing.{understood}, Schema.{Schema}, State.{CommitsShowing, HasCleanDisk, Shown as IsShown, Survives}, Tree.{Trees}}
 use Rattle.sqlite.{specs.Values.{bound}, proofs.Callers.{IsPlain}}
 use Rattle.sqlite_trees.specs.declared.store.Store.{Ghosts}
 use Rattle.sqlite_value.specs.{Order.{Row as Line}, declared.value.ValueRef.{ValueRef}}
@@ -33,6 +33,10 @@ abbrev pub SameIfPlain : {S : Type 0} → Ghosts S → Held S → Held S → Lis
 SameIfPlain g before after sql =
     IsHonest (state g after) → (schema : Schema) → (state g before).now.schema ≡ schema → IsPlain (understood schema sql)
     → (state g after).now ≡ (state g before).now
+
+-- a crash leaves what it left before, or what the query commits
+abbrev pub CrashesAsShown : {S : Type 0} → Ghosts S → Held S → Held S → List ℕ → List ValueRef → Type 0
+CrashesAsShown g before after sql cells = Survives (state g before) (state g after) (CommitsShowing sql (bound cells) (state g before))
 
 -- on a clean disk the lines are those that the query shows
 abbrev pub Asks : {S A E : Type 0} → Ghosts S → Held S → Held S → List ℕ → List ValueRef → Result A E → (A → List Line) → Type 0

@@ -1,6 +1,6 @@
 -- What a statement or several write, within a transaction and as a transaction.
 use Rattle.std.specs.Prelude.{IfOk, IsTrue, List, Ok, OnErr, OnOk, Result, ℕ, ◌≡◌}
-use Rattle.sqlite.specs.{Effect.{Database}, Held.{Held, state}, State.{Executes, HasCleanDisk, KeepsCommit, Survives}, Values.{bound}}
+use Rattle.sqlite.specs.{Effect.{Database, IsDatabase}, Held.{Held, state}, State.{Executes, HasCleanDisk, KeepsCommit, State, Survives}, Tree.{Trees}, Values.{bound}}
 use Rattle.sqlite.specs.declared.{error.Error.{Error}, transaction.Transaction.{Transaction}}
 use Rattle.sqlite_trees.specs.declared.store.Store.{Ghosts}
 use Rattle.sqlite_value.specs.declared.value.ValueRef.{ValueRef}
@@ -72,6 +72,36 @@ CommitsNothing g before after = HasCleanDisk (state g after.conn.now) → KeepsC
 -- a crash loses what was written
 abbrev pub CrashLoses : {S : Type 0} → Ghosts S → Transaction S → Transaction S → Type 0
 CrashLoses g before after = Survives (state g before.conn.now) (state g after.conn.now) (λ _. ⊥)
+
+-- ---- of a connection before and after, whatever a crash makes of it
+
+-- these trees are the books with the changes of the unit
+abbrev pub AreChanged : State → Name → List RowEdit → Trees → Type 0
+AreChanged s unit changes db = AreBooks s.now → IsDatabase s.now → (d : Database) × (d.trees ≡ db) × IsDatabase d × Applies unit changes s.now d
+
+-- the same, and the connection was honest
+abbrev pub AreChangedHonestly : State → Name → List RowEdit → Trees → Type 0
+AreChangedHonestly s unit changes db = IsHonest s × IsDatabase s.now × AreChanged s unit changes db
+
+-- a crash leaves what it left before, or the books with the changes
+abbrev pub LeavesChanged : {S : Type 0} → Ghosts S → Held S → Held S → Name → List RowEdit → Type 0
+LeavesChanged g before after unit changes = Survives (state g before) (state g after) (AreChanged (state g before) unit changes)
+
+-- the same, and the latter only if the connection was honest
+abbrev pub LeavesChangedHonestly : {S : Type 0} → Ghosts S → Held S → Held S → Name → List RowEdit → Type 0
+LeavesChangedHonestly g before after unit changes = Survives (state g before) (state g after) (AreChangedHonestly (state g before) unit changes)
+
+-- a crash leaves what it left before
+abbrev pub LeavesNothingNew : {S : Type 0} → Ghosts S → Held S → Held S → Type 0
+LeavesNothingNew g before after = Survives (state g before) (state g after) (λ _. ⊥)
+
+-- after a success on a clean disk the store is open
+abbrev pub IsLeftOpen : {S V E : Type 0} → Ghosts S → Held S → Result V E → Type 0
+IsLeftOpen g after said = HasCleanDisk (state g after) → OnOk said (IsTrue (state g after).is_open)
+
+-- after a success on a clean disk the store was open and is, and held a database
+abbrev pub WasOpen : {S V E : Type 0} → Ghosts S → Held S → Held S → Result V E → Type 0
+WasOpen g before after said = HasCleanDisk (state g after) → OnOk said (IsTrue (state g before).is_open × IsTrue (state g after).is_open × IsDatabase (state g before).now)
 
 -- ---- of a connection before and after, on an honest disk
 

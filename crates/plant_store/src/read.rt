@@ -3,7 +3,7 @@
 ghost use Rattle.plant_books.specs.Books.{WasHonest};
 ghost use Rattle.plant_columns.specs.declared.tables.TableKind.TheVariants.{Alarms, Shelves};
 ghost use Rattle.plant_store.specs.Parts.{count_seen, grants_of, last_change_seen};
-ghost use Rattle.plant_store.specs.Reading.{Asks, Decodes, HasNoTransaction, IsHonestIn, Loads, LoadsNumber, LoadsTag, ReadsBooks, SameIfPlain};
+ghost use Rattle.plant_store.specs.Reading.{Asks, CrashesAsShown, Decodes, HasNoTransaction, IsHonestIn, Loads, LoadsNumber, LoadsTag, ReadsBooks, SameIfPlain};
 
 use crate::stored::{Numbered, Stored, Tagged};
 use plant_columns::decode::{Shown, read_all, wide};
@@ -24,6 +24,7 @@ pub fn ask<S: Alter>(
     ensures mode { HasNoTransaction conn.new }
     ensures rows { Asks S.Store conn.old conn.new sql.now cells.now result (λ rows. rows.items) }
     ensures same { SameIfPlain S.Store conn.old conn.new sql.now }
+    ensures shows { CrashesAsShown S.Store conn.old conn.new sql.now cells.now }
     ensures honest { WasHonest (IsHonestIn S.Store) conn.old conn.new }
 {
     // Tells the proof that no transaction is open; the value is not used.
@@ -42,6 +43,7 @@ pub fn read_rows<T: Shown, S: Alter>(
     ensures mode { HasNoTransaction conn.new }
     ensures rows { Decodes S.Store conn.old conn.new sql.now cells.now T.width T.cells result }
     ensures same { SameIfPlain S.Store conn.old conn.new sql.now }
+    ensures shows { CrashesAsShown S.Store conn.old conn.new sql.now cells.now }
     ensures honest { WasHonest (IsHonestIn S.Store) conn.old conn.new }
 {
     let rows = ask(conn, sql, cells)?;

@@ -1,9 +1,9 @@
 //! The books of an office, kept in the tables of a connection.
 
 ghost use Rattle.std.specs.Prelude.{◌≡◌, ◌≢◌, ◌↔◌, ℕ, false, IsTrue, IsErrAnd, IfOk, IfErr};
-ghost use Rattle.sqlite.specs.Held.{state};
+ghost use Rattle.sqlite.specs.{Held.{state}, State.{HasCleanDisk}};
 ghost use Rattle.plant_books.specs.{Books.{WasHonest}, Contents.{Content, no_units}, Counting.{Counts, CountsFault}};
-ghost use Rattle.plant_store.specs.{Changes.{IsHonest}, Counting.{Names, SaysAgain}, Keeping.{Represents}};
+ghost use Rattle.plant_store.specs.{Changes.{IsHonest}, Counting.{Names, SaysAgain}, Keeping.{LeavesAlike, LeavesBooks, LeavesContent, Represents}};
 ghost use Rattle.plant_store.specs.Opened.{HasNoOffice, IsAnothers, KeepsAll, KeepsIfErr, KeepsIfOk, WasOffice};
 ghost use Rattle.plant_store.specs.{Reading.{HasNoTransaction, IsHonestIn}, Writing.{SameDatabase}};
 ghost use Rattle.plant_store.specs.declared.tables.StoreFault.TheVariants.{NotThisStore};
@@ -156,6 +156,8 @@ impl<S: Alter> Tables<S> {
     ) -> Result<Tables<S>, Unopened<S>>
         requires { HasNoTransaction conn }
         ensures kept { KeepsIfOk S.Store conn result (λ t. t.0.0) }
+        ensures crash { (m : Content) → Represents (state S.Store conn) m
+            → IfOk result (λ t. LeavesAlike (state S.Store conn) (state S.Store t.0.0) m) }
         ensures fresh { IfOk result (λ t. (t.0.1 ≡ admin) × (t.1 ≡ 0)) }
         ensures honest { IfOk result (λ t. WasHonest (IsHonestIn S.Store) conn t.0.0) }
         ensures office { IfOk result (λ t. WasOffice S.Store conn t.0.0 schema_no admin) }
@@ -166,6 +168,9 @@ impl<S: Alter> Tables<S> {
         ensures left { KeepsIfErr S.Store conn result (λ e. e.conn) }
         ensures back { IfErr result (λ e. (e.admin ≡ admin) × HasNoTransaction e.conn) }
     {
+        // Tell the proof that there is a database, and that all of it is committed; the values are not used.
+        let _settled = conn.is_autocommit();
+        let _live = conn.schema();
         let fault = match is_office_of(&mut conn, SCHEMA, &admin) {
             Ok(true) => return Ok(Tables::of(alloc, conn, admin)),
             Ok(false) => StoreFault::NotThisStore,
@@ -216,6 +221,17 @@ impl<S: Alter> Books for Tables<S> {
     ghost represents = { λ t m. (t.0.1 ≡ m.admin) × Represents (state S.Store t.0.0) m };
 
     ghost stores = { λ t. t.1 };
+
+    ghost is_clean = { λ t. HasCleanDisk (state S.Store t.0.0) };
+
+    ghost may_leave = { λ t m. LeavesContent (state S.Store t.0.0) m };
+
+    ghost leaves_books = { λ t. LeavesBooks (state S.Store t.0.0) };
+
+    fn settle(&self) {
+        let _settled = self.conn.is_autocommit();
+        let _live = self.conn.schema();
+    }
 
     fn administrator(&self) -> &Person {
         &self.admin

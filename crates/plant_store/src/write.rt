@@ -5,7 +5,7 @@ ghost use Rattle.plant_books.specs.Books.{WasHonest};
 ghost use Rattle.plant_model.specs.declared.rows.Key.TheVariants.{Grant as GrantKey, Shelf as ShelfKey};
 ghost use Rattle.plant_model.specs.declared.rows.RowEdit.TheVariants.{Put, PutEvents, Remove};
 ghost use Rattle.plant_store.specs.Reading.{HasNoTransaction, IsHonestIn};
-ghost use Rattle.plant_store.specs.Writing.{Commits, CommitsNothing, CrashLoses, IsOpenIfOk, RunsCounting, RunsStatement, SameOnErr, SameReference, StaysOpen, Updates, Writes, WritesOpen};
+ghost use Rattle.plant_store.specs.Writing.{Commits, CommitsNothing, CrashLoses, IsLeftOpen, IsOpenIfOk, LeavesChanged, LeavesChangedHonestly, LeavesNothingNew, RunsCounting, RunsStatement, SameDatabase, SameOnErr, SameReference, StaysOpen, Updates, WasOpen, Writes, WritesOpen};
 
 use crate::stored::Stored;
 use plant_alarm::Event;
@@ -211,7 +211,46 @@ fn change_all<S: Alter>(
     Ok(())
 }
 
-/// Makes all the changes of one unit, or none.
+/// Fails where a failure has shut the store, so that nothing is written to one that is shut. It changes nothing.
+fn find_open<S: Alter>(conn: &mut Connection<S>) -> Result<(), Error>
+    requires { HasNoTransaction conn.old }
+    ensures mode { HasNoTransaction conn.new }
+    ensures same { SameDatabase S.Store conn.old conn.new }
+    ensures honest { WasHonest (IsHonestIn S.Store) conn.old conn.new }
+    ensures open { WasOpen S.Store conn.old conn.new result }
+    ensures survives { LeavesNothingNew S.Store conn.old conn.new }
+{
+    // Tell the proof that no transaction is open, and that there is a database; the values are not used.
+    let _settled = conn.is_autocommit();
+    let _live = conn.schema();
+    conn.prepare("SELECT id FROM office")?;
+    Ok(())
+}
+
+/// Makes all the changes of one unit, or none, in one transaction.
+fn commit_all<S: Alter>(
+    conn: &mut Connection<S>,
+    unit: &UnitCode,
+    changes: &[RowEdit],
+    seen: Option<&UnitRows>,
+) -> Result<(), Error>
+    requires { HasNoTransaction conn.old }
+    ensures mode { HasNoTransaction conn.new }
+    ensures made { Commits S.Store conn.old conn.new unit.now changes.now result }
+    ensures unchanged { SameOnErr S.Store conn.old conn.new result }
+    ensures honest { WasHonest (IsHonestIn S.Store) conn.old conn.new }
+    ensures open { IsLeftOpen S.Store conn.new result }
+    ensures survives { LeavesChanged S.Store conn.old conn.new unit.now changes.now }
+{
+    // Tells the proof that no transaction is open; the value is not used.
+    let _settled = conn.is_autocommit();
+    let mut tx = conn.transaction();
+    change_all(&mut tx, unit, changes, seen)?;
+    tx.commit()?;
+    Ok(())
+}
+
+/// Makes all the changes of one unit, or none. A crash, at any moment, leaves all of them or none, and after a success all.
 pub fn apply<S: Alter>(
     conn: &mut Connection<S>,
     unit: &UnitCode,
@@ -223,11 +262,9 @@ pub fn apply<S: Alter>(
     ensures made { Commits S.Store conn.old conn.new unit.now changes.now result }
     ensures unchanged { SameOnErr S.Store conn.old conn.new result }
     ensures honest { WasHonest (IsHonestIn S.Store) conn.old conn.new }
+    ensures open { IsLeftOpen S.Store conn.new result }
+    ensures survives { LeavesChangedHonestly S.Store conn.old conn.new unit.now changes.now }
 {
-    // Tells the proof that no transaction is open; the value is not used.
-    let _settled = conn.is_autocommit();
-    let mut tx = conn.transaction();
-    change_all(&mut tx, unit, changes, seen)?;
-    tx.commit()?;
-    Ok(())
+    find_open(conn)?;
+    commit_all(conn, unit, changes, seen)
 }

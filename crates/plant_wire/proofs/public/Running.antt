@@ -7,6 +7,7 @@ use Rattle.plant_types.specs.declared.fault.Fault.TheVariants.{Memory, Store}
 use Rattle.plant_office.specs.Answers.{CountsAnswer, IfSaid, OnFault}
 use Rattle.plant_office.specs.{Runs.{is_store, stores_in, world_after}, Served.{Holds, IsServed}}
 use Rattle.plant_office.proofs.public.Running.{run-append, run_more, run_none}
+use Rattle.plant_office.{specs.Keep.{Lands, Standing}, proofs.public.Keeping.{lasts_none, lasts_one, lasts_then}}
 use Rattle.plant_wire.specs.Ran.{Ran}
 
 -- the count of answers Store
@@ -37,34 +38,37 @@ counted_both before between after xs ys first second room =
     omega (arith, both, mid, end)
 
 -- no call was made
-pub ran_none : (held : Content → Type 0) (premise : Type 0) (count : ℕ) → Ran held premise held count count [] []
-ran_none held premise count = record {
-  run = λ m h w legal holds t. run_none w m held h holds legal;
+pub ran_none : (books : Standing) (count : ℕ) → Ran books books count count [] []
+ran_none books count = record {
+  run = λ m h w legal holds t. run_none w m books.held h holds legal;
   counted = λ room. let none : stores_in [] ≡ 0 = refl in omega (arith, none);
+  lasts = lasts_none books;
 }
 
 -- one call was
-pub ran_one : (held : Content → Type 0) (premise : Type 0) (left : Content → Type 0) (before after : ℕ) (call : Call) (answer : Answer)
-    → ((m : Content) → held m → (w : World) → IsLegalWorld w → Holds m w → premise → IfSaid answer (λ a. IsServed w call a left))
-    → ((m : Content) → held m → OnFault answer (left m)) → CountsAnswer before after answer → Ran held premise left before after (call ∷ []) (answer ∷ [])
-ran_one held premise left before after call answer served fault counts =
+pub ran_one : (before after : Standing) (count counted_to : ℕ) (call : Call) (answer : Answer)
+    → ((m : Content) → before.held m → (w : World) → IsLegalWorld w → Holds m w → after.honest → IfSaid answer (λ a. IsServed w call a after.held))
+    → ((m : Content) → before.held m → OnFault answer (after.held m)) → CountsAnswer count counted_to answer → Lands call answer before after → Ran before after count counted_to (call ∷ []) (answer ∷ [])
+ran_one before after count counted_to call answer served fault counts lands =
     record {
       run = λ m h w legal holds t.
-          run_more w [] [] call answer held left (run_none w m held h holds legal) (λ m' h' w' legal' holds'. served m' h' w' legal' holds' t) fault;
-      counted = counted_one before after answer counts;
+          run_more w [] [] call answer before.held after.held (run_none w m before.held h holds legal) (λ m' h' w' legal' holds'. served m' h' w' legal' holds' t) fault;
+      counted = counted_one count counted_to answer counts;
+      lasts = lasts_one before after call answer lands;
     }
 
 -- what two steps did, one after the other
 pub record Joins (first second both : List Call → List Answer → Type 0) : Type 0 where
   pub join : (cs ds : List Call) (xs bs : List Answer) → first cs xs → second ds bs → both (cs ++ ds) (xs ++ bs)
 
-pub ran_joins : (held mid left : Content → Type 0) (premise_first premise : Type 0) (before between after : ℕ) → (premise → premise_first)
-    → Joins (Ran held premise_first mid before between) (Ran mid premise left between after) (Ran held premise left before after)
-ran_joins held mid left premise_first premise before between after honest = record {
+pub ran_joins : (before mid after : Standing) (count between counted_to : ℕ) → (after.honest → mid.honest)
+    → Joins (Ran before mid count between) (Ran mid after between counted_to) (Ran before after count counted_to)
+ran_joins before mid after count between counted_to honest = record {
   join = λ cs ds xs bs first second. record {
     run = λ m h w legal holds t.
         let a = first.run m h w legal holds (honest t) in
-        run-append w cs ds xs bs mid left a (second.run a.after a.left_it (world_after w cs xs) a.legal a.holds t);
-    counted = counted_both before between after xs bs first.counted second.counted;
+        run-append w cs ds xs bs mid.held after.held a (second.run a.after a.left_it (world_after w cs xs) a.legal a.holds t);
+    counted = counted_both count between counted_to xs bs first.counted second.counted;
+    lasts = lasts_then before mid after cs ds xs bs first.lasts second.lasts;
   };
 }

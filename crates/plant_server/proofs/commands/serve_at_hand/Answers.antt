@@ -4,6 +4,9 @@ use Rattle.plant_server.proofs.commands.serve_at_hand.Goals as goal
 pub returns : goal.returns
 returns g c =
     served _ _
-    (ran_below _ _ _ _ _ _ _ _ _ _ c.new-mirror.ensures.represents c.into_books-below.ensures.honest c.into_books-below.ensures.represents
+    (ran_below _ _ _ _ _ _ _ _
+    (record { held = c.new-mirror.ensures.represents; leaves = c.new-mirror.ensures.leaves; sound = c.new-mirror.ensures.sound })
+    (record { held = c.into_books-below.ensures.represents; leaves = c.into_books-below.ensures.leaves; sound = c.into_books-below.ensures.sound })
+    c.into_books-below.ensures.honest c.into_books-below.ensures.clean c.new-mirror.ensures.clean
     c.new-mirror.ensures.stores c.into_books-below.ensures.stores)
     _ _ c.args.service _ _ _ c.serve_over-status.ensures

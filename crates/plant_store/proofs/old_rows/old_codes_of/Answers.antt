@@ -9,4 +9,4 @@ returns-clause-rows g c clean books =
     if_ok c.read_rows.result (λ lines it. old_codes_read old new books it.0 it.1.0 lines it.1.1) (c.read_rows.ensures.rows clean)
 
 pub returns-clause-reads : goal.returns-clause-reads
-returns-clause-reads g c = reads_plain_old _ asks_codes.plain c.read_rows.ensures.same c.read_rows.ensures.honest
+returns-clause-reads g c = reads_plain_old _ asks_codes.plain c.read_rows.ensures.same c.read_rows.ensures.honest _ c.read_rows.ensures.shows

@@ -8,7 +8,7 @@ use Rattle.plant_types.specs.{KeyedRows.{IsInOrder}, Names.{same_name}}
 use Rattle.plant_columns.specs.declared.tables.TableKind.TheVariants.{Units, Grants, Alarms, Shelves, Bands, Cells, Events, Records, Changes}
 use Rattle.plant_columns.{specs.Tables.{rows_seen, alarm_shape, event_shape, shelf_shape}, proofs.public.{ShapeLaws.{good}, Shapes.{rises}}}
 use Rattle.plant_store.specs.Wanted.{alarms_left, alarms_with, events_with, rows_with}
-use Rattle.plant_store.proofs.{NumberLaws.{bands_climb, cells_climb}, ReadsOnly.{begins, goes_on}}
+use Rattle.plant_store.proofs.{NumberLaws.{bands_climb, cells_climb}, ReadsOnly.{begins, goes_on, reads_then}}
 use Rattle.plant_store.proofs.Selected.{alarms_in_order, approved_found, part_found, read_in_order, records_asked, rows_in_order}
 use Rattle.plant_store.proofs.part.holders_part.Goals as goal
 
@@ -72,3 +72,21 @@ returns-clause-found g c honest m k units own =
     c.in_ok-cells.cells (c.in_ok-cells.ensures.rows t9 r8.books (cells_climb u _ r8.books) all (sym (units ∙ k.seen u Units)) ∙ ap (λ (d : Database). filter (λ (r : CellRow). chosen.matrix r.matrix_no) (rows_seen u d.trees Cells)) r8.now)
     c.in_ok-changes.changes (c.in_ok-changes.ensures.rows t10 r9.books all records ∙ ap (λ (d : Database). filter (λ (r : ChangeEntry). chosen.change r.number) (rows_seen u d.trees Changes)) r9.now)
     c.in_ok-count.count (λ rows h n es. c.in_ok-count.ensures.rows honest.0 r10.books rows (h ∙ ap (λ (d : Database). rows_seen u d.trees Alarms) (sym r10.now)) (n ∙ ap (λ (d : Database). rows_seen u d.trees Changes) (sym r10.now)) es)
+
+pub returns-in_err-bands-clause-reads : goal.returns-in_err-bands-clause-reads
+returns-in_err-bands-clause-reads g c = reads_then (reads_then (reads_then (reads_then (reads_then (reads_then (reads_then c.crowded_for.ensures.reads c.approved_for.ensures.reads) c.some_grants.ensures.reads) c.some_alarms.ensures.reads) c.rows_wanted.ensures.reads) c.some_events.ensures.reads) c.rows_wanted-2.ensures.reads) c.matrix_rows.ensures.reads
+
+pub returns-in_err-cells-clause-reads : goal.returns-in_err-cells-clause-reads
+returns-in_err-cells-clause-reads g c = reads_then (reads_then (reads_then (reads_then (reads_then (reads_then (reads_then (reads_then c.crowded_for.ensures.reads c.approved_for.ensures.reads) c.some_grants.ensures.reads) c.some_alarms.ensures.reads) c.rows_wanted.ensures.reads) c.some_events.ensures.reads) c.rows_wanted-2.ensures.reads) c.matrix_rows.ensures.reads) c.matrix_rows-2.ensures.reads
+
+pub returns-in_err-changes-clause-reads : goal.returns-in_err-changes-clause-reads
+returns-in_err-changes-clause-reads g c = reads_then (reads_then (reads_then (reads_then (reads_then (reads_then (reads_then (reads_then (reads_then c.crowded_for.ensures.reads c.approved_for.ensures.reads) c.some_grants.ensures.reads) c.some_alarms.ensures.reads) c.rows_wanted.ensures.reads) c.some_events.ensures.reads) c.rows_wanted-2.ensures.reads) c.matrix_rows.ensures.reads) c.matrix_rows-2.ensures.reads) c.some_changes.ensures.reads
+
+pub returns-in_err-count-clause-reads : goal.returns-in_err-count-clause-reads
+returns-in_err-count-clause-reads g c = reads_then (reads_then (reads_then (reads_then (reads_then (reads_then (reads_then (reads_then (reads_then (reads_then c.crowded_for.ensures.reads c.approved_for.ensures.reads) c.some_grants.ensures.reads) c.some_alarms.ensures.reads) c.rows_wanted.ensures.reads) c.some_events.ensures.reads) c.rows_wanted-2.ensures.reads) c.matrix_rows.ensures.reads) c.matrix_rows-2.ensures.reads) c.some_changes.ensures.reads) c.count_for.ensures.reads
+
+pub returns-in_err-events-clause-reads : goal.returns-in_err-events-clause-reads
+returns-in_err-events-clause-reads g c = reads_then (reads_then (reads_then (reads_then (reads_then (reads_then (reads_then (reads_then (reads_then (reads_then c.crowded_for.ensures.reads c.approved_for.ensures.reads) c.some_grants.ensures.reads) c.some_alarms.ensures.reads) c.rows_wanted.ensures.reads) c.some_events.ensures.reads) c.rows_wanted-2.ensures.reads) c.matrix_rows.ensures.reads) c.matrix_rows-2.ensures.reads) c.some_changes.ensures.reads) c.count_for.ensures.reads
+
+pub returns-clause-reads : goal.returns-clause-reads
+returns-clause-reads g c = reads_then (reads_then (reads_then (reads_then (reads_then (reads_then (reads_then (reads_then (reads_then (reads_then c.crowded_for.ensures.reads c.approved_for.ensures.reads) c.some_grants.ensures.reads) c.some_alarms.ensures.reads) c.rows_wanted.ensures.reads) c.some_events.ensures.reads) c.rows_wanted-2.ensures.reads) c.matrix_rows.ensures.reads) c.matrix_rows-2.ensures.reads) c.some_changes.ensures.reads) c.count_for.ensures.reads

@@ -2,7 +2,7 @@ use Rattle.std.proofs.Common.{◌≡◌, ap, sym, ◌∙◌, true, false, filter
 use Rattle.sqlite.specs.{Effect.{Database}, Held.{state}}
 use Rattle.plant_model.specs.{RowFacts.{holds_by}, declared.rows.GrantRow.{GrantRow}}
 use Rattle.plant_types.specs.Names.{same_name}
-use Rattle.plant_store.{specs.Keeping.{has_any}, proofs.{ReadsOnly.{begins, goes_on}, Selected.{holder_found, no_part, stranger_found}}}
+use Rattle.plant_store.{specs.Keeping.{has_any}, proofs.{ReadsOnly.{begins, goes_on, reads_then}, Selected.{holder_found, no_part, stranger_found}}}
 use Rattle.plant_store.proofs.public.Contents.{keeps_same}
 use Rattle.plant_columns.specs.{Tables.{rows_seen}, declared.tables.TableKind.TheVariants.{Units, Grants}}
 use Rattle.plant_store.proofs.part.unit_part.Goals as goal
@@ -41,3 +41,6 @@ returns-clause-found g c honest m k =
     (units ∙ ap (λ (d : Database). rows_seen u d.trees Units) (sym r2.now))
     (own ∙ ap (λ (d : Database). filter (λ (g : GrantRow). same_name call.person g.person) (rows_seen u d.trees Grants)) (sym r2.now)) in
     holder_found old m u k call c.in_ok-units.units units any c.in_ok-own.own own some c.in_ok-part.part part
+
+pub returns-clause-reads : goal.returns-clause-reads
+returns-clause-reads g c = reads_then (reads_then c.all_rows.ensures.reads c.own_grants.ensures.reads) c.holders_part.ensures.reads

@@ -16,10 +16,10 @@ returns-clause-rows g c clean books =
     no_last_came c.args.unit.now (state g.S.Store c.args.conn.now) (state g.S.Store c.ask.new.conn) books c.in_ok-rows.rows.items shown none
 
 pub returns-in_err-rows-clause-reads : goal.returns-in_err-rows-clause-reads
-returns-in_err-rows-clause-reads g c = reads_plain _ last_change.plain c.ask.ensures.same c.ask.ensures.honest
+returns-in_err-rows-clause-reads g c = reads_plain _ last_change.plain c.ask.ensures.same c.ask.ensures.honest _ c.ask.ensures.shows
 
 pub returns-in-Some-clause-reads : goal.returns-in-Some-clause-reads
-returns-in-Some-clause-reads g c = reads_plain _ last_change.plain c.ask.ensures.same c.ask.ensures.honest
+returns-in-Some-clause-reads g c = reads_plain _ last_change.plain c.ask.ensures.same c.ask.ensures.honest _ c.ask.ensures.shows
 
 pub returns-clause-reads : goal.returns-clause-reads
-returns-clause-reads g c = reads_plain _ last_change.plain c.ask.ensures.same c.ask.ensures.honest
+returns-clause-reads g c = reads_plain _ last_change.plain c.ask.ensures.same c.ask.ensures.honest _ c.ask.ensures.shows

@@ -5,7 +5,7 @@ use Rattle.plant_columns.specs.declared.tables.TableKind.TheVariants.{Units, Gra
 use Rattle.plant_columns.specs.Tables.{rows_seen}
 use Rattle.plant_model.specs.declared.rows.UnitRows.{UnitRows}
 use Rattle.plant_store.specs.Keeping.{has_any}
-use Rattle.plant_store.proofs.{ReadsOnly.{begins, goes_on}, public.Contents.{kept_rows, none_found}}
+use Rattle.plant_store.proofs.{ReadsOnly.{begins, goes_on, reads_then}, public.Contents.{kept_rows, none_found}}
 use Rattle.plant_store.proofs.unit.rows_but_events.Goals as goal
 
 pub returns-then-not-has_row-clause-found : goal.returns-then-not-has_row-clause-found
@@ -45,3 +45,15 @@ returns-clause-found g c honest m k =
     } in
     let any : has_any c.in_ok-units.units ≡ true = search rules in
     ap (λ es. Some (record rows { events = es })) c.new.ensures ∙ ap (option_map without_events) (ap Some same ∙ sym (kept_rows old m u k (ap has_any (sym units_seen) ∙ any)))
+
+pub returns-in_err-records-clause-reads : goal.returns-in_err-records-clause-reads
+returns-in_err-records-clause-reads g c = reads_then (reads_then (reads_then (reads_then (reads_then (reads_then c.all_rows.ensures.reads c.all_rows-2.ensures.reads) c.all_rows-3.ensures.reads) c.all_rows-4.ensures.reads) c.all_rows-5.ensures.reads) c.all_rows-6.ensures.reads) c.all_rows-7.ensures.reads
+
+pub returns-in_err-changes-clause-reads : goal.returns-in_err-changes-clause-reads
+returns-in_err-changes-clause-reads g c = reads_then (reads_then (reads_then (reads_then (reads_then (reads_then (reads_then c.all_rows.ensures.reads c.all_rows-2.ensures.reads) c.all_rows-3.ensures.reads) c.all_rows-4.ensures.reads) c.all_rows-5.ensures.reads) c.all_rows-6.ensures.reads) c.all_rows-7.ensures.reads) c.all_rows-8.ensures.reads
+
+pub returns-clause-reads : goal.returns-clause-reads
+returns-clause-reads g c = reads_then (reads_then (reads_then (reads_then (reads_then (reads_then (reads_then c.all_rows.ensures.reads c.all_rows-2.ensures.reads) c.all_rows-3.ensures.reads) c.all_rows-4.ensures.reads) c.all_rows-5.ensures.reads) c.all_rows-6.ensures.reads) c.all_rows-7.ensures.reads) c.all_rows-8.ensures.reads
+
+pub returns-in_err-cells-clause-reads : goal.returns-in_err-cells-clause-reads
+returns-in_err-cells-clause-reads g c = reads_then (reads_then (reads_then (reads_then (reads_then c.all_rows.ensures.reads c.all_rows-2.ensures.reads) c.all_rows-3.ensures.reads) c.all_rows-4.ensures.reads) c.all_rows-5.ensures.reads) c.all_rows-6.ensures.reads

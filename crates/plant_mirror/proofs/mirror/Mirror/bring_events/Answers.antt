@@ -19,6 +19,7 @@ returns-in-Some g c = record {
         ∙ ap (λ es. Some (record rows { events = es })) (sym (c.in_ok-events.ensures.found m h.held honest)));
     honest = search rules;
     count = search rules;
+    crash = search rules;
   };
 }
 
@@ -31,5 +32,6 @@ returns-in_default g c = record {
     };
     honest = search rules;
     count = search rules;
+    crash = search rules;
   };
 }

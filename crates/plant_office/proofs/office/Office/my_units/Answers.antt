@@ -1,6 +1,6 @@
 use Rattle.std.proofs.Common.{◌∙◌, ap, arith, fold, map, max}
 use Rattle.plant_books.specs.declared.books.MineUnit.{MineUnit}
-use Rattle.plant_model.specs.Worlds.{unit_named}
+use Rattle.plant_model.specs.{Verdicts.{is_read}, Worlds.{unit_named}}
 use Rattle.plant_office.proofs.Serving.{behind_units, leaves, serves_same, told_units}
 use Rattle.plant_office.proofs.office.Office.my_units.Goals as goal
 
@@ -12,7 +12,7 @@ returns-then-seconds g c =
           leaves w call _ m (g.B.Books.represents c.mine_units.new.self) legal c.note_matrix.ensures
           (behind_units m w call c.in_ok-units.units c.latest-last.result h (ap unit_named c.requires) (c.in_ok-units.ensures.found m k honest) (c.latest-last.ensures ∙ ap (λ xs. fold max c.args.call.now.moment (map (λ (u : MineUnit). u.last) xs)) c.as_slice.ensures) (omega (arith, c.seconds.ensures.value, c.seconds-2.ensures.value, c.if-seconds.true)))
           (c.mine_units.ensures.same m k))
-          c.mine_units.ensures.honest c.mine_units.ensures.same c.in_ok-units.ensures.count;
+          c.mine_units.ensures.honest c.mine_units.ensures.same c.in_ok-units.ensures.count tt c.mine_units.ensures.crash;
     }
 
 pub returns-in_ok-lines : goal.returns-in_ok-lines
@@ -23,5 +23,5 @@ returns-in_ok-lines g c =
           leaves w call _ m (g.B.Books.represents c.mine_units.new.self) legal c.note_matrix.ensures
           (told_units m w call c.in_ok-units.units c.latest-last.result c.in_ok-lines.field-0 h c.requires (c.in_ok-units.ensures.found m k honest) (c.latest-last.ensures ∙ ap (λ xs. fold max c.args.call.now.moment (map (λ (u : MineUnit). u.last) xs)) c.as_slice.ensures) c.in_ok-lines.ensures.value (omega (arith, c.seconds.ensures.value, c.seconds-2.ensures.value, c.if-seconds.false)))
           (c.mine_units.ensures.same m k))
-          c.mine_units.ensures.honest c.mine_units.ensures.same c.in_ok-units.ensures.count;
+          c.mine_units.ensures.honest c.mine_units.ensures.same c.in_ok-units.ensures.count (ap is_read c.requires) c.mine_units.ensures.crash;
     }

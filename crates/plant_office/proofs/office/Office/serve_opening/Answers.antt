@@ -1,7 +1,7 @@
 use Rattle.std.proofs.Common.{subst, ◌∙◌}
 use Rattle.plant_books.specs.Contents.{after_changes}
 use Rattle.plant_unit.specs.Judged.{IsOpening}
-use Rattle.plant_office.proofs.Serving.{accepted_opening, known_opening, leaves, opening_changes, opening_of, refused_opening, serves_changing, serves_fault, serves_same}
+use Rattle.plant_office.proofs.Serving.{accepted_opening, holds_opened, known_opening, leaves, opening_changes, opening_of, refused_opening, serves_changing, serves_fault, serves_same}
 use Rattle.plant_office.proofs.office.Office.serve_opening.Goals as goal
 
 pub returns-in-Refused : goal.returns-in-Refused
@@ -13,15 +13,28 @@ returns-in-Refused g c =
           let mid = c.taken.ensures.same m k in
           let v = opening_of m w call u _ _ _ h (c.administrator.ensures m mid) (c.in_ok-taken.ensures.found m k honest) (subst (IsOpening _ _ _) c.in-Refused.is c.in_ok-refused.ensures.value) in
           leaves w call _ m (g.B.Books.represents c.taken.new.self) legal c.note_matrix.ensures (refused_opening m w call u c.in-Refused.refused h c.requires.named c.requires.opening v) mid)
-          c.taken.ensures.honest c.taken.ensures.same c.in_ok-taken.ensures.count;
+          c.taken.ensures.honest c.taken.ensures.same c.in_ok-taken.ensures.count tt c.taken.ensures.crash;
     }
 
 pub returns-in_err-apply-in-Accepted : goal.returns-in_err-apply-in-Accepted
 returns-in_err-apply-in-Accepted g c =
     let fault = c.in_err-apply-in-Accepted in
+    let call = c.args.call.now in
+    let u = c.args.unit.now in
     record {
       serves = serves_fault _ fault.field-0.0 c.from_residual-in_err-apply-in-Accepted.ensures.1 (λ honest. c.taken.ensures.honest (c.apply.ensures.honest honest))
-          (λ m k. fault.ensures.unchanged m (c.taken.ensures.same m k)) c.in_ok-taken.ensures.count fault.ensures.count;
+          (λ m k. fault.ensures.unchanged m (c.taken.ensures.same m k)) c.in_ok-taken.ensures.count fault.ensures.count
+          (record {
+            read = c.taken.ensures.crash;
+            same = c.taken.ensures.same;
+            writes = fault.ensures.crash;
+            known = λ m k w legal h honest.
+                let v = opening_of m w call u _ _ _ h (c.administrator.ensures m (c.taken.ensures.same m k)) (c.in_ok-taken.ensures.found m k honest) (subst (IsOpening _ _ _) c.in-Accepted.is c.in_ok-refused.ensures.value) in
+                known_opening m w call u c.in-Accepted.reply _ v;
+            meant = λ m k w legal h honest.
+                let v = opening_of m w call u _ _ _ h (c.administrator.ensures m (c.taken.ensures.same m k)) (c.in_ok-taken.ensures.found m k honest) (subst (IsOpening _ _ _) c.in-Accepted.is c.in_ok-refused.ensures.value) in
+                holds_opened m w call u c.in-Accepted.reply _ legal h c.note_matrix.ensures c.requires.named c.requires.opening v;
+          });
     }
 
 pub returns-in_ok-apply-in-Accepted : goal.returns-in_ok-apply-in-Accepted
@@ -35,5 +48,16 @@ returns-in_ok-apply-in-Accepted g c =
           let v = opening_of m w call u _ _ _ h (c.administrator.ensures m mid) (c.in_ok-taken.ensures.found m k early) (subst (IsOpening _ _ _) c.in-Accepted.is c.in_ok-refused.ensures.value) in
           leaves w call _ (after_changes m u c.in-Accepted.changes) (g.B.Books.represents c.apply.new.self) legal c.note_matrix.ensures (accepted_opening m w call u c.in-Accepted.reply _ h c.requires.named c.requires.opening v)
           (c.in_ok-apply-in-Accepted.ensures.made m mid (known_opening m w call u c.in-Accepted.reply _ v)))
-          (λ honest. c.taken.ensures.honest (c.apply.ensures.honest honest)) (opening_changes call.request c.requires.opening) (c.in_ok-apply-in-Accepted.ensures.count ∙ c.in_ok-taken.ensures.count);
+          (λ honest. c.taken.ensures.honest (c.apply.ensures.honest honest)) (opening_changes call.request c.requires.opening) (c.in_ok-apply-in-Accepted.ensures.count ∙ c.in_ok-taken.ensures.count)
+          (record {
+            read = c.taken.ensures.crash;
+            same = c.taken.ensures.same;
+            writes = c.in_ok-apply-in-Accepted.ensures.crash;
+            known = λ m k w legal h honest.
+                let v = opening_of m w call u _ _ _ h (c.administrator.ensures m (c.taken.ensures.same m k)) (c.in_ok-taken.ensures.found m k honest) (subst (IsOpening _ _ _) c.in-Accepted.is c.in_ok-refused.ensures.value) in
+                known_opening m w call u c.in-Accepted.reply _ v;
+            meant = λ m k w legal h honest.
+                let v = opening_of m w call u _ _ _ h (c.administrator.ensures m (c.taken.ensures.same m k)) (c.in_ok-taken.ensures.found m k honest) (subst (IsOpening _ _ _) c.in-Accepted.is c.in_ok-refused.ensures.value) in
+                holds_opened m w call u c.in-Accepted.reply _ legal h c.note_matrix.ensures c.requires.named c.requires.opening v;
+          }) c.in_ok-apply-in-Accepted.ensures.kept;
     }

@@ -1,6 +1,6 @@
 use Rattle.std.proofs.Common.{subst, sym, ◌∙◌}
 use Rattle.plant_books.specs.Contents.{after_changes}
-use Rattle.plant_office.proofs.Serving.{changing_call, known_call, leaves, on_history, read_call, refused_call, same_changes, serves_changing, serves_fault, serves_same}
+use Rattle.plant_office.proofs.Serving.{changing_call, holds_meant, known_call, leaves, on_history, read_call, refused_call, same_changes, serves_changing, serves_fault, serves_same}
 use Rattle.plant_office.proofs.office.Office.serve_unit.Goals as goal
 
 pub returns-in-Refused : goal.returns-in-Refused
@@ -12,7 +12,7 @@ returns-in-Refused g c =
           let found = c.in_ok-part.ensures.found m k honest u c.requires.named in
           let v = on_history m w call u _ _ _ _ legal h found c.as_ref.ensures.value c.in_ok-refused.ensures.value c.in-Refused.is in
           leaves w call _ m (g.B.Books.represents c.part.new.self) legal c.note_matrix.ensures (refused_call m w call u c.in-Refused.refused h c.requires.named c.requires.plain v) (c.part.ensures.same m k))
-          c.part.ensures.honest c.part.ensures.same c.in_ok-part.ensures.count;
+          c.part.ensures.honest c.part.ensures.same c.in_ok-part.ensures.count tt c.part.ensures.crash;
     }
 
 pub returns-then-is_read : goal.returns-then-is_read
@@ -24,15 +24,31 @@ returns-then-is_read g c =
           let found = c.in_ok-part.ensures.found m k honest u c.requires.named in
           let v = on_history m w call u _ _ _ _ legal h found c.as_ref.ensures.value c.in_ok-refused.ensures.value c.in-Accepted.is in
           leaves w call _ m (g.B.Books.represents c.part.new.self) legal c.note_matrix.ensures (read_call m w call u c.in-Accepted.reply _ h c.requires.named c.requires.plain (sym c.if-is_read.ensures) v) (c.part.ensures.same m k))
-          c.part.ensures.honest c.part.ensures.same c.in_ok-part.ensures.count;
+          c.part.ensures.honest c.part.ensures.same c.in_ok-part.ensures.count (sym c.if-is_read.ensures) c.part.ensures.crash;
     }
 
 pub returns-in_err-apply-in-Accepted : goal.returns-in_err-apply-in-Accepted
 returns-in_err-apply-in-Accepted g c =
     let fault = c.in_err-apply-in-Accepted in
+    let call = c.args.call.now in
+    let u = c.args.unit.now in
+    let changes = sym c.if-is_read.ensures in
+    let left = c.leave_out_same.new.changes in
     record {
       serves = serves_fault _ fault.field-0.0 c.from_residual-in_err-apply-in-Accepted.ensures.1 (λ honest. c.part.ensures.honest (c.apply.ensures.honest honest))
-          (λ m k. fault.ensures.unchanged m (c.part.ensures.same m k)) c.in_ok-part.ensures.count fault.ensures.count;
+          (λ m k. fault.ensures.unchanged m (c.part.ensures.same m k)) c.in_ok-part.ensures.count fault.ensures.count
+          (record {
+            read = c.part.ensures.crash;
+            same = c.part.ensures.same;
+            writes = fault.ensures.crash;
+            known = λ m k w legal h honest.
+                let v = on_history m w call u _ _ _ _ legal h (c.in_ok-part.ensures.found m k honest u c.requires.named) c.as_ref.ensures.value c.in_ok-refused.ensures.value c.in-Accepted.is in
+                known_call m w call u c.in-Accepted.reply _ left h changes v;
+            meant = λ m k w legal h honest.
+                let found = c.in_ok-part.ensures.found m k honest u c.requires.named in
+                let v = on_history m w call u _ _ _ _ legal h found c.as_ref.ensures.value c.in_ok-refused.ensures.value c.in-Accepted.is in
+                holds_meant m w call u c.in-Accepted.reply _ left legal h c.note_matrix.ensures c.requires.named c.requires.plain changes v (same_changes m call u c.in_ok-part.part c.in-Accepted.changes left found c.leave_out_same.ensures);
+          });
     }
 
 pub returns : goal.returns
@@ -49,5 +65,17 @@ returns g c =
           let same = same_changes m call u c.in_ok-part.part c.in-Accepted.changes left found c.leave_out_same.ensures in
           leaves w call _ (after_changes m u c.in-Accepted.changes) (g.B.Books.represents c.apply.new.self) legal c.note_matrix.ensures (changing_call m w call u c.in-Accepted.reply _ h c.requires.named c.requires.plain changes v)
           (subst (g.B.Books.represents c.apply.new.self) same (c.in_ok-apply-in-Accepted.ensures.made m (c.part.ensures.same m k) known)))
-          (λ honest. c.part.ensures.honest (c.apply.ensures.honest honest)) changes (c.in_ok-apply-in-Accepted.ensures.count ∙ c.in_ok-part.ensures.count);
+          (λ honest. c.part.ensures.honest (c.apply.ensures.honest honest)) changes (c.in_ok-apply-in-Accepted.ensures.count ∙ c.in_ok-part.ensures.count)
+          (record {
+            read = c.part.ensures.crash;
+            same = c.part.ensures.same;
+            writes = c.in_ok-apply-in-Accepted.ensures.crash;
+            known = λ m k w legal h honest.
+                let v = on_history m w call u _ _ _ _ legal h (c.in_ok-part.ensures.found m k honest u c.requires.named) c.as_ref.ensures.value c.in_ok-refused.ensures.value c.in-Accepted.is in
+                known_call m w call u c.in-Accepted.reply _ left h changes v;
+            meant = λ m k w legal h honest.
+                let found = c.in_ok-part.ensures.found m k honest u c.requires.named in
+                let v = on_history m w call u _ _ _ _ legal h found c.as_ref.ensures.value c.in_ok-refused.ensures.value c.in-Accepted.is in
+                holds_meant m w call u c.in-Accepted.reply _ left legal h c.note_matrix.ensures c.requires.named c.requires.plain changes v (same_changes m call u c.in_ok-part.part c.in-Accepted.changes left found c.leave_out_same.ensures);
+          }) c.in_ok-apply-in-Accepted.ensures.kept;
     }
