@@ -2,7 +2,7 @@
 use Rattle.std.{specs.Io.KnownBytes.{Appends}, proofs.KnownBytes.{Appends-trans}}
 use Rattle.std.proofs.Common.{◌≡◌, ℕ, ◌+◌, List, [], ◌∷◌, ◌++◌, length, take, Bool, true, Option, None, Some, refl, sym, subst, inl, inr}
 use Rattle.plant_model.specs.declared.{call.Call.{Call}, reply.Answer.{Answer}}
-use Rattle.plant_office.specs.Keep.{Standing}
+use Rattle.plant_office.specs.Enduring.{BooksState}
 use Rattle.plant_wire.specs.{Causes.{cause_text}, Marks.{answers_of, calls_of, last_marks, last_text, out_of}, Ran.{Ran}}
 use Rattle.plant_wire.specs.{Session.{IsCutShort, IsSession}, Step.{AnswersFront, ServesBroken, ServesPart}, declared.reads.End.{End}}
 use Rattle.plant_wire.specs.declared.reads.End.TheVariants.{BrokenInput, Closed, Fault, ReadFailed, WriteFailed}
@@ -53,7 +53,7 @@ tells_more o o' o'' ends count is end (text, lines, h) (part, k) =
     (text ++ line, (text, part, lines, refl), Appends-trans o o' o'' text line h k')
 
 -- what was done before a connection, and then over it
-pub ran_more : (before mid after : Standing) (count between counted_to : ℕ) → (after.honest → mid.honest)
+pub ran_more : (before mid after : BooksState) (count between counted_to : ℕ) → (after.honest → mid.honest)
     → (calls : List Call) × (answers : List Answer) × Ran before mid count between calls answers
     → (calls : List Call) × (answers : List Answer) × Ran mid after between counted_to calls answers
     → (calls : List Call) × (answers : List Answer) × Ran before after count counted_to calls answers

@@ -21,8 +21,8 @@ use Rattle.plant_types.{specs.{Names.{Name, same_name}, Options.{when}, declared
 use Rattle.plant_types.proofs.public.Orders.{name_total}
 use Rattle.plant_alarm.specs.Shelves.{shelf_state}
 use Rattle.plant_office.specs.{Answers.{CountsAnswer, IfSaid, OnFault, answer_as}, Lines.{line_of_mine, line_of_shelf}, Runs.{IsAlike}}
-use Rattle.plant_office.specs.{Keep.{AreOf, Endures, IsSaidUnmade, standing}, Outcomes.{says_made}, Served.{Holds, IsIsolated, IsOwnUnit, IsServed}, Serves.{Serves}}
-use Rattle.plant_office.proofs.public.Keeping.{holds_alike}
+use Rattle.plant_office.specs.{Enduring.{HoldsWorld, Endures, IsUnmade, books_state}, Outcomes.{confirms}, Served.{Holds, IsIsolated, IsOwnUnit, IsServed}, Serves.{Serves}}
+use Rattle.plant_office.proofs.public.Enduring.{holds_alike}
 use Rattle.plant_books.specs.Crashes.{LosesNoPart, LosesNothing}
 use Rattle.plant_unit.specs.Judged.{IsOpening, IsPartOf, IsVerdictOn}
 
@@ -344,14 +344,14 @@ loses_then books one two = record {
   sound = λ h s. two.sound h (one.sound (two.clean h) s);
 }
 
-unmade_says : (c : Call) (a : Answer) → IsSaidUnmade c a → says_made c a ≡ false
-unmade_says c (Replied r) reads = ap (λ (b : Bool). if b then false else true) reads
+unmade_says : (c : Call) (a : Answer) → IsUnmade c a → confirms c a ≡ false
+unmade_says c (Replied r) reads = ap not reads
 unmade_says c (WasRefused r) none = refl
 unmade_says c (Faulted f) none = absurd none
 
 module _ {B : Type 0} (books : Ghosts B) (c : Call) where
   -- a call that asks, or is refused
-  pub endures_unmade : (a : Answer) (before after : B) → IsSaidUnmade c a → ((m : Content) → books.represents before m → books.represents after m) → Loses books before after → Endures c a (standing books before) (standing books after)
+  pub endures_unmade : (a : Answer) (before after : B) → IsUnmade c a → ((m : Content) → books.represents before m → books.represents after m) → Loses books before after → Endures c a (books_state books before) (books_state books after)
   endures_unmade a before after none same crash = record {
     clean = crash.clean;
     kept = λ _ told. absurd (true≢false (sym told ∙ unmade_says c a none));
@@ -363,7 +363,7 @@ module _ {B : Type 0} (books : Ghosts B) (c : Call) where
   }
 
   -- a call that a read ended by a fault
-  pub endures_fault : (f : Fault) (before after : B) → ((m : Content) → books.represents before m → books.represents after m) → Loses books before after → Endures c (Faulted f) (standing books before) (standing books after)
+  pub endures_fault : (f : Fault) (before after : B) → ((m : Content) → books.represents before m → books.represents after m) → Loses books before after → Endures c (Faulted f) (books_state books before) (books_state books after)
   endures_fault f before after same crash = record {
     clean = crash.clean;
     kept = λ _ told. absurd (true≢false (sym told));
@@ -381,38 +381,39 @@ pub record Makes {B : Type 0} (books : Ghosts B) (c : Call) (u : Name) (cs : Lis
   pub writes : LosesNoPart books.represents books.is_honest books.is_clean books.leaves_books books.may_leave u cs mid after
   pub known : (m : Content) → books.represents before m → (w : World) → IsLegalWorld w → Holds m w → books.is_honest mid → IsKnownTo m u cs
   pub meant : (m : Content) → books.represents before m → (w : World) → IsLegalWorld w → Holds m w → books.is_honest mid → Holds (after_changes m u cs) (next w c)
+  pub legal : (w : World) → IsLegalWorld w → IsLegalWorld (next w c)
 
 module _ {B : Type 0} (books : Ghosts B) (c : Call) (u : Name) (cs : List RowEdit) (before mid after : B) (it : Makes books c u cs before mid after) where
-  made_each : books.is_clean after → (w : World) → AreOf w (standing books before) → (x : Content) → books.may_leave after x → books.may_leave before x ⊎ Holds x (next w c)
+  made_each : books.is_clean after → (w : World) → HoldsWorld w (books_state books before) → (x : Content) → books.may_leave after x → books.may_leave before x ⊎ (Holds x (next w c) × IsLegalWorld (next w c))
   made_each tidy w of x l = elim (it.writes.fewer tidy x l) [
     | inl was ↦ inl (it.read.fewer (it.writes.clean tidy) x was)
     | inr new ↦
         let m = of.content in
-        inr (holds_alike x (after_changes m u cs) (next w c) (new.1 m (it.same m of.held) (it.known m of.held w of.legal of.holds new.0)) (it.meant m of.held w of.legal of.holds new.0))
+        inr (holds_alike x (after_changes m u cs) (next w c) (new.1 m (it.same m of.held) (it.known m of.held w of.legal of.holds new.0)) (it.meant m of.held w of.legal of.holds new.0), it.legal w of.legal)
   ]
 
-  made_sound : books.is_clean after → (w : World) → AreOf w (standing books before) → books.leaves_books before → books.leaves_books after
+  made_sound : books.is_clean after → (w : World) → HoldsWorld w (books_state books before) → books.leaves_books before → books.leaves_books after
   made_sound tidy w of s =
       it.writes.sound tidy of.content (it.same of.content of.held) (λ honest. it.known of.content of.held w of.legal of.holds honest) (it.read.sound (it.writes.clean tidy) s)
 
   -- a call that was made
   pub endures_made : (reply : Reply) → is_read c.request ≡ false → (books.is_clean after → books.is_honest after)
       → ((m : Content) → books.represents before m → (w : World) → IsLegalWorld w → Holds m w → books.is_honest after → IsServed w c (Ok reply) (books.represents after))
-      → Endures c (Replied reply) (standing books before) (standing books after)
+      → Endures c (Replied reply) (books_state books before) (books_state books after)
   endures_made reply changes kept served = record {
     clean = λ tidy. it.read.clean (it.writes.clean tidy);
     kept = λ tidy _. kept tidy;
     made = λ honest _ w of.
         let s = served of.content of.held w of.legal of.holds honest in
         record { content = s.after; held = s.left_it; holds = s.holds; legal = s.legal };
-    unmade = λ none. absurd (true≢false (sym (ap (λ (b : Bool). if b then false else true) changes) ∙ none));
+    unmade = λ none. absurd (true≢false (sym (ap not changes) ∙ none));
     each = made_each;
     quiet = λ _ reads. absurd (true≢false (sym reads ∙ changes));
     sound = made_sound;
   }
 
   -- a call whose changes failed
-  pub endures_failed : (f : Fault) → ((m : Content) → books.represents before m → books.represents after m) → Endures c (Faulted f) (standing books before) (standing books after)
+  pub endures_failed : (f : Fault) → ((m : Content) → books.represents before m → books.represents after m) → Endures c (Faulted f) (books_state books before) (books_state books after)
   endures_failed f same = record {
     clean = λ tidy. it.read.clean (it.writes.clean tidy);
     kept = λ _ told. absurd (true≢false (sym told));
@@ -424,7 +425,7 @@ module _ {B : Type 0} (books : Ghosts B) (c : Call) (u : Name) (cs : List RowEdi
   }
 
 -- a call whose answer leaves the books as they were
-pub serves_same : {B : Type 0} {books : Ghosts B} {c : Call} {a : Said} {before after : B} → ((m : Content) → books.represents before m → (w : World) → IsLegalWorld w → Holds m w → books.is_honest after → IsServed w c a (books.represents after)) → (books.is_honest after → books.is_honest before) → ((m : Content) → books.represents before m → books.represents after m) → books.stores after ≡ books.stores before → IsSaidUnmade c (answer_as (Ok a)) → Loses books before after → Serves books c (Ok a) before after
+pub serves_same : {B : Type 0} {books : Ghosts B} {c : Call} {a : Said} {before after : B} → ((m : Content) → books.represents before m → (w : World) → IsLegalWorld w → Holds m w → books.is_honest after → IsServed w c a (books.represents after)) → (books.is_honest after → books.is_honest before) → ((m : Content) → books.represents before m → books.represents after m) → books.stores after ≡ books.stores before → IsUnmade c (answer_as (Ok a)) → Loses books before after → Serves books c (Ok a) before after
 serves_same {B} {books} {c} {a} {before} {after} served honest same count none crash =
     record { served = served; honest = honest; unchanged = λ m k _. same m k; fault = λ _ _. tt; count = count; endures = endures_unmade books c (answer_as (Ok a)) before after none same crash }
 

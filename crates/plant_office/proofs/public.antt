@@ -1,2 +1,2 @@
 pub mod Running
-pub mod Keeping
+pub mod Enduring

@@ -3,5 +3,6 @@ pub mod Answers
 pub mod Served
 pub mod Runs
 pub mod Outcomes
-pub mod Keep
+pub mod Enduring
+pub mod Lives
 pub mod Serves

@@ -1,41 +1,45 @@
 -- What a crash may leave of an office's books, by the calls that it answered.
-use Rattle.std.specs.Prelude.{Bool, List, [], false, if◌then◌else◌, length, true, ◌++◌, ◌∷◌, ◌≡◌, ◌⊎◌}
+use Rattle.std.specs.Prelude.{Bool, List, [], false, if◌then◌else◌, not, true, ◌++◌, ◌∷◌, ◌≡◌, ◌⊎◌}
 use Rattle.plant_books.specs.Contents.{Content}
-use Rattle.plant_office.specs.Served.{Holds}
-use Rattle.plant_model.specs.{Verdicts.{is_read}, Worlds.{World, next}, declared.{call.Call.{Call}, reply.Answer.{Answer}}}
+use Rattle.plant_model.specs.{Verdicts.{is_read}, Worlds.{IsLegalWorld, World, next}, declared.{call.Call.{Call}, reply.Answer.{Answer}}}
 use Rattle.plant_model.specs.declared.reply.Answer.TheVariants.{Fault as Faulted, Refused as WasRefused, Reply as Replied}
-use Rattle.plant_types.specs.declared.fault.Fault.{Fault}
+use Rattle.plant_office.specs.Served.{Holds}
 
--- the answer says that the call was made: a reply, and not to a read
-abbrev pub says_made : Call → Answer → Bool
-says_made c (Replied r) = if is_read c.request then false else true
-says_made c (WasRefused r) = false
-says_made c (Faulted f) = false
+-- the answer confirms the call: it is a reply, and not to a read, so the caller knows that the call was made
+abbrev pub confirms : Call → Answer → Bool
+confirms c (Replied r) = not (is_read c.request)
+confirms c (WasRefused r) = false
+confirms c (Faulted f) = false
 
--- the world after a call, by what its caller was told
-abbrev pub after_told : World → Call → Answer → World
-after_told w c a = if says_made c a then next w c else w
+-- the calls that were confirmed, in their order
+abbrev pub confirmed : List Call → List Answer → List Call
+confirmed (c ∷ calls) (a ∷ answers) = if confirms c a then c ∷ confirmed calls answers else confirmed calls answers
+confirmed (c ∷ calls) [] = []
+confirmed [] answers = []
 
--- the world after the calls whose callers were told that they were made
-abbrev pub world_told : World → List Call → List Answer → World
-world_told w (c ∷ calls) (a ∷ answers) = world_told (after_told w c a) calls answers
-world_told w _ _ = w
+abbrev pub is_fault : Answer → Bool
+is_fault (Replied r) = false
+is_fault (WasRefused r) = false
+is_fault (Faulted f) = true
 
--- beside the calls that were told, the books have one that was answered by a fault: its caller knows not whether it was made.
--- No later caller was told that a call was made
-pub record InDoubt (w : World) (calls : List Call) (answers : List Answer) (x : Content) : Type 0 where
-  pub earlier : List Call
-  pub said : List Answer
-  pub call : Call
-  pub fault : Fault
-  pub later : List Call
-  pub told : List Answer
-  pub calls_are : calls ≡ earlier ++ call ∷ later
-  pub answers_are : answers ≡ said ++ Faulted fault ∷ told
-  pub long : length said ≡ length earlier
-  pub holds : Holds x (next (world_told w earlier said) call)
-  pub nothing : world_told w calls answers ≡ world_told w earlier said
+-- the call is in doubt: its answer was a fault, so the caller does not know whether it was made, and no later call was confirmed
+abbrev pub IsInDoubt : Call → List Call → List Answer → Type 0
+IsInDoubt c (d ∷ calls) (a ∷ answers) = ((d ≡ c) × (is_fault a ≡ true) × (confirmed calls answers ≡ [])) ⊎ IsInDoubt c calls answers
+IsInDoubt c (d ∷ calls) [] = ⊥
+IsInDoubt c [] answers = ⊥
 
--- after a crash the books have the calls that were told, or these and the one that was being served
-abbrev pub IsOutcome : World → List Call → List Answer → Content → Type 0
-IsOutcome w calls answers x = Holds x (world_told w calls answers) ⊎ InDoubt w calls answers x
+-- these calls are made after a crash: those that were confirmed, or these and one that is in doubt
+abbrev pub AreMade : List Call → List Answer → List Call → Type 0
+AreMade calls answers made = (made ≡ confirmed calls answers) ⊎ ((c : Call) × IsInDoubt c calls answers × (made ≡ confirmed calls answers ++ c ∷ []))
+
+-- the world after these calls, made one after the other
+abbrev pub after_calls : World → List Call → World
+after_calls w [] = w
+after_calls w (c ∷ calls) = after_calls (next w c) calls
+
+-- books that a crash may leave of an office that began at this world, and gave these calls these answers
+pub record IsOutcome (w : World) (calls : List Call) (answers : List Answer) (x : Content) : Type 0 where
+  pub made : List Call
+  pub are_made : AreMade calls answers made
+  pub holds : Holds x (after_calls w made)
+  pub legal : IsLegalWorld (after_calls w made)

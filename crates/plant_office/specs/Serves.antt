@@ -3,7 +3,7 @@ use Rattle.std.specs.Prelude.{IfOk, OnErr, Result, false, ◌≡◌}
 use Rattle.plant_books.specs.{Contents.{Content}, Counting.{Counts}, declared.books.Books.{Ghosts}}
 use Rattle.plant_model.specs.{Verdicts.{changes_history}, Worlds.{IsLegalWorld, World}, declared.{call.Call.{Call}, reply.Refused.{Refused}}}
 use Rattle.plant_model.specs.declared.reply.Reply.{Reply}
-use Rattle.plant_office.specs.{Answers.{answer_as}, Keep.{Endures, standing}, Served.{Holds, IsServed}}
+use Rattle.plant_office.specs.{Answers.{answer_as}, Enduring.{Endures, books_state}, Served.{Holds, IsServed}}
 use Rattle.plant_types.specs.declared.fault.Fault.{Fault}
 
 -- the answer is that of the world whose rows the books hold; after a fault, a refusal or a reply to a read the books are
@@ -16,4 +16,4 @@ pub record Serves {B : Type 0} (books : Ghosts B) (c : Call) (said : Result (Res
   pub fault : (m : Content) → books.represents before m → OnErr said (books.represents after m)
   pub count : Counts (books.stores before) (books.stores after) said
   -- and so does a crash
-  pub endures : Endures c (answer_as said) (standing books before) (standing books after)
+  pub endures : Endures c (answer_as said) (books_state books before) (books_state books after)

@@ -2,7 +2,9 @@
 #![tactic(auto)]
 
 mod office;
+mod starts;
 
 pub use office::Office;
 pub use plant_books::Books;
 pub use plant_model::{Answer, laws};
+pub use starts::crashes_leave_a_world;

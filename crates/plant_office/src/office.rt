@@ -5,7 +5,7 @@ ghost use Rattle.plant_model.specs.{Legality.{has_matrix, is_matrix_kind}, RowCh
 ghost use Rattle.plant_model.specs.{Views.{view}, Worlds.{World, IsLegalWorld, unit_named}, declared.call.Request.TheVariants.{MyShelves, MyUnits}};
 ghost use Rattle.plant_model.specs.declared.rows.UnitRows.{UnitRows};
 ghost use Rattle.plant_office.specs.{Answers.{CountsAnswer, IfSaid, OnFault, answer_as}, Lines.{line_of_mine, line_of_shelf}};
-ghost use Rattle.plant_office.specs.Keep.{Lands, standing};
+ghost use Rattle.plant_office.specs.Enduring.{EnduresAll, EnduresSettled, books_state};
 ghost use Rattle.plant_office.specs.{Runs.{IsRun, stores_in}, Served.{Holds, IsIsolated, IsServed}, Serves.{Serves}};
 
 use plant_books::{Books, MineRow, MineUnit};
@@ -207,6 +207,10 @@ impl<B: Books> Office<B> {
     /// at the call's moment. It would give the same answer, if this one is not a fault, and the units in which the caller
     /// holds a role before or after the call would have the same rows there. A fault leaves the books as they were, and so
     /// do a refusal and a reply to a call that only asks, whatever the books hold.
+    ///
+    /// The clause `endures` is about a crash, at this moment or at any before it: the next start finds the books before the call,
+    /// or those with the call; after a reply to a call that changes something only the latter, and after any other reply or a
+    /// refusal only the former. After a fault the caller does not know.
     pub fn serve(&mut self, call: &Call) -> Answer
         ensures served { (m : Content) → B.represents self.old.books m → (w : World)
             → IsLegalWorld w → Holds m w → B.is_honest self.new.books
@@ -223,22 +227,27 @@ impl<B: Books> Office<B> {
         ensures fault { (m : Content) → B.represents self.old.books m
             → OnFault result (B.represents self.new.books m) }
         ensures count { CountsAnswer (B.stores self.old.books) (B.stores self.new.books) result }
-        ensures lands { Lands call.now result (standing B.Books self.old.books) (standing B.Books self.new.books) }
+        ensures endures { EnduresSettled call.now result
+            (books_state B.Books self.old.books) (books_state B.Books self.new.books) }
     {
         let said = self.serve_call(call);
-        // Tells the proof what a crash leaves now.
+        // Tells the proof what a crash leaves now; it does nothing.
         self.books.settle();
         answer_of(said)
     }
 
     /// Answers the calls in their order, each as `serve` does. Room for all answers is made first: a fault of its own
-    /// is Memory, and then no call was made.
+    /// is Memory, and then no call was made. A crash leaves the books with all calls that were confirmed, or with these and one that
+    /// was answered by a fault after which none was confirmed.
     pub fn run(&mut self, calls: &[Call]) -> Result<Vec<Answer>, Fault>
         ensures ran { (m : Content) → B.represents self.old.books m → (w : World)
             → IsLegalWorld w → Holds m w
             → B.is_honest self.new.books
             → IfOk result (λ answers.
             IsRun w calls.now answers.items (B.represents self.new.books)) }
+        ensures endures { IfOk result (λ answers. EnduresAll
+            (books_state B.Books self.old.books) (books_state B.Books self.new.books)
+            calls.now answers.items) }
         ensures honest { WasHonest B.is_honest self.old.books self.new.books }
         ensures count { B.stores self.old.books + length calls.now < 2 ^ 64
             → IfOk result (λ answers. B.stores self.new.books

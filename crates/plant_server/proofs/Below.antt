@@ -3,24 +3,24 @@ use Rattle.std.proofs.Common.{List, sym, subst, ℕ, ◌+◌, ◌<◌, ◌^◌, 
 use Rattle.plant_books.specs.Contents.{Content}
 use Rattle.plant_model.specs.declared.{call.Call.{Call}, reply.Answer.{Answer}}
 use Rattle.plant_model.specs.Worlds.{World}
-use Rattle.plant_office.specs.{Keep.{Keep, Lasts, Standing}, Runs.{stores_in}}
+use Rattle.plant_office.specs.{Enduring.{AreAfter, BooksState, EnduresAll}, Runs.{stores_in}}
 use Rattle.plant_wire.specs.Ran.{Ran}
 
 -- what holds of a run up to some books holds up to others that hold as much, where a crash leaves no more
-pub record Hands (upper lower : Standing) : Type 0 where
+pub record Hands (upper lower : BooksState) : Type 0 where
   pub held : (m : Content) → upper.held m → lower.held m
   pub leaves : (x : Content) → lower.leaves x → upper.leaves x
   pub sound : upper.sound → lower.sound
 
-keep_handed : (upper lower : Standing) → Hands upper lower → (w : World) (calls : List Call) (answers : List Answer) → Keep w calls answers upper → Keep w calls answers lower
-keep_handed upper lower it w calls answers k = record {
+handed : (upper lower : BooksState) → Hands upper lower → (w : World) (calls : List Call) (answers : List Answer) → AreAfter w calls answers upper → AreAfter w calls answers lower
+handed upper lower it w calls answers k = record {
   long = k.long;
   now = record { content = k.now.content; held = it.held k.now.content k.now.held; holds = k.now.holds; legal = k.now.legal };
   sound = it.sound k.sound;
   outcomes = λ x l. k.outcomes x (it.leaves x l);
 }
 
-pub ran_below : (before after before_below after_below : Standing) (count counted_to count_below counted_below : ℕ)
+pub ran_below : (before after before_below after_below : BooksState) (count counted_to count_below counted_below : ℕ)
     → Hands before_below before → Hands after after_below → (after_below.honest → after.honest) → (after_below.clean → after.clean) → (before.clean → before_below.clean)
     → count ≡ count_below → counted_below ≡ counted_to
     → (calls : List Call) (answers : List Answer) → Ran before after count counted_to calls answers → Ran before_below after_below count_below counted_below calls answers
@@ -30,8 +30,8 @@ ran_below before after before_below after_below count counted_to count_below cou
           let run = is.run m (down.held m h) w legal rows (honest told) in
           record { answered = run.answered; isolated = run.isolated; after = run.after; left_it = up.held run.after run.left_it; holds = run.holds; legal = run.legal };
       counted = λ room. subst (λ n. counted_below ≡ n + stores_in answers) first (subst (λ n. n ≡ count + stores_in answers) (sym last) (is.counted (subst (λ n. n + stores_in answers < 2 ^ 64) (sym first) room)));
-      lasts = record {
-        clean = λ h. clean_before (is.lasts.clean (clean_after h));
-        goes_on = λ w earlier said tidy k. keep_handed after after_below up w _ _ (is.lasts.goes_on w earlier said (clean_after tidy) (keep_handed before_below before down w earlier said k));
+      endures = record {
+        clean = λ h. clean_before (is.endures.clean (clean_after h));
+        goes_on = λ w earlier said tidy k. handed after after_below up w _ _ (is.endures.goes_on w earlier said (clean_after tidy) (handed before_below before down w earlier said k));
       };
     }

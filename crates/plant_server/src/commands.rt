@@ -7,16 +7,16 @@ ghost use Rattle.sqlite_wal.specs.Files.{image_at};
 ghost use Rattle.plant_books.specs.Contents.{Content};
 ghost use Rattle.plant_model.specs.Worlds.{IsLegalWorld, World};
 ghost use Rattle.plant_office.specs.Served.{Holds};
-ghost use Rattle.plant_server.specs.{Crashes.{LeavesOutcomes}, Files.{HoldBooks}};
+ghost use Rattle.plant_server.specs.{Crashes.{IsWhole, LeavesOutcomes}, Files.{HoldBooks}};
 ghost use Rattle.plant_server.specs.Statuses.{IsFollowed, IsOfMigration, IsOfPort, HasServed, IsStreamed, Whatever};
 ghost use Rattle.plant_server.specs.declared.statuses.ExitStatus.TheVariants.{NoBooks};
 ghost use Rattle.plant_wire.specs.Over.{RanOn};
 ghost use Rattle.plant_server.specs.Statuses as statuses;
 
 use crate::books::in_memory;
-use crate::files::{close_file, in_file};
-use crate::left::leave;
+use crate::files::in_file;
 use crate::migrations::migrate_file;
+use crate::remains::{close_left, leave};
 use crate::sockets::Port;
 use crate::statuses::ExitStatus;
 use plant_connections::{Listener, end_name, say, serve_connections};
@@ -28,6 +28,7 @@ use plant_types::Person;
 use plant_types::limits::MAX_ROWS_AT_HAND;
 use plant_wire::{End, Failed, FromRead, Inlet, Outlet, ToWrite, session};
 use sqlite::{Alter, FileFrom, FileStore, Start, Unknown};
+use sqlite_disk::Disk;
 use std::alloc::Global;
 use std::convert::AsStr;
 use std::io::{Read, Write};
@@ -277,17 +278,10 @@ fn serve_opened<S: Alter + Drop, I: Inlet, O: Outlet + Write, E: Write>(
     }
 }
 
-/// Closes the books of a file, and says if its log stays beside it.
-fn close_and_say<S: Start>(books: Tables<FileStore<FileFrom<S>>>, errors: &mut impl Write) {
-    if close_file(books).is_err() {
-        say(errors, b"store: log not copied\n");
-    }
-}
-
 /// Serves the books of a file, and gives the status and the store as serving left it. Where the file held the rows of a world,
-/// and the disk has returned what was written, each image that a crash may leave of the files now holds books: with the calls
-/// whose callers were told that they were made, or with these and one that was answered by a fault. The same is true at each
-/// moment of the serving, read as the end of the one that fails from then on.
+/// and the disk has returned what was written, whatever a crash now leaves of the files is books: those after all calls that were
+/// confirmed, or after these and one that was answered by a fault. The same is true at each moment of the serving, read as the end
+/// of the serving over a disk that fails from then on.
 pub fn serve_file<S: Start, I: Inlet, O: Outlet + Write, E: Write>(
     rt: &HostRuntime,
     path: &str,
@@ -304,6 +298,10 @@ pub fn serve_file<S: Start, I: Inlet, O: Outlet + Write, E: Write>(
         → HasServed (LeavesOutcomes store w) service
         (I.remaining inlet.old) (I.remaining inlet.new)
         (O.written outlet.old) (O.written outlet.new) result.0) }
+    ensures whole { IfSome result.1 (λ store. IsClean (view store) → IsWhole store) }
+    ensures served { (result.0 ≡ NoBooks)
+        ⊎ HasServed Whatever service (I.remaining inlet.old) (I.remaining inlet.new)
+        (O.written outlet.old) (O.written outlet.new) result.0 }
 {
     match in_file(rt, path, admin, start) {
         Ok(books) => {
@@ -311,6 +309,16 @@ pub fn serve_file<S: Start, I: Inlet, O: Outlet + Write, E: Write>(
             (status, Some(leave(served)))
         }
         Err(fault) => (report_unopened(errors, &fault), None),
+    }
+}
+
+/// Closes the files that serving left, and says if the log stays beside the file. Where it does not, the file alone holds what a
+/// crash could leave before.
+fn close_and_say<D: Disk + Drop>(store: FileStore<D>, errors: &mut impl Write)
+    requires { IsClean (view store) → IsWhole store }
+{
+    if close_left(store).is_err() {
+        say(errors, b"store: log not copied\n");
     }
 }
 
@@ -335,10 +343,18 @@ fn serve<I: Inlet, O: Outlet + Write, E: Write>(
             status
         }
         Some(path) => {
-            let opened = in_file(rt, path.as_str(), admin, Unknown);
-            let (status, books) = serve_opened(rt, opened, service, inlet, outlet, errors);
-            if let Some(books) = books {
-                close_and_say(books, errors);
+            let (status, left) = serve_file(
+                rt,
+                path.as_str(),
+                admin,
+                service,
+                inlet,
+                outlet,
+                errors,
+                Unknown,
+            );
+            if let Some(store) = left {
+                close_and_say(store, errors);
             }
             status
         }

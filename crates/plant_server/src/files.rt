@@ -5,14 +5,18 @@ ghost use Rattle.sqlite.specs.{Effect.{Database}, Files.{file_state, IsBlankAs, 
 ghost use Rattle.sqlite.specs.{State.{HasCleanDisk}, declared.error.Error.{Error as EngineError}};
 ghost use Rattle.sqlite_store.specs.FileStore.{view};
 ghost use Rattle.sqlite_wal.specs.Files.{image_at};
-ghost use Rattle.plant_books.specs.Contents.{Content};
-ghost use Rattle.plant_server.specs.{Crashes.{LeavesAlike}, Files.{HoldBooks, HoldDatabase}};
+ghost use Rattle.sqlite_wal.specs.Reads.{AreClean};
+ghost use Rattle.plant_books.specs.Contents.{Content, no_units};
+ghost use Rattle.plant_server.specs.{Crashes.{HoldWholeBooks, LeavesAlike}, Files.{HoldBooks, HoldDatabase}};
 ghost use Rattle.plant_store.specs.{Changes.{IsHonest}, Keeping.{Represents}, Opening.{IsThisOffice}, Reading.{HasNoTransaction}};
 ghost use Rattle.plant_server.specs.Files as files;
 
+use crate::remains::close_whole;
 use plant_store::{StoreFault, Tables};
 use plant_types::{Fault, Person};
-use sqlite::{Connection, Error, ErrorCode, FileFrom, FileStore, Start, Unknown};
+use sqlite::{Connection, Error, ErrorCode, File, FileFrom, FileStore, Start, Unknown};
+use sqlite_disk::{Disk, Files};
+use sqlite_trees::error::StoreError;
 use std::fs;
 use std::io::ErrorKind;
 
@@ -124,12 +128,29 @@ pub fn remove(rt: &HostRuntime, path: &str) -> Result<(), StoreFault> {
     }
 }
 
-/// Makes new books in a file that is not there, and closes it: it is whole, without a log.
-fn make_whole(rt: &HostRuntime, path: &str, admin: Person) -> Result<(), StoreFault> {
+/// Makes new books in a file that is not there, and closes it: whatever a crash leaves of it from then on holds them, also
+/// without the log.
+fn make_whole(rt: &HostRuntime, path: &str, admin: Person) -> Result<Files<File>, StoreFault>
+    ensures { IfOk result (λ files. AreClean ⟦<File as Disk>⟧ files.log files.db
+        → HoldWholeBooks ⟦<File as Disk>⟧ files (no_units admin)) }
+{
     let conn = connect(rt, path, Unknown)?;
     match Tables::create(rt.alloc(), conn, admin) {
-        Ok(books) => close_file(books),
+        Ok(books) => close_new(books),
         Err(unopened) => Err(unopened.fault),
+    }
+}
+
+/// Closes a new file, which is whole then.
+pub fn close_new<D: Disk + Drop>(books: Tables<FileStore<D>>) -> Result<Files<D>, StoreFault>
+    ensures { (m : Content) → Represents (file_state books.0.0) m
+        → IfOk result (λ files. AreClean D.Disk files.log files.db
+        → HoldWholeBooks D.Disk files m) }
+{
+    match close_whole(books) {
+        Ok(files) => Ok(files),
+        Err((StoreError::OutOfMemory, _)) => Err(MEMORY),
+        Err((_, _)) => Err(STORE),
     }
 }
 
@@ -164,7 +185,7 @@ fn make_file(rt: &HostRuntime, path: &str, admin: Person) -> Result<(), StoreFau
     let new = new_names(rt, path)?;
     remove(rt, &new.file)?;
     remove(rt, &new.log)?;
-    make_whole(rt, &new.file, admin)?;
+    drop(make_whole(rt, &new.file, admin)?);
     put_in_place(rt, &new, path)
 }
 
@@ -189,9 +210,4 @@ pub fn in_file<S: Start>(
         make_file(rt, path, founder)?;
     }
     open_file(rt, path, admin, start)
-}
-
-/// Copies the log into the file. Where that fails, the log stays beside the file and is read when it is opened again.
-pub fn close_file<S: Start>(books: Tables<FileStore<FileFrom<S>>>) -> Result<(), StoreFault> {
-    books.close().close().map_err(|error| fault_of(&error))
 }

@@ -5,8 +5,8 @@
 mod books;
 mod commands;
 mod files;
-mod left;
 mod migrations;
+mod remains;
 mod sockets;
 mod statuses;
 

@@ -2,16 +2,19 @@
 
 ghost use Rattle.std.specs.Prelude.{◌≡◌, IfOk, false};
 ghost use Rattle.sqlite.specs.{Files.{file_state}, Held.{state}};
+ghost use Rattle.sqlite_wal.specs.Reads.{AreClean};
 ghost use Rattle.plant_books.specs.Contents.{Content};
+ghost use Rattle.plant_server.specs.Crashes.{HoldWholeBooks};
 ghost use Rattle.plant_store.specs.{Changes.{IsHonest}, Keeping.{Represents}, Reading.{HasNoTransaction}, Upgrading.{HaveOldRows}};
 
 use crate::files::{
-    NewNames, STORE, beside, close_file, connect, is_there, length_of, new_names, put_in_place,
+    NewNames, STORE, beside, close_new, connect, is_there, length_of, new_names, put_in_place,
     remove,
 };
 use plant_store::{StoreFault, Tables, migrate};
 use plant_types::Person;
 use sqlite::{Alter, Connection, File, FileStore, Unknown};
+use sqlite_disk::{Disk, Files};
 use std::alloc::Global;
 use std::fs;
 use std::io::ErrorKind;
@@ -119,13 +122,18 @@ fn make_new(
     (old, made)
 }
 
-/// Closes the new file, which is whole then. Where that fails, nothing of it is left.
-fn close_whole(
+/// Closes the new file: whatever a crash leaves of it from then on holds the books, also without the log. Where closing fails,
+/// nothing of it is left.
+fn finish(
     rt: &HostRuntime,
     books: Tables<FileStore<File>>,
     new: &NewNames,
-) -> Result<(), StoreFault> {
-    let closed = close_file(books);
+) -> Result<Files<File>, StoreFault>
+    ensures { (m : Content) → Represents (file_state books.0.0) m
+        → IfOk result (λ files. AreClean ⟦<File as Disk>⟧ files.log files.db
+        → HoldWholeBooks ⟦<File as Disk>⟧ files m) }
+{
+    let closed = close_new(books);
     if closed.is_err() {
         discard(rt, new);
     }
@@ -156,7 +164,8 @@ fn make_from(
         let _ = remove(rt, &log);
     }
     drop(old);
-    close_whole(rt, made?, new)
+    drop(finish(rt, made?, new)?);
+    Ok(())
 }
 
 /// Makes sure that the name of the file at this path is on the disk.

@@ -164,6 +164,16 @@ impl<B: Books> Books for Counting<B> {
 
     ghost stores = { λ t. B.stores t.books };
 
+    ghost is_clean = { λ t. B.is_clean t.books };
+
+    ghost may_leave = { λ t. B.may_leave t.books };
+
+    ghost leaves_books = { λ t. B.leaves_books t.books };
+
+    fn settle(&self) {
+        self.books.settle();
+    }
+
     fn administrator(&self) -> &Person {
         self.books.administrator()
     }

@@ -75,4 +75,5 @@ makes_new admin old new has count h =
       };
       office = ap (λ (t : Trees). t 0) all ∙ step.rows ∙ edit;
       empty = none;
+      database = w.sound;
     }

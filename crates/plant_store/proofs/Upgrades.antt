@@ -186,6 +186,7 @@ pub taken_next : (us : List Name) (x : Name) (db : Database) → AreOldBooks db 
     → AreTakenOver (us ++ x ∷ []) db.trees new
 taken_next us x db books old new fresh so_far it = record {
   books = it.books;
+  database = it.database so_far.database;
   taken = λ u h. taken u (same_name x u) (is_among us u) refl refl (sym (among_more us x u) ∙ h);
   others = λ u h. others u (same_name x u) (is_among us u) refl refl (sym (among_more us x u) ∙ h);
 }
@@ -206,6 +207,7 @@ taken_next us x db books old new fresh so_far it = record {
 pub none_taken : (admin : Name) (trees : Trees) (db : Database) → AreNew admin db → AreTakenOver [] trees db
 none_taken admin trees db it = record {
   books = it.books;
+  database = it.database;
   taken = λ u h. absurd (true≢false (sym h));
   others = λ u h i. ap (rows_of (shape i) u) (it.empty i) ∙ nothing_at i;
 }

@@ -1,9 +1,11 @@
 -- What of a store of schema 1 is written into the books, read from one connection and written by a transaction of another.
 use Rattle.std.specs.Prelude.{IsTrue, List, OnOk, Result, [], map, ◌≡◌}
-use Rattle.sqlite.specs.{Held.{Held, state}, State.{HasCleanDisk}, Tree.{Trees}, declared.transaction.Transaction.{Transaction}}
+use Rattle.sqlite.specs.{Held.{Held, state}, State.{HasCleanDisk, State}, Tree.{Trees}, declared.transaction.Transaction.{Transaction}}
 use Rattle.sqlite_trees.specs.declared.store.Store.{Ghosts}
 use Rattle.plant_model.specs.declared.rows.{Row.{Row}, RowEdit.TheVariants.{Put}}
-use Rattle.plant_store.specs.{Changes.{IsHonest}, OldTables.{AreOldBooks}, Upgrading.{AreTakenOver, old_codes, puts_all, upgraded_rows}}
+use Rattle.plant_books.specs.Contents.{Content}
+use Rattle.sqlite.specs.Effect.{Database}
+use Rattle.plant_store.specs.{Changes.{IsHonest}, Keeping.{AreBooksOf}, OldTables.{AreOldBooks}, Upgrading.{AreTakenOver, HaveOldRows, old_codes, puts_all, upgraded_rows}}
 use Rattle.plant_store.specs.{Writing.{Writes}, declared.old_rows.CodeLine.{CodeLine}}
 use Rattle.plant_types.specs.Names.{Name}
 
@@ -28,3 +30,8 @@ TakesUnits g from from_after h tx tx_after lines said =
     → HasCleanDisk (state h tx_after.conn.now) → IsTrue tx.conn.now.in_transaction → AreTakenOver [] trees (state h tx.conn.now).now
     → OnOk said (AreTakenOver (old_codes trees) trees (state h tx_after.conn.now).now
     × ((state h tx_after.conn.now).now.trees 0 ≡ (state h tx.conn.now).now.trees 0)))
+
+-- these trees are the books that the older tables become
+abbrev pub AreTaken : State → State → Name → Trees → Type 0
+AreTaken from from_after admin db =
+    IsHonest from_after → (m : Content) → m.admin ≡ admin → HaveOldRows m from.now → (d : Database) × (d.trees ≡ db) × AreBooksOf m d

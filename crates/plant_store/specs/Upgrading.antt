@@ -2,7 +2,7 @@
 -- all else stays.
 use Rattle.std.specs.{FinMap.{contains_key}, List.{list_any}, Prelude.{flat_map, Bool, List, None, [], false, map, true, ◌∷◌, ◌≡◌}}
 use Rattle.plant_types.specs.{Limits.{max_quota}, Names.{Name, same_name}}
-use Rattle.sqlite.specs.{Effect.{Database}, Tree.{Trees}}
+use Rattle.sqlite.specs.{Effect.{Database, IsDatabase}, Tree.{Trees}}
 use Rattle.sqlite_value.specs.Order.{bytes, column}
 use Rattle.plant_books.specs.Contents.{Content, rows_in}
 use Rattle.plant_columns.specs.Kept.{by_columns, kept}
@@ -71,5 +71,6 @@ is_among us u = list_any (λ k. same_name k u) us
 -- the rows of these units are taken over, and of the others there is none
 pub record AreTakenOver (us : List Name) (trees : Trees) (db : Database) : Type 0 where
   pub books : AreBooks db
+  pub database : IsDatabase db
   pub taken : (u : Name) → is_among us u ≡ true → AreSeen u db (upgraded_rows u trees)
   pub others : (u : Name) → is_among us u ≡ false → AreSeen u db no_rows

@@ -1,9 +1,9 @@
 //! The tables of new books.
 
 ghost use Rattle.std.specs.Prelude.{◌-◌, ◌≡◌, OnOk};
-ghost use Rattle.sqlite.specs.Held.{state};
+ghost use Rattle.sqlite.specs.{Held.{state}, State.{Survives}};
 ghost use Rattle.plant_books.specs.Books.{WasHonest};
-ghost use Rattle.plant_store.specs.{Changes.{IsHonest}, Making.{AreEmpty, AreNew}};
+ghost use Rattle.plant_store.specs.{Changes.{IsHonest}, Making.{AreEmpty, AreNew, AreNewTrees}};
 ghost use Rattle.plant_store.specs.{Reading.{HasNoTransaction, IsHonestIn}, Writing.{IsBlank, LeadsTo, SameOnErr, SameReference, StaysOpen}};
 ghost use Rattle.plant_columns.specs.Tables.{no_schema, schema_with, shape, table_count};
 ghost use Rattle.plant_store.specs.Texts as texts;
@@ -113,6 +113,8 @@ pub fn make_all<S: Alter>(conn: &mut Connection<S>, admin: &Person) -> Result<()
         → OnOk result (AreNew admin.now (state S.Store conn.new).now) }
     ensures unchanged { SameOnErr S.Store conn.old conn.new result }
     ensures honest { WasHonest (IsHonestIn S.Store) conn.old conn.new }
+    ensures survives { IsBlank (state S.Store conn.old).now
+        → Survives (state S.Store conn.old) (state S.Store conn.new) (AreNewTrees admin.now) }
 {
     // Tells the proof that no transaction is open; the value is not used.
     let _settled = conn.is_autocommit();

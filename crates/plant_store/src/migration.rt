@@ -1,14 +1,14 @@
 //! A plant's rows taken over from a store of schema 1 into new tables of this schema.
 
 ghost use Rattle.std.specs.Prelude.{◌≡◌, ◌≢◌, false, map, IfErr, IfOk, IsErrAnd, IsTrue, OnOk, Err};
-ghost use Rattle.sqlite.specs.{Held.{state}, State.{HasCleanDisk}};
+ghost use Rattle.sqlite.specs.{Held.{state}, State.{HasCleanDisk, Survives}};
 ghost use Rattle.plant_books.specs.Contents.{Content};
 ghost use Rattle.plant_columns.specs.Tables.{no_schema};
 ghost use Rattle.plant_model.specs.declared.rows.RowEdit.TheVariants.{Put};
 ghost use Rattle.plant_types.specs.declared.fault.Fault.TheVariants.{Store};
-ghost use Rattle.plant_store.specs.{Changes.{IsHonest}, Keeping.{HaveRows, Represents}, OldTables.{old_schema_no}};
+ghost use Rattle.plant_store.specs.{Changes.{IsHonest}, Keeping.{AreBooksOf, HaveRows, Represents}, OldTables.{old_schema_no}};
 ghost use Rattle.plant_store.specs.{Opened.{HasNoOffice, HasOldBooks, IsAnothers, WasOffice}, Opening.{IsOffice}};
-ghost use Rattle.plant_store.specs.{Reading.{HasNoTransaction, ReadsOldBooks}, TakingOver.{Takes, TakesUnit, TakesUnits}};
+ghost use Rattle.plant_store.specs.{Reading.{HasNoTransaction, ReadsOldBooks}, TakingOver.{AreTaken, Takes, TakesUnit, TakesUnits}};
 ghost use Rattle.plant_store.specs.{Upgrading.{HaveOldRows}, Writing.{IsBlank, SameDatabase, SameOnErr, SameReference, StaysOpen, Writes}};
 ghost use Rattle.plant_store.specs.declared.tables.StoreFault.TheVariants.{NotThisStore};
 
@@ -132,7 +132,7 @@ fn fill<O: Alter, N: Alter>(
     ensures made { IsHonest (state O.Store from.new) → HasCleanDisk (state N.Store tx.new.conn.now)
         → IsTrue tx.old.conn.now.in_transaction → IsBlank (state N.Store tx.old.conn.now).now
         → (m : Content) → m.admin ≡ admin.now → HaveOldRows m (state O.Store from.old).now
-        → OnOk result (HaveRows m (state N.Store tx.new.conn.now).now) }
+        → OnOk result (AreBooksOf m (state N.Store tx.new.conn.now).now) }
     ensures stays { StaysOpen N.Store tx.old tx.new result }
 {
     let lines = old_codes_of(alloc, from)?;
@@ -157,6 +157,9 @@ fn take_over<O: Alter, N: Alter>(
         → (m : Content) → m.admin ≡ admin.now → HaveOldRows m (state O.Store from.old).now
         → OnOk result (HaveRows m (state N.Store into.new).now) }
     ensures unchanged { SameOnErr N.Store into.old into.new result }
+    ensures survives { IsBlank (state N.Store into.old).now
+        → Survives (state N.Store into.old) (state N.Store into.new)
+        (AreTaken (state O.Store from.old) (state O.Store from.new) admin.now) }
 {
     // Tells the proof that no transaction is open; the value is not used.
     let _settled = into.is_autocommit();
@@ -184,6 +187,8 @@ fn take_into_blank<O: Alter, N: Alter>(
     ensures blank { OnOk result ((state N.Store into.old).now.schema ≡ no_schema) }
     ensures full { (state N.Store into.old).now.schema ≢ no_schema → result ≡ Err Store }
     ensures unchanged { SameOnErr N.Store into.old into.new result }
+    ensures survives { Survives (state N.Store into.old) (state N.Store into.new)
+        (AreTaken (state O.Store from.old) (state O.Store from.new) admin.now) }
 {
     if !is_blank(into.schema()) {
         return Err(Fault::Store);
@@ -195,7 +200,8 @@ fn take_into_blank<O: Alter, N: Alter>(
 }
 
 /// Copies a plant's store of schema 1 into a database that has no table: all its rows, with the greatest quota for each
-/// unit and no end for any grant. The old store is only read; the new one is written in one transaction.
+/// unit and no end for any grant. The old store is only read; the new one is written in one transaction, so that a crash leaves
+/// what it had before or the whole copy.
 ///
 /// Refused as `NotThisStore` where the old database is no store of schema 1 with this administrator; the new one is not
 /// looked at then. A fault of the store where the new database has a table, where a row of the old store cannot be read
@@ -222,6 +228,10 @@ pub fn migrate<O: Alter, N: Alter>(
     ensures read { HasOldBooks O.Store old → IfOk result (λ r. SameDatabase O.Store old r.0) }
     ensures unread { HasOldBooks O.Store old → IfErr result (λ e. SameDatabase O.Store old e.old) }
     ensures unchanged { IfErr result (λ e. SameDatabase N.Store new e.new) }
+    ensures crash { IfOk result (λ r. Survives (state N.Store new) (state N.Store r.1.0.0)
+        (AreTaken (state O.Store old) (state O.Store r.0) admin)) }
+    ensures crash_unmade { IfErr result (λ e. Survives (state N.Store new) (state N.Store e.new)
+        (AreTaken (state O.Store old) (state O.Store e.old) admin)) }
     ensures back { IfErr result (λ e. (e.admin ≡ admin)
         × (HasNoTransaction e.old × HasNoTransaction e.new)) }
 {

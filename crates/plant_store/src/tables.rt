@@ -1,9 +1,10 @@
 //! The books of an office, kept in the tables of a connection.
 
 ghost use Rattle.std.specs.Prelude.{◌≡◌, ◌≢◌, ◌↔◌, ℕ, false, IsTrue, IsErrAnd, IfOk, IfErr};
-ghost use Rattle.sqlite.specs.{Held.{state}, State.{HasCleanDisk}};
+ghost use Rattle.sqlite.specs.{Held.{state}, State.{HasCleanDisk, Survives}};
 ghost use Rattle.plant_books.specs.{Books.{WasHonest}, Contents.{Content, no_units}, Counting.{Counts, CountsFault}};
 ghost use Rattle.plant_store.specs.{Changes.{IsHonest}, Counting.{Names, SaysAgain}, Keeping.{LeavesAlike, LeavesBooks, LeavesContent, Represents}};
+ghost use Rattle.plant_store.specs.Making.{AreNewTrees};
 ghost use Rattle.plant_store.specs.Opened.{HasNoOffice, IsAnothers, KeepsAll, KeepsIfErr, KeepsIfOk, WasOffice};
 ghost use Rattle.plant_store.specs.{Reading.{HasNoTransaction, IsHonestIn}, Writing.{SameDatabase}};
 ghost use Rattle.plant_store.specs.declared.tables.StoreFault.TheVariants.{NotThisStore};
@@ -112,7 +113,8 @@ impl<S: Alter> Model for Tables<S> {
 }
 
 impl<S: Alter> Tables<S> {
-    /// Makes all tables, with no unit, in a database that has none: in another it is a fault of the store.
+    /// Makes all tables, with no unit, in a database that has none: in another it is a fault of the store. They are made in one
+    /// transaction, so that a crash leaves what was there before or all of them.
     pub fn create(
         alloc: Global,
         mut conn: Connection<S>,
@@ -127,6 +129,10 @@ impl<S: Alter> Tables<S> {
             → IfErr result (λ e. e.fault ≡ StoreFault.Fault Store) }
         ensures fault { IfErr result (λ e. e.fault ≢ StoreFault.NotThisStore) }
         ensures unchanged { IfErr result (λ e. SameDatabase S.Store conn e.conn) }
+        ensures crash { IfOk result (λ t. Survives (state S.Store conn) (state S.Store t.0.0)
+            (AreNewTrees admin)) }
+        ensures crash_unmade { IfErr result (λ e. Survives (state S.Store conn) (state S.Store e.conn)
+            (AreNewTrees admin)) }
         ensures back { IfErr result (λ e. (e.admin ≡ admin) × HasNoTransaction e.conn) }
     {
         if !is_blank(conn.schema()) {

@@ -2,14 +2,14 @@
 use Rattle.std.specs.Prelude.{List, ℕ}
 use Rattle.plant_model.specs.declared.{call.Call.{Call}, reply.Answer.{Answer}}
 use Rattle.plant_wire.specs.{Ran.{Ran}, Session.{IsRead, IsSession, StopsAs}, declared.reads.{End.{End}, Read.{Read}}}
-use Rattle.plant_office.specs.Keep.{standing}
+use Rattle.plant_office.specs.Enduring.{books_state}
 use Rattle.plant_books.specs.declared.books.Books as books
 use Rattle.plant_wire.specs.declared.streams.Inlet as inlet
 use Rattle.plant_wire.specs.declared.streams.Outlet as outlet
 
 -- the office ran these calls, with these answers, on its books
 abbrev pub RanOn : {B : Type 0} → books.Ghosts B → B → B → List Call → List Answer → Type 0
-RanOn b before after = Ran (standing b before) (standing b after) (b.stores before) (b.stores after)
+RanOn b before after = Ran (books_state b before) (books_state b after) (b.stores before) (b.stores after)
 
 -- one read, and what waits for the next request before and after it
 abbrev pub ReadsOn : {I : Type 0} → inlet.Ghosts I → I → I → List ℕ → List ℕ → Read → Type 0

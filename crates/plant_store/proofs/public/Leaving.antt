@@ -77,11 +77,14 @@ module _ (a b : State) where
     pub fewer_changed : (x : Content) → LeavesContent b x → LeavesContent a x ⊎ (IsHonest a × ((m : Content) → (IsHonest a → HasContent a m) → IsKnownTo m u cs → Alike x (after_changes m u cs)))
     fewer_changed x (d, may, it) = elim (made.crash clean d.trees may) [
       | inl was ↦ inl (d, was, it)
-      | inr new ↦ inr (new.0, λ m held known.
-          let k = held new.0 in
-          let at = new.2 k.books new.1 in
-          let same : d ≡ at.0 = same_database at.0 d at.2 it.database (sym at.1) in
-          one_content a x (after_changes m u cs) at.0 (subst (HaveRows x) same it.rows) (changed_rows m k known at.0 at.3))
+      | inr new ↦ inr (
+        new.0,
+        λ m held known.
+            let k = held new.0 in
+            let at = new.2 k.books new.1 in
+            let same : d ≡ at.0 = same_database at.0 d at.2 it.database (sym at.1) in
+            one_content a x (after_changes m u cs) at.0 (subst (HaveRows x) same it.rows) (changed_rows m k known at.0 at.3),
+      )
     ]
 
     pub sound_changed : (m : Content) → (IsHonest a → HasContent a m) → (IsHonest a → IsKnownTo m u cs) → LeavesBooks a → LeavesBooks b

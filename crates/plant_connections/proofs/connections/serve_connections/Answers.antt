@@ -1,13 +1,13 @@
 use Rattle.std.proofs.{Common.{[], ◌∷◌, ◌∙◌, refl, arith}, KnownBytes.{Appends-nil}}
 use Rattle.plant_wire.proofs.public.Running.{ran_none}
 use Rattle.plant_connections.proofs.Serving.{made, ran_more, tells_more}
-use Rattle.plant_office.specs.Keep.{standing}
+use Rattle.plant_office.specs.Enduring.{books_state}
 use Rattle.plant_connections.proofs.connections.serve_connections.Goals as goal
 
 pub connections-init : goal.connections-init
 connections-init g c = record {
   served = ([], refl, ([], refl, Appends-nil (g.W.Write.contents c.args.log.now)), omega arith, refl);
-  ran = ([], [], ran_none (standing g.B.Books c.args.office.now.books) (g.B.Books.stores c.args.office.now.books));
+  ran = ([], [], ran_none (books_state g.B.Books c.args.office.now.books) (g.B.Books.stores c.args.office.now.books));
   honest = λ t. t;
   failed = refl;
 }
@@ -25,7 +25,7 @@ connections-preserved g c =
         omega (arith, c.in_ok-end.ensures.counted, served.3),
         omega (arith, served.4),
       );
-      ran = ran_more (standing g.B.Books c.args.office.now.books) (standing g.B.Books c.connections.office.books) (standing g.B.Books c.serve_next.new.office.books) (g.B.Books.stores c.args.office.now.books) (g.B.Books.stores c.connections.office.books) (g.B.Books.stores c.serve_next.new.office.books) c.in_ok-end.ensures.honest
+      ran = ran_more (books_state g.B.Books c.args.office.now.books) (books_state g.B.Books c.connections.office.books) (books_state g.B.Books c.serve_next.new.office.books) (g.B.Books.stores c.args.office.now.books) (g.B.Books.stores c.connections.office.books) (g.B.Books.stores c.serve_next.new.office.books) c.in_ok-end.ensures.honest
           c.connections.invariant.ran (made end c.in_ok-end.ensures.does);
       honest = λ t. c.connections.invariant.honest (c.in_ok-end.ensures.honest t);
       failed = c.in_ok-end.ensures.ok ∙ c.connections.invariant.failed;

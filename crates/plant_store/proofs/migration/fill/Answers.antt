@@ -21,5 +21,5 @@ returns-clause-made g c honest clean started blank m is had =
     on_ok c.take_units.result
     (λ it.
     let taken = subst (λ (d : Database). AreTakenOver (old_codes d.trees) d.trees new) same it.0 in
-    all_taken m before new had taken (it.1 ∙ empty.office ∙ ap (λ (a : Name). office_row a ∷ []) (sym is)))
+    record { database = taken.database; rows = all_taken m before new had taken (it.1 ∙ empty.office ∙ ap (λ (a : Name). office_row a ∷ []) (sym is)) })
     (c.take_units.ensures.made honest (subst AreOldBooks (sym same) had.books) lines clean inside (none_taken c.args.admin.now between.trees made.now empty))

@@ -8,13 +8,11 @@ returns-clause-survives g c =
     let old = c.args.conn.now in
     let all = survives_commit g.S.Store old c.transaction-tx.result.conn.now c.change_all.new.tx.conn.now c.commit.new.self.0 c.args.unit.now c.args.changes.now c.transaction-tx.ensures.begun
     c.change_all.ensures.survives c.in_ok-change_all.ensures.made c.commit.ensures.survives in
-    let same : c.commit.new.self.0 ≡ c.conn-2-1.given.0 = search rules in
-    subst (λ h. Survives (state g.S.Store old) (state g.S.Store h) (AreChanged (state g.S.Store old) c.args.unit.now c.args.changes.now)) same all
+    search (rules, all)
 
 pub returns-in_err-commit-clause-survives : goal.returns-in_err-commit-clause-survives
 returns-in_err-commit-clause-survives g c =
     let old = c.args.conn.now in
     let all = survives_commit g.S.Store old c.transaction-tx.result.conn.now c.change_all.new.tx.conn.now c.commit.new.self.0 c.args.unit.now c.args.changes.now c.transaction-tx.ensures.begun
     c.change_all.ensures.survives c.in_ok-change_all.ensures.made c.commit.ensures.survives in
-    let same : c.commit.new.self.0 ≡ c.conn-2-1.given.0 = search rules in
-    subst (λ h. Survives (state g.S.Store old) (state g.S.Store h) (AreChanged (state g.S.Store old) c.args.unit.now c.args.changes.now)) same all
+    search (rules, all)

@@ -1,15 +1,17 @@
 use Rattle.std.proofs.{Common.{◌≡◌, ◌+◌, ◌∙◌, ◌++◌, ◌∷◌, [], ap, arith, length, length-append, refl, subst, sym, take, List}, Math.Seq.{take-length}}
 use Rattle.std.proofs.lemmas.List.{take_more}
 use Rattle.plant_model.specs.declared.{call.Call.{Call}, reply.Answer.{Answer}}
-use Rattle.plant_office.{specs.Runs.{IsRun, stores_in}, proofs.public.Running.{few_stores, run_more, run_none, stores_more}}
+use Rattle.plant_office.{specs.{Enduring.{EnduresAll, books_state}, Runs.{IsRun, stores_in}}, proofs.public.{Enduring.{all_none, all_one, all_then}, Running.{few_stores, run_more, run_none, stores_more}}}
 use Rattle.plant_office.proofs.office.Office.run.Goals as goal
 
 pub loop-call-init : goal.loop-call-init
 loop-call-init g c =
     let none = c.in_ok-answers.ensures.items in
+    let start = books_state g.B.Books c.args.self.now.books in
     record {
       honest = λ t. t;
       ran = λ m k w legal h honest. subst (λ (xs : List Answer). IsRun w [] xs (g.B.Books.represents c.args.self.now.books)) (sym none) (run_none w m (g.B.Books.represents c.args.self.now.books) k h legal);
+      endures = subst (λ (xs : List Answer). EnduresAll start start [] xs) (sym none) (all_none start);
       long = ap length none;
       room = c.in_ok-answers.ensures.capacity;
       count = λ room. let e : stores_in [] ≡ 0 = refl in let z : g.B.Books.stores c.args.self.now.books ≡ g.B.Books.stores c.args.self.now.books + stores_in [] = omega (arith, e) in z ∙ ap (λ xs. g.B.Books.stores c.args.self.now.books + stores_in xs) (sym none);
@@ -31,6 +33,13 @@ loop-call-preserved g c =
           (subst (λ (xs : List Answer). IsRun w (take i calls ++ call ∷ []) xs (represents c.serve-answer.new.self.books)) (sym c.push_answer.ensures.items)
           (run_more w (take i calls) c.loop-call.answers.items call c.serve-answer.result (represents c.loop-call.self.books) (represents c.serve-answer.new.self.books)
           (before.ran m k w legal h (said.honest honest)) (λ n l v lv hv. said.served n l v lv hv honest) (λ n l. said.fault n l)));
+      endures =
+          let start = books_state g.B.Books c.args.self.now.books in
+          let now = books_state g.B.Books c.serve-answer.new.self.books in
+          subst (λ (xs : List Call). EnduresAll start now xs c.push_answer.new.answers.items) (sym more)
+          (subst (λ (xs : List Answer). EnduresAll start now (take i calls ++ call ∷ []) xs) (sym c.push_answer.ensures.items)
+          (all_then start (books_state g.B.Books c.loop-call.self.books) now (take i calls) (call ∷ []) c.loop-call.answers.items (c.serve-answer.result ∷ []) before.endures
+          (all_one (books_state g.B.Books c.loop-call.self.books) now call c.serve-answer.result said.endures)));
       long = ap length c.push_answer.ensures.items ∙ (let p = length-append c.loop-call.answers.items (c.serve-answer.result ∷ []) in let e : length (c.loop-call.answers.items ++ c.serve-answer.result ∷ []) ≡ i + 1 = omega (arith, p, before.long) in e);
       room = omega (arith, before.room, c.push_answer.ensures.room);
       count = λ room.
@@ -43,3 +52,9 @@ returns-clause-ran g c = λ m k w legal h honest.
     let all : length c.args.calls.now ≡ c.loop-call.call-index = omega (arith, c.loop-call-test.false, c.loop-call.auto.call-index-end) in
     let whole : take c.loop-call.call-index c.args.calls.now ≡ c.args.calls.now = ap (λ n. take n c.args.calls.now) (sym all) ∙ take-length c.args.calls.now in
     subst (λ (xs : List Call). IsRun w xs c.loop-call.answers.items (g.B.Books.represents c.loop-call.self.books)) whole (c.loop-call.invariant.ran m k w legal h honest)
+
+pub returns-clause-endures : goal.returns-clause-endures
+returns-clause-endures g c =
+    let all : length c.args.calls.now ≡ c.loop-call.call-index = omega (arith, c.loop-call-test.false, c.loop-call.auto.call-index-end) in
+    let whole : take c.loop-call.call-index c.args.calls.now ≡ c.args.calls.now = ap (λ n. take n c.args.calls.now) (sym all) ∙ take-length c.args.calls.now in
+    subst (λ (xs : List Call). EnduresAll (books_state g.B.Books c.args.self.now.books) (books_state g.B.Books c.loop-call.self.books) xs c.loop-call.answers.items) whole c.loop-call.invariant.endures

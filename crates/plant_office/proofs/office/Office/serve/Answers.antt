@@ -2,7 +2,7 @@ use Rattle.std.proofs.Common.{◌≡◌, false, subst, sym}
 use Rattle.plant_model.specs.{Verdicts.{changes_history}, declared.reply.Answer.{Answer}}
 use Rattle.plant_office.specs.{Answers.{CountsAnswer, IfSaid, OnFault}, Served.{IsIsolated, IsServed}}
 use Rattle.plant_office.proofs.Serving.{counts_if, fault_if, isolated_if, said_if}
-use Rattle.plant_office.specs.Keep.{Endures, standing}
+use Rattle.plant_office.specs.Enduring.{Endures, books_state}
 use Rattle.plant_office.proofs.office.Office.serve.Goals as goal
 
 pub returns-clause-served : goal.returns-clause-served
@@ -26,8 +26,8 @@ pub returns-clause-count : goal.returns-clause-count
 returns-clause-count g c =
     subst (λ (a : Answer). CountsAnswer (g.B.Books.stores c.args.self.now.books) (g.B.Books.stores c.serve_call-said.new.self.books) a) (sym c.answer_of.ensures) (counts_if _ _ c.serve_call-said.result c.serve_call-said.ensures.serves.count)
 
-pub returns-clause-lands : goal.returns-clause-lands
-returns-clause-lands g c = record {
-  endures = subst (λ (a : Answer). Endures c.args.call.now a (standing g.B.Books c.args.self.now.books) (standing g.B.Books c.serve_call-said.new.self.books)) (sym c.answer_of.ensures) c.serve_call-said.ensures.serves.endures;
+pub returns-clause-endures : goal.returns-clause-endures
+returns-clause-endures g c = record {
+  endures = subst (λ (a : Answer). Endures c.args.call.now a (books_state g.B.Books c.args.self.now.books) (books_state g.B.Books c.serve_call-said.new.self.books)) (sym c.answer_of.ensures) c.serve_call-said.ensures.serves.endures;
   settled = c.settle.ensures.alike;
 }

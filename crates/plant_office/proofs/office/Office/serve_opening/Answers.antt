@@ -1,5 +1,6 @@
 use Rattle.std.proofs.Common.{subst, ◌∙◌}
 use Rattle.plant_books.specs.Contents.{after_changes}
+use Rattle.plant_model.proofs.public.LegalLaws.{next_legal}
 use Rattle.plant_unit.specs.Judged.{IsOpening}
 use Rattle.plant_office.proofs.Serving.{accepted_opening, holds_opened, known_opening, leaves, opening_changes, opening_of, refused_opening, serves_changing, serves_fault, serves_same}
 use Rattle.plant_office.proofs.office.Office.serve_opening.Goals as goal
@@ -34,6 +35,7 @@ returns-in_err-apply-in-Accepted g c =
             meant = λ m k w legal h honest.
                 let v = opening_of m w call u _ _ _ h (c.administrator.ensures m (c.taken.ensures.same m k)) (c.in_ok-taken.ensures.found m k honest) (subst (IsOpening _ _ _) c.in-Accepted.is c.in_ok-refused.ensures.value) in
                 holds_opened m w call u c.in-Accepted.reply _ legal h c.note_matrix.ensures c.requires.named c.requires.opening v;
+            legal = λ w legal. next_legal w call legal c.note_matrix.ensures;
           });
     }
 
@@ -59,5 +61,6 @@ returns-in_ok-apply-in-Accepted g c =
             meant = λ m k w legal h honest.
                 let v = opening_of m w call u _ _ _ h (c.administrator.ensures m (c.taken.ensures.same m k)) (c.in_ok-taken.ensures.found m k honest) (subst (IsOpening _ _ _) c.in-Accepted.is c.in_ok-refused.ensures.value) in
                 holds_opened m w call u c.in-Accepted.reply _ legal h c.note_matrix.ensures c.requires.named c.requires.opening v;
+            legal = λ w legal. next_legal w call legal c.note_matrix.ensures;
           }) c.in_ok-apply-in-Accepted.ensures.kept;
     }

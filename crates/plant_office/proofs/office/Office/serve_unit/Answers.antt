@@ -1,5 +1,6 @@
 use Rattle.std.proofs.Common.{subst, sym, ◌∙◌}
 use Rattle.plant_books.specs.Contents.{after_changes}
+use Rattle.plant_model.proofs.public.LegalLaws.{next_legal}
 use Rattle.plant_office.proofs.Serving.{changing_call, holds_meant, known_call, leaves, on_history, read_call, refused_call, same_changes, serves_changing, serves_fault, serves_same}
 use Rattle.plant_office.proofs.office.Office.serve_unit.Goals as goal
 
@@ -48,6 +49,7 @@ returns-in_err-apply-in-Accepted g c =
                 let found = c.in_ok-part.ensures.found m k honest u c.requires.named in
                 let v = on_history m w call u _ _ _ _ legal h found c.as_ref.ensures.value c.in_ok-refused.ensures.value c.in-Accepted.is in
                 holds_meant m w call u c.in-Accepted.reply _ left legal h c.note_matrix.ensures c.requires.named c.requires.plain changes v (same_changes m call u c.in_ok-part.part c.in-Accepted.changes left found c.leave_out_same.ensures);
+            legal = λ w legal. next_legal w call legal c.note_matrix.ensures;
           });
     }
 
@@ -77,5 +79,6 @@ returns g c =
                 let found = c.in_ok-part.ensures.found m k honest u c.requires.named in
                 let v = on_history m w call u _ _ _ _ legal h found c.as_ref.ensures.value c.in_ok-refused.ensures.value c.in-Accepted.is in
                 holds_meant m w call u c.in-Accepted.reply _ left legal h c.note_matrix.ensures c.requires.named c.requires.plain changes v (same_changes m call u c.in_ok-part.part c.in-Accepted.changes left found c.leave_out_same.ensures);
+            legal = λ w legal. next_legal w call legal c.note_matrix.ensures;
           }) c.in_ok-apply-in-Accepted.ensures.kept;
     }

@@ -1,0 +1,58 @@
+-- What files that a crash leaves hold.
+use Rattle.std.proofs.Common.{◌≡◌, IsTrue, List, [], ap, sym, subst, ◌∙◌, arith}
+use Rattle.std.proofs.Math.Logic.{∥∥₁_map}
+use Rattle.sqlite.specs.{Closing.{HoldsAlone}, Effect.{Database, IsDatabase}, Files.{HoldsDatabase, file_state}, Held.{AreDatabases, Held}, State.{HasCleanDisk, IsLive, State}, Tree.{Trees}}
+use Rattle.sqlite.proofs.Theorems.{opens_again}
+use Rattle.sqlite_disk.specs.declared.{Disk.{Ghosts}, Files.{Files}}
+use Rattle.sqlite_store.specs.{FileStore.{recovers, state, view}, declared.store.FileStore.{FileStore}}
+use Rattle.sqlite_wal.specs.{Files.{outcomes}, Recovery.{Image}}
+use Rattle.plant_books.specs.{Contents.{Content}, Crashes.{Alike}}
+use Rattle.plant_model.specs.{Worlds.{World}, declared.{call.Call.{Call}, reply.Answer.{Answer}}}
+use Rattle.plant_office.specs.Outcomes.{IsOutcome}
+use Rattle.plant_server.specs.{Crashes.{HoldCommitted, HoldOutcome, HoldWholeBooks, HoldWholeOutcome, IsOutcomeIn, IsWhole, LeavesOutcomes}, Files.{HoldBooks, HoldDatabase}}
+use Rattle.plant_store.specs.Keeping.{AreBooksOf, HaveRows, LeavesBooks, LeavesContent, Represents}
+
+held_by : (image : Image) (d : Database) (m : Content) (db : Trees) → db ≡ d.trees → IsDatabase d → HaveRows m d → HoldsDatabase image db → HoldBooks image m
+held_by image d m db same live rows holds = record { db = d; database = record { trees = subst (HoldsDatabase image) same holds; listed = live }; rows = rows }
+
+outcome_held : (image : Image) (w : World) (calls : List Call) (answers : List Answer) (db : Trees) → IsOutcomeIn w calls answers db → HoldsDatabase image db → HoldOutcome w calls answers image
+outcome_held image w calls answers db it holds = record {
+  content = it.content;
+  books = held_by image it.database it.content db (sym it.same) it.books.database it.books.rows holds;
+  outcome = it.outcome;
+}
+
+module _ {D : Type 0} {g : Ghosts D} where
+  -- a store that leaves no more than a connection did leaves what it did
+  pub outcomes_left : (c : Held (FileStore D g)) (it : FileStore D g) → IsWhole it → ((db : Trees) → recovers it db → recovers c.store db)
+      → LeavesBooks (file_state c) → (w : World) (calls : List Call) (answers : List Answer) → ((x : Content) → LeavesContent (file_state c) x → IsOutcome w calls answers x) → LeavesOutcomes it w calls answers
+  outcomes_left c it whole fewer_trees sound w calls answers has =
+      let each : (db : Trees) → recovers it db → IsOutcomeIn w calls answers db = λ db may.
+      let was = fewer_trees db may in
+      let b = sound db was in
+      record { content = b.0; database = b.1; same = b.2; books = b.3; outcome = has b.0 (b.1, subst (recovers c.store) (sym b.2) was, b.3) } in
+      record {
+        databases = each;
+        files = λ image may. ∥∥₁_map (opens_again it whole.numbered whole.sound image may) (λ found. outcome_held image w calls answers found.0 (each found.0 found.1) found.2);
+      }
+
+  -- what was committed is among what a crash could leave before the closing
+  pub outcome_whole : (it : FileStore D g) (files : Files D) (w : World) (calls : List Call) (answers : List Answer) → LeavesOutcomes it w calls answers → HoldCommitted g it files → HoldWholeOutcome g files w calls answers
+  outcome_whole it files w calls answers left held image may =
+      let alone = held.alone image may in
+      let is = left.databases (view it).committed held.committed in (
+        ∥∥₁_map alone.both (outcome_held image w calls answers (view it).committed is),
+        ∥∥₁_map alone.alone (outcome_held (record image { log = [] }) w calls answers (view it).committed is),
+      )
+
+  pub whole_books : (c : Held (FileStore D g)) (it : FileStore D g) (files : Files D) → IsLive (file_state c) → (IsTrue (file_state c).is_open → (file_state c).now ≡ (file_state c).committed)
+      → HasCleanDisk (file_state c) → IsTrue (file_state c).is_open → (view it).committed ≡ (file_state c).committed.trees
+      → (m : Content) → Represents (file_state c) m → HoldCommitted g it files → HoldWholeBooks g files m
+  whole_books c it files live settled clean up committed m held copied image may =
+      let k = held (clean, up) in
+      let same : (view it).committed ≡ (file_state c).now.trees = committed ∙ sym (ap (λ (d : Database). d.trees) (settled up)) in
+      let alone = copied.alone image may in
+      let now = (live up).0 in (
+        ∥∥₁_map alone.both (held_by image (file_state c).now m _ same now k),
+        ∥∥₁_map alone.alone (held_by (record image { log = [] }) (file_state c).now m _ same now k),
+      )

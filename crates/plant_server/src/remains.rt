@@ -1,0 +1,75 @@
+//! What serving leaves of the files of books.
+
+ghost use Rattle.std.specs.Prelude.{◌≡◌, IfOk, IsTrue, List};
+ghost use Rattle.sqlite.specs.{Files.{file_state}, State.{HasCleanDisk}};
+ghost use Rattle.sqlite_store.specs.FileStore.{view};
+ghost use Rattle.sqlite_trees.specs.View.{IsClean};
+ghost use Rattle.sqlite_wal.specs.Reads.{AreClean};
+ghost use Rattle.plant_books.specs.Contents.{Content};
+ghost use Rattle.plant_model.specs.{Worlds.{World}, declared.{call.Call.{Call}, reply.Answer.{Answer}}};
+ghost use Rattle.plant_office.specs.Outcomes.{IsOutcome};
+ghost use Rattle.plant_server.specs.Crashes.{HoldCommitted, HoldWholeBooks, HoldWholeOutcome, IsWhole, LeavesOutcomes};
+ghost use Rattle.plant_store.specs.Keeping.{LeavesBooks, LeavesContent, Represents};
+
+use plant_store::Tables;
+use sqlite::FileStore;
+use sqlite_disk::{Disk, Files};
+use sqlite_trees::error::StoreError;
+use sqlite_trees::store::Store;
+
+/// Gives the store of the books back, as serving left it. Whatever a crash leaves of it now, these books may leave.
+pub fn leave<D: Disk + Drop>(books: Tables<FileStore<D>>) -> FileStore<D>
+    ensures clean { IsClean (view result) → HasCleanDisk (file_state books.0.0) }
+    ensures whole { IsClean (view result) → IsWhole result }
+    ensures open { IsClean (view result) → IsTrue (view result).is_open
+        → IsTrue (file_state books.0.0).is_open
+        × ((view result).committed ≡ (file_state books.0.0).committed.trees) }
+    ensures left { (w : World) (calls : List Call) (answers : List Answer) → IsClean (view result)
+        → LeavesBooks (file_state books.0.0)
+        → ((x : Content) → LeavesContent (file_state books.0.0) x → IsOutcome w calls answers x)
+        → LeavesOutcomes result w calls answers }
+{
+    books.close().into_store()
+}
+
+/// Copies the log into the file, and gives the two files back, or the store as it is where that fails.
+fn copy_log<D: Disk>(mut store: FileStore<D>) -> Result<Files<D>, (StoreError, FileStore<D>)>
+    requires { IsClean (view store) → IsWhole store }
+    ensures { IfOk result (λ files. AreClean D.Disk files.log files.db
+        → HoldCommitted D.Disk store files) }
+{
+    // What is not committed was taken back before; this tells the proof that none of it is in the log.
+    store.rollback();
+    match store.checkpoint() {
+        Ok(()) => Ok(store.close()),
+        Err(error) => Err((error, store)),
+    }
+}
+
+/// Closes the files that serving left, with the log copied into the file; where that fails, the log stays beside the file. After
+/// success the file alone holds what a crash could leave before.
+pub fn close_left<D: Disk>(store: FileStore<D>) -> Result<Files<D>, (StoreError, FileStore<D>)>
+    requires { IsClean (view store) → IsWhole store }
+    ensures { (w : World) (calls : List Call) (answers : List Answer)
+        → LeavesOutcomes store w calls answers
+        → IfOk result (λ files. AreClean D.Disk files.log files.db
+        → HoldWholeOutcome D.Disk files w calls answers) }
+{
+    copy_log(store)
+}
+
+/// Closes the files of books, with the log copied into the file: whatever a crash leaves of them from then on holds the books, with
+/// the log and without it.
+pub fn close_whole<D: Disk + Drop>(
+    books: Tables<FileStore<D>>,
+) -> Result<Files<D>, (StoreError, FileStore<D>)>
+    ensures { (m : Content) → Represents (file_state books.0.0) m
+        → IfOk result (λ files. AreClean D.Disk files.log files.db
+        → HoldWholeBooks D.Disk files m) }
+{
+    let conn = books.close();
+    // Tell the proof that there is a database, and that all of it is committed; the values are not used.
+    let _live = conn.schema();
+    let _settled = conn.is_autocommit();
+    copy_log(conn.into_store())
+}
