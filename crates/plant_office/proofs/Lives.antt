@@ -1,8 +1,7 @@
 -- Several starts, with a crash or a stop between one and the next.
-use Rattle.std.proofs.Common.{◌≡◌, ◌⊎◌, inl, inr, List, [], ◌∷◌, ◌++◌, ◌+◌, ◌≤◌, length, refl, sym, ap, subst, ◌∙◌, arith, append_assoc, length-append}
-use Rattle.plant_books.specs.Contents.{Content}
+use Rattle.std.proofs.Common.{◌≡◌, inl, inr, List, [], ◌∷◌, ◌++◌, ◌+◌, ◌≤◌, length, refl, sym, ap, subst, ◌∙◌, arith, append_assoc, length-append}
 use Rattle.plant_model.specs.{Worlds.{IsLegalWorld, World, next}, declared.{call.Call.{Call}, reply.Answer.{Answer}}}
-use Rattle.plant_office.specs.{Lives.{AreMadeInAll, CrashesLeaveAWorld, IsWithin, LeadTo, Life, confirmed_in_all}, Outcomes.{AreMade, IsOutcome, after_calls, confirmed}, Served.{Holds}}
+use Rattle.plant_office.specs.{Lives.{CrashesLeaveAWorld, IsWithin, confirmed_in_all}, Outcomes.{AreMade, after_calls, confirmed}, Served.{Holds}}
 
 after_both : (w : World) (cs ds : List Call) → after_calls w (cs ++ ds) ≡ after_calls (after_calls w cs) ds
 after_both w [] ds = refl

@@ -3,7 +3,7 @@ use Rattle.std.proofs.Common.{List, sym, subst, ℕ, ◌+◌, ◌<◌, ◌^◌, 
 use Rattle.plant_books.specs.Contents.{Content}
 use Rattle.plant_model.specs.declared.{call.Call.{Call}, reply.Answer.{Answer}}
 use Rattle.plant_model.specs.Worlds.{World}
-use Rattle.plant_office.specs.{Enduring.{AreAfter, BooksState, EnduresAll}, Runs.{stores_in}}
+use Rattle.plant_office.specs.{Enduring.{AreAfter, BooksState}, Runs.{stores_in}}
 use Rattle.plant_wire.specs.Ran.{Ran}
 
 -- what holds of a run up to some books holds up to others that hold as much, where a crash leaves no more

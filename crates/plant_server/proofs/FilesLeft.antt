@@ -1,16 +1,20 @@
 -- What files that a crash leaves hold.
-use Rattle.std.proofs.Common.{◌≡◌, IsTrue, List, [], ap, sym, subst, ◌∙◌, arith}
+use Rattle.std.proofs.Common.{◌≡◌, Err, IfOk, IsTrue, List, Ok, Result, [], ap, sym, subst, ◌∙◌}
 use Rattle.std.proofs.Math.Logic.{∥∥₁_map}
-use Rattle.sqlite.specs.{Closing.{HoldsAlone}, Effect.{Database, IsDatabase}, Files.{HoldsDatabase, file_state}, Held.{AreDatabases, Held}, State.{HasCleanDisk, IsLive, State}, Tree.{Trees}}
+use Rattle.sqlite.specs.{Effect.{Database, IsDatabase}, Files.{HoldsDatabase, file_state}, Held.{Held}, State.{HasCleanDisk, IsLive}, Tree.{Trees}}
 use Rattle.sqlite.proofs.Theorems.{opens_again}
 use Rattle.sqlite_disk.specs.declared.{Disk.{Ghosts}, Files.{Files}}
-use Rattle.sqlite_store.specs.{FileStore.{recovers, state, view}, declared.store.FileStore.{FileStore}}
-use Rattle.sqlite_wal.specs.{Files.{outcomes}, Recovery.{Image}}
-use Rattle.plant_books.specs.{Contents.{Content}, Crashes.{Alike}}
+use Rattle.sqlite_store.specs.{FileStore.{recovers, view}, declared.store.FileStore.{FileStore}}
+use Rattle.sqlite_wal.specs.{Recovery.{Image}}
+use Rattle.plant_books.specs.{Contents.{Content}}
 use Rattle.plant_model.specs.{Worlds.{World}, declared.{call.Call.{Call}, reply.Answer.{Answer}}}
 use Rattle.plant_office.specs.Outcomes.{IsOutcome}
-use Rattle.plant_server.specs.{Crashes.{HoldCommitted, HoldOutcome, HoldWholeBooks, HoldWholeOutcome, IsOutcomeIn, IsWhole, LeavesOutcomes}, Files.{HoldBooks, HoldDatabase}}
-use Rattle.plant_store.specs.Keeping.{AreBooksOf, HaveRows, LeavesBooks, LeavesContent, Represents}
+use Rattle.plant_server.specs.{Crashes.{HoldCommitted, HoldOutcome, HoldWholeBooks, HoldWholeOutcome, IsOutcomeIn, IsWhole, LeavesOutcomes}, Files.{HoldBooks}}
+use Rattle.plant_store.specs.Keeping.{HaveRows, LeavesBooks, LeavesContent, Represents}
+
+pub if_ok : {A E : Type 0} (said : Result A E) {P Q : A → Type 0} → ((a : A) → P a → Q a) → IfOk said P → IfOk said Q
+if_ok (Ok a) then h = then a h
+if_ok (Err e) then h = tt
 
 held_by : (image : Image) (d : Database) (m : Content) (db : Trees) → db ≡ d.trees → IsDatabase d → HaveRows m d → HoldsDatabase image db → HoldBooks image m
 held_by image d m db same live rows holds = record { db = d; database = record { trees = subst (HoldsDatabase image) same holds; listed = live }; rows = rows }

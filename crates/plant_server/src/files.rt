@@ -149,8 +149,18 @@ pub fn close_new<D: Disk + Drop>(books: Tables<FileStore<D>>) -> Result<Files<D>
 {
     match close_whole(books) {
         Ok(files) => Ok(files),
-        Err((StoreError::OutOfMemory, _)) => Err(MEMORY),
-        Err((_, _)) => Err(STORE),
+        Err((error, store)) => {
+            drop(store.close());
+            Err(closing_fault(error))
+        }
+    }
+}
+
+/// What an error of the store at its closing is reported as.
+fn closing_fault(error: StoreError) -> StoreFault {
+    match error {
+        StoreError::OutOfMemory => MEMORY,
+        _ => STORE,
     }
 }
 

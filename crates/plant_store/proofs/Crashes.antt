@@ -1,7 +1,7 @@
 -- What a crash leaves of a transaction that is committed.
 use Rattle.std.proofs.Common.{◌≡◌, List, inl, refl, sym, subst, arith, true, IsTrue}
 use Rattle.sqlite.specs.{Effect.{Database, IsDatabase}, Held.{Held, state}, State.{HasCleanDisk, State, Survives}, Tree.{Trees}}
-use Rattle.sqlite.proofs.{Callers.{survives_begin}, StateLemmas.{survives_then, survives_weaker}}
+use Rattle.sqlite.proofs.{Callers.{survives_begin}, StateLemmas.{survives_then}}
 use Rattle.sqlite_trees.specs.declared.store.Store.{Ghosts}
 use Rattle.plant_columns.specs.Tables.{AreBooks}
 use Rattle.plant_model.specs.declared.rows.RowEdit.{RowEdit}

@@ -1,6 +1,6 @@
 -- The last row of a unit, by a query in the falling order of the key with LIMIT 1.
 use Rattle.std.specs.List.{AllByRecursion}
-use Rattle.std.proofs.Common.{◌≡◌, ℕ, ◌-◌, List, [], ◌∷◌, ◌++◌, map, filter, reverse, Option, Some, None, refl, sym, ap, ◌∙◌, subst, Ordering, Less, IsPermutation, arith, length, pos, option_map, get_or, slice_get, unwrap_or}
+use Rattle.std.proofs.Common.{◌≡◌, ℕ, ◌-◌, List, [], ◌∷◌, map, filter, reverse, Option, Some, None, refl, sym, ap, ◌∙◌, subst, Ordering, Less, IsPermutation, arith, length, pos, option_map, get_or, slice_get, unwrap_or}
 use Rattle.std.proofs.lemmas.List.{get_or-reverse, length-map, length-reverse, reverse-append}
 use Rattle.std.proofs.lemmas.List.Sorted.{IsPermutation-trans, IsPermutation-reverse, IsPermutation-map, IsPermutation-sym}
 use Rattle.std.proofs.lemmas.Option.{slice_get-get_or, slice_get-map}

@@ -1,5 +1,5 @@
 -- What a statement leaves that was not run.
-use Rattle.std.proofs.Common.{◌≡◌, ◌⊎◌, inl, inr, IsTrue, List, ℕ, sym, ◌∙◌}
+use Rattle.std.proofs.Common.{◌≡◌, inl, inr, IsTrue, List, ℕ, sym, ◌∙◌}
 use Rattle.sqlite_value.specs.Order.{Row}
 use Rattle.sqlite.specs.{State.{IsNotRun, State}, declared.error.Error.{Error}}
 

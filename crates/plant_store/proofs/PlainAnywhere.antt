@@ -1,5 +1,5 @@
 -- Whether a text has RETURNING is read from the text alone, whatever the schema is.
-use Rattle.std.proofs.Common.{◌≡◌, ◌⊎◌, inl, inr, ℕ, ◌==◌, List, length, true, false, None, Some, Ok, Err, Option, Result, Bool, if◌then◌else◌, refl, sym, ap, subst, ◌∙◌, IsSome, true≢false}
+use Rattle.std.proofs.Common.{◌≡◌, inl, inr, ℕ, ◌==◌, List, length, true, false, None, Some, Ok, Err, Option, Result, Bool, if◌then◌else◌, refl, sym, ap, subst, ◌∙◌, true≢false}
 use Rattle.std.proofs.lemmas.Bool.{cases_Bool}
 use Rattle.sqlite_ast.specs.declared.Statement.{Statement}
 use Rattle.sqlite_ast.specs.declared.Statement.TheVariants as written

@@ -10,7 +10,7 @@ use Rattle.sqlite_value.specs.{Order.{Row, column, value_cmp}, declared.value.Va
 use Rattle.sqlite_value.proofs.OrderLemmas.{value_cmp-Text}
 use Rattle.plant_model.{specs.Histories.{same_number}, proofs.public.PartLists.{filter-true}}
 use Rattle.plant_types.specs.Names.{Name, same_name}
-use Rattle.plant_columns.specs.{Codes.{number}, Kept.{is_of}, Shown.{columns}}
+use Rattle.plant_columns.specs.{Codes.{number}, Kept.{is_of}}
 use Rattle.plant_columns.specs.declared.tables.TableKind.{TableKind, TheVariants.{Units, Grants, Alarms, Shelves, Bands, Cells, Records, Changes}}
 use Rattle.plant_columns.specs.Tables.{AreBooks, KeyOf, RowOf, books_schema, shape, rows_seen, grant_shape, alarm_shape, shelf_shape, band_shape, cell_shape, record_shape, change_shape}
 use Rattle.plant_columns.proofs.public.{Keys.{equal_is}, ShapeLaws.{good, numbers}, Shapes.{finds_rows}}

@@ -1,7 +1,7 @@
 -- Rows that rise are the same after they were put into tables without rows; and units are taken over one after another.
 use Rattle.std.specs.{Cmp.{IsTotalOrder}, FinMap.{contains_key, get}, List.{AllByRecursion}}
 use Rattle.std.specs.Ordering.{ordering_reverse}
-use Rattle.std.proofs.Common.{◌≡◌, ◌≢◌, ℕ, ◌<◌, ◌+◌, get_or, zero, suc, Bool, true, false, cond, List, [], ◌∷◌, ◌++◌, map, filter, take, length, refl, sym, ap, ap₂, ◌∙◌, subst, true≢false, Ordering, Less, Greater, is_eq, nat_cmp, arith, unwrap_or, ◌||◌}
+use Rattle.std.proofs.Common.{◌≡◌, ◌≢◌, ℕ, ◌<◌, get_or, zero, suc, Bool, true, false, cond, List, [], ◌∷◌, ◌++◌, map, filter, take, length, refl, sym, ap, ap₂, ◌∙◌, subst, true≢false, Ordering, Less, Greater, is_eq, nat_cmp, arith, unwrap_or, ◌||◌}
 use Rattle.std.proofs.Math.Bool.{or-false}
 use Rattle.std.proofs.lemmas.{Bool.{or_left, or_right}, List.{append-nil, append_assoc, Folds.{list_any-append}}}
 use Rattle.sqlite.specs.{Effect.{Database}, Tree.{Trees}}

@@ -4,9 +4,8 @@ use Rattle.std.proofs.lemmas.Bool.{cases_Bool}
 use Rattle.plant_books.specs.{Contents.{Content}, Crashes.{Alike}}
 use Rattle.plant_model.specs.{Verdicts.{is_read}, Worlds.{IsLegalWorld, World, next}, declared.{call.Call.{Call}, reply.Answer.{Answer}}}
 use Rattle.plant_model.specs.declared.reply.Answer.TheVariants.{Fault as Faulted, Refused as WasRefused, Reply as Replied}
-use Rattle.plant_types.specs.declared.fault.Fault.{Fault}
 use Rattle.plant_office.specs.{Outcomes.{AreMade, IsInDoubt, IsOutcome, after_calls, confirmed, confirms, is_fault}, Served.{Holds}}
-use Rattle.plant_office.specs.Enduring.{AreAfter, BooksState, Endures, EnduresAll, EnduresSettled, HoldsWorld, IsUnmade}
+use Rattle.plant_office.specs.Enduring.{AreAfter, BooksState, EnduresAll, EnduresSettled, HoldsWorld}
 
 -- books alike to those that hold a world hold it
 pub holds_alike : (x m : Content) (w : World) → Alike x m → Holds m w → Holds x w

@@ -3,7 +3,6 @@ use Rattle.std.proofs.Common.{ap, arith, refl, subst, ◌∙◌, List, [], cond,
 use Rattle.std.proofs.lemmas.List.Sums.{count_by-le-length, sum_by-append}
 use Rattle.plant_model.specs.{Worlds.{IsLegalWorld, World, answer, answers}, declared.{call.Call.{Call}, reply.Answer.{Answer}}}
 use Rattle.plant_model.specs.declared.reply.Answer.TheVariants.{Fault as Faulted, Refused as WasRefused, Reply as Replied}
-use Rattle.plant_model.proofs.public.PutLaws.{said}
 use Rattle.plant_types.{specs.declared.fault.Fault.TheVariants.{Memory, Store}, proofs.public.Halves.{left}}
 use Rattle.plant_books.specs.Contents.{Content}
 use Rattle.plant_office.specs.Answers.{CountsAnswer, IfSaid, OnFault}

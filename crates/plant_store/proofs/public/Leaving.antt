@@ -1,13 +1,13 @@
 -- What a crash leaves of the tables.
-use Rattle.std.specs.FinMap.{contains_key, get}
-use Rattle.std.proofs.Common.{◌≡◌, ◌⊎◌, inl, inr, Bool, true, false, IsTrue, List, ◌∷◌, [], None, Some, Option, unwrap_or, refl, sym, ap, subst, ◌∙◌, arith, ℕ}
+use Rattle.std.specs.FinMap.{get}
+use Rattle.std.proofs.Common.{◌≡◌, ◌⊎◌, inl, inr, true, false, IsTrue, List, ◌∷◌, [], Some, sym, ap, subst, ◌∙◌, arith, ℕ}
 use Rattle.std.proofs.lemmas.Bool.{cases_Bool}
 use Rattle.sqlite.specs.{Effect.{Database, IsDatabase}, Held.{Held, state}, State.{HasCleanDisk, IsLive, State, Survives}, Tree.{Trees}}
 use Rattle.sqlite_trees.specs.declared.store.Store.{Ghosts}
 use Rattle.plant_books.specs.{Contents.{Content, IsKnownTo, after_changes, rows_in}, Crashes.{Alike, IsSettled, LosesNoPart, LosesNothing}}
-use Rattle.plant_columns.specs.{Tables.{AreBooks, AreSeen, office_row, rows_at, rows_seen}, declared.tables.TableKind.{TableKind, TheVariants.{Units, Grants, Alarms, Shelves, Bands, Cells, Events, Records, Changes}}}
+use Rattle.plant_columns.specs.{Tables.{office_row, rows_at, rows_seen}, declared.tables.TableKind.{TableKind, TheVariants.{Units, Grants, Alarms, Shelves, Bands, Cells, Events, Records, Changes}}}
 use Rattle.plant_model.specs.declared.rows.{RowEdit.{RowEdit}, UnitRows.{UnitRows}}
-use Rattle.plant_store.specs.{Changes.{Applies, IsHonest, IsOfficeOf}, Keeping.{AreBooksOf, HasContent, HaveRows, LeavesAlike, LeavesBooks, LeavesContent, Represents, has_any}, Writing.{AreChangedHonestly}}
+use Rattle.plant_store.specs.{Changes.{Applies, IsHonest}, Keeping.{HasContent, HaveRows, LeavesAlike, LeavesBooks, LeavesContent, Represents, has_any}, Writing.{AreChangedHonestly}}
 use Rattle.plant_store.proofs.public.{Contents.{keeps_after, kept_rows, never_opened}, Databases.{same_database}}
 use Rattle.plant_types.specs.Names.{Name}
 

@@ -1,4 +1,4 @@
-use Rattle.std.proofs.Common.{[], sym, ◌∙◌}
+use Rattle.std.proofs.Common.{[], inr, sym, ◌∙◌}
 use Rattle.plant_office.proofs.public.Enduring.{after_none}
 use Rattle.plant_server.proofs.Streamed.{served}
 use Rattle.plant_server.proofs.commands.serve_file.Goals as goal
@@ -11,4 +11,6 @@ returns-in-Ok g c = record {
       let start = c.in-Ok.ensures.crash m held (is.endures.clean tidy) in
       let k = is.endures.goes_on w [] [] tidy (after_none w m _ (c.in-Ok.ensures.own.0 ∙ sym same, c.in-Ok.ensures.kept m held) holds legal start.0 start.1) in
       c.leave.ensures.left w calls answers clean k.sound k.outcomes) _ _ c.args.service _ _ _ c.serve_books-status.ensures.ran;
+  whole = c.leave.ensures.whole;
+  served = inr c.serve_books-status.ensures.served;
 }

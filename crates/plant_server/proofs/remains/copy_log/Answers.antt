@@ -1,4 +1,4 @@
-use Rattle.std.proofs.Common.{◌≡◌, IsTrue, sym, ap, subst, ◌∙◌, arith}
+use Rattle.std.proofs.Common.{◌≡◌, IsTrue, ap, subst, ◌∙◌, arith}
 use Rattle.sqlite.specs.Closing.{HoldsAlone}
 use Rattle.sqlite.proofs.Theorems.{copied}
 use Rattle.sqlite_pool.proofs.StateLemmas.{clean_is, may_leave_is}

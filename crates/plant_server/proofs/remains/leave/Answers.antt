@@ -1,4 +1,3 @@
-use Rattle.std.proofs.Common.{IsTrue, sym, ◌≡◌, ◌∙◌, subst, ap}
 use Rattle.plant_server.proofs.FilesLeft.{outcomes_left}
 use Rattle.plant_server.proofs.remains.leave.Goals as goal
 
@@ -8,7 +7,7 @@ returns-clause-whole g c clean = record { numbered = c.into_store.ensures.number
 pub returns-clause-open : goal.returns-clause-open
 returns-clause-open g c clean up =
     let kept = c.into_store.ensures.undone.kept clean in
-    rw (← c.close.ensures.same) (kept.was_open up, kept.committed (kept.was_open up))
+    rw (← c.close.ensures.same) (kept.was_open up, kept.committed up)
 
 pub returns-clause-left : goal.returns-clause-left
 returns-clause-left g c w calls answers clean sound has =

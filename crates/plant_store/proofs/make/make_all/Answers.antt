@@ -1,5 +1,5 @@
-use Rattle.std.proofs.Common.{◌≡◌, IsTrue, refl, rules, subst}
-use Rattle.sqlite.specs.{Held.{state}, State.{HasCleanDisk, Survives}}
+use Rattle.std.proofs.Common.{◌≡◌, IsTrue, refl, rules}
+use Rattle.sqlite.specs.{Held.{state}}
 use Rattle.plant_columns.specs.Tables.{no_schema}
 use Rattle.plant_store.{specs.Making.{AreNewTrees}, proofs.Crashes.{survives_whole}}
 use Rattle.plant_store.proofs.make.make_all.Goals as goal

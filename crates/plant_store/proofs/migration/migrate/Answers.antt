@@ -1,5 +1,5 @@
 use Rattle.std.proofs.Common.{sym, subst}
-use Rattle.sqlite.{specs.{Held.{state}, State.{Survives}}, proofs.StateLemmas.{survives_weaker}}
+use Rattle.sqlite.{specs.{Held.{state}}, proofs.StateLemmas.{survives_weaker}}
 use Rattle.plant_store.specs.{TakingOver.{AreTaken}, Upgrading.{HaveOldRows}}
 use Rattle.plant_store.proofs.Crashes.{survives_unmade}
 use Rattle.plant_store.proofs.migration.migrate.Goals.{in-Ok-true+in-Err-take_into_blank, in-Ok-false, in-Err}

@@ -1,6 +1,5 @@
-use Rattle.std.proofs.Common.{◌≡◌, subst, rules}
-use Rattle.sqlite.specs.{Held.{state}, State.{Survives}}
-use Rattle.plant_store.{specs.Writing.{AreChanged}, proofs.Crashes.{survives_commit}}
+use Rattle.std.proofs.Common.{rules}
+use Rattle.plant_store.{proofs.Crashes.{survives_commit}}
 use Rattle.plant_store.proofs.write.commit_all.Goals as goal
 
 pub returns-clause-survives : goal.returns-clause-survives

@@ -1,4 +1,4 @@
-use Rattle.std.proofs.Common.{arith, ◌-◌}
+use Rattle.std.proofs.Common.{arith}
 use Rattle.plant_mirror.proofs.CopyLaws.{count_last}
 use Rattle.plant_mirror.proofs.copies.Copies.drop_last.Goals as goal
 

@@ -1,4 +1,4 @@
-use Rattle.std.proofs.Common.{IsTrue, ap, not, sym, ◌∙◌}
+use Rattle.std.proofs.Common.{IsTrue, ap, not, ◌∙◌}
 use Rattle.plant_store.proofs.public.Leaving.{is_settled}
 use Rattle.plant_store.proofs.tables.TablesBooks.settle.Goals as goal
 
