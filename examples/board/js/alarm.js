@@ -78,7 +78,7 @@ function showNow(alarm, listed) {
     const own = {priority: shown.record?.priority ?? "-", state: alarm.state, flags};
     mark.show(own);
     state.show(own);
-    now.State.replaceChildren(state.node, here.standing.has(alarm.tag) ? `, ${sinceText(here.standing.get(alarm.tag))}` : "");
+    now.State.replaceChildren(state.node, here.standing.has(alarm.tag) ? `\n${sinceText(here.standing.get(alarm.tag))}` : "");
     if (alarm.shelf !== "Unshelved" && listed?.shelf) {
         shelf.show(listed.shelf);
         if (shelf.node.parentElement !== now.Shelf) {
@@ -92,7 +92,7 @@ function showNow(alarm, listed) {
     for (const [value, is] of [[now.Shelf, alarm.shelf !== "Unshelved"], [now.Service, alarm.out_of_service], [now.Suppression, alarm.suppressed]]) {
         put(value, "class", is ? "holds" : "");
     }
-    say(now.Limit, `${secondsText(alarm.limit)}, revision ${alarm.limit_revision}`);
+    say(now.Limit, `${secondsText(alarm.limit)}\nrevision ${alarm.limit_revision}`);
 }
 
 function showRecord({record: held, change}) {
@@ -111,7 +111,7 @@ function showRecord({record: held, change}) {
     say(record.Revision, String(held.revision));
     say(changeLink, `Change ${held.change}`);
     put(changeLink, "href", addressOf(here.unit, "changes", held.change));
-    showFact(origin.Proposed, change && `by ${change.proposer}, ${plainMoment(change.proposed)}`);
-    showFact(origin.Approved, change && `by ${change.decider}, ${plainMoment(change.decided)}`);
+    showFact(origin.Proposed, change && `by ${change.proposer}\n${plainMoment(change.proposed)}`);
+    showFact(origin.Approved, change && `by ${change.decider}\n${plainMoment(change.decided)}`);
     showFact(origin.Base, change && `revision ${change.base}`);
 }

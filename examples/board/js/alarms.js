@@ -57,8 +57,8 @@ const alarmList = {
         const [priority, states, flagCell] = [mark, state, flags].map((part) => make("td", "", part.node));
         const first = make("tr", "", priority, name, states, flagCell, limit);
         const shelfCell = make("td", "", shelf.node);
-        shelfCell.colSpan = 4;
-        const second = make("tr", "shelf-row", make("td"), shelfCell);
+        shelfCell.colSpan = 3;
+        const second = make("tr", "shelf-row", make("td"), shelfCell, make("td", "limit"));
         const node = make("tbody", "", first, second);
         node.dataset.tag = tag;
         // the link is for the keyboard; a mouse may hit anything of the row

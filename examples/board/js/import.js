@@ -113,6 +113,10 @@ form.addEventListener("submit", async (event) => {
 });
 
 $("file").addEventListener("change", () => take($("file").files));
+// the same file may be chosen again once it is corrected
+$("file").addEventListener("click", () => {
+    $("file").value = "";
+});
 for (const kind of ["dragenter", "dragover", "dragleave", "drop"]) {
     // a file that is dropped beside the place would take the page away
     document.addEventListener(kind, (event) => {

@@ -5,8 +5,9 @@ import {atRest, makeFlags, makeMark} from "./marks.js";
 
 const alarm = (priority, state, flags = "---") => ({priority, state, flags});
 const MARKS = [
-    [["P1", "P2", "P3", "P4"].map((priority) => atRest(priority)), "the priorities P1, the highest, to P4: a shape each, grey at rest"],
-    [[atRest("-"), atRest("N")], "– no record was approved; N the matrix says that no alarm is needed"],
+    [["P1", "P2", "P3", "P4"].map((priority) => atRest(priority)), "grey: at rest. A shape for each priority, P1 is the highest"],
+    [[atRest("-")], "no record of the alarm was approved"],
+    [[atRest("N")], "the matrix says that no alarm is needed"],
     [["P1", "P2", "P3", "P4", "-"].map((priority) => alarm(priority, "Acknowledged")), "in colour: active and acknowledged"],
     [[alarm("P1", "Unacknowledged")], "blinks, with its state in bold: active and not acknowledged"],
     [[alarm("P2", "ReturnedUnack")], "hollow, blinks: has returned, and was not acknowledged"],
@@ -28,7 +29,8 @@ function build() {
         for (const each of alarms) {
             const mark = makeMark();
             mark.show(each);
-            cell.append(mark.node);
+            // the letters belong to the shapes, and are enough once
+            cell.append(each.state === "Normal" ? mark.node : mark.node.firstChild);
         }
         $("legend-marks").append(make("div", "", cell, make("dd", "", words)));
     }

@@ -3,7 +3,7 @@
 
 import {act} from "./acting.js";
 import {$, areRight, make, put, say, sayAnswer} from "./elements.js";
-import {forgetChanges, matrixInForce, standsOfProposal, storeOf, wantMore} from "./changes.js";
+import {forgetChanges, lowestWanted, matrixInForce, standsOfProposal, storeOf, wantMore} from "./changes.js";
 import {here, holds} from "./here.js";
 import {atRest, makeMark} from "./marks.js";
 import {outOfDate} from "./rounds.js";
@@ -42,7 +42,7 @@ export function makeGrid({bands, cells}, before) {
             return make("td", was === cell ? "" : "differs", mark.node, was === cell ? "" : make("span", "was", `was ${was}`));
         }));
     });
-    return make("table", "grid", make("thead", "", make("tr", "", make("th", "", ""), ...heads)), make("tbody", "", ...rows));
+    return make("table", "grid", make("thead", "", make("tr", "", make("td", "", "Time to respond"), ...heads)), make("tbody", "", ...rows));
 }
 
 // ---- Where an order is broken
@@ -164,13 +164,14 @@ export function showMatrix() {
     if (here.view !== "matrix" || here.unit === null) {
         return;
     }
-    const {last, asked} = storeOf(here.unit);
+    const store = storeOf(here.unit);
+    const {last, asked} = store;
     const inForce = asked === -Infinity ? undefined : matrixInForce(here.unit);
     $("older").hidden = inForce !== null;
     if (inForce === undefined) {
         say($("matrix-note"), "Looking for the matrix in force…");
     } else if (inForce === null) {
-        say($("matrix-note"), `No matrix was approved among the changes that were looked through, up to ${last}.`);
+        say($("matrix-note"), `No matrix was approved among the changes ${lowestWanted(store)} to ${last}.`);
     } else if (inForce.content === null) {
         say($("matrix-note"), "In force is the matrix that the unit was opened with, revision 0. The office does not give its cells.");
     } else {

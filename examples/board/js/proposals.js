@@ -117,7 +117,8 @@ function makeComparison(change, before) {
         cell.scope = "col";
         return cell;
     };
-    const heads = before ? [head(""), head(`In force, revision ${before.revision}`), head("Proposed")] : [head(""), head("Proposed")];
+    const corner = make("td", "");
+    const heads = before ? [corner, head(`In force, revision ${before.revision}`), head("Proposed")] : [corner, head("Proposed")];
     const rows = names.map((name) => {
         const title = make("th", "", NAMES.get(name));
         title.scope = "row";

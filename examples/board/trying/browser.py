@@ -146,7 +146,7 @@ class Browser:
 class Page:
     """A page of its own profile, so that each signs on anew."""
 
-    def __init__(self, browser, address, width=1280, height=1240):
+    def __init__(self, browser, address, width=1280, height=1240, is_empty=False):
         self.browser = browser
         context = browser.send("Target.createBrowserContext")["browserContextId"]
         target = browser.send("Target.createTarget", url="about:blank", browserContextId=context)
@@ -157,6 +157,9 @@ class Page:
         self.resize(width, height)
         self.send("Emulation.setFocusEmulationEnabled", enabled=True)
         self.send("Page.navigate", url=address)
+        if is_empty:
+            wait_for("the page", lambda: self.value("document.readyState === 'complete'"))
+            return
         wait_for("the alarms", lambda: self.value("document.querySelectorAll('#alarm-table tbody').length > 0"), 30)
 
     def send(self, method, **params):
@@ -176,7 +179,9 @@ class Page:
         return self.value(f"document.querySelector({json.dumps(selector)})?.innerText ?? ''")
 
     def texts(self, selector):
-        return self.value(f"[...document.querySelectorAll({json.dumps(selector)})].map((node) => node.innerText)")
+        """The texts of the elements that are shown."""
+        shown = f"[...document.querySelectorAll({json.dumps(selector)})].filter((node) => node.checkVisibility())"
+        return self.value(f"{shown}.map((node) => node.innerText)")
 
     def is_shown(self, selector):
         return self.value(f"document.querySelector({json.dumps(selector)})?.checkVisibility() ?? false")
