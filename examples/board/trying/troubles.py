@@ -155,7 +155,7 @@ def try_markup(site, page):
     wait_for("a tag with markup", lambda: "<i>L</" in page.texts("#alarm-table .tag"))
     wait_for("a state with markup", lambda: "<b>Acknow</b" in page.texts("#alarm-table .state"))
     page.check_plain("a tag and a state with markup")
-    page.go("#U1/XA-900")
+    page.go("#U1/TT-402")
     wait_for("names with markup", lambda: page.facts("#origin-facts").get("Approved", "").startswith("by <b>"))
     expect(page.facts("#origin-facts")["Proposed"].startswith("by <u>"), True, "a proposer with markup")
     page.check_plain("names with markup")
