@@ -13,7 +13,7 @@ const stores = new Map(); // by unit
 
 export function storeOf(unit) {
     if (!stores.has(unit)) {
-        stores.set(unit, {known: new Map(), last: 0, wanted: PAGE, asked: -Infinity});
+        stores.set(unit, {known: new Map(), last: 0, wanted: PAGE, asked: -Infinity, forgotten: -Infinity});
     }
     return stores.get(unit);
 }
@@ -24,10 +24,10 @@ export function wantMore(unit) {
     storeOf(unit).wanted += PAGE;
 }
 
-// asks anew in the next round
+// Those that wait are asked for anew in the next round, also if one is under way.
 export function forgetChanges() {
     stores.forEach((store) => {
-        store.asked = -Infinity;
+        store.forgotten = performance.now();
     });
 }
 
@@ -66,7 +66,8 @@ export async function askChanges() {
         return null;
     }
     const store = storeOf(unit);
-    const isDue = performance.now() - store.asked >= SELDOM;
+    const begun = performance.now();
+    const isDue = begun - store.asked >= SELDOM || store.forgotten >= store.asked;
     if (store.known.size === 0) {
         say($("changes-note"), "Asking for the changes…");
     }
@@ -84,7 +85,7 @@ export async function askChanges() {
         await askChange(unit, number);
     }
     if (isDue) {
-        store.asked = performance.now();
+        store.asked = begun;
     }
     return null;
 }

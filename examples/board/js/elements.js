@@ -90,7 +90,7 @@ export function sayAnswer(form, text, kind) {
 }
 
 // Whether each field of a form is right. `checks` are the fields, each with whether it is right and what is wanted; the first wrong one
-// gets the focus, and the form's answer says what is wanted.
+// gets the focus, and the form's answer says what is wanted, until something is typed.
 export function areRight(form, checks) {
     let first = null;
     for (const [field, isRight, wanted] of checks) {
@@ -100,8 +100,16 @@ export function areRight(form, checks) {
         }
     }
     if (first !== null) {
-        sayAnswer(form, first[1], "refused");
+        sayAnswer(form, first[1], "refused wanted");
         first[0].focus();
     }
     return first === null;
 }
+
+document.addEventListener("input", (event) => {
+    const form = event.target.form;
+    if (form?.querySelector(".answer.wanted")) {
+        put(event.target, "aria-invalid", null);
+        sayAnswer(form, "", "");
+    }
+});

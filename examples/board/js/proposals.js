@@ -1,6 +1,7 @@
 // The changes of the unit, newest first, and one of them whole, with what is in force beside it: to approve, to reject, to take back.
 
 import {act} from "./acting.js";
+import {moveBy} from "./alarms.js";
 import {getUnless} from "./asking.js";
 import {$, fill, make, makeFacts, makeLink, put, say, sayAnswer, showFact} from "./elements.js";
 import {addressOf, here, holds} from "./here.js";
@@ -199,6 +200,7 @@ form.addEventListener("submit", (event) => event.preventDefault());
 $("approve").addEventListener("click", () => decide("approve", "approved and in force"));
 $("reject").addEventListener("click", () => decide("reject", "rejected"));
 $("withdraw").addEventListener("click", () => decide("withdraw", "taken back"));
+$("change-list").addEventListener("keydown", moveBy);
 $("only-waiting").addEventListener("change", showChanges);
 $("more").addEventListener("click", () => {
     wantMore(here.unit);

@@ -8,6 +8,7 @@ import shutil
 import subprocess
 import sys
 import threading
+import time
 
 from trying.common import expect, wait_for
 
@@ -225,6 +226,10 @@ class Page:
     def focus(self):
         return self.value(FOCUS)
 
+    def await_focus(self, wanted, what):
+        if not self.is_within(lambda: self.focus() == wanted, 5):
+            expect(self.focus(), wanted, what)
+
     def tab_to(self, wanted, most=60, back=False):
         """Presses Tab until the control has the keyboard: by its id, its name or its text."""
         passed = []
@@ -281,12 +286,20 @@ class Page:
         self.resize(before, 1240)
         expect(found, [], f"{what} at {width} pixels")
 
-    def picture(self, file, height=None):
-        """A picture of the whole page while its marks are bright, with few colours."""
-        self.resize(self.width, height or max(1000, self.value("document.documentElement.scrollHeight")))
-        wait_for("the bright phase", lambda: self.value("!document.body.classList.contains('dark-phase')"), 5)
-        clip = {"x": 0, "y": 0, "width": self.width, "height": self.value("document.documentElement.scrollHeight"), "scale": 1}
-        picture = self.send("Page.captureScreenshot", format="png", clip=clip, captureBeyondViewport=True)
+    def picture(self, file, highest=1240):
+        """A picture of the page, or of its upper part, while its marks are bright, with few colours."""
+        ends = "[...document.querySelectorAll('section, .panel')].filter((part) => part.checkVisibility()).map((part) => part.getBoundingClientRect().bottom)"
+        height = min(highest, self.value(f"Math.ceil(Math.max(...{ends}) + 24)"))
+        self.resize(self.width, height)
+        clip = {"x": 0, "y": 0, "width": self.width, "height": height, "scale": 1}
+        is_dark = lambda: self.value("document.body.classList.contains('dark-phase')")
+        for _ in range(10):
+            wait_for("the dark phase", is_dark, 5)
+            wait_for("the bright phase", lambda: not is_dark(), 5)
+            begin = time.monotonic()
+            picture = self.send("Page.captureScreenshot", format="png", clip=clip, captureBeyondViewport=True)
+            if time.monotonic() - begin < 0.4:
+                break
         file.write_bytes(base64.b64decode(picture["data"]))
         subprocess.run(["pngquant", "--force", "--strip", "--output", file, "128", file], check=True)
         if file.stat().st_size >= 200_000:

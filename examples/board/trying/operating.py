@@ -36,7 +36,7 @@ def try_lists(site, page, pictures):
 def try_legend(page):
     page.key("?")
     wait_for("the legend", lambda: page.is_shown("#legend"))
-    expect(page.focus(), "close-legend", "the focus in the legend")
+    page.await_focus("close-legend", "the focus in the legend")
     page.check_looks("the legend")
     page.check_narrow("the legend")
     page.key("Escape")
@@ -46,13 +46,13 @@ def try_legend(page):
 def try_shelving(site, page, pictures):
     # by keys alone: find an alarm, choose it, and shelve it for longer than its limit, and then for less
     page.key("/")
-    expect(page.focus(), "find", "the focus after /")
+    page.await_focus("find", "the focus after /")
     page.type("lt-20")
     page.tab_to("LT-201")
     page.key("ArrowDown")
     page.key("Enter")
-    expect(page.focus(), "alarm-title", "the focus in the alarm")
-    expect(page.value("location.hash"), "#U1/LT-202", "the address")
+    page.await_focus("alarm-title", "the focus in the alarm")
+    wait_for("the address", lambda: page.value("location.hash") == "#U1/LT-202")
     check_alarm(site, page, "LT-202")
     page.write("seconds", "9000")
     page.write("words", "float is stuck")
@@ -75,21 +75,24 @@ def try_shelving(site, page, pictures):
     page.check_narrow("an alarm, for an operator")
     page.key("Escape")
     wait_for("no alarm", lambda: not page.is_shown("#alarm"))
-    expect(page.focus(), "LT-202", "the focus after Escape")
+    page.await_focus("LT-202", "the focus after Escape")
 
     # what is not right is not sent
     count = len(site.relay.calls)
+    page.key("/")
+    page.type("")
     page.go("#U1/PT-301")
     check_alarm(site, page, "PT-301")
     page.write("seconds", "1.5")
     page.press("shelve")
     page.await_text("#shelving .answer", "For how long? Give a whole number of seconds, 1 to 604800.")
-    expect(page.focus(), "seconds", "the focus in the wrong field")
+    page.await_focus("seconds", "the focus in the wrong field")
     page.type("3600")
     page.press("shelve")
     page.await_text("#shelving .answer", re.compile("Say why: .*"))
     expect(len(site.relay.calls), count, "calls of a form that is not right")
     page.type("impulse line is being flushed")
+    expect(page.text("#shelving .answer"), "", "what was wanted, once it is given")
     if pictures:
         page.picture(pictures / "board-shelve.png")
 
@@ -166,7 +169,7 @@ def event(number, tag, kind, moment=None):
 def try_import(site, page, folder, count):
     page.tab_to("Import")
     page.key("Enter")
-    expect(page.focus(), "import-title", "the focus in the import")
+    page.await_focus("import-title", "the focus in the import")
     page.tab_to("file")
     page.check_looks("the import")
     header = "seq,moment,tag,event"
@@ -247,7 +250,7 @@ def try_maintainer(site, browser):
     expect(page.is_shown("#proposing"), False, "proposing for maintenance")
     page.press("remove")
     page.await_text("#service .answer", re.compile("Say why: .*"))
-    expect(page.focus(), "service-words", "the focus in the wrong field")
+    page.await_focus("service-words", "the focus in the wrong field")
     page.type(WORDS)
     page.key("Enter")
     page.await_text("#service .answer", "LT-204 is out of service.")

@@ -19,7 +19,7 @@ def try_engineer(site, browser, pictures):
 
     # an alarm is registered
     page.press("Register")
-    expect(page.focus(), "register-title", "the focus in the view")
+    page.await_focus("register-title", "the focus in the view")
     page.write("new-tag", HOSTILE[:24])
     page.write("new-max", "7200")
     expect(page.text("#new-max-span"), "2:00:00", "the seconds in words")
@@ -51,7 +51,7 @@ def try_engineer(site, browser, pictures):
     page.write("response", "120")
     page.key("Enter")
     page.await_text("#record-form .answer", "Give the action in 1 to 120 letters, digits and signs of ASCII.")
-    expect(page.focus(), "action", "the focus in the wrong field")
+    page.await_focus("action", "the focus in the wrong field")
     page.type(RECORD["action"])
     page.key("Enter")
     page.await_text("#record-form .answer", f"The record of {NEW} is proposed as change 26. Another person has to approve it.")
@@ -168,12 +168,12 @@ def try_approver(site, browser, pictures):
     # a change whole, with what is in force beside it, the texts with markup as they are
     page.tab_to("24: Record of PT-301, waits")
     page.key("Enter")
-    expect(page.focus(), "change-title", "the focus in the change")
+    page.await_focus("change-title", "the focus in the change")
     record = record_of("PT-301")
     wait_for("the comparison", lambda: page.value(COMPARISON) == wanted_comparison(changes[4], record, 1))
     expect(page.texts("#change-content .differs"), [seconds_text(120), "open XV-302"], "what differs")
     if pictures:
-        page.picture(pictures / "board-change.png")
+        page.picture(pictures / "board-change.png", 900)
     page.press("approve")
     page.await_text("#deciding .answer", "Change 24 is approved and in force.")
     page.await_text("#change-facts > div:nth-child(4) dd", re.compile(r"approved by amy, .*"))

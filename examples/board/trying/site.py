@@ -9,6 +9,7 @@ import socket
 import socketserver
 import subprocess
 import threading
+import time
 
 from trying.common import expect, free_port, moment_text, wait_for
 
@@ -25,6 +26,7 @@ class Relay(socketserver.ThreadingTCPServer):
         self.office_port = office_port
         self.calls = []  # what changes something, as method, path and body
         self.is_losing = False  # whether answers to such calls get lost after the office has given them
+        self.delay = 0  # seconds that such an answer is kept back
         self.is_faulty = False  # whether each call is answered as by an office whose store failed
         self.swaps = {}  # texts of answers that are replaced by others of the same length
         threading.Thread(target=self.serve_forever, daemon=True).start()
@@ -48,11 +50,16 @@ class Relayed(socketserver.StreamRequestHandler):
         with office:
             office.sendall(head + body)
             head, body = self.read_message(office.makefile("rb"))
-        if method == b"POST" and self.server.is_losing:
-            return
+        if method == b"POST":
+            time.sleep(self.server.delay)
+            if self.server.is_losing:
+                return
         for old, new in self.server.swaps.items():
             body = body.replace(old, new)
-        self.wfile.write(head + body)
+        try:
+            self.wfile.write(head + body)
+        except ConnectionError:
+            pass  # the proxy is gone
 
     def read_message(self, stream):
         head, length = b"", 0

@@ -143,6 +143,19 @@ def try_outage(site, page):
     wait_for("no trouble", lambda: not page.is_shown("#trouble"), 30)
     expect(len(site.relay.calls), calls + 1, "calls into the dark")
     check_alarm(site, page, "LT-204")
+
+    # the proxy is stopped and started again while the answer is on its way
+    page.go("#U1/XA-901")
+    check_alarm(site, page, "XA-901")
+    site.relay.delay = 1
+    page.press("unshelve")
+    wait_for("the call", lambda: len(site.relay.calls) == calls + 2)
+    site.stop_proxy()
+    site.start_proxy()
+    found = re.compile(r"XA-901: No connection to the proxy\..* What stands now: XA-901 is not shelved, and in service\.")
+    page.await_text("#shelving .answer", found, 30)
+    expect(len(site.relay.calls), calls + 2, "calls while the proxy was started anew")
+    site.relay.delay = 0
     page.go("#U1")
     check_lists(site, page, "U1")
     print("an office that is stopped, a fault and a lost connection are named; the page comes back by itself and says what stands")
