@@ -3,6 +3,7 @@
 
 import {ask} from "./asking.js";
 import {put, sayAnswer} from "./elements.js";
+import {here} from "./here.js";
 import {nextRound, outOfDate} from "./rounds.js";
 
 const setBusy = (form, isBusy) => {
@@ -44,6 +45,7 @@ export async function act(form, {subject, path, body = "", done, failed, stands}
             const found = await whatStands(stands);
             sayAnswer(form, `${words} It may have been made all the same. What stands now: ${found}`, "refused");
         } else {
+            here.isUnitsDue ||= ["RoleLacking", "NotGranted"].includes(error.name);
             failed?.(error);
         }
         return false;

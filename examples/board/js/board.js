@@ -104,11 +104,17 @@ function showWhere() {
     });
     const roles = unit === null ? "no role in any unit at this moment" : rolesHeld().join(", ");
     say($("person"), here.person === "" ? "" : `${here.person}: ${roles}`);
-    document.title = [unit ?? "Alarm board", tag ?? (view === "alarms" ? "alarms" : view)].join(" ");
+    showTitle();
     showAlarms();
     showChanges();
     showMatrix();
     showImport();
+}
+
+function showTitle() {
+    const {unit, view, tag, standing} = here;
+    const what = tag ?? (view === "alarms" ? `${standing.size} standing` : view);
+    document.title = unit === null ? "Alarm board" : `${unit}: ${what}`;
 }
 
 // the keyboard goes on where the eyes do
@@ -209,6 +215,7 @@ document.addEventListener("visibilitychange", () => {
 
 [askUnits, askAlarms, askFloods, askAlarm, askChanges, askInForce].forEach(eachRound);
 eachRound(async () => () => {
+    showTitle();
     showMatrix();
     showImport();
 });

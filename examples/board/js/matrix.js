@@ -243,13 +243,14 @@ form.addEventListener("submit", async (event) => {
     }
     const {unit} = here;
     const body = {kind: "matrix", base, bands: bandsOf(), cells: draft.cells};
-    await act(form, {
+    const accepted = await act(form, {
         subject: "the matrix",
         path: `/units/${unit}/changes`,
         body: JSON.stringify(body),
         done: (text) => `The matrix is proposed as change ${JSON.parse(text).number}. Another person has to approve it.`,
         stands: () => standsOfProposal(unit, body),
     });
+    isTouched = !accepted;
     forgetChanges();
 });
 

@@ -17,7 +17,7 @@ CODES = {"Enter": 13, "Tab": 9, "Escape": 27, "ArrowDown": 40, "ArrowUp": 38, "H
 # the focus, as its id, its name or its text
 FOCUS = "((node) => node.id || node.getAttribute('aria-label') || node.textContent.trim() || node.tagName)(document.activeElement)"
 
-# texts with a contrast below 4.5 to what lies behind them, by the computed colours
+# texts with a contrast below 4.5 to what lies behind them, and marks with one below 3, by the computed colours
 LOW_CONTRAST = """(() => {
     const numbers = (colour) => colour.match(/[\\d.]+/g).map(Number);
     const luminance = (colour) => numbers(colour).slice(0, 3).map((part) => part / 255)
@@ -34,11 +34,11 @@ LOW_CONTRAST = """(() => {
     };
     const found = [];
     let count = 0;
-    const check = (node, colour, text) => {
+    const check = (node, colour, text, least = 4.5) => {
         const [one, other] = [luminance(colour), luminance(ground(node))];
         const contrast = (Math.max(one, other) + 0.05) / (Math.min(one, other) + 0.05);
         count += 1;
-        if (contrast < 4.5) found.push(`${text.trim().slice(0, 40)}: ${contrast.toFixed(2)}`);
+        if (contrast < least) found.push(`${text.trim().slice(0, 40)}: ${contrast.toFixed(2)}`);
     };
     const walker = document.createTreeWalker(document.body, NodeFilter.SHOW_TEXT);
     while (walker.nextNode()) {
@@ -53,6 +53,9 @@ LOW_CONTRAST = """(() => {
             check(node, getComputedStyle(node).color, node.id);
             check(node, getComputedStyle(node, "::placeholder").color, `${node.id} placeholder`);
         }
+    }
+    for (const node of document.querySelectorAll(".mark .whole")) {
+        if (node.checkVisibility()) check(node, getComputedStyle(node).stroke, "the outline of a mark", 3);
     }
     return [count, found];
 })()"""
