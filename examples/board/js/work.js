@@ -28,7 +28,8 @@ async function call(form, action, body, done) {
     const {unit, tag} = here;
     const path = `/units/${unit}/alarms/${tag}/${action}`;
     const stands = () => standsOf(unit, tag);
-    if (await act(form, {subject: tag, path, body: body && JSON.stringify(body), done: () => `${tag} ${done}`, stands})) {
+    const accepted = await act(form, {subject: tag, path, body: body && JSON.stringify(body), done: () => `${tag} ${done}`, stands});
+    if (accepted && here.unit === unit && here.tag === tag) {
         form.querySelector(".remark").value = "";
     }
 }

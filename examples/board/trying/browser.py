@@ -82,6 +82,9 @@ STICKING_OUT = """(() => {
             if (across > 1 && down > 1) found.push(`in ${row.textContent.slice(0, 40)}: parts overlap by ${across} and ${down}`);
         }));
     }
+    for (const link of document.querySelectorAll(".tag a")) {
+        if (link.getClientRects().length > 3) found.push(`${link.textContent} takes ${link.getClientRects().length} lines`);
+    }
     const hours = [...document.querySelectorAll(".tick span")].filter((node) => node.checkVisibility())
         .map((node) => node.getBoundingClientRect()).sort((one, other) => one.left - other.left);
     hours.slice(1).forEach((box, number) => {
