@@ -89,9 +89,8 @@ function showNow(alarm, listed) {
     }
     say(now.Service, alarm.out_of_service ? "out of service" : "in service");
     say(now.Suppression, alarm.suppressed ? "suppressed by design" : "not suppressed by design");
-    for (const [value, is] of [[now.Shelf, alarm.shelf !== "Unshelved"], [now.Service, alarm.out_of_service], [now.Suppression, alarm.suppressed]]) {
-        put(value, "class", is ? "holds" : "");
-    }
+    const holding = [[now.Shelf, alarm.shelf !== "Unshelved"], [now.Service, alarm.out_of_service], [now.Suppression, alarm.suppressed]];
+    holding.forEach(([value, holds]) => put(value, "class", holds ? "holds" : ""));
     say(now.Limit, `${secondsText(alarm.limit)}\nrevision ${alarm.limit_revision}`);
 }
 
@@ -102,7 +101,7 @@ function showRecord({record: held, change}) {
     if (held === null) {
         return;
     }
-    say(record.Priority, held.priority === "N" ? "N: no alarm is needed by the matrix in force" : `${held.priority} by the matrix in force`);
+    say(record.Priority, `${held.priority}${held.priority === "N" ? ", no alarm is needed," : ""} by the matrix in force`);
     say(record.Severity, String(held.severity));
     say(record["Time to respond"], secondsText(held.response));
     say(record.Cause, held.cause);

@@ -50,7 +50,12 @@ function showUnits() {
 // ---- The address
 
 const SECTIONS = {
-    alarms: ["alarms"], changes: ["changes", "change-side"], matrix: ["matrix"], register: ["register"], import: ["import"], roles: ["roles"],
+    alarms: ["alarms"],
+    changes: ["changes", "change-side"],
+    matrix: ["matrix"],
+    register: ["register"],
+    import: ["import"],
+    roles: ["roles"],
 };
 
 // Shows what the address names, as far as the caller may see it.

@@ -120,7 +120,8 @@ export function checkFile(bytes, isKnown, now) {
     const compared = fault ? {repeated: 0, fault} : compare(rows, isKnown, now);
     const kinds = new Map(KINDS.map((kind) => [kind, rows.filter((row) => row.kind === kind).length]));
     const moments = rows.map((row) => row.moment).sort();
-    return {count: rows.length, kinds, tags: new Set(rows.map((row) => row.tag)).size, first: moments[0], last: moments.at(-1), ...compared};
+    const tags = new Set(rows.map((row) => row.tag)).size;
+    return {count: rows.length, kinds, tags, first: moments[0], last: moments.at(-1), ...compared};
 }
 
 // A line of the file in its own words. Bytes that are not UTF-8 are shown as the sign for that.

@@ -38,47 +38,44 @@ async function take(files) {
 
 const counted = (count, one, more) => `${count} ${count === 1 ? one : more}`;
 
+// What is found in the file: the facts by name, and its first fault in words with the line, or null.
+function examine({name, bytes}) {
+    const facts = {File: `${name}, ${counted(bytes.length, "byte", "bytes")}`};
+    if (bytes.length > LARGEST) {
+        const words = "The file was not sent: the office takes nothing above 1 MiB. Split it; files may come in any order.";
+        return {facts, count: 0, fault: {words, line: ""}};
+    }
+    const soon = momentText(momentNow() + 2000); // the call's moment is a little later than this one
+    const {count, repeated, kinds, tags, first, last, fault} = checkFile(bytes, (tag) => here.alarms.has(tag), soon);
+    facts.Rows = counted(count, "row", "rows") + (repeated ? `, ${repeated} of them repeated in the file` : "");
+    if (count > 0) {
+        facts.Events = [...kinds].filter((kind) => kind[1] > 0).map(([kind, number]) => `${number} ${kind}`).join(", ");
+        facts.Alarms = String(tags);
+        facts.From = plainMoment(first);
+        facts.To = plainMoment(last);
+    }
+    const shown = fault ?? faultOfOffice;
+    if (shown === null) {
+        return {facts, count, fault: null};
+    }
+    const by = fault ? "The file was not sent." : "The office kept nothing of the file.";
+    const words = FILE_CAUSES.get(shown.cause) ?? "The line has a fault.";
+    return {facts, count, fault: {words: `${by} Line ${shown.line}: ${words} (${shown.cause})`, line: lineText(bytes, shown.line)}};
+}
+
 export function showImport() {
     if (here.view !== "import") {
         return;
     }
-    const isTaken = file !== null;
-    $("file-facts").hidden = !isTaken;
-    $("file-fault").hidden = true;
-    $("send").hidden = true;
-    if (!isTaken || here.answeredAt === null) {
-        return;
-    }
-    const {name, bytes} = file;
-    showFact(facts.File, `${name}, ${counted(bytes.length, "byte", "bytes")}`);
-    if (bytes.length > LARGEST) {
-        ["Rows", "Events", "Alarms", "From", "To"].forEach((fact) => showFact(facts[fact], null));
-        showFault("The file was not sent: the office takes nothing above 1 MiB. Split it; files may come in any order.", "");
-        return;
-    }
-    const found = checkFile(bytes, (tag) => here.alarms.has(tag), momentText(momentNow() + 2000));
-    showFact(facts.Rows, counted(found.count, "row", "rows") + (found.repeated ? `, ${found.repeated} of them repeated in the file` : ""));
-    const kinds = [...found.kinds].filter(([, count]) => count > 0).map(([kind, count]) => `${count} ${kind}`);
-    showFact(facts.Events, kinds.length > 0 ? kinds.join(", ") : null);
-    showFact(facts.Alarms, found.count > 0 ? String(found.tags) : null);
-    showFact(facts.From, found.count > 0 ? plainMoment(found.first) : null);
-    showFact(facts.To, found.count > 0 ? plainMoment(found.last) : null);
-    const fault = found.fault ?? faultOfOffice;
-    if (fault) {
-        const by = found.fault ? "The file was not sent." : "The office kept nothing of the file.";
-        const words = FILE_CAUSES.get(fault.cause) ?? "The line has a fault.";
-        showFault(`${by} Line ${fault.line}: ${words} (${fault.cause})`, lineText(bytes, fault.line));
-    } else {
-        $("send").hidden = false;
-        say($("send"), `Send ${counted(found.count, "row", "rows")}`);
-    }
-}
-
-function showFault(words, line) {
-    $("file-fault").hidden = false;
-    say($("fault-words"), words);
-    $("fault-line").hidden = line === "";
-    say($("fault-line"), line);
+    const found = file === null || here.answeredAt === null ? null : examine(file);
+    $("file-facts").hidden = found === null;
+    Object.entries(facts).forEach(([name, value]) => showFact(value, found?.facts[name] ?? null));
+    $("file-fault").hidden = !found?.fault;
+    say($("fault-words"), found?.fault?.words ?? "");
+    $("fault-line").hidden = !found?.fault?.line;
+    say($("fault-line"), found?.fault?.line ?? "");
+    $("send").hidden = found === null || found.fault !== null;
+    say($("send"), found === null ? "Send" : `Send ${counted(found.count, "row", "rows")}`);
 }
 
 form.addEventListener("submit", async (event) => {
@@ -94,7 +91,8 @@ form.addEventListener("submit", async (event) => {
         body: bytes,
         done: (text) => {
             const counts = JSON.parse(text);
-            return `${name}: ${counted(counts.new, "row is new", "rows are new")}, ${counted(counts.repeated, "is repeated", "are repeated")}.`;
+            const repeated = counted(counts.repeated, "is repeated", "are repeated");
+            return `${name}: ${counted(counts.new, "row is new", "rows are new")}, ${repeated}.`;
         },
         failed: (error) => {
             if (error.name === "BadFile" && error.value) {

@@ -42,7 +42,8 @@ export function makeGrid({bands, cells}, before) {
             return make("td", was === cell ? "" : "differs", mark.node, was === cell ? "" : make("span", "was", `was ${was}`));
         }));
     });
-    return make("table", "grid", make("thead", "", make("tr", "", make("td", "", "Time to respond"), ...heads)), make("tbody", "", ...rows));
+    const head = make("tr", "", make("td", "", "Time to respond"), ...heads);
+    return make("table", "grid", make("thead", "", head), make("tbody", "", ...rows));
 }
 
 // ---- Where an order is broken
@@ -56,7 +57,8 @@ export function brokenPairs(cells) {
             pairs.push([[severity, column], [severity, column + 1], words]);
         }
         if (severity + 1 < cells.length && height(cells[severity + 1][column]) < height(cell)) {
-            const words = `Severity ${severity + 2} has ${cells[severity + 1][column]}, below ${cell} of severity ${severity + 1} in the same column.`;
+            const above = cells[severity + 1][column];
+            const words = `Severity ${severity + 2} has ${above}, below ${cell} of severity ${severity + 1} in the same column.`;
             pairs.push([[severity, column], [severity + 1, column], words]);
         }
     }));

@@ -84,7 +84,8 @@ const NAMES = new Map([
     ["severity", "Severity"], ["response", "Time to respond"], ["cause", "Cause"], ["consequence", "Consequence"], ["action", "Action"],
     ["max", "Limit"],
 ]);
-const valueText = (name, value) => (value === undefined ? "–" : name === "response" || name === "max" ? secondsText(value) : String(value));
+const isTime = (name) => ["response", "max"].includes(name);
+const valueText = (name, value) => (value === undefined ? "–" : isTime(name) ? secondsText(value) : String(value));
 
 let inForce = null; // what stands now of the alarm of the change that is shown: its number, the revision and the content
 let shownAs = ""; // what the content was built of

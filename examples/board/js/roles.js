@@ -68,7 +68,8 @@ function showEnd() {
     const isSteward = $("role").value === "Steward";
     const end = isSteward ? null : endOf($("end").value);
     $("end").disabled = isSteward;
-    say($("end-words"), isSteward ? "A steward's role has no end." : end ? `until ${plainMoment(end)} UTC` : end === null ? "without an end" : "");
+    const words = end ? `until ${plainMoment(end)} UTC` : end === null ? "without an end" : "";
+    say($("end-words"), isSteward ? "A steward's role has no end." : words);
 }
 
 export function forgetRoles() {

@@ -20,7 +20,8 @@ async function standsOf(unit, tag) {
     const shelves = await askList(`/units/${unit}/shelves`, "SHELVES", SHELF_COLUMNS, unit);
     const shelf = shelves.rows.find((row) => row.tag === tag);
     const kind = shelf?.kind === "timed" ? "for a time" : "one-shot";
-    const shelved = shelf ? `shelved ${kind} by ${shelf.person}, ${spanText(Number(shelf.left) * 1000)} left: “${shelf.words}”` : "not shelved";
+    const left = shelf && spanText(Number(shelf.left) * 1000);
+    const shelved = shelf ? `shelved ${kind} by ${shelf.person}, ${left} left: “${shelf.words}”` : "not shelved";
     return `${tag} is ${shelved}, and ${alarm.out_of_service ? "out of service" : "in service"}.`;
 }
 

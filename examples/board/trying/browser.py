@@ -14,6 +14,12 @@ from trying.common import expect, wait_for
 
 CODES = {"Enter": 13, "Tab": 9, "Escape": 27, "ArrowDown": 40, "ArrowUp": 38, "Home": 36, "End": 35, " ": 32, "/": 191, "?": 191}
 
+# what has to have a name for screen readers
+CONTROLS = {"button", "link", "textbox", "searchbox", "combobox", "checkbox", "radio", "DisclosureTriangle", "spinbutton", "ComboBoxSelect"}
+
+# elements that the page itself does not make
+MADE_OF_TEXT = "img, i, u, s, script:not([src]), q *, b:not(#strip b, .left, #flood-lines b, .title, #broken b)"
+
 # the focus, as its id, its name or its text
 FOCUS = "((node) => node.id || node.getAttribute('aria-label') || node.textContent.trim() || node.tagName)(document.activeElement)"
 
@@ -43,8 +49,8 @@ LOW_CONTRAST = """(() => {
     const walker = document.createTreeWalker(document.body, NodeFilter.SHOW_TEXT);
     while (walker.nextNode()) {
         const node = walker.currentNode.parentElement;
-        const box = node.getBoundingClientRect();
-        if (walker.currentNode.data.trim() && box.width > 1 && node.checkVisibility({visibilityProperty: true}) && node.tagName !== "OPTION") {
+        const isShown = node.getBoundingClientRect().width > 1 && node.checkVisibility({visibilityProperty: true});
+        if (walker.currentNode.data.trim() && isShown && node.tagName !== "OPTION") {
             check(node, getComputedStyle(node).color, walker.currentNode.data);
         }
     }
@@ -66,7 +72,8 @@ STICKING_OUT = """(() => {
     const found = document.documentElement.scrollWidth > width ? [`the page is ${document.documentElement.scrollWidth} wide`] : [];
     for (const node of document.querySelectorAll("body *")) {
         const box = node.getBoundingClientRect();
-        if (node.checkVisibility() && box.width > 1 && (box.right > width + 0.5 || box.left < -0.5) && !node.closest(".scroll, .unseen, #skip")) {
+        const isOut = box.width > 1 && (box.right > width + 0.5 || box.left < -0.5);
+        if (isOut && node.checkVisibility() && !node.closest(".scroll, .unseen, #skip")) {
             found.push(`${node.tagName} ${node.id || node.className} ${node.textContent.slice(0, 30)}: ${box.left} to ${box.right}`);
         }
     }
@@ -208,7 +215,8 @@ class Page:
         shown = lambda: self.text(selector)
         is_wanted = wanted.fullmatch if isinstance(wanted, re.Pattern) else wanted.__eq__
         if not self.is_within(lambda: is_wanted(shown()) not in (None, False), seconds):
-            sys.exit(f"{selector}, not within {seconds} s\n  expected {wanted}\n  but got  {shown()}")
+            said = [text for text in self.texts(".answer, #trouble, #notice") if text]
+            sys.exit(f"{selector}, not within {seconds} s\n  expected {wanted}\n  but got  {shown()}\n  focus {self.focus()}, said {said}")
 
     def is_within(self, test, seconds):
         try:
@@ -270,8 +278,7 @@ class Page:
         count, low = self.value(LOW_CONTRAST)
         expect(low, [], f"{what}: a contrast of at least 4.5")
         nodes = self.send("Accessibility.getFullAXTree")["nodes"]
-        roles = {"button", "link", "textbox", "searchbox", "combobox", "checkbox", "radio", "DisclosureTriangle", "spinbutton", "ComboBoxSelect"}
-        controls = [node for node in nodes if not node["ignored"] and node.get("role", {}).get("value") in roles]
+        controls = [node for node in nodes if not node["ignored"] and node.get("role", {}).get("value") in CONTROLS]
         nameless = [node.get("role") for node in controls if not node.get("name", {}).get("value", "").strip()]
         expect(nameless, [], f"{what}: controls without a name")
         if not controls:
@@ -280,7 +287,7 @@ class Page:
         return count, len(controls)
 
     def check_plain(self, what):
-        made = self.value("[...document.querySelectorAll('img, script:not([src]), b b, q *, .tag u, .tag i, x-evil')].map((node) => node.outerHTML)")
+        made = self.value(f"[...document.querySelectorAll({json.dumps(MADE_OF_TEXT)})].map((node) => node.outerHTML)")
         expect(made, [], f"{what}: elements made of texts")
         expect(self.value("document.title === '1'"), False, f"{what}: a text was run")
 
@@ -294,8 +301,8 @@ class Page:
 
     def picture(self, file, highest=1240):
         """A picture of the page, or of its upper part, while its marks are bright, with few colours."""
-        ends = "[...document.querySelectorAll('section, .panel')].filter((part) => part.checkVisibility()).map((part) => part.getBoundingClientRect().bottom)"
-        height = min(highest, self.value(f"Math.ceil(Math.max(...{ends}) + 24)"))
+        parts = "[...document.querySelectorAll('section, .panel')].filter((part) => part.checkVisibility())"
+        height = min(highest, self.value(f"Math.ceil(Math.max(...{parts}.map((part) => part.getBoundingClientRect().bottom)) + 24)"))
         self.resize(self.width, height)
         clip = {"x": 0, "y": 0, "width": self.width, "height": height, "scale": 1}
         is_dark = lambda: self.value("document.body.classList.contains('dark-phase')")

@@ -184,7 +184,8 @@ def try_import(site, page, folder, count):
         page.send("DOM.setFileInputFiles", nodeId=node, files=[file])
 
     def drop(file):
-        x, y = page.value("(({x, y, width, height}) => [x + width / 2, y + height / 2])(document.querySelector('#drop').getBoundingClientRect())")
+        box = "document.querySelector('#drop').getBoundingClientRect()"
+        x, y = page.value(f"(({{x, y, width, height}}) => [x + width / 2, y + height / 2])({box})")
         data = {"items": [], "files": [file], "dragOperationsMask": 1}
         for kind in ["dragEnter", "dragOver", "drop"]:
             page.send("Input.dispatchDragEvent", type=kind, x=x, y=y, data=data)

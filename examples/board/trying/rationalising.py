@@ -185,7 +185,7 @@ def try_approver(site, browser, pictures):
     page.press("approve")
     page.await_text("#deciding .answer", "Change 26 is approved and in force.")
     page.go("#U1/changes/22")
-    wait_for("the markup", lambda: page.is_shown("#reject") and [WORDS] == [row[-1] for row in page.value(COMPARISON) if row[0] == "Action"])
+    wait_for("the markup", lambda: page.is_shown("#reject") and page.value(COMPARISON)[-1][-1] == WORDS)
     page.press("reject")
     page.await_text("#deciding .answer", "Change 22 is rejected.")
 
@@ -224,7 +224,8 @@ def try_own(site, browser):
     page.await_text("#change-title", "Change 23: Limit of PT-301")
     check_changes(site, page, "kim")
     page.await_text("#own", "You proposed this, so you cannot approve it: another approver decides.")
-    expect((page.is_shown("#approve"), page.is_shown("#reject"), page.is_shown("#withdraw")), (False, False, True), "the buttons for one's own")
+    buttons = [page.is_shown(f"#{button}") for button in ("approve", "reject", "withdraw")]
+    expect(buttons, [False, False, True], "the buttons for one's own")
     page.check_looks("one's own proposal")
     page.go("#U1/changes/25")
     wait_for("the buttons", lambda: page.is_shown("#approve"))

@@ -21,7 +21,7 @@ ALARMS = """[...document.querySelectorAll("#alarm-table tbody")].map((body) => [
     body.querySelector(".tag").textContent, body.querySelector(".state").textContent, body.querySelector(".letters").textContent,
     [...body.querySelectorAll(".flags span")].map((flag) => flag.textContent).join(""), body.querySelector(".limit").textContent])"""
 SHELVES = """[...document.querySelectorAll("#alarm-table tbody")].filter((body) => !body.children[1].hidden)
-    .map((body) => [body.querySelector(".tag").textContent, ...[...body.querySelector(".shelf").children].map((part) => part.textContent)])"""
+    .map((body) => [body.querySelector(".tag"), ...body.querySelector(".shelf").children].map((part) => part.textContent))"""
 STANDING = """[...document.querySelectorAll("#standing li")].map((line) => [line.querySelector(".tag").textContent,
     line.querySelector(".state").textContent, line.querySelector(".letters").textContent,
     [...line.querySelectorAll(".flags span")].map((flag) => flag.textContent).join("")])"""
@@ -57,7 +57,10 @@ def plain(moment):
 
 def wanted_alarms(site, unit):
     rows = rows_of(site.read("ann", f"/units/{unit}/alarms"), 24, 14, 2, 3)
-    return [[tag, STATES[state], letters.translate(DASH), flags.translate(DASH), span_text(limit)] for tag, state, letters, flags, limit in rows]
+    return [
+        [tag, STATES[state], letters.translate(DASH), flags.translate(DASH), span_text(limit)]
+        for tag, state, letters, flags, limit in rows
+    ]
 
 
 def shelves_of(site, unit):
@@ -193,7 +196,8 @@ def check_changes(site, page, person, count=20):
         [
             change["number"],
             title_of(change),
-            DECISIONS[change["state"]] + (", yours" if is_approver and change["proposer"] == person and change["state"] == "Proposed" else ""),
+            DECISIONS[change["state"]]
+            + (", yours" if is_approver and change["state"] == "Proposed" and change["proposer"] == person else ""),
         ]
         for change in changes
     ]
