@@ -61,27 +61,31 @@ function causeOf([seq, moment, tag, kind]) {
         : null;
 }
 
-// The rows of a file, or its first fault that needs nothing but the file.
+const isHeader = (fields) => fields.length === HEADER.length && fields.every((field, place) => field === HEADER[place]);
+
+// The rows of a file before its first fault that needs nothing but the file, and how many it has in all.
 function readRows(bytes) {
     const rows = [];
     let line = 0;
+    let fault = null;
     for (const record of recordsOf(bytes)) {
         line += 1;
+        if (fault !== null) {
+            continue; // the rest is only counted
+        }
         const fields = record.fields.map(textOf);
-        if (line === 1) {
-            if (fields.join() !== HEADER.join() || fields.length !== HEADER.length) {
-                return {rows, fault: {line, cause: "Header"}};
-            }
-            continue;
+        const cause = line === 1 ? (isHeader(fields) ? null : "Header")
+            : fields.length !== HEADER.length ? "FieldCount"
+            : fields.includes(null) ? "NotUtf8"
+            : causeOf(fields) ?? (rows.length === MOST_ROWS ? "TooLong" : null);
+        if (cause !== null) {
+            fault = {line, cause};
+        } else if (line > 1) {
+            const [seq, moment, tag, kind] = fields;
+            rows.push({line, seq: Number(seq), moment, tag, kind});
         }
-        const cause = fields.length !== HEADER.length ? "FieldCount" : fields.includes(null) ? "NotUtf8" : causeOf(fields);
-        if (cause !== null || rows.length === MOST_ROWS) {
-            return {rows, fault: {line, cause: cause ?? "TooLong"}};
-        }
-        const [seq, moment, tag, kind] = fields;
-        rows.push({line, seq: Number(seq), moment, tag, kind});
     }
-    return {rows, fault: line === 0 ? {line: 1, cause: "Header"} : null};
+    return {rows, count: Math.max(0, line - 1), fault: line === 0 ? {line: 1, cause: "Header"} : fault};
 }
 
 // Compares the rows with each other, with the unit's tags and with this moment, each with the rows before it.
@@ -116,12 +120,15 @@ function compare(rows, isKnown, now) {
 
 // What a file has, and its first fault as far as it can be known without the events of the unit.
 export function checkFile(bytes, isKnown, now) {
-    const {rows, fault} = readRows(bytes);
-    const compared = fault ? {repeated: 0, fault} : compare(rows, isKnown, now);
+    const {rows, count, fault} = readRows(bytes);
+    if (fault) {
+        return {count, fault, repeated: 0, isRead: false};
+    }
+    const compared = compare(rows, isKnown, now);
     const kinds = new Map(KINDS.map((kind) => [kind, rows.filter((row) => row.kind === kind).length]));
     const moments = rows.map((row) => row.moment).sort();
     const tags = new Set(rows.map((row) => row.tag)).size;
-    return {count: rows.length, kinds, tags, first: moments[0], last: moments.at(-1), ...compared};
+    return {count, kinds, tags, first: moments[0], last: moments.at(-1), ...compared, isRead: count > 0};
 }
 
 // A line of the file in its own words. Bytes that are not UTF-8 are shown as the sign for that.

@@ -46,9 +46,9 @@ function examine({name, bytes}) {
         return {facts, count: 0, fault: {words, line: ""}};
     }
     const soon = momentText(momentNow() + 2000); // the call's moment is a little later than this one
-    const {count, repeated, kinds, tags, first, last, fault} = checkFile(bytes, (tag) => here.alarms.has(tag), soon);
+    const {count, repeated, isRead, kinds, tags, first, last, fault} = checkFile(bytes, (tag) => here.alarms.has(tag), soon);
     facts.Rows = counted(count, "row", "rows") + (repeated ? `, ${repeated} of them repeated in the file` : "");
-    if (count > 0) {
+    if (isRead) {
         facts.Events = [...kinds].filter((kind) => kind[1] > 0).map(([kind, number]) => `${number} ${kind}`).join(", ");
         facts.Alarms = String(tags);
         facts.From = plainMoment(first);

@@ -179,6 +179,9 @@ export function showMatrix() {
     } else {
         say($("matrix-note"), `In force is revision ${inForce.revision}, by change ${inForce.number}.`);
     }
+    if (inForce && $("matrix-base").value === "" && document.activeElement !== $("matrix-base")) {
+        $("matrix-base").value = String(inForce.revision);
+    }
     const key = inForce && `${here.unit}/${inForce.revision}`;
     if (key && key !== filledFor && !isTouched) {
         filledFor = key;

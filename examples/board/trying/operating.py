@@ -166,6 +166,12 @@ def event(number, tag, kind, moment=None):
     return f"{number},{moment or moment_text(moment_now())},{tag},{kind}"
 
 
+def choose_file(page, file):
+    root = page.send("DOM.getDocument")["root"]["nodeId"]
+    node = page.send("DOM.querySelector", nodeId=root, selector="#file")["nodeId"]
+    page.send("DOM.setFileInputFiles", nodeId=node, files=[str(file)])
+
+
 def try_import(site, page, folder, count):
     page.tab_to("Import")
     page.key("Enter")
@@ -178,10 +184,6 @@ def try_import(site, page, folder, count):
         file = folder / name
         file.write_text("\r\n".join(lines) + "\r\n")
         return str(file)
-
-    def choose(file):
-        node = page.send("DOM.querySelector", nodeId=page.send("DOM.getDocument")["root"]["nodeId"], selector="#file")["nodeId"]
-        page.send("DOM.setFileInputFiles", nodeId=node, files=[file])
 
     def drop(file):
         box = "document.querySelector('#drop').getBoundingClientRect()"
@@ -207,9 +209,11 @@ def try_import(site, page, folder, count):
         ([header, good, event(count + 2, "XA-901", "RTN", "2026-01-01T00:00:00Z")], 3, "MomentOutOfOrder"),
     ]):  # fmt: skip
         file = write(f"<b>{number}.csv" if number == 4 else f"{number}.csv", *lines)
-        choose(file) if number % 2 else drop(file)
+        choose_file(page, file) if number % 2 else drop(file)
         page.await_text("#fault-words", re.compile(rf"The file was not sent\. Line {line}: .* \({cause}\)"))
         expect(page.text("#fault-line"), [each for each in lines if each][line - 1], f"the line of {cause}")
+        rows = len([each for each in lines if each]) - 1
+        expect(page.facts("#file-facts")["Rows"].split(",")[0], f"{rows} row" + ("s" if rows > 1 else ""), f"the rows with {cause}")
         expect(page.is_shown("#send"), False, f"sending a file with {cause}")
         # the office finds the same
         status, text = site.ask("ann", "/units/U1/imports", open(file, "rb").read())
@@ -234,7 +238,7 @@ def try_import(site, page, folder, count):
     expect(site.relay.calls[-1][1], open(file, "rb").read(), "the bytes that were sent")
 
     # a fault that only the office can find
-    choose(write("clash.csv", header, event(count + 2, "XA-901", "RTN", moment)))
+    choose_file(page, write("clash.csv", header, event(count + 2, "XA-901", "RTN", moment)))
     page.await_text("#send", "Send 1 row")
     page.press("send")
     page.await_text("#fault-words", "The office kept nothing of the file. Line 2: Another event has this number. (SequenceClash)")

@@ -5,6 +5,7 @@ import sys
 
 from trying.browser import Page
 from trying.common import expect, wait_for
+from trying.operating import choose_file, event
 from trying.shown import CHANGES, check_alarm, check_lists
 
 MAY = " It may have been made all the same."
@@ -49,7 +50,7 @@ def lose(site, page, answer, subject, act, found):
     expect(len(site.relay.calls), calls + 1, f"calls for {subject}")
 
 
-def try_lost_answers(site, pages):
+def try_lost_answers(site, pages, folder, count):
     """Each page has done its role's work before."""
     page = pages["ann"]
     page.go("#U1/XA-901")
@@ -60,6 +61,17 @@ def try_lost_answers(site, pages):
     lose(site, page, "#shelving .answer", "XA-901", lambda: page.key("Enter"), found)
     check_alarm(site, page, "XA-901")
     page.check_looks("a call in doubt")
+    file = folder / "lost.csv"
+    file.write_text(f"seq,moment,tag,event\n{event(count + 3, 'XA-901', 'RTN')}\n")
+    page.go("#U1/import")
+    wait_for("the import", lambda: page.is_shown("#file"))
+    choose_file(page, file)
+    page.await_text("#send", "Send 1 row")
+    page.tab_to("send")
+    found = r"no call gives the events\. The file may be sent again by hand: rows that are kept already count as repeated\."
+    lose(site, page, "#import .answer", "lost.csv", lambda: page.key("Enter"), found)
+    page.press("send")
+    page.await_text("#import .answer", "lost.csv: 0 rows are new, 1 is repeated.")
 
     page = pages["moe"]
     page.go("#U1/FT-101")
@@ -95,7 +107,7 @@ def try_lost_answers(site, pages):
     lose(site, page, "#roles .answer", "Engineer for tom", lambda: page.key("Enter"), found)
     page.press("grant")
     page.await_text("#roles .answer", re.compile(r".*\(AlreadyHeld\)"))
-    print("lost answers: six calls were made and sent once, and the page says what stands")
+    print("lost answers: seven calls were made and sent once, and the page says what stands")
 
 
 def changes_known(site):
