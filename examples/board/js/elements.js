@@ -11,13 +11,6 @@ export function make(name, kind, ...inside) {
     return node;
 }
 
-export function makeButton(kind, text, press) {
-    const button = make("button", kind, text);
-    button.type = "button";
-    button.addEventListener("click", press);
-    return button;
-}
-
 export function makeLink(kind, text, address) {
     const link = make("a", kind, text);
     link.href = address;

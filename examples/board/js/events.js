@@ -3,7 +3,7 @@
 
 import {isMoment, isTag} from "./texts.js";
 
-export const KINDS = ["ACT", "RTN", "ACK", "RESET", "SUP", "UNSUP"];
+const KINDS = ["ACT", "RTN", "ACK", "RESET", "SUP", "UNSUP"];
 export const LARGEST = 1048576; // bytes
 const MOST_ROWS = 10000;
 const HEADER = ["seq", "moment", "tag", "event"];
@@ -11,7 +11,7 @@ const [QUOTE, COMMA, CR, LF] = ['"', ",", "\r", "\n"].map((sign) => sign.charCod
 
 // The records of a file: the bytes of each field, and where the record stands in the file. A field in quotes may hold anything, with a
 // quote given twice.
-export function* recordsOf(bytes) {
+function* recordsOf(bytes) {
     let place = bytes[0] === 0xef && bytes[1] === 0xbb && bytes[2] === 0xbf ? 3 : 0;
     const isEnd = (byte) => byte === CR || byte === LF;
     while (place < bytes.length) {

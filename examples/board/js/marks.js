@@ -21,7 +21,7 @@ const isActive = (alarm) => ["Unacknowledged", "Acknowledged"].includes(alarm.st
 export const asksForAttention = (alarm) => alarm.state !== "Normal" && !isSuppressed(alarm);
 
 // how an alarm's mark looks, as names for the style
-export function aspectsOf(alarm) {
+function aspectsOf(alarm) {
     if (alarm.state === "Normal") {
         return [];
     }
@@ -31,7 +31,7 @@ export function aspectsOf(alarm) {
     return ["abnormal", isActive(alarm) ? "active" : "returned", ...(isUnacknowledged(alarm) ? ["unack"] : [])];
 }
 
-export const priorityText = (priority) => (priority === "-" ? "–" : priority);
+const priorityText = (priority) => (priority === "-" ? "–" : priority);
 
 export function makeMark() {
     const svg = document.createElementNS("http://www.w3.org/2000/svg", "svg");

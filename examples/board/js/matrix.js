@@ -49,7 +49,7 @@ export function makeGrid({bands, cells}, before) {
 // ---- Where an order is broken
 
 // The pairs of cells, and what is said of each: [[row, column], [row, column], words].
-export function brokenPairs(cells) {
+function brokenPairs(cells) {
     const pairs = [];
     cells.forEach((row, severity) => row.forEach((cell, column) => {
         if (column + 1 < row.length && height(row[column + 1]) > height(cell)) {

@@ -88,7 +88,7 @@ export const STATES = new Map([
 export const FLAGS = [["S", "shelved"], ["D", "suppressed by design"], ["O", "out of service"]];
 
 // what has which form
-export const LONGEST = 604800; // seconds, a week
+const LONGEST = 604800; // seconds, a week
 export const isTag = (text) => /^[A-Z0-9._-]{1,24}$/.test(text);
 export const isPerson = (text) => /^[a-z0-9.-]{1,32}$/.test(text);
 export const isRemark = (text) => /^[ -~]{1,120}$/.test(text);

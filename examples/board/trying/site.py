@@ -34,8 +34,9 @@ class Relay(socketserver.ThreadingTCPServer):
 
 class Relayed(socketserver.StreamRequestHandler):
     def handle(self):
-        request = self.read_message(self.rfile)
-        head, body = request
+        head, body = self.read_message(self.rfile)
+        if not head:
+            return
         method, path = head.split(b" ")[:2]
         if method == b"POST":
             self.server.calls.append((path.decode(), body))
