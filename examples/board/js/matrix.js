@@ -33,7 +33,7 @@ export function makeGrid({bands, cells}, before) {
     });
     const isSameShape = before && JSON.stringify(before.bands) === JSON.stringify(bands) && before.cells.length === cells.length;
     const rows = [...cells.keys()].reverse().map((row) => {
-        const name = make("th", "", `Severity ${row + 1}`);
+        const name = make("th", "", make("span", "word", "Severity "), String(row + 1));
         name.scope = "row";
         return make("tr", "", name, ...cells[row].map((cell, column) => {
             const mark = makeMark();
@@ -42,7 +42,7 @@ export function makeGrid({bands, cells}, before) {
             return make("td", was === cell ? "" : "differs", mark.node, was === cell ? "" : make("span", "was", `was ${was}`));
         }));
     });
-    const head = make("tr", "", make("td", "", "Time to respond"), ...heads);
+    const head = make("tr", "", make("td", "", make("span", "word", "Time to respond")), ...heads);
     return make("table", "grid", make("thead", "", head), make("tbody", "", ...rows));
 }
 
@@ -105,7 +105,7 @@ function makeHead(column) {
             isTouched = true;
             check();
         });
-        head.append(field, " s");
+        head.append(field, make("span", "word", " s"));
     }
     return head;
 }
@@ -115,11 +115,11 @@ function build() {
     const columns = draft.bands.length + 1;
     const heads = [...Array(columns).keys()].map(makeHead);
     const rows = [...draft.cells.keys()].reverse().map((row) => {
-        const name = make("th", "", `Severity ${row + 1}`);
+        const name = make("th", "", make("span", "word", "Severity "), String(row + 1));
         name.scope = "row";
         return make("tr", "", name, ...[...Array(columns).keys()].map((column) => makeCell(row, column)));
     });
-    const corner = make("td", "", "Time to respond");
+    const corner = make("td", "", make("span", "word", "Time to respond"));
     $("grid").replaceChildren(make("thead", "", make("tr", "", corner, ...heads)), make("tbody", "", ...rows));
     for (const [id, isPossible] of [
         ["add-severity", draft.cells.length < MOST_SEVERITIES], ["drop-severity", draft.cells.length > 1],

@@ -73,7 +73,7 @@ STICKING_OUT = """(() => {
     for (const node of document.querySelectorAll("body *")) {
         const box = node.getBoundingClientRect();
         const isOut = box.width > 1 && (box.right > width + 0.5 || box.left < -0.5);
-        if (isOut && node.checkVisibility() && !node.closest(".scroll, .unseen, #skip")) {
+        if (isOut && node.checkVisibility() && !node.closest(".unseen, #skip")) {
             found.push(`${node.tagName} ${node.id || node.className} ${node.textContent.slice(0, 30)}: ${box.left} to ${box.right}`);
         }
     }

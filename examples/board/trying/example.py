@@ -112,7 +112,7 @@ def fill(site):
     # in the order of their moments
     site.direct("moe", ago(120), "/units/U1/alarms/TT-401/remove-from-service", {"words": "sensor is being replaced"})
     site.direct("bob", ago(90), "/units/U1/alarms/LT-203/one-shot-shelve", {"words": "level is low until the tank is filled"})
-    site.direct("ann", ago(22, 30), "/units/U1/alarms/PT-302/timed-shelve", {"seconds": 1800, "words": WORDS})
+    site.direct("ann", ago(22, 30), "/units/U1/alarms/PT-302/timed-shelve", {"seconds": 1800, "words": "PCV-302 is being tuned"})
     site.direct("ann", ago(1), "/units/U1/imports", "\n".join(lines) + "\n")
-    site.direct("bob", ago(10), "/units/U2/alarms/PT-12/timed-shelve", {"seconds": 3600, "words": "wiring"})
+    site.direct("bob", ago(10), "/units/U2/alarms/PT-12/timed-shelve", {"seconds": 3600, "words": WORDS})
     return len(rows)

@@ -83,7 +83,11 @@ def try_engineer(site, browser, pictures):
     page.await_text("#matrix-note", "In force is the matrix that the unit was opened with, revision 0. The office does not give its cells.")
     expect(page.value("document.querySelector('#matrix-base').value"), "0", "the base")
     page.press("add-severity")
-    page.press("add-band")
+    for _ in range(3):
+        page.press("add-band")
+    page.check_narrow("the widest matrix")
+    for _ in range(2):
+        page.press("drop-band")
     expect(page.texts("#grid .times"), ["under 0:05:00", "0:05:00 to under 0:10:00", "0:10:00 and more"], "the times")
     page.tab_to("End of time 2 in seconds", back=True)
     page.type("200")
