@@ -117,7 +117,7 @@ def try_shelving(site, page, pictures):
     expect("PT-301" in site.read("ann", "/units/U1/shelves"), False, "PT-301 is shelved")
     check_alarm(site, page, "PT-301")
 
-    # records with markup, an alarm without a record, tags that are none
+    # records with markup, an alarm without a record, and what is not a tag
     page.go("#U1/PT-302")
     check_alarm(site, page, "PT-302")
     expect(page.facts("#record-facts")["Action"], WORDS, "an action with markup")
