@@ -1,0 +1,230 @@
+// The alarm board; README.md says what it is. What is shown follows the address, and the keys are here.
+
+import {changeAlarm, askAlarm} from "./alarm.js";
+import {askAlarms, focusAlarm, forgetAlarms, showAlarms} from "./alarms.js";
+import {get} from "./asking.js";
+import {askChanges, forgetChanges} from "./changes.js";
+import {$, make, put, say} from "./elements.js";
+import {askFloods, forgetFloods} from "./floods.js";
+import {VIEWS, addressOf, here, maySee, readAddress, rolesHeld} from "./here.js";
+import {forgetFile, showImport} from "./import.js";
+import {openLegend} from "./legend.js";
+import {MINE_COLUMNS, askList} from "./lists.js";
+import {runAllDown} from "./marks.js";
+import {forgetMatrix, showMatrix} from "./matrix.js";
+import {askInForce, focusChange, forgetProposals, showChanges} from "./proposals.js";
+import "./record.js";
+import "./register.js";
+import {forgetRoles} from "./roles.js";
+import {askNow, askOn, eachRound, outOfDate, secondsToNext} from "./rounds.js";
+import {clockText, dateText} from "./texts.js";
+import {momentNow} from "./time.js";
+import {showUntil} from "./work.js";
+
+const SELDOM = 60000; // milliseconds; the caller's units and name are asked for once in this time
+let unitsAsked = -Infinity;
+
+// ---- The caller and the units
+
+async function askUnits() {
+    if (!here.isUnitsDue && performance.now() - unitsAsked < SELDOM) {
+        return null;
+    }
+    const person = (await askList("/shelves", "MINE", MINE_COLUMNS)).whose;
+    const {units} = await get("/units");
+    unitsAsked = performance.now();
+    Object.assign(here, {person, units, isUnitsDue: false});
+    showUnits();
+    return null;
+}
+
+function showUnits() {
+    const codes = here.units.map((held) => held.unit);
+    if ([...$("unit").options].map((option) => option.value).join() !== codes.join()) {
+        $("unit").replaceChildren(...codes.map((code) => new Option(code, code)));
+        $("unit").value = here.unit ?? "";
+    }
+    follow();
+}
+
+// ---- The address
+
+const SECTIONS = {
+    alarms: ["alarms"],
+    changes: ["changes", "change-side"],
+    matrix: ["matrix"],
+    register: ["register"],
+    import: ["import"],
+    roles: ["roles"],
+};
+
+// Shows what the address names, as far as the caller may see it.
+function follow() {
+    const address = readAddress(location.hash);
+    const codes = here.units.map((held) => held.unit);
+    const {unit: unitBefore, view: viewBefore, tag: tagBefore, number: numberBefore} = here;
+    const unit = codes.includes(address.unit) ? address.unit : codes[0] ?? null;
+    here.unit = unit;
+    const isElsewhere = unit !== address.unit;
+    const view = isElsewhere || !maySee(address.view) ? "alarms" : address.view;
+    const tag = isElsewhere ? null : address.tag;
+    Object.assign(here, {view, tag, number: view === address.view ? address.number : null});
+    if (unit !== null && (isElsewhere || view !== address.view)) {
+        sayNotice(isElsewhere && address.unit !== "" && here.person !== ""
+            ? `You hold no role in the unit ${address.unit} at this moment: this is ${unit}.`
+            : isElsewhere ? "" : `You do not hold the role ${VIEWS.get(address.view)} in ${unit}.`);
+        history.replaceState(null, "", addressOf(unit));
+    }
+    if (unit !== unitBefore) {
+        [forgetAlarms, forgetFloods, forgetProposals, forgetMatrix, forgetFile, forgetRoles].forEach((forget) => forget());
+        $("unit").value = unit ?? "";
+    }
+    if (tag !== tagBefore || unit !== unitBefore) {
+        changeAlarm();
+    }
+    showWhere();
+    if (unit !== unitBefore || view !== viewBefore || tag !== tagBefore || here.number !== numberBefore) {
+        if (view === "changes" && viewBefore !== "changes") {
+            forgetChanges();
+        }
+        moveFocus(unitBefore, viewBefore, tagBefore, numberBefore);
+        outOfDate();
+    }
+}
+
+function showWhere() {
+    const {unit, view, tag} = here;
+    document.body.dataset.view = tag === null ? view : "alarm";
+    for (const [name, sections] of Object.entries(SECTIONS)) {
+        sections.forEach((id) => {
+            $(id).hidden = unit === null || name !== view;
+        });
+    }
+    $("floods").hidden = $("standing-panel").hidden = unit === null || view !== "alarms" || tag !== null;
+    $("alarm").hidden = unit === null || tag === null;
+    document.querySelectorAll("#views a").forEach((link) => {
+        link.hidden = unit === null || !maySee(link.dataset.view);
+        link.href = link.dataset.view === "alarms" ? addressOf(unit) : addressOf(unit, link.dataset.view);
+        put(link, "aria-current", link.dataset.view === view ? "page" : null);
+    });
+    const roles = unit === null ? "no role in any unit at this moment" : rolesHeld().join(", ");
+    say($("person"), here.person === "" ? "" : `${here.person}: ${roles}`);
+    showTitle();
+    showAlarms();
+    showChanges();
+    showMatrix();
+    showImport();
+}
+
+function showTitle() {
+    const {unit, view, tag, standing} = here;
+    const what = tag ?? (view === "alarms" ? `${standing.size} standing` : view);
+    document.title = unit === null ? "Alarm board" : `${unit}: ${what}`;
+}
+
+// the keyboard goes on where the eyes do
+function moveFocus(unitBefore, viewBefore, tagBefore, numberBefore) {
+    if (unitBefore === null || unitBefore !== here.unit) {
+        return;
+    }
+    if (here.tag !== null) {
+        $("alarm-title").focus();
+    } else if (here.number !== null) {
+        $("change-title").focus();
+    } else if (here.view === "alarms" && tagBefore !== null) {
+        focusAlarm(tagBefore);
+    } else if (here.view === "changes" && numberBefore !== null) {
+        focusChange(numberBefore);
+    } else if (here.view !== viewBefore) {
+        focusContent();
+    }
+}
+
+const focusContent = () => $(SECTIONS[here.view][0]).querySelector("h2").focus();
+
+function sayNotice(text) {
+    say($("notice-words"), text);
+    $("notice").hidden = text === "";
+}
+
+// ---- What goes wrong
+
+function showTrouble(words) {
+    $("trouble").hidden = words === null;
+    document.body.classList.toggle("stale", words !== null);
+    if (words !== null) {
+        here.isUnitsDue = true;
+        const old = here.answeredAt === null ? "" : ` The lists are those of ${clockText(here.answeredAt)}.`;
+        say($("trouble-words"), words + old);
+        say($("trouble-next"), "");
+    }
+}
+
+// ---- Each second, and the keys
+
+function tick() {
+    const now = momentNow();
+    if (now !== null) {
+        const text = `${dateText(now)} ${clockText(now)}`;
+        if ($("clock").dataset.text !== text) {
+            $("clock").dataset.text = text;
+            $("clock").replaceChildren(make("span", "date", dateText(now)), ` ${clockText(now)} UTC`);
+        }
+        runAllDown();
+        showUntil();
+    }
+    if (!$("trouble").hidden) {
+        const wait = secondsToNext();
+        say($("trouble-next"), wait > 0 ? `Asking again in ${wait} s.` : "Asking …");
+    }
+}
+
+// all that blinks, blinks at once: once a second
+const blink = () => document.body.classList.toggle("dark-phase");
+
+document.addEventListener("keydown", (event) => {
+    const isTyping = event.target.matches("input, select, textarea");
+    if ($("legend").open || event.ctrlKey || event.metaKey || event.altKey) {
+        return;
+    }
+    if (event.key === "Escape" && here.tag !== null && event.target.id !== "find") {
+        location.hash = addressOf(here.unit);
+    } else if (event.key === "Escape" && here.number !== null) {
+        location.hash = addressOf(here.unit, "changes");
+    } else if (event.key === "/" && !isTyping && here.view === "alarms") {
+        $("find").focus();
+        event.preventDefault();
+    } else if (event.key === "?" && !isTyping) {
+        openLegend();
+        event.preventDefault();
+    }
+});
+$("skip").addEventListener("click", (event) => {
+    event.preventDefault();
+    focusContent();
+});
+$("again").addEventListener("click", askNow);
+$("notice-close").addEventListener("click", () => sayNotice(""));
+$("unit").addEventListener("change", () => {
+    location.hash = here.view === "alarms" ? addressOf($("unit").value) : addressOf($("unit").value, here.view);
+});
+addEventListener("hashchange", () => {
+    sayNotice("");
+    follow();
+});
+document.addEventListener("visibilitychange", () => {
+    if (!document.hidden) {
+        askNow();
+    }
+});
+
+[askUnits, askAlarms, askFloods, askAlarm, askChanges, askInForce].forEach(eachRound);
+eachRound(async () => () => {
+    showTitle();
+    showMatrix();
+    showImport();
+});
+showWhere();
+setInterval(tick, 250);
+setInterval(blink, 500);
+askOn(showTrouble);

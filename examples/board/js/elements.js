@@ -1,0 +1,108 @@
+// Making and filling elements. Whatever is shown is put in as text, never as HTML.
+
+export const $ = (id) => document.getElementById(id);
+
+export function make(name, kind, ...inside) {
+    const node = document.createElement(name);
+    if (kind) {
+        node.className = kind;
+    }
+    node.append(...inside);
+    return node;
+}
+
+export function makeLink(kind, text, address) {
+    const link = make("a", kind, text);
+    link.href = address;
+    return link;
+}
+
+export function say(node, text) {
+    if (node.textContent !== text) {
+        node.textContent = text;
+    }
+}
+
+// An attribute; null takes it away.
+export function put(node, name, value) {
+    if (value === null) {
+        node.removeAttribute(name);
+    } else if (node.getAttribute(name) !== value) {
+        node.setAttribute(name, value);
+    }
+}
+
+// A list of rows that are kept and filled anew, so that the keyboard's place is kept too. `list` has the place, how many children
+// come before the rows, a map of the rows by key, and what makes one.
+export function fill(list, items, keyOf = (item) => item.tag) {
+    const focused = document.activeElement;
+    const keys = new Set(items.map(keyOf));
+    for (const [key, row] of list.rows) {
+        if (!keys.has(key)) {
+            row.node.remove();
+            list.rows.delete(key);
+        }
+    }
+    items.forEach((item, number) => {
+        const key = keyOf(item);
+        let row = list.rows.get(key);
+        if (!row) {
+            row = list.make(key);
+            list.rows.set(key, row);
+        }
+        const there = list.place.children[number + list.skip] ?? null;
+        if (there !== row.node) {
+            list.place.insertBefore(row.node, there);
+        }
+        row.show(item);
+    });
+    if (document.activeElement !== focused && focused !== null && focused.isConnected) {
+        focused.focus({preventScroll: true});
+    }
+}
+
+// A list of facts: a name and a value each. Gives the value's element by the name.
+export function makeFacts(place, names) {
+    const values = {};
+    for (const name of names) {
+        values[name] = make("dd", "");
+        place.append(make("div", "", make("dt", "", name), values[name]));
+    }
+    return values;
+}
+
+export function showFact(value, text) {
+    value.parentElement.hidden = text === null;
+    say(value, text ?? "");
+}
+
+export function sayAnswer(form, text, kind) {
+    const answer = form.querySelector(".answer");
+    answer.className = `answer ${kind}`;
+    say(answer, text);
+}
+
+// Whether each field of a form is right. `checks` are the fields, each with whether it is right and what is wanted; the first wrong one
+// gets the focus, and the form's answer says what is wanted, until something is typed.
+export function areRight(form, checks) {
+    let first = null;
+    for (const [field, isRight, wanted] of checks) {
+        put(field, "aria-invalid", isRight ? null : "true");
+        if (!isRight) {
+            first ??= [field, wanted];
+        }
+    }
+    if (first !== null) {
+        sayAnswer(form, first[1], "refused wanted");
+        first[0].focus();
+    }
+    return first === null;
+}
+
+document.addEventListener("input", (event) => {
+    const form = event.target.form;
+    if (form?.querySelector(".answer.wanted")) {
+        put(event.target, "aria-invalid", null);
+        sayAnswer(form, "", "");
+    }
+});

@@ -1,0 +1,49 @@
+// What the page knows: who calls, what is shown, and the unit's alarms as they were last answered. And the addresses of what is shown:
+// #U1, #U1/PT-101, #U1/changes, #U1/changes/7, #U1/matrix, #U1/register, #U1/import, #U1/roles. A tag has no small letters.
+
+export const here = {
+    person: "", // the caller's name
+    units: [], // the caller's, as GET /units gives them
+    unit: null, // the code of the one that is shown
+    view: "alarms",
+    tag: null, // of the alarm that is shown whole
+    number: null, // of the change that is shown whole
+    alarms: new Map(), // by tag, each with its shelf
+    standing: new Map(), // the moments since which alarms are active, by tag
+    answeredAt: null, // the moment of the last whole round
+    isUnitsDue: true, // whether the units are asked for in the next round, because roles may have changed
+};
+
+// the views, each with the role that its work needs; anyone may look at the first two
+export const VIEWS = new Map([
+    ["alarms", null],
+    ["changes", null],
+    ["matrix", "Engineer"],
+    ["register", "Engineer"],
+    ["import", "Operator"],
+    ["roles", "Steward"],
+]);
+
+export const rolesHeld = () => here.units.find((held) => held.unit === here.unit)?.roles ?? [];
+export const holds = (role) => rolesHeld().includes(role);
+export const maySee = (view) => VIEWS.get(view) === null || holds(VIEWS.get(view));
+
+export const addressOf = (...parts) => `#${parts.join("/")}`;
+
+export function readAddress(hash) {
+    let text = hash.slice(1);
+    try {
+        text = decodeURIComponent(text);
+    } catch {
+        // taken as it stands
+    }
+    const [unit, what = "", ...more] = text.split("/");
+    const address = {unit, view: "alarms", tag: null, number: null};
+    if (VIEWS.has(what)) {
+        address.view = what;
+        address.number = what === "changes" && /^[1-9]\d{0,4}$/.test(more[0] ?? "") ? Number(more[0]) : null;
+    } else if (what !== "") {
+        address.tag = [what, ...more].join("/");
+    }
+    return address;
+}
