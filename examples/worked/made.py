@@ -4,18 +4,18 @@ import collections
 import datetime
 import functools
 
-Example = collections.namedtuple("Example", "words make one_by_one")
+Example = collections.namedtuple("Example", "make one_by_one")
 MADE = {}
 PHRASES = {200: "OK", 400: "Bad Request", 404: "Not Found", 409: "Conflict"}
 DONE = '{"done":true}'
 TEN_THOUSAND = 10_000
 
 
-def example(name, words, one_by_one=False):
+def example(name, one_by_one=False):
     """Names an example. With one_by_one it is only run byte by byte."""
 
     def keep(make):
-        MADE[name] = Example(words, make, one_by_one)
+        MADE[name] = Example(make, one_by_one)
         return make
 
     return keep
@@ -101,7 +101,7 @@ def add_500_grants(stream):
         stream.grant(f"p-{number}", "Viewer")
 
 
-@example("no-more-than-2000-alarms", "The next is refused, whether or not its tag is registered")
+@example("no-more-than-2000-alarms")
 def two_thousand_alarms():
     stream = Stream()
     stream.open_base()
@@ -112,7 +112,7 @@ def two_thousand_alarms():
     return stream.made()
 
 
-@example("no-more-than-500-grants", "The next is refused, whether or not the role is held; one is withdrawn, and another granted")
+@example("no-more-than-500-grants")
 def five_hundred_grants():
     stream = Stream()
     stream.open_base()
@@ -125,10 +125,7 @@ def five_hundred_grants():
     return stream.made()
 
 
-@example(
-    "no-more-than-10000-rows",
-    "10,000 rows are read, of which one is new; a row too many is the file's fault, with its line, unless something else is wrong with it",
-)
+@example("no-more-than-10000-rows")
 def ten_thousand_rows():
     stream = Stream()
     stream.open_base()
@@ -148,11 +145,7 @@ def row_at_nine(number):
     return f"{number},2026-03-01T09:00:00Z,PT-101,{'ACT' if number % 2 else 'RTN'}\n"
 
 
-@example(
-    "a-full-unit",
-    "500 pairs, 2,000 alarms, 20,000 changes and 100,000 events: up to the last event each number counts once; then repeated rows are accepted, new ones "
-    "refused; the last change is approved and the first then finds its base changed; all other calls are answered, none by a fault",
-)
+@example("a-full-unit")
 def full_unit():
     stream = Stream()
     stream.open_base()
@@ -211,10 +204,7 @@ LONG_NAME = "an-operator-whose-name-has-32-by"
 LONG_WORDS = "the words of a shelf may have a hundred and twenty bytes, as many as there are in these words, and not a single one more"
 
 
-@example(
-    "the-longest-list",
-    "2,000 shelves, as many as the quota has if none is given, each with the longest tag, name and words; and for the caller's units the same list",
-)
+@example("the-longest-list")
 def longest_list():
     stream = Stream()
     opening = '{"steward":"ste","bands":[300],"cells":[["P3","P4"],["P1","P2"]]}'
@@ -234,7 +224,7 @@ def longest_list():
     return stream.made()
 
 
-@example("the-largest-body", "A registration of 1,048,576 bytes is accepted, most of which are a member that is ignored")
+@example("the-largest-body")
 def largest_body():
     stream = Stream()
     stream.open_base()
@@ -253,7 +243,7 @@ def ask_units(stream):
     stream.call("vic", "08:00:00", "GET /units", "", '{"units":[]}')
 
 
-@example("the-largest-head", "A head of 16,384 bytes is read, its line ends included, and the session goes on")
+@example("the-largest-head")
 def largest_head():
     stream = Stream()
     stream.add(LONG_HEAD + "a" * (16_380 - len(LONG_HEAD)) + "\r\n\r\n", '{"units":[]}')
@@ -273,17 +263,17 @@ def broken_head(head, answer):
     return stream.made()
 
 
-for words, name, head, answer in (
-    ("A head that does not end within 16,384 bytes", "head-too-long", LONG_HEAD + "a" * (16_384 - len(LONG_HEAD)), HEAD_TOO_LONG),
-    ("One byte less, and nothing more: nothing is answered", "head-not-yet-too-long", LONG_HEAD + "a" * (16_383 - len(LONG_HEAD)), ""),
-    ("16,384 letters", "letters-that-are-too-many", "a" * 16_384, HEAD_TOO_LONG),
-    ("16,383 letters, and nothing more: nothing is answered", "letters-that-are-not-yet-too-many", "a" * 16_383, ""),
-    ("20,000 letters", "letters-that-go-on", "a" * 20_000, HEAD_TOO_LONG),
+for name, head, answer in (
+    ("head-too-long", LONG_HEAD + "a" * (16_384 - len(LONG_HEAD)), HEAD_TOO_LONG),
+    ("head-not-yet-too-long", LONG_HEAD + "a" * (16_383 - len(LONG_HEAD)), ""),
+    ("letters-that-are-too-many", "a" * 16_384, HEAD_TOO_LONG),
+    ("letters-that-are-not-yet-too-many", "a" * 16_383, ""),
+    ("letters-that-go-on", "a" * 20_000, HEAD_TOO_LONG),
 ):
-    example(f"broken/{name}", words)(functools.partial(broken_head, head, answer))
+    example(f"broken/{name}")(functools.partial(broken_head, head, answer))
 
 
-@example("a-head-of-4000-fields", "Nearly as many fields as a head has room for, all of them empty, and a body of 400,000 bytes that is not read")
+@example("a-head-of-4000-fields")
 def many_fields():
     stream = Stream()
     stream.add("POST /nothing HTTP/1.1\r\nContent-Length: 400000\r\n" + "a:\r\n" * 4000 + "\r\n" + "b" * 400_000, NOT_THERE, 404)
@@ -291,7 +281,7 @@ def many_fields():
     return stream.made()
 
 
-@example("a-million-reads", "A client that sends single bytes is answered until its millionth byte; the session ends there", one_by_one=True)
+@example("a-million-reads", one_by_one=True)
 def million_reads():
     stream = Stream()
     stream.add("GET /nothing HTTP/1.0\r\n\r\n", NOT_THERE, 404)
@@ -357,25 +347,25 @@ def turn(row):
     return "RTN" if row % 2 else "ACT"
 
 
-@example("floods-of-an-alarm-that-never-returns", "100,000 events in a week: 50,000 times it becomes active, and then another alarm comes and goes")
+@example("floods-of-an-alarm-that-never-returns")
 def repeated_alarms():
     events = [Event("PT-101", "ACT", row * 6) if row < 50_000 else Event("LT-2", turn(row), row * 6) for row in range(100_000)]
     return week_of(events, 1, "2026-03-04T21:20:00Z 2026-03-08T08:40:00Z  25000     50")
 
 
-@example("floods-of-two-alarms-in-turn", "100,000 events in a week: two alarms come and go")
+@example("floods-of-two-alarms-in-turn")
 def alternating_alarms():
     events = [Event("PT-101" if row % 4 < 2 else "LT-2", turn(row), row * 6) for row in range(100_000)]
     return week_of(events, 1, "2026-03-01T10:00:00Z 2026-03-08T08:40:00Z  50000     50")
 
 
-@example("floods-in-18-bursts", "100,000 events in a week: an alarm comes and goes 2,778 times within ten minutes, every nine hours")
+@example("floods-in-18-bursts")
 def bursts():
     events = [Event("PT-101", turn(row), row // 5_556 * 32_400 + row % 5_556 // 10) for row in range(100_000)]
     return week_of(events, 18, "2026-03-01T10:00:00Z 2026-03-01T10:10:00Z   2778   2778")
 
 
-@example("10000-rows-between-90000", "A file in falling numbers, each between two of 90,000 events that are kept; it is imported twice")
+@example("10000-rows-between-90000")
 def rows_between():
     stream = Stream()
     stream.open_base()
