@@ -1,7 +1,6 @@
-//! What a person is answered does not change when the calls go that others make on units in which the person never
-//! has a role.
+//! Forty calls on two units, over each keeper.
 
-use plant_examples::{Exchanges, unit_of_exchange};
+use plant_examples::Exchanges;
 use plant_trials::{check_keepers, check_session, lists, tables};
 use std::process::Abort;
 
@@ -134,22 +133,6 @@ fn forty_exchanges() -> &'static str {
     FORTY_CALLS
 }
 
-/// The caller of an exchange.
-fn caller(exchange: &str) -> &str {
-    exchange.split(' ').next().unwrap_or("")
-}
-
-/// The exchanges of the person, and those on the unit in which the person has or had a role.
-fn purged(rt: &(impl Abort + AllocGlobal), all: &str, person: &str, unit: &str) -> Exchanges {
-    let mut kept = Exchanges::new(rt.alloc());
-    for exchange in all.split("\n\n") {
-        if caller(exchange) == person || unit_of_exchange(exchange) == unit {
-            kept.add(exchange).expect(rt, "an exchange");
-        }
-    }
-    kept
-}
-
 /// Over each keeper the exchanges are answered as expected.
 fn is_answered(rt: &(impl Abort + AllocGlobal), wanted: &Exchanges, title: &str) {
     let lists = lists(rt.alloc()).expect(rt, "lists");
@@ -166,27 +149,4 @@ fn forty_calls(rt: HostRuntime) {
     let lists = lists(rt.alloc()).expect(&rt, "lists");
     let tables = tables(rt.alloc()).expect(&rt, "tables");
     check_keepers(rt.alloc(), lists, tables, &wanted).expect(&rt, "all calls");
-}
-
-/// Each person, the unit in which the person has or had a role (none is named so by any call: the administrator has
-/// no role), and how many calls stay.
-const PERSONS: [(&str, &str, usize); 4] = [
-    ("ann", "U1", 24),
-    ("bea", "U2", 14),
-    ("cal", "U1", 25),
-    ("root", "U0", 5),
-];
-
-/// So many calls stay, and are answered as expected.
-fn can_go(rt: &(impl Abort + AllocGlobal), all: &str, person: &str, unit: &str, count: usize) {
-    let wanted = purged(rt, all, person, unit);
-    assert_eq!(rt; wanted.marks.len(), count, "{person}");
-    is_answered(rt, &wanted, person);
-}
-
-#[test]
-fn calls_of_others_can_go(rt: HostRuntime) {
-    for (person, unit, count) in PERSONS {
-        can_go(&rt, forty_exchanges(), person, unit, count);
-    }
 }
