@@ -1,4 +1,4 @@
-//! Answers as bytes that no request brings about: faults, and a line feed in a quoted text.
+//! Answers as bytes that no request shows: faults, and a line feed in a quoted text.
 
 use crate::fixtures::is_written;
 use plant_answer::{push_quoted, render};

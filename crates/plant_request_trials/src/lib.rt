@@ -1,4 +1,4 @@
-//! What is read of requests, as tests alone: the few targets and bodies that no request brings about.
+//! What is read of requests, as tests alone: the few targets and bodies that no request shows.
 #![tactic(auto)]
 
 #[cfg(test)]
