@@ -10,8 +10,11 @@ build:
 	mkdir -p out
 	cp crates/shelfoffice/out/shelfoffice out/shelfoffice
 
-# The gate: the schema in examples/, then every proof, the must-fail edits, the tests, and the programs. A toolchain that has rt ci --anew
+# The gate: the schema in examples/ and the lists in docs/WORKED.md, then every proof, the must-fail edits, the tests, and the programs,
+# and then the program that was proved on the worked examples, with the same random places each time. A toolchain that has rt ci --anew
 # does not do again what an earlier run on this machine passed on the same files, unless with ANEW=--anew.
 test:
 	scripts/check-schema
+	scripts/list-worked
 	rt ci $(ANEW)
+	scripts/conform --seed 1 crates/shelfoffice/out/shelfoffice

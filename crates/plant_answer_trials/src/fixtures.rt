@@ -1,6 +1,6 @@
 //! Values built from numbers and bytes. The test fails if a value is invalid or memory runs out.
 
-use plant_types::{Moment, Person, Seconds, Tag, UnitCode, Words};
+use plant_types::{Moment, Person, Tag, UnitCode, Words};
 use std::alloc::Global;
 use std::process::Abort;
 
@@ -26,10 +26,6 @@ pub(crate) fn words(rt: &impl Abort, alloc: Global, bytes: &[u8]) -> Words {
     Words::read(alloc, bytes)
         .expect(rt, "memory")
         .expect(rt, "words")
-}
-
-pub(crate) fn seconds(rt: &impl Abort, seconds: u64) -> Seconds {
-    Seconds::new(seconds).expect(rt, "a length of time")
 }
 
 /// The moment of a text, as 2026-03-01T10:00:00Z.

@@ -1,11 +1,9 @@
-//! What is written of answers, as tests alone: the texts of lists, and answers as bytes.
+//! What is written of answers, as tests alone: texts and answers that no request shows.
 #![tactic(auto)]
 
 #[cfg(test)]
+mod answers;
+#[cfg(test)]
 mod fixtures;
-#[cfg(test)]
-mod refusals;
-#[cfg(test)]
-mod replies;
 #[cfg(test)]
 mod texts;

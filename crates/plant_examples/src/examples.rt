@@ -68,7 +68,7 @@ eve 08:00:00 POST /units/U3/alarms {"tag":"A-2","latching":false,"max":3600}
 eve 08:00:00 POST /units/U3/alarms {"tag":"A-3","latching":false,"max":3600}
 200 {"done":true}"#;
 
-pub const NO_UNITS: &str = r#"vic 08:00:00 GET /units
+const NO_UNITS: &str = r#"vic 08:00:00 GET /units
 200 {"units":[]}"#;
 
 const OPENINGS: &str =
@@ -84,7 +84,7 @@ root 08:00:00 POST /units/U1 {"steward":"ste","bands":[300],"cells":[["P3","P4"]
 bob 08:00:00 POST /units/U1 {"steward":"ste","bands":[300],"cells":[["P3","P4"],["P1","P2"]]}
 403 {"name":"NotAdministrator","refused":1}"#;
 
-pub const STRANGER: &str = r#"bob 07:00:00 GET /units/U1/alarms/PT-101
+const STRANGER: &str = r#"bob 07:00:00 GET /units/U1/alarms/PT-101
 403 {"name":"NotGranted","refused":3}
 
 bob 07:00:00 GET /units/U9/alarms/PT-101
@@ -328,14 +328,6 @@ U2       FT-7                     one-shot 2026-03-01T12:00:00Z   5401 ann      
 
 con 12:30:00 GET /shelves
 200 MINE con AT 2026-03-01T12:30:00Z COUNT 0"#;
-
-/// What a registration in a unit with 2,000 alarms is answered, of a new tag and of one that is there.
-pub const ALARMS_FULL: &str =
-    r#"eve 08:00:00 POST /units/U1/alarms {"tag":"NEW-1","latching":false,"max":3600}
-409 {"name":"UnitFull","refused":6,"value":"Alarms"}
-
-eve 08:00:00 POST /units/U1/alarms {"tag":"PT-101","latching":false,"max":3600}
-409 {"name":"UnitFull","refused":6,"value":"Alarms"}"#;
 
 /// What a grant in a unit with 500 pairs is answered, of a new pair and of one that is there.
 pub const GRANTS_FULL: &str = r#"ste 08:00:00 POST /units/U1/grants {"person":"zed","role":"Viewer"}

@@ -50,7 +50,7 @@ pub fn push_all(out: &mut String, parts: &[&str]) -> Result<(), Failure> {
 }
 
 /// Adds a number in digits.
-pub fn push_number(out: &mut String, number: usize) -> Result<(), Failure> {
+fn push_number(out: &mut String, number: usize) -> Result<(), Failure> {
     write!(out, "{number}")?;
     Ok(())
 }
@@ -137,7 +137,7 @@ pub fn add_answer(out: &mut String, answer: &str) -> Result<(), Failure> {
 }
 
 /// The unit that the target of an exchange names, or nothing.
-pub fn unit_of_exchange(exchange: &str) -> &str {
+fn unit_of_exchange(exchange: &str) -> &str {
     let target = exchange.split([' ', '\n']).nth(3).unwrap_or("");
     target.split('/').nth(2).unwrap_or("")
 }

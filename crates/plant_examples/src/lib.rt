@@ -10,13 +10,7 @@ mod reviews;
 pub use events::{
     COUNTED, FLOODS, IMPORTED_TWICE, OVERLAPPED, OVERLAPPING, THREE_ROWS, examples_of_imports,
 };
-pub use examples::{
-    ALARMS_FULL, BASE, Example, GRANTS_FULL, LOOKED_AT, NO_UNITS, SHELVED, STRANGER,
-    examples_of_calls,
-};
-pub use exchanges::{
-    BEGIN, Exchanges, Mark, add_answer, add_request, between, numbered, push_all, push_number,
-    unit_of_exchange,
-};
+pub use examples::{BASE, Example, GRANTS_FULL, LOOKED_AT, SHELVED, examples_of_calls};
+pub use exchanges::{BEGIN, Exchanges, Mark, add_answer, add_request, between, numbered, push_all};
 pub use failure::Failure;
 pub use reviews::{RECORDED, REVIEWED, STAFFED, examples_of_changes};

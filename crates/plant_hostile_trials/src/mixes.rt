@@ -1,8 +1,7 @@
 //! Weeks of 100,000 events in three mixes, over tables behind rows at hand: the floods of each are listed within a second, and
 //! in under 100 ms once the events are at hand.
 
-use crate::full::{TEN_THOUSAND, after_one};
-use plant_examples::{BASE, Exchanges, add_request};
+use plant_examples::{BASE, Exchanges, add_answer, add_request};
 use plant_office::Books;
 use plant_trials::{after, mirrored, replays_on, tables, text};
 use plant_types::Moment;
@@ -89,6 +88,25 @@ fn file(rt: &(impl Abort + AllocGlobal), mix: Mix, before: u32) -> String {
     file
 }
 
+/// The books after one request, in the notation of the examples and with a file, which is answered so.
+fn after_one<B: Books + Drop>(
+    rt: &(impl Abort + AllocGlobal),
+    books: B,
+    line: &str,
+    file: &str,
+    wanted: &str,
+) -> B {
+    let mut request = String::new(rt.alloc());
+    let mut answer = String::new(rt.alloc());
+    add_request(&mut request, line, file).expect(rt, "a request");
+    add_answer(&mut answer, wanted).expect(rt, "an answer");
+    let (request, answer) = (request.as_bytes(), answer.as_bytes());
+    after(rt.alloc(), books, request, answer).expect(rt, line)
+}
+
+/// The answer to a file of 10,000 new rows.
+const TEN_THOUSAND: &str = r#"200 {"new":10000,"repeated":0}"#;
+
 /// The base office with the events of a week.
 fn filled<B: Books + Drop>(rt: &(impl Abort + AllocGlobal), books: B, mix: Mix) -> B {
     let base = Exchanges::of(rt.alloc(), &[BASE]).expect(rt, "exchanges");
@@ -111,7 +129,7 @@ fn floods<B: Books + Drop>(
         "vic 2026-03-08T10:00:00Z GET /units/U1/floods/2026-03-01T10:00:00Z/2026-03-08T10:00:00Z";
     add_request(&mut request, line, "").expect(rt, "a request");
     let begin = Instant::now(rt).expect(rt, "a clock");
-    let (answers, end, books) = replays_on(rt.alloc(), books, request.as_bytes(), b"");
+    let (answers, end, books) = replays_on(rt.alloc(), books, request.as_bytes());
     let taken = begin.elapsed(rt).expect(rt, "a clock");
     assert_eq!(rt; end, End::Closed);
     (answers, taken, books)

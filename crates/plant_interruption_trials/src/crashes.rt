@@ -145,7 +145,7 @@ fn survives<D: Crash + Drop>(
         }
     };
     let books = mirrored(rt.alloc(), books, MAX_ROWS_AT_HAND).expect(rt, "books with rows at hand");
-    let (written, _, left) = replays_on(rt.alloc(), books, wanted.requests.as_bytes(), b"");
+    let (written, _, left) = replays_on(rt.alloc(), books, wanted.requests.as_bytes());
     let count = answered(rt, wanted, &written);
     let files = left.into_books().close().into_store().close();
     let mut found = found_in(rt, files).expect(rt, "books after the cut");

@@ -1,11 +1,6 @@
-//! The lowest crates, as tests alone: names, moments and tables; alarms and shelves; matrices and changes; floods; and
-//! import files.
+//! The lowest crates, as tests alone: moments, tables, roles and faults; copies of changes; floods; and what import files add.
 #![tactic(auto)]
 
-#[cfg(test)]
-mod alarms;
-#[cfg(test)]
-mod files;
 #[cfg(test)]
 mod fixtures;
 #[cfg(test)]

@@ -19,14 +19,6 @@ fn events(rt: &impl Abort, alloc: Global, numbers: &[u64]) -> Vec<Event> {
     events
 }
 
-#[test]
-fn counts_each_new_number_once(rt: HostRuntime) {
-    let kept = events(&rt, rt.alloc(), &[2, 4, 6]);
-    let file = events(&rt, rt.alloc(), &[5, 4, 7, 5, 1, 2, 7]);
-    assert!(rt; count_new(rt.alloc(), &kept, &file).expect(&rt, "memory") == 3);
-    assert!(rt; count_new(rt.alloc(), &[], &[]).expect(&rt, "memory") == 0);
-}
-
 fn have_numbers(events: &[Event], numbers: &[u64]) -> bool {
     if events.len() != numbers.len() {
         return false;

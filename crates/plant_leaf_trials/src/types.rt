@@ -1,12 +1,8 @@
-//! Moments, names, tables, roles, lengths of time, quotas and faults.
+//! Moments, tables, roles, and what is printed of faults and names.
 
-use crate::fixtures::{moment, tag};
-use plant_types::{
-    Alphabet, Fault, List, Moment, PersonBytes, Quota, Role, Seconds, TagBytes, Tenure, Text,
-    UnitCodeBytes, WordsBytes,
-};
+use crate::fixtures::tag;
+use plant_types::{Fault, List, Moment, Role};
 use std::alloc::Global;
-use std::process::Abort;
 
 const NO_MOMENTS: [&[u8]; 7] = [
     b"2026-02-29T00:00:00Z",
@@ -44,60 +40,6 @@ fn reads_and_writes_moments(rt: HostRuntime) {
         assert!(rt; is_moment(text, *seconds), "{seconds}");
     }
     assert!(rt; Moment::of_seconds(3_155_760_000).is_none());
-}
-
-/// What the bytes are read as, of an alphabet.
-fn text<C: Alphabet>(rt: &impl Abort, alloc: Global, bytes: &[u8]) -> Option<Text<C>> {
-    Text::<C>::read(alloc, bytes).expect(rt, "memory")
-}
-
-/// The text has these bytes, and its copy is the same text.
-fn is_text<C: Alphabet>(
-    rt: &impl Abort,
-    alloc: Global,
-    text: &Option<Text<C>>,
-    bytes: &[u8],
-) -> bool {
-    match text {
-        Some(text) => { text.as_bytes() == bytes && text.copy(alloc).expect(rt, "memory") == *text }
-        None => false,
-    }
-}
-
-/// The bytes are a text of the alphabet, and so is its copy.
-fn is_read<C: Alphabet>(rt: &impl Abort, alloc: Global, bytes: &[u8]) -> bool {
-    is_text(rt, alloc, &text::<C>(rt, alloc, bytes), bytes)
-}
-
-fn is_outside<C: Alphabet>(rt: &impl Abort, alloc: Global, bytes: &[u8]) -> bool {
-    text::<C>(rt, alloc, bytes).is_none()
-}
-
-#[test]
-fn reads_and_copies_tags(rt: HostRuntime) {
-    let alloc = rt.alloc();
-    assert!(rt; is_read::<TagBytes>(&rt, alloc, &[b'A'; 24]));
-    assert!(rt; is_outside::<TagBytes>(&rt, alloc, &[b'A'; 25]));
-    assert!(rt; is_outside::<TagBytes>(&rt, alloc, b""));
-    assert!(rt; is_outside::<TagBytes>(&rt, alloc, b"pt-101"));
-    assert!(rt; tag(&rt, alloc, &[b'A'; 24]) < tag(&rt, alloc, b"LT-2"));
-}
-
-#[test]
-fn reads_and_copies_other_texts(rt: HostRuntime) {
-    let alloc = rt.alloc();
-    assert!(rt; is_read::<UnitCodeBytes>(&rt, alloc, b"U1"));
-    assert!(rt; is_read::<UnitCodeBytes>(&rt, alloc, &[b'U'; 8]));
-    assert!(rt; is_outside::<UnitCodeBytes>(&rt, alloc, &[b'U'; 9]));
-    assert!(rt; is_outside::<UnitCodeBytes>(&rt, alloc, b"U-1"));
-    assert!(rt; is_read::<PersonBytes>(&rt, alloc, b"ann.b-2"));
-    assert!(rt; is_read::<PersonBytes>(&rt, alloc, &[b'a'; 32]));
-    assert!(rt; is_outside::<PersonBytes>(&rt, alloc, &[b'a'; 33]));
-    assert!(rt; is_outside::<PersonBytes>(&rt, alloc, b"Ann"));
-    assert!(rt; is_read::<WordsBytes>(&rt, alloc, b"pump test ~"));
-    assert!(rt; is_read::<WordsBytes>(&rt, alloc, &[b'w'; 120]));
-    assert!(rt; is_outside::<WordsBytes>(&rt, alloc, &[b'w'; 121]));
-    assert!(rt; is_outside::<WordsBytes>(&rt, alloc, b"pump\ttest"));
 }
 
 /// 10, 21, 30 and 40, put in out of order.
@@ -139,54 +81,6 @@ fn numbers_roles(rt: HostRuntime) {
         assert!(rt; role.is(*role), "{number}");
     }
     assert!(rt; !Role::Steward.is(Role::Approver));
-}
-
-#[test]
-fn gives_stewards_no_end(rt: HostRuntime) {
-    let end = Some(moment(&rt, 3_155_759_999));
-    assert!(rt; Tenure::new(Role::Steward, end).is_none());
-    assert!(rt; Tenure::new(Role::Steward, None).is_some());
-    let tenure = Tenure::new(Role::Operator, end).expect(&rt, "a tenure");
-    assert!(rt; tenure.role() == Role::Operator);
-    assert!(rt; tenure.until() == end);
-}
-
-const LENGTHS: [(u64, Option<u64>); 4] = [
-    (0, None),
-    (1, Some(1)),
-    (604_800, Some(604_800)),
-    (604_801, None),
-];
-
-const QUOTAS: [(u64, Option<u64>); 4] = [
-    (0, None),
-    (1, Some(1)),
-    (2_000, Some(2_000)),
-    (2_001, None),
-];
-
-fn length_of(seconds: u64) -> Option<u64> {
-    match Seconds::new(seconds) {
-        Some(length) => Some(length.get()),
-        None => None,
-    }
-}
-
-fn quota_of(alarms: u64) -> Option<u64> {
-    match Quota::new(alarms) {
-        Some(quota) => Some(quota.get()),
-        None => None,
-    }
-}
-
-#[test]
-fn bounds_lengths_and_quotas(rt: HostRuntime) {
-    for (seconds, wanted) in LENGTHS.iter() {
-        assert!(rt; length_of(*seconds) == *wanted, "{seconds}");
-    }
-    for (alarms, wanted) in QUOTAS.iter() {
-        assert!(rt; quota_of(*alarms) == *wanted, "{alarms}");
-    }
 }
 
 #[test]

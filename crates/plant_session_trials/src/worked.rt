@@ -1,13 +1,11 @@
 //! The worked examples, each as bytes.
 
 use plant_examples::{
-    ALARMS_FULL, BASE, COUNTED, Example, Exchanges, FLOODS, GRANTS_FULL, OVERLAPPED, OVERLAPPING,
+    BASE, COUNTED, Example, Exchanges, FLOODS, GRANTS_FULL, OVERLAPPED, OVERLAPPING,
     examples_of_calls, examples_of_changes, examples_of_imports, numbered, push_all,
 };
 use plant_office::Books;
-use plant_trials::{
-    are_left_alike, check_example, check_keepers, check_session, lists, mirrored, tables,
-};
+use plant_trials::{are_left_alike, check_example, check_keepers, lists, mirrored, tables};
 use std::ops::Range;
 use std::process::Abort;
 
@@ -222,27 +220,6 @@ fn many(
         wanted.add(&exchange).expect(rt, "an exchange");
     }
     wanted
-}
-
-/// The base office, registrations until it has 2,000 alarms, and two more.
-fn many_alarms(rt: &(impl Abort + AllocGlobal)) -> Exchanges {
-    let before = r#"eve 08:00:00 POST /units/U1/alarms {"tag":"A-"#;
-    let behind = "\",\"latching\":false,\"max\":60}\n200 {\"done\":true}";
-    let mut wanted = many(rt, 2..2000, before, behind);
-    wanted.add_all(ALARMS_FULL).expect(rt, "exchanges");
-    wanted
-}
-
-#[test]
-fn no_more_than_2000_alarms(rt: HostRuntime) {
-    let lists = lists(rt.alloc()).expect(&rt, "lists");
-    check_session(rt.alloc(), lists, &many_alarms(&rt)).expect(&rt, "2,000 alarms");
-}
-
-#[test]
-fn no_more_than_2000_alarms_over_tables(rt: HostRuntime) {
-    let tables = tables(rt.alloc()).expect(&rt, "tables");
-    check_session(rt.alloc(), tables, &many_alarms(&rt)).expect(&rt, "2,000 alarms");
 }
 
 /// The base office, grants until it has 500 pairs, and two more.

@@ -1,6 +1,6 @@
 //! Two keepers compared by the rows that they hold.
 
-use crate::sessions::{after, replays_on};
+use crate::sessions::after;
 use plant_alarm::Event;
 use plant_examples::{BEGIN, Exchanges, Failure, between};
 use plant_model::{

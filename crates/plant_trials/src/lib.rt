@@ -11,5 +11,5 @@ pub use runs::{
     Calls, alike, all_alike, bytes_of, call_of, calls_of, check_example, check_run, run_all, served,
 };
 pub use sessions::{
-    after, check_answers, check_session, lists, mirrored, replays, replays_on, root, tables, text,
+    after, check_answers, check_session, lists, mirrored, replays_on, root, tables, text,
 };

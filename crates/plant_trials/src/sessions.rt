@@ -9,7 +9,6 @@ use plant_types::Person;
 use plant_wire::{End, FromRead, ToWrite, session};
 use sqlite::{Connection, MemStore};
 use std::alloc::Global;
-use std::io::Read;
 
 /// The administrator of every office here.
 pub fn root(alloc: Global) -> Result<Person, Failure> {
@@ -48,32 +47,15 @@ pub fn mirrored<B: Books + Drop>(
     Ok(Mirror::new(alloc, copies, books))
 }
 
-/// What a session answers to requests that come in two reads, how it ends, and the books as it leaves them.
-pub fn replays_on<B: Books + Drop>(
-    alloc: Global,
-    books: B,
-    first: &[u8],
-    second: &[u8],
-) -> (Vec<u8>, End, B) {
+/// What a session answers to these requests, how it ends, and the books as it leaves them.
+pub fn replays_on<B: Books + Drop>(alloc: Global, books: B, requests: &[u8]) -> (Vec<u8>, End, B) {
     let mut office = Office::new(alloc, books);
     let mut answers = Vec::new(alloc);
-    let mut inlet = FromRead::new(first.chain(second));
+    let mut inlet = FromRead::new(requests);
     let mut outlet = ToWrite::new(&mut answers);
     let end = session(alloc, &mut inlet, &mut outlet, &mut office);
     drop(outlet);
     (answers, end, office.into_books())
-}
-
-/// What a session answers to requests that come in two reads, and how it ends.
-pub fn replays<B: Books + Drop>(
-    alloc: Global,
-    books: B,
-    first: &[u8],
-    second: &[u8],
-) -> (Vec<u8>, End) {
-    let (answers, end, books) = replays_on(alloc, books, first, second);
-    drop(books);
-    (answers, end)
 }
 
 /// Bytes as a text, to be shown.
@@ -113,7 +95,7 @@ pub fn after<B: Books + Drop>(
     requests: &[u8],
     wanted: &[u8],
 ) -> Result<B, Failure> {
-    let (answers, end, books) = replays_on(alloc, books, requests, b"");
+    let (answers, end, books) = replays_on(alloc, books, requests);
     check_answers(alloc, &answers, wanted)?;
     check_end(end)?;
     Ok(books)

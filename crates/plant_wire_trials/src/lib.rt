@@ -2,8 +2,6 @@
 #![tactic(auto)]
 
 #[cfg(test)]
-mod causes;
-#[cfg(test)]
 mod cuts;
 #[cfg(test)]
 mod exchanges;

@@ -45,28 +45,6 @@ impl Write for Narrow {
     }
 }
 
-#[test]
-fn reads_and_writes_std_streams(rt: HostRuntime) {
-    let alloc = rt.alloc();
-    let stream = joined(&rt, alloc, &[STATUS, NOTHING, STATUS]);
-    let wanted = joined(&rt, alloc, &[NOT_GRANTED, NO_ROUTE, NOT_GRANTED]);
-    let mut out = Vec::new(alloc);
-    let mut inlet = FromRead::new(stream.as_slice());
-    let mut outlet = ToWrite::new(&mut out);
-    let end = run(&rt, alloc, &mut inlet, &mut outlet);
-    assert_eq!(rt; end, End::Closed);
-    assert!(rt; out.as_slice() == wanted.as_slice());
-}
-
-/// This request or answer, 2,800 times.
-fn repeated(rt: &impl Abort, alloc: Global, part: &[u8]) -> Vec<u8> {
-    let mut out = Vec::new(alloc);
-    for _ in 0..2800u32 {
-        out.extend_from_slice(part).expect(rt, "memory");
-    }
-    out
-}
-
 /// What was written to a writer of so many bytes a write, where the input comes byte by byte, and how the session ended.
 fn written(rt: &impl Abort, alloc: Global, bytes: Vec<u8>, most: usize) -> (Vec<u8>, End) {
     let mut inlet = FromRead::new(ByByte { bytes, at: 0 });
@@ -78,17 +56,6 @@ fn written(rt: &impl Abort, alloc: Global, bytes: Vec<u8>, most: usize) -> (Vec<
     let end = run(rt, alloc, &mut inlet, &mut outlet);
     drop(outlet);
     (writer.bytes, end)
-}
-
-#[test]
-fn makes_70000_reads_of_a_reader(rt: HostRuntime) {
-    let alloc = rt.alloc();
-    let stream = repeated(&rt, alloc, NOTHING);
-    assert_eq!(rt; stream.len(), 70_000);
-    let wanted = repeated(&rt, alloc, NO_ROUTE);
-    let (answers, end) = written(&rt, alloc, stream, 7);
-    assert_eq!(rt; end, End::Closed);
-    assert!(rt; answers.as_slice() == wanted.as_slice());
 }
 
 #[test]

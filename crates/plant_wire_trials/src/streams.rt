@@ -9,13 +9,12 @@ use plant_wire::{End, Failed, Inlet, Outlet, session};
 use std::alloc::Global;
 use std::process::Abort;
 
-/// Bytes in portions, once around or for ever. The read after so many fails.
+/// Bytes in portions. The read after so many fails.
 #[derive(Drop)]
 pub(crate) struct Feed {
     pub(crate) bytes: Vec<u8>,
     pub(crate) at: usize,
     pub(crate) most: usize,
-    pub(crate) endless: bool,
     pub(crate) fails_at: usize,
     pub(crate) reads: usize,
     pub(crate) ended: bool,
@@ -37,9 +36,6 @@ impl Inlet for Feed {
             return Err(Failed);
         }
         self.reads += 1;
-        if self.endless && self.at >= self.bytes.len() {
-            self.at = 0;
-        }
         let n = portion(self.bytes.as_slice(), self.at, self.most, buf);
         self.at = self.at.saturating_add(n);
         if n == 0 {
@@ -103,7 +99,6 @@ pub(crate) fn feed_of(bytes: Vec<u8>, most: usize, fails_at: usize) -> Feed {
         bytes,
         at: 0,
         most,
-        endless: false,
         fails_at,
         reads: 0,
         ended: false,
@@ -157,10 +152,4 @@ pub(crate) fn is_answered(
     let ended = run(rt, alloc, &mut inlet, &mut outlet);
     assert_eq!(rt; ended, end);
     assert!(rt; outlet.bytes.as_slice() == wanted);
-}
-
-/// These bytes, in reads that are large, are answered with these bytes, and the session ends so.
-pub(crate) fn answers(rt: &impl Abort, alloc: Global, bytes: &[u8], wanted: &[u8], end: End) {
-    let inlet = feed_of(joined(rt, alloc, &[bytes]), 4096, NEVER);
-    is_answered(rt, alloc, inlet, sink_of(alloc, 4096, NEVER), wanted, end);
 }
