@@ -1,5 +1,5 @@
 -- What files that a crash leaves hold.
-use Rattle.std.proofs.Common.{◌≡◌, Err, IfOk, IsTrue, List, Ok, Result, [], ap, sym, subst, ◌∙◌}
+use Rattle.std.proofs.Common.{◌≡◌, Err, IfOk, IfSome, IsTrue, List, None, Ok, Option, Result, Some, [], ap, sym, subst, ◌∙◌}
 use Rattle.std.proofs.Math.Logic.{∥∥₁_map}
 use Rattle.sqlite.specs.{Effect.{Database, IsDatabase}, Files.{HoldsDatabase, file_state}, Held.{Held}, State.{HasCleanDisk, IsLive}, Tree.{Trees}}
 use Rattle.sqlite.proofs.Theorems.{opens_again}
@@ -15,6 +15,10 @@ use Rattle.plant_store.specs.Keeping.{HaveRows, LeavesBooks, LeavesContent, Repr
 pub if_ok : {A E : Type 0} (said : Result A E) {P Q : A → Type 0} → ((a : A) → P a → Q a) → IfOk said P → IfOk said Q
 if_ok (Ok a) then h = then a h
 if_ok (Err e) then h = tt
+
+pub if_some : {A : Type 0} (found : Option A) {P Q : A → Type 0} → ((a : A) → P a → Q a) → IfSome found P → IfSome found Q
+if_some None then h = tt
+if_some (Some a) then h = then a h
 
 held_by : (image : Image) (d : Database) (m : Content) (db : Trees) → db ≡ d.trees → IsDatabase d → HaveRows m d → HoldsDatabase image db → HoldBooks image m
 held_by image d m db same live rows holds = record { db = d; database = record { trees = subst (HoldsDatabase image) same holds; listed = live }; rows = rows }

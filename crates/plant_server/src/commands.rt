@@ -308,7 +308,7 @@ pub fn serve_file<S: Start, I: Inlet, O: Outlet + Write, E: Write>(
             let (status, served) = serve_books(rt, books, service, inlet, outlet, errors);
             (status, Some(leave(served)))
         }
-        Err(fault) => (report_unopened(errors, &fault), None),
+        Err((fault, _)) => (report_unopened(errors, &fault), None),
     }
 }
 

@@ -1,8 +1,9 @@
 //! Books that a file keeps.
 
-ghost use Rattle.std.specs.Prelude.{◌≡◌, false, true, IsTrue, IfErr, IfOk};
-ghost use Rattle.sqlite.specs.{Effect.{Database}, Files.{file_state, IsBlankAs, IsOpened}, Opening.{is_open_error}, Start.{FindsIn}};
+ghost use Rattle.std.specs.Prelude.{◌≡◌, false, true, IsTrue, IfErr, IfOk, IfSome};
+ghost use Rattle.sqlite.specs.{Effect.{Database}, Files.{file_state, IsBlankAs, IsCleanLeft, IsOpened, LeavesFiles}, Opening.{is_open_error}, Start.{FindsIn}};
 ghost use Rattle.sqlite.specs.{State.{HasCleanDisk}, declared.error.Error.{Error as EngineError}};
+ghost use Rattle.sqlite_std_file.specs.File.{IsFresh};
 ghost use Rattle.sqlite_store.specs.FileStore.{view};
 ghost use Rattle.sqlite_wal.specs.Files.{image_at};
 ghost use Rattle.sqlite_wal.specs.Reads.{AreClean};
@@ -14,9 +15,10 @@ ghost use Rattle.plant_server.specs.Files as files;
 use crate::remains::close_whole;
 use plant_store::{StoreFault, Tables};
 use plant_types::{Fault, Person};
-use sqlite::{Connection, Error, ErrorCode, File, FileFrom, FileStore, Start, Unknown};
+use sqlite::{Connection, Error, ErrorCode, File, FileFrom, FileStore, Leftover, Start, Unknown};
 use sqlite_disk::{Disk, Files};
 use sqlite_trees::error::StoreError;
+use std::alloc::Global;
 use std::fs;
 use std::io::ErrorKind;
 
@@ -37,13 +39,17 @@ fn fault_of(error: &Error) -> StoreFault
     }
 }
 
+/// Why a file was not opened, and what the engine's opening left of it and its log, where it came to these.
+pub type NotOpened<S> = (StoreFault, Option<Leftover<FileFrom<S>>>);
+
 /// The database at this path. If there is none, a new one is made, with a checksum in each page in the form of SQLite's
-/// extension cksumvfs. A database that is there keeps its form.
+/// extension cksumvfs. A database that is there keeps its form. Where it is not opened, its files are not written over: a crash leaves
+/// of them what it could leave before, in the engine's words `LeavesFiles`.
 pub fn connect<S: Start>(
     rt: &HostRuntime,
     path: &str,
     start: S,
-) -> Result<Connection<FileStore<FileFrom<S>>>, StoreFault>
+) -> Result<Connection<FileStore<FileFrom<S>>>, NotOpened<S>>
     ensures mode { IfOk result (λ conn. HasNoTransaction conn) }
     ensures opened { IfOk result (λ conn. HasCleanDisk (file_state conn) → IsOpened conn) }
     ensures found { IfOk result (λ conn. HasCleanDisk (file_state conn)
@@ -51,11 +57,14 @@ pub fn connect<S: Start>(
     ensures sums { IfOk result (λ conn. HasCleanDisk (file_state conn)
         → IsBlankAs true (image_at S.Start) → (view conn.store).has_sums ≡ true) }
     ensures refused { IfErr result (λ e. (error : EngineError)
-        × IsTrue (is_open_error error) × (e ≡ files.fault_of error)) }
+        × IsTrue (is_open_error error) × (e.0 ≡ files.fault_of error)) }
+    ensures left { IfErr result (λ e. IfSome e.1 (λ left. (opened : _)
+        × IsFresh true opened.log × IsFresh false opened.db
+        × (IsCleanLeft left → LeavesFiles opened left))) }
 {
     match Connection::open_from(rt, path, true, start) {
         Ok(conn) => Ok(conn),
-        Err((error, _)) => Err(fault_of(&error)),
+        Err((error, left)) => Err((fault_of(&error), left)),
     }
 }
 
@@ -66,7 +75,7 @@ fn open_file<S: Start>(
     path: &str,
     admin: Person,
     start: S,
-) -> Result<Tables<FileStore<FileFrom<S>>>, StoreFault>
+) -> Result<Tables<FileStore<FileFrom<S>>>, NotOpened<S>>
     ensures own { IfOk result (λ books. (books.0.1 ≡ admin) × (books.1 ≡ 0)) }
     ensures kept { (m : Content) → HoldBooks (image_at S.Start) m
         → IfOk result (λ books. Represents (file_state books.0.0) m) }
@@ -74,11 +83,14 @@ fn open_file<S: Start>(
         → IfOk result (λ books. LeavesAlike (file_state books.0.0) m) }
     ensures office { (db : Database) → HoldDatabase (image_at S.Start) db
         → IfOk result (λ books. IsHonest (file_state books.0.0) → IsThisOffice admin db) }
+    ensures left { IfErr result (λ e. IfSome e.1 (λ left. (opened : _)
+        × IsFresh true opened.log × IsFresh false opened.db
+        × (IsCleanLeft left → LeavesFiles opened left))) }
 {
     let conn = connect(rt, path, start)?;
     match Tables::open(rt.alloc(), conn, admin) {
         Ok(books) => Ok(books),
-        Err(unopened) => Err(unopened.fault),
+        Err(unopened) => Err((unopened.fault, None)),
     }
 }
 
@@ -128,16 +140,31 @@ pub fn remove(rt: &HostRuntime, path: &str) -> Result<(), StoreFault> {
     }
 }
 
+/// Makes new books in a new database, and closes it.
+fn make_over<D: Disk + Drop>(
+    alloc: Global,
+    conn: Connection<FileStore<D>>,
+    admin: Person,
+) -> Result<Files<D>, StoreFault>
+    requires { HasNoTransaction conn }
+    ensures { IfOk result (λ files. AreClean D.Disk files.log files.db
+        → HoldWholeBooks D.Disk files (no_units admin)) }
+{
+    match Tables::create(alloc, conn, admin) {
+        Ok(books) => close_new(books),
+        Err(unopened) => Err(unopened.fault),
+    }
+}
+
 /// Makes new books in a file that is not there, and closes it: whatever a crash leaves of it from then on holds them, also
 /// without the log.
 fn make_whole(rt: &HostRuntime, path: &str, admin: Person) -> Result<Files<File>, StoreFault>
     ensures { IfOk result (λ files. AreClean ⟦<File as Disk>⟧ files.log files.db
         → HoldWholeBooks ⟦<File as Disk>⟧ files (no_units admin)) }
 {
-    let conn = connect(rt, path, Unknown)?;
-    match Tables::create(rt.alloc(), conn, admin) {
-        Ok(books) => close_new(books),
-        Err(unopened) => Err(unopened.fault),
+    match connect(rt, path, Unknown) {
+        Ok(conn) => make_over(rt.alloc(), conn, admin),
+        Err((fault, _)) => Err(fault),
     }
 }
 
@@ -199,14 +226,24 @@ fn make_file(rt: &HostRuntime, path: &str, admin: Person) -> Result<(), StoreFau
     put_in_place(rt, &new, path)
 }
 
+/// Makes new books in a file of this name where neither it nor its log is there.
+fn make_if_missing(rt: &HostRuntime, path: &str, admin: &Person) -> Result<(), StoreFault> {
+    if !is_there(rt, path)? {
+        let founder = admin.copy(rt.alloc()).map_err(|_| MEMORY)?;
+        make_file(rt, path, founder)?;
+    }
+    Ok(())
+}
+
 /// The books of the file at this path, which is made where neither it nor its log is there. A start that is cut off
-/// leaves nothing of this name or a file that the next start opens.
+/// leaves nothing of this name or a file that the next start opens. Where a file is not opened, its error has what is left of it: it
+/// was not written over.
 pub fn in_file<S: Start>(
     rt: &HostRuntime,
     path: &str,
     admin: Person,
     start: S,
-) -> Result<Tables<FileStore<FileFrom<S>>>, StoreFault>
+) -> Result<Tables<FileStore<FileFrom<S>>>, NotOpened<S>>
     ensures own { IfOk result (λ books. (books.0.1 ≡ admin) × (books.1 ≡ 0)) }
     ensures kept { (m : Content) → HoldBooks (image_at S.Start) m
         → IfOk result (λ books. Represents (file_state books.0.0) m) }
@@ -214,10 +251,12 @@ pub fn in_file<S: Start>(
         → IfOk result (λ books. LeavesAlike (file_state books.0.0) m) }
     ensures office { (db : Database) → HoldDatabase (image_at S.Start) db
         → IfOk result (λ books. IsHonest (file_state books.0.0) → IsThisOffice admin db) }
+    ensures left { IfErr result (λ e. IfSome e.1 (λ left. (opened : _)
+        × IsFresh true opened.log × IsFresh false opened.db
+        × (IsCleanLeft left → LeavesFiles opened left))) }
 {
-    if !is_there(rt, path)? {
-        let founder = admin.copy(rt.alloc()).map_err(|_| MEMORY)?;
-        make_file(rt, path, founder)?;
+    match make_if_missing(rt, path, &admin) {
+        Ok(()) => open_file(rt, path, admin, start),
+        Err(fault) => Err((fault, None)),
     }
-    open_file(rt, path, admin, start)
 }

@@ -91,7 +91,7 @@ fn copy_to_file(
 {
     match connect(rt, path, Unknown) {
         Ok(conn) => copy_tables(rt.alloc(), old, conn, admin),
-        Err(fault) => (old, Err(fault)),
+        Err((fault, _)) => (old, Err(fault)),
     }
 }
 
@@ -158,7 +158,10 @@ fn make_from(
 ) -> Result<(), StoreFault> {
     let log = log_of(rt, old_path)?;
     let had_log = length_of(rt, &log)?.is_some();
-    let old = connect(rt, old_path, Unknown)?;
+    let old = match connect(rt, old_path, Unknown) {
+        Ok(old) => old,
+        Err((fault, _)) => return Err(fault),
+    };
     let (old, made) = make_new(rt, old, old_path, new, admin);
     if !had_log {
         let _ = remove(rt, &log);
