@@ -227,8 +227,8 @@ fn service_args<'a>(alloc: Global, command: Command<'a>) -> Result<Command<'a>, 
     command.arg(port)?.arg(connections)?.arg(forever)?.arg(idle)
 }
 
-/// The program's version, and the toolchain that it is proved with, as `rt version` prints it.
-const VERSION: &str = "1.0.0\nrattle-kit-13b logic dac8208d650f15bf";
+/// The program's version.
+const VERSION: &str = "1.0.0";
 
 const ABOUT: &str =
     "Answers the control rooms of a plant, over standard input and output or over a port";

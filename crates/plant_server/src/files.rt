@@ -116,8 +116,11 @@ pub fn length_of(rt: &HostRuntime, path: &str) -> Result<Option<u64>, StoreFault
 }
 
 /// Whether there is a file of this name. An empty file, or a log without its file, keeps no books:
-/// this is reported before the engine would write to it.
+/// this is reported before the engine would write to it. No file has an empty name.
 pub fn is_there(rt: &HostRuntime, path: &str) -> Result<bool, StoreFault> {
+    if path.is_empty() {
+        return Err(STORE);
+    }
     let log = beside(rt, path, "-wal")?;
     match (length_of(rt, path)?, length_of(rt, &log)?) {
         (None, None) => Ok(false),

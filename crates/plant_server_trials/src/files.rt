@@ -62,6 +62,14 @@ fn finds_the_file_that_it_made(rt: HostRuntime) {
     assert!(rt; remove(&rt, path));
 }
 
+/// No file has an empty name, and none is left under the name that a new one would be made by.
+#[test]
+fn refuses_a_file_without_a_name(rt: HostRuntime) {
+    assert!(rt; is_unready(&said_over(&rt, "root", "", OPENING), "store: fault\n"));
+    assert!(rt; !fs::exists(&rt, ".new").unwrap_or(true));
+    assert!(rt; !fs::exists(&rt, ".new-wal").unwrap_or(true));
+}
+
 /// Bytes of a page of a file.
 const PAGE: usize = 4096;
 
