@@ -10,12 +10,14 @@ build:
 	mkdir -p out
 	cp crates/shelfoffice/out/shelfoffice out/shelfoffice
 
-# The gate: the schema in examples/ and the lists in docs/WORKED.md, then every proof, the must-fail edits, the tests, and the programs. A
-# toolchain that has rt ci --anew does not do again what an earlier run on this machine passed on the same files, unless with ANEW=--anew.
+# The gate: the schema in examples/ and the lists in docs/WORKED.md, then every proof, the must-fail edits, the tests, and the programs, and
+# the proved program on the worked examples. A toolchain that has rt ci --anew does not do again what an earlier run on this machine passed
+# on the same files, unless with ANEW=--anew.
 test:
 	scripts/check-schema
 	scripts/list-worked
 	rt ci $(ANEW)
+	$(MAKE) --no-print-directory conform
 
 # The program that the gate proved, on the worked examples.
 conform:

@@ -26,8 +26,8 @@ reply_media reply.Done = Json
 reply_media (reply.Imported fresh repeated) = Json
 reply_media (reply.Number number) = Json
 reply_media (reply.Status row) = Json
-reply_media (reply.Record row) = Json
-reply_media (reply.Change row) = Json
+reply_media (reply.RecordOf row) = Json
+reply_media (reply.ChangeOf row) = Json
 reply_media (reply.Units lines) = Json
 
 abbrev pub reply_body : Reply → List ℕ
@@ -35,8 +35,8 @@ reply_body reply.Done = done_body
 reply_body (reply.Imported fresh repeated) = imported_body fresh repeated
 reply_body (reply.Number number) = number_body number
 reply_body (reply.Status row) = status_body row
-reply_body (reply.Record row) = record_body row
-reply_body (reply.Change row) = change_body row
+reply_body (reply.RecordOf row) = record_body row
+reply_body (reply.ChangeOf row) = change_body row
 reply_body (reply.Units lines) = units_body lines
 reply_body (reply.Shelves unit at lines) = shelf_text unit at lines
 reply_body (reply.Standing unit at lines) = standing_text unit at lines

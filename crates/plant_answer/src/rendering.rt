@@ -26,8 +26,8 @@ fn media_of(reply: &Reply) -> Media
         | Reply::Imported { .. }
         | Reply::Number(_)
         | Reply::Status(_)
-        | Reply::Record(_)
-        | Reply::Change(_)
+        | Reply::RecordOf(_)
+        | Reply::ChangeOf(_)
         | Reply::Units(_) => Media::Json,
     }
 }
@@ -41,8 +41,8 @@ fn reply_body(alloc: Global, reply: &Reply) -> Result<Vec<u8>, Fault>
         Reply::Imported { fresh, repeated } => imported_body(alloc, *fresh, *repeated),
         Reply::Number(number) => number_body(alloc, *number),
         Reply::Status(row) => status_body(alloc, row),
-        Reply::Record(row) => record_body(alloc, row),
-        Reply::Change(row) => change_body(alloc, row),
+        Reply::RecordOf(row) => record_body(alloc, row),
+        Reply::ChangeOf(row) => change_body(alloc, row),
         Reply::Units(lines) => units_body(alloc, lines.as_slice()),
         Reply::Shelves { unit, at, lines } => shelf_text(alloc, unit, *at, lines.as_slice()),
         Reply::Standing { unit, at, lines } => standing_text(alloc, unit, *at, lines.as_slice()),

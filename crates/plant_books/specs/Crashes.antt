@@ -4,7 +4,7 @@ use Rattle.plant_books.specs.Contents.{Content, IsKnownTo, after_changes}
 use Rattle.plant_model.specs.declared.rows.RowEdit.{RowEdit}
 use Rattle.plant_types.specs.Names.{Name}
 
--- two contents are alike: no call tells them apart
+-- two contents are alike: of the same administrator, with the same rows of each unit, so every call answers both alike
 pub record Alike (x m : Content) : Type 0 where
   pub admin : x.admin ≡ m.admin
   pub units : (u : Name) → get x.units u ≡ get m.units u

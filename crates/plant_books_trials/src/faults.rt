@@ -111,7 +111,10 @@ fn are_same_rows(some: &Option<UnitRows>, other: &Option<UnitRows>) -> bool {
 
 /// Whether the unit still has these rows.
 fn has_kept(books: &mut Plain, unit: &UnitCode, before: &Option<UnitRows>) -> Result<bool, Fault> {
-    Ok(are_same_rows(&books.rows(unit)?, before))
+    let rows = books.rows(unit)?;
+    let is_same = are_same_rows(&rows, before);
+    drop(rows);
+    Ok(is_same)
 }
 
 /// Makes the changes. Where memory is refused, the rows are as before, and the same call is made
@@ -123,9 +126,12 @@ fn apply_through_faults(
     changes: &List<RowEdit>,
 ) -> Result<(), Fault> {
     let before = books.rows(unit)?;
-    if books.apply(unit, changes, None).is_err() {
+    let is_refused = books.apply(unit, changes, None).is_err();
+    let is_kept = has_kept(books, unit, &before);
+    drop(before);
+    if is_refused {
         let _ = rt.eprintln("refused while rows are changed");
-        assert!(rt; has_kept(books, unit, &before)?);
+        assert!(rt; is_kept?);
         books.apply(unit, changes, None)?;
     }
     Ok(())

@@ -25,11 +25,19 @@ moment_said (text ∷ []) = ok_or (moment_of text) BadMoment
 moment_said (text ∷ other ∷ texts) = Err BadMoment
 
 -- a request of a unit and one thing in it, which the path names
-abbrev of_one : {A : Type 0} → (List ℕ → Result A Cause) → (Name → A → Request) → List ℕ → Result Request Cause
+abbrev pub of_one : {A : Type 0} → (List ℕ → Result A Cause) → (Name → A → Request) → List ℕ → Result Request Cause
 of_one thing_in make path = do
   unit ← unit_in path
   thing ← thing_in path
   Ok (make unit thing)
+
+-- a request of a unit and two moments, which the path names
+abbrev pub floods_in : List ℕ → Result Request Cause
+floods_in path = do
+  unit ← unit_in path
+  begin ← begin_in path
+  until ← until_in path
+  Ok (request.Floods unit begin until)
 
 -- the request of a kind, by the path and the body
 unfoldable pub request_in : CallKind → List ℕ → List ℕ → Result Request Cause
@@ -82,11 +90,7 @@ request_in kind.ChangeOf path body = of_one number_in request.ChangeOf path
 request_in kind.Alarms path body = unit_in path >>= λ unit. Ok (request.Alarms unit)
 request_in kind.Shelves path body = unit_in path >>= λ unit. Ok (request.Shelves unit)
 request_in kind.Standing path body = unit_in path >>= λ unit. Ok (request.Standing unit)
-request_in kind.Floods path body = do
-  unit ← unit_in path
-  begin ← begin_in path
-  until ← until_in path
-  Ok (request.Floods unit begin until)
+request_in kind.Floods path body = floods_in path
 request_in kind.MyUnits path body = Ok request.MyUnits
 request_in kind.MyShelves path body = Ok request.MyShelves
 

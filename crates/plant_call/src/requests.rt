@@ -3,8 +3,9 @@ ghost use Rattle.httparse.specs.Spans.{header_bytes, IsHeaderWithin};
 ghost use Rattle.plant_head.specs.Fields.{values_named};
 ghost use Rattle.plant_route.specs.Routes.{route_of};
 ghost use Rattle.plant_body.specs.declared.members.Unfit.{Unfit};
-ghost use Rattle.plant_call.specs.{Causes.{ReadsAs, of_body}, Reading.{person_said, moment_said, request_in, call_in}};
+ghost use Rattle.plant_call.specs.{Causes.{ReadsAs, of_body}, Path.{number_in, tag_in}, Reading.{call_in, floods_in, moment_said, of_one, person_said, request_in}};
 ghost use Rattle.plant_call.specs.declared.causes.Cause.TheVariants.{NoRoute};
+ghost use Rattle.plant_model.specs.declared.call.Request.TheVariants as request;
 ghost use Rattle.plant_model.specs.declared.kinds.CallKind.TheVariants as kind;
 ghost use Rattle.plant_body.specs.Members as body;
 
@@ -124,6 +125,127 @@ fn timed_shelve(alloc: Global, path: &[u8], body: &[u8]) -> Result<Request, Call
     })
 }
 
+/// A file with a fault is a call as well; the office reports the fault.
+#[tactic(auto, unfolding(crate::specs::Reading::request_in))]
+fn import(alloc: Global, path: &[u8], body: &[u8]) -> Result<Request, CallError>
+    ensures { ReadsAs result (request_in kind.Import path.now body.now) }
+{
+    let unit = unit_in(alloc, path)?;
+    let file = read_file(alloc, body)?;
+    Ok(Request::Import { unit, file })
+}
+
+#[tactic(auto, unfolding(crate::specs::Reading::request_in))]
+fn one_shot_shelve(alloc: Global, path: &[u8], body: &[u8]) -> Result<Request, CallError>
+    ensures { ReadsAs result (request_in kind.OneShotShelve path.now body.now) }
+{
+    let unit = unit_in(alloc, path)?;
+    let tag = tag_in(alloc, path)?;
+    let words = of_body(read_reason(alloc, body))?;
+    Ok(Request::OneShotShelve { unit, tag, words })
+}
+
+#[tactic(auto, unfolding(crate::specs::Reading::request_in))]
+fn unshelve(alloc: Global, path: &[u8]) -> Result<Request, CallError>
+    ensures { ReadsAs result (of_one tag_in request.Unshelve path.now) }
+{
+    let unit = unit_in(alloc, path)?;
+    let tag = tag_in(alloc, path)?;
+    Ok(Request::Unshelve { unit, tag })
+}
+
+#[tactic(auto, unfolding(crate::specs::Reading::request_in))]
+fn remove_from_service(alloc: Global, path: &[u8], body: &[u8]) -> Result<Request, CallError>
+    ensures { ReadsAs result (request_in kind.RemoveFromService path.now body.now) }
+{
+    let unit = unit_in(alloc, path)?;
+    let tag = tag_in(alloc, path)?;
+    let words = of_body(read_reason(alloc, body))?;
+    Ok(Request::RemoveFromService { unit, tag, words })
+}
+
+#[tactic(auto, unfolding(crate::specs::Reading::request_in))]
+fn place_in_service(alloc: Global, path: &[u8]) -> Result<Request, CallError>
+    ensures { ReadsAs result (of_one tag_in request.PlaceInService path.now) }
+{
+    let unit = unit_in(alloc, path)?;
+    let tag = tag_in(alloc, path)?;
+    Ok(Request::PlaceInService { unit, tag })
+}
+
+#[tactic(auto, unfolding(crate::specs::Reading::request_in))]
+fn propose(alloc: Global, path: &[u8], body: &[u8]) -> Result<Request, CallError>
+    ensures { ReadsAs result (request_in kind.Propose path.now body.now) }
+{
+    let unit = unit_in(alloc, path)?;
+    let proposal = of_body(read_proposal(alloc, body))?;
+    Ok(Request::Propose { unit, proposal })
+}
+
+#[tactic(auto, unfolding(crate::specs::Reading::request_in))]
+fn withdraw_change(alloc: Global, path: &[u8]) -> Result<Request, CallError>
+    ensures { ReadsAs result (of_one number_in request.WithdrawChange path.now) }
+{
+    let unit = unit_in(alloc, path)?;
+    let number = number_in(path)?;
+    Ok(Request::WithdrawChange { unit, number })
+}
+
+#[tactic(auto, unfolding(crate::specs::Reading::request_in))]
+fn approve(alloc: Global, path: &[u8]) -> Result<Request, CallError>
+    ensures { ReadsAs result (of_one number_in request.Approve path.now) }
+{
+    let unit = unit_in(alloc, path)?;
+    let number = number_in(path)?;
+    Ok(Request::Approve { unit, number })
+}
+
+#[tactic(auto, unfolding(crate::specs::Reading::request_in))]
+fn reject(alloc: Global, path: &[u8]) -> Result<Request, CallError>
+    ensures { ReadsAs result (of_one number_in request.Reject path.now) }
+{
+    let unit = unit_in(alloc, path)?;
+    let number = number_in(path)?;
+    Ok(Request::Reject { unit, number })
+}
+
+#[tactic(auto, unfolding(crate::specs::Reading::request_in))]
+fn status(alloc: Global, path: &[u8]) -> Result<Request, CallError>
+    ensures { ReadsAs result (of_one tag_in request.Status path.now) }
+{
+    let unit = unit_in(alloc, path)?;
+    let tag = tag_in(alloc, path)?;
+    Ok(Request::Status { unit, tag })
+}
+
+#[tactic(auto, unfolding(crate::specs::Reading::request_in))]
+fn record_of(alloc: Global, path: &[u8]) -> Result<Request, CallError>
+    ensures { ReadsAs result (of_one tag_in request.RecordOf path.now) }
+{
+    let unit = unit_in(alloc, path)?;
+    let tag = tag_in(alloc, path)?;
+    Ok(Request::RecordOf { unit, tag })
+}
+
+#[tactic(auto, unfolding(crate::specs::Reading::request_in))]
+fn change_of(alloc: Global, path: &[u8]) -> Result<Request, CallError>
+    ensures { ReadsAs result (of_one number_in request.ChangeOf path.now) }
+{
+    let unit = unit_in(alloc, path)?;
+    let number = number_in(path)?;
+    Ok(Request::ChangeOf { unit, number })
+}
+
+#[tactic(auto, unfolding(crate::specs::Reading::request_in))]
+fn floods(alloc: Global, path: &[u8]) -> Result<Request, CallError>
+    ensures { ReadsAs result (floods_in path.now) }
+{
+    let unit = unit_in(alloc, path)?;
+    let begin = begin_in(path)?;
+    let until = until_in(path)?;
+    Ok(Request::Floods { unit, begin, until })
+}
+
 #[tactic(auto, unfolding(crate::specs::Reading::request_in))]
 fn request_in(alloc: Global, kind: CallKind, path: &[u8], body: &[u8]) -> Result<Request, CallError>
     ensures { ReadsAs result (request_in kind path.now body.now) }
@@ -133,58 +255,19 @@ fn request_in(alloc: Global, kind: CallKind, path: &[u8], body: &[u8]) -> Result
         CallKind::Grant => grant(alloc, path, body),
         CallKind::Withdraw => withdraw(alloc, path, body),
         CallKind::Register => register(alloc, path, body),
-        // A file with a fault is a call as well; the office reports the fault.
-        CallKind::Import => Ok(Request::Import {
-            unit: unit_in(alloc, path)?,
-            file: read_file(alloc, body)?,
-        }),
+        CallKind::Import => import(alloc, path, body),
         CallKind::TimedShelve => timed_shelve(alloc, path, body),
-        CallKind::OneShotShelve => Ok(Request::OneShotShelve {
-            unit: unit_in(alloc, path)?,
-            tag: tag_in(alloc, path)?,
-            words: of_body(read_reason(alloc, body))?,
-        }),
-        CallKind::Unshelve => Ok(Request::Unshelve {
-            unit: unit_in(alloc, path)?,
-            tag: tag_in(alloc, path)?,
-        }),
-        CallKind::RemoveFromService => Ok(Request::RemoveFromService {
-            unit: unit_in(alloc, path)?,
-            tag: tag_in(alloc, path)?,
-            words: of_body(read_reason(alloc, body))?,
-        }),
-        CallKind::PlaceInService => Ok(Request::PlaceInService {
-            unit: unit_in(alloc, path)?,
-            tag: tag_in(alloc, path)?,
-        }),
-        CallKind::Propose => Ok(Request::Propose {
-            unit: unit_in(alloc, path)?,
-            proposal: of_body(read_proposal(alloc, body))?,
-        }),
-        CallKind::WithdrawChange => Ok(Request::WithdrawChange {
-            unit: unit_in(alloc, path)?,
-            number: number_in(path)?,
-        }),
-        CallKind::Approve => Ok(Request::Approve {
-            unit: unit_in(alloc, path)?,
-            number: number_in(path)?,
-        }),
-        CallKind::Reject => Ok(Request::Reject {
-            unit: unit_in(alloc, path)?,
-            number: number_in(path)?,
-        }),
-        CallKind::Status => Ok(Request::Status {
-            unit: unit_in(alloc, path)?,
-            tag: tag_in(alloc, path)?,
-        }),
-        CallKind::RecordOf => Ok(Request::RecordOf {
-            unit: unit_in(alloc, path)?,
-            tag: tag_in(alloc, path)?,
-        }),
-        CallKind::ChangeOf => Ok(Request::ChangeOf {
-            unit: unit_in(alloc, path)?,
-            number: number_in(path)?,
-        }),
+        CallKind::OneShotShelve => one_shot_shelve(alloc, path, body),
+        CallKind::Unshelve => unshelve(alloc, path),
+        CallKind::RemoveFromService => remove_from_service(alloc, path, body),
+        CallKind::PlaceInService => place_in_service(alloc, path),
+        CallKind::Propose => propose(alloc, path, body),
+        CallKind::WithdrawChange => withdraw_change(alloc, path),
+        CallKind::Approve => approve(alloc, path),
+        CallKind::Reject => reject(alloc, path),
+        CallKind::Status => status(alloc, path),
+        CallKind::RecordOf => record_of(alloc, path),
+        CallKind::ChangeOf => change_of(alloc, path),
         CallKind::Alarms => Ok(Request::Alarms {
             unit: unit_in(alloc, path)?,
         }),
@@ -194,11 +277,7 @@ fn request_in(alloc: Global, kind: CallKind, path: &[u8], body: &[u8]) -> Result
         CallKind::Standing => Ok(Request::Standing {
             unit: unit_in(alloc, path)?,
         }),
-        CallKind::Floods => Ok(Request::Floods {
-            unit: unit_in(alloc, path)?,
-            begin: begin_in(path)?,
-            until: until_in(path)?,
-        }),
+        CallKind::Floods => floods(alloc, path),
         CallKind::MyUnits => Ok(Request::MyUnits),
         CallKind::MyShelves => Ok(Request::MyShelves),
     }

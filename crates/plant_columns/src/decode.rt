@@ -211,7 +211,6 @@ impl Shown for AlarmRow {
 
     fn from_row(alloc: Global, row: &Row) -> Result<AlarmRow, Error> {
         Ok(AlarmRow {
-            tag: text(alloc, row, 0)?,
             latching: flag(row, 1)?,
             max_s: seconds(row, 2)?,
             max_rev: number(row, 3)?,
@@ -220,6 +219,7 @@ impl Shown for AlarmRow {
             active_s: open_moment(row, 6)?,
             return_s: open_moment(row, 7)?,
             out_s: open_moment(row, 8)?,
+            tag: text(alloc, row, 0)?,
             out_by: open_text(alloc, row, 9)?,
             out_words: open_text(alloc, row, 10)?,
         })
@@ -233,10 +233,10 @@ impl Shown for ShelfRow {
 
     fn from_row(alloc: Global, row: &Row) -> Result<ShelfRow, Error> {
         Ok(ShelfRow {
-            tag: text(alloc, row, 0)?,
             one_shot: flag(row, 1)?,
             start_s: moment(row, 2)?,
             until_s: wide(row, 3)?,
+            tag: text(alloc, row, 0)?,
             person: text(alloc, row, 4)?,
             words: text(alloc, row, 5)?,
         })
@@ -308,22 +308,23 @@ impl Shown for ChangeEntry {
     ghost cells = { change_shape.cells };
 
     fn from_row(alloc: Global, row: &Row) -> Result<ChangeEntry, Error> {
+        // The texts come last: what is read before an error is given back then, and a number needs no care.
         Ok(ChangeEntry {
             number: number(row, 0)?,
-            proposer: text(alloc, row, 1)?,
             proposed_s: moment(row, 2)?,
             kind_no: coded(row, 3)?,
-            tag: open_text(alloc, row, 4)?,
             base: number(row, 5)?,
-            cause: open_text(alloc, row, 6)?,
-            consequence: open_text(alloc, row, 7)?,
-            remedy: open_text(alloc, row, 8)?,
             severity: open_small(row, 9)?,
             response_s: open_seconds(row, 10)?,
             max_s: open_seconds(row, 11)?,
             state_no: coded(row, 12)?,
-            decider: open_text(alloc, row, 13)?,
             decided_s: open_moment(row, 14)?,
+            proposer: text(alloc, row, 1)?,
+            tag: open_text(alloc, row, 4)?,
+            cause: open_text(alloc, row, 6)?,
+            consequence: open_text(alloc, row, 7)?,
+            remedy: open_text(alloc, row, 8)?,
+            decider: open_text(alloc, row, 13)?,
         })
     }
 }

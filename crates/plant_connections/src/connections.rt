@@ -86,7 +86,7 @@ fn line_of(alloc: Global, count: u64, end: End) -> Result<Vec<u8>, AllocError>
 }
 
 /// Says how a connection ended. What can't be written is passed over.
-fn say_end<W: Write>(alloc: Global, log: &mut W, count: u64, end: End)
+pub fn say_end<W: Write>(alloc: Global, log: &mut W, count: u64, end: End)
     ensures { (n : ℕ)
         × Appends (W.contents log.old) (W.contents log.new) (take n (spec.line_of count end)) }
 {

@@ -4,5 +4,5 @@
 mod connections;
 mod texts;
 
-pub use connections::{Listener, serve_connections};
+pub use connections::{Listener, say_end, serve_connections};
 pub use texts::{end_name, say};

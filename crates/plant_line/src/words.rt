@@ -1,5 +1,5 @@
-ghost use Rattle.std.specs.Prelude.{◌≡◌, None, Some, Err, IfOk, IfErr, IfSome, option_copied, option_map, string_bytes};
-ghost use Rattle.plant_line.specs.Lines.{IsTaskOf};
+ghost use Rattle.std.specs.Prelude.{◌≡◌, [], None, Some, Err, IfOk, IfErr, IfSome, codes, option_copied, option_map, string_bytes, unwrap_or};
+ghost use Rattle.plant_line.specs.Lines.{IsLineOf, IsServiceOf, IsTaskOf, said};
 ghost use Rattle.plant_line.specs.Lines as lines;
 ghost use Rattle.plant_types.specs.Text as names;
 
@@ -9,6 +9,7 @@ use clap::{Arg, ArgAction, ArgMatches, Command, Error};
 use plant_types::Person;
 use std::alloc::{AllocError, Global};
 use std::convert::AsStr;
+use std::str::FromStr;
 
 /// Why the command line is refused.
 #[derive(Drop)]
@@ -152,7 +153,10 @@ fn service_from(
 }
 
 /// How a port is served, from the options that were read.
-fn service_of(matches: &ArgMatches<'_>) -> Option<Service> {
+fn service_of(matches: &ArgMatches<'_>) -> Option<Service>
+    ensures { IsServiceOf ⟦<u16 as FromStr>⟧.from_str_gives ⟦<u64 as FromStr>⟧.from_str_gives
+        matches.now result }
+{
     service_from(
         matches.get_one("port"),
         matches.get_one("connections"),
@@ -275,7 +279,12 @@ fn line_from(
 }
 
 /// What the options ask for.
-fn asked_of(alloc: Global, matches: &ArgMatches<'_>) -> Result<Line, LineError> {
+fn asked_of(alloc: Global, matches: &ArgMatches<'_>) -> Result<Line, LineError>
+    ensures asked { IfOk result (IsLineOf ⟦<u16 as FromStr>⟧.from_str_gives
+        ⟦<u64 as FromStr>⟧.from_str_gives matches.now) }
+    ensures outside { names.person_of (unwrap_or (said matches.now (codes "admin")) []) ≡ None
+        → result ≡ Err LineError.NotAPerson }
+{
     line_from(
         alloc,
         matches.get_str("admin").unwrap_or("").as_bytes(),

@@ -5,7 +5,7 @@ use Rattle.plant_model.specs.{Refusals.{holds_some}, Rows.{rows_of}, Verdicts.{v
 use Rattle.plant_model.specs.declared.call.Request.TheVariants.{Alarms, Approve, ChangeOf, Grant, OneShotShelve, OpenUnit, Propose, RecordOf, Register, Reject, TimedShelve, WithdrawChange}
 use Rattle.plant_model.specs.declared.reply.{AlarmLine.{AlarmLine}, Refused.{Refused}}
 use Rattle.plant_model.specs.declared.reply.Refused.TheVariants.{BaseChanged, ChangeUnknown, NotAnAlarm, NotProposed, NotProposer, OutsideMatrix, RecordUnknown, RoleLacking, SamePerson, ShelvingTimeOutOfRange}
-use Rattle.plant_model.specs.declared.reply.Reply.{Reply, TheVariants.{Alarms as AlarmsOf, Change as ChangeReply, Number, Record as RecordReply}}
+use Rattle.plant_model.specs.declared.reply.Reply.{Reply, TheVariants.{Alarms as AlarmsOf, ChangeOf as ChangeReply, Number, RecordOf as RecordReply}}
 use Rattle.plant_model.proofs.public.Base.{IsAnswered, IsDone, abe, amy, ann, at, base, call, eve, grant, grid, lt, plain, pt, root, status, ste, u1, vic, x}
 use Rattle.plant_ration.specs.{Grid.{Grid}, declared.{cell.Cell.{Cell, TheVariants.{N, P1, P2, P3, P4}}, change.ChangeKind.{ChangeKind}}}
 use Rattle.plant_ration.specs.declared.change.{ChangeKind.TheVariants.{Limit, Matrix, Rationale}, ChangeState.TheVariants.{Approved, Withdrawn}}

@@ -10,7 +10,7 @@ use Rattle.plant_model.specs.declared.call.Request.TheVariants.{Alarms, Approve,
 use Rattle.plant_model.specs.declared.reply.Full.TheVariants.{Alarms as TooManyAlarms, Changes as TooManyChanges, Grants as TooManyGrants}
 use Rattle.plant_model.specs.declared.reply.{RecordRow.{RecordRow}, Refused.{Refused}, Reply.{Reply}}
 use Rattle.plant_model.specs.declared.reply.Refused.TheVariants.{AlarmTaken, AlreadyHeld, AlreadyOutOfService, ChangeUnknown, ConditionAlreadyShelved, ConditionNotShelved, EndNotAhead, LastSteward, NotHeld, NotOutOfService, NotProposer, RangeNotAligned, RecordUnknown, SamePerson, ShelvingTimeOutOfRange, UnitFull}
-use Rattle.plant_model.specs.declared.reply.Reply.TheVariants.{Alarms as AlarmsOf, Done, Floods as FloodsOf, Number, Record as RecordReply, Shelves as ShelvesOf, Standing as StandingOf}
+use Rattle.plant_model.specs.declared.reply.Reply.TheVariants.{Alarms as AlarmsOf, Done, Floods as FloodsOf, Number, RecordOf as RecordReply, Shelves as ShelvesOf, Standing as StandingOf}
 use Rattle.plant_model.specs.declared.rows.Key.TheVariants.{Grant as GrantKey, Shelf as ShelfKey}
 use Rattle.plant_model.specs.declared.rows.Row.TheVariants.{Alarm as AlarmPut, Change as ChangePut, Grant as GrantPut, Shelf as ShelfPut, Unit as UnitPut}
 use Rattle.plant_model.specs.declared.rows.{RowEdit.{RowEdit, TheVariants.{Put, Remove}}, UnitRow.{UnitRow}}

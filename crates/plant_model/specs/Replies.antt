@@ -2,7 +2,7 @@
 use Rattle.std.specs.Prelude.{List, None, Option, Some, false, filter_map, is_some, length, map, not, option_map, true, ℕ, ◌-◌, ◌||◌}
 use Rattle.plant_model.specs.{Facts.{Facts, returned}, Rows.{revision_of_limit}, Shelves.{shelf, shelf_left}, declared.reply.AlarmLine.{AlarmLine}}
 use Rattle.plant_model.specs.declared.reply.{ChangeRow.{ChangeRow}, Reply.{Reply}}
-use Rattle.plant_model.specs.declared.reply.{Reply.TheVariants.{Change as ChangeReply, Done, Imported, Status as StatusOf}, ShelfLine.{ShelfLine}}
+use Rattle.plant_model.specs.declared.reply.{Reply.TheVariants.{ChangeOf as ChangeReply, Done, Imported, Status as StatusOf}, ShelfLine.{ShelfLine}}
 use Rattle.plant_model.specs.declared.{reply.{StandingLine.{StandingLine}, StatusRow.{StatusRow}}, rows.{AlarmRow.{AlarmRow}, ShelfRow.{ShelfRow}}}
 use Rattle.plant_alarm.specs.{Shelves.{is_unshelved, shelf_state}, declared.{event.Event.{Event}, shelf.ShelfState.{ShelfState}}}
 use Rattle.plant_alarm.specs.declared.shelf.ShelfState.TheVariants.{OneShotShelved, TimedShelved, Unshelved}

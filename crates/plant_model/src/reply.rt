@@ -193,8 +193,8 @@ pub enum Reply {
     /// The number of the change that was proposed.
     Number(u32),
     Status(StatusRow),
-    Record(RecordRow),
-    Change(ChangeRow),
+    RecordOf(RecordRow),
+    ChangeOf(ChangeRow),
     Units(List<UnitLine>),
     Shelves {
         unit: UnitCode,

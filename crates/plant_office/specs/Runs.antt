@@ -1,6 +1,6 @@
 -- Whole runs. A call that was answered by a fault counts as never made.
 use Rattle.std.specs.{FinMap.{get}, Prelude.{Bool, List, [], count_by, false, true, ℕ, ◌∷◌, ◌≡◌}}
-use Rattle.plant_model.specs.{Views.{view}, Worlds.{IsLegalWorld, World, answer, answers, next}, declared.{call.Call.{Call}, reply.Answer.{Answer}}}
+use Rattle.plant_model.specs.{Verdicts.{changes_history}, Views.{view}, Worlds.{IsLegalWorld, World, answer, answers, next}, declared.{call.Call.{Call}, reply.Answer.{Answer}}}
 use Rattle.plant_model.specs.declared.reply.Answer.TheVariants.{Fault as Faulted}
 use Rattle.plant_types.specs.{Names.{Name}, declared.fault.Fault.TheVariants.{Store}}
 use Rattle.plant_books.specs.Contents.{Content}
@@ -39,6 +39,17 @@ pub record IsRun (w : World) (calls : List Call) (answers : List Answer) (left :
   pub left_it : left after
   pub holds : Holds after (world_after w calls answers)
   pub legal : IsLegalWorld (world_after w calls answers)
+
+-- the answer leaves the rows as they were: it is a fault or a refusal, or a reply to a call that only asks
+abbrev pub ChangesNothing : Call → Answer → Type 0
+ChangesNothing c a = IfSaid a (λ x. changes_history x c ≡ false)
+
+-- each of the answers does
+abbrev pub AllChangeNothing : List Call → List Answer → Type 0
+AllChangeNothing [] [] = Unit {0}
+AllChangeNothing (c ∷ calls) (a ∷ answers) = ChangesNothing c a × AllChangeNothing calls answers
+AllChangeNothing [] (a ∷ answers) = ⊥
+AllChangeNothing (c ∷ calls) [] = ⊥
 
 -- the answer is a fault of the store
 abbrev pub is_store : Answer → Bool

@@ -5,6 +5,6 @@ mod office;
 mod starts;
 
 pub use office::Office;
-pub use plant_books::Books;
+pub use plant_books::{Books, Plain};
 pub use plant_model::{Answer, laws};
 pub use starts::crashes_leave_a_world;

@@ -6,7 +6,7 @@ ghost use Rattle.plant_model.specs.{Views.{view}, Worlds.{World, IsLegalWorld, u
 ghost use Rattle.plant_model.specs.declared.rows.UnitRows.{UnitRows};
 ghost use Rattle.plant_office.specs.{Answers.{CountsAnswer, IfSaid, OnFault, answer_as}, Lines.{line_of_mine, line_of_shelf}};
 ghost use Rattle.plant_office.specs.Enduring.{EnduresAll, EnduresSettled, books_state};
-ghost use Rattle.plant_office.specs.{Runs.{IsRun, stores_in}, Served.{Holds, IsIsolated, IsServed}, Serves.{Serves}};
+ghost use Rattle.plant_office.specs.{Runs.{AllChangeNothing, IsRun, stores_in}, Served.{Holds, IsIsolated, IsServed}, Serves.{Serves}};
 
 use plant_books::{Books, MineRow, MineUnit};
 use plant_model::{
@@ -163,8 +163,13 @@ impl<B: Books> Office<B> {
                     return Ok(Ok(reply));
                 }
                 leave_out_same(&part, &mut changes);
-                self.books.apply(unit, &changes, rows_in(&part))?;
-                Ok(Ok(reply))
+                match self.books.apply(unit, &changes, rows_in(&part)) {
+                    Ok(()) => Ok(Ok(reply)),
+                    Err(fault) => {
+                        drop(reply);
+                        Err(fault)
+                    }
+                }
             }
         }
     }
@@ -183,8 +188,13 @@ impl<B: Books> Office<B> {
         match judge_open(self.alloc, self.books.administrator(), taken, call)? {
             Verdict::Refused(refused) => Ok(Err(refused)),
             Verdict::Accepted(reply, changes) => {
-                self.books.apply(unit, &changes, None)?;
-                Ok(Ok(reply))
+                match self.books.apply(unit, &changes, None) {
+                    Ok(()) => Ok(Ok(reply)),
+                    Err(fault) => {
+                        drop(reply);
+                        Err(fault)
+                    }
+                }
             }
         }
     }
@@ -236,15 +246,19 @@ impl<B: Books> Office<B> {
         answer_of(said)
     }
 
-    /// Answers the calls in their order, each as `serve` does. Room for all answers is made first: a fault of its own
-    /// is Memory, and then no call was made. A crash leaves the books with all calls that were confirmed, or with these and one that
-    /// was answered by a fault after which none was confirmed.
+    /// Answers the calls in their order, each as `serve` does. Room for all answers is made first: a fault of its own is Memory,
+    /// and then no call was made. Where no answer changes anything, the books are as they were, whatever they hold. A crash
+    /// leaves the books with all calls that were confirmed, or with these and one that was answered by a fault after which none
+    /// was confirmed.
     pub fn run(&mut self, calls: &[Call]) -> Result<Vec<Answer>, Fault>
         ensures ran { (m : Content) → B.represents self.old.books m → (w : World)
             → IsLegalWorld w → Holds m w
             → B.is_honest self.new.books
             → IfOk result (λ answers.
             IsRun w calls.now answers.items (B.represents self.new.books)) }
+        ensures unchanged { (m : Content) → B.represents self.old.books m
+            → IfOk result (λ answers. AllChangeNothing calls.now answers.items
+            → B.represents self.new.books m) }
         ensures endures { IfOk result (λ answers. EnduresAll
             (books_state B.Books self.old.books) (books_state B.Books self.new.books)
             calls.now answers.items) }

@@ -12,8 +12,8 @@ use Rattle.plant_server.specs.Files.{HoldBooks}
 use Rattle.plant_store.specs.Keeping.{AreBooksOf, LeavesBooks, LeavesContent}
 
 -- on a clean disk a crash leaves books that are alike to this content, and nothing else
-abbrev pub LeavesAlike : State → Content → Type 0
-LeavesAlike s m = HasCleanDisk s → LeavesBooks s × ((x : Content) → LeavesContent s x → Alike x m)
+abbrev pub LeavesOnly : State → Content → Type 0
+LeavesOnly s m = HasCleanDisk s → LeavesBooks s × ((x : Content) → LeavesContent s x → Alike x m)
 
 -- the files hold books that a crash may leave of an office that began at this world, and gave these calls these answers
 pub record HoldOutcome (w : World) (calls : List Call) (answers : List Answer) (files : Image) : Type 0 where

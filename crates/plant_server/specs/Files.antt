@@ -1,11 +1,13 @@
 -- What the files of a database held when they were opened, and what an error of the engine is reported as.
 use Rattle.sqlite.specs.{Effect.{Database, IsDatabase}, Files.{HoldsDatabase}, declared.error.Error.{Error, TheVariants.{SqliteFailure}}}
 use Rattle.sqlite.specs.declared.error.ErrorCode.TheVariants.{NotADatabase, OutOfMemory}
+use Rattle.sqlite_trees.specs.declared.error.StoreError.{StoreError}
 use Rattle.sqlite_wal.specs.Recovery.{Image}
 use Rattle.plant_books.specs.Contents.{Content}
 use Rattle.plant_store.specs.{Keeping.{HaveRows}, declared.tables.StoreFault.{StoreFault}}
 use Rattle.plant_types.specs.declared.fault.Fault.TheVariants.{Memory, Store}
 use Rattle.plant_store.specs.declared.tables.StoreFault.TheVariants as store_fault
+use Rattle.sqlite_trees.specs.declared.error.StoreError.TheVariants as store_error
 
 -- the files hold this database
 pub record HoldDatabase (files : Image) (db : Database) : Type 0 where
@@ -23,3 +25,8 @@ abbrev pub fault_of : Error → StoreFault
 fault_of (SqliteFailure NotADatabase) = store_fault.NotThisStore
 fault_of (SqliteFailure OutOfMemory) = store_fault.Fault Memory
 fault_of _ = store_fault.Fault Store
+
+-- what an error of the store at its closing is reported as
+abbrev pub closing_fault_of : StoreError → StoreFault
+closing_fault_of store_error.OutOfMemory = store_fault.Fault Memory
+closing_fault_of _ = store_fault.Fault Store

@@ -8,7 +8,7 @@ ghost use Rattle.sqlite_store.specs.FileStore.{view};
 ghost use Rattle.sqlite_wal.specs.Files.{image_at};
 ghost use Rattle.sqlite_wal.specs.Reads.{AreClean};
 ghost use Rattle.plant_books.specs.Contents.{Content, no_units};
-ghost use Rattle.plant_server.specs.{Crashes.{HoldWholeBooks, LeavesAlike}, Files.{HoldBooks, HoldDatabase}};
+ghost use Rattle.plant_server.specs.{Crashes.{HoldWholeBooks, LeavesOnly}, Files.{HoldBooks, HoldDatabase}};
 ghost use Rattle.plant_store.specs.{Changes.{IsHonest}, Keeping.{Represents}, Opening.{IsThisOffice}, Reading.{HasNoTransaction}};
 ghost use Rattle.plant_server.specs.Files as files;
 
@@ -80,7 +80,7 @@ fn open_file<S: Start>(
     ensures kept { (m : Content) → HoldBooks (image_at S.Start) m
         → IfOk result (λ books. Represents (file_state books.0.0) m) }
     ensures crash { (m : Content) → HoldBooks (image_at S.Start) m
-        → IfOk result (λ books. LeavesAlike (file_state books.0.0) m) }
+        → IfOk result (λ books. LeavesOnly (file_state books.0.0) m) }
     ensures office { (db : Database) → HoldDatabase (image_at S.Start) db
         → IfOk result (λ books. IsHonest (file_state books.0.0) → IsThisOffice admin db) }
     ensures left { IfErr result (λ e. IfSome e.1 (λ left. (opened : _)
@@ -187,7 +187,9 @@ pub fn close_new<D: Disk + Drop>(books: Tables<FileStore<D>>) -> Result<Files<D>
 }
 
 /// What an error of the store at its closing is reported as.
-fn closing_fault(error: StoreError) -> StoreFault {
+fn closing_fault(error: StoreError) -> StoreFault
+    ensures { result ≡ files.closing_fault_of error }
+{
     match error {
         StoreError::OutOfMemory => MEMORY,
         _ => STORE,
@@ -251,7 +253,7 @@ pub fn in_file<S: Start>(
     ensures kept { (m : Content) → HoldBooks (image_at S.Start) m
         → IfOk result (λ books. Represents (file_state books.0.0) m) }
     ensures crash { (m : Content) → HoldBooks (image_at S.Start) m
-        → IfOk result (λ books. LeavesAlike (file_state books.0.0) m) }
+        → IfOk result (λ books. LeavesOnly (file_state books.0.0) m) }
     ensures office { (db : Database) → HoldDatabase (image_at S.Start) db
         → IfOk result (λ books. IsHonest (file_state books.0.0) → IsThisOffice admin db) }
     ensures left { IfErr result (λ e. IfSome e.1 (λ left. (opened : _)

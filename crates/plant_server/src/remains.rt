@@ -38,7 +38,7 @@ fn copy_log<D: Disk>(mut store: FileStore<D>) -> Result<Files<D>, (StoreError, F
     ensures { IfOk result (λ files. AreClean D.Disk files.log files.db
         → HoldCommitted D.Disk store files) }
 {
-    // What is not committed was taken back before; this tells the proof that none of it is in the log.
+    // By now nothing is uncommitted. Rolling back changes nothing; it tells the proof so.
     store.rollback();
     match store.checkpoint() {
         Ok(()) => Ok(store.close()),

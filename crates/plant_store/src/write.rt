@@ -223,7 +223,7 @@ fn find_open<S: Alter>(conn: &mut Connection<S>) -> Result<(), Error>
     // Tell the proof that no transaction is open, and that there is a database; the values are not used.
     let _settled = conn.is_autocommit();
     let _live = conn.schema();
-    conn.prepare("SELECT id FROM office")?;
+    conn.prepare("SELECT id, schema_no, admin FROM office")?;
     Ok(())
 }
 

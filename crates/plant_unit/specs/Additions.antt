@@ -29,10 +29,6 @@ addition f t rows = decided_or (first_refusal (file_refusals f t (Ok rows))) (ro
 abbrev pub AreFew : List Event → Type 0
 AreFew es = length es ≤ 4294967295
 
--- the reply to an import that adds these rows
-abbrev pub import_reply : Merged → Reply
-import_reply added = Imported (length added.fresh) added.repeated
-
 -- the part of an import: of these events it has those that the file's rows need, and how many there are; the states of its alarms
 -- are computed from them
 pub record AreEventsOf (part : UnitPart) (rows es : List Event) : Type 0 where

@@ -1,15 +1,28 @@
 -- The rows that proposals and decisions about changes put.
-use Rattle.std.specs.Prelude.{List, None, Option, Result, map, option_map, true, ◌≡◌}
-use Rattle.plant_model.specs.{Facts.{Facts}, RowChanges.{rerated}, RowFacts.{record_read}, Rows.{change_entry}, declared.call.Call.{Call}}
-use Rattle.plant_model.specs.declared.{reply.ChangeRow.{ChangeRow}, rows.{ChangeEntry.{ChangeEntry}, RecordEntry.{RecordEntry}, UnitPart.{UnitPart}}}
+use Rattle.std.specs.Prelude.{List, None, Option, Result, ℕ, map, option_map, true, ◌≡◌}
+use Rattle.plant_model.specs.{Changes.{change_as}, Facts.{Facts}, RowChanges.{rerated}, RowFacts.{record_read}, Rows.{change_entry, max_of_kind, sheet_of_kind, tag_of_kind}, declared.call.Call.{Call}}
+use Rattle.plant_model.specs.declared.rows.{ChangeEntry.{ChangeEntry}, RecordEntry.{RecordEntry}, UnitPart.{UnitPart}}
 use Rattle.plant_model.specs.declared.rows.{Row.TheVariants.{Change as ChangePut, Record as RecordPut}, RowEdit.{RowEdit, TheVariants.{Put}}}
-use Rattle.plant_ration.specs.{Grid.{Grid}, declared.change.ChangeState.{ChangeState}}
+use Rattle.plant_ration.specs.{Grid.{Grid}, declared.change.{ChangeKind.{ChangeKind}, ChangeState.{ChangeState}, Proposal.{Proposal}}}
 use Rattle.plant_types.specs.Results.{Gives}
-use Rattle.plant_unit.specs.{Additions.{AreKept}, Judged.{decided_row}, Readings.{has_its_sheet}}
+use Rattle.plant_unit.specs.{Additions.{AreKept}, Judged.{decided_row}, Readings.{has_its_sheet}, declared.decisions.KindColumns.{KindColumns}}
 
--- the row of a change, without the columns of its kind
-abbrev pub bare_entry : ChangeRow → ChangeEntry
-bare_entry c = record (change_entry c) { tag = None; cause = None; consequence = None; remedy = None; severity = None; response_s = None; max_s = None }
+-- the columns of a change's row that its kind fills
+abbrev pub kind_columns : ChangeKind → KindColumns
+kind_columns k =
+    record {
+      tag = tag_of_kind k;
+      cause = option_map (λ s. s.cause) (sheet_of_kind k);
+      consequence = option_map (λ s. s.consequence) (sheet_of_kind k);
+      remedy = option_map (λ s. s.action) (sheet_of_kind k);
+      severity = option_map (λ s. s.severity) (sheet_of_kind k);
+      response_s = option_map (λ s. s.response) (sheet_of_kind k);
+      max_s = max_of_kind k;
+    }
+
+-- the row of a change with this number that is proposed by a call
+abbrev pub proposed_entry : ℕ → Call → Proposal → ChangeEntry
+proposed_entry number c x = change_entry (change_as number None (record { proposer = c.person; proposed = c.moment; kind = x.kind; base = x.base }))
 
 -- puts the row of a change that the caller decides
 abbrev pub decided_put : ChangeState → Call → ChangeEntry → RowEdit

@@ -22,7 +22,7 @@ use plant_model::{
     UnitPart, UnitRow, Verdict, alarm_of,
 };
 use plant_ration::{Cell, ChangeKind, ChangeState, Matrix, Proposal, Sheet};
-use plant_types::{Duplicate, Fault, List, Moment, Seconds, Tag};
+use plant_types::{Duplicate, Fault, List, Moment, Person, Seconds, Tag, Words};
 use std::alloc::Global;
 
 fn topic(kind: &ChangeKind) -> ChangeTopic
@@ -35,53 +35,82 @@ fn topic(kind: &ChangeKind) -> ChangeTopic
     }
 }
 
-/// The row of a change, without what its kind puts there.
-fn bare_entry(alloc: Global, change: &ChangeRow) -> Result<ChangeEntry, Fault>
-    ensures value { Gives result (deciding.bare_entry change.now) }
-    ensures err { OnlyMemory result }
-{
-    Ok(ChangeEntry {
-        number: change.number,
-        proposer: change.proposer.copy(alloc)?,
-        proposed_s: change.proposed,
-        kind_no: topic(&change.kind),
-        tag: None,
-        base: change.base,
-        cause: None,
-        consequence: None,
-        remedy: None,
-        severity: None,
-        response_s: None,
-        max_s: None,
-        state_no: change.state,
-        decider: change.decider.duplicate(alloc)?,
-        decided_s: change.decided,
-    })
+/// What the kind of a change puts into its row; columns that it lacks are `None`.
+#[derive(Drop)]
+struct KindColumns {
+    tag: Option<Tag>,
+    cause: Option<Words>,
+    consequence: Option<Words>,
+    remedy: Option<Words>,
+    severity: Option<u8>,
+    response_s: Option<Seconds>,
+    max_s: Option<Seconds>,
 }
 
-/// The row of a change.
-fn entry_from(alloc: Global, change: &ChangeRow) -> Result<ChangeEntry, Fault>
-    ensures value { IfOk result (λ entry. entry ≡ change_entry change.now) }
+fn kind_columns(alloc: Global, kind: &ChangeKind) -> Result<KindColumns, Fault>
+    ensures value { Gives result (deciding.kind_columns kind.now) }
     ensures err { OnlyMemory result }
 {
-    let mut entry = bare_entry(alloc, change)?;
-    match &change.kind {
-        ChangeKind::Rationale(tag, sheet) => {
-            entry.tag = Some(tag.copy(alloc)?);
-            entry.cause = Some(sheet.cause.copy(alloc)?);
-            entry.consequence = Some(sheet.consequence.copy(alloc)?);
-            entry.remedy = Some(sheet.action.copy(alloc)?);
-            entry.severity = Some(sheet.severity);
-            entry.response_s = Some(sheet.response);
-            Ok(entry)
-        }
-        ChangeKind::Matrix(_) => Ok(entry),
-        ChangeKind::Limit(tag, max) => {
-            entry.tag = Some(tag.copy(alloc)?);
-            entry.max_s = Some(*max);
-            Ok(entry)
-        }
+    match kind {
+        ChangeKind::Rationale(tag, sheet) => Ok(KindColumns {
+            tag: Some(tag.copy(alloc)?),
+            cause: Some(sheet.cause.copy(alloc)?),
+            consequence: Some(sheet.consequence.copy(alloc)?),
+            remedy: Some(sheet.action.copy(alloc)?),
+            severity: Some(sheet.severity),
+            response_s: Some(sheet.response),
+            max_s: None,
+        }),
+        ChangeKind::Matrix(_) => Ok(KindColumns {
+            tag: None,
+            cause: None,
+            consequence: None,
+            remedy: None,
+            severity: None,
+            response_s: None,
+            max_s: None,
+        }),
+        ChangeKind::Limit(tag, max) => Ok(KindColumns {
+            tag: Some(tag.copy(alloc)?),
+            cause: None,
+            consequence: None,
+            remedy: None,
+            severity: None,
+            response_s: None,
+            max_s: Some(*max),
+        }),
     }
+}
+
+/// The row of a change with this number that is proposed by a call.
+fn proposed_entry(
+    alloc: Global,
+    number: u32,
+    call: &Call,
+    proposal: &Proposal,
+) -> Result<ChangeEntry, Fault>
+    ensures value { Gives result (deciding.proposed_entry number call.now proposal.now) }
+    ensures err { OnlyMemory result }
+{
+    let proposer = call.person.copy(alloc)?;
+    let columns = kind_columns(alloc, &proposal.kind)?;
+    Ok(ChangeEntry {
+        number,
+        proposer,
+        proposed_s: call.moment,
+        kind_no: topic(&proposal.kind),
+        tag: columns.tag,
+        base: proposal.base,
+        cause: columns.cause,
+        consequence: columns.consequence,
+        remedy: columns.remedy,
+        severity: columns.severity,
+        response_s: columns.response_s,
+        max_s: columns.max_s,
+        state_no: ChangeState::Proposed,
+        decider: None,
+        decided_s: None,
+    })
 }
 
 /// The number of the next change: 4,294,967,295 where there are as many or more.
@@ -105,17 +134,8 @@ fn push_proposal(
     ensures err { OnlyMemory result }
 {
     let number = next_number(part);
-    let change = ChangeRow {
-        number,
-        kind: proposal.kind.copy(alloc)?,
-        base: proposal.base,
-        proposer: call.person.copy(alloc)?,
-        proposed: call.moment,
-        state: ChangeState::Proposed,
-        decider: None,
-        decided: None,
-    };
-    changes.push(RowEdit::Put(Row::Change(entry_from(alloc, &change)?)))?;
+    let entry = proposed_entry(alloc, number, call, proposal)?;
+    changes.push(RowEdit::Put(Row::Change(entry)))?;
     match &proposal.kind {
         ChangeKind::Matrix(matrix) => push_matrix(changes, number, matrix),
         _ => Ok(()),

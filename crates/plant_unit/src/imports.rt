@@ -1,9 +1,9 @@
 //! The judgement of an import whose caller may make it.
 
-ghost use Rattle.std.specs.Prelude.{◌≡◌, ◌+◌, IfOk, map, nat_lt};
+ghost use Rattle.std.specs.Prelude.{◌≡◌, ◌≤◌, ◌+◌, IfOk, map, nat_lt};
 ghost use Rattle.plant_types.specs.Results.{OnlyMemory};
-ghost use Rattle.plant_model.specs.RowFacts.{alarm_tag, unit_read};
-ghost use Rattle.plant_unit.specs.{Additions.{AreFew, GivesAddition, GivesImport, import_reply}, FromFacts.{JudgesImport}};
+ghost use Rattle.plant_model.specs.{RowFacts.{alarm_tag, unit_read}, declared.reply.Reply.TheVariants.{Imported}};
+ghost use Rattle.plant_unit.specs.{Additions.{GivesAddition, GivesImport}, FromFacts.{JudgesImport}};
 
 use crate::alarms::push_alarms;
 use plant_alarm::Event;
@@ -53,13 +53,13 @@ fn merge_file(
     }
 }
 
-/// The reply to an import that added these rows; 4,294,967,295 new ones where there are more.
-fn import_reply(merged: &Merged) -> Reply
-    ensures { AreFew merged.now.fresh → result ≡ import_reply merged.now }
+/// The reply to an import that added so many rows; 4,294,967,295 new ones where there are more.
+fn import_reply(fresh: usize, repeated: u64) -> Reply
+    ensures { fresh ≤ 4294967295 → result ≡ Imported fresh repeated }
 {
     Reply::Imported {
-        fresh: u32::try_from(merged.fresh.len()).unwrap_or(u32::MAX),
-        repeated: merged.repeated,
+        fresh: u32::try_from(fresh).unwrap_or(u32::MAX),
+        repeated,
     }
 }
 
@@ -107,9 +107,9 @@ pub fn judge_import(
     match merge_file(alloc, part, call.moment, rows)? {
         Err(refused) => Ok(Verdict::Refused(refused)),
         Ok(merged) => {
-            let reply = import_reply(&merged);
+            let count = merged.fresh.len();
             let changes = import_changes(alloc, unit, part, call.moment, rows, merged.fresh)?;
-            Ok(Verdict::Accepted(reply, changes))
+            Ok(Verdict::Accepted(import_reply(count, merged.repeated), changes))
         }
     }
 }

@@ -5,7 +5,7 @@ mod alarms;
 mod changes;
 mod decisions;
 mod facts;
-mod floods;
+mod flood_list;
 mod grants;
 mod imports;
 mod judgement;
@@ -20,4 +20,9 @@ mod verdicts;
 
 pub use changes::is_read;
 pub use judgement::{judge, judge_open};
+pub use plant_alarm::{AlarmState, Event, EventKind, Shelf, ShelfState};
+pub use plant_floods::{Run, floods};
+pub use plant_import::{BadFile, FileRead};
+pub use plant_model::{Call, Changes, Refused, Reply, Request, UnitPart, UnitRows, Verdict};
+pub use plant_ration::{Cell, ChangeKind, ChangeState, Matrix, Proposal, Sheet};
 pub use replies::shelf_line;

@@ -9,7 +9,7 @@ ghost use Rattle.plant_unit.specs.Shelving.{is_shelved, line_at};
 ghost use Rattle.plant_model.specs.Replies as replies;
 
 use crate::facts::{returned_near, state_now, state_of};
-use crate::floods::{flood_lines, is_aligned};
+use crate::flood_list::{flood_lines, is_aligned};
 use crate::reading::{change_of, priority_of, rationale_of};
 use plant_alarm::ShelfState;
 use plant_model::{
@@ -264,7 +264,7 @@ pub fn record(alloc: Global, part: &UnitPart, tag: &Tag) -> Result<Result<Reply,
     }
     match rationale_of(alloc, part, tag)? {
         None => Ok(Err(Refused::RecordUnknown)),
-        Some(row) => Ok(Ok(Reply::Record(row))),
+        Some(row) => Ok(Ok(Reply::RecordOf(row))),
     }
 }
 
@@ -275,6 +275,6 @@ pub fn change(alloc: Global, part: &UnitPart, number: u32) -> Result<Result<Repl
 {
     match change_of(alloc, part, number)? {
         None => Ok(Err(Refused::ChangeUnknown)),
-        Some(change) => Ok(Ok(Reply::Change(change))),
+        Some(change) => Ok(Ok(Reply::ChangeOf(change))),
     }
 }

@@ -6,7 +6,7 @@ use Rattle.plant_answer.specs.Answers.{text_of}
 use Rattle.plant_call.specs.{Cut.{WaitsBelow}, Front.{Item, waits, whole, broken, StandsAtFront, Parsed}, declared.causes.Cause.{Cause}}
 use Rattle.plant_wire.specs.Causes.{cause_text}
 use Rattle.plant_wire.specs.Marks.{Mark, said, item_of, mark_text, out_of, call_in, calls_of, answer_in, answers_of, Last, nothing, begun, breaking, last_text, last_marks, IsSaid, IsFaultless}
-use Rattle.plant_wire.specs.{Step.{IsPut, IsAnswer, IsStopped, StopsFor, AnswersFront, ServesBroken}, declared.step.Stop.{Stop}}
+use Rattle.plant_wire.specs.{Step.{AnswersBroken, AnswersFront, AnswersOne, AnswersPart, IsAnswer, IsPut, IsStopped, IsUnfinished, ServesBroken, StopsFor}, declared.step.Stop.{Stop}}
 use Rattle.plant_wire.{specs.declared.step.Stop.TheVariants.{WriteFailed, Fault}, proofs.public.Growing.{drop-add}}
 use Rattle.plant_wire.proofs.public.Running.{Joins}
 use Rattle.plant_types.specs.declared.fault.Fault as faults
@@ -86,67 +86,47 @@ module _ {first second both : List Call → List Answer → Type 0} (joins : Joi
         why,
       )
 
-  -- the same, where the second run begins at a place in the bytes
-  pub serves_past : (bytes : List ℕ) (at n : ℕ) (mid : List ℕ) (u v w : Option (List ℕ)) → mid ≡ drop at bytes
-      → AnswersFront bytes u v first (drop at bytes) → AnswersFront mid v w second (drop n mid) → AnswersFront bytes u w both (drop (at + n) bytes)
-  serves_past bytes at n mid u v w is a b =
-      let more = serves_more bytes (drop at bytes) (drop n mid) u v w a (subst (λ (x : List ℕ). AnswersFront x v w second (drop n mid)) is b) in
-      subst (λ (x : List ℕ). AnswersFront bytes u w both x) (ap (drop n) is ∙ sym (drop-add at n bytes)) more
-
-  pub broken_from : (bytes : List ℕ) (at : ℕ) (mid : List ℕ) (u v w : Option (List ℕ)) → mid ≡ drop at bytes
-      → AnswersFront bytes u v first (drop at bytes) → ServesBroken mid v w second → ServesBroken bytes u w both
-  broken_from bytes at mid u v w is a b =
-      serves_then_broken bytes (drop at bytes) u v w a (subst (λ (x : List ℕ). ServesBroken x v w second) is b)
-
-  pub part_from : (bytes : List ℕ) (at : ℕ) (mid : List ℕ) (u v w : Option (List ℕ)) (stop : Stop) → mid ≡ drop at bytes
-      → AnswersFront bytes u v first (drop at bytes) → IsStopped mid v w second stop → IsStopped bytes u w both stop
-  part_from bytes at mid u v w stop is a b =
-      serves_then_part bytes (drop at bytes) u v w stop a (subst (λ (x : List ℕ). IsStopped x v w second stop) is b)
-
-  pub waits_from : (bytes : List ℕ) (at more : ℕ) (mid : List ℕ) (u v w : Option (List ℕ)) → mid ≡ drop at bytes
-      → AnswersFront bytes u v first (drop at bytes) → StandsAtFront mid waits × AnswersFront mid v w second mid × WaitsBelow mid more
-      → StandsAtFront (drop at bytes) waits × AnswersFront bytes u w both (drop at bytes) × WaitsBelow (drop at bytes) more
-  waits_from bytes at more mid u v w is a b = (
-    subst (λ (x : List ℕ). StandsAtFront x waits) is b.0,
-    serves_more bytes (drop at bytes) (drop at bytes) u v w a (subst (λ (x : List ℕ). AnswersFront x v w second x) is b.1),
-    subst (λ (x : List ℕ). WaitsBelow x more) is b.2,
-  )
-
 module _ {ran : List Call → List Answer → Type 0} where
   pub serves_none : (bytes : List ℕ) (o : Option (List ℕ)) → ran [] [] → AnswersFront bytes o o ran bytes
   serves_none bytes o none = record { marks = []; parses = refl; writes = Appends-nil o; served = none }
 
-  -- one request
-  pub serves_one : (bytes : List ℕ) (o o' : Option (List ℕ)) (m : Mark) (n : ℕ) → StandsAtFront bytes (whole (item_of m) n)
-      → Appends o o' (mark_text m) → ran (calls_of (m ∷ [])) (answers_of (m ∷ [])) → AnswersFront bytes o o' ran (drop n bytes)
-  serves_one bytes o o' m n front writes ran_it = record {
-    marks = m ∷ [];
-    parses = (n, front, refl);
-    writes = subst (Appends o o') (sym (append-nil (mark_text m))) writes;
-    served = ran_it;
+  -- what one step did, of all that was answered
+  pub serves_still : (bytes : List ℕ) (o o' : Option (List ℕ)) → Appends o o' [] → ran [] [] → AnswersFront bytes o o' ran bytes
+  serves_still bytes o o' writes none = record { marks = []; parses = refl; writes = writes; served = none }
+
+  pub serves_one : (bytes : List ℕ) (o o' : Option (List ℕ)) (n : ℕ) → AnswersOne bytes o o' ran n → AnswersFront bytes o o' ran (drop n bytes)
+  serves_one bytes o o' n it = record {
+    marks = it.mark ∷ [];
+    parses = (n, it.stands, refl);
+    writes = subst (Appends o o') (sym (append-nil (mark_text it.mark))) it.writes;
+    served = it.served;
   }
 
-  pub broken_now : (bytes : List ℕ) (o o' : Option (List ℕ)) (cause : Cause) → StandsAtFront bytes (broken cause)
-      → Appends o o' (cause_text cause) → ran [] [] → ServesBroken bytes o o' ran
-  broken_now bytes o o' cause front writes none =
-      record { marks = []; rest = bytes; cause = cause; parses = refl; front = front; writes = writes; served = none }
+  pub serves_broken : (bytes : List ℕ) (o o' : Option (List ℕ)) → AnswersBroken bytes o o' ran → ServesBroken bytes o o' ran
+  serves_broken bytes o o' it =
+      record { marks = []; rest = bytes; cause = it.cause; parses = refl; front = it.stands; writes = it.writes; served = it.served }
 
-  pub part_none : (bytes : List ℕ) (o : Option (List ℕ)) → ran [] [] → IsStopped bytes o o ran Fault
-  part_none bytes o none =
-      (record { marks = []; rest = bytes; last = nothing; part = 0; parses = refl; stands = tt; writes = Appends-nil o; served = none }, tt)
+  pub serves_stopped : (bytes : List ℕ) (o o' : Option (List ℕ)) (stop : Stop) → AnswersPart bytes o o' ran stop → IsStopped bytes o o' ran stop
+  serves_stopped bytes o o' stop it =
+      (record { marks = []; rest = bytes; last = it.last; part = it.part; parses = refl; stands = it.stands; writes = it.writes; served = it.served }, it.why)
+
+  -- nothing of an answer was written
+  pub part_none : (bytes : List ℕ) (o : Option (List ℕ)) → ran [] [] → AnswersPart bytes o o ran Fault
+  part_none bytes o none = record { last = nothing; part = 0; stands = tt; writes = Appends-nil o; served = none; why = tt }
+
+  pub stopped_none : (bytes : List ℕ) (o : Option (List ℕ)) → ran [] [] → IsStopped bytes o o ran Fault
+  stopped_none bytes o none = serves_stopped bytes o o Fault (part_none bytes o none)
 
   -- a part of the answer to one request
   pub part_one : (bytes : List ℕ) (o o' : Option (List ℕ)) (m : Mark) (n part : ℕ) (stop : Stop) → StandsAtFront bytes (whole (item_of m) n)
-      → Appends o o' (take part (mark_text m)) → ran (calls_of (m ∷ [])) (answers_of (m ∷ [])) → StopsFor (begun m) stop → IsStopped bytes o o' ran stop
+      → Appends o o' (take part (mark_text m)) → ran (calls_of (m ∷ [])) (answers_of (m ∷ [])) → StopsFor (begun m) stop → AnswersPart bytes o o' ran stop
   part_one bytes o o' m n part stop front writes ran_it why =
-      (record { marks = []; rest = bytes; last = begun m; part = part; parses = refl; stands = (n, front); writes = writes; served = ran_it }, why)
+      record { last = begun m; part = part; stands = (n, front); writes = writes; served = ran_it; why = why }
 
   pub part_broken : (bytes : List ℕ) (o o' : Option (List ℕ)) (cause : Cause) (part : ℕ) (stop : Stop) → StandsAtFront bytes (broken cause)
-      → Appends o o' (take part (cause_text cause)) → ran [] [] → IsStopped bytes o o' ran stop
-  part_broken bytes o o' cause part stop front writes none = (
-    record { marks = []; rest = bytes; last = breaking cause; part = part; parses = refl; stands = front; writes = writes; served = none },
-    stops_for (breaking cause) stop tt,
-  )
+      → Appends o o' (take part (cause_text cause)) → ran [] [] → AnswersPart bytes o o' ran stop
+  part_broken bytes o o' cause part stop front writes none =
+      record { last = breaking cause; part = part; stands = front; writes = writes; served = none; why = stops_for (breaking cause) stop tt }
 
   -- what was answered whole was answered
   pub serves_part : (bytes rest : List ℕ) (o o' : Option (List ℕ)) → AnswersFront bytes o o' ran rest → IsStopped bytes o o' ran Fault
@@ -162,6 +142,33 @@ module _ {ran : List Call → List Answer → Type 0} where
       served = subst (λ (x : List Mark). ran (calls_of x) (answers_of x)) (sym (append-nil a.marks)) a.served;
     },
     tt,
+  )
+
+-- the same, where the second run is a step that begins at a place in the bytes
+module _ {first second both : List Call → List Answer → Type 0} (joins : Joins first second both) where
+  pub one_from : (bytes : List ℕ) (at n : ℕ) (mid : List ℕ) (u v w : Option (List ℕ)) → mid ≡ drop at bytes
+      → AnswersFront bytes u v first (drop at bytes) → AnswersOne mid v w second n → AnswersFront bytes u w both (drop (at + n) bytes)
+  one_from bytes at n mid u v w is a b =
+      let more = serves_more joins bytes (drop at bytes) (drop n mid) u v w a (subst (λ (x : List ℕ). AnswersFront x v w second (drop n mid)) is (serves_one mid v w n b)) in
+      subst (λ (x : List ℕ). AnswersFront bytes u w both x) (ap (drop n) is ∙ sym (drop-add at n bytes)) more
+
+  pub broken_from : (bytes : List ℕ) (at : ℕ) (mid : List ℕ) (u v w : Option (List ℕ)) → mid ≡ drop at bytes
+      → AnswersFront bytes u v first (drop at bytes) → AnswersBroken mid v w second → ServesBroken bytes u w both
+  broken_from bytes at mid u v w is a b =
+      serves_then_broken joins bytes (drop at bytes) u v w a (subst (λ (x : List ℕ). ServesBroken x v w second) is (serves_broken mid v w b))
+
+  pub part_from : (bytes : List ℕ) (at : ℕ) (mid : List ℕ) (u v w : Option (List ℕ)) (stop : Stop) → mid ≡ drop at bytes
+      → AnswersFront bytes u v first (drop at bytes) → AnswersPart mid v w second stop → IsStopped bytes u w both stop
+  part_from bytes at mid u v w stop is a b =
+      serves_then_part joins bytes (drop at bytes) u v w stop a (subst (λ (x : List ℕ). IsStopped x v w second stop) is (serves_stopped mid v w stop b))
+
+  pub waits_from : (bytes : List ℕ) (at more : ℕ) (mid : List ℕ) (u v w : Option (List ℕ)) → mid ≡ drop at bytes
+      → AnswersFront bytes u v first (drop at bytes) → IsUnfinished mid v w second more
+      → StandsAtFront (drop at bytes) waits × AnswersFront bytes u w both (drop at bytes) × WaitsBelow (drop at bytes) more
+  waits_from bytes at more mid u v w is a b = (
+    subst (λ (x : List ℕ). StandsAtFront x waits) is b.stands,
+    serves_more joins bytes (drop at bytes) (drop at bytes) u v w a (subst (λ (x : List ℕ). AnswersFront x v w second x) is (serves_still mid v w b.writes b.served)),
+    subst (λ (x : List ℕ). WaitsBelow x more) is b.wanted_is,
   )
 
 -- the answer to a call was put

@@ -10,14 +10,14 @@ use Rattle.plant_wire.specs.declared.reads.{End.TheVariants.{Closed, BrokenInput
 use Rattle.plant_wire.specs.declared.reads.Read.TheVariants as read
 
 -- how one read went, and the buffer before and after
-abbrev pub IsRead : Option (List ℕ) → Option (List ℕ) → Bool → ℕ → ℕ → ℕ → ℕ → List ℕ → List ℕ → Read → Type 0
-IsRead unread unread_after ended failed failed_after reads reads_after old new read.More =
-    (bytes : List ℕ) × Consumes unread unread_after bytes × (new ≡ old ++ bytes) × (failed_after ≡ failed) × (reads_after ≡ reads + 1)
-IsRead unread unread_after ended failed failed_after reads reads_after old new read.Finished =
-    Consumes unread unread_after [] × (new ≡ old) × (failed_after ≡ failed) × IsTrue ended × IsAtEnd unread_after × (reads_after ≡ reads + 1)
-IsRead unread unread_after ended failed failed_after reads reads_after old new read.Failed =
-    Consumes unread unread_after [] × (new ≡ old) × (failed_after ≡ 1) × (reads ≤ reads_after) × (reads_after ≤ reads + 1)
-IsRead unread unread_after ended failed failed_after reads reads_after old new read.Fault =
+abbrev pub IsRead : Option (List ℕ) → Option (List ℕ) → Bool → Bool → ℕ → ℕ → ℕ → ℕ → List ℕ → List ℕ → Read → Type 0
+IsRead unread unread_after ended ended_after failed failed_after reads reads_after old new read.More =
+    (bytes : List ℕ) × Consumes unread unread_after bytes × (new ≡ old ++ bytes) × (failed_after ≡ failed) × (reads_after ≡ reads + 1) × (ended_after ≡ ended)
+IsRead unread unread_after ended ended_after failed failed_after reads reads_after old new read.Finished =
+    Consumes unread unread_after [] × (new ≡ old) × (failed_after ≡ failed) × IsTrue ended_after × IsAtEnd unread_after × (reads_after ≡ reads + 1)
+IsRead unread unread_after ended ended_after failed failed_after reads reads_after old new read.Failed =
+    Consumes unread unread_after [] × (new ≡ old) × (failed_after ≡ 1) × (reads ≤ reads_after) × (reads_after ≤ reads + 1) × (ended_after ≡ ended)
+IsRead unread unread_after ended ended_after failed failed_after reads reads_after old new read.Fault =
     (bytes : List ℕ) × Consumes unread unread_after bytes × (failed_after ≡ failed) × (reads_after ≡ reads + 1)
 
 -- nothing is left, or less than a request
@@ -53,16 +53,16 @@ abbrev pub IsSession : Option (List ℕ) → Option (List ℕ) → Bool → Opti
 IsSession unread unread_after ended written written_after ran end =
     (bytes : List ℕ) × Consumes unread unread_after bytes × EndsAs bytes unread_after ended written written_after ran end
 
--- which reads and writes failed, by the end: none but at ReadFailed, where one did or 1,000,000 were made, and at
--- WriteFailed
-abbrev pub StopsAs : ℕ → ℕ → ℕ → ℕ → ℕ → ℕ → End → Type 0
-StopsAs failed failed_after reads reads_after lost lost_after Closed = (failed_after ≡ failed) × (lost_after ≡ lost)
-StopsAs failed failed_after reads reads_after lost lost_after BrokenInput =
+-- which reads and writes failed, by the end: none but at ReadFailed, where one did or 1,000,000 were made, of which none saw the
+-- input's end, and at WriteFailed
+abbrev pub StopsAs : Bool → Bool → ℕ → ℕ → ℕ → ℕ → ℕ → ℕ → End → Type 0
+StopsAs ended ended_after failed failed_after reads reads_after lost lost_after Closed = (failed_after ≡ failed) × (lost_after ≡ lost)
+StopsAs ended ended_after failed failed_after reads reads_after lost lost_after BrokenInput =
     (failed_after ≡ failed) × (lost_after ≡ lost)
-StopsAs failed failed_after reads reads_after lost lost_after ReadFailed =
-    ((failed_after ≡ 1) ⊎ ((failed_after ≡ failed) × (reads_after ≡ reads + max_reads))) × (lost_after ≡ lost)
-StopsAs failed failed_after reads reads_after lost lost_after WriteFailed = (failed_after ≡ failed) × (lost_after ≡ 1)
-StopsAs failed failed_after reads reads_after lost lost_after Fault = (failed_after ≡ failed) × (lost_after ≡ lost)
+StopsAs ended ended_after failed failed_after reads reads_after lost lost_after ReadFailed =
+    ((failed_after ≡ 1) ⊎ ((failed_after ≡ failed) × (reads_after ≡ reads + max_reads))) × (lost_after ≡ lost) × (ended_after ≡ ended)
+StopsAs ended ended_after failed failed_after reads reads_after lost lost_after WriteFailed = (failed_after ≡ failed) × (lost_after ≡ 1)
+StopsAs ended ended_after failed failed_after reads reads_after lost lost_after Fault = (failed_after ≡ failed) × (lost_after ≡ lost)
 
 -- how many reads were made, whatever the end
 abbrev pub IsFewReads : ℕ → ℕ → Type 0

@@ -5,7 +5,7 @@ use Rattle.plant_model.specs.declared.{call.Call.{Call}, reply.Answer.{Answer}}
 use Rattle.plant_answer.specs.Answers.{text_of}
 use Rattle.plant_call.specs.{Cut.{WaitsBelow}, Front.{waits, whole, broken, StandsAtFront, Parsed}, declared.causes.Cause.{Cause}}
 use Rattle.plant_wire.specs.Causes.{cause_text}
-use Rattle.plant_wire.specs.Marks.{Mark, said, item_of, out_of, calls_of, answers_of, Last, nothing, begun, breaking, last_text, last_marks, IsFaultless}
+use Rattle.plant_wire.specs.Marks.{Mark, said, item_of, mark_text, out_of, calls_of, answers_of, Last, nothing, begun, breaking, last_text, last_marks, IsFaultless}
 use Rattle.plant_wire.specs.declared.step.{Rest.{Rest}, Step.{Step, TheVariants.{Waits, Took, Broken}}, Stop.{Stop, TheVariants.{WriteFailed, Fault}}}
 use Rattle.plant_wire.specs.declared.step.Rest.TheVariants as left
 
@@ -71,14 +71,42 @@ abbrev pub IsStopped : List ℕ → Option (List ℕ) → Option (List ℕ) → 
 IsStopped bytes written written_after ran stop =
     (s : ServesPart bytes written written_after ran) × StopsFor s.last stop
 
+-- no request is whole, so nothing was answered, and none is with fewer bytes than these
+pub record IsUnfinished (bytes : List ℕ) (written written_after : Option (List ℕ)) (ran : List Call → List Answer → Type 0) (wanted : ℕ) : Type 0 where
+  pub stands : StandsAtFront bytes waits
+  pub writes : Appends written written_after []
+  pub served : ran [] []
+  pub wanted_is : WaitsBelow bytes wanted
+
+-- the request at the front, of so many bytes, was answered, and no other
+pub record AnswersOne (bytes : List ℕ) (written written_after : Option (List ℕ)) (ran : List Call → List Answer → Type 0) (n : ℕ) : Type 0 where
+  pub mark : Mark
+  pub stands : StandsAtFront bytes (whole (item_of mark) n)
+  pub writes : Appends written written_after (mark_text mark)
+  pub served : ran (calls_of (mark ∷ [])) (answers_of (mark ∷ []))
+
+-- what breaks the stream stands at the front, and its cause was answered
+pub record AnswersBroken (bytes : List ℕ) (written written_after : Option (List ℕ)) (ran : List Call → List Answer → Type 0) : Type 0 where
+  pub cause : Cause
+  pub stands : StandsAtFront bytes (broken cause)
+  pub writes : Appends written written_after (cause_text cause)
+  pub served : ran [] []
+
+-- of the answer to what stands at the front only a part was written
+pub record AnswersPart (bytes : List ℕ) (written written_after : Option (List ℕ)) (ran : List Call → List Answer → Type 0) (stop : Stop) : Type 0 where
+  pub last : Last
+  pub part : ℕ
+  pub stands : StandsLast bytes last
+  pub writes : Appends written written_after (take part (last_text last))
+  pub served : ran (calls_of (last_marks last)) (answers_of (last_marks last))
+  pub why : StopsFor last stop
+
 -- one step: it waits for more bytes, has answered one request or the cause that breaks the stream, or has stopped
 abbrev pub IsStep : List ℕ → Option (List ℕ) → Option (List ℕ) → (List Call → List Answer → Type 0) → Result Step Stop → Type 0
-IsStep bytes written written_after ran (Ok (Waits n)) =
-    StandsAtFront bytes waits × AnswersFront bytes written written_after ran bytes × WaitsBelow bytes n
-IsStep bytes written written_after ran (Ok (Took n)) =
-    (0 < n) × (n ≤ length bytes) × AnswersFront bytes written written_after ran (drop n bytes)
-IsStep bytes written written_after ran (Ok Broken) = ServesBroken bytes written written_after ran
-IsStep bytes written written_after ran (Err stop) = IsStopped bytes written written_after ran stop
+IsStep bytes written written_after ran (Ok (Waits n)) = IsUnfinished bytes written written_after ran n
+IsStep bytes written written_after ran (Ok (Took n)) = (0 < n) × (n ≤ length bytes) × AnswersOne bytes written written_after ran n
+IsStep bytes written written_after ran (Ok Broken) = AnswersBroken bytes written written_after ran
+IsStep bytes written written_after ran (Err stop) = AnswersPart bytes written written_after ran stop
 
 -- the same of all whole requests at the front
 abbrev pub IsRest : List ℕ → Option (List ℕ) → Option (List ℕ) → (List Call → List Answer → Type 0) → Result Rest Stop → Type 0

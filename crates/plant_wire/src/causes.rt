@@ -1,7 +1,20 @@
-ghost use Rattle.std.specs.Prelude.{◌≡◌};
+ghost use Rattle.std.specs.Prelude.{◌≡◌, IfOk};
+ghost use Rattle.plant_types.specs.Results.{OnlyMemory};
 ghost use Rattle.plant_wire.specs.Causes as spec;
 
 use plant_call::Cause;
+use plant_types::Fault;
+use std::alloc::Global;
+
+/// The bytes of the answer to a malformed request, in memory of their own.
+pub fn render_cause(alloc: Global, cause: Cause) -> Result<Vec<u8>, Fault>
+    ensures value { IfOk result (λ text. text.items ≡ spec.cause_text cause) }
+    ensures err { OnlyMemory result }
+{
+    let mut text = Vec::new(alloc);
+    text.extend_from_slice(cause_text(cause))?;
+    Ok(text)
+}
 
 /// The bytes of the answer to a malformed request.
 pub(crate) fn cause_text(cause: Cause) -> &'static [u8]

@@ -9,9 +9,11 @@ mod std_streams;
 mod step;
 mod streams;
 
+pub use causes::render_cause;
 pub use plant_answer::render;
 pub use plant_call::{Cause, Cut, cuts_agree, next_call, next_call_with, one_reading, one_stream};
 pub use put::bytes_from;
 pub use reads::{End, session};
 pub use std_streams::{FromRead, ToWrite};
+pub use step::{Step, Stop, answer_next};
 pub use streams::{Failed, Inlet, Outlet};

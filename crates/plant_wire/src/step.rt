@@ -22,7 +22,7 @@ use std::alloc::Global;
 /// What the bytes at the front were: a request that is not whole and cannot be with fewer bytes than these (`Waits`), one
 /// of so many bytes that was answered (`Took`), or none at all (`Broken`).
 #[derive(Clone, Copy, Debug)]
-pub(crate) enum Step {
+pub enum Step {
     Waits(usize),
     Took(usize),
     Broken,
@@ -30,7 +30,7 @@ pub(crate) enum Step {
 
 /// Why a session stops in the middle of an answer.
 #[derive(Clone, Copy, Debug)]
-pub(crate) enum Stop {
+pub enum Stop {
     WriteFailed,
     Fault,
 }
@@ -133,7 +133,8 @@ fn answer_cut<O: Outlet, B: Books>(
     }
 }
 
-fn answer_next<O: Outlet, B: Books>(
+/// Answers the request at the front of the bytes, if it is whole.
+pub fn answer_next<O: Outlet, B: Books>(
     alloc: Global,
     routes: &Routes,
     room: &mut FieldRoom,

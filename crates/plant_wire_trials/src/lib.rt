@@ -1,6 +1,9 @@
-//! Sessions over an office in lists, as tests alone: however the reads and the writes are cut, and where one fails.
+//! Sessions over an office in lists, as tests alone: however the reads and the writes are cut, and where
+//! one fails; and the answer to each malformed request.
 #![tactic(auto)]
 
+#[cfg(test)]
+mod causes;
 #[cfg(test)]
 mod cuts;
 #[cfg(test)]

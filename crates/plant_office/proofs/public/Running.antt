@@ -1,12 +1,12 @@
 -- A run with one more call.
 use Rattle.std.proofs.Common.{ap, arith, refl, subst, ◌∙◌, List, [], cond, count_by, false, if◌then◌else◌, length, true, ℕ, ◌++◌, ◌+◌, ◌-◌, ◌<◌, ◌^◌, ◌∷◌, ◌≡◌, ◌≤◌}
 use Rattle.std.proofs.lemmas.List.Sums.{count_by-le-length, sum_by-append}
-use Rattle.plant_model.specs.{Worlds.{IsLegalWorld, World, answer, answers}, declared.{call.Call.{Call}, reply.Answer.{Answer}}}
+use Rattle.plant_model.specs.{Verdicts.{changes_history}, Worlds.{IsLegalWorld, World, answer, answers}, declared.{call.Call.{Call}, reply.Answer.{Answer}}}
 use Rattle.plant_model.specs.declared.reply.Answer.TheVariants.{Fault as Faulted, Refused as WasRefused, Reply as Replied}
 use Rattle.plant_types.{specs.declared.fault.Fault.TheVariants.{Memory, Store}, proofs.public.Halves.{left}}
 use Rattle.plant_books.specs.Contents.{Content}
 use Rattle.plant_office.specs.Answers.{CountsAnswer, IfSaid, OnFault}
-use Rattle.plant_office.specs.Runs.{AreAnswers, AreIsolated, IsRun, after_answer, is_store, stores_in, world_after}
+use Rattle.plant_office.specs.Runs.{AllChangeNothing, AreAnswers, AreIsolated, ChangesNothing, IsRun, after_answer, is_store, stores_in, world_after}
 use Rattle.plant_office.{specs.Served.{Holds, IsServed}, proofs.Serving.{alike_if}}
 
 -- two runs, one after the other
@@ -77,3 +77,18 @@ stores_more first old new n i answers (Faulted Store) il lt room e le counts =
 
 pub few_stores : (answers : List Answer) → stores_in answers ≤ length answers
 few_stores answers = count_by-le-length is_store answers
+
+-- all change nothing: the first ones, and the last
+pub nothing_split : (cs : List Call) (xs : List Answer) (c : Call) (a : Answer) → AllChangeNothing (cs ++ c ∷ []) (xs ++ a ∷ []) → AllChangeNothing cs xs × ChangesNothing c a
+nothing_split [] [] c a h = (tt, h.0)
+nothing_split [] (x ∷ []) c a h = absurd h.1
+nothing_split [] (x ∷ y ∷ ys) c a h = absurd h.1
+nothing_split (d ∷ []) [] c a h = absurd h.1
+nothing_split (d ∷ e ∷ ds) [] c a h = absurd h.1
+nothing_split (d ∷ ds) (x ∷ xs) c a h = let rest = nothing_split ds xs c a h.1 in ((h.0, rest.0), rest.1)
+
+-- what holds after a fault, and after an answer that changes nothing
+pub left_by : (c : Call) (a : Answer) (P : Type 0) → IfSaid a (λ x. changes_history x c ≡ false → P) → OnFault a P → ChangesNothing c a → P
+left_by c (Replied r) P said fault is = said is
+left_by c (WasRefused r) P said fault is = said is
+left_by c (Faulted f) P said fault is = fault

@@ -14,6 +14,7 @@ reads-init g c =
           (ran_none (books_state g.B.Books c.args.office.now.books) (g.B.Books.stores c.args.office.now.books));
       honest = λ t. t;
       stalls = refl;
+      ended = refl;
       failed = refl;
       count = omega arith;
       waits = waits_none [];
@@ -30,7 +31,7 @@ pub returns-in-Failed-clause-does : goal.returns-in-Failed-clause-does
 returns-in-Failed-clause-does g c = ends_failed c.reads.invariant.stands (g.I.Inlet.remaining c.read_more.new.inlet) c.in-Failed.ensures.0
 
 pub returns-in-Failed-clause-stops : goal.returns-in-Failed-clause-stops
-returns-in-Failed-clause-stops g c = (inl c.in-Failed.ensures.2, c.reads.invariant.stalls)
+returns-in-Failed-clause-stops g c = (inl c.in-Failed.ensures.2, c.reads.invariant.stalls, c.in-Failed.ensures.5 ∙ c.reads.invariant.ended)
 
 pub returns-in-Failed-clause-honest : goal.returns-in-Failed-clause-honest
 returns-in-Failed-clause-honest g c = c.reads.invariant.honest
@@ -83,6 +84,7 @@ reads-preserved g c =
           (c.in-Ok.ensures ∙ sym (ap (drop c.in-Ok-Waits.n) c.deref.ensures.value)) h.1 h.2;
       honest = λ t. c.reads.invariant.honest (c.in-Ok-Waits.ensures.honest t);
       stalls = c.in-Ok-Waits.ensures.stalls ∙ c.reads.invariant.stalls;
+      ended = c.in-More.ensures.5 ∙ c.reads.invariant.ended;
       failed = c.in-More.ensures.3 ∙ c.reads.invariant.failed;
       count = omega (arith, c.in-More.ensures.4, c.reads.invariant.count);
       waits = waits_left (drop c.in-Ok-Waits.n c.deref.result.now) c.drop_front.new.buffer.items c.in-Ok-Waits.more

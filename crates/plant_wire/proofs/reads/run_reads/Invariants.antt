@@ -10,6 +10,7 @@ invariant-reads g l = record {
       (Ran (books_state g.B.Books l.fn.office.books) (books_state g.B.Books l.office.books) (g.B.Books.stores l.fn.office.books) (g.B.Books.stores l.office.books)) l.buffer.items;
   honest : g.B.Books.is_honest l.office.books → g.B.Books.is_honest l.fn.office.books;
   stalls : g.O.Outlet.failures l.outlet ≡ g.O.Outlet.failures l.fn.outlet;
+  ended : g.I.Inlet.ended l.inlet ≡ g.I.Inlet.ended l.fn.inlet;
   failed : g.I.Inlet.failures l.inlet ≡ g.I.Inlet.failures l.fn.inlet;
   count : g.I.Inlet.reads l.inlet ≡ g.I.Inlet.reads l.fn.inlet + l.count;
   waits : WaitsBelow l.buffer.items l.wanted;

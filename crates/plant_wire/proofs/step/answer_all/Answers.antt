@@ -1,6 +1,6 @@
 use Rattle.std.proofs.Common.{arith, refl, ◌∙◌}
 use Rattle.plant_call.proofs.public.Waiting.{waits_now}
-use Rattle.plant_wire.proofs.{Serving.{serves_none, waits_from, broken_from, part_from, serves_past}, public.Running.{ran_none, ran_joins}}
+use Rattle.plant_wire.proofs.{Serving.{serves_none, waits_from, broken_from, part_from, one_from}, public.Running.{ran_none, ran_joins}}
 use Rattle.plant_office.specs.Enduring.{books_state}
 use Rattle.plant_wire.proofs.step.answer_all.Goals as goal
 
@@ -26,7 +26,7 @@ items-preserved g c =
     let joins = ran_joins (books_state g.B.Books c.args.office.now.books) (books_state g.B.Books c.items.office.books) (books_state g.B.Books c.answer_next.new.office.books) (g.B.Books.stores c.args.office.now.books) (g.B.Books.stores c.items.office.books) (g.B.Books.stores c.answer_next.new.office.books) c.in-Ok-Took.ensures.honest in
     record {
       within = omega (arith, c.bytes_from.ensures.len, c.items.invariant.within, h.1);
-      serves = serves_past joins c.args.bytes.now _ c.in-Ok-Took.n c.bytes_from.result.now _ _ _ c.bytes_from.ensures.value c.items.invariant.serves h.2;
+      serves = one_from joins c.args.bytes.now _ c.in-Ok-Took.n c.bytes_from.result.now _ _ _ c.bytes_from.ensures.value c.items.invariant.serves h.2;
       honest = λ t. c.items.invariant.honest (c.in-Ok-Took.ensures.honest t);
       stalls = c.in-Ok-Took.ensures.stalls ∙ c.items.invariant.stalls;
     }

@@ -1,4 +1,4 @@
-use Rattle.std.proofs.Common.{subst, ◌∙◌}
+use Rattle.std.proofs.Common.{refl, subst, ◌∙◌}
 use Rattle.plant_books.specs.Contents.{after_changes}
 use Rattle.plant_model.proofs.public.LegalLaws.{next_legal}
 use Rattle.plant_unit.specs.Judged.{IsOpening}
@@ -17,18 +17,18 @@ returns-in-Refused g c =
           c.taken.ensures.honest c.taken.ensures.same c.in_ok-taken.ensures.count tt c.taken.ensures.crash;
     }
 
-pub returns-in_err-apply-in-Accepted : goal.returns-in_err-apply-in-Accepted
-returns-in_err-apply-in-Accepted g c =
-    let fault = c.in_err-apply-in-Accepted in
+pub returns : goal.returns
+returns g c =
+    let failed = c.in-Err in
     let call = c.args.call.now in
     let u = c.args.unit.now in
     record {
-      serves = serves_fault _ fault.field-0.0 c.from_residual-in_err-apply-in-Accepted.ensures.1 (λ honest. c.taken.ensures.honest (c.apply.ensures.honest honest))
-          (λ m k. fault.ensures.unchanged m (c.taken.ensures.same m k)) c.in_ok-taken.ensures.count fault.ensures.count
+      serves = serves_fault _ failed.fault refl (λ honest. c.taken.ensures.honest (c.apply.ensures.honest honest))
+          (λ m k. failed.ensures.unchanged m (c.taken.ensures.same m k)) c.in_ok-taken.ensures.count failed.ensures.count
           (record {
             read = c.taken.ensures.crash;
             same = c.taken.ensures.same;
-            writes = fault.ensures.crash;
+            writes = failed.ensures.crash;
             known = λ m k w legal h honest.
                 let v = opening_of m w call u _ _ _ h (c.administrator.ensures m (c.taken.ensures.same m k)) (c.in_ok-taken.ensures.found m k honest) (subst (IsOpening _ _ _) c.in-Accepted.is c.in_ok-refused.ensures.value) in
                 known_opening m w call u c.in-Accepted.reply _ v;
@@ -39,8 +39,8 @@ returns-in_err-apply-in-Accepted g c =
           });
     }
 
-pub returns-in_ok-apply-in-Accepted : goal.returns-in_ok-apply-in-Accepted
-returns-in_ok-apply-in-Accepted g c =
+pub returns-in-Ok : goal.returns-in-Ok
+returns-in-Ok g c =
     let call = c.args.call.now in
     let u = c.args.unit.now in
     record {
@@ -49,12 +49,12 @@ returns-in_ok-apply-in-Accepted g c =
           let early = c.apply.ensures.honest honest in
           let v = opening_of m w call u _ _ _ h (c.administrator.ensures m mid) (c.in_ok-taken.ensures.found m k early) (subst (IsOpening _ _ _) c.in-Accepted.is c.in_ok-refused.ensures.value) in
           leaves w call _ (after_changes m u c.in-Accepted.changes) (g.B.Books.represents c.apply.new.self) legal c.note_matrix.ensures (accepted_opening m w call u c.in-Accepted.reply _ h c.requires.named c.requires.opening v)
-          (c.in_ok-apply-in-Accepted.ensures.made m mid (known_opening m w call u c.in-Accepted.reply _ v)))
-          (λ honest. c.taken.ensures.honest (c.apply.ensures.honest honest)) (opening_changes call.request c.requires.opening) (c.in_ok-apply-in-Accepted.ensures.count ∙ c.in_ok-taken.ensures.count)
+          (c.in-Ok.ensures.made m mid (known_opening m w call u c.in-Accepted.reply _ v)))
+          (λ honest. c.taken.ensures.honest (c.apply.ensures.honest honest)) (opening_changes call.request c.requires.opening) (c.in-Ok.ensures.count ∙ c.in_ok-taken.ensures.count)
           (record {
             read = c.taken.ensures.crash;
             same = c.taken.ensures.same;
-            writes = c.in_ok-apply-in-Accepted.ensures.crash;
+            writes = c.in-Ok.ensures.crash;
             known = λ m k w legal h honest.
                 let v = opening_of m w call u _ _ _ h (c.administrator.ensures m (c.taken.ensures.same m k)) (c.in_ok-taken.ensures.found m k honest) (subst (IsOpening _ _ _) c.in-Accepted.is c.in_ok-refused.ensures.value) in
                 known_opening m w call u c.in-Accepted.reply _ v;
@@ -62,5 +62,5 @@ returns-in_ok-apply-in-Accepted g c =
                 let v = opening_of m w call u _ _ _ h (c.administrator.ensures m (c.taken.ensures.same m k)) (c.in_ok-taken.ensures.found m k honest) (subst (IsOpening _ _ _) c.in-Accepted.is c.in_ok-refused.ensures.value) in
                 holds_opened m w call u c.in-Accepted.reply _ legal h c.note_matrix.ensures c.requires.named c.requires.opening v;
             legal = λ w legal. next_legal w call legal c.note_matrix.ensures;
-          }) c.in_ok-apply-in-Accepted.ensures.kept;
+          }) c.in-Ok.ensures.kept;
     }

@@ -1,4 +1,4 @@
-use Rattle.std.proofs.Common.{subst, sym, ◌∙◌}
+use Rattle.std.proofs.Common.{refl, subst, sym, ◌∙◌}
 use Rattle.plant_books.specs.Contents.{after_changes}
 use Rattle.plant_model.proofs.public.LegalLaws.{next_legal}
 use Rattle.plant_office.proofs.Serving.{changing_call, holds_meant, known_call, leaves, on_history, read_call, refused_call, same_changes, serves_changing, serves_fault, serves_same}
@@ -28,20 +28,20 @@ returns-then-is_read g c =
           c.part.ensures.honest c.part.ensures.same c.in_ok-part.ensures.count (sym c.if-is_read.ensures) c.part.ensures.crash;
     }
 
-pub returns-in_err-apply-in-Accepted : goal.returns-in_err-apply-in-Accepted
-returns-in_err-apply-in-Accepted g c =
-    let fault = c.in_err-apply-in-Accepted in
+pub returns : goal.returns
+returns g c =
+    let failed = c.in-Err in
     let call = c.args.call.now in
     let u = c.args.unit.now in
     let changes = sym c.if-is_read.ensures in
     let left = c.leave_out_same.new.changes in
     record {
-      serves = serves_fault _ fault.field-0.0 c.from_residual-in_err-apply-in-Accepted.ensures.1 (λ honest. c.part.ensures.honest (c.apply.ensures.honest honest))
-          (λ m k. fault.ensures.unchanged m (c.part.ensures.same m k)) c.in_ok-part.ensures.count fault.ensures.count
+      serves = serves_fault _ failed.fault refl (λ honest. c.part.ensures.honest (c.apply.ensures.honest honest))
+          (λ m k. failed.ensures.unchanged m (c.part.ensures.same m k)) c.in_ok-part.ensures.count failed.ensures.count
           (record {
             read = c.part.ensures.crash;
             same = c.part.ensures.same;
-            writes = fault.ensures.crash;
+            writes = failed.ensures.crash;
             known = λ m k w legal h honest.
                 let v = on_history m w call u _ _ _ _ legal h (c.in_ok-part.ensures.found m k honest u c.requires.named) c.as_ref.ensures.value c.in_ok-refused.ensures.value c.in-Accepted.is in
                 known_call m w call u c.in-Accepted.reply _ left h changes v;
@@ -53,8 +53,8 @@ returns-in_err-apply-in-Accepted g c =
           });
     }
 
-pub returns : goal.returns
-returns g c =
+pub returns-in-Ok : goal.returns-in-Ok
+returns-in-Ok g c =
     let call = c.args.call.now in
     let u = c.args.unit.now in
     let changes = sym c.if-is_read.ensures in
@@ -66,12 +66,12 @@ returns g c =
           let known = known_call m w call u c.in-Accepted.reply _ left h changes v in
           let same = same_changes m call u c.in_ok-part.part c.in-Accepted.changes left found c.leave_out_same.ensures in
           leaves w call _ (after_changes m u c.in-Accepted.changes) (g.B.Books.represents c.apply.new.self) legal c.note_matrix.ensures (changing_call m w call u c.in-Accepted.reply _ h c.requires.named c.requires.plain changes v)
-          (subst (g.B.Books.represents c.apply.new.self) same (c.in_ok-apply-in-Accepted.ensures.made m (c.part.ensures.same m k) known)))
-          (λ honest. c.part.ensures.honest (c.apply.ensures.honest honest)) changes (c.in_ok-apply-in-Accepted.ensures.count ∙ c.in_ok-part.ensures.count)
+          (subst (g.B.Books.represents c.apply.new.self) same (c.in-Ok.ensures.made m (c.part.ensures.same m k) known)))
+          (λ honest. c.part.ensures.honest (c.apply.ensures.honest honest)) changes (c.in-Ok.ensures.count ∙ c.in_ok-part.ensures.count)
           (record {
             read = c.part.ensures.crash;
             same = c.part.ensures.same;
-            writes = c.in_ok-apply-in-Accepted.ensures.crash;
+            writes = c.in-Ok.ensures.crash;
             known = λ m k w legal h honest.
                 let v = on_history m w call u _ _ _ _ legal h (c.in_ok-part.ensures.found m k honest u c.requires.named) c.as_ref.ensures.value c.in_ok-refused.ensures.value c.in-Accepted.is in
                 known_call m w call u c.in-Accepted.reply _ left h changes v;
@@ -80,5 +80,5 @@ returns g c =
                 let v = on_history m w call u _ _ _ _ legal h found c.as_ref.ensures.value c.in_ok-refused.ensures.value c.in-Accepted.is in
                 holds_meant m w call u c.in-Accepted.reply _ left legal h c.note_matrix.ensures c.requires.named c.requires.plain changes v (same_changes m call u c.in_ok-part.part c.in-Accepted.changes left found c.leave_out_same.ensures);
             legal = λ w legal. next_legal w call legal c.note_matrix.ensures;
-          }) c.in_ok-apply-in-Accepted.ensures.kept;
+          }) c.in-Ok.ensures.kept;
     }

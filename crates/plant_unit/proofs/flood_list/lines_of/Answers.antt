@@ -1,6 +1,6 @@
 use Rattle.std.proofs.Common.{rules}
 use Rattle.plant_unit.proofs.FloodLines.{line_more}
-use Rattle.plant_unit.proofs.floods.lines_of.Goals as goal
+use Rattle.plant_unit.proofs.flood_list.lines_of.Goals as goal
 
 pub loop-run-preserved : goal.loop-run-preserved
 loop-run-preserved c until moment ends =

@@ -1,0 +1,171 @@
+-- How a connection that is closed ends, by its stage.
+use Rattle.std.proofs.Common.{◌≡◌, ◌≢◌, ◌<◌, ◌⊎◌, ℕ, zero, suc, List, [], ◌∷◌, ◌++◌, Bool, true, Option, Some, None, refl, sym, ap, subst, ◌∙◌}
+use Rattle.std.proofs.Common.{append_assoc, append-nil, nat_lt, map, take, drop, length, inl, inr, take-append-drop, arith}
+use Rattle.plant_model.specs.declared.{call.Call.{Call}, reply.Answer.{Answer}}
+use Rattle.plant_call.specs.Front.{Item, Parsed, StandsAtFront, waits, whole}
+use Rattle.plant_wire.specs.Causes.{cause_text}
+use Rattle.plant_wire.specs.Marks.{IsFaultless, Mark, Last, begun, breaking, nothing, answers_of, calls_of, item_of, last_marks, last_text, mark_text}
+use Rattle.plant_wire.specs.Marks.{out_of}
+use Rattle.plant_wire.specs.{Session.{EndsAs, IsCutShort, IsIdle}, Step.{AnswersFront, ServesBroken, ServesPart, StopsFor}}
+use Rattle.plant_wire.specs.declared.{reads.End.{End}, step.Stop.{Stop}}
+use Rattle.plant_wire.specs.declared.reads.End.TheVariants.{BrokenInput, Closed, Fault, ReadFailed, WriteFailed}
+use Rattle.plant_wire.specs.declared.step.Stop.TheVariants as stops
+use Rattle.plant_lines.specs.Events.{Event, closed, answers_in, bytes_in, calls_in, cut_in, ends_in, marks_in, of_all, sent_in}
+use Rattle.plant_lines.specs.{Accounts.{EndsEach}, Stages.{Leads, Moves, Stage, end_by, end_for, fresh, served, ending, gone}}
+use Rattle.plant_lines.proofs.Moments.{HasBroken, HasEnded, HasStopped, IsAt, IsBehind, IsGoing, out_last, sent_all, so_from}
+
+abbrev Exactly : List Call → List Answer → List Call → List Answer → Type 0
+Exactly d b calls answers = (calls ≡ d) × (answers ≡ b)
+
+abbrev Ended : List ℕ → List ℕ → List ℕ → List Call → List Answer → End → Type 0
+Ended c h t d b end = EndsAs c None (nat_lt 0 (length h)) (Some []) (Some t) (Exactly d b) end
+
+abbrev Fronts : List ℕ → List ℕ → List Call → List Answer → List ℕ → Type 0
+Fronts c t d b rest = AnswersFront c (Some []) (Some t) (Exactly d b) rest
+
+abbrev Parts : List ℕ → List ℕ → List Call → List Answer → Type 0
+Parts c t d b = ServesPart c (Some []) (Some t) (Exactly d b)
+
+take_front : (xs ys : List ℕ) → take (length xs) (xs ++ ys) ≡ xs
+take_front [] ys = refl
+take_front (x ∷ xs) ys = ap (λ (l : List ℕ). x ∷ l) (take_front xs ys)
+
+-- of the parses of some requests, those of all but the last
+parses_last : (a : List ℕ) (ms : List Mark) (m : Mark) (rest : List ℕ) → Parsed a (map item_of (ms ++ m ∷ [])) rest
+    → (mid : List ℕ) × Parsed a (map item_of ms) mid × ((n : ℕ) × StandsAtFront mid (whole (item_of m) n))
+parses_last a [] m rest (n, front, end) = (a, refl, (n, front))
+parses_last a (x ∷ ms) m rest (n, front, more) =
+    let later = parses_last (drop n a) ms m rest more in
+    (later.0, (n, front, later.1), later.2)
+
+module _ (c h : List ℕ) (m : List Mark) (x : List ℕ) (d : List Call) (b : List Answer) (t : List ℕ) where
+  fronts : (rest : List ℕ) → Parsed c (map item_of m) rest → t ≡ out_of m → d ≡ calls_of m → b ≡ answers_of m → Fronts c t d b rest
+  fronts rest parses sent calls answers = record { marks = m; parses = parses; writes = sent; served = (sym calls, sym answers) }
+
+  -- nothing was begun
+  part_none : (rest : List ℕ) → Parsed c (map item_of m) rest → t ≡ out_of m → d ≡ calls_of m → b ≡ answers_of m
+      → (s : Parts c t d b) × (s.last ≡ nothing)
+  part_none rest parses sent calls answers = (
+    record {
+      marks = m;
+      rest = rest;
+      last = nothing;
+      part = 0;
+      parses = parses;
+      stands = tt;
+      writes = sent ∙ sym (append-nil (out_of m));
+      served = (ap calls_of (append-nil m) ∙ sym calls, ap answers_of (append-nil m) ∙ sym answers);
+    },
+    refl,
+  )
+
+  -- a part of the last answer was sent
+  part_last : (u p : List ℕ) → Parsed c (map item_of m) u → d ≡ calls_of m → b ≡ answers_of m → IsBehind m t p → Parts c t d b
+  part_last u p parses calls answers w =
+      let split = parses_last c w.earlier w.last u (subst (λ (ms : List Mark). Parsed c (map item_of ms) u) w.are parses) in
+      record {
+        marks = w.earlier;
+        rest = split.0;
+        last = begun w.last;
+        part = length w.before;
+        parses = split.1;
+        stands = split.2;
+        writes = w.sent ∙ ap (λ (l : List ℕ). out_of w.earlier ++ l) (sym (take_front w.before p) ∙ ap (take (length w.before)) (sym w.text));
+        served = (ap calls_of (sym w.are) ∙ sym calls, ap answers_of (sym w.are) ∙ sym answers);
+      }
+
+  broken_all : (e : End) (p : List ℕ) → HasBroken c m x d b t e p → p ≡ [] → ServesBroken c (Some []) (Some t) (Exactly d b)
+  broken_all e p o none = record {
+    marks = m;
+    rest = o.rest;
+    cause = o.cause;
+    parses = o.parses;
+    front = o.front;
+    writes =
+        o.sent ∙ ap (λ (l : List ℕ). out_of m ++ l) (sym (append-nil o.before) ∙ ap (λ (l : List ℕ). o.before ++ l) (sym none) ∙ sym o.split ∙ o.cut);
+    served = (sym o.calls, sym o.answers);
+  }
+
+  broken_part : (e : End) (p : List ℕ) → HasBroken c m x d b t e p → Parts c t d b
+  broken_part e p o = record {
+    marks = m;
+    rest = o.rest;
+    last = breaking o.cause;
+    part = length o.before;
+    parses = o.parses;
+    stands = o.front;
+    writes = o.sent ∙ ap (λ (l : List ℕ). out_of m ++ l) (sym (take_front o.before p) ∙ ap (take (length o.before)) (sym o.split ∙ o.cut));
+    served = (ap calls_of (append-nil m) ∙ sym o.calls, ap answers_of (append-nil m) ∙ sym o.answers);
+  }
+
+  -- the text that was cut, of the whole
+  cut_front : (before p text : List ℕ) (part : ℕ) → take part text ≡ before ++ p → before ≡ take (length before) text
+  cut_front before p text part is =
+      let all : text ≡ before ++ (p ++ drop part text) = sym (take-append-drop part text) ∙ ap (λ (l : List ℕ). l ++ drop part text) is ∙ append_assoc
+      before p (drop part text) in
+      sym (take_front before (p ++ drop part text)) ∙ ap (take (length before)) (sym all)
+
+  stopped_part : (e : End) (p : List ℕ) (o : HasStopped c m x d b t e p) → (s : Parts c t d b) × (s.last ≡ o.last)
+  stopped_part e p o = (
+    record {
+      marks = m;
+      rest = o.rest;
+      last = o.last;
+      part = length o.before;
+      parses = o.parses;
+      stands = o.stands;
+      writes = o.sent ∙ ap (λ (l : List ℕ). out_of m ++ l) (cut_front o.before p (last_text o.last) o.part (sym o.cut ∙ o.split));
+      served = (sym o.calls, sym o.answers);
+    },
+    refl,
+  )
+
+  -- the input ended
+  ends_input : (rest : List ℕ) → nat_lt 0 (length h) ≡ true → IsIdle rest → Fronts c t d b rest → Ended c h t d b (end_for rest)
+  ends_input [] seen idle a = (seen, tt, a)
+  ends_input (y ∷ ys) seen (inl none) a = cc
+  ends_input (y ∷ ys) seen (inr stands) a =
+      inr record { seen = seen; nothing_left = tt; rest = y ∷ ys; some = omega arith; waiting = stands; serves = a }
+
+  ends_stop : (last : Last) (stop : Stop) → StopsFor last stop → (s : Parts c t d b) × (s.last ≡ last) → Ended c h t d b (end_by stop)
+  ends_stop last stops.WriteFailed why s = s.0
+  ends_stop last stops.Fault why s = (s.0, subst IsFaultless (sym s.1) why)
+
+  pub ends_at : (s : Stage) (k : ℕ) (how : End) → IsAt c h m x d b t s → Moves s (closed k how) gone → Ended c h t d b how
+  ends_at fresh k how at is = absurd is
+  ends_at (served u p) k Closed g (given, is) = absurd given
+  ends_at (served u p) k BrokenInput g (given, is) = absurd given
+  ends_at (served u p) k ReadFailed g (given, is) = (u, given.1, fronts u g.parses (sent_all m t p g.waiting given.0) g.calls g.answers)
+  ends_at (served u p) k WriteFailed g (given, is) = elim g.waiting [
+    | inl all ↦ absurd (given all.0)
+    | inr w ↦ part_last u p g.parses g.calls g.answers w
+  ]
+  ends_at (served u p) k Fault g (given, is) =
+      let s = part_none u g.parses (sent_all m t p g.waiting given.1) g.calls g.answers in
+      (s.0, subst IsFaultless (sym s.1) tt)
+  ends_at (ending e p) k how (inl o) (inl (same, none), is) =
+      subst (λ (end : End). Ended c h t d b end) (sym (same ∙ o.end))
+      (ends_input o.rest o.seen o.idle (fronts o.rest o.parses o.sent o.calls o.answers))
+  ends_at (ending e p) k how (inl o) (inr (lost, some), is) = absurd (some o.none)
+  ends_at (ending e p) k how (inr (inl o)) (inl (same, none), is) =
+      subst (λ (end : End). Ended c h t d b end) (sym (same ∙ o.end)) (inl (broken_all e p o none))
+  ends_at (ending e p) k how (inr (inl o)) (inr (lost, some), is) = subst (λ (end : End). Ended c h t d b end) (sym lost) (broken_part e p o)
+  ends_at (ending e p) k how (inr (inr o)) (inl (same, none), is) =
+      subst (λ (end : End). Ended c h t d b end) (sym (same ∙ o.end)) (ends_stop o.last o.stop o.why (stopped_part e p o))
+  ends_at (ending e p) k how (inr (inr o)) (inr (lost, some), is) = subst (λ (end : End). Ended c h t d b end) (sym lost) (stopped_part e p o).0
+  ends_at gone k how at is = absurd is
+
+pub ends_each : (events : List Event) (last : ℕ → Stage) → ((k : ℕ) → Leads k fresh events (last k)) → EndsEach events
+ends_each events last goes es fs k end is =
+    let at = so_from k events es (closed k end ∷ fs) (last k) is (goes k) in
+    let next = at.2 in
+    let moved = next.1.own refl in
+    ends_at (of_all bytes_in k es) (of_all ends_in k es) (of_all marks_in k es) (of_all cut_in k es) (of_all calls_in k es) (of_all answers_in k es)
+    (of_all sent_in k es)
+    at.0 k end at.1 (closes at.0 next.0 k end moved)
+  where
+    closes : (s s' : Stage) (k : ℕ) (how : End) → Moves s (closed k how) s' → Moves s (closed k how) gone
+    closes fresh s' k how is = absurd is
+    closes (served u p) s' k how (given, is) = (given, refl)
+    closes (ending e p) s' k how (may, is) = (may, refl)
+    closes gone s' k how is = absurd is

@@ -1,0 +1,191 @@
+-- What one line does, and what that is among all.
+use Rattle.std.proofs.Common.{◌≡◌, ◌+◌, slice_get, slice_set, ℕ, List, [], ◌∷◌, ◌++◌, Option, Some, None, drop, refl, sym, ap, subst, ◌∙◌, append-nil}
+use Rattle.std.proofs.Common.{take}
+use Rattle.std.{specs.{Io.KnownBytes.{Appends}, List.{remove}}, proofs.KnownBytes.{Appends-trans}}
+use Rattle.plant_books.specs.declared.books.Books as books
+use Rattle.plant_wire.specs.{Causes.{cause_text}, Marks.{Last, nothing, calls_of, answers_of, last_marks, last_text, mark_text}, Over.{RanOn}}
+use Rattle.plant_wire.specs.Step.{AnswersBroken, AnswersOne, AnswersPart}
+use Rattle.plant_wire.specs.declared.{reads.End.{End, TheVariants.{BrokenInput, Fault}}, step.Stop.{Stop}}
+use Rattle.plant_wire.specs.declared.step.Stop.TheVariants as stops
+use Rattle.plant_connections.specs.Connections.{line_of}
+use Rattle.plant_lines.specs.Books.{Makes}
+use Rattle.plant_lines.specs.Events.{AreTold, Event, IsToldBy, Log, Logs, Shows, answered, answers_in, broke, calls_in, came, closed, ended}
+use Rattle.plant_lines.specs.Events.{left, opened, port_in, seen_by, stopped, who}
+use Rattle.plant_lines.specs.Stages.{AreLines, Goes, IsOpen, MayClose, Moves, Stage, end_by, end_for, served, ending, stage_by, stage_in}
+use Rattle.plant_lines.specs.Happens.{Happened, Made, Moved, Passed, Turned, Went}
+use Rattle.plant_lines.proofs.{Held.{lifted, lifted_closed, lifted_opened, lifted_refused}, Leading.{logs_then, makes_none, makes_then, shows_untold}}
+use Rattle.plant_lines.specs.declared.lines.Line.{Line}
+
+own_goes : (k : ℕ) (s s' : Stage) (e : Event) → who e ≡ k → Moves s e s' → Goes k s e s'
+own_goes k s s' e is moves = record { own = λ w. moves; other = λ n. absurd (n is) }
+
+-- one event of which the log of lines has nothing
+went_one : (l l' : Line) (e : Event) → l'.number ≡ l.number → who e ≡ l.number → IsToldBy e [] → Moves (stage_in l) e (stage_in l')
+    → Went (e ∷ []) l l'
+went_one l l' e same is untold moves = record {
+  own = (is, tt);
+  same = same;
+  untold = ([], [], untold, refl, refl);
+  leads = (stage_in l', own_goes l.number (stage_in l) (stage_in l') e is moves, refl);
+}
+
+went_none : (l l' : Line) → l'.number ≡ l.number → stage_in l' ≡ stage_in l → Went [] l l'
+went_none l l' same stays = record { own = tt; same = same; untold = refl; leads = stays }
+
+module _ (seen seen' : Option (List Event)) (l l' : Line) (same : l'.number ≡ l.number) where
+  pub moved_none : Logs seen seen' [] → stage_in l' ≡ stage_in l → Moved seen seen' l l'
+  moved_none logged stays = record { events = []; quiet = tt; logged = logged; went = went_none l l' same stays }
+
+  pub moved_came : (bytes : List ℕ) → Logs seen seen' (came l.number bytes ∷ []) → IsOpen l.unread.items l.pending.text.items → l.end ≡ None
+      → stage_in l' ≡ served (l.unread.items ++ bytes) [] → Moved seen seen' l l'
+  moved_came bytes logged idle is after = record {
+    events = came l.number bytes ∷ [];
+    quiet = (refl, refl, tt);
+    logged = logged;
+    went = went_one l l' (came l.number bytes) same refl refl (rw is (idle, after));
+  }
+
+  pub moved_ended : Logs seen seen' (ended l.number ∷ []) → IsOpen l.unread.items l.pending.text.items → l.end ≡ None
+      → stage_in l' ≡ ending (end_for l.unread.items) [] → Moved seen seen' l l'
+  moved_ended logged idle is after = record {
+    events = ended l.number ∷ [];
+    quiet = (refl, refl, tt);
+    logged = logged;
+    went = went_one l l' (ended l.number) same refl refl (rw is (idle, after));
+  }
+
+  -- bytes came for which there was no memory
+  pub moved_lost : (bytes : List ℕ) → Logs seen seen' (came l.number bytes ∷ []) → IsOpen l.unread.items l.pending.text.items → l.end ≡ None
+      → stage_in l' ≡ ending Fault [] → Moved seen seen' l l'
+  moved_lost bytes logged idle is after = record {
+    events = came l.number bytes ∷ stopped l.number nothing 0 stops.Fault ∷ [];
+    quiet = (refl, refl, (refl, refl, tt));
+    logged = logged;
+    went = record {
+      own = (refl, (refl, tt));
+      same = same;
+      untold = ([], [], refl, ([], [], refl, refl, refl), refl);
+      leads = rw is (
+        served (l.unread.items ++ bytes) [],
+        own_goes l.number (served l.unread.items l.pending.text.items) (served (l.unread.items ++ bytes) []) (came l.number bytes) refl (idle, refl),
+        (
+          stage_in l',
+          own_goes l.number (served (l.unread.items ++ bytes) []) (stage_in l') (stopped l.number nothing 0 stops.Fault) refl (refl, tt, tt, after),
+          refl,
+        ),
+      );
+    };
+  }
+
+  left_moves : (u p rest bytes : List ℕ) (e : Option End) → p ≡ bytes ++ rest → Moves (stage_by u p e) (left l.number bytes) (stage_by u rest e)
+  left_moves u p rest bytes None split = (rest, split, refl)
+  left_moves u p rest bytes (Some e) split = (rest, split, refl)
+
+  pub moved_left : (bytes rest : List ℕ) → Logs seen seen' (left l.number bytes ∷ []) → l.pending.text.items ≡ bytes ++ rest
+      → stage_in l' ≡ stage_by l.unread.items rest l.end → Moved seen seen' l l'
+  moved_left bytes rest logged split after = record {
+    events = left l.number bytes ∷ [];
+    quiet = (refl, refl, tt);
+    logged = logged;
+    went = went_one l l' (left l.number bytes) same refl refl
+        (subst (λ (s : Stage). Moves (stage_in l) (left l.number bytes) s) (sym after)
+        (left_moves l.unread.items l.pending.text.items rest bytes l.end split));
+  }
+
+module _ {B : Type 0} (b : books.Ghosts B) (x y : B) (honest : b.is_honest y → b.is_honest x) (l l' : Line) (same : l'.number ≡ l.number) where
+  -- no request was answered
+  pub made_waiting : RanOn b x y [] [] → stage_in l' ≡ stage_in l → Made b x y l l'
+  made_waiting ran stays = record { events = []; unseen = refl; makes = record { ran = ran; honest = honest }; went = went_none l l' same stays }
+
+  made_one : (e : Event) → who e ≡ l.number → (port_in e ≡ []) → IsToldBy e []
+      → RanOn b x y (calls_in e) (answers_in e) → Moves (stage_in l) e (stage_in l') → Made b x y l l'
+  made_one e is unseen untold ran moves = record {
+    events = e ∷ [];
+    unseen = append-nil (port_in e) ∙ unseen;
+    makes = (y, record { ran = ran; honest = honest }, makes_none b y);
+    went = went_one l l' e same is untold moves;
+  }
+
+  module _ (is : l.end ≡ None) (empty : l.pending.text.items ≡ []) where
+    -- one was
+    pub made_answered : (n : ℕ) (after : List ℕ) → AnswersOne l.unread.items (Some l.pending.text.items) (Some after) (RanOn b x y) n
+        → stage_in l' ≡ served (drop n l.unread.items) after → Made b x y l l'
+    made_answered n after a now =
+        let text : after ≡ mark_text a.mark = a.writes ∙ ap (λ (t : List ℕ). t ++ mark_text a.mark) empty in
+        made_one (answered l.number a.mark) refl refl refl a.served (rw is (empty, (n, a.stands, now ∙ ap (served (drop n l.unread.items)) text)))
+
+    -- the cause was that breaks the stream
+    pub made_broke : (after : List ℕ) → AnswersBroken l.unread.items (Some l.pending.text.items) (Some after) (RanOn b x y)
+        → stage_in l' ≡ ending BrokenInput after → Made b x y l l'
+    made_broke after a now =
+        let text : after ≡ cause_text a.cause = a.writes ∙ ap (λ (t : List ℕ). t ++ cause_text a.cause) empty in
+        made_one (broke l.number a.cause) refl refl refl a.served (rw is (empty, a.stands, now ∙ ap (ending BrokenInput) text))
+
+    -- an answer stopped
+    pub made_stopped : (stop : Stop) (after : List ℕ) → AnswersPart l.unread.items (Some l.pending.text.items) (Some after) (RanOn b x y) stop
+        → stage_in l' ≡ ending (end_by stop) after → Made b x y l l'
+    made_stopped stop after a now =
+        let text : after ≡ take a.part (last_text a.last) = a.writes ∙ ap (λ (t : List ℕ). t ++ take a.part (last_text a.last)) empty in
+        made_one (stopped l.number a.last a.part stop) refl refl refl a.served (rw is (empty, a.stands, a.why, now ∙ ap (ending (end_by stop)) text))
+
+pub made_none : {B : Type 0} (b : books.Ghosts B) (x : B) (l : Line) → Made b x x l l
+made_none b x l = record { events = []; unseen = refl; makes = makes_none b x; went = went_none l l refl refl }
+
+-- one line, among all
+pub happened_line : {B : Type 0} (b : books.Ghosts B) (x y : B) (s t : Log) (log : Option (List ℕ)) (count : ℕ)
+    (ls : List Line) (at : ℕ) (l l' : Line) → AreLines count ls → slice_get ls at ≡ Some l → Turned b x y s t l l'
+    → Happened b x y (seen_by s log) (seen_by t log) count count ls (slice_set ls at l')
+happened_line b x y s t log count ls at l l' ok is p = record {
+  events = p.events;
+  shown = shows_untold s t log p.events p.logged p.went.untold;
+  makes = p.makes;
+  leads = lifted count ls at l l' p.events ok is p.went.same p.went.own p.went.leads;
+}
+
+-- what the log of lines gets for a close
+shows_closed : (s t : Option (List Event)) (log log' : Option (List ℕ)) (k : ℕ) (end : End) (part : ℕ)
+    → Logs s t (closed k end ∷ []) → Appends log log' (take part (line_of (k + 1) end)) → Shows (seen_by s log) (seen_by t log') (closed k end ∷ [])
+shows_closed s t log log' k end part logged written = record {
+  logged = logged;
+  text = take part (line_of (k + 1) end);
+  told = (take part (line_of (k + 1) end), [], (part, refl), refl, sym (append-nil (take part (line_of (k + 1) end))));
+  written = written;
+}
+
+pub passed_closed : (s t : Option (List Event)) (log log' : Option (List ℕ)) (count : ℕ) (ls : List Line) (at : ℕ) (l : Line) (end : End)
+    → AreLines count ls → slice_get ls at ≡ Some l
+    → MayClose l end → Logs s t (closed l.number end ∷ []) → (part : ℕ) × Appends log log' (take part (line_of (l.number + 1) end))
+    → Passed (seen_by s log) (seen_by t log') count count ls (remove ls at)
+passed_closed s t log log' count ls at l end ok is may logged (part, written) = record {
+  events = closed l.number end ∷ [];
+  quiet = (refl, refl, tt);
+  shown = shows_closed s t log log' l.number end part logged written;
+  leads = lifted_closed count ls at l end ok is may;
+}
+
+pub passed_opened : (s t : Option (List Event)) (log : Option (List ℕ)) (count : ℕ) (ls : List Line) (l : Line) → AreLines count ls
+    → l.number ≡ count → stage_in l ≡ served [] []
+    → Logs s t (opened count ∷ []) → Passed (seen_by s log) (seen_by t log) count (count + 1) ls (ls ++ l ∷ [])
+passed_opened s t log count ls l ok is new logged = record {
+  events = opened count ∷ [];
+  quiet = (refl, refl, tt);
+  shown = shows_untold s t log (opened count ∷ []) logged ([], [], refl, refl, refl);
+  leads = lifted_opened count ls l ok is new;
+}
+
+pub passed_refused : (s t u : Option (List Event)) (log log' : Option (List ℕ)) (count : ℕ) (ls : List Line) → AreLines count ls
+    → Logs s t (opened count ∷ []) → Logs t u (closed count Fault ∷ []) → (part : ℕ) × Appends log log' (take part (line_of (count + 1) Fault))
+    → Passed (seen_by s log) (seen_by u log') count (count + 1) ls ls
+passed_refused s t u log log' count ls ok first second (part, written) =
+    let line = take part (line_of (count + 1) Fault) in
+    record {
+      events = opened count ∷ closed count Fault ∷ [];
+      quiet = (refl, refl, (refl, refl, tt));
+      shown = record {
+        logged = logs_then s t u (opened count ∷ []) (closed count Fault ∷ []) first second;
+        text = line;
+        told = ([], line, refl, (line, [], (part, refl), refl, sym (append-nil line)), refl);
+        written = written;
+      };
+      leads = lifted_refused count ls ok;
+    }

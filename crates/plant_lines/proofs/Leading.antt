@@ -1,0 +1,175 @@
+-- Events one after another.
+use Rattle.std.proofs.Common.{◌≡◌, ℕ, List, [], ◌∷◌, ◌++◌, Option, Some, None, refl, sym, ap, subst, ◌∙◌, append_assoc, append-nil}
+use Rattle.std.{specs.{Io.KnownBytes.{Appends}, List.{flat_map}}, proofs.{KnownBytes.{Appends-nil, Appends-trans}, lemmas.Grind.{flat_map-append}}}
+use Rattle.plant_model.specs.declared.{call.Call.{Call}, reply.Answer.{Answer}}
+use Rattle.plant_books.specs.declared.books.Books as books
+use Rattle.plant_office.specs.Enduring.{books_state}
+use Rattle.plant_wire.proofs.public.Running.{ran_none, ran_joins}
+use Rattle.plant_lines.specs.Books.{AreQuiet, IsMoment, Makes, MakesEach}
+use Rattle.plant_lines.specs.Events.{AreTold, Event, Logs, Seen, Shows, all_answers, all_calls, answers_in, at_ports, calls_in, port_in, seen_by, who}
+use Rattle.plant_lines.specs.Stages.{Goes, Leads, Stage, stage_in, stage_of}
+use Rattle.plant_lines.specs.Happens.{AreOf, Happened, Made, Moved, Passed, Turned, Went}
+use Rattle.plant_lines.specs.declared.lines.Line.{Line}
+
+pub leads_then : (k : ℕ) (s s' s'' : Stage) (es fs : List Event) → Leads k s es s' → Leads k s' fs s'' → Leads k s (es ++ fs) s''
+leads_then k s s' s'' [] fs is later = subst (λ (t : Stage). Leads k t fs s'') is later
+leads_then k s s' s'' (e ∷ es) fs (mid, goes, rest) later = (mid, goes, leads_then k mid s' s'' es fs rest later)
+
+-- the events of another connection
+pub leads_other : (k j : ℕ) (s : Stage) (es : List Event) → AreOf j es → (j ≡ k → ⊥) → Leads k s es s
+leads_other k j s [] own differ = refl
+leads_other k j s (e ∷ es) (is, own) differ =
+    (s, record { own = λ w. absurd (differ (sym is ∙ w)); other = λ n. refl }, leads_other k j s es own differ)
+
+pub own_then : (k : ℕ) (es fs : List Event) → AreOf k es → AreOf k fs → AreOf k (es ++ fs)
+own_then k [] fs own later = later
+own_then k (e ∷ es) fs (is, own) later = (is, own_then k es fs own later)
+
+pub quiet_then : (es fs : List Event) → AreQuiet es → AreQuiet fs → AreQuiet (es ++ fs)
+quiet_then [] fs quiet later = later
+quiet_then (e ∷ es) fs (calls, answers, quiet) later = (calls, answers, quiet_then es fs quiet later)
+
+pub told_then : (es fs : List Event) (xs ys : List ℕ) → AreTold es xs → AreTold fs ys → AreTold (es ++ fs) (xs ++ ys)
+told_then [] fs xs ys is later = subst (λ (t : List ℕ). AreTold fs (t ++ ys)) (sym is) later
+told_then (e ∷ es) fs xs ys (now, rest, first, told, is) later =
+    (now, rest ++ ys, first, told_then es fs rest ys told later, ap (λ (t : List ℕ). t ++ ys) is ∙ append_assoc now rest ys)
+
+pub logs_none : (a : Option (List Event)) → Logs a a []
+logs_none None = tt
+logs_none (Some x) = sym (append-nil x)
+
+pub logs_then : (a b c : Option (List Event)) (es fs : List Event) → Logs a b es → Logs b c fs → Logs a c (es ++ fs)
+logs_then None b c es fs p q = tt
+logs_then (Some x) None c es fs p q = absurd p
+logs_then (Some x) (Some y) None es fs p q = absurd q
+logs_then (Some x) (Some y) (Some z) es fs p q = q ∙ ap (λ l. l ++ fs) p ∙ append_assoc x es fs
+
+pub logged_then : (a b c : Option (List Event)) (es fs : List Event) → Logs a b (at_ports es) → Logs b c (at_ports fs)
+    → Logs a c (at_ports (es ++ fs))
+logged_then a b c es fs p q =
+    subst (λ (t : List Event). Logs a c t) (sym (flat_map-append port_in es fs)) (logs_then a b c (at_ports es) (at_ports fs) p q)
+
+pub shows_then : (a b c : Seen) (es fs : List Event) → Shows a b es → Shows b c fs → Shows a c (es ++ fs)
+shows_then a b c es fs p q = record {
+  logged = logged_then a.ports b.ports c.ports es fs p.logged q.logged;
+  text = p.text ++ q.text;
+  told = told_then es fs p.text q.text p.told q.told;
+  written = Appends-trans a.log b.log c.log p.text q.text p.written q.written;
+}
+
+-- nothing of them is in the log of lines
+pub shows_untold : (a b : Option (List Event)) (log : Option (List ℕ)) (es : List Event) → Logs a b (at_ports es) → AreTold es []
+    → Shows (seen_by a log) (seen_by b log) es
+shows_untold a b log es logged told = record { logged = logged; text = []; told = told; written = Appends-nil log }
+
+module _ {B : Type 0} (b : books.Ghosts B) where
+  pub makes_none : (x : B) → Makes b x x [] []
+  makes_none x = record { ran = ran_none (books_state b x) (b.stores x); honest = λ t. t }
+
+  pub makes_then : (x y z : B) (cs ds : List Call) (xs ys : List Answer) → Makes b x y cs xs → Makes b y z ds ys → Makes b x z (cs ++ ds) (xs ++ ys)
+  makes_then x y z cs ds xs ys p q = record {
+    ran =
+        (ran_joins (books_state b x) (books_state b y) (books_state b z) (b.stores x) (b.stores y) (b.stores z) q.honest).join cs ds xs ys p.ran
+        q.ran;
+    honest = λ t. p.honest (q.honest t);
+  }
+
+  each_from : (x y z : B) (es : List Event) → Makes b x y [] [] → MakesEach b y es z → MakesEach b x es z
+  each_from x y z [] first later = makes_then x y z [] [] [] [] first later
+  each_from x y z (e ∷ es) first (mid, step, rest) = (mid, makes_then x y mid [] (calls_in e) [] (answers_in e) first step, rest)
+
+  pub each_then : (x y z : B) (es fs : List Event) → MakesEach b x es y → MakesEach b y fs z → MakesEach b x (es ++ fs) z
+  each_then x y z [] fs first later = each_from x y z fs first later
+  each_then x y z (e ∷ es) fs (mid, step, rest) later = (mid, step, each_then mid y z es fs rest later)
+
+  pub each_all : (x y : B) (es : List Event) → MakesEach b x es y → Makes b x y (all_calls es) (all_answers es)
+  each_all x y [] made = made
+  each_all x y (e ∷ es) (mid, step, rest) =
+      makes_then x mid y (calls_in e) (all_calls es) (answers_in e) (all_answers es) step (each_all mid y es rest)
+
+  each_split : (x y : B) (es fs : List Event) → MakesEach b x (es ++ fs) y
+      → (mid : B) × Makes b x mid (all_calls es) (all_answers es) × MakesEach b mid fs y
+  each_split x y [] fs made = (x, makes_none x, made)
+  each_split x y (e ∷ es) fs (mid, step, rest) =
+      let later = each_split mid y es fs rest in
+      (later.0, makes_then x mid later.0 (calls_in e) (all_calls es) (answers_in e) (all_answers es) step later.1, later.2)
+
+  pub moment : (x y : B) (events es fs : List Event) → events ≡ es ++ fs → MakesEach b x events y → IsMoment b x y es fs
+  moment x y events es fs is made =
+      let halves = each_split x y es fs (subst (λ (t : List Event). MakesEach b x t y) is made) in
+      record { books = halves.0; made = halves.1; goes_on = each_all halves.0 y fs halves.2 }
+
+  pub each_quiet : (x : B) (es : List Event) → AreQuiet es → MakesEach b x es x
+  each_quiet x [] quiet = makes_none x
+  each_quiet x (e ∷ es) (calls, answers, quiet) = (
+    x,
+    subst (λ (cs : List Call). Makes b x x cs (answers_in e)) (sym calls)
+        (subst (λ (xs : List Answer). Makes b x x [] xs) (sym answers) (makes_none x)),
+    each_quiet x es quiet,
+  )
+
+  pub happened_none : (x : B) (s : Seen) (count : ℕ) (ls : List Line) → Happened b x x s s count count ls ls
+  happened_none x s count ls = record {
+    events = [];
+    shown = record { logged = logs_none s.ports; text = []; told = refl; written = Appends-nil s.log };
+    makes = makes_none x;
+    leads = λ k. refl;
+  }
+
+  pub happened_then : (x y z : B) (s t u : Seen) (n m o : ℕ) (ks ls ms : List Line)
+      → Happened b x y s t n m ks ls → Happened b y z t u m o ls ms → Happened b x z s u n o ks ms
+  happened_then x y z s t u n m o ks ls ms p q = record {
+    events = p.events ++ q.events;
+    shown = shows_then s t u p.events q.events p.shown q.shown;
+    makes = each_then x y z p.events q.events p.makes q.makes;
+    leads = λ k. leads_then k (stage_of k n ks) (stage_of k m ls) (stage_of k o ms) p.events q.events (p.leads k) (q.leads k);
+  }
+
+  pub happened_honest : (x y : B) (s t : Seen) (n m : ℕ) (ks ls : List Line) → Happened b x y s t n m ks ls → b.is_honest y → b.is_honest x
+  happened_honest x y s t n m ks ls p = (each_all x y p.events p.makes).honest
+
+  pub happened_passed : (x : B) (s t : Seen) (n m : ℕ) (ks ls : List Line) → Passed s t n m ks ls → Happened b x x s t n m ks ls
+  happened_passed x s t n m ks ls p = record { events = p.events; shown = p.shown; makes = each_quiet x p.events p.quiet; leads = p.leads }
+
+pub passed_none : (s : Seen) (count : ℕ) (ls : List Line) → Passed s s count count ls ls
+passed_none s count ls = record {
+  events = [];
+  quiet = tt;
+  shown = record { logged = logs_none s.ports; text = []; told = refl; written = Appends-nil s.log };
+  leads = λ k. refl;
+}
+
+pub passed_waited : (a b : Option (List Event)) (log : Option (List ℕ)) (count : ℕ) (ls : List Line) → Logs a b []
+    → Passed (seen_by a log) (seen_by b log) count count ls ls
+passed_waited a b log count ls logged = record { events = []; quiet = tt; shown = shows_untold a b log [] logged refl; leads = λ k. refl }
+
+-- one line
+pub went_then : (es fs : List Event) (l m n : Line) → Went es l m → Went fs m n → Went (es ++ fs) l n
+went_then es fs l m n p q = record {
+  own = own_then l.number es fs p.own (subst (λ (k : ℕ). AreOf k fs) p.same q.own);
+  same = q.same ∙ p.same;
+  untold = told_then es fs [] [] p.untold q.untold;
+  leads =
+      leads_then l.number (stage_in l) (stage_in m) (stage_in n) es fs p.leads
+      (subst (λ (k : ℕ). Leads k (stage_in m) fs (stage_in n)) p.same q.leads);
+}
+
+module _ {B : Type 0} (b : books.Ghosts B) where
+  pub turned_moved : (x : B) (s t : Option (List Event)) (l m : Line) → Moved s t l m → Turned b x x s t l m
+  turned_moved x s t l m p = record { events = p.events; logged = p.logged; makes = each_quiet b x p.events p.quiet; went = p.went }
+
+  pub turned_made : (x y : B) (s : Option (List Event)) (l m : Line) → Made b x y l m → Turned b x y s s l m
+  turned_made x y s l m p = record {
+    events = p.events;
+    logged = subst (λ (es : List Event). Logs s s es) (sym p.unseen) (logs_none s);
+    makes = p.makes;
+    went = p.went;
+  }
+
+  pub turned_then : (x y z : B) (s t u : Option (List Event)) (l m n : Line) → Turned b x y s t l m → Turned b y z t u m n → Turned b x z s u l n
+  turned_then x y z s t u l m n p q = record {
+    events = p.events ++ q.events;
+    logged = logged_then s t u p.events q.events p.logged q.logged;
+    makes = each_then b x y z p.events q.events p.makes q.makes;
+    went = went_then p.events q.events l m n p.went q.went;
+  }

@@ -1,0 +1,9 @@
+pub mod Leading
+pub mod Held
+pub mod Moments
+pub mod Ends
+pub mod Handled
+pub mod Whole
+pub mod Texts
+pub mod Waits
+pub mod Apart

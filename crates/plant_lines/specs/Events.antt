@@ -1,0 +1,150 @@
+-- What happens at connections, each by its number, in one order.
+use Rattle.std.specs.Io.KnownBytes.{Appends}
+use Rattle.std.specs.Prelude.{ℕ, ◌+◌, List, [], ◌∷◌, ◌++◌, take, length, flat_map, Bool, true, false, if◌then◌else◌}
+use Rattle.std.specs.Prelude.{nat_eq, nat_lt, Option, Some, None, ◌≡◌, ⊤}
+use Rattle.plant_model.specs.declared.{call.Call.{Call}, reply.Answer.{Answer}}
+use Rattle.plant_call.specs.declared.causes.Cause.{Cause}
+use Rattle.plant_wire.specs.{Causes.{cause_text}, Marks.{Mark, Last, calls_of, answers_of, last_text, last_marks}}
+use Rattle.plant_wire.specs.declared.{reads.End.{End}, step.Stop.{Stop}}
+use Rattle.plant_connections.specs.Connections.{line_of}
+
+-- A connection came; bytes of it were read; its end was read; one request of it was answered; the cause that breaks its
+-- stream was answered, and nothing more is; in an answer it stopped, for this reason, so many bytes of the text wait to
+-- leave, and nothing more is answered; bytes of its answers left; it was closed, and this is how it ended.
+pub data Event : Type 0 where
+  opened : ℕ → Event
+  came : ℕ → List ℕ → Event
+  ended : ℕ → Event
+  answered : ℕ → Mark → Event
+  broke : ℕ → Cause → Event
+  stopped : ℕ → Last → ℕ → Stop → Event
+  left : ℕ → List ℕ → Event
+  closed : ℕ → End → Event
+
+-- the connection's number
+abbrev pub who : Event → ℕ
+who (opened k) = k
+who (came k bytes) = k
+who (ended k) = k
+who (answered k mark) = k
+who (broke k cause) = k
+who (stopped k last part stop) = k
+who (left k bytes) = k
+who (closed k end) = k
+
+-- these, of an event of the connection k
+abbrev pub of : {A : Type 0} → ℕ → Event → List A → List A
+of k e xs = if nat_eq (who e) k then xs else []
+
+-- all of them, of the events of the connection k
+abbrev pub of_all : {A : Type 0} → (Event → List A) → ℕ → List Event → List A
+of_all f k es = flat_map (λ e. of k e (f e)) es
+
+abbrev pub bytes_in : Event → List ℕ
+bytes_in (came k bytes) = bytes
+bytes_in _ = []
+
+abbrev pub ends_in : Event → List ℕ
+ends_in (ended k) = k ∷ []
+ends_in _ = []
+
+abbrev pub marks_in : Event → List Mark
+marks_in (answered k mark) = mark ∷ []
+marks_in _ = []
+
+-- the text, or the part of one, behind which nothing more is answered
+abbrev pub cut_in : Event → List ℕ
+cut_in (broke k cause) = cause_text cause
+cut_in (stopped k last part stop) = take part (last_text last)
+cut_in _ = []
+
+abbrev pub sent_in : Event → List ℕ
+sent_in (left k bytes) = bytes
+sent_in _ = []
+
+-- the calls that an event makes, and their answers
+abbrev pub calls_in : Event → List Call
+calls_in (answered k mark) = calls_of (mark ∷ [])
+calls_in (stopped k last part stop) = calls_of (last_marks last)
+calls_in _ = []
+
+abbrev pub answers_in : Event → List Answer
+answers_in (answered k mark) = answers_of (mark ∷ [])
+answers_in (stopped k last part stop) = answers_of (last_marks last)
+answers_in _ = []
+
+-- what the ports see of an event
+abbrev pub port_in : Event → List Event
+port_in (answered k mark) = []
+port_in (broke k cause) = []
+port_in (stopped k last part stop) = []
+port_in e = e ∷ []
+
+-- Of the connection k: the bytes that came; whether their end did; the requests that were answered; the text that was
+-- cut; the bytes that left; and the calls that were made for it, with their answers.
+abbrev pub came_to : ℕ → List Event → List ℕ
+came_to k es = of_all bytes_in k es
+
+abbrev pub has_ended : ℕ → List Event → Bool
+has_ended k es = nat_lt 0 (length (of_all ends_in k es))
+
+abbrev pub marks_of : ℕ → List Event → List Mark
+marks_of k es = of_all marks_in k es
+
+abbrev pub cut_of : ℕ → List Event → List ℕ
+cut_of k es = of_all cut_in k es
+
+abbrev pub sent_to : ℕ → List Event → List ℕ
+sent_to k es = of_all sent_in k es
+
+abbrev pub calls_for : ℕ → List Event → List Call
+calls_for k es = of_all calls_in k es
+
+abbrev pub answers_for : ℕ → List Event → List Answer
+answers_for k es = of_all answers_in k es
+
+-- of all connections together
+abbrev pub all_calls : List Event → List Call
+all_calls es = flat_map calls_in es
+
+abbrev pub all_answers : List Event → List Answer
+all_answers es = flat_map answers_in es
+
+abbrev pub at_ports : List Event → List Event
+at_ports es = flat_map port_in es
+
+-- what the ports know to have happened, if anything is known
+abbrev pub Log : Type 0
+Log = Option (List Event)
+
+-- it grows by these events
+abbrev pub Logs : Log → Log → List Event → Type 0
+Logs None new es = ⊤
+Logs (Some xs) None es = ⊥
+Logs (Some xs) (Some ys) es = ys ≡ xs ++ es
+
+-- What the log of lines says of an event: of a close a line, by the connection's place among all that came and by its
+-- end, whole or, where it can't be written, a part from the front; of anything else nothing.
+abbrev pub IsToldBy : Event → List ℕ → Type 0
+IsToldBy (closed k end) text = (part : ℕ) × (text ≡ take part (line_of (k + 1) end))
+IsToldBy _ text = text ≡ []
+
+-- of events, in their order
+abbrev pub AreTold : List Event → List ℕ → Type 0
+AreTold [] text = text ≡ []
+AreTold (e ∷ es) text = (now : List ℕ) × (later : List ℕ) × IsToldBy e now × AreTold es later × (text ≡ now ++ later)
+
+-- what is seen from outside: by the ports, and in the log of lines, each if it is known
+pub record Seen : Type 0 where
+  pub ports : Log
+  pub log : Option (List ℕ)
+
+abbrev pub seen_by : Log → Option (List ℕ) → Seen
+seen_by ports log = record { ports = ports; log = log }
+
+-- the ports saw these events, and the log got their lines
+pub record Shows (before after : Seen) (events : List Event) : Type 0 where
+  pub logged : Logs before.ports after.ports (at_ports events)
+  pub text : List ℕ
+  pub told : AreTold events text
+  pub written : Appends before.log after.log text

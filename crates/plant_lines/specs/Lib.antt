@@ -1,0 +1,7 @@
+pub mod Events
+pub mod Stages
+pub mod Books
+pub mod Happens
+pub mod Accounts
+pub mod PortSteps
+pub mod Prompt

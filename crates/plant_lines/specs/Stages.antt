@@ -1,0 +1,104 @@
+-- How one connection goes from event to event.
+use Rattle.std.specs.Prelude.{◌≡◌, ◌≢◌, ◌⊎◌, ◌<◌, ℕ, List, [], ◌∷◌, ◌++◌, drop, take, Option, Some, None, Bool, true}
+use Rattle.std.specs.Prelude.{false, if◌then◌else◌, nat_eq, nat_lt}
+use Rattle.plant_call.specs.{Cut.{WaitsBelow}, Front.{StandsAtFront, broken, whole}}
+use Rattle.plant_wire.specs.{Causes.{cause_text}, Marks.{item_of, last_text, mark_text}, Session.{IsIdle}}
+use Rattle.plant_wire.specs.Step.{StandsLast, StopsFor}
+use Rattle.plant_wire.specs.declared.reads.End.{End, TheVariants.{BrokenInput, Closed, Fault, ReadFailed, WriteFailed}}
+use Rattle.plant_wire.specs.declared.step.Stop.{Stop}
+use Rattle.plant_wire.specs.declared.step.Stop.TheVariants as stops
+use Rattle.plant_lines.specs.Events.{Event, opened, came, ended, answered, broke, stopped, left, closed, who}
+use Rattle.plant_lines.specs.declared.lines.Line.{Line}
+
+-- It has not come; it is served, with these bytes unread and these to leave; it is to end so once these have left; it
+-- is gone.
+pub data Stage : Type 0 where
+  fresh : Stage
+  served : List ℕ → List ℕ → Stage
+  ending : End → List ℕ → Stage
+  gone : Stage
+
+-- how it ends where its input does
+abbrev pub end_for : List ℕ → End
+end_for [] = Closed
+end_for (x ∷ xs) = BrokenInput
+
+-- and where an answer stops
+abbrev pub end_by : Stop → End
+end_by stops.WriteFailed = WriteFailed
+end_by stops.Fault = Fault
+
+-- it is read only where no answer waits to leave and no whole request is unread
+abbrev pub IsOpen : List ℕ → List ℕ → Type 0
+IsOpen unread pending = (pending ≡ []) × IsIdle unread
+
+-- The end of a connection that is served and is given up: a read failed, or it was silent too long; a write failed, or
+-- it took nothing of an answer for too long; or, before anything came, there was no memory for it.
+abbrev pub IsGivenUp : List ℕ → List ℕ → End → Type 0
+IsGivenUp unread pending ReadFailed = IsOpen unread pending
+IsGivenUp unread pending WriteFailed = pending ≢ []
+IsGivenUp unread pending Fault = (unread ≡ []) × (pending ≡ [])
+IsGivenUp unread pending _ = ⊥
+
+-- it ends as it is to, once all has left, or what is left to leave can't
+abbrev pub IsEndOf : End → List ℕ → End → Type 0
+IsEndOf end pending how = ((how ≡ end) × (pending ≡ [])) ⊎ ((how ≡ WriteFailed) × (pending ≢ []))
+
+-- An event of this connection. A request is answered only where no answer waits to leave.
+abbrev pub Moves : Stage → Event → Stage → Type 0
+Moves fresh (opened k) s = s ≡ served [] []
+Moves (served unread pending) (came k bytes) s = IsOpen unread pending × (s ≡ served (unread ++ bytes) [])
+Moves (served unread pending) (ended k) s = IsOpen unread pending × (s ≡ ending (end_for unread) [])
+Moves (served unread pending) (answered k mark) s =
+    (pending ≡ []) × ((n : ℕ) × StandsAtFront unread (whole (item_of mark) n)
+    × (s ≡ served (drop n unread) (mark_text mark)))
+Moves (served unread pending) (broke k cause) s =
+    (pending ≡ []) × StandsAtFront unread (broken cause) × (s ≡ ending BrokenInput (cause_text cause))
+Moves (served unread pending) (stopped k last part stop) s =
+    (pending ≡ []) × StandsLast unread last × StopsFor last stop
+    × (s ≡ ending (end_by stop) (take part (last_text last)))
+Moves (served unread pending) (left k bytes) s = (rest : List ℕ) × (pending ≡ bytes ++ rest) × (s ≡ served unread rest)
+Moves (ending end pending) (left k bytes) s = (rest : List ℕ) × (pending ≡ bytes ++ rest) × (s ≡ ending end rest)
+Moves (served unread pending) (closed k how) s = IsGivenUp unread pending how × (s ≡ gone)
+Moves (ending end pending) (closed k how) s = IsEndOf end pending how × (s ≡ gone)
+Moves _ _ s = ⊥
+
+-- an event: another connection's changes nothing
+pub record Goes (k : ℕ) (s : Stage) (e : Event) (s' : Stage) : Type 0 where
+  pub own : who e ≡ k → Moves s e s'
+  pub other : (who e ≡ k → ⊥) → s' ≡ s
+
+abbrev pub Leads : ℕ → Stage → List Event → Stage → Type 0
+Leads k s [] s' = s' ≡ s
+Leads k s (e ∷ es) s' = (mid : Stage) × Goes k s e mid × Leads k mid es s'
+
+-- the stage of a line
+abbrev pub stage_by : List ℕ → List ℕ → Option End → Stage
+stage_by unread pending None = served unread pending
+stage_by unread pending (Some end) = ending end pending
+
+abbrev pub stage_in : Line → Stage
+stage_in l = stage_by l.unread.items l.pending.text.items l.end
+
+-- the line with this number
+abbrev pub line_with : ℕ → List Line → Option Line
+line_with k [] = None
+line_with k (l ∷ ls) = if nat_eq l.number k then Some l else line_with k ls
+
+abbrev pub stage_held : Option Line → Stage
+stage_held None = gone
+stage_held (Some l) = stage_in l
+
+-- where the connection k is, where so many came and these are held
+abbrev pub stage_of : ℕ → ℕ → List Line → Stage
+stage_of k count ls = if nat_lt k count then stage_held (line_with k ls) else fresh
+
+-- lines of different numbers, of connections that came, each with what it waits for
+abbrev pub AreLines : ℕ → List Line → Type 0
+AreLines count [] = Unit {0}
+AreLines count (l ∷ ls) =
+    (l.number < count) × (line_with l.number ls ≡ None) × WaitsBelow l.unread.items l.wanted × AreLines count ls
+
+-- a line that may be closed with this end
+abbrev pub MayClose : Line → End → Type 0
+MayClose l end = Moves (stage_in l) (closed l.number end) gone

@@ -1,0 +1,294 @@
+ghost use Rattle.std.specs.Prelude.{◌≡◌, ◌≤◌, ◌<◌, [], None, length, drop, false, true, IfSome};
+ghost use Rattle.std.specs.Bool.{OnTrue};
+ghost use Rattle.plant_call.specs.{Cut.{WaitsBelow}, Front.{StandsAtFront, waits}};
+ghost use Rattle.plant_wire.specs.{Limits.{least_room}, Session.{IsIdle}};
+ghost use Rattle.plant_wire.specs.declared.reads.End.TheVariants as ends;
+ghost use Rattle.plant_lines.specs.{Happens.{Made, Moved, Turned}, Prompt.{AreFew, IsPrompt, IsSettled}};
+ghost use Rattle.plant_lines.specs.Stages.{IsOpen, MayClose, end_by, end_for};
+
+use crate::answers::Answers;
+use crate::ports::{Ports, Sent, Taken};
+use plant_head::FieldRoom;
+use plant_office::{Books, Office};
+use plant_route::Routes;
+use plant_wire::{End, Step, Stop, answer_next};
+use std::alloc::Global;
+
+/// A connection: what came and was not answered, and how many bytes it wants at least before it is looked at again; the
+/// answer that waits to leave; and, where nothing more is read or answered, how it is to end.
+#[derive(Drop)]
+pub struct Line {
+    pub number: u64,
+    pub unread: Vec<u8>,
+    pub wanted: usize,
+    pub pending: Answers,
+    pub end: Option<End>,
+}
+
+impl Line {
+    /// The line of a connection that came just now.
+    pub fn new(alloc: Global, number: u64) -> Line
+        ensures number { result.number ≡ number }
+        ensures unread { result.unread.items ≡ [] }
+        ensures pending { result.pending.text.items ≡ [] }
+        ensures served { result.end ≡ None }
+        ensures wanted { result.wanted ≡ 0 }
+    {
+        Line {
+            number,
+            unread: Vec::new(alloc),
+            wanted: 0,
+            pending: Answers::new(alloc),
+            end: None,
+        }
+    }
+
+    /// Whether it is known to hold no whole request: nothing is unread, or fewer bytes than it wants.
+    pub fn is_idle(&self) -> bool
+        ensures idle { WaitsBelow self.now.unread.items self.now.wanted → OnTrue result (IsIdle self.now.unread.items) }
+        ensures few { OnTrue result (AreFew self.now.unread.items self.now.wanted) }
+    {
+        self.unread.is_empty() || self.unread.len() < self.wanted
+    }
+
+    /// Whether more may be read: it is served, no answer waits to leave, and no whole request is unread.
+    pub fn is_open(&self) -> bool
+        ensures served { result ≡ true → self.now.end ≡ None }
+        ensures open { WaitsBelow self.now.unread.items self.now.wanted
+            → OnTrue result (IsOpen self.now.unread.items self.now.pending.text.items) }
+    {
+        if self.end.is_some() {
+            return false;
+        }
+        if !self.pending.text.is_empty() {
+            return false;
+        }
+        self.is_idle()
+    }
+
+    /// Whether no request is left on it that can be answered now.
+    pub fn is_prompt(&self) -> bool
+        ensures prompt { WaitsBelow self.now.unread.items self.now.wanted → OnTrue result (IsPrompt self.now) }
+        ensures settled { OnTrue result (IsSettled self.now) }
+        ensures served { result ≡ false → self.now.end ≡ None }
+        ensures empty { result ≡ false → self.now.pending.text.items ≡ [] }
+    {
+        self.end.is_some() || !self.pending.text.is_empty() || self.is_idle()
+    }
+
+    /// How it ends, if nothing more is read or answered and all answers have left.
+    pub fn over(&self) -> Option<End>
+        ensures { IfSome result (λ end. MayClose self.now end) }
+    {
+        if self.pending.text.is_empty() {
+            return self.end;
+        }
+        None
+    }
+
+    /// How it ends if it is given up now. A request that can be answered keeps it.
+    pub fn given_up(&self) -> Option<End>
+        ensures { WaitsBelow self.now.unread.items self.now.wanted → IfSome result (λ end. MayClose self.now end) }
+    {
+        if !self.pending.text.is_empty() {
+            return Some(End::WriteFailed);
+        }
+        if self.is_open() {
+            return Some(End::ReadFailed);
+        }
+        self.end
+    }
+}
+
+/// Takes so many bytes off the front. What is empty then keeps no memory.
+pub(crate) fn drop_front(alloc: Global, buffer: &mut Vec<u8>, n: usize)
+    requires { n ≤ length buffer.old.items }
+    ensures { buffer.new.items ≡ drop n buffer.old.items }
+{
+    if n == buffer.len() {
+        *buffer = Vec::new(alloc);
+        return;
+    }
+    let rest = buffer.len() - n;
+    buffer.rotate_left(n);
+    buffer.truncate(rest);
+}
+
+/// How a line with these bytes unread ends where its input does.
+fn end_of(unread: &[u8]) -> End
+    ensures { result ≡ end_for unread.now }
+{
+    if unread.is_empty() {
+        return End::Closed;
+    }
+    End::BrokenInput
+}
+
+/// How a line ends on which an answer stopped.
+fn end_at(stop: Stop) -> End
+    ensures { result ≡ end_by stop }
+{
+    match stop {
+        Stop::WriteFailed => End::WriteFailed,
+        Stop::Fault => End::Fault,
+    }
+}
+
+/// One read of a line that is served, at which no answer waits to leave and no whole request is unread. Whether it goes
+/// on.
+pub(crate) fn read_line<P: Ports>(ports: &mut P, chunk: &mut [u8], line: &mut Line) -> bool
+    requires room { least_room ≤ length chunk.old }
+    requires waits { WaitsBelow line.old.unread.items line.old.wanted }
+    ensures moved { Moved (P.seen ports.old) (P.seen ports.new) line.old line.new }
+    ensures waits { WaitsBelow line.new.unread.items line.new.wanted }
+    ensures failed { result ≡ false → MayClose line.new ends.ReadFailed }
+    ensures kept { length chunk.new ≡ length chunk.old }
+{
+    if !line.is_open() {
+        return true;
+    }
+    match ports.take(line.number, chunk) {
+        Taken::Failed => return false,
+        Taken::Nothing => {}
+        Taken::Ended => {
+            line.end = Some(end_of(&line.unread));
+        }
+        Taken::Bytes(n) => {
+            if line.unread.extend_from_slice(&chunk[..n]).is_err() {
+                line.wanted = 0;
+                line.end = Some(End::Fault);
+            }
+        }
+    }
+    true
+}
+
+/// One write of what waits to leave. Whether it goes on.
+pub(crate) fn write_line<P: Ports>(alloc: Global, ports: &mut P, line: &mut Line) -> bool
+    requires waits { WaitsBelow line.old.unread.items line.old.wanted }
+    ensures moved { Moved (P.seen ports.old) (P.seen ports.new) line.old line.new }
+    ensures waits { WaitsBelow line.new.unread.items line.new.wanted }
+    ensures failed { result ≡ false → MayClose line.new ends.WriteFailed }
+{
+    if line.pending.text.is_empty() {
+        return true;
+    }
+    match ports.put(line.number, &line.pending.text) {
+        Sent::Failed => false,
+        Sent::Bytes(n) => {
+            drop_front(alloc, &mut line.pending.text, n);
+            true
+        }
+    }
+}
+
+/// How many bytes are wanted at least, where these are less than a request: one more than there are, or more.
+fn wanted_next(unread: &[u8], more: usize) -> usize
+    requires waiting { StandsAtFront unread.now waits }
+    requires below { WaitsBelow unread.now more }
+    ensures below { WaitsBelow unread.now result }
+    ensures more { length unread.now < result }
+{
+    if unread.len() < more {
+        return more;
+    }
+    unread.len() + 1
+}
+
+/// Answers the request at the front of a line that is served, if it is whole and no answer waits there to leave. Then
+/// none is left that could be answered before more comes or the answer has left.
+pub(crate) fn serve_line<B: Books>(
+    alloc: Global,
+    routes: &Routes,
+    room: &mut FieldRoom,
+    line: &mut Line,
+    office: &mut Office<B>,
+)
+    requires waits { WaitsBelow line.old.unread.items line.old.wanted }
+    ensures made { Made B.Books office.old.books office.new.books line.old line.new }
+    ensures waits { WaitsBelow line.new.unread.items line.new.wanted }
+    ensures settled { IsSettled line.new }
+{
+    if line.is_prompt() {
+        return;
+    }
+    match answer_next(alloc, routes, room, &line.unread, &mut line.pending, office) {
+        Ok(Step::Waits(more)) => line.wanted = wanted_next(&line.unread, more),
+        Ok(Step::Took(n)) => {
+            drop_front(alloc, &mut line.unread, n);
+            line.wanted = 0;
+        }
+        Ok(Step::Broken) => {
+            line.wanted = 0;
+            line.end = Some(End::BrokenInput);
+        }
+        Err(stop) => {
+            line.wanted = 0;
+            line.end = Some(end_at(stop));
+        }
+    }
+}
+
+/// A read, if it is asked for.
+fn read_if<P: Ports>(reads: bool, ports: &mut P, chunk: &mut [u8], line: &mut Line) -> bool
+    requires room { least_room ≤ length chunk.old }
+    requires waits { WaitsBelow line.old.unread.items line.old.wanted }
+    ensures moved { Moved (P.seen ports.old) (P.seen ports.new) line.old line.new }
+    ensures waits { WaitsBelow line.new.unread.items line.new.wanted }
+    ensures failed { result ≡ false → MayClose line.new ends.ReadFailed }
+    ensures kept { length chunk.new ≡ length chunk.old }
+{
+    if reads {
+        return read_line(ports, chunk, line);
+    }
+    true
+}
+
+/// An answer, if it is asked for.
+fn serve_if<B: Books>(
+    serves: bool,
+    alloc: Global,
+    routes: &Routes,
+    room: &mut FieldRoom,
+    line: &mut Line,
+    office: &mut Office<B>,
+)
+    requires waits { WaitsBelow line.old.unread.items line.old.wanted }
+    ensures made { Made B.Books office.old.books office.new.books line.old line.new }
+    ensures waits { WaitsBelow line.new.unread.items line.new.wanted }
+{
+    if serves {
+        serve_line(alloc, routes, room, line, office);
+    }
+}
+
+/// One turn of a line: a read and an answer, each if it is asked for, and a write of what waits to leave. How the line
+/// is to be closed, if it is.
+pub(crate) fn turn_line<P: Ports, B: Books>(
+    alloc: Global,
+    routes: &Routes,
+    room: &mut FieldRoom,
+    ports: &mut P,
+    chunk: &mut [u8],
+    line: &mut Line,
+    reads: bool,
+    serves: bool,
+    office: &mut Office<B>,
+) -> Option<End>
+    requires room { least_room ≤ length chunk.old }
+    requires waits { WaitsBelow line.old.unread.items line.old.wanted }
+    ensures turned { Turned B.Books office.old.books office.new.books (P.seen ports.old) (P.seen ports.new) line.old
+        line.new }
+    ensures waits { WaitsBelow line.new.unread.items line.new.wanted }
+    ensures may { IfSome result (λ end. MayClose line.new end) }
+    ensures kept { length chunk.new ≡ length chunk.old }
+{
+    if !read_if(reads, ports, chunk, line) {
+        return Some(End::ReadFailed);
+    }
+    serve_if(serves, alloc, routes, room, line, office);
+    if !write_line(alloc, ports, line) {
+        return Some(End::WriteFailed);
+    }
+    line.over()
+}
