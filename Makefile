@@ -10,12 +10,13 @@ build:
 	mkdir -p out
 	cp crates/shelfoffice/out/shelfoffice out/shelfoffice
 
-# The gate: the schema in examples/ and the lists in docs/WORKED.md, then every proof, the must-fail edits, the tests, and the programs, and
-# the proved program on the worked examples. A toolchain that has rt ci --anew does not do again what an earlier run on this machine passed
-# on the same files, unless with ANEW=--anew.
+# The gate: the schema in examples/, the lists in docs/WORKED.md and what the pages name, then every proof, the must-fail edits, the tests,
+# and the programs, and the proved program on the worked examples. A toolchain that has rt ci --anew does not do again what an earlier run
+# on this machine passed on the same files, unless with ANEW=--anew.
 test:
 	scripts/check-schema
 	scripts/list-worked
+	scripts/check-pages
 	rt ci $(ANEW)
 	$(MAKE) --no-print-directory conform
 
