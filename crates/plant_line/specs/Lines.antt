@@ -1,20 +1,25 @@
 -- What the options of the program's command line ask for.
-use Rattle.std.specs.Prelude.{Bool, true, false, codes, List, [], ℕ, None, Option, Result, Some, ◌≡◌, ◌-◌, ◌^◌, option_map, string_bytes, unwrap_or}
+use Rattle.std.specs.Prelude.{Bool, true, false, codes, List, [], ℕ, None, Option, Result, Some, ◌≡◌, ◌-◌, ◌^◌}
+use Rattle.std.specs.Prelude.{option_map, string_bytes, unwrap_or}
 use Rattle.clap.specs.Matches.{ReadsOne, first_value, found_of, one_text}
 use Rattle.clap.specs.declared.parser.matches.ArgMatches.{ArgMatches}
 use Rattle.plant_types.specs.Text.{person_of}
 use Rattle.plant_line.specs.declared.words.{Line.{Line}, Service.{Service}, Task.{Task, TheVariants.{Migrate, Serve}}}
 
--- How a port is served: as many connections as asked for, or one, each given up after as many silent seconds as asked for, or never.
--- With `forever`: 2^64 - 1 connections, more than any machine serves, each given up after as many silent seconds as asked for, or 30.
--- Without a port none is served.
-abbrev pub service_from : Option ℕ → Option ℕ → Bool → Option ℕ → Option Service
-service_from None connections forever idle = None
-service_from (Some port) connections false idle = Some (record { port = port; connections = unwrap_or connections 1; idle = idle })
-service_from (Some port) connections true idle = Some (record { port = port; connections = 2 ^ 64 - 1; idle = Some (unwrap_or idle 30) })
+-- How a port is served: how many connections in all (1 if not given), how many of them at once (1), and after how many
+-- silent seconds each is given up (never). With `forever` there are 2^64 - 1 in all, more than any machine serves, and
+-- what is not given is 256 at once and 30 seconds. Without a port none is served.
+abbrev pub service_from : Option ℕ → Option ℕ → Option ℕ → Bool → Option ℕ → Option Service
+service_from None connections clients forever idle = None
+service_from (Some port) connections clients false idle =
+    Some (record { port = port; connections = unwrap_or connections 1; clients = unwrap_or clients 1; idle = idle })
+service_from (Some port) connections clients true idle =
+    let all = 2 ^ 64 - 1 in
+    Some (record { port = port; connections = all; clients = unwrap_or clients 256; idle = Some (unwrap_or idle 30) })
 
--- The task for an older file, a file of the tables and a port, each if named: the older file is migrated to the file of the tables;
--- or, if no older file is named, the office is served over that file, or in memory, and over the port, or the streams.
+-- The task for an older file, a file of the tables and a port, each if named: the older file is migrated to the file of
+-- the tables; or, if no older file is named, the office is served over that file, or in memory, and over the port, or
+-- the streams.
 abbrev pub IsTaskOf : Option (List ℕ) → Option (List ℕ) → Option Service → Task → Type 0
 IsTaskOf old db service (Serve kept served) = (old ≡ None) × (option_map string_bytes kept ≡ db) × (served ≡ service)
 IsTaskOf old db service (Migrate from to) = (old ≡ Some (string_bytes from)) × (db ≡ Some (string_bytes to))
@@ -34,19 +39,23 @@ pub record IsFlagOf (options : ArgMatches) (name : List ℕ) (is_set : Bool) : T
   pub given : one_text (found_of options) name ≡ Some (codes "true") → is_set ≡ true
   pub denied : one_text (found_of options) name ≡ Some (codes "false") → is_set ≡ false
 
--- how a port is served, by the options `--port`, `--connections`, `--forever` and `--idle`; `gives_port` and `gives` read their numbers
+-- how a port is served, by the options `--port`, `--connections`, `--clients`, `--forever` and `--idle`; `gives_port`
+-- and `gives` read their numbers
 pub record IsServiceOf {E : Type 0} (gives_port gives : List ℕ → Result ℕ E → Type 0) (options : ArgMatches) (service : Option Service) : Type 0 where
   pub port : Option ℕ
   pub connections : Option ℕ
+  pub clients : Option ℕ
   pub forever : Bool
   pub idle : Option ℕ
   pub port_is : IsValueOf gives_port options (codes "port") port
   pub connections_are : IsValueOf gives options (codes "connections") connections
+  pub clients_are : IsValueOf gives options (codes "clients") clients
   pub forever_is : IsFlagOf options (codes "forever") forever
   pub idle_is : IsValueOf gives options (codes "idle") idle
-  pub service_is : service ≡ service_from port connections forever idle
+  pub service_is : service ≡ service_from port connections clients forever idle
 
--- the line that the options ask for: `--admin` names the administrator, `--migrate` the older file, `--db` the file of the tables
+-- the line that the options ask for: `--admin` names the administrator, `--migrate` the older file, `--db` the file of
+-- the tables
 pub record IsLineOf {E : Type 0} (gives_port gives : List ℕ → Result ℕ E → Type 0) (options : ArgMatches) (line : Line) : Type 0 where
   pub admin : person_of (unwrap_or (said options (codes "admin")) []) ≡ Some line.admin
   pub service : Option Service

@@ -1,4 +1,5 @@
-ghost use Rattle.std.specs.Prelude.{◌≡◌, [], None, Some, Err, IfOk, IfErr, IfSome, codes, option_copied, option_map, string_bytes, unwrap_or};
+ghost use Rattle.std.specs.Prelude.{◌≡◌, [], None, Some, Err, IfOk, IfErr, IfSome, codes};
+ghost use Rattle.std.specs.Prelude.{option_copied, option_map, string_bytes, unwrap_or};
 ghost use Rattle.plant_line.specs.Lines.{IsLineOf, IsServiceOf, IsTaskOf, said};
 ghost use Rattle.plant_line.specs.Lines as lines;
 ghost use Rattle.plant_types.specs.Text as names;
@@ -44,6 +45,8 @@ pub struct Service {
     pub port: u16,
     /// How many connections are served.
     pub connections: u64,
+    /// How many of them are served at once.
+    pub clients: u64,
     /// After how many seconds a silent connection is given up.
     pub idle: Option<u64>,
 }
@@ -125,6 +128,9 @@ fn task_of(
 /// How many connections `--forever` stands for. No machine serves as many.
 const FOREVER: u64 = u64::MAX;
 
+/// The default of `--clients` with `--forever`.
+const FOREVER_CLIENTS: u64 = 256;
+
 /// The default of `--idle` with `--forever`, in seconds.
 const FOREVER_IDLE: u64 = 30;
 
@@ -132,22 +138,25 @@ const FOREVER_IDLE: u64 = 30;
 fn service_from(
     port: Option<u16>,
     connections: Option<u64>,
+    clients: Option<u64>,
     forever: bool,
     idle: Option<u64>,
 ) -> Option<Service>
-    ensures { result ≡ lines.service_from port connections forever idle }
+    ensures { result ≡ lines.service_from port connections clients forever idle }
 {
     let port = port?;
     if forever {
         return Some(Service {
             port,
             connections: FOREVER,
+            clients: clients.unwrap_or(FOREVER_CLIENTS),
             idle: Some(idle.unwrap_or(FOREVER_IDLE)),
         });
     }
     Some(Service {
         port,
         connections: connections.unwrap_or(1),
+        clients: clients.unwrap_or(1),
         idle,
     })
 }
@@ -160,6 +169,7 @@ fn service_of(matches: &ArgMatches<'_>) -> Option<Service>
     service_from(
         matches.get_one("port"),
         matches.get_one("connections"),
+        matches.get_one("clients"),
         matches.get_flag("forever"),
         matches.get_one("idle"),
     )
@@ -206,7 +216,7 @@ fn service_args<'a>(alloc: Global, command: Command<'a>) -> Result<Command<'a>, 
         "port",
         "N",
         65_535,
-        "Serves connections to port N of 127.0.0.1, one after the other",
+        "Serves connections to port N of 127.0.0.1",
     );
     let connections = number_arg(
         alloc,
@@ -214,6 +224,13 @@ fn service_args<'a>(alloc: Global, command: Command<'a>) -> Result<Command<'a>, 
         "N",
         1_000,
         "Ends after N connections [default: 1]",
+    );
+    let clients = number_arg(
+        alloc,
+        "clients",
+        "N",
+        1_000,
+        "Serves N connections at once [default: 1; 256 with --forever]",
     );
     let forever = Arg::new(alloc, "forever")
         .long("forever")
@@ -228,7 +245,12 @@ fn service_args<'a>(alloc: Global, command: Command<'a>) -> Result<Command<'a>, 
         3_600,
         "Gives up a silent connection [default: never; 30 with --forever]",
     );
-    command.arg(port)?.arg(connections)?.arg(forever)?.arg(idle)
+    command
+        .arg(port)?
+        .arg(connections)?
+        .arg(clients)?
+        .arg(forever)?
+        .arg(idle)
 }
 
 /// The program's version.
@@ -256,7 +278,8 @@ fn office_command<'a>(alloc: Global) -> Result<Command<'a>, AllocError> {
     service_args(alloc, store_args(alloc, command)?)
 }
 
-/// The line of an administrator's name, the older file, the file of the tables and the port. The name is read before the files.
+/// The line of an administrator's name, the older file, the file of the tables and the port. The name is read before
+/// the files.
 fn line_from(
     alloc: Global,
     name: &[u8],

@@ -1,10 +1,9 @@
 -- Each connection's calls within the run of all.
-use Rattle.std.proofs.Common.{◌≡◌, ℕ, List, [], ◌∷◌, ◌++◌, length, refl, sym, ap, subst, ◌∙◌, length-append, arith, ◌+◌}
-use Rattle.std.specs.List.{flat_map}
+use Rattle.std.proofs.Common.{◌≡◌, List, [], ◌∷◌, ◌++◌, length, refl, ap, ◌∙◌, length-append, arith}
 use Rattle.std.proofs.lemmas.Grind.{flat_map-append}
 use Rattle.plant_model.specs.{Worlds.{World}, declared.{call.Call.{Call}, reply.Answer.{Answer}}}
 use Rattle.plant_office.specs.Runs.{AreIsolated, after_answer, world_after}
-use Rattle.plant_wire.specs.Marks.{Mark, Last, nothing, begun, breaking, said, malformed, answers_of, calls_of, last_marks}
+use Rattle.plant_wire.specs.Marks.{Mark, said, malformed, answers_of, calls_of, last_marks}
 use Rattle.plant_lines.specs.Accounts.{AreApart}
 use Rattle.plant_lines.specs.Events.{Event, opened, came, ended, answered, broke, stopped, left, closed, all_answers, all_calls, answers_in, calls_in}
 

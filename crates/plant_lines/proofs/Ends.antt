@@ -1,18 +1,17 @@
 -- How a connection that is closed ends, by its stage.
-use Rattle.std.proofs.Common.{◌≡◌, ◌≢◌, ◌<◌, ◌⊎◌, ℕ, zero, suc, List, [], ◌∷◌, ◌++◌, Bool, true, Option, Some, None, refl, sym, ap, subst, ◌∙◌}
+use Rattle.std.proofs.Common.{◌≡◌, ℕ, List, [], ◌∷◌, ◌++◌, true, Some, None, refl, sym, ap, subst, ◌∙◌}
 use Rattle.std.proofs.Common.{append_assoc, append-nil, nat_lt, map, take, drop, length, inl, inr, take-append-drop, arith}
 use Rattle.plant_model.specs.declared.{call.Call.{Call}, reply.Answer.{Answer}}
-use Rattle.plant_call.specs.Front.{Item, Parsed, StandsAtFront, waits, whole}
-use Rattle.plant_wire.specs.Causes.{cause_text}
-use Rattle.plant_wire.specs.Marks.{IsFaultless, Mark, Last, begun, breaking, nothing, answers_of, calls_of, item_of, last_marks, last_text, mark_text}
+use Rattle.plant_call.specs.Front.{Parsed, StandsAtFront, whole}
+use Rattle.plant_wire.specs.Marks.{IsFaultless, Mark, Last, begun, breaking, nothing, answers_of, calls_of, item_of, last_text}
 use Rattle.plant_wire.specs.Marks.{out_of}
-use Rattle.plant_wire.specs.{Session.{EndsAs, IsCutShort, IsIdle}, Step.{AnswersFront, ServesBroken, ServesPart, StopsFor}}
+use Rattle.plant_wire.specs.{Session.{EndsAs, IsIdle}, Step.{AnswersFront, ServesBroken, ServesPart, StopsFor}}
 use Rattle.plant_wire.specs.declared.{reads.End.{End}, step.Stop.{Stop}}
 use Rattle.plant_wire.specs.declared.reads.End.TheVariants.{BrokenInput, Closed, Fault, ReadFailed, WriteFailed}
 use Rattle.plant_wire.specs.declared.step.Stop.TheVariants as stops
 use Rattle.plant_lines.specs.Events.{Event, closed, answers_in, bytes_in, calls_in, cut_in, ends_in, marks_in, of_all, sent_in}
 use Rattle.plant_lines.specs.{Accounts.{EndsEach}, Stages.{Leads, Moves, Stage, end_by, end_for, fresh, served, ending, gone}}
-use Rattle.plant_lines.proofs.Moments.{HasBroken, HasEnded, HasStopped, IsAt, IsBehind, IsGoing, out_last, sent_all, so_from}
+use Rattle.plant_lines.proofs.Moments.{HasBroken, HasStopped, IsAt, IsBehind, sent_all, so_from}
 
 abbrev Exactly : List Call → List Answer → List Call → List Answer → Type 0
 Exactly d b calls answers = (calls ≡ d) × (answers ≡ b)

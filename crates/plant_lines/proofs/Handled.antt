@@ -1,19 +1,18 @@
 -- What one line does, and what that is among all.
 use Rattle.std.proofs.Common.{◌≡◌, ◌+◌, slice_get, slice_set, ℕ, List, [], ◌∷◌, ◌++◌, Option, Some, None, drop, refl, sym, ap, subst, ◌∙◌, append-nil}
 use Rattle.std.proofs.Common.{take}
-use Rattle.std.{specs.{Io.KnownBytes.{Appends}, List.{remove}}, proofs.KnownBytes.{Appends-trans}}
+use Rattle.std.{specs.{Io.KnownBytes.{Appends}, List.{remove}}}
 use Rattle.plant_books.specs.declared.books.Books as books
-use Rattle.plant_wire.specs.{Causes.{cause_text}, Marks.{Last, nothing, calls_of, answers_of, last_marks, last_text, mark_text}, Over.{RanOn}}
+use Rattle.plant_wire.specs.{Causes.{cause_text}, Marks.{nothing, last_text, mark_text}, Over.{RanOn}}
 use Rattle.plant_wire.specs.Step.{AnswersBroken, AnswersOne, AnswersPart}
 use Rattle.plant_wire.specs.declared.{reads.End.{End, TheVariants.{BrokenInput, Fault}}, step.Stop.{Stop}}
 use Rattle.plant_wire.specs.declared.step.Stop.TheVariants as stops
 use Rattle.plant_connections.specs.Connections.{line_of}
-use Rattle.plant_lines.specs.Books.{Makes}
-use Rattle.plant_lines.specs.Events.{AreTold, Event, IsToldBy, Log, Logs, Shows, answered, answers_in, broke, calls_in, came, closed, ended}
+use Rattle.plant_lines.specs.Events.{Event, IsToldBy, Log, Logs, Shows, answered, answers_in, broke, calls_in, came, closed, ended}
 use Rattle.plant_lines.specs.Events.{left, opened, port_in, seen_by, stopped, who}
 use Rattle.plant_lines.specs.Stages.{AreLines, Goes, IsOpen, MayClose, Moves, Stage, end_by, end_for, served, ending, stage_by, stage_in}
 use Rattle.plant_lines.specs.Happens.{Happened, Made, Moved, Passed, Turned, Went}
-use Rattle.plant_lines.proofs.{Held.{lifted, lifted_closed, lifted_opened, lifted_refused}, Leading.{logs_then, makes_none, makes_then, shows_untold}}
+use Rattle.plant_lines.proofs.{Held.{lifted, lifted_closed, lifted_opened, lifted_refused}, Leading.{logs_then, makes_none, shows_untold}}
 use Rattle.plant_lines.specs.declared.lines.Line.{Line}
 
 own_goes : (k : ℕ) (s s' : Stage) (e : Event) → who e ≡ k → Moves s e s' → Goes k s e s'
@@ -54,7 +53,7 @@ module _ (seen seen' : Option (List Event)) (l l' : Line) (same : l'.number ≡ 
     went = went_one l l' (ended l.number) same refl refl (rw is (idle, after));
   }
 
-  -- bytes came for which there was no memory
+  -- there was no memory for the bytes that came
   pub moved_lost : (bytes : List ℕ) → Logs seen seen' (came l.number bytes ∷ []) → IsOpen l.unread.items l.pending.text.items → l.end ≡ None
       → stage_in l' ≡ ending Fault [] → Moved seen seen' l l'
   moved_lost bytes logged idle is after = record {

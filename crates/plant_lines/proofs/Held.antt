@@ -1,14 +1,14 @@
 -- The lines that are held, by their numbers.
 use Rattle.std.proofs.Common.{◌≡◌, ◌≢◌, ◌≤◌, ◌<◌, ◌+◌, ℕ, zero, suc, List, [], ◌∷◌, ◌++◌, Bool, true, false, Option, Some, None, slice_get}
-use Rattle.std.proofs.Common.{slice_index_or, slice_set, refl, sym, ap, subst, ◌∙◌, nat_eq, nat_lt, arith, take, drop, inl, inr, if◌then◌else◌}
+use Rattle.std.proofs.Common.{slice_index_or, slice_set, refl, sym, ap, subst, ◌∙◌, nat_eq, nat_lt, arith, take, inl, inr}
 use Rattle.std.proofs.Common.{ltb-true, ltb-false, lt-ltb, le-ltb, eq-eqb, eqb-true}
 use Rattle.std.proofs.lemmas.Bool.{eqb-false}
 use Rattle.std.specs.{List.{remove}, Prelude.{IfSome}}
 use Rattle.plant_call.specs.Cut.{WaitsBelow}
 use Rattle.plant_wire.specs.declared.reads.End.{End}
 use Rattle.plant_wire.specs.declared.reads.End.TheVariants.{Fault, WriteFailed}
-use Rattle.plant_lines.specs.Events.{Event, opened, closed, who}
-use Rattle.plant_lines.specs.Stages.{AreLines, Goes, IsGivenUp, Leads, MayClose, Moves, Stage, fresh, gone, served, line_with, stage_by, stage_held}
+use Rattle.plant_lines.specs.Events.{Event, opened, closed}
+use Rattle.plant_lines.specs.Stages.{AreLines, IsGivenUp, Leads, MayClose, Moves, Stage, fresh, gone, served, line_with, stage_by, stage_held}
 use Rattle.plant_lines.specs.Stages.{stage_in, stage_of}
 use Rattle.plant_lines.specs.{Happens.{AreOf}, Prompt.{ArePrompt, IsPrompt}}
 use Rattle.plant_lines.proofs.Leading.{leads_other}
@@ -121,7 +121,7 @@ lifted count ls at l l' events ok is same own leads k = go (nat_eq l.number k) r
         (sym (stage_same k count ls (slice_set ls at l') (set_other ls at l l' k is same not)))
         (leads_other k l.number (stage_of k count ls) events own not)
 
--- a line that is no longer held
+-- once a line is closed, no line has its number
 remove_own : (count : ℕ) (ls : List Line) (at : ℕ) (l : Line) → AreLines count ls → slice_get ls at ≡ Some l
     → line_with l.number (remove ls at) ≡ None
 remove_own count [] at l ok is = cc
@@ -180,7 +180,7 @@ lifted_closed count ls at l end ok is may k = go (nat_eq l.number k) refl
         (sym (stage_same k count ls (remove ls at) (remove_other ls at l k is not)))
         (leads_other k l.number (stage_of k count ls) (closed l.number end ∷ []) (refl, tt) not)
 
--- a connection that comes
+-- a connection is accepted
 none_above : (count : ℕ) (ls : List Line) (k : ℕ) → AreLines count ls → count ≤ k → line_with k ls ≡ None
 none_above count [] k ok le = refl
 none_above count (x ∷ ls) k ok le = later x k ls (λ e. let lt = ok.0 in omega (arith, e)) ∙ none_above count ls k ok.3 le
@@ -242,7 +242,7 @@ lifted_opened count ls l ok is new k = go (nat_eq count k) refl
         subst (λ (s : Stage). Leads k (stage_of k count ls) (opened count ∷ []) s) (sym stays)
         (leads_other k count (stage_of k count ls) (opened count ∷ []) (refl, tt) not)
 
--- one that comes and for which there is no memory
+-- a connection is accepted, and closed at once since there is no memory for its line
 pub lifted_refused : (count : ℕ) (ls : List Line) → AreLines count ls
     → (k : ℕ) → Leads k (stage_of k count ls) (opened count ∷ closed count Fault ∷ []) (stage_of k (count + 1) ls)
 lifted_refused count ls ok k = go (nat_eq count k) refl
@@ -261,6 +261,14 @@ lifted_refused count ls ok k = go (nat_eq count k) refl
         let not = eqb-false count k e in
         subst (λ (s : Stage). Leads k (stage_of k count ls) (opened count ∷ closed count Fault ∷ []) s) (sym (counted_other count ls k ok not))
         (leads_other k count (stage_of k count ls) (opened count ∷ closed count Fault ∷ []) (refl, (refl, tt)) not)
+
+pub lines_start : (count : ℕ) (ls : List Line) → ls ≡ [] → AreLines count ls
+lines_start count [] e = tt
+lines_start count (x ∷ ls) e = cc
+
+pub prompt_start : (ls : List Line) → ls ≡ [] → ArePrompt ls
+prompt_start [] e = tt
+prompt_start (x ∷ ls) e = cc
 
 -- before any came
 pub none_yet : (k : ℕ) → stage_of k 0 [] ≡ fresh

@@ -1,13 +1,13 @@
 -- Events one after another.
 use Rattle.std.proofs.Common.{◌≡◌, ℕ, List, [], ◌∷◌, ◌++◌, Option, Some, None, refl, sym, ap, subst, ◌∙◌, append_assoc, append-nil}
-use Rattle.std.{specs.{Io.KnownBytes.{Appends}, List.{flat_map}}, proofs.{KnownBytes.{Appends-nil, Appends-trans}, lemmas.Grind.{flat_map-append}}}
+use Rattle.std.{proofs.{KnownBytes.{Appends-nil, Appends-trans}, lemmas.Grind.{flat_map-append}}}
 use Rattle.plant_model.specs.declared.{call.Call.{Call}, reply.Answer.{Answer}}
 use Rattle.plant_books.specs.declared.books.Books as books
 use Rattle.plant_office.specs.Enduring.{books_state}
 use Rattle.plant_wire.proofs.public.Running.{ran_none, ran_joins}
 use Rattle.plant_lines.specs.Books.{AreQuiet, IsMoment, Makes, MakesEach}
-use Rattle.plant_lines.specs.Events.{AreTold, Event, Logs, Seen, Shows, all_answers, all_calls, answers_in, at_ports, calls_in, port_in, seen_by, who}
-use Rattle.plant_lines.specs.Stages.{Goes, Leads, Stage, stage_in, stage_of}
+use Rattle.plant_lines.specs.Events.{AreTold, Event, Logs, Seen, Shows, all_answers, all_calls, answers_in, at_ports, calls_in, port_in, seen_by}
+use Rattle.plant_lines.specs.Stages.{Leads, Stage, stage_in, stage_of}
 use Rattle.plant_lines.specs.Happens.{AreOf, Happened, Made, Moved, Passed, Turned, Went}
 use Rattle.plant_lines.specs.declared.lines.Line.{Line}
 
@@ -108,28 +108,35 @@ module _ {B : Type 0} (b : books.Ghosts B) where
     each_quiet x es quiet,
   )
 
-  pub happened_none : (x : B) (s : Seen) (count : ℕ) (ls : List Line) → Happened b x x s s count count ls ls
-  happened_none x s count ls = record {
+module _ {B : Type 0} {b : books.Ghosts B} {x : B} {s : Seen} {n : ℕ} {ls : List Line} where
+  pub happened_none : Happened b x x s s n n ls ls
+  happened_none = record {
     events = [];
     shown = record { logged = logs_none s.ports; text = []; told = refl; written = Appends-nil s.log };
-    makes = makes_none x;
+    makes = makes_none b x;
     leads = λ k. refl;
   }
 
-  pub happened_then : (x y z : B) (s t u : Seen) (n m o : ℕ) (ks ls ms : List Line)
-      → Happened b x y s t n m ks ls → Happened b y z t u m o ls ms → Happened b x z s u n o ks ms
-  happened_then x y z s t u n m o ks ls ms p q = record {
+-- nothing yet, and no line is held
+pub happened_start : {B : Type 0} {b : books.Ghosts B} {x : B} {s : Seen} {n : ℕ} (ls : List Line) → ls ≡ [] → Happened b x x s s n n [] ls
+happened_start {b} {x} {s} {n} ls e = subst (λ (ms : List Line). Happened b x x s s n n [] ms) (sym e) happened_none
+
+module _ {B : Type 0} {b : books.Ghosts B} {x y z : B} {s t u : Seen} {n m o : ℕ} {ks ls ms : List Line} where
+  pub happened_then : Happened b x y s t n m ks ls → Happened b y z t u m o ls ms → Happened b x z s u n o ks ms
+  happened_then p q = record {
     events = p.events ++ q.events;
     shown = shows_then s t u p.events q.events p.shown q.shown;
-    makes = each_then x y z p.events q.events p.makes q.makes;
+    makes = each_then b x y z p.events q.events p.makes q.makes;
     leads = λ k. leads_then k (stage_of k n ks) (stage_of k m ls) (stage_of k o ms) p.events q.events (p.leads k) (q.leads k);
   }
 
-  pub happened_honest : (x y : B) (s t : Seen) (n m : ℕ) (ks ls : List Line) → Happened b x y s t n m ks ls → b.is_honest y → b.is_honest x
-  happened_honest x y s t n m ks ls p = (each_all x y p.events p.makes).honest
+module _ {B : Type 0} {b : books.Ghosts B} {x y : B} {s t : Seen} {n m : ℕ} {ks ls : List Line} where
+  pub happened_honest : Happened b x y s t n m ks ls → b.is_honest y → b.is_honest x
+  happened_honest p = (each_all b x y p.events p.makes).honest
 
-  pub happened_passed : (x : B) (s t : Seen) (n m : ℕ) (ks ls : List Line) → Passed s t n m ks ls → Happened b x x s t n m ks ls
-  happened_passed x s t n m ks ls p = record { events = p.events; shown = p.shown; makes = each_quiet x p.events p.quiet; leads = p.leads }
+module _ {B : Type 0} {b : books.Ghosts B} {x : B} {s t : Seen} {n m : ℕ} {ks ls : List Line} where
+  pub happened_passed : Passed s t n m ks ls → Happened b x x s t n m ks ls
+  happened_passed p = record { events = p.events; shown = p.shown; makes = each_quiet b x p.events p.quiet; leads = p.leads }
 
 pub passed_none : (s : Seen) (count : ℕ) (ls : List Line) → Passed s s count count ls ls
 passed_none s count ls = record {
@@ -139,9 +146,11 @@ passed_none s count ls = record {
   leads = λ k. refl;
 }
 
-pub passed_waited : (a b : Option (List Event)) (log : Option (List ℕ)) (count : ℕ) (ls : List Line) → Logs a b []
-    → Passed (seen_by a log) (seen_by b log) count count ls ls
-passed_waited a b log count ls logged = record { events = []; quiet = tt; shown = shows_untold a b log [] logged refl; leads = λ k. refl }
+-- the ports were waited for
+pub happened_waited : {B : Type 0} {b : books.Ghosts B} {x y : B} {s : Seen} {n m : ℕ} {ks ls : List Line} (a a' : Option (List Event))
+    (log : Option (List ℕ)) → Happened b x y s (seen_by a log) n m ks ls → Logs a a' [] → Happened b x y s (seen_by a' log) n m ks ls
+happened_waited a a' log p logged =
+    happened_then p (happened_passed (record { events = []; quiet = tt; shown = shows_untold a a' log [] logged refl; leads = λ k. refl }))
 
 -- one line
 pub went_then : (es fs : List Event) (l m n : Line) → Went es l m → Went fs m n → Went (es ++ fs) l n

@@ -1,9 +1,10 @@
-pub mod Leading
-pub mod Held
-pub mod Moments
-pub mod Ends
-pub mod Handled
-pub mod Whole
-pub mod Texts
-pub mod Waits
-pub mod Apart
+pub mod public
+mod Leading
+mod Held
+mod Moments
+mod Ends
+mod Handled
+mod Whole
+mod Texts
+mod Waits
+mod Apart

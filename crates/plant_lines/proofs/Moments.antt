@@ -1,7 +1,7 @@
 -- From the stages of a connection, what it was sent at every moment.
-use Rattle.std.proofs.Common.{◌≡◌, ◌<◌, ◌⊎◌, ℕ, zero, suc, List, [], ◌∷◌, ◌++◌, Bool, true, false, Option, Some, None, refl, sym, ap, subst, ◌∙◌}
-use Rattle.std.proofs.Common.{append_assoc, append-nil, nat_eq, nat_lt, map, take, drop, length, inl, inr, if◌then◌else◌, eq-eqb, eqb-true, lt-ltb}
-use Rattle.std.proofs.Common.{length-append, arith, ◌+◌}
+use Rattle.std.proofs.Common.{◌≡◌, ◌⊎◌, ℕ, List, [], ◌∷◌, ◌++◌, Bool, true, false, refl, sym, ap, subst, ◌∙◌}
+use Rattle.std.proofs.Common.{append_assoc, append-nil, nat_eq, nat_lt, map, take, drop, length, inl, inr, eq-eqb, eqb-true, lt-ltb}
+use Rattle.std.proofs.Common.{length-append, arith}
 use Rattle.std.specs.List.{flat_map}
 use Rattle.std.proofs.lemmas.{Bool.{eqb-false}, Grind.{flat_map-append}, List.{map-append, Elements.{filter_map-append}}}
 use Rattle.plant_model.specs.declared.{call.Call.{Call}, reply.Answer.{Answer}}
@@ -12,8 +12,8 @@ use Rattle.plant_wire.specs.Marks.{Mark, Last, answer_in, answers_of, call_in, c
 use Rattle.plant_wire.specs.{Session.{IsIdle}, Step.{StandsLast, StopsFor}}
 use Rattle.plant_wire.specs.declared.{reads.End.{End, TheVariants.{BrokenInput}}, step.Stop.{Stop}}
 use Rattle.plant_lines.specs.Events.{Event, opened, came, ended, answered, broke, stopped, left, closed, who, of, of_all, bytes_in, ends_in, marks_in}
-use Rattle.plant_lines.specs.Events.{cut_in, sent_in, calls_in, answers_in, came_to, marks_of, cut_of, sent_to}
-use Rattle.plant_lines.specs.Stages.{Goes, IsOpen, Leads, Moves, Stage, end_by, end_for, fresh, served, ending, gone}
+use Rattle.plant_lines.specs.Events.{cut_in, sent_in, calls_in, answers_in}
+use Rattle.plant_lines.specs.Stages.{Goes, Leads, Moves, Stage, end_by, end_for, fresh, served, ending, gone}
 use Rattle.plant_lines.specs.Accounts.{AreOfOne, IsAnsweredFor, AtEachMoment}
 
 -- Of a connection: c is what came, h whether the end did, m the requests that were answered, x the text that was cut, d and b the

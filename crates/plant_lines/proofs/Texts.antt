@@ -1,5 +1,5 @@
 -- No text is empty.
-use Rattle.std.proofs.Common.{◌≡◌, ◌<◌, ℕ, List, [], ◌∷◌, ◌++◌, length, codes, arith, refl}
+use Rattle.std.proofs.Common.{◌≡◌, ◌<◌, ℕ, List, [], ◌∷◌, ◌++◌, length, codes, arith}
 use Rattle.plant_model.specs.declared.reply.Answer.{Answer}
 use Rattle.plant_model.specs.declared.reply.Answer.TheVariants as answers
 use Rattle.plant_answer.specs.{Answers.{text_of}, Response.{response}, declared.responses.Media.{Media}}

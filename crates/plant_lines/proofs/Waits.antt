@@ -1,6 +1,6 @@
 -- Whether a line holds a whole request.
-use Rattle.std.proofs.Common.{◌+◌, length-append, true≢false, ne_eqb, Option, None, Some, ◌≡◌, ◌<◌, ℕ, List, [], ◌∷◌, ◌++◌, Bool, true, false, length}
-use Rattle.std.proofs.Common.{nat_lt, ◌==◌, refl, sym, ap, subst, ◌∙◌, append-nil, inl, inr, arith, ltb-true}
+use Rattle.std.proofs.Common.{◌+◌, length-append, true≢false, ne_eqb, Option, None, Some, ◌≡◌, ℕ, List, [], ◌∷◌, Bool, true, false, length}
+use Rattle.std.proofs.Common.{nat_lt, ◌==◌, refl, sym, ap, subst, ◌∙◌, append-nil, inr, arith, ltb-true}
 use Rattle.std.specs.{Bool.{OnTrue}, Prelude.{not}}
 use Rattle.std.specs.Option.{is_some}
 use Rattle.plant_call.specs.{Cut.{WaitsBelow}, Front.{StandsAtFront, waits}}

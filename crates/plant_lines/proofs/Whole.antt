@@ -1,32 +1,41 @@
 -- All of a service.
-use Rattle.std.proofs.Common.{◌≡◌, ℕ, List, [], Option, Result, subst}
+use Rattle.std.proofs.Common.{ℕ, List, [], subst}
 use Rattle.plant_books.specs.declared.books.Books as books
-use Rattle.plant_lines.specs.{Accounts.{AreServed, StopsAfter}, Events.{Event, Seen}, Happens.{Happened}, Stages.{Leads, Stage, fresh, stage_of}}
+use Rattle.plant_model.specs.declared.{call.Call.{Call}, reply.Answer.{Answer}}
+use Rattle.plant_lines.specs.Accounts.{AreSent, AreServed, Outcome, StopsAfter}
+use Rattle.plant_lines.specs.{Events.{Event, Seen, all_answers, all_calls}, Happens.{Happened}, Stages.{Leads, Stage, fresh, stage_of}}
 use Rattle.plant_lines.proofs.{Apart.{apart_from}, Ends.{ends_each}, Held.{none_yet}, Leading.{each_all, happened_none, moment}}
 use Rattle.plant_lines.proofs.Moments.{at_each_moment}
-use Rattle.plant_lines.specs.declared.{lines.Line.{Line}, serving.Halted.{Halted}}
+use Rattle.plant_lines.specs.declared.lines.Line.{Line}
 
-module _ {B : Type 0} (b : books.Ghosts B) (x y : B) (s t : Seen) where
-  pub served_from : (n count : ℕ) (ls : List Line) (r : Result (Unit {0}) Halted) → Happened b x y s t 0 count [] ls → StopsAfter n count ls r
-      → AreServed b x y s t n r
-  served_from n count ls r h stops =
+module _ {ran : List Call → List Answer → Type 0} {n : ℕ} {r : Outcome} where
+  abbrev pub sent_from : (events : List Event) (count : ℕ) (ls : List Line) → ran (all_calls events) (all_answers events)
+      → ((k : ℕ) → Leads k fresh events (stage_of k count ls)) → StopsAfter n count ls r → AreSent ran n r
+  sent_from events count ls made goes stops = record {
+    events = events;
+    count = count;
+    held = ls;
+    made = made;
+    answered = λ k. at_each_moment k events (stage_of k count ls) (goes k);
+    goes = goes;
+    ends = ends_each events (λ k. stage_of k count ls) goes;
+    stops = stops;
+  }
+
+module _ {B : Type 0} {b : books.Ghosts B} {x y : B} {s t : Seen} {n count : ℕ} {ls : List Line} {r : Outcome} where
+  pub served_from : Happened b x y s t 0 count [] ls → StopsAfter n count ls r → AreServed b x y s t n r
+  served_from h stops =
       let goes : (k : ℕ) → Leads k fresh h.events (stage_of k count ls) = λ k. subst (λ (a : Stage). Leads k a h.events (stage_of k count ls))
       (none_yet k) (h.leads k) in
       let all = each_all b x y h.events h.makes in
       record {
-        events = h.events;
-        count = count;
-        held = ls;
+        sent = sent_from h.events count ls all.ran goes stops;
         shown = h.shown;
-        ran = all.ran;
         moments = λ es fs is. moment b x y h.events es fs is h.makes;
-        answered = λ k. at_each_moment k h.events (stage_of k count ls) (goes k);
-        goes = goes;
-        ends = ends_each h.events (λ k. stage_of k count ls) goes;
         apart = λ m held w legal holds t. apart_from w h.events (all.ran.run m held w legal holds t).isolated;
-        stops = stops;
       }
 
-pub served_none : {B : Type 0} (b : books.Ghosts B) (x : B) (s : Seen) (n : ℕ) (r : Result (Unit {0}) Halted) → StopsAfter n 0 [] r
-    → AreServed b x x s s n r
-served_none b x s n r stops = served_from b x x s s n 0 [] r (happened_none b x s 0 []) stops
+-- none came
+module _ {B : Type 0} {b : books.Ghosts B} {x : B} {s : Seen} {n : ℕ} {r : Outcome} where
+  pub served_none : StopsAfter n 0 [] r → AreServed b x x s s n r
+  served_none stops = served_from happened_none stops

@@ -14,18 +14,18 @@ use Rattle.plant_lines.specs.Stages.{Leads, fresh, stage_of}
 use Rattle.plant_lines.specs.declared.{lines.Line.{Line}, serving.Halted.{Halted}}
 use Rattle.plant_lines.specs.declared.serving.Halted.TheVariants.{Memory, Ports}
 
--- none was cut, and the text of the last answer is these bytes behind those before them
+-- no text was cut, and the text of the last answer ends in these bytes, after those before them
 abbrev pub IsOfLast : List ℕ → List ℕ → List Mark → List ℕ → Type 0
 IsOfLast before pending marks cut = (earlier : List Mark) × (last : Mark) × (cut ≡ []) × (marks ≡ earlier ++ last ∷ [])
     × (mark_text last ≡ before ++ pending)
 
--- these bytes are the end of one text: of that which was cut, or of the answer to the last request, where none was cut
+-- These bytes are the end of one text: of the one that was cut, or of the answer to the last request if none was cut.
 abbrev pub AreOfOne : List ℕ → List Mark → List ℕ → Type 0
 AreOfOne pending marks cut = (before : List ℕ) × ((cut ≡ before ++ pending) ⊎ IsOfLast before pending marks cut)
 
--- The requests of the connection k that were answered are the first of what came, each once and in order. What was sent
--- to it is the front of their texts, and of that which was cut, if one was; what is still to be sent is of one text
--- alone.
+-- The requests of the connection k that were answered are the first of those that came, each once and in order. What it
+-- was sent is the front of the texts of their answers, and of the text that was cut, if any; what is still to be sent
+-- is of one text alone.
 pub record IsAnsweredFor (k : ℕ) (es : List Event) : Type 0 where
   pub rest : List ℕ
   pub parses : Parsed (came_to k es) (map item_of (marks_of k es)) rest
@@ -33,8 +33,8 @@ pub record IsAnsweredFor (k : ℕ) (es : List Event) : Type 0 where
   pub texts : out_of (marks_of k es) ++ cut_of k es ≡ sent_to k es ++ pending
   pub one : AreOfOne pending (marks_of k es) (cut_of k es)
 
--- so it is at every moment: no byte of an answer leaves before its call was made, and no call is made before its
--- request came
+-- This holds at every moment: no byte of an answer leaves before its call was made, and no call is made before its
+-- request came.
 abbrev pub AtEachMoment : (List Event → Type 0) → List Event → Type 0
 AtEachMoment P events = (es fs : List Event) → events ≡ es ++ fs → P es
 
@@ -48,8 +48,8 @@ abbrev pub EndsEach : List Event → Type 0
 EndsEach events = (es fs : List Event) (k : ℕ) (end : End) → events ≡ es ++ closed k end ∷ fs
     → EndsAs (came_to k es) None (has_ended k es) (Some []) (Some (sent_to k es)) (AreFor k es) end
 
--- the call of each event is answered as in any other office that looks the same to its caller, whatever the others
--- send: from the world that all calls before it left
+-- The call of each event is answered as in any other office that looks the same to its caller, whatever others send:
+-- from the world that all calls before it left.
 abbrev pub AreApart : World → List Event → Type 0
 AreApart w events = (es fs : List Event) (e : Event) → events ≡ es ++ e ∷ fs
     → AreIsolated (world_after w (all_calls es) (all_answers es)) (calls_in e) (answers_in e)
@@ -57,26 +57,32 @@ AreApart w events = (es fs : List Event) (e : Event) → events ≡ es ++ e ∷ 
 abbrev pub Outcome : Type 0
 Outcome = Result (Unit {0}) Halted
 
--- How many connections were opened, where at most n are, and which are still held. Over: n were, and each was closed.
--- Out of memory at the start: none was. The ports failed: perhaps fewer were.
+-- How many connections were opened, of at most n, and which are still held. Ok: n were, and each was closed. Out of
+-- memory at the start: none was. The ports failed: n or fewer were.
 abbrev pub StopsAfter : ℕ → ℕ → List Line → Outcome → Type 0
 StopsAfter n count held (Ok u) = (count ≡ n) × (held ≡ [])
 StopsAfter n count held (Err Memory) = (count ≡ 0) × (held ≡ [])
 StopsAfter n count held (Err Ports) = count ≤ n
 
--- From one state of the books and of what is seen to another: one list of what happened at all connections, numbered as
--- they came: what the ports saw, and the calls that the office made, one after another.
-pub record AreServed {B : Type 0} (b : books.Ghosts B) (x y : B) (s t : Seen) (n : ℕ) (r : Outcome) : Type 0 where
+-- Where n connections are to be served: one list of what happened at all of them, numbered as they came. `ran` is true
+-- of the calls that the office made, one after another, whatever the connection. Each connection was sent the answers
+-- to its own requests, goes by its own events alone, and ended as a session does.
+pub record AreSent (ran : List Call → List Answer → Type 0) (n : ℕ) (r : Outcome) : Type 0 where
   pub events : List Event
   pub count : ℕ
   pub held : List Line
-  pub shown : Shows s t events
-  pub ran : RanOn b x y (all_calls events) (all_answers events)
-  -- whatever a crash at a moment leaves of the books is what it may leave after the calls so far
-  pub moments : (es fs : List Event) → events ≡ es ++ fs → IsMoment b x y es fs
+  pub made : ran (all_calls events) (all_answers events)
   pub answered : (k : ℕ) → AtEachMoment (IsAnsweredFor k) events
   pub goes : (k : ℕ) → Leads k fresh events (stage_of k count held)
   pub ends : EndsEach events
-  pub apart : (m : Content) → b.represents x m → (w : World) → IsLegalWorld w → Holds m w → b.is_honest y
-      → AreApart w events
   pub stops : StopsAfter n count held r
+
+-- From one state of the books and of what is seen to another: the calls are one run of the books, and the ports and the
+-- log of lines saw what happened.
+pub record AreServed {B : Type 0} (b : books.Ghosts B) (x y : B) (s t : Seen) (n : ℕ) (r : Outcome) : Type 0 where
+  pub sent : AreSent (RanOn b x y) n r
+  pub shown : Shows s t sent.events
+  -- whatever a crash at a moment leaves of the books is what it may leave after the calls so far
+  pub moments : (es fs : List Event) → sent.events ≡ es ++ fs → IsMoment b x y es fs
+  pub apart : (m : Content) → b.represents x m → (w : World) → IsLegalWorld w → Holds m w → b.is_honest y
+      → AreApart w sent.events

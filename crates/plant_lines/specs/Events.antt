@@ -1,6 +1,6 @@
 -- What happens at connections, each by its number, in one order.
 use Rattle.std.specs.Io.KnownBytes.{Appends}
-use Rattle.std.specs.Prelude.{ℕ, ◌+◌, List, [], ◌∷◌, ◌++◌, take, length, flat_map, Bool, true, false, if◌then◌else◌}
+use Rattle.std.specs.Prelude.{ℕ, ◌+◌, List, [], ◌∷◌, ◌++◌, take, length, flat_map, Bool, if◌then◌else◌}
 use Rattle.std.specs.Prelude.{nat_eq, nat_lt, Option, Some, None, ◌≡◌, ⊤}
 use Rattle.plant_model.specs.declared.{call.Call.{Call}, reply.Answer.{Answer}}
 use Rattle.plant_call.specs.declared.causes.Cause.{Cause}

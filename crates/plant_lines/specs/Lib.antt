@@ -3,5 +3,6 @@ pub mod Stages
 pub mod Books
 pub mod Happens
 pub mod Accounts
+pub mod Held
 pub mod PortSteps
 pub mod Prompt

@@ -15,7 +15,7 @@ ArePrompt (l ∷ ls) = IsPrompt l × ArePrompt ls
 abbrev pub AreFew : List ℕ → ℕ → Type 0
 AreFew unread wanted = (unread ≡ []) ⊎ (length unread < wanted)
 
--- It is known to hold none: nothing is unread on it, or fewer bytes than it wants. Such a line is read again; one that
--- is not would wait for itself.
+-- It is known to hold none: nothing is unread on it, or fewer bytes than it wants. Such a line is read again. A line
+-- that holds none and is not known to would never be read again.
 abbrev pub IsSettled : Line → Type 0
 IsSettled l = l.end ≡ None → l.pending.text.items ≡ [] → AreFew l.unread.items l.wanted

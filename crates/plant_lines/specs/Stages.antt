@@ -1,6 +1,6 @@
 -- How one connection goes from event to event.
-use Rattle.std.specs.Prelude.{◌≡◌, ◌≢◌, ◌⊎◌, ◌<◌, ℕ, List, [], ◌∷◌, ◌++◌, drop, take, Option, Some, None, Bool, true}
-use Rattle.std.specs.Prelude.{false, if◌then◌else◌, nat_eq, nat_lt}
+use Rattle.std.specs.Prelude.{◌≡◌, ◌≢◌, ◌⊎◌, ◌<◌, ℕ, List, [], ◌∷◌, ◌++◌, drop, take, Option, Some, None}
+use Rattle.std.specs.Prelude.{if◌then◌else◌, nat_eq, nat_lt}
 use Rattle.plant_call.specs.{Cut.{WaitsBelow}, Front.{StandsAtFront, broken, whole}}
 use Rattle.plant_wire.specs.{Causes.{cause_text}, Marks.{item_of, last_text, mark_text}, Session.{IsIdle}}
 use Rattle.plant_wire.specs.Step.{StandsLast, StopsFor}

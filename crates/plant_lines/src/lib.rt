@@ -2,6 +2,7 @@
 #![tactic(auto)]
 
 mod answers;
+mod desk;
 mod lines;
 mod ports;
 mod serving;

@@ -7,6 +7,7 @@ ghost use Rattle.plant_lines.specs.{Happens.{Made, Moved, Turned}, Prompt.{AreFe
 ghost use Rattle.plant_lines.specs.Stages.{IsOpen, MayClose, end_by, end_for};
 
 use crate::answers::Answers;
+use crate::desk::Desk;
 use crate::ports::{Ports, Sent, Taken};
 use plant_head::FieldRoom;
 use plant_office::{Books, Office};
@@ -14,8 +15,8 @@ use plant_route::Routes;
 use plant_wire::{End, Step, Stop, answer_next};
 use std::alloc::Global;
 
-/// A connection: what came and was not answered, and how many bytes it wants at least before it is looked at again; the
-/// answer that waits to leave; and, where nothing more is read or answered, how it is to end.
+/// A connection: the bytes that came and are not answered yet, and how many there must be before they are looked at
+/// again; the answer that waits to leave; and, if nothing more is read or answered, how it is to end.
 #[derive(Drop)]
 pub struct Line {
     pub number: u64,
@@ -26,7 +27,7 @@ pub struct Line {
 }
 
 impl Line {
-    /// The line of a connection that came just now.
+    /// The line of a new connection.
     pub fn new(alloc: Global, number: u64) -> Line
         ensures number { result.number ≡ number }
         ensures unread { result.unread.items ≡ [] }
@@ -86,7 +87,7 @@ impl Line {
         None
     }
 
-    /// How it ends if it is given up now. A request that can be answered keeps it.
+    /// How it ends if it is given up now, or `None` while a request on it can be answered.
     pub fn given_up(&self) -> Option<End>
         ensures { WaitsBelow self.now.unread.items self.now.wanted → IfSome result (λ end. MayClose self.now end) }
     {
@@ -100,7 +101,7 @@ impl Line {
     }
 }
 
-/// Takes so many bytes off the front. What is empty then keeps no memory.
+/// Takes so many bytes off the front. A buffer that is then empty keeps no memory.
 pub(crate) fn drop_front(alloc: Global, buffer: &mut Vec<u8>, n: usize)
     requires { n ≤ length buffer.old.items }
     ensures { buffer.new.items ≡ drop n buffer.old.items }
@@ -124,7 +125,7 @@ fn end_of(unread: &[u8]) -> End
     End::BrokenInput
 }
 
-/// How a line ends on which an answer stopped.
+/// How a line ends if an answer stopped on it.
 fn end_at(stop: Stop) -> End
     ensures { result ≡ end_by stop }
 {
@@ -134,7 +135,7 @@ fn end_at(stop: Stop) -> End
     }
 }
 
-/// One read of a line that is served, at which no answer waits to leave and no whole request is unread. Whether it goes
+/// One read of a line, if it is served, no answer waits to leave on it and no whole request is unread. Whether it goes
 /// on.
 pub(crate) fn read_line<P: Ports>(ports: &mut P, chunk: &mut [u8], line: &mut Line) -> bool
     requires room { least_room ≤ length chunk.old }
@@ -163,7 +164,7 @@ pub(crate) fn read_line<P: Ports>(ports: &mut P, chunk: &mut [u8], line: &mut Li
     true
 }
 
-/// One write of what waits to leave. Whether it goes on.
+/// One write of the answer that waits to leave. Whether the line goes on.
 pub(crate) fn write_line<P: Ports>(alloc: Global, ports: &mut P, line: &mut Line) -> bool
     requires waits { WaitsBelow line.old.unread.items line.old.wanted }
     ensures moved { Moved (P.seen ports.old) (P.seen ports.new) line.old line.new }
@@ -182,7 +183,7 @@ pub(crate) fn write_line<P: Ports>(alloc: Global, ports: &mut P, line: &mut Line
     }
 }
 
-/// How many bytes are wanted at least, where these are less than a request: one more than there are, or more.
+/// How many bytes a line must have before it is looked at again, if these are less than a request: at least one more.
 fn wanted_next(unread: &[u8], more: usize) -> usize
     requires waiting { StandsAtFront unread.now waits }
     requires below { WaitsBelow unread.now more }
@@ -195,8 +196,8 @@ fn wanted_next(unread: &[u8], more: usize) -> usize
     unread.len() + 1
 }
 
-/// Answers the request at the front of a line that is served, if it is whole and no answer waits there to leave. Then
-/// none is left that could be answered before more comes or the answer has left.
+/// Answers the request at the front of a line that is served, if it is whole and no answer waits to leave on it. After
+/// that nothing can be answered before more bytes come or the answer has left.
 pub(crate) fn serve_line<B: Books>(
     alloc: Global,
     routes: &Routes,
@@ -262,31 +263,42 @@ fn serve_if<B: Books>(
     }
 }
 
+/// What a turn of a line asks for beside a write of what waits to leave.
+#[derive(Clone, Copy, Debug)]
+pub(crate) struct Asked {
+    /// Whether more is read.
+    pub reads: bool,
+    /// Whether a request is answered.
+    pub serves: bool,
+}
+
 /// One turn of a line: a read and an answer, each if it is asked for, and a write of what waits to leave. How the line
 /// is to be closed, if it is.
 pub(crate) fn turn_line<P: Ports, B: Books>(
-    alloc: Global,
-    routes: &Routes,
-    room: &mut FieldRoom,
+    desk: &mut Desk,
     ports: &mut P,
-    chunk: &mut [u8],
     line: &mut Line,
-    reads: bool,
-    serves: bool,
+    asked: Asked,
     office: &mut Office<B>,
 ) -> Option<End>
-    requires room { least_room ≤ length chunk.old }
     requires waits { WaitsBelow line.old.unread.items line.old.wanted }
     ensures turned { Turned B.Books office.old.books office.new.books (P.seen ports.old) (P.seen ports.new) line.old
         line.new }
     ensures waits { WaitsBelow line.new.unread.items line.new.wanted }
     ensures may { IfSome result (λ end. MayClose line.new end) }
-    ensures kept { length chunk.new ≡ length chunk.old }
 {
-    if !read_if(reads, ports, chunk, line) {
+    let alloc = desk.alloc;
+    if !read_if(asked.reads, ports, desk.chunk.as_mut_slice(), line) {
         return Some(End::ReadFailed);
     }
-    serve_if(serves, alloc, routes, room, line, office);
+    serve_if(
+        asked.serves,
+        alloc,
+        &desk.routes,
+        &mut desk.room,
+        line,
+        office,
+    );
     if !write_line(alloc, ports, line) {
         return Some(End::WriteFailed);
     }

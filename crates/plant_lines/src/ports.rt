@@ -15,7 +15,7 @@ pub enum Ready {
     Readable(u64),
     /// It may take bytes.
     Writable(u64),
-    /// It is to be given up: it was silent too long, or took nothing of its answer.
+    /// It is to be given up: it was silent too long, or took nothing of its answer for too long.
     Expired(u64),
     /// Nothing.
     Nothing,
@@ -44,9 +44,8 @@ pub trait Ports {
     /// What happened at them, in order, or `None`, which claims nothing.
     ghost seen: { Self → Option (List Event) };
 
-    /// What can be done next, after waiting for it if it may wait: then no whole request is left on a line at which no
-    /// answer waits, so that a client that waits for an answer has it before more is asked of it. A connection is
-    /// accepted only if `accepts` says so.
+    /// What can be done next. It waits for that only if it may: then every whole request was answered, unless an
+    /// earlier answer still waits to leave on its line. A connection is accepted only if `accepts` says so.
     fn next(&mut self, lines: &[Line], accepts: bool, may_wait: bool) -> Ready
         requires prompt { may_wait ≡ true → ArePrompt lines.now }
         ensures { Logs (seen self.old) (seen self.new) [] };
@@ -64,7 +63,7 @@ pub trait Ports {
     fn put(&mut self, number: u64, bytes: &[u8]) -> Sent
         ensures { IsSent (seen self.old) (seen self.new) number bytes.now result };
 
-    /// Closes a connection, which ended so. What it was sent is to reach it, also where its client is still sending.
+    /// Closes a connection, which ended so. What it was sent is to reach its client, even one that is still sending.
     fn close(&mut self, number: u64, end: End)
         ensures { Logs (seen self.old) (seen self.new) (closed number end ∷ []) };
 }

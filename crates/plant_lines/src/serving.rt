@@ -1,23 +1,18 @@
-ghost use Rattle.std.specs.Prelude.{◌≡◌, ◌≤◌, ◌<◌, length, IfSome, remove, slice_get, Some, true, false};
+ghost use Rattle.std.specs.Prelude.{◌≡◌, ◌<◌, IfSome, length, remove, slice_get, Some, true, false};
 ghost use Rattle.std.specs.Bool.{OnTrue};
 ghost use Rattle.plant_books.specs.Books.{WasHonest};
-ghost use Rattle.plant_wire.specs.Limits.{least_room};
 ghost use Rattle.plant_lines.specs.declared.lines.Line.{Line};
 ghost use Rattle.plant_lines.specs.{Accounts.{AreServed}, Events.{seen_by}, Happens.{Happened, Passed}};
-ghost use Rattle.plant_lines.specs.{Prompt.{ArePrompt}, Stages.{AreLines, MayClose}};
+ghost use Rattle.plant_lines.specs.{Held.{IsHeld}, Prompt.{ArePrompt}, Stages.{AreLines, MayClose}};
 
-use crate::lines::{Line, turn_line};
+use crate::desk::Desk;
+use crate::lines::{Asked, Line, turn_line};
 use crate::ports::{Ports, Ready};
 use plant_connections::say_end;
-use plant_head::FieldRoom;
 use plant_office::{Books, Office};
-use plant_route::Routes;
 use plant_wire::End;
 use std::alloc::Global;
 use std::io::Write;
-
-/// The room that each read is offered, in bytes.
-const CHUNK: usize = 65536;
 
 /// Why fewer connections were served than were to be.
 #[derive(Clone, Copy, Debug, PartialEq, Eq)]
@@ -26,6 +21,16 @@ pub enum Halted {
     Memory,
     /// Nothing can be waited for any more, or 2^64 turns were made.
     Ports,
+}
+
+/// The lines of the connections that are open, of those that came.
+#[derive(Drop)]
+pub(crate) struct Held {
+    pub lines: Vec<Line>,
+    /// How many connections came.
+    pub count: u64,
+    /// How many are served in all.
+    pub n: u64,
 }
 
 /// The place of the line with this number.
@@ -38,65 +43,57 @@ fn place_of(lines: &[Line], number: u64) -> Option<usize>
     }
 }
 
-/// Closes a line, which ended so, and says it.
+/// Closes a line, which ended so, and writes that to the log.
 fn close_line<P: Ports, W: Write>(
     alloc: Global,
     ports: &mut P,
     log: &mut W,
-    lines: &mut Vec<Line>,
-    count: u64,
+    held: &mut Held,
     at: usize,
     end: End,
 )
-    requires within { at < length lines.old.items }
-    requires lines { AreLines count lines.old.items }
-    requires may { (line : Line) → slice_get lines.old.items at ≡ Some line → MayClose line end }
+    requires within { at < length held.old.lines.items }
+    requires held { IsHeld held.old }
+    requires may { (line : Line) → slice_get held.old.lines.items at ≡ Some line → MayClose line end }
     ensures passed { Passed (seen_by (P.seen ports.old) (W.contents log.old))
         (seen_by (P.seen ports.new) (W.contents log.new))
-        count count lines.old.items lines.new.items }
-    ensures lines { AreLines count lines.new.items }
-    ensures others { lines.new.items ≡ remove lines.old.items at }
+        held.old.count held.new.count held.old.lines.items held.new.lines.items }
+    ensures held { IsHeld held.new }
+    ensures same { held.new.n ≡ held.old.n }
+    ensures others { held.new.lines.items ≡ remove held.old.lines.items at }
 {
-    let number = lines[at].number;
+    let number = held.lines[at].number;
     ports.close(number, end);
     say_end(alloc, log, number + 1, end);
-    drop(lines.remove(at));
+    drop(held.lines.remove(at));
 }
 
 /// One turn of the line at this place, which is closed if it is over. Whether a request may be left on it that can be
 /// answered.
 fn turn_at<P: Ports, B: Books, W: Write>(
-    alloc: Global,
-    routes: &Routes,
-    room: &mut FieldRoom,
+    desk: &mut Desk,
     ports: &mut P,
     log: &mut W,
-    chunk: &mut [u8],
-    lines: &mut Vec<Line>,
-    count: u64,
+    held: &mut Held,
     at: usize,
-    reads: bool,
-    serves: bool,
+    asked: Asked,
     office: &mut Office<B>,
 ) -> bool
-    requires within { at < length lines.old.items }
-    requires room { least_room ≤ length chunk.old }
-    requires lines { AreLines count lines.old.items }
+    requires within { at < length held.old.lines.items }
+    requires held { IsHeld held.old }
     ensures happened { Happened B.Books office.old.books office.new.books
         (seen_by (P.seen ports.old) (W.contents log.old)) (seen_by (P.seen ports.new) (W.contents log.new))
-        count count lines.old.items lines.new.items }
-    ensures lines { AreLines count lines.new.items }
-    ensures prompt { ArePrompt lines.old.items → result ≡ false → ArePrompt lines.new.items }
-    ensures kept { length chunk.new ≡ length chunk.old }
+        held.old.count held.new.count held.old.lines.items held.new.lines.items }
+    ensures held { IsHeld held.new }
+    ensures same { held.new.n ≡ held.old.n }
+    ensures prompt { ArePrompt held.old.lines.items → result ≡ false → ArePrompt held.new.lines.items }
 {
-    let line = &mut lines[at];
-    if let Some(end) = turn_line(
-        alloc, routes, room, ports, chunk, line, reads, serves, office,
-    ) {
-        close_line(alloc, ports, log, lines, count, at, end);
+    let line = &mut held.lines[at];
+    if let Some(end) = turn_line(desk, ports, line, asked, office) {
+        close_line(desk.alloc, ports, log, held, at, end);
         return false;
     }
-    !lines[at].is_prompt()
+    !held.lines[at].is_prompt()
 }
 
 /// Gives up the line at this place, unless a request is left on it that can be answered.
@@ -104,50 +101,42 @@ fn give_up<P: Ports, W: Write>(
     alloc: Global,
     ports: &mut P,
     log: &mut W,
-    lines: &mut Vec<Line>,
-    count: u64,
+    held: &mut Held,
     at: usize,
 )
-    requires within { at < length lines.old.items }
-    requires lines { AreLines count lines.old.items }
+    requires within { at < length held.old.lines.items }
+    requires held { IsHeld held.old }
     ensures passed { Passed (seen_by (P.seen ports.old) (W.contents log.old))
         (seen_by (P.seen ports.new) (W.contents log.new))
-        count count lines.old.items lines.new.items }
-    ensures lines { AreLines count lines.new.items }
-    ensures prompt { ArePrompt lines.old.items → ArePrompt lines.new.items }
+        held.old.count held.new.count held.old.lines.items held.new.lines.items }
+    ensures held { IsHeld held.new }
+    ensures same { held.new.n ≡ held.old.n }
+    ensures prompt { ArePrompt held.old.lines.items → ArePrompt held.new.lines.items }
 {
-    if let Some(end) = lines[at].given_up() {
-        close_line(alloc, ports, log, lines, count, at, end);
+    if let Some(end) = held.lines[at].given_up() {
+        close_line(alloc, ports, log, held, at, end);
     }
 }
 
 /// Accepts a connection, and counts it.
-fn accept<P: Ports, W: Write>(
-    alloc: Global,
-    ports: &mut P,
-    log: &mut W,
-    lines: &mut Vec<Line>,
-    count: &mut u64,
-    n: u64,
-)
-    requires few { count.old ≤ n }
-    requires lines { AreLines count.old lines.old.items }
+fn accept<P: Ports, W: Write>(alloc: Global, ports: &mut P, log: &mut W, held: &mut Held)
+    requires { IsHeld held.old }
     ensures passed { Passed (seen_by (P.seen ports.old) (W.contents log.old))
         (seen_by (P.seen ports.new) (W.contents log.new))
-        count.old count.new lines.old.items lines.new.items }
-    ensures lines { AreLines count.new lines.new.items }
-    ensures prompt { ArePrompt lines.old.items → ArePrompt lines.new.items }
-    ensures few { count.new ≤ n }
+        held.old.count held.new.count held.old.lines.items held.new.lines.items }
+    ensures held { IsHeld held.new }
+    ensures same { held.new.n ≡ held.old.n }
+    ensures prompt { ArePrompt held.old.lines.items → ArePrompt held.new.lines.items }
 {
-    if *count == n {
+    let number = held.count;
+    if number == held.n {
         return;
     }
-    let number = *count;
     if !ports.accept(number) {
         return;
     }
-    *count = number + 1;
-    if lines.push(Line::new(alloc, number)).is_err() {
+    held.count = number + 1;
+    if held.lines.push(Line::new(alloc, number)).is_err() {
         ports.close(number, End::Fault);
         say_end(alloc, log, number + 1, End::Fault);
     }
@@ -155,82 +144,97 @@ fn accept<P: Ports, W: Write>(
 
 /// One turn of each line on which a request is left, from the last line to the first.
 fn serve_turn<P: Ports, B: Books, W: Write>(
-    alloc: Global,
-    routes: &Routes,
-    room: &mut FieldRoom,
+    desk: &mut Desk,
     ports: &mut P,
     log: &mut W,
-    chunk: &mut [u8],
-    lines: &mut Vec<Line>,
-    count: u64,
+    held: &mut Held,
     office: &mut Office<B>,
 )
-    requires room { least_room ≤ length chunk.old }
-    requires lines { AreLines count lines.old.items }
+    requires { IsHeld held.old }
     ensures happened { Happened B.Books office.old.books office.new.books
         (seen_by (P.seen ports.old) (W.contents log.old)) (seen_by (P.seen ports.new) (W.contents log.new))
-        count count lines.old.items lines.new.items }
-    ensures lines { AreLines count lines.new.items }
-    ensures kept { length chunk.new ≡ length chunk.old }
+        held.old.count held.new.count held.old.lines.items held.new.lines.items }
+    ensures held { IsHeld held.new }
+    ensures same { held.new.n ≡ held.old.n }
 {
-    let mut at = lines.len();
+    let answers = Asked {
+        reads: false,
+        serves: true,
+    };
+    let mut at = held.lines.len();
     'turn: while at > 0 {
         at -= 1;
-        if at < lines.len() {
-            let _ = turn_at(
-                alloc, routes, room, ports, log, chunk, lines, count, at, false, true, office,
-            );
+        if at < held.lines.len() {
+            let _ = turn_at(desk, ports, log, held, at, answers, office);
         }
     }
 }
 
-/// What one thing that is ready asks for. Its line is answered at once only if `serves` says so: where others wait for
-/// their turns, it waits with them. Whether a request may be left on it that can be answered.
-fn step<P: Ports, B: Books, W: Write>(
-    alloc: Global,
-    routes: &Routes,
-    room: &mut FieldRoom,
+/// One turn of the line with this number, if it is held. Whether a request may be left on it that can be answered.
+fn turn_of<P: Ports, B: Books, W: Write>(
+    desk: &mut Desk,
     ports: &mut P,
     log: &mut W,
-    chunk: &mut [u8],
-    lines: &mut Vec<Line>,
-    count: &mut u64,
-    n: u64,
+    held: &mut Held,
+    number: u64,
+    asked: Asked,
+    office: &mut Office<B>,
+) -> bool
+    requires { IsHeld held.old }
+    ensures happened { Happened B.Books office.old.books office.new.books
+        (seen_by (P.seen ports.old) (W.contents log.old)) (seen_by (P.seen ports.new) (W.contents log.new))
+        held.old.count held.new.count held.old.lines.items held.new.lines.items }
+    ensures held { IsHeld held.new }
+    ensures same { held.new.n ≡ held.old.n }
+    ensures prompt { ArePrompt held.old.lines.items → result ≡ false → ArePrompt held.new.lines.items }
+{
+    match place_of(&held.lines, number) {
+        Some(at) => turn_at(desk, ports, log, held, at, asked, office),
+        None => false,
+    }
+}
+
+/// Does what one thing that is ready asks for. Its line is answered at once only if `serves` says so: while others wait
+/// for their turns, it waits with them. Whether a request may be left on it that can be answered.
+fn step<P: Ports, B: Books, W: Write>(
+    desk: &mut Desk,
+    ports: &mut P,
+    log: &mut W,
+    held: &mut Held,
     ready: Ready,
     serves: bool,
     office: &mut Office<B>,
 ) -> bool
-    requires few { count.old ≤ n }
-    requires room { least_room ≤ length chunk.old }
-    requires lines { AreLines count.old lines.old.items }
+    requires { IsHeld held.old }
     ensures happened { Happened B.Books office.old.books office.new.books
         (seen_by (P.seen ports.old) (W.contents log.old)) (seen_by (P.seen ports.new) (W.contents log.new))
-        count.old count.new lines.old.items lines.new.items }
-    ensures lines { AreLines count.new lines.new.items }
-    ensures prompt { ArePrompt lines.old.items → result ≡ false → ArePrompt lines.new.items }
-    ensures few { count.new ≤ n }
-    ensures kept { length chunk.new ≡ length chunk.old }
+        held.old.count held.new.count held.old.lines.items held.new.lines.items }
+    ensures held { IsHeld held.new }
+    ensures same { held.new.n ≡ held.old.n }
+    ensures prompt { ArePrompt held.old.lines.items → result ≡ false → ArePrompt held.new.lines.items }
 {
     match ready {
         Ready::Came => {
-            accept(alloc, ports, log, lines, count, n);
+            accept(desk.alloc, ports, log, held);
             false
         }
-        Ready::Readable(number) => match place_of(lines, number) {
-            Some(at) => turn_at(
-                alloc, routes, room, ports, log, chunk, lines, *count, at, true, serves, office,
-            ),
-            None => false,
-        },
-        Ready::Writable(number) => match place_of(lines, number) {
-            Some(at) => turn_at(
-                alloc, routes, room, ports, log, chunk, lines, *count, at, false, serves, office,
-            ),
-            None => false,
-        },
+        Ready::Readable(number) => {
+            let asked = Asked {
+                reads: true,
+                serves,
+            };
+            turn_of(desk, ports, log, held, number, asked, office)
+        }
+        Ready::Writable(number) => {
+            let asked = Asked {
+                reads: false,
+                serves,
+            };
+            turn_of(desk, ports, log, held, number, asked, office)
+        }
         Ready::Expired(number) => {
-            if let Some(at) = place_of(lines, number) {
-                give_up(alloc, ports, log, lines, *count, at);
+            if let Some(at) = place_of(&held.lines, number) {
+                give_up(desk.alloc, ports, log, held, at);
             }
             false
         }
@@ -251,50 +255,38 @@ fn all_prompt(lines: &[Line], count: u64) -> bool
     true
 }
 
-/// One turn of all: what is ready, and, where requests are left, one answer of each line on which one is. Whether some
-/// are left.
+/// One turn of all lines: does what is ready, and, if requests are left, answers one of each line that has any. Whether
+/// some are left.
 fn turn<P: Ports, B: Books, W: Write>(
-    alloc: Global,
-    routes: &Routes,
-    room: &mut FieldRoom,
+    desk: &mut Desk,
     ports: &mut P,
     log: &mut W,
-    chunk: &mut [u8],
-    lines: &mut Vec<Line>,
-    count: &mut u64,
-    n: u64,
+    held: &mut Held,
     ready: Ready,
     busy: bool,
     office: &mut Office<B>,
 ) -> bool
-    requires few { count.old ≤ n }
-    requires room { least_room ≤ length chunk.old }
-    requires lines { AreLines count.old lines.old.items }
-    requires prompt { busy ≡ false → ArePrompt lines.old.items }
+    requires held { IsHeld held.old }
+    requires prompt { busy ≡ false → ArePrompt held.old.lines.items }
     ensures happened { Happened B.Books office.old.books office.new.books
         (seen_by (P.seen ports.old) (W.contents log.old)) (seen_by (P.seen ports.new) (W.contents log.new))
-        count.old count.new lines.old.items lines.new.items }
-    ensures lines { AreLines count.new lines.new.items }
-    ensures prompt { result ≡ false → ArePrompt lines.new.items }
-    ensures few { count.new ≤ n }
-    ensures kept { length chunk.new ≡ length chunk.old }
+        held.old.count held.new.count held.old.lines.items held.new.lines.items }
+    ensures held { IsHeld held.new }
+    ensures same { held.new.n ≡ held.old.n }
+    ensures prompt { result ≡ false → ArePrompt held.new.lines.items }
 {
-    let left = step(
-        alloc, routes, room, ports, log, chunk, lines, count, n, ready, !busy, office,
-    );
+    let left = step(desk, ports, log, held, ready, !busy, office);
     if !busy {
         return left;
     }
-    serve_turn(
-        alloc, routes, room, ports, log, chunk, lines, *count, office,
-    );
-    !all_prompt(lines, *count)
+    serve_turn(desk, ports, log, held, office);
+    !all_prompt(&held.lines, held.count)
 }
 
-/// Serves n connections, as many at once as the ports accept, and says of each how it ended. All calls, whatever their
-/// connection, are made one after another; each connection is sent the answers to its own requests, in their order, and
-/// no byte of an answer before its call was made; and what one connection sends changes nothing of another's but
-/// through the office.
+/// Serves n connections, as many at once as the ports accept, and writes to the log how each ended. All calls, whatever
+/// their connection, are made one after another; each connection is sent the answers to its own requests, in their
+/// order, and no byte of an answer before its call was made; and what one connection sends changes nothing of another's
+/// but through the office.
 pub fn serve_lines<P: Ports, B: Books, W: Write>(
     alloc: Global,
     ports: &mut P,
@@ -306,31 +298,21 @@ pub fn serve_lines<P: Ports, B: Books, W: Write>(
         (seen_by (P.seen ports.old) (W.contents log.old)) (seen_by (P.seen ports.new) (W.contents log.new)) n result }
     ensures honest { WasHonest B.is_honest office.old.books office.new.books }
 {
-    let Ok(routes) = Routes::new(alloc) else {
+    let Ok(mut desk) = Desk::new(alloc) else {
         return Err(Halted::Memory);
     };
-    let Ok(mut room) = FieldRoom::new(alloc) else {
-        return Err(Halted::Memory);
-    };
-    let Ok(mut bytes) = vec![in alloc; 0u8; CHUNK] else {
-        return Err(Halted::Memory);
-    };
-    let chunk = bytes.as_mut_slice();
-    let mut lines: Vec<Line> = Vec::new(alloc);
-    let mut count = 0;
+    let lines = Vec::new(alloc);
+    let mut held = Held { lines, count: 0, n };
     let mut busy = false;
     'turns: for _ in 0..u64::MAX {
-        if count == n && lines.is_empty() {
+        if held.count == n && held.lines.is_empty() {
             return Ok(());
         }
-        let ready = ports.next(&lines, count < n, !busy);
+        let ready = ports.next(&held.lines, held.count < n, !busy);
         if matches!(ready, Ready::Failed) {
             return Err(Halted::Ports);
         }
-        busy = turn(
-            alloc, &routes, &mut room, ports, log, chunk, &mut lines, &mut count, n, ready, busy,
-            office,
-        );
+        busy = turn(&mut desk, ports, log, &mut held, ready, busy, office);
     }
     Err(Halted::Ports)
 }

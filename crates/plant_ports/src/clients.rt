@@ -17,24 +17,24 @@ const READS_A_TURN: u32 = 4;
 /// At most how long each of them waits, in milliseconds.
 const LAST_WAIT: u64 = 1000;
 
-/// A connection that is held, or one whose client may still be sending after its last answer. Times are in milliseconds
+/// A connection that is held, or whose client may still be sending after its last answer. Times are in milliseconds
 /// since the port was opened.
 #[derive(Drop)]
 pub(crate) struct Client {
     stream: TcpStream,
     /// When it will have been silent for too long.
     pub until: u64,
-    /// By when the request that is coming is to be whole, if one is coming.
+    /// By when the request that is coming in must be whole, if one is.
     pub whole: Option<u64>,
-    /// Bytes may wait to be read, or the end.
+    /// Whether bytes, or its end, may wait to be read.
     pub readable: bool,
-    /// No more will come than what waits.
+    /// Whether nothing will come but what waits.
     closing: bool,
-    /// It may take bytes.
+    /// Whether it may take bytes.
     writable: bool,
-    /// It waits for its turn.
+    /// Whether it waits for its turn.
     pub queued: bool,
-    /// How many reads are still made of what comes after its last answer, if that was sent.
+    /// After its last answer: how many reads are still made of what it sends.
     pub lingers: Option<u32>,
 }
 
@@ -66,8 +66,7 @@ impl Client {
         }
     }
 
-    /// Reads so many bytes at most, once. Fewer than there is room for are all that waited, so that the next read would
-    /// only say so.
+    /// Reads at most so many bytes, once. If fewer came than there is room for, nothing more waits.
     pub fn take(&mut self, buf: &mut [u8], most: usize) -> Taken
         ensures { (k : ℕ) → IsTaken None None k buf.new result }
     {

@@ -16,27 +16,27 @@ const LISTENER: Token = Token(usize::MAX);
 /// How many events one wait may report.
 const EVENTS: usize = 256;
 
-/// After at most how many turns what has come since is asked for.
+/// After at most how many turns the system is asked for new events.
 const TURNS: u32 = 64;
 
 /// The longest wait, and how often deadlines are looked at, in milliseconds.
 const SECOND: u64 = 1000;
 
-/// If so long passes between two looks at the clock, the program was stopped, and no client's time went on: in
-/// milliseconds.
+/// If more time passes between two looks at the clock, in milliseconds, the program was stopped: all deadlines then
+/// move on by that time.
 const STOPPED: u64 = 3000;
 
-/// How often room is looked for, where all places are held and a client waits, in milliseconds.
+/// How often a client that can give up its place is looked for, in milliseconds, while another waits for one.
 const LOOK: u64 = 10;
 
 /// How many times the silence that is allowed a request may take from its first byte to its last.
 const REQUEST: u64 = 4;
 
-/// How many bytes of requests may be held of all connections together: 64 MiB. Above it only those connections are read
-/// whose request can be whole with a few bytes more, and the one that holds most.
+/// How many bytes of requests all connections together may hold: 64 MiB. Above that only two kinds of connections are
+/// read: those whose request can be whole with a few more bytes, and the one that holds most.
 const HELD: usize = 67_108_864;
 
-/// How many bytes a few are.
+/// How many bytes a connection may be read of above that.
 const FEW: usize = 4096;
 
 /// The room that each read of what comes after a last answer is offered, in bytes.
@@ -50,8 +50,8 @@ const LAST_WAITS: u32 = 25_600;
 pub struct Limits {
     /// How many connections are held at once.
     pub clients: usize,
-    /// How long a client may send nothing, or take nothing of its answer, in milliseconds.
-    pub idle: Option<u64>,
+    /// How long a client may send nothing, or take nothing of its answer.
+    pub idle: Option<Duration>,
 }
 
 /// The connections of a port of 127.0.0.1.
@@ -63,15 +63,15 @@ pub struct Sockets<'a> {
     listener: TcpListener,
     limits: Limits,
     clients: BTreeMap<u64, Client>,
-    /// Those that may go on, in the order of their turns.
+    /// Clients that may go on, in the order of their turns.
     ready: VecDeque<u64>,
-    /// Those that are to be given up.
+    /// Clients that are to be given up.
     expired: VecDeque<u64>,
     /// A connection that waits for a place.
     accepted: Option<TcpStream>,
-    /// Others may wait to be accepted.
+    /// Whether others may wait to be accepted.
     may_accept: bool,
-    /// Until when none is accepted, since the system refused it.
+    /// Until when none is accepted, after the system refused to.
     paused: u64,
     start: Instant,
     now: u64,
@@ -112,7 +112,7 @@ fn held_of(lines: &[Line]) -> usize {
     held
 }
 
-/// The line that holds most: it is always read, so that one can finish.
+/// The line that holds most. It is always read, so that at least one can finish.
 fn fullest(lines: &[Line]) -> Option<u64> {
     let mut most = 0;
     let mut number = None;
@@ -161,7 +161,7 @@ impl<'a> Sockets<'a> {
         self.listener.local_addr()
     }
 
-    /// Reads out what clients still send after their last answers, once the service is over: so these reach them.
+    /// Once the service is over: reads out what clients still send after their last answers, so that these reach them.
     pub fn finish(&mut self) {
         self.clients.retain(|_, client| client.lingers.is_some());
         for _ in 0..LAST_WAITS {
@@ -176,7 +176,7 @@ impl<'a> Sockets<'a> {
     /// When a client that was heard of now will have been silent for too long.
     fn until(&self) -> u64 {
         match self.limits.idle {
-            Some(idle) => self.now.saturating_add(idle),
+            Some(idle) => self.now.saturating_add(millis(idle)),
             None => u64::MAX,
         }
     }
@@ -184,7 +184,10 @@ impl<'a> Sockets<'a> {
     /// By when a request that begins now is to be whole.
     fn whole(&self) -> Option<u64> {
         match self.limits.idle {
-            Some(idle) => Some(self.now.saturating_add(idle.saturating_mul(REQUEST))),
+            Some(idle) => Some(
+                self.now
+                    .saturating_add(millis(idle).saturating_mul(REQUEST)),
+            ),
             None => None,
         }
     }
@@ -198,7 +201,8 @@ impl<'a> Sockets<'a> {
         }
     }
 
-    /// Marks what the last wait reported, and queues it. For what there is no memory now, there may be within a second.
+    /// Marks the clients that the last wait reported, and queues them. One that can't be queued, for lack of memory, is
+    /// queued when deadlines are looked at next.
     fn note_events(&mut self) {
         for event in &self.events {
             if event.token() == LISTENER {
@@ -254,7 +258,7 @@ impl<'a> Sockets<'a> {
         SECOND
     }
 
-    /// Accepts the next connection, if one waits. Whether one is at hand for which there is a place.
+    /// Accepts the next connection, if one waits. Whether there is one, and a place for it.
     fn has_next(&mut self, accepts: bool) -> bool {
         if self.accepted.is_none() && accepts && self.may_accept && self.paused <= self.now {
             match self.listener.accept() {
@@ -269,8 +273,8 @@ impl<'a> Sockets<'a> {
         accepts && self.accepted.is_some() && self.clients.len() < self.limits.clients
     }
 
-    /// Looks for connections whose time is over: silent ones, those that take nothing, and those that do not send their
-    /// request whole.
+    /// Looks for connections whose time is over: those that are silent, that take nothing of an answer, or that have
+    /// not sent their request whole.
     fn look_at_deadlines(&mut self, lines: &[Line]) {
         if self.now < self.check {
             return;
@@ -304,8 +308,8 @@ impl<'a> Sockets<'a> {
         });
     }
 
-    /// The connection that gives way where all places are held and a client waits: one that lingers is closed at once;
-    /// of the others it is the one that was silent longest with nothing unread and nothing to leave.
+    /// If all places are held and a client waits, the connection that gives its place up: the one that was silent
+    /// longest with nothing unread and nothing to leave. Connections that only linger are closed first.
     fn gives_way(&mut self, lines: &[Line]) -> Option<u64> {
         if self.accepted.is_none()
             || self.clients.len() < self.limits.clients
@@ -336,7 +340,7 @@ impl<'a> Sockets<'a> {
         number
     }
 
-    /// Whether more is held than may be.
+    /// Whether more bytes are held than may be.
     fn is_full(&mut self, lines: &[Line]) -> bool {
         if self.held <= HELD {
             return false;
@@ -345,7 +349,7 @@ impl<'a> Sockets<'a> {
         self.held > HELD
     }
 
-    /// The next of the queue that can go on. One that can't, but may yet, goes behind the others.
+    /// The next client of the queue that can go on. One that can't go on now, but may later, goes to the end.
     fn next_ready(&mut self, lines: &[Line]) -> Option<Ready> {
         let full = self.is_full(lines);
         let first = if full { fullest(lines) } else { None };

@@ -1,8 +1,9 @@
 -- A session, and the connections of a port, by what else is true of the office.
-use Rattle.std.proofs.Common.{ℕ, List, Bool, None, Option, Some, inl, inr}
+use Rattle.std.proofs.Common.{ℕ, List, Bool, true, false, None, Option, Some, inl, inr}
 use Rattle.plant_line.specs.declared.words.Service.{Service}
 use Rattle.plant_model.specs.declared.{call.Call.{Call}, reply.Answer.{Answer}}
-use Rattle.plant_server.specs.{Statuses.{HasServed, IsStreamed}, declared.statuses.ExitStatus.{ExitStatus}}
+use Rattle.plant_lines.specs.Accounts.{AreSent, Outcome}
+use Rattle.plant_server.specs.{Statuses.{AreOfPort, HasServed, IsStreamed, is_at_once}, declared.statuses.ExitStatus.{ExitStatus}}
 use Rattle.plant_wire.specs.{Session.{EndsAs, IsCutShort}, Step.{AnswersFront, ServesBroken, ServesPart}, declared.reads.End.{End}}
 use Rattle.plant_wire.specs.declared.reads.End.TheVariants.{BrokenInput, Closed, Fault, ReadFailed, WriteFailed}
 
@@ -30,6 +31,23 @@ module _ (ran also : List Call → List Answer → Type 0) (follows : (calls : L
   streamed : (r r' : Option (List ℕ)) (n : ExitStatus) → IsStreamed r r' o o' ran n → IsStreamed r r' o o' also n
   streamed r r' n (end, ended, (bytes, consumes, k), is) = (end, ended, (bytes, consumes, ends bytes r' ended end k), is)
 
+  sent : {n : ℕ} {r : Outcome} → AreSent ran n r → AreSent also n r
+  sent s = record {
+    events = s.events;
+    count = s.count;
+    held = s.held;
+    made = follows _ _ s.made;
+    answered = s.answered;
+    goes = s.goes;
+    ends = s.ends;
+    stops = s.stops;
+  }
+
+  port : (many : Bool) (service : Service) (n : ExitStatus) → AreOfPort many ran service n → AreOfPort many also service n
+  port false service n s =
+      record { result = s.result; reported = s.reported; calls = s.calls; answers = s.answers; made = follows _ _ s.made }
+  port true service n s = record { result = s.result; reported = s.reported; sent = sent s.sent }
+
   pub served : (service : Option Service) (r r' : Option (List ℕ)) (n : ExitStatus) → HasServed ran service r r' o o' n → HasServed also service r r' o o' n
   served None r r' n is = streamed r r' n is
-  served (Some service) r r' n (port, (calls, answers, is)) = (port, (calls, answers, follows calls answers is))
+  served (Some service) r r' n is = port (is_at_once service) service n is

@@ -29,8 +29,8 @@ pub record IsOutcomeIn (w : World) (calls : List Call) (answers : List Answer) (
   pub books : AreBooksOf content database
   pub outcome : IsOutcome w calls answers content
 
--- Whatever a crash leaves of this store is such books: each database that the engine may find again, and each state of its two
--- files, which therefore opens.
+-- Whatever a crash leaves of this store is such books: each database that the engine may find again, and each state of
+-- its two files, which therefore opens.
 pub record LeavesOutcomes {D : Type 0} {g : Ghosts D} (it : FileStore D g) (w : World) (calls : List Call) (answers : List Answer) : Type 0 where
   pub databases : (db : Trees) → recovers it db → IsOutcomeIn w calls answers db
   pub files : (image : Image) → (state it).may_leave image → ∥ HoldOutcome w calls answers image ∥₁

@@ -1,52 +1,71 @@
 -- The exit statuses of the program.
-use Rattle.std.specs.Prelude.{if◌then◌else◌, Bool, List, ℕ, ◌≡◌, ◌⊎◌, Err, None, Ok, Option, Result, Some}
+use Rattle.std.specs.Prelude.{if◌then◌else◌, Bool, true, false, nat_lt, List, ℕ, ◌≡◌, ◌⊎◌}
+use Rattle.std.specs.Prelude.{Err, None, Ok, Option, Result, Some}
 use Rattle.plant_model.specs.declared.{call.Call.{Call}, reply.Answer.{Answer}}
-use Rattle.plant_wire.specs.{Session.{IsSession}, declared.reads.End.{End, TheVariants.{BrokenInput, Closed, Fault, ReadFailed, WriteFailed}}}
+use Rattle.plant_wire.specs.{Session.{IsSession}, declared.reads.End.{End}}
+use Rattle.plant_wire.specs.declared.reads.End.TheVariants.{BrokenInput, Closed, Fault, ReadFailed, WriteFailed}
 use Rattle.plant_wire.specs.declared.streams.Failed.{Failed}
-use Rattle.plant_line.specs.declared.words.{LineError.{LineError, TheVariants.{Memory, NoDb, NotAPerson, Text}}, Service.{Service}, Task.{Task}}
+use Rattle.plant_line.specs.declared.words.{LineError.{LineError}, Service.{Service}, Task.{Task}}
+use Rattle.plant_line.specs.declared.words.LineError.TheVariants.{Memory, NoDb, NotAPerson, Text}
 use Rattle.plant_line.specs.declared.words.Task.TheVariants.{Migrate, Serve}
+use Rattle.plant_lines.specs.Accounts.{AreSent, Outcome}
+use Rattle.plant_lines.specs.declared.serving.Halted.TheVariants as halted
 use Rattle.plant_server.specs.declared.statuses.ExitStatus.{ExitStatus}
 use Rattle.plant_store.specs.declared.tables.StoreFault.{StoreFault}
-use Rattle.plant_server.specs.declared.statuses.ExitStatus.TheVariants as status
+use Rattle.plant_server.specs.declared.statuses.ExitStatus.TheVariants as statuses
 
 -- the number that the program exits with
 abbrev pub code : ExitStatus → ℕ
-code status.Done = 0
-code status.WrongLine = 2
-code status.NoBooks = 3
-code status.BrokenInput = 4
-code status.ReadFailed = 5
-code status.WriteFailed = 6
-code status.NoMemory = 7
-code status.NetFailed = 8
+code statuses.Done = 0
+code statuses.WrongLine = 2
+code statuses.NoBooks = 3
+code statuses.BrokenInput = 4
+code statuses.ReadFailed = 5
+code statuses.WriteFailed = 6
+code statuses.NoMemory = 7
+code statuses.NetFailed = 8
 
 -- how a session ended: done where all was answered
 abbrev pub status_of : End → ExitStatus
-status_of Closed = status.Done
-status_of BrokenInput = status.BrokenInput
-status_of ReadFailed = status.ReadFailed
-status_of WriteFailed = status.WriteFailed
-status_of Fault = status.NoMemory
+status_of Closed = statuses.Done
+status_of BrokenInput = statuses.BrokenInput
+status_of ReadFailed = statuses.ReadFailed
+status_of WriteFailed = statuses.WriteFailed
+status_of Fault = statuses.NoMemory
 
 -- why the words can't be followed: done where they ask for help
 abbrev pub status_of_line : LineError → ExitStatus
-status_of_line (Text text is_error) = if is_error then status.WrongLine else status.Done
-status_of_line NotAPerson = status.WrongLine
-status_of_line NoDb = status.WrongLine
-status_of_line Memory = status.NoMemory
+status_of_line (Text text is_error) = if is_error then statuses.WrongLine else statuses.Done
+status_of_line NotAPerson = statuses.WrongLine
+status_of_line NoDb = statuses.WrongLine
+status_of_line Memory = statuses.NoMemory
 
--- all connections were served, or listening or accepting failed
+-- one connection after the other: all were served, or listening or accepting failed
 abbrev pub served : Result (Unit {0}) Failed → ExitStatus
-served (Ok u) = status.Done
-served (Err e) = status.NetFailed
+served (Ok u) = statuses.Done
+served (Err e) = statuses.NetFailed
+
+-- many at once: all were served, or memory ran out before any, or the port failed
+abbrev pub served_at_once : Outcome → ExitStatus
+served_at_once (Ok u) = statuses.Done
+served_at_once (Err halted.Memory) = statuses.NoMemory
+served_at_once (Err halted.Ports) = statuses.NetFailed
 
 -- an older file was migrated, or not
 abbrev pub status_of_migration : Result (Unit {0}) StoreFault → ExitStatus
-status_of_migration (Ok u) = status.Done
-status_of_migration (Err e) = status.NoBooks
+status_of_migration (Ok u) = statuses.Done
+status_of_migration (Err e) = statuses.NoBooks
+
+-- what may be true of the office: of its calls, with their answers
+abbrev pub OfCalls : Type 1
+OfCalls = List Call → List Answer → Type 0
+
+-- what is known to be left to read, and to be written
+abbrev pub Bytes : Type 0
+Bytes = Option (List ℕ)
 
 -- One session over an inlet and an outlet, and its end: what was left to read and what was written, before and after.
-abbrev pub IsStreamed : Option (List ℕ) → Option (List ℕ) → Option (List ℕ) → Option (List ℕ) → (List Call → List Answer → Type 0) → ExitStatus → Type 0
+abbrev pub IsStreamed : Bytes → Bytes → Bytes → Bytes → OfCalls → ExitStatus → Type 0
 IsStreamed unread unread_after written written_after ran n =
     (end : End) × (ended : Bool) × IsSession unread unread_after ended written written_after ran end × (n ≡ status_of end)
 
@@ -54,29 +73,61 @@ IsStreamed unread unread_after written written_after ran n =
 abbrev pub Whatever : List Call → List Answer → Type 0
 Whatever calls answers = Unit {0}
 
--- the connections of a port were served, or not all of them
-abbrev pub IsOfPort : ExitStatus → Type 0
-IsOfPort n = (result : Result (Unit {0}) Failed) × (n ≡ served result)
+-- The connections of a port were served one after the other, or not all of them. Of those it says only what the office
+-- did for all of them together. How many there were is said by `serve_listener`; what came over a socket no contract
+-- knows.
+pub record AreInTurn (ran : OfCalls) (n : ExitStatus) : Type 0 where
+  pub result : Result (Unit {0}) Failed
+  pub reported : n ≡ served result
+  pub calls : List Call
+  pub answers : List Answer
+  pub made : ran calls answers
 
--- Over an office of which `ran` is true: one session ended, or the connections of a port were served. Of those it says only what the
--- office did for all of them together. How many there were is said by `serve_listener`; what came over a socket no contract knows.
-abbrev pub HasServed : (List Call → List Answer → Type 0) → Option Service → Option (List ℕ) → Option (List ℕ) → Option (List ℕ) → Option (List ℕ) → ExitStatus → Type 0
+-- They were served many at once, as many in all as the service asks for, or fewer where the port failed: of what
+-- happened at all of them the office's calls are one list, and each was sent the answers to its own requests.
+pub record AreAtOnce (ran : OfCalls) (service : Service) (n : ExitStatus) : Type 0 where
+  pub result : Outcome
+  pub reported : n ≡ served_at_once result
+  pub sent : AreSent ran service.connections result
+
+-- whether connections are served many at once
+abbrev pub is_at_once : Service → Bool
+is_at_once service = nat_lt 1 service.clients
+
+-- the connections of a port, many at once or not
+abbrev pub AreOfPort : Bool → OfCalls → Service → ExitStatus → Type 0
+AreOfPort false ran service n = AreInTurn ran n
+AreOfPort true ran service n = AreAtOnce ran service n
+
+-- Over an office of which `ran` is true: one session ended, or the connections of a port were served.
+abbrev pub HasServed : OfCalls → Option Service → Bytes → Bytes → Bytes → Bytes → ExitStatus → Type 0
 HasServed ran None unread unread_after written written_after n =
     IsStreamed unread unread_after written written_after ran n
-HasServed ran (Some service) unread unread_after written written_after n =
-    IsOfPort n × ((calls : List Call) × (answers : List Answer) × ran calls answers)
+HasServed ran (Some service) unread unread_after written written_after n = AreOfPort (is_at_once service) ran service n
 
 -- an older file was to be migrated
 abbrev pub IsOfMigration : ExitStatus → Type 0
 IsOfMigration n = (outcome : Result (Unit {0}) StoreFault) × (n ≡ status_of_migration outcome)
 
--- What a line's words ask for was done, or no books were opened for it. A migration reads no request; which files it is of is not
--- said here.
-abbrev pub IsFollowed : Task → Option (List ℕ) → Option (List ℕ) → Option (List ℕ) → Option (List ℕ) → ExitStatus → Type 0
+-- What a line's words ask for was done, or no books were opened for it. A migration reads no request; which files it is
+-- of is not said here.
+abbrev pub IsFollowed : Task → Bytes → Bytes → Bytes → Bytes → ExitStatus → Type 0
 IsFollowed (Serve db service) unread unread_after written written_after n =
-    (n ≡ status.NoBooks) ⊎ HasServed Whatever service unread unread_after written written_after n
+    (n ≡ statuses.NoBooks) ⊎ HasServed Whatever service unread unread_after written written_after n
 IsFollowed (Migrate old new) unread unread_after written written_after n = (unread_after ≡ unread) × IsOfMigration n
 
--- a number that the program exits with
-abbrev pub IsStatus : ℕ → Type 0
-IsStatus n = (s : ExitStatus) × (n ≡ code s)
+-- the words are refused, or ask for help, or what they ask for was done
+abbrev pub IsObeyed : Bytes → Bytes → Bytes → Bytes → ExitStatus → Type 0
+IsObeyed unread unread_after written written_after n =
+    ((e : LineError) × (n ≡ status_of_line e))
+    ⊎ ((task : Task) × IsFollowed task unread unread_after written written_after n)
+
+-- The program exits with this number: of its streams all that is said is that there are some over which this is so.
+pub record IsExit (number : ℕ) : Type 0 where
+  pub status : ExitStatus
+  pub unread : Bytes
+  pub unread_after : Bytes
+  pub written : Bytes
+  pub written_after : Bytes
+  pub obeyed : IsObeyed unread unread_after written written_after status
+  pub number_is : number ≡ code status

@@ -1,4 +1,5 @@
-ghost use Rattle.std.specs.{Duration.{as_nanos}, Prelude.{◌≡◌, ◌⊎◌, ◌+◌, ◌*◌, [], IfErr, IfOk, IfSome, IsSomeAnd, List, OnErr, OnOk, option_map}};
+ghost use Rattle.std.specs.{Duration.{as_nanos}, Prelude.{◌≡◌, ◌⊎◌, ◌+◌, ◌*◌, [], List, option_map}};
+ghost use Rattle.std.specs.Prelude.{IfErr, IfOk, IfSome, IsSomeAnd, OnErr, OnOk};
 ghost use Rattle.plant_books.specs.Books.{WasHonest};
 ghost use Rattle.plant_model.specs.declared.{call.Call.{Call}, reply.Answer.{Answer}};
 ghost use Rattle.sqlite_store.specs.FileStore.{view};
@@ -8,7 +9,9 @@ ghost use Rattle.plant_books.specs.Contents.{Content};
 ghost use Rattle.plant_model.specs.Worlds.{IsLegalWorld, World};
 ghost use Rattle.plant_office.specs.Served.{Holds};
 ghost use Rattle.plant_server.specs.{Crashes.{IsWhole, LeavesOutcomes}, Files.{HoldBooks}};
-ghost use Rattle.plant_server.specs.Statuses.{IsFollowed, IsOfMigration, IsOfPort, HasServed, IsStreamed, Whatever};
+ghost use Rattle.plant_lines.specs.Accounts.{AreSent};
+ghost use Rattle.plant_server.specs.Statuses.{AreOfPort, HasServed, IsExit, IsFollowed, IsObeyed, IsOfMigration};
+ghost use Rattle.plant_server.specs.Statuses.{IsStreamed, Whatever, is_at_once};
 ghost use Rattle.plant_server.specs.declared.statuses.ExitStatus.TheVariants.{NoBooks};
 ghost use Rattle.plant_wire.specs.Over.{RanOn};
 ghost use Rattle.plant_server.specs.Statuses as statuses;
@@ -21,8 +24,10 @@ use crate::sockets::Port;
 use crate::statuses::ExitStatus;
 use plant_connections::{Listener, end_name, say, serve_connections};
 use plant_line::{Line, LineError, Service, Task, line_of};
+use plant_lines::{Halted, serve_lines};
 use plant_mirror::{Copies, Mirror};
 use plant_office::{Books, Office};
+use plant_ports::{Limits, Sockets};
 use plant_store::{StoreFault, Tables};
 use plant_types::Person;
 use plant_types::limits::MAX_ROWS_AT_HAND;
@@ -32,6 +37,7 @@ use sqlite_disk::Disk;
 use std::alloc::Global;
 use std::convert::AsStr;
 use std::io::{Read, Write};
+use std::net::SocketAddr;
 use std::time::Duration;
 
 /// The status for the end of a session.
@@ -70,6 +76,20 @@ fn report_service(errors: &mut impl Write, outcome: Result<(), Failed>) -> ExitS
     }
 }
 
+/// Says if the port of many connections at once failed, and gives the status.
+fn report_at_once(errors: &mut impl Write, outcome: Result<(), Halted>) -> ExitStatus
+    ensures { result ≡ statuses.served_at_once outcome }
+{
+    match outcome {
+        Ok(()) => ExitStatus::Done,
+        Err(Halted::Memory) => ExitStatus::NoMemory,
+        Err(Halted::Ports) => {
+            say(errors, b"net: failed\n");
+            ExitStatus::NetFailed
+        }
+    }
+}
+
 /// Says why no books were opened, and gives the status.
 fn report_unopened(errors: &mut impl Write, fault: &StoreFault) -> ExitStatus
     ensures { result ≡ NoBooks }
@@ -99,12 +119,10 @@ fn serve_streams<B: Books, I: Inlet, O: Outlet, E: Write>(
 }
 
 /// Says on which address a port listens.
-fn say_address(alloc: Global, output: &mut impl Write, port: &Port) -> Result<(), Failed> {
-    let address = port.address()?;
+fn say_address(alloc: Global, output: &mut impl Write, address: SocketAddr) {
     if let Ok(line) = format!(in alloc; "listening on {address}\n") {
         say(output, line.as_bytes());
     }
-    Ok(())
 }
 
 /// How long a client may be silent.
@@ -134,8 +152,8 @@ fn serve_listener<L: Listener, B: Books, W: Write>(
     serve_connections(alloc, listener, service.connections, office, output)
 }
 
-/// Serves the connections of a port.
-fn serve_port<B: Books>(
+/// Serves the connections of a port, one after the other.
+fn serve_in_turn<B: Books>(
     rt: &HostRuntime,
     office: &mut Office<B>,
     service: Service,
@@ -144,25 +162,71 @@ fn serve_port<B: Books>(
     ensures { (calls : List Call) × (answers : List Answer)
         × RanOn B.Books office.old.books office.new.books calls answers }
 {
-    let alloc = rt.alloc();
     let mut port = Port::listen(rt, service.port, idle_time(service))?;
-    say_address(alloc, output, &port)?;
-    serve_listener(alloc, &mut port, office, service, output)
+    let address = port.address()?;
+    say_address(rt.alloc(), output, address);
+    serve_listener(rt.alloc(), &mut port, office, service, output)
 }
 
-/// Serves the connections of a port; the status says whether all of them were served.
-fn serve_all<B: Books>(
+/// What a port of many connections at once allows.
+fn limits_of(service: Service) -> Limits
+    ensures clients { result.clients ≡ service.clients }
+    ensures idle { option_map as_nanos result.idle ≡ option_map (λ s. s * 1_000_000_000) service.idle }
+{
+    Limits {
+        clients: service.clients as usize,
+        idle: idle_time(service),
+    }
+}
+
+/// Listens on the port of a service of many connections at once.
+fn listen(rt: &HostRuntime, service: Service) -> Result<(Sockets<'_>, SocketAddr), Failed> {
+    let limits = limits_of(service);
+    let sockets = Sockets::listen(rt, service.port, limits).map_err(|_| Failed)?;
+    let address = sockets.address().map_err(|_| Failed)?;
+    Ok((sockets, address))
+}
+
+/// Serves the connections of a port, many at once.
+fn serve_at_once<B: Books>(
+    rt: &HostRuntime,
+    office: &mut Office<B>,
+    service: Service,
+    output: &mut impl Write,
+) -> Result<(), Halted>
+    ensures { AreSent (RanOn B.Books office.old.books office.new.books) service.connections result }
+{
+    let Ok((mut sockets, address)) = listen(rt, service) else {
+        return Err(Halted::Ports);
+    };
+    say_address(rt.alloc(), output, address);
+    let outcome = serve_lines(
+        rt.alloc(),
+        &mut sockets,
+        service.connections,
+        office,
+        output,
+    );
+    sockets.finish();
+    outcome
+}
+
+/// Serves the connections of a port, many at once if the service asks for it; the status says whether all of them were
+/// served.
+fn serve_port<B: Books>(
     rt: &HostRuntime,
     office: &mut Office<B>,
     service: Service,
     output: &mut impl Write,
     errors: &mut impl Write,
 ) -> ExitStatus
-    ensures port { IsOfPort result }
-    ensures ran { (calls : List Call) × (answers : List Answer)
-        × RanOn B.Books office.old.books office.new.books calls answers }
+    ensures { AreOfPort (is_at_once service) (RanOn B.Books office.old.books office.new.books) service result }
 {
-    let outcome = serve_port(rt, office, service, output);
+    if service.clients > 1 {
+        let outcome = serve_at_once(rt, office, service, output);
+        return report_at_once(errors, outcome);
+    }
+    let outcome = serve_in_turn(rt, office, service, output);
     report_service(errors, outcome)
 }
 
@@ -181,7 +245,7 @@ fn serve_office<B: Books, I: Inlet, O: Outlet + Write, E: Write>(
 {
     match service {
         None => serve_streams(rt.alloc(), office, inlet, outlet, errors),
-        Some(service) => serve_all(rt, office, service, outlet, errors),
+        Some(service) => serve_port(rt, office, service, outlet, errors),
     }
 }
 
@@ -225,8 +289,8 @@ fn serve_at_hand<S: Alter + Drop, I: Inlet, O: Outlet + Write, E: Write>(
     (status, below)
 }
 
-/// Serves a port or the streams over these books, with rows at hand if there is memory for them, and gives the status and the
-/// books after it.
+/// Serves a port or the streams over these books, with rows at hand if there is memory for them, and gives the status
+/// and the books after it.
 fn serve_books<S: Alter + Drop, I: Inlet, O: Outlet + Write, E: Write>(
     rt: &HostRuntime,
     books: Tables<S>,
@@ -278,10 +342,10 @@ fn serve_opened<S: Alter + Drop, I: Inlet, O: Outlet + Write, E: Write>(
     }
 }
 
-/// Serves the books of a file, and gives the status and the store as serving left it. Where the file held the rows of a world,
-/// and the disk has returned what was written, whatever a crash now leaves of the files is books: those after all calls that were
-/// confirmed, or after these and one that was answered by a fault. The same is true at each moment of the serving, read as the end
-/// of the serving over a disk that fails from then on.
+/// Serves the books of a file, and gives the status and the store as serving left it. Where the file held the rows of a
+/// world, and the disk has returned what was written, whatever a crash now leaves of the files is books: those after
+/// all calls that were confirmed, or after these and one that was answered by a fault. The same is true at each moment
+/// of the serving, read as the end of the serving over a disk that fails from then on.
 pub fn serve_file<S: Start, I: Inlet, O: Outlet + Write, E: Write>(
     rt: &HostRuntime,
     path: &str,
@@ -312,8 +376,8 @@ pub fn serve_file<S: Start, I: Inlet, O: Outlet + Write, E: Write>(
     }
 }
 
-/// Closes the files that serving left, and says if the log stays beside the file. Where it does not, the file alone holds what a
-/// crash could leave before.
+/// Closes the files that serving left, and says if the log stays beside the file. Where it does not, the file alone
+/// holds what a crash could leave before.
 fn close_and_say<D: Disk + Drop>(store: FileStore<D>, errors: &mut impl Write)
     requires { IsClean (view store) → IsWhole store }
 {
@@ -443,12 +507,30 @@ fn report_line_error(
     }
 }
 
+/// Does what the words ask for, or says why they are refused, and gives the status.
+fn obey<S: AsStr, I: Inlet, O: Outlet + Write, E: Write>(
+    rt: &HostRuntime,
+    words: &[S],
+    inlet: &mut I,
+    outlet: &mut O,
+    errors: &mut E,
+) -> ExitStatus
+    ensures { IsObeyed (I.remaining inlet.old) (I.remaining inlet.new)
+        (O.written outlet.old) (O.written outlet.new) result }
+{
+    match line_of(rt.alloc(), words) {
+        Ok(line) => run(rt, line, inlet, outlet, errors),
+        Err(error) => report_line_error(outlet, errors, &error),
+    }
+}
+
 /// Does what the words ask for, the program's own name first, and answers the exit status: 0 where the input ended
 /// and every request was answered, where all connections of the port were served, where the older file was migrated,
 /// or for help; 2 where the command line is wrong; 3 where the file keeps no books of this administrator or can't be
 /// opened, or can't be migrated, or memory ran out as books were opened; 4, 5, 6 or 7 where the session over the
 /// streams ended by broken input, a failed read, a failed write, or for lack of memory, and 7 where memory ran out as
-/// the command line was read; 8 where listening on the port or accepting a connection failed.
+/// the command line was read or before any of many connections was accepted; 8 where listening on the port or accepting
+/// a connection failed.
 pub fn command<S: AsStr, I: Read + Drop, O: Write + Drop, E: Write + Drop>(
     rt: &HostRuntime,
     words: &[S],
@@ -456,13 +538,10 @@ pub fn command<S: AsStr, I: Read + Drop, O: Write + Drop, E: Write + Drop>(
     output: O,
     mut errors: E,
 ) -> u8
-    ensures { statuses.IsStatus result }
+    ensures { IsExit result }
 {
     let mut inlet = FromRead::new(input);
     let mut outlet = ToWrite::new(output);
-    let status = match line_of(rt.alloc(), words) {
-        Ok(line) => run(rt, line, &mut inlet, &mut outlet, &mut errors),
-        Err(error) => report_line_error(&mut outlet, &mut errors, &error),
-    };
+    let status = obey(rt, words, &mut inlet, &mut outlet, &mut errors);
     status.code()
 }

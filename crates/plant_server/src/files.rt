@@ -43,8 +43,8 @@ fn fault_of(error: &Error) -> StoreFault
 pub type NotOpened<S> = (StoreFault, Option<Leftover<FileFrom<S>>>);
 
 /// The database at this path. If there is none, a new one is made, with a checksum in each page in the form of SQLite's
-/// extension cksumvfs. A database that is there keeps its form. Where it is not opened, its files are not written over: a crash leaves
-/// of them what it could leave before, in the engine's words `LeavesFiles`.
+/// extension cksumvfs. A database that is there keeps its form. Where it is not opened, its files are not written over:
+/// a crash leaves of them what it could leave before, in the engine's words `LeavesFiles`.
 pub fn connect<S: Start>(
     rt: &HostRuntime,
     path: &str,
@@ -159,8 +159,8 @@ fn make_over<D: Disk + Drop>(
     }
 }
 
-/// Makes new books in a file that is not there, and closes it: whatever a crash leaves of it from then on holds them, also
-/// without the log.
+/// Makes new books in a file that is not there, and closes it: whatever a crash leaves of it from then on holds them,
+/// also without the log.
 fn make_whole(rt: &HostRuntime, path: &str, admin: Person) -> Result<Files<File>, StoreFault>
     ensures { IfOk result (λ files. AreClean ⟦<File as Disk>⟧ files.log files.db
         → HoldWholeBooks ⟦<File as Disk>⟧ files (no_units admin)) }
@@ -241,8 +241,8 @@ fn make_if_missing(rt: &HostRuntime, path: &str, admin: &Person) -> Result<(), S
 }
 
 /// The books of the file at this path, which is made where neither it nor its log is there. A start that is cut off
-/// leaves nothing of this name or a file that the next start opens. Where a file is not opened, its error has what is left of it: it
-/// was not written over.
+/// leaves nothing of this name or a file that the next start opens. Where a file is not opened, its error has what is
+/// left of it: it was not written over.
 pub fn in_file<S: Start>(
     rt: &HostRuntime,
     path: &str,

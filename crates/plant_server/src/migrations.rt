@@ -38,8 +38,8 @@ fn is_same_file(rt: &HostRuntime, path: &str, name: &str) -> Result<bool, StoreF
     }
 }
 
-/// Removes what a start or a migration that was cut off left of a new file. Where that is the older file itself, nothing
-/// is removed.
+/// Removes what a start or a migration that was cut off left of a new file. Where that is the older file itself,
+/// nothing is removed.
 fn clear(rt: &HostRuntime, old_path: &str, new: &NewNames) -> Result<(), StoreFault> {
     if is_same_file(rt, old_path, &new.file)? || is_same_file(rt, old_path, &new.log)? {
         return Err(STORE);
@@ -54,8 +54,8 @@ fn discard(rt: &HostRuntime, new: &NewNames) {
     let _ = remove(rt, &new.log);
 }
 
-/// Copies the tables of the older database to the new one, and hands the older one back. What the older tables had, the new
-/// books hold.
+/// Copies the tables of the older database to the new one, and hands the older one back. What the older tables had, the
+/// new books hold.
 fn copy_tables<N: Alter + Drop>(
     alloc: Global,
     old: Connection<FileStore<File>>,
@@ -74,7 +74,8 @@ fn copy_tables<N: Alter + Drop>(
     }
 }
 
-/// Makes the new file under this name, and hands the older database back. What the older tables had, the new books hold.
+/// Makes the new file under this name, and hands the older database back. What the older tables had, the new books
+/// hold.
 fn copy_to_file(
     rt: &HostRuntime,
     old: Connection<FileStore<File>>,
@@ -95,8 +96,8 @@ fn copy_to_file(
     }
 }
 
-/// Makes the new file under the name beside it, and hands the older database back. What the older tables had, the new books
-/// hold. Where it can't be made, nothing of it is left.
+/// Makes the new file under the name beside it, and hands the older database back. What the older tables had, the new
+/// books hold. Where it can't be made, nothing of it is left.
 fn make_new(
     rt: &HostRuntime,
     old: Connection<FileStore<File>>,
@@ -122,8 +123,8 @@ fn make_new(
     (old, made)
 }
 
-/// Closes the new file: whatever a crash leaves of it from then on holds the books, also without the log. Where closing fails,
-/// nothing of it is left.
+/// Closes the new file: whatever a crash leaves of it from then on holds the books, also without the log. Where closing
+/// fails, nothing of it is left.
 fn finish(
     rt: &HostRuntime,
     books: Tables<FileStore<File>>,
@@ -148,8 +149,8 @@ fn log_of(rt: &HostRuntime, path: &str) -> Result<String, StoreFault> {
     beside(rt, file.as_str(), "-wal")
 }
 
-/// Opens the older file and makes the new one from it. The older one is only read, and stays locked meanwhile. The engine
-/// makes a log if there is none; it is removed before the lock is given up.
+/// Opens the older file and makes the new one from it. The older one is only read, and stays locked meanwhile. The
+/// engine makes a log if there is none; it is removed before the lock is given up.
 fn make_from(
     rt: &HostRuntime,
     old_path: &str,

@@ -38,7 +38,7 @@ fn copy_log<D: Disk>(mut store: FileStore<D>) -> Result<Files<D>, (StoreError, F
     ensures { IfOk result (λ files. AreClean D.Disk files.log files.db
         → HoldCommitted D.Disk store files) }
 {
-    // By now nothing is uncommitted. Rolling back changes nothing; it tells the proof so.
+    // Nothing is uncommitted here. The rollback changes nothing, and gives the proof that fact.
     store.rollback();
     match store.checkpoint() {
         Ok(()) => Ok(store.close()),
@@ -46,8 +46,8 @@ fn copy_log<D: Disk>(mut store: FileStore<D>) -> Result<Files<D>, (StoreError, F
     }
 }
 
-/// Closes the files that serving left, with the log copied into the file; where that fails, the log stays beside the file. After
-/// success the file alone holds what a crash could leave before.
+/// Closes the files that serving left, with the log copied into the file; where that fails, the log stays beside the
+/// file. After success the file alone holds what a crash could leave before.
 pub fn close_left<D: Disk>(store: FileStore<D>) -> Result<Files<D>, (StoreError, FileStore<D>)>
     requires { IsClean (view store) → IsWhole store }
     ensures { (w : World) (calls : List Call) (answers : List Answer)
@@ -58,8 +58,8 @@ pub fn close_left<D: Disk>(store: FileStore<D>) -> Result<Files<D>, (StoreError,
     copy_log(store)
 }
 
-/// Closes the files of books, with the log copied into the file: whatever a crash leaves of them from then on holds the books, with
-/// the log and without it.
+/// Closes the files of books, with the log copied into the file: whatever a crash leaves of them from then on holds the
+/// books, with the log and without it.
 pub fn close_whole<D: Disk + Drop>(
     books: Tables<FileStore<D>>,
 ) -> Result<Files<D>, (StoreError, FileStore<D>)>

@@ -19,7 +19,8 @@ const LAST_WAIT: u64 = 1;
 /// The room that each of them is offered, in bytes.
 const LAST_ROOM: usize = 65536;
 
-/// Reads what is still sent and throws it away, until it ends, a read fails or waits too long, or `LAST_READS` were made.
+/// Reads what is still sent and throws it away, until it ends, a read fails or waits too long, or `LAST_READS` were
+/// made.
 fn read_out(reader: &mut impl Read) {
     let mut chunk = [0u8; LAST_ROOM];
     for _ in 0..LAST_READS {
@@ -108,8 +109,8 @@ impl Listener for Port {
         }
     }
 
-    /// Ends the sending side alone and reads out what the client still sends: to close a socket with bytes unread would break
-    /// the connection, and the client might lose the answers that are on their way.
+    /// Ends the sending side alone and reads out what the client still sends: to close a socket with bytes unread would
+    /// break the connection, and the client might lose the answers that are on their way.
     fn linger(requests: FromRead<TcpStream>, _answers: ToWrite<TcpStream>) {
         let mut stream = requests.into_reader();
         let wait = Some(Duration::from_secs(LAST_WAIT));

@@ -7,6 +7,10 @@ mod commands;
 #[cfg(test)]
 mod files;
 #[cfg(test)]
+mod many;
+#[cfg(test)]
 mod migrations;
+#[cfg(test)]
+mod ports;
 #[cfg(test)]
 mod sockets;

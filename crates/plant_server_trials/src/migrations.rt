@@ -258,6 +258,8 @@ fn migrates_to_no_file_that_is_there(rt: HostRuntime) {
         )
     );
     assert!(rt; is_free(&rt, &rt, "other.db"));
+    assert!(rt; fs::read(&rt, new).expect(&rt, "a file") == before);
+    assert!(rt; !fs::exists(&rt, "taken.db-wal").unwrap_or(true));
     remove(&rt, &rt, old);
     remove(&rt, &rt, new);
 }

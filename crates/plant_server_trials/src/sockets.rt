@@ -15,7 +15,7 @@ use std::process::Abort;
 use std::time::Duration;
 
 /// The exchanges of these texts.
-fn exchanges(rt: &(impl Abort + AllocGlobal), texts: &[&str]) -> Exchanges {
+pub(crate) fn exchanges(rt: &(impl Abort + AllocGlobal), texts: &[&str]) -> Exchanges {
     Exchanges::of(rt.alloc(), texts).expect(rt, "exchanges")
 }
 
@@ -27,7 +27,12 @@ fn listening(stop: &impl Abort, rt: &HostRuntime, idle: Option<Duration>) -> (Po
 }
 
 /// A client that has sent these bytes.
-fn client(stop: &impl Abort, rt: &HostRuntime, address: SocketAddr, bytes: &[u8]) -> TcpStream {
+pub(crate) fn client(
+    stop: &impl Abort,
+    rt: &HostRuntime,
+    address: SocketAddr,
+    bytes: &[u8],
+) -> TcpStream {
     let mut stream = TcpStream::connect(rt, address).expect(stop, "a connection");
     let patience = Some(Duration::from_secs(60));
     stream.set_write_timeout(patience).expect(stop, "a limit");
@@ -37,7 +42,7 @@ fn client(stop: &impl Abort, rt: &HostRuntime, address: SocketAddr, bytes: &[u8]
 }
 
 /// A client that has sent these bytes and sends no more.
-fn whole_client(
+pub(crate) fn whole_client(
     stop: &impl Abort,
     rt: &HostRuntime,
     address: SocketAddr,
@@ -49,7 +54,7 @@ fn whole_client(
 }
 
 /// What a client was answered.
-fn answers(stop: &impl Abort, alloc: Global, mut stream: TcpStream) -> Vec<u8> {
+pub(crate) fn answers(stop: &impl Abort, alloc: Global, mut stream: TcpStream) -> Vec<u8> {
     let mut bytes = Vec::new(alloc);
     stream.read_to_end(&mut bytes).expect(stop, "a read");
     bytes
@@ -84,7 +89,8 @@ fn answers_the_first_shelf_over_a_socket(rt: HostRuntime) {
 }
 
 /// The beginning of a request.
-const BEGUN: &[u8] = b"POST /units/U1/alarms/PT-101/timed-shelve HTTP/1.1\r\nX-Person: ann\r\n";
+pub(crate) const BEGUN: &[u8] =
+    b"POST /units/U1/alarms/PT-101/timed-shelve HTTP/1.1\r\nX-Person: ann\r\n";
 
 #[test]
 fn serves_three_though_the_second_hangs_up(rt: HostRuntime) {
@@ -212,6 +218,7 @@ fn needs_a_free_port(rt: HostRuntime) {
     let number = address.port();
     for (store, status, errors) in [
         ("", 8, "net: failed\n"),
+        (" --clients 2", 8, "net: failed\n"),
         (" --db no-folder/plant.db", 3, "store: fault\n"),
     ] {
         let refused = said_to(&rt, &rt, &line_for(&rt, usize::from(number), store));

@@ -8,7 +8,7 @@ use Rattle.sqlite.specs.State.{State, Shown}
 use Rattle.sqlite_keyed.proofs.ListLemmas.{map-map}
 use Rattle.sqlite_tied.proofs.RuleLemmas.{and_true}
 use Rattle.sqlite_value.specs.{Order.{Row, bytes, column}, declared.value.Value.TheVariants.{Text}}
-use Rattle.plant_books.specs.Contents.{Content, codes_held, is_held_by, is_held_in, mine_as, mine_unit, mine_units, rows_in}
+use Rattle.plant_books.specs.Contents.{Content, codes_held, is_held_by, is_held_in}
 use Rattle.plant_columns.specs.{Codes.{open_number_in}, Kept.{by_columns, is_of, kept}, Shape.{IsRowIn}, Shown.{columns}}
 use Rattle.plant_columns.specs.{Tables.{AreBooks, books_schema, grant_shape}, declared.tables.TableKind.TheVariants.{Grants}}
 use Rattle.plant_columns.proofs.public.{Kept.{all-sort, sort-filter}, Keys.{by_columns_total}, ShapeLaws.{good, open_number_back}}
@@ -48,7 +48,7 @@ above : {X : Type 0} (a : Name) (es : List (Name × X)) → T (below_all name_cm
 above a [] h = tt
 above a (e ∷ es) h = (less (name_cmp a e.0) (first _ _ h), above a es (second _ _ h))
 
-rising : {X : Type 0} (es : List (Name × X)) → T (is_sorted name_cmp es) → IsStrictlySortedBy name_cmp (map (λ e. e.0) es)
+pub rising : {X : Type 0} (es : List (Name × X)) → T (is_sorted name_cmp es) → IsStrictlySortedBy name_cmp (map (λ e. e.0) es)
 unfolding IsStrictlySortedBy
 rising [] h = tt
 rising (e ∷ es) h = (above e.0 es (first _ _ h), rising es (second _ _ h))
@@ -72,25 +72,6 @@ module _ (m : Content) (t : ℕ) (p : Name) where
       opened : (o : Option UnitRows) → is_held_in t p o ≡ (is_held_in t p o && is_some o)
       opened None = refl
       opened (Some rows) = sym (and_true _)
-
-  -- the units held, each with its roles
-  units_held : (us : List Name) → map (λ u. mine_as t p u (rows_in m u)) (filter_map (λ u. when (is_held_in t p (get m.units u)) u) us) ≡ filter_map (λ u. mine_unit t p u (get m.units u)) us
-  units_held [] = refl
-  units_held (u ∷ us) = by (get m.units u) refl (units_held us)
-    where
-      codes : List Name
-      codes = filter_map (λ u. when (is_held_in t p (get m.units u)) u) us
-
-      by : (o : Option UnitRows) → get m.units u ≡ o → map (λ u. mine_as t p u (rows_in m u)) codes ≡ filter_map (λ u. mine_unit t p u (get m.units u)) us
-          → map (λ u. mine_as t p u (rows_in m u)) (cons_option (when (is_held_in t p o) u) codes) ≡ cons_option (mine_unit t p u o) (filter_map (λ u. mine_unit t p u (get m.units u)) us)
-      by None e more = more
-      by (Some rows) e more = elim (is_held_in t p (Some rows)) as (λ b. map (λ u. mine_as t p u (rows_in m u)) (cons_option (when b u) codes) ≡ cons_option (when b (mine_as t p u rows)) (filter_map (λ u. mine_unit t p u (get m.units u)) us)) [
-        | true ↦ λ i. mine_as t p u (unwrap_or (e i) no_rows) ∷ more i
-        | false ↦ more
-      ]
-
-  pub mine_held : map (λ u. mine_as t p u (rows_in m u)) (codes_held m t p) ≡ mine_units m t p
-  mine_held = units_held (keys m.units)
 
   module _ (s : State) (k : HasContent s m) where
     abbrev units_standing : List Row → List Name

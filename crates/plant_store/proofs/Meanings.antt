@@ -1,5 +1,5 @@
 -- What each text means under the schema, found by running the resolver's meaning.
-use Rattle.std.{specs.Fmt.{digits}, proofs.Common.{◌≡◌, Ok, refl, List, ℕ, suc, [], ◌∷◌, drop, false, codes, length, map, pos, true, ◌-◌}}
+use Rattle.std.{specs.Fmt.{digits}, proofs.Common.{◌≡◌, Ok, refl, List, ℕ, suc, [], ◌∷◌, ◌++◌, drop, false, codes, length, map, pos, true, ◌-◌}}
 use Rattle.sqlite.specs.{Change.{created, indexed}, Collation.TheVariants.{Binary}, Command.{Command}}
 use Rattle.sqlite.specs.{Command.TheVariants.{Insert, Delete, Select, Update, CreateTable, CreateIndex}, Compile.{table_defined_by, index_defined_by}}
 use Rattle.sqlite.specs.{Listing.{understood, reads_listing}, Query.{Query, inner, end}, Schema.{Schema}, Source.TheVariants.{Values}, Table.{Table}}
@@ -8,7 +8,7 @@ use Rattle.sqlite_schema.specs.declared.schema.Column.{Column}
 use Rattle.sqlite_sql.specs.declared.ops.{BinaryOp.TheVariants.{Compare}, CompareOp.TheVariants.{Eq}}
 use Rattle.sqlite_tied.specs.Compute.{everything}
 use Rattle.sqlite_value.specs.{Keys.{ascending}, declared.{keys.Key.{Key}, value.Value.TheVariants.{Null, Int}}}
-use Rattle.plant_store.specs.Texts.{office_text, by_person_text, put_office_text, office_row_text, over_unit_text, over_grant_text, over_alarm_text, over_shelf_text, over_record_text, over_change_text, remove_grant_text, remove_shelf_text, own_grants_text, alarm_at_text, shelf_at_text, tags_of_text, shelf_tags_text, holdings_text, record_at_text, bands_at_text, cells_at_text, change_at_text, last_change_text, put_text, rows_text, table_text}
+use Rattle.plant_store.specs.Texts.{office_text, by_person_text, put_office_text, office_row_text, over_unit_text, over_alarm_text, over_record_text, over_change_text, remove_grant_text, remove_shelf_text, own_grants_text, alarm_at_text, shelf_at_text, shelf_tags_text, holdings_text, unit_lines_text, shelf_lines_text, record_at_text, bands_at_text, cells_at_text, change_at_text, last_change_text, put_text, rows_text, table_text}
 use Rattle.plant_columns.specs.{Kept.{plain_query}, Shape.{Shape, table_in}, declared.tables.TableKind.{TableKind, TheVariants.{Units}}}
 use Rattle.plant_columns.specs.Tables.{shape, office_table, unit_shape, grant_shape, alarm_shape, shelf_shape, band_shape, cell_shape, by_person}
 use Rattle.plant_columns.specs.Tables.{no_schema, books_schema, record_shape, change_shape, schema_with, table_count}
@@ -103,9 +103,6 @@ by_three = op2 (Compare Eq Binary) (col 1 1) (col 0 0) ∷ op2 (Compare Eq Binar
 abbrev pub over_unit_shows : List Term
 over_unit_shows = col 1 0 ∷ col 1 0 ∷ col 1 1 ∷ col 0 1 ∷ col 0 2 ∷ col 0 3 ∷ col 0 4 ∷ []
 
-abbrev pub over_grant_shows : List Term
-over_grant_shows = col 1 0 ∷ col 1 0 ∷ col 1 1 ∷ col 1 2 ∷ col 1 3 ∷ col 0 3 ∷ []
-
 -- where the key is the unit and a name or a number
 module _ {X K : Type 0} (s : Shape X K) where
   abbrev pub over_two_shows : List Term
@@ -123,17 +120,9 @@ pub over_unit : Updates unit_shape over_unit_text by_unit over_unit_shows
 unfolding understood everything
 over_unit = record { is = refl; plain = (refl, refl) }
 
-pub over_grant : Updates grant_shape over_grant_text by_three over_grant_shows
-unfolding understood everything
-over_grant = record { is = refl; plain = (refl, refl) }
-
 pub over_alarm : Updates alarm_shape over_alarm_text by_two (over_two_shows alarm_shape)
 unfolding understood everything
 over_alarm = record { is = refl; plain = (refl, refl) }
-
-pub over_shelf : Updates shelf_shape over_shelf_text by_two (over_two_shows shelf_shape)
-unfolding understood everything
-over_shelf = record { is = refl; plain = (refl, refl) }
 
 pub over_record : Updates record_shape over_record_text by_two (over_two_shows record_shape)
 unfolding understood everything
@@ -205,10 +194,6 @@ pub lists_change : Lists change_shape books_schema change_at_text by_two
 unfolding understood everything
 lists_change = record { is = refl; unlisted = refl; plain = (refl, refl) }
 
-pub tags_of : Asks books_schema tags_of_text (plain_query (inner 5 end) by_unit (col 1 2 ∷ []) (by_key alarm_shape)) (codes "tag" ∷ [])
-unfolding understood everything
-tags_of = record { is = refl; unlisted = refl; plain = (refl, refl) }
-
 pub shelf_tags : Asks books_schema shelf_tags_text (plain_query (inner 7 end) by_unit (col 1 2 ∷ []) (by_key shelf_shape)) (codes "tag" ∷ [])
 unfolding understood everything
 shelf_tags = record { is = refl; unlisted = refl; plain = (refl, refl) }
@@ -229,3 +214,24 @@ by_holder = op2 (Compare Eq Binary) (col 1 2) (col 0 0) ∷ []
 pub holdings : Asks books_schema holdings_text (plain_query (inner 3 end) by_holder (col 1 1 ∷ col 1 4 ∷ []) (by_key grant_shape)) (codes "unit" ∷ codes "end_s" ∷ [])
 unfolding understood everything
 holdings = record { is = refl; unlisted = refl; plain = (refl, refl) }
+
+-- rows of a table beside the grants of a person in their unit, by the keys of both
+abbrev pub joined_tests : List Term
+joined_tests = op2 (Compare Eq Binary) (col 2 1) (col 1 1) ∷ op2 (Compare Eq Binary) (col 1 2) (col 0 0) ∷ []
+
+abbrev pub joined_order : List ℕ → List (Term × Key)
+joined_order keys = by_key grant_shape ++ map (λ n. (col 2 n, ascending Binary)) (1 ∷ keys)
+
+abbrev pub grant_shows : List Term
+grant_shows = col 1 1 ∷ col 1 3 ∷ col 1 4 ∷ []
+
+abbrev pub grant_names : List (List ℕ)
+grant_names = codes "unit" ∷ codes "role_no" ∷ codes "end_s" ∷ []
+
+pub unit_lines : Asks books_schema unit_lines_text (plain_query (inner 3 (inner 1 end)) joined_tests (grant_shows ++ col 2 2 ∷ []) (joined_order [])) (grant_names ++ codes "last_s" ∷ [])
+unfolding understood everything
+unit_lines = record { is = refl; unlisted = refl; plain = (refl, refl) }
+
+pub shelf_lines : Asks books_schema shelf_lines_text (plain_query (inner 3 (inner 7 end)) joined_tests (grant_shows ++ terms 2 2 (drop 1 shelf_shape.columns)) (joined_order (2 ∷ []))) (grant_names ++ own_names shelf_shape)
+unfolding understood everything
+shelf_lines = record { is = refl; unlisted = refl; plain = (refl, refl) }

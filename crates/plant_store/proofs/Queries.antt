@@ -15,8 +15,8 @@ use Rattle.plant_columns.specs.declared.tables.TableKind.{TableKind, TheVariants
 use Rattle.plant_columns.specs.Tables.{AreBooks, KeyOf, RowOf, books_schema, shape, rows_seen, grant_shape, alarm_shape, shelf_shape, band_shape, cell_shape, record_shape, change_shape}
 use Rattle.plant_columns.proofs.public.{Keys.{equal_is}, ShapeLaws.{good, numbers}, Shapes.{finds_rows}}
 use Rattle.plant_store.specs.Statements.{Reads}
-use Rattle.plant_store.specs.Texts.{own_grants_text, alarm_at_text, shelf_at_text, tags_of_text, shelf_tags_text, record_at_text, bands_at_text, cells_at_text, change_at_text, rows_text}
-use Rattle.plant_store.proofs.Meanings.{by_key, by_unit, lists_alarm, lists_all, lists_bands, lists_cells, lists_change, lists_own_grants, lists_record, lists_shelf, shelf_tags, tags_of}
+use Rattle.plant_store.specs.Texts.{own_grants_text, alarm_at_text, shelf_at_text, shelf_tags_text, record_at_text, bands_at_text, cells_at_text, change_at_text, rows_text}
+use Rattle.plant_store.proofs.Meanings.{by_key, by_unit, lists_alarm, lists_all, lists_bands, lists_cells, lists_change, lists_own_grants, lists_record, lists_shelf, shelf_tags}
 use Rattle.plant_store.proofs.Reading.{reads_all, reads_some}
 
 pub if_ok : {A E : Type 0} {P Q : A → Type 0} (r : Result A E) → ((x : A) → P x → Q x) → IfOk r P → IfOk r Q
@@ -28,7 +28,7 @@ if_ok (Err e) f h = tt
 pub one_test : (v : Value) (u : List ℕ) → (equal Binary v (Text u) && true) ≡ is_eq (value_cmp v (Text u))
 one_test v u = and_true _ ∙ equal_is v (Text u) refl
 
-two_tests : (v w : Value) (u p : List ℕ) → (equal Binary v (Text u) && (equal Binary w (Text p) && true)) ≡ (is_eq (value_cmp v (Text u)) && is_eq (value_cmp w (Text p)))
+pub two_tests : (v w : Value) (u p : List ℕ) → (equal Binary v (Text u) && (equal Binary w (Text p) && true)) ≡ (is_eq (value_cmp v (Text u)) && is_eq (value_cmp w (Text p)))
 two_tests v w u p = ap₂ ◌&&◌ (equal_is v (Text u) refl) (one_test w p)
 
 number_tests : (v w : Value) (u : List ℕ) (n : ℕ) → (equal Binary v (Text u) && (equal Binary w (number n) && true)) ≡ (is_eq (value_cmp v (Text u)) && is_eq (value_cmp w (number n)))
@@ -98,9 +98,9 @@ change_read u n =
 
 -- ---- how many alarms and how many shelves a unit has
 
-pub alarms_counted : (u : Name) (old new : State) → AreBooks old.now → (rows : List Row) → Shown tags_of_text (Text u ∷ []) old new rows → length rows ≡ length (rows_seen u old.now.trees Alarms)
+pub alarms_counted : (u : Name) (old new : State) → AreBooks old.now → (rows : List Row) → Shown (rows_text Alarms) (Text u ∷ []) old new rows → length rows ≡ length (rows_seen u old.now.trees Alarms)
 alarms_counted u old new books rows h =
-    let found = finds_rows alarm_shape (good Alarms) books_schema tags_of_text by_unit _ (by_key alarm_shape) _ tags_of.is tags_of.unlisted tags_of.plain (Text u ∷ []) refl (is_of u) (λ r. one_test (column r 1) u)
+    let found = finds_rows alarm_shape (good Alarms) books_schema (rows_text Alarms) by_unit _ (by_key alarm_shape) _ (lists_all Alarms).is (lists_all Alarms).unlisted (lists_all Alarms).plain (Text u ∷ []) refl (is_of u) (λ r. one_test (column r 1) u)
     old new books.same_schema (books.tidy Alarms).apart rows h in
     ap length found ∙ length-map _ _ ∙ sym (length-map _ alarm_shape.read)
 

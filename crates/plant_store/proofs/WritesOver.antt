@@ -18,8 +18,8 @@ use Rattle.plant_columns.specs.Tables.{AreBooks, KeyOf, RowOf, alarm_shape, book
 use Rattle.plant_columns.proofs.public.{Family.{Edits, edits}, Keys.{agree_is, same_text, then_tied}, Laws.{passes, shows}}
 use Rattle.plant_columns.proofs.public.{ShapeLaws.{all_listed, good, listed, numbers}, Updated.{leaves, set_changes, sets_some}}
 use Rattle.plant_store.specs.{Changes.{Applies}, Statements.{changes_written}, Upgrading.{as_row}}
-use Rattle.plant_store.specs.Texts.{over_alarm_text, over_change_text, over_grant_text, over_record_text, over_shelf_text, over_unit_text}
-use Rattle.plant_store.proofs.Meanings.{Updates, by_three, by_two, by_unit, over_alarm, over_change, over_grant, over_grant_shows, over_record, over_shelf, over_unit, over_unit_shows}
+use Rattle.plant_store.specs.Texts.{over_alarm_text, over_change_text, over_record_text, over_unit_text}
+use Rattle.plant_store.proofs.Meanings.{Updates, by_two, by_unit, over_alarm, over_change, over_record, over_unit, over_unit_shows}
 use Rattle.plant_store.proofs.Queries.{if_ok}
 use Rattle.plant_store.proofs.Writes.{edited, edits_apply, free}
 
@@ -94,23 +94,6 @@ pub unit_over : PutsOver Units over_unit_text
 unfolding first_key
 unit_over = puts_over Units over_unit_text by_unit _ over_unit (λ u x id y. refl) unit_shown
 
--- ---- a grant
-
-grant_shown : (u : Name) (x : GrantRow) (id : Value) (v : Name) (y : GrantRow) → is_eq (by_columns (1 ∷ 2 ∷ 3 ∷ []) (row_in grant_shape id u x) (row_in grant_shape id v y)) ≡ true
-    → (shows 3 by_three over_grant_shows [] (Text u ∷ grant_shape.cells x) (row_in grant_shape id v y)).1 ≡ id ∷ row_in grant_shape id u x
-grant_shown u x id v y tie =
-    let roles = ordering_then (value_cmp (role x.role_no) (role y.role_no)) Equal in
-    let first = both_tie (value_cmp (Text u) (Text v)) (ordering_then (value_cmp (Text x.person) (Text y.person)) roles) tie in
-    let second = both_tie (value_cmp (Text x.person) (Text y.person)) roles first.1 in
-    let unit : v ≡ u = sym (same_text u v first.0) in
-    let person : y.person ≡ x.person = sym (same_text x.person y.person second.0) in
-    let n : role_no y.role_no ≡ role_no x.role_no = sym (same_number (role_no x.role_no) (role_no y.role_no) (both_tie (value_cmp (role x.role_no) (role y.role_no)) Equal second.1).0) in
-    λ i. id ∷ id ∷ Text (unit i) ∷ Text (person i) ∷ number (n i) ∷ open_number x.end_s ∷ []
-
-pub grant_over : PutsOver Grants over_grant_text
-unfolding first_key
-grant_over = puts_over Grants over_grant_text by_three _ over_grant (λ u x id y. refl) grant_shown
-
 -- ---- where the key is the unit and a name or a number
 
 two_shown : {X : Type 0} (cell : X → Value) → ((x y : X) → is_eq (value_cmp (cell x) (cell y)) ≡ true → cell x ≡ cell y) → (rest : X → Row)
@@ -132,12 +115,6 @@ tag_shown tag rest = two_shown (λ x. Text (tag x)) (λ x y tie. ap Text (same_t
 pub alarm_over : PutsOver Alarms over_alarm_text
 unfolding first_key
 alarm_over = puts_over Alarms over_alarm_text by_two _ over_alarm (λ u x id y. refl) (tag_shown alarm_tag (λ x. drop 1 (alarm_shape.cells x)))
-
--- ---- a shelf
-
-pub shelf_over : PutsOver Shelves over_shelf_text
-unfolding first_key
-shelf_over = puts_over Shelves over_shelf_text by_two _ over_shelf (λ u x id y. refl) (tag_shown shelf_tag (λ x. drop 1 (shelf_shape.cells x)))
 
 -- ---- a record
 

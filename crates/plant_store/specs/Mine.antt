@@ -1,10 +1,12 @@
--- A person's grants in all units.
-use Rattle.std.specs.{BTreeSet.{IsFromIterResult}, Prelude.{List, [], filter, map, ℕ, ◌∷◌}}
+-- A person's grants in all units: by themselves, beside the last moment of their unit, and beside the shelves of their unit.
+use Rattle.std.specs.{BTreeSet.{IsFromIterResult}, FinMap.{keys}, List.{slice_get}}
+use Rattle.std.specs.Prelude.{flat_map, Bool, List, None, Option, Some, [], filter, if◌then◌else◌, length, map, not, true, ℕ, ◌++◌, ◌-◌, ◌||◌, ◌∷◌, ◌≡◌}
 use Rattle.sqlite_value.specs.{Order.{Row}, declared.value.Value.TheVariants.{Text}}
-use Rattle.plant_columns.specs.Codes.{open_number}
-use Rattle.plant_model.specs.Grants.{is_before}
-use Rattle.plant_store.specs.declared.mine.Holding.{Holding}
-use Rattle.plant_types.specs.Names.{Name, name_cmp}
+use Rattle.plant_books.specs.{Contents.{Content, mine_row, rows_in}, declared.books.{MineRow.{MineRow}, MineUnit.{MineUnit}}}
+use Rattle.plant_columns.specs.{Codes.{number, open_number, role}, Tables.{shelf_shape}}
+use Rattle.plant_model.specs.{Grants.{is_before}, declared.rows.{GrantRow.{GrantRow}, ShelfRow.{ShelfRow}, UnitRow.{UnitRow}, UnitRows.{UnitRows}}}
+use Rattle.plant_store.specs.declared.{mine.{Holding.{Holding}, UnitLine.{UnitLine}}, shelves.ShelfLine.{ShelfLine}}
+use Rattle.plant_types.specs.{Names.{Name, name_cmp, same_name}, Roles.{same_role}}
 
 -- as the query shows a grant
 abbrev pub holding_cells : Holding → Row
@@ -13,3 +15,83 @@ holding_cells h = Text h.unit ∷ open_number h.end_s ∷ []
 -- the codes are those of the units of the grants that have not ended, each once, rising
 abbrev pub AreCodes : ℕ → List Holding → List Name → Type 0
 AreCodes t holdings codes = IsFromIterResult name_cmp (map (λ h. h.unit) (filter (λ h. is_before t h.end_s) holdings)) (record { keys = codes })
+
+-- each of these rows of a unit, beside each grant of the person there: unit by unit, and grant by grant
+abbrev pub lines_of : {X L : Type 0} → (Name → GrantRow → X → L) → (UnitRows → List X) → Content → Name → List L
+lines_of line these m p = flat_map (λ u. flat_map (λ g. map (line u g) (these (rows_in m u))) (filter (λ g. same_name p g.person) (rows_in m u).grants)) (keys m.units)
+
+-- ---- beside the last moment of their unit
+
+-- as the query shows a line
+abbrev pub unit_line_cells : UnitLine → Row
+unit_line_cells l = Text l.unit ∷ role l.role_no ∷ open_number l.end_s ∷ number l.last_s ∷ []
+
+abbrev pub unit_line : Name → GrantRow → UnitRow → UnitLine
+unit_line u g r = record { unit = u; role_no = g.role_no; end_s = g.end_s; last_s = r.last_s }
+
+abbrev pub unit_lines : Content → Name → List UnitLine
+unit_lines m p = lines_of unit_line (λ rows. rows.units) m p
+
+-- those of grants that have not ended
+abbrev pub standing_units : ℕ → List UnitLine → List UnitLine
+standing_units t lines = filter (λ l. is_before t l.end_s) lines
+
+-- the unit of one line, with its one role
+abbrev pub started : UnitLine → MineUnit
+started l = record { unit = l.unit; roles = l.role_no ∷ []; last = l.last_s }
+
+-- a unit before others: one with the first of them, if that is the same
+abbrev pub put_run : MineUnit → List MineUnit → List MineUnit
+put_run u [] = u ∷ []
+put_run u (v ∷ vs) = if same_name u.unit v.unit then (record { unit = u.unit; roles = u.roles ++ v.roles; last = u.last }) ∷ vs else u ∷ v ∷ vs
+
+-- each run of lines of one unit as one, with its roles
+abbrev pub runs_of : List UnitLine → List MineUnit
+runs_of [] = []
+runs_of (l ∷ ls) = put_run (started l) (runs_of ls)
+
+-- the same behind the unit that is still open
+abbrev pub runs_after : Option MineUnit → List UnitLine → List MineUnit
+runs_after None ls = runs_of ls
+runs_after (Some u) ls = put_run u (runs_of ls)
+
+-- a line is taken to the unit that is open, or to a new one: whatever lines are left, the units come out the same
+abbrev pub JoinsLine : List MineUnit → Option MineUnit → UnitLine → List MineUnit → MineUnit → Type 0
+JoinsLine units current line after next = (rest : List UnitLine) → after ++ runs_after (Some next) rest ≡ units ++ runs_after current (line ∷ rest)
+
+-- ---- beside the shelves of their unit
+
+-- as the query shows a line
+abbrev pub shelf_line_cells : ShelfLine → Row
+shelf_line_cells l = Text l.unit ∷ role l.role_no ∷ open_number l.end_s ∷ shelf_shape.cells l.shelf
+
+abbrev pub shelf_line : Name → GrantRow → ShelfRow → ShelfLine
+shelf_line u g s = record { unit = u; role_no = g.role_no; end_s = g.end_s; shelf = s }
+
+abbrev pub shelf_lines : Content → Name → List ShelfLine
+shelf_lines m p = lines_of shelf_line (λ rows. rows.shelves) m p
+
+-- those of grants that have not ended
+abbrev pub standing_shelves : ℕ → List ShelfLine → List ShelfLine
+standing_shelves t lines = filter (λ l. is_before t l.end_s) lines
+
+-- the line is the first of its unit, or one of the grant whose shelves are listed
+abbrev pub goes_on : Option ShelfLine → ShelfLine → Bool
+goes_on None l = true
+goes_on (Some last) l = not (same_name last.unit l.unit) || same_role last.role_no l.role_no
+
+-- after this one, the lines of one grant of each unit
+abbrev pub listed_after : Option ShelfLine → List ShelfLine → List ShelfLine
+listed_after last [] = []
+listed_after last (l ∷ ls) = if goes_on last l then l ∷ listed_after (Some l) ls else listed_after last ls
+
+abbrev pub last_of : List ShelfLine → Option ShelfLine
+last_of lines = slice_get lines (length lines - 1)
+
+-- a line is listed if it goes on: whatever lines are left, the list comes out the same
+abbrev pub ListsLine : List ShelfLine → ShelfLine → List ShelfLine → Type 0
+ListsLine listed line after = (rest : List ShelfLine) → after ++ listed_after (last_of after) rest ≡ listed ++ listed_after (last_of listed) (line ∷ rest)
+
+-- the shelf of a line with the moment at which its alarm last returned to normal
+abbrev pub with_return : Content → ShelfLine → MineRow
+with_return m l = mine_row l.unit (rows_in m l.unit) l.shelf

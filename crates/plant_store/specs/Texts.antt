@@ -33,14 +33,8 @@ office_row_text = codes "SELECT id, schema_no, admin FROM office"
 abbrev pub over_unit_text : List ℕ
 over_unit_text = codes "UPDATE units SET last_s = ?2, matrix_no = ?3, matrix_rev = ?4, quota = ?5 WHERE unit = ?1"
 
-abbrev pub over_grant_text : List ℕ
-over_grant_text = codes "UPDATE grants SET end_s = ?4 WHERE unit = ?1 AND person = ?2 AND role_no = ?3"
-
 abbrev pub over_alarm_text : List ℕ
 over_alarm_text = codes "UPDATE alarms SET latching = ?3, max_s = ?4, max_rev = ?5, state_no = ?6, suppressed = ?7, active_s = ?8, return_s = ?9, out_s = ?10, out_by = ?11, out_words = ?12 WHERE unit = ?1 AND tag = ?2"
-
-abbrev pub over_shelf_text : List ℕ
-over_shelf_text = codes "UPDATE shelves SET one_shot = ?3, start_s = ?4, until_s = ?5, person = ?6, words = ?7 WHERE unit = ?1 AND tag = ?2"
 
 abbrev pub over_record_text : List ℕ
 over_record_text = codes "UPDATE records SET change_no = ?3, rev = ?4, cell_no = ?5 WHERE unit = ?1 AND tag = ?2"
@@ -101,10 +95,7 @@ cells_at_text = codes "SELECT matrix_no, severity, band_no, cell_no FROM cells W
 abbrev pub change_at_text : List ℕ
 change_at_text = codes "SELECT number, proposer, proposed_s, kind_no, tag, base, cause, consequence, remedy, severity, response_s, max_s, state_no, decider, decided_s FROM changes WHERE unit = ?1 AND number = ?2 ORDER BY unit, number"
 
--- the tags of a unit's alarms and of its shelves, and the number of its last change
-abbrev pub tags_of_text : List ℕ
-tags_of_text = codes "SELECT tag FROM alarms WHERE unit = ?1 ORDER BY unit, tag"
-
+-- the tags of a unit's shelves, and the number of its last change
 abbrev pub shelf_tags_text : List ℕ
 shelf_tags_text = codes "SELECT tag FROM shelves WHERE unit = ?1 ORDER BY unit, tag"
 
@@ -114,6 +105,13 @@ last_change_text = codes "SELECT number FROM changes WHERE unit = ?1 ORDER BY un
 -- a person's grants in all units
 abbrev pub holdings_text : List ℕ
 holdings_text = codes "SELECT unit, end_s FROM grants WHERE person = ?1 ORDER BY unit, person, role_no"
+
+-- a person's grants in all units, beside the unit's last moment, and beside the unit's shelves
+abbrev pub unit_lines_text : List ℕ
+unit_lines_text = codes "SELECT grants.unit, grants.role_no, grants.end_s, units.last_s FROM grants INNER JOIN units ON units.unit = grants.unit WHERE grants.person = ?1 ORDER BY grants.unit, grants.person, grants.role_no, units.unit"
+
+abbrev pub shelf_lines_text : List ℕ
+shelf_lines_text = codes "SELECT grants.unit, grants.role_no, grants.end_s, shelves.tag, shelves.one_shot, shelves.start_s, shelves.until_s, shelves.person, shelves.words FROM grants INNER JOIN shelves ON shelves.unit = grants.unit WHERE grants.person = ?1 ORDER BY grants.unit, grants.person, grants.role_no, shelves.unit, shelves.tag"
 
 -- what is read of schema 1 alone: the codes of all units, and a unit's own row and its grants
 abbrev pub old_codes_text : List ℕ

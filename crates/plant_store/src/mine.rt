@@ -1,17 +1,16 @@
 //! The units in which a person holds roles.
 
-ghost use Rattle.std.specs.Prelude.{◌≡◌, ◌++◌, ◌∷◌, [], filter, map, IfOk, OnOk};
-ghost use Rattle.plant_books.specs.Contents.{codes_held, mine_as, mine_units as units_held, rows_in};
-ghost use Rattle.plant_model.specs.{RowFacts.{unit_read}, declared.rows.UnitRows.{UnitRows}};
-ghost use Rattle.plant_model.specs.Grants as grants;
-ghost use Rattle.plant_store.specs.Mine.{AreCodes, holding_cells};
+ghost use Rattle.std.specs.Prelude.{◌≡◌, ◌++◌, ◌∷◌, [], IfOk, OnOk};
+ghost use Rattle.plant_books.specs.Contents.{codes_held, mine_units as units_held};
+ghost use Rattle.plant_store.specs.Mine.{AreCodes, JoinsLine, holding_cells, runs_of, standing_units, started};
+ghost use Rattle.plant_store.specs.Mine.{unit_line_cells, unit_lines as unit_lines_in};
 ghost use Rattle.plant_store.specs.Reading.{HasNoTransaction, ReadsBooks, ReadsContent};
 
-use crate::read::{all_rows, own_grants, read_rows};
+use crate::read::read_rows;
 use plant_books::MineUnit;
-use plant_columns::decode::{Shown, open_moment, text};
+use plant_columns::decode::{Shown, coded, moment, open_moment, text};
 use plant_columns::encode::single;
-use plant_model::{GrantRow, UnitRow, is_before};
+use plant_model::is_before;
 use plant_types::{Duplicate, List, Moment, Person, Role, UnitCode};
 use sqlite::{Alter, Connection, Error, ErrorCode, Row};
 use std::alloc::Global;
@@ -95,51 +94,108 @@ pub fn held<S: Alter>(
     standing_codes(alloc, holdings, now)
 }
 
-/// The roles of the grants that have not ended.
-fn standing_roles(alloc: Global, own: List<GrantRow>, now: Moment) -> Result<List<Role>, Error>
-    ensures { IfOk result (λ roles. roles
-        ≡ map (λ g. g.role_no) (filter (λ g. grants.is_before now g.end_s) own)) }
-{
-    let roles = own
-        .into_vec()
-        .into_iter()
-        .filter(|grant| is_before(now, grant.end_s))
-        .map(|grant| grant.role_no)
-        .collect(alloc)?;
-    Ok(List::from_vec(roles))
+/// A grant of the person, beside its unit's last moment.
+#[derive(Drop)]
+pub struct UnitLine {
+    pub unit: UnitCode,
+    pub role_no: Role,
+    pub end_s: Option<Moment>,
+    pub last_s: Moment,
 }
 
-/// The unit's last moment.
-fn last_moment(units: &[UnitRow]) -> Moment
-    ensures { (rows : UnitRows) → rows.units ≡ units.now → result ≡ (unit_read rows).last_s }
-{
-    match units.first() {
-        Some(row) => row.last_s,
-        None => Moment::of_seconds(0).unwrap(),
+impl Shown for UnitLine {
+    ghost width = { 4 };
+
+    ghost cells = { unit_line_cells };
+
+    fn from_row(alloc: Global, row: &Row) -> Result<UnitLine, Error> {
+        Ok(UnitLine {
+            unit: text(alloc, row, 0)?,
+            role_no: coded(row, 1)?,
+            end_s: open_moment(row, 2)?,
+            last_s: moment(row, 3)?,
+        })
     }
 }
 
-/// The unit with the roles that the person holds there and its last moment.
-fn mine_unit<S: Alter>(
+/// The person's grants in all units, each beside its unit's last moment.
+#[tactic(auto, using(crate::proofs::Meanings::unit_lines, crate::proofs::ReadsOnly::reads_plain))]
+fn unit_lines<S: Alter>(
     alloc: Global,
     conn: &mut Connection<S>,
-    unit: &UnitCode,
     person: &Person,
-    now: Moment,
-) -> Result<MineUnit, Error>
+) -> Result<List<UnitLine>, Error>
     requires { HasNoTransaction conn.old }
     ensures mode { HasNoTransaction conn.new }
     ensures found { ReadsContent S.Store conn.old conn.new result
-        (λ m. mine_as now person.now unit.now (rows_in m unit.now)) }
+        (λ m. unit_lines_in m person.now) }
     ensures reads { ReadsBooks S.Store conn.old conn.new }
 {
-    let own = own_grants(alloc, conn, unit, person)?;
-    let units: List<UnitRow> = all_rows(alloc, conn, unit)?;
+    read_rows(
+        alloc,
+        conn,
+        "SELECT grants.unit, grants.role_no, grants.end_s, units.last_s FROM grants INNER JOIN units ON units.unit = grants.unit WHERE grants.person = ?1 ORDER BY grants.unit, grants.person, grants.role_no, units.unit",
+        &single(person),
+    )
+}
+
+/// A list of one role.
+fn one_role(alloc: Global, role_no: Role) -> Result<List<Role>, Error>
+    ensures { IfOk result (λ roles. roles ≡ role_no ∷ []) }
+{
+    let mut roles = List::new(alloc);
+    push(&mut roles, role_no)?;
+    Ok(roles)
+}
+
+/// The unit of a line, with its role.
+fn start(alloc: Global, line: &UnitLine) -> Result<MineUnit, Error>
+    ensures { IfOk result (λ u. u ≡ started line.now) }
+{
     Ok(MineUnit {
-        unit: copy_of(alloc, unit)?,
-        roles: standing_roles(alloc, own, now)?,
-        last: last_moment(units.as_slice()),
+        unit: copy_of(alloc, &line.unit)?,
+        roles: one_role(alloc, line.role_no)?,
+        last: line.last_s,
     })
+}
+
+/// Takes a line to the unit that is still open, or to a new one.
+#[tactic(auto, using(crate::proofs::MineLines::joins_run))]
+fn join(
+    alloc: Global,
+    units: &mut List<MineUnit>,
+    current: Option<MineUnit>,
+    line: &UnitLine,
+) -> Result<MineUnit, Error>
+    ensures { IfOk result (JoinsLine units.old current line.now units.new) }
+{
+    let Some(mut unit) = current else {
+        return start(alloc, line);
+    };
+    if unit.unit == line.unit {
+        push(&mut unit.roles, line.role_no)?;
+        return Ok(unit);
+    }
+    push(units, unit)?;
+    let next = start(alloc, line)?;
+    Ok(next)
+}
+
+/// The lines unit by unit, without those of grants that have ended.
+fn group(alloc: Global, lines: &[UnitLine], now: Moment) -> Result<List<MineUnit>, Error>
+    ensures { IfOk result (λ units. units ≡ runs_of (standing_units now lines.now)) }
+{
+    let mut units = List::new(alloc);
+    let mut current: Option<MineUnit> = None;
+    for line in lines {
+        if is_before(now, line.end_s) {
+            current = Some(join(alloc, &mut units, current, line)?);
+        }
+    }
+    if let Some(unit) = current {
+        push(&mut units, unit)?;
+    }
+    Ok(units)
 }
 
 /// The units in which the person holds a role at the moment, with the roles held.
@@ -155,11 +211,6 @@ pub fn mine_units<S: Alter>(
         (λ m. units_held m now person.now) }
     ensures reads { ReadsBooks S.Store conn.old conn.new }
 {
-    let codes = held(alloc, conn, person, now)?;
-    let mut mine = List::new(alloc);
-    for unit in codes.as_slice() {
-        let held = mine_unit(alloc, conn, unit, person, now)?;
-        push(&mut mine, held)?;
-    }
-    Ok(mine)
+    let lines = unit_lines(alloc, conn, person)?;
+    group(alloc, lines.as_slice(), now)
 }

@@ -8,7 +8,7 @@ ghost use Rattle.plant_store.specs.Reading.{Asks, CrashesAsShown, Decodes, HasNo
 use crate::stored::{Numbered, Stored, Tagged};
 use plant_columns::decode::{Shown, read_all, wide};
 use plant_columns::encode::{numbered, pair, single};
-use plant_model::GrantRow;
+use plant_model::{AlarmRow, GrantRow};
 use plant_types::{List, Person, Tag, UnitCode};
 use sqlite::types::ValueRef;
 use sqlite::{Alter, Connection, Error, Row};
@@ -116,19 +116,14 @@ pub fn own_grants<S: Alter>(
 }
 
 /// How many alarms the unit has.
-#[tactic(auto, using(crate::proofs::Meanings::tags_of, crate::proofs::ReadsOnly::reads_plain))]
 pub fn count_of_alarms<S: Alter>(conn: &mut Connection<S>, unit: &UnitCode) -> Result<u64, Error>
     requires { HasNoTransaction conn.old }
     ensures mode { HasNoTransaction conn.new }
     ensures rows { Loads S.Store conn.old conn.new (count_seen unit.now Alarms) result }
     ensures reads { ReadsBooks S.Store conn.old conn.new }
 {
-    let tags = ask(
-        conn,
-        "SELECT tag FROM alarms WHERE unit = ?1 ORDER BY unit, tag",
-        &single(unit),
-    )?;
-    Ok(tags.as_slice().len() as u64)
+    let alarms = ask(conn, AlarmRow::select(), &single(unit))?;
+    Ok(alarms.as_slice().len() as u64)
 }
 
 /// How many shelves the unit keeps.

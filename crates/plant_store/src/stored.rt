@@ -11,7 +11,7 @@ ghost use Rattle.plant_store.specs.{Keys.{has_key}, Statements.{ReadsNumber, Rea
 ghost use Rattle.plant_store.specs.Writing.{SameReference, StaysOpen, Updates, Writes};
 ghost use Rattle.plant_types.specs.Names.{Name};
 
-use crate::write::{run, run_counting};
+use crate::write::{remove_grant, remove_shelf, run, run_counting};
 use plant_alarm::Event;
 use plant_columns::decode::Shown;
 use plant_columns::encode::{
@@ -48,7 +48,7 @@ pub trait Stored: Shown {
         true
     }
 
-    /// Updates the row with the same key, and returns how many rows were written. Rows of some tables never change: 0.
+    /// Puts the row over the one with the same key, and returns how many rows were written. Rows of some tables never change: 0.
     #[tactic(auto, using(crate::proofs::Writes::applies_none))]
     fn update<S: Alter>(&self, tx: &mut Transaction<'_, S>, unit: &UnitCode) -> Result<usize, Error>
         ensures same_reference { SameReference tx.old tx.new }
@@ -136,11 +136,9 @@ impl Stored for GrantRow {
         tx: &mut Transaction<'_, S>,
         unit: &UnitCode,
     ) -> Result<usize, Error> {
-        run_counting(
-            tx,
-            "UPDATE grants SET end_s = ?4 WHERE unit = ?1 AND person = ?2 AND role_no = ?3",
-            &grant_cells(unit, self),
-        )
+        remove_grant(tx, unit, &self.person, self.role_no)?;
+        self.insert(tx, unit)?;
+        Ok(1)
     }
 
     #[tactic(auto, using(crate::proofs::StoredLaws::grant_new))]
@@ -220,12 +218,9 @@ impl Stored for ShelfRow {
         tx: &mut Transaction<'_, S>,
         unit: &UnitCode,
     ) -> Result<usize, Error> {
-        let until = wide(self.until_s)?;
-        run_counting(
-            tx,
-            "UPDATE shelves SET one_shot = ?3, start_s = ?4, until_s = ?5, person = ?6, words = ?7 WHERE unit = ?1 AND tag = ?2",
-            &shelf_cells(unit, self, until),
-        )
+        remove_shelf(tx, unit, &self.tag)?;
+        self.insert(tx, unit)?;
+        Ok(1)
     }
 
     #[tactic(auto, using(crate::proofs::StoredLaws::shelf_new))]

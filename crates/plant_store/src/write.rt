@@ -81,7 +81,7 @@ pub fn put<T: Stored, S: Alter>(
 }
 
 /// Removes a grant.
-fn remove_grant<S: Alter>(
+pub fn remove_grant<S: Alter>(
     tx: &mut Transaction<'_, S>,
     unit: &UnitCode,
     person: &Person,
@@ -101,7 +101,7 @@ fn remove_grant<S: Alter>(
 
 /// Removes a shelf.
 #[tactic(auto, using(crate::proofs::Writes::shelf_removed))]
-fn remove_shelf<S: Alter>(
+pub fn remove_shelf<S: Alter>(
     tx: &mut Transaction<'_, S>,
     unit: &UnitCode,
     tag: &Tag,

@@ -56,6 +56,18 @@ const OF_THE_UNIT: [Asked; 9] = [
     Asked::MineUnits,
 ];
 
+/// What reads a unit's matrix and its quota.
+const OF_THE_ROW: [Asked; 8] = [
+    Asked::Taken,
+    Asked::Rows,
+    Asked::Status,
+    Asked::Shelves,
+    Asked::Withdrawal,
+    Asked::Record,
+    Asked::Change,
+    Asked::Approval,
+];
+
 /// What reads the roles of `ann`.
 const OF_ROLES: [Asked; 8] = [
     Asked::Rows,
@@ -111,8 +123,8 @@ const OUTSIDE: [(&str, &[Asked]); 49] = [
     ("UPDATE units SET last_s = -1", &OF_THE_UNIT),
     ("UPDATE shelves SET start_s = 3155760000", &OF_SHELVES),
     // a matrix's number and revision
-    ("UPDATE units SET matrix_no = 4294967296", &OF_THE_UNIT),
-    ("UPDATE units SET matrix_rev = -1", &OF_THE_UNIT),
+    ("UPDATE units SET matrix_no = 4294967296", &OF_THE_ROW),
+    ("UPDATE units SET matrix_rev = -1", &OF_THE_ROW),
     (
         "UPDATE bands SET matrix_no = 4294967296 WHERE matrix_no = 0",
         &[Asked::Rows],
@@ -122,8 +134,8 @@ const OUTSIDE: [(&str, &[Asked]); 49] = [
         &[Asked::Rows],
     ),
     // a quota
-    ("UPDATE units SET quota = 0", &OF_THE_UNIT),
-    ("UPDATE units SET quota = 2001", &OF_THE_UNIT),
+    ("UPDATE units SET quota = 0", &OF_THE_ROW),
+    ("UPDATE units SET quota = 2001", &OF_THE_ROW),
     // a person's name
     (
         "UPDATE grants SET person = 'Ste' WHERE role_no = 6",

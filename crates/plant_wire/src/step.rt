@@ -2,7 +2,8 @@ ghost use Rattle.std.specs.Prelude.{◌≡◌, IfErr, List, ℕ};
 ghost use Rattle.plant_books.specs.Books.{WasHonest};
 ghost use Rattle.plant_answer.specs.Answers.{text_of};
 ghost use Rattle.plant_call.specs.Cut.{IsCutOf, WaitsBelow};
-ghost use Rattle.plant_wire.specs.{Over.{RanOn}, Step.{Stalls, IsPut, IsAnswer, IsStep, IsRest}};
+ghost use Rattle.plant_wire.specs.{Marks.{begun, said}, Over.{RanOn}, Step.{IsAnswer, IsPut, IsRest, IsStep, Stalls, StopsFor}};
+ghost use Rattle.plant_model.specs.declared.call.Call.{Call};
 ghost use Rattle.plant_model.specs.declared.reply.Answer.TheVariants as answers;
 ghost use Rattle.plant_wire.specs.Causes as spec;
 
@@ -83,6 +84,18 @@ fn put_answer<O: Outlet>(alloc: Global, outlet: &mut O, answer: &Answer) -> Resu
     }
 }
 
+/// Writes an answer, one that is a fault without memory too.
+fn put_said<O: Outlet>(alloc: Global, outlet: &mut O, answer: &Answer) -> Result<(), Stop>
+    ensures does { IsPut (O.written outlet.old) (O.written outlet.new) (text_of answer.now) result }
+    ensures stalls { Stalls (O.failures outlet.old) (O.failures outlet.new) result }
+    ensures why { (call : Call) → IfErr result (StopsFor (begun (said call answer.now))) }
+{
+    match answer {
+        Answer::Fault(fault) => put_fault(outlet, fault),
+        said => put_answer(alloc, outlet, said),
+    }
+}
+
 fn answer_call<O: Outlet, B: Books>(
     alloc: Global,
     outlet: &mut O,
@@ -95,10 +108,9 @@ fn answer_call<O: Outlet, B: Books>(
     ensures stalls { Stalls (O.failures outlet.old) (O.failures outlet.new) result }
 {
     let answer = office.serve(call);
-    match &answer {
-        Answer::Fault(fault) => put_fault(outlet, fault),
-        said => put_answer(alloc, outlet, said),
-    }
+    let put = put_said(alloc, outlet, &answer);
+    drop(answer);
+    put
 }
 
 /// Answers the request that was cut off the front, if one was. If none was, it is not whole with fewer than `wanted` bytes.

@@ -1,4 +1,4 @@
-use Rattle.std.proofs.Common.{ap, refl, take, sym, ◌∙◌, ◌≡◌, ◌++◌, Some, []}
+use Rattle.std.proofs.Common.{ap, refl, take, ◌∙◌, ◌≡◌, ◌++◌, Some}
 use Rattle.plant_call.proofs.public.Waiting.{waits_more}
 use Rattle.plant_wire.specs.declared.reads.End.TheVariants.{Fault, ReadFailed}
 use Rattle.plant_lines.specs.Stages.{ending, served, end_for}

@@ -1,4 +1,4 @@
-use Rattle.std.proofs.Common.{ap, refl, drop, sym, ◌∙◌, ◌≡◌, [], ◌++◌, Some, append-nil, inr}
+use Rattle.std.proofs.Common.{ap, refl, sym, ◌∙◌, ◌++◌, Some, append-nil, inr}
 use Rattle.plant_wire.specs.Marks.{mark_text}
 use Rattle.plant_wire.specs.declared.reads.End.TheVariants.{BrokenInput}
 use Rattle.plant_lines.specs.Stages.{ending, served}

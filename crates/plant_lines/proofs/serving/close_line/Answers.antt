@@ -4,23 +4,26 @@ use Rattle.plant_lines.proofs.serving.close_line.Goals as goal
 
 pub overflow_add-number : goal.overflow_add-number
 overflow_add-number g c =
-    let ls = c.args.lines.now.items in
+    let ls = c.args.held.now.lines.items in
     let is = slice_get_read ls (length ls) c.args.at c.index.result.now refl c.requires.within c.index.ensures in
-    let lt = below c.args.count ls c.args.at c.index.result.now c.requires.lines is in
-    omega (arith, lt, c.ranges.count)
+    let lt = below c.args.held.now.count ls c.args.at c.index.result.now c.requires.held.lines is in
+    omega (arith, lt)
 
 pub returns-clause-passed : goal.returns-clause-passed
 returns-clause-passed g c =
-    let ls = c.args.lines.now.items in
+    let ls = c.args.held.now.lines.items in
     let is = slice_get_read ls (length ls) c.args.at c.index.result.now refl c.requires.within c.index.ensures in
     rw c.remove.ensures.items
     (passed_closed (g.P.Ports.seen c.args.ports.now) (g.P.Ports.seen c.close.new.self) (g.W.Write.contents c.args.log.now)
     (g.W.Write.contents c.say_end.new.log)
-    c.args.count ls c.args.at c.index.result.now c.args.end c.requires.lines is (c.requires.may c.index.result.now is) c.close.ensures
+    c.args.held.now.count ls c.args.at c.index.result.now c.args.end c.requires.held.lines is (c.requires.may c.index.result.now is) c.close.ensures
     c.say_end.ensures)
 
-pub returns-clause-lines : goal.returns-clause-lines
-returns-clause-lines g c =
-    let ls = c.args.lines.now.items in
+pub returns-clause-held : goal.returns-clause-held
+returns-clause-held g c =
+    let ls = c.args.held.now.lines.items in
     let is = slice_get_read ls (length ls) c.args.at c.index.result.now refl c.requires.within c.index.ensures in
-    rw c.remove.ensures.items (remove_lines c.args.count ls c.args.at c.index.result.now c.requires.lines is)
+    record {
+      lines = rw c.remove.ensures.items (remove_lines c.args.held.now.count ls c.args.at c.index.result.now c.requires.held.lines is);
+      few = c.requires.held.few;
+    }

@@ -5,11 +5,12 @@ use Rattle.plant_lines.proofs.serving.give_up.Goals as goal
 
 pub close_line-requires-clause-may : goal.close_line-requires-clause-may
 close_line-requires-clause-may g c line is =
-    let ls = c.args.lines.now.items in
-    let waits = waits_at c.args.count ls c.args.at c.index.result.now c.requires.lines
+    let ls = c.args.held.now.lines.items in
+    let waits = waits_at c.args.held.now.count ls c.args.at c.index.result.now c.requires.held.lines
     (slice_get_read ls (length ls) c.args.at c.index.result.now refl c.requires.within c.index.ensures) in
-    subst (λ (t : Line). MayClose t c.in-Some.end) (read_one c.args.lines.now.items c.args.at c.index.result.now line is c.index.ensures)
+    subst (λ (t : Line). MayClose t c.in-Some.end) (read_one ls c.args.at c.index.result.now line is c.index.ensures)
     (c.in-Some.ensures waits)
 
 pub returns-in-Some-clause-prompt : goal.returns-in-Some-clause-prompt
-returns-in-Some-clause-prompt g c are = subst ArePrompt (sym c.close_line.ensures.others) (prompt_removed c.args.lines.now.items c.args.at are)
+returns-in-Some-clause-prompt g c are =
+    subst ArePrompt (sym c.close_line.ensures.others) (prompt_removed c.args.held.now.lines.items c.args.at are)

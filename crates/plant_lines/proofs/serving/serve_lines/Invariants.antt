@@ -1,12 +1,12 @@
-use Rattle.std.proofs.Common.{[], false, length, ◌≡◌, ◌≤◌}
-use Rattle.plant_lines.specs.{Events.{seen_by}, Happens.{Happened}, Prompt.{ArePrompt}, Stages.{AreLines}}
+use Rattle.std.proofs.Common.{[], false, ◌≡◌}
+use Rattle.plant_lines.specs.{Events.{seen_by}, Happens.{Happened}, Held.{IsHeld}, Prompt.{ArePrompt}}
 use Rattle.plant_lines.proofs.serving.serve_lines.Given as goal
 
 abbrev pub invariant-turns : goal.invariant-turns
 invariant-turns g l = record {
   happened : Happened g.B.Books l.fn.office.books l.office.books (seen_by (g.P.Ports.seen l.fn.ports) (g.W.Write.contents l.fn.log))
-      (seen_by (g.P.Ports.seen l.ports) (g.W.Write.contents l.log)) 0 l.count [] l.lines.items;
-  lines : AreLines l.count l.lines.items;
-  prompt : l.busy ≡ false → ArePrompt l.lines.items;
-  few : l.count ≤ l.n;
+      (seen_by (g.P.Ports.seen l.ports) (g.W.Write.contents l.log)) 0 l.held.count [] l.held.lines.items;
+  held : IsHeld l.held;
+  same : l.held.n ≡ l.n;
+  prompt : l.busy ≡ false → ArePrompt l.held.lines.items;
 }

@@ -1,13 +1,13 @@
-use Rattle.std.proofs.Common.{length, ◌≡◌}
-use Rattle.plant_lines.specs.{Events.{seen_by}, Happens.{Happened}, Stages.{AreLines}}
+use Rattle.std.proofs.Common.{◌≡◌}
+use Rattle.plant_lines.specs.{Events.{seen_by}, Happens.{Happened}, Held.{IsHeld}}
 use Rattle.plant_lines.proofs.serving.serve_turn.Given as goal
 
 abbrev pub invariant-turn : goal.invariant-turn
 invariant-turn g l = record {
   happened : Happened g.B.Books l.fn.office.books l.office.books (seen_by (g.P.Ports.seen l.fn.ports) (g.W.Write.contents l.fn.log))
-      (seen_by (g.P.Ports.seen l.ports) (g.W.Write.contents l.log)) l.count l.count l.fn.lines.items l.lines.items;
-  lines : AreLines l.count l.lines.items;
-  kept : length l.chunk ≡ length l.fn.chunk;
+      (seen_by (g.P.Ports.seen l.ports) (g.W.Write.contents l.log)) l.fn.held.count l.held.count l.fn.held.lines.items l.held.lines.items;
+  held : IsHeld l.held;
+  same : l.held.n ≡ l.fn.held.n;
 }
 
 abbrev pub decreases-turn : goal.decreases-turn

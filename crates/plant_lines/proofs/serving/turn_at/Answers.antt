@@ -1,63 +1,68 @@
 use Rattle.std.proofs.{Common.{refl, length, slice_set, subst, sym}, lemmas.Option.{slice_get_read}}
 use Rattle.plant_call.specs.Cut.{WaitsBelow}
-use Rattle.plant_lines.specs.{Events.{seen_by}, Prompt.{ArePrompt, IsPrompt}, Stages.{MayClose}, declared.lines.Line.{Line}}
+use Rattle.plant_lines.specs.{Prompt.{ArePrompt, IsPrompt}, declared.lines.Line.{Line}}
 use Rattle.plant_lines.proofs.{Handled.{happened_line}, Held.{prompt_closed, prompt_set, read_one, set_got, set_lines, waits_at}}
 use Rattle.plant_lines.proofs.{Leading.{happened_passed, happened_then}, Waits.{not_false, on_true}}
 use Rattle.plant_lines.proofs.serving.turn_at.Goals as goal
 
-pub turn_line-requires-clause-waits : goal.turn_line-requires-clause-waits
-turn_line-requires-clause-waits g c =
-    let ls = c.args.lines.now.items in
-    waits_at c.args.count ls c.args.at c.index_mut-line.result.now c.requires.lines
-    (slice_get_read ls (length ls) c.args.at c.index_mut-line.result.now refl c.requires.within c.index_mut-line.ensures.value)
-
-pub close_line-requires-clause-lines : goal.close_line-requires-clause-lines
-close_line-requires-clause-lines g c =
-    let ls = c.args.lines.now.items in
+pub turn_line-requires : goal.turn_line-requires
+turn_line-requires g c =
+    let ls = c.args.held.now.lines.items in
     let l = c.index_mut-line.result.now in
     let is = slice_get_read ls (length ls) c.args.at l refl c.requires.within c.index_mut-line.ensures.value in
-    set_lines c.args.count ls c.args.at l c.turn_line.new.line c.requires.lines is c.turn_line.ensures.turned.went.same c.turn_line.ensures.waits
+    record { waits = waits_at c.args.held.now.count ls c.args.at l c.requires.held.lines is }
+
+pub close_line-requires-clause-held : goal.close_line-requires-clause-held
+close_line-requires-clause-held g c =
+    let ls = c.args.held.now.lines.items in
+    let l = c.index_mut-line.result.now in
+    let is = slice_get_read ls (length ls) c.args.at l refl c.requires.within c.index_mut-line.ensures.value in
+    record {
+      lines =
+          set_lines c.args.held.now.count ls c.args.at l c.turn_line.new.line c.requires.held.lines is c.turn_line.ensures.turned.went.same
+          c.turn_line.ensures.waits;
+      few = c.requires.held.few;
+    }
 
 pub returns-in-Some-clause-happened : goal.returns-in-Some-clause-happened
 returns-in-Some-clause-happened g c =
-    let ls = c.args.lines.now.items in
+    let ls = c.args.held.now.lines.items in
     let l = c.index_mut-line.result.now in
     let is = slice_get_read ls (length ls) c.args.at l refl c.requires.within c.index_mut-line.ensures.value in
-    let s = g.P.Ports.seen c.args.ports.now in
-    let t = g.P.Ports.seen c.turn_line.new.ports in
-    let log = g.W.Write.contents c.args.log.now in
-    let x = c.args.office.now.books in
-    let y = c.turn_line.new.office.books in
-    let last = seen_by (g.P.Ports.seen c.close_line.new.ports) (g.W.Write.contents c.close_line.new.log) in
-    happened_then g.B.Books x y y (seen_by s log) (seen_by t log) last c.args.count c.args.count c.args.count
-    ls (slice_set ls c.args.at c.turn_line.new.line) c.close_line.new.lines.items
-    (happened_line g.B.Books x y s t log c.args.count ls c.args.at l c.turn_line.new.line c.requires.lines is c.turn_line.ensures.turned)
-    (happened_passed g.B.Books y (seen_by t log) last c.args.count c.args.count (slice_set ls c.args.at c.turn_line.new.line)
-    c.close_line.new.lines.items c.close_line.ensures.passed)
+    happened_then
+    (happened_line g.B.Books c.args.office.now.books c.turn_line.new.office.books (g.P.Ports.seen c.args.ports.now)
+    (g.P.Ports.seen c.turn_line.new.ports)
+    (g.W.Write.contents c.args.log.now) c.args.held.now.count ls c.args.at l c.turn_line.new.line c.requires.held.lines is c.turn_line.ensures.turned)
+    (happened_passed c.close_line.ensures.passed)
 
 pub returns-in-Some-clause-prompt : goal.returns-in-Some-clause-prompt
 returns-in-Some-clause-prompt g c are none =
-    subst ArePrompt (sym c.close_line.ensures.others) (prompt_closed c.args.lines.now.items c.args.at c.turn_line.new.line are)
+    subst ArePrompt (sym c.close_line.ensures.others) (prompt_closed c.args.held.now.lines.items c.args.at c.turn_line.new.line are)
 
 pub returns-clause-happened : goal.returns-clause-happened
 returns-clause-happened g c =
-    let ls = c.args.lines.now.items in
+    let ls = c.args.held.now.lines.items in
     let l = c.index_mut-line.result.now in
     let is = slice_get_read ls (length ls) c.args.at l refl c.requires.within c.index_mut-line.ensures.value in
     happened_line g.B.Books c.args.office.now.books c.turn_line.new.office.books (g.P.Ports.seen c.args.ports.now)
     (g.P.Ports.seen c.turn_line.new.ports)
-    (g.W.Write.contents c.args.log.now) c.args.count ls c.args.at l c.turn_line.new.line c.requires.lines is c.turn_line.ensures.turned
+    (g.W.Write.contents c.args.log.now) c.args.held.now.count ls c.args.at l c.turn_line.new.line c.requires.held.lines is c.turn_line.ensures.turned
 
-pub returns-clause-lines : goal.returns-clause-lines
-returns-clause-lines g c =
-    let ls = c.args.lines.now.items in
+pub returns-clause-held : goal.returns-clause-held
+returns-clause-held g c =
+    let ls = c.args.held.now.lines.items in
     let l = c.index_mut-line.result.now in
     let is = slice_get_read ls (length ls) c.args.at l refl c.requires.within c.index_mut-line.ensures.value in
-    set_lines c.args.count ls c.args.at l c.turn_line.new.line c.requires.lines is c.turn_line.ensures.turned.went.same c.turn_line.ensures.waits
+    record {
+      lines =
+          set_lines c.args.held.now.count ls c.args.at l c.turn_line.new.line c.requires.held.lines is c.turn_line.ensures.turned.went.same
+          c.turn_line.ensures.waits;
+      few = c.requires.held.few;
+    }
 
 pub returns-clause-prompt : goal.returns-clause-prompt
 returns-clause-prompt g c are none =
-    let ls = c.args.lines.now.items in
+    let ls = c.args.held.now.lines.items in
     let l = c.index_mut-line.result.now in
     let l' = c.turn_line.new.line in
     let is = slice_get_read ls (length ls) c.args.at l refl c.requires.within c.index_mut-line.ensures.value in

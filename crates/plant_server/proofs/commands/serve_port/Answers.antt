@@ -1,9 +1,17 @@
-use Rattle.std.proofs.Common.{[]}
-use Rattle.plant_wire.proofs.public.Running.{ran_none}
+use Rattle.std.proofs.Common.{Bool, le-ltb, lt-ltb, subst, sym}
+use Rattle.plant_wire.specs.Over.{RanOn}
+use Rattle.plant_server.specs.Statuses.{AreOfPort}
 use Rattle.plant_server.proofs.commands.serve_port.Goals as goal
 
-pub returns-in_err-port : goal.returns-in_err-port
-returns-in_err-port g c = ([], [], ran_none _ _)
+pub returns-then-service-gt1 : goal.returns-then-service-gt1
+returns-then-service-gt1 g c =
+    subst (λ (many : Bool). AreOfPort many (RanOn g.B.Books c.args.office.now.books c.serve_at_once-outcome.new.office.books) c.args.service c.report_at_once.result)
+    (sym (lt-ltb 1 c.args.service.clients c.if-service-gt1.true))
+    (record { result = c.serve_at_once-outcome.result; reported = c.report_at_once.ensures; sent = c.serve_at_once-outcome.ensures })
 
-pub returns-in_err-say_address : goal.returns-in_err-say_address
-returns-in_err-say_address g c = ([], [], ran_none _ _)
+pub returns : goal.returns
+returns g c =
+    let ran = c.serve_in_turn-outcome.ensures in
+    subst (λ (many : Bool). AreOfPort many (RanOn g.B.Books c.args.office.now.books c.serve_in_turn-outcome.new.office.books) c.args.service c.report_service.result)
+    (sym (le-ltb 1 c.args.service.clients c.if-service-gt1.false))
+    (record { result = c.serve_in_turn-outcome.result; reported = c.report_service.ensures; calls = ran.0; answers = ran.1; made = ran.2 })

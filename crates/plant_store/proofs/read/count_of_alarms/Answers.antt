@@ -1,17 +1,15 @@
-use Rattle.std.proofs.Common.{ap, ◌∙◌, length}
+use Rattle.std.proofs.Common.{ap, length, ◌∙◌}
 use Rattle.sqlite.specs.Held.{state}
-use Rattle.plant_store.proofs.Queries.{alarms_counted}
-use Rattle.plant_store.proofs.ReadsOnly.{reads_plain}
-use Rattle.plant_store.proofs.Meanings.{tags_of}
+use Rattle.plant_store.proofs.{Queries.{alarms_counted}, ReadsOnly.{reads_plain}}
 use Rattle.plant_store.proofs.read.count_of_alarms.Goals as goal
 
 pub returns-clause-rows : goal.returns-clause-rows
 returns-clause-rows g c clean books =
-    let shown = rw c.single.ensures at (c.in_ok-tags.ensures.rows clean) in
-    ap length c.as_slice.ensures.value ∙ alarms_counted c.args.unit.now (state g.S.Store c.args.conn.now) (state g.S.Store c.ask.new.conn) books c.in_ok-tags.tags.items shown
+    let shown = rw c.single.ensures at (rw c.select.ensures.text at (c.in_ok-alarms.ensures.rows clean)) in
+    ap length c.as_slice.ensures.value ∙ alarms_counted c.args.unit.now (state g.S.Store c.args.conn.now) (state g.S.Store c.ask.new.conn) books c.in_ok-alarms.alarms.items shown
 
-pub returns-in_err-tags-clause-reads : goal.returns-in_err-tags-clause-reads
-returns-in_err-tags-clause-reads g c = reads_plain _ tags_of.plain c.ask.ensures.same c.ask.ensures.honest _ c.ask.ensures.shows
+pub returns-in_err-alarms-clause-reads : goal.returns-in_err-alarms-clause-reads
+returns-in_err-alarms-clause-reads g c = reads_plain _ (c.select.ensures.reads c.args.unit.now).plain c.ask.ensures.same c.ask.ensures.honest _ c.ask.ensures.shows
 
 pub returns-clause-reads : goal.returns-clause-reads
-returns-clause-reads g c = reads_plain _ tags_of.plain c.ask.ensures.same c.ask.ensures.honest _ c.ask.ensures.shows
+returns-clause-reads g c = reads_plain _ (c.select.ensures.reads c.args.unit.now).plain c.ask.ensures.same c.ask.ensures.honest _ c.ask.ensures.shows

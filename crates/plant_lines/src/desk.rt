@@ -1,0 +1,33 @@
+ghost use Rattle.std.specs.Prelude.{◌≤◌, length};
+ghost use Rattle.plant_wire.specs.Limits.{least_room};
+
+use plant_head::FieldRoom;
+use plant_route::Routes;
+use plant_types::Fault;
+use std::alloc::Global;
+
+/// The room that each read is offered, in bytes.
+const CHUNK: usize = 65536;
+
+/// What reading and answering take, allocated once for all connections.
+#[derive(Drop)]
+pub(crate) struct Desk {
+    pub alloc: Global,
+    pub routes: Routes,
+    pub room: FieldRoom,
+    /// Where the bytes of a read are put.
+    pub chunk: Vec<u8>,
+    ghost offers: { least_room ≤ length chunk.items },
+}
+
+impl Desk {
+    /// Allocates it.
+    pub fn new(alloc: Global) -> Result<Desk, Fault> {
+        Ok(Desk {
+            alloc,
+            routes: Routes::new(alloc)?,
+            room: FieldRoom::new(alloc)?,
+            chunk: vec![in alloc; 0u8; CHUNK]?,
+        })
+    }
+}

@@ -1,0 +1,163 @@
+//! The command over a port. What it says goes to a writer that makes the clients as soon as it is told where the port listens, so that
+//! clients and office run in one thread.
+
+use crate::commands::is_text;
+use plant_examples::{BASE, Exchanges, LOOKED_AT, SHELVED, numbered};
+use plant_server::{Port, command};
+use std::alloc::Global;
+use std::io;
+use std::io::{Read, Write};
+use std::net::{Ipv4Addr, Shutdown, SocketAddr, TcpStream};
+use std::process::Abort;
+use std::time::Duration;
+
+/// What the command said, and the clients of its port. Each has sent its whole stream; one with none to send is silent.
+#[derive(Drop)]
+struct Clients<'a> {
+    rt: &'a HostRuntime,
+    port: u16,
+    requests: &'a [&'a [u8]],
+    said: Vec<u8>,
+    streams: Vec<TcpStream>,
+}
+
+impl Clients<'_> {
+    /// Connects a client that sends these bytes.
+    fn connect(&mut self, bytes: &[u8]) -> io::Result<()> {
+        let address = SocketAddr::from((Ipv4Addr::LOCALHOST, self.port));
+        let mut stream = TcpStream::connect(self.rt, address)?;
+        stream.set_read_timeout(Some(Duration::from_secs(60)))?;
+        if !bytes.is_empty() {
+            stream.write_all(bytes)?;
+            stream.shutdown(Shutdown::Write)?;
+        }
+        match self.streams.push(stream) {
+            Ok(()) => Ok(()),
+            Err(_) => Err(io::Error::from(io::ErrorKind::OutOfMemory)),
+        }
+    }
+
+    /// Connects all clients.
+    fn connect_all(&mut self) -> io::Result<()> {
+        for bytes in self.requests {
+            self.connect(bytes)?;
+        }
+        Ok(())
+    }
+}
+
+impl Write for Clients<'_> {
+    fn write(&mut self, buf: &[u8]) -> io::Result<usize> {
+        if self.said.extend_from_slice(buf).is_err() {
+            return Err(io::Error::from(io::ErrorKind::OutOfMemory));
+        }
+        if self.streams.is_empty() {
+            self.connect_all()?;
+        }
+        Ok(buf.len())
+    }
+
+    fn flush(&mut self) -> io::Result<()> {
+        Ok(())
+    }
+}
+
+/// The number of a port on which nothing listens.
+fn free_port(stop: &impl Abort, rt: &HostRuntime) -> u16 {
+    let port = Port::listen(rt, 0, None).expect(stop, "a port");
+    port.address().expect(stop, "an address").port()
+}
+
+/// Runs the command over this port with these further words and clients, and gives its status, the clients and what it said of errors.
+fn served<'a>(
+    stop: &(impl Abort + AllocGlobal),
+    rt: &'a HostRuntime,
+    port: u16,
+    further: &str,
+    requests: &'a [&'a [u8]],
+) -> (u8, Clients<'a>, Vec<u8>) {
+    let alloc: Global = stop.alloc();
+    let begin = "shelfoffice --admin root --port ";
+    let line = numbered(alloc, begin, usize::from(port), further).expect(stop, "memory");
+    let mut words = Vec::new(alloc);
+    for word in line.as_str().split(' ') {
+        words.push(word).expect(stop, "memory");
+    }
+    let mut clients = Clients {
+        rt,
+        port,
+        requests,
+        said: Vec::new(alloc),
+        streams: Vec::new(alloc),
+    };
+    let mut errors = Vec::new(alloc);
+    let input: &[u8] = b"";
+    let status = command(rt, words.as_slice(), input, &mut clients, &mut errors);
+    (status, clients, errors)
+}
+
+/// What the command says of its port: where it listens, and then these lines.
+fn log_over(stop: &(impl Abort + AllocGlobal), port: u16, lines: &str) -> String {
+    let begin = "listening on 127.0.0.1:";
+    numbered(stop.alloc(), begin, usize::from(port), lines).expect(stop, "memory")
+}
+
+/// What a client was answered.
+fn answered(stop: &(impl Abort + AllocGlobal), stream: Option<&TcpStream>) -> Vec<u8> {
+    let mut bytes = Vec::new(stop.alloc());
+    let mut stream = stream.expect(stop, "a client");
+    stream.read_to_end(&mut bytes).expect(stop, "a read");
+    bytes
+}
+
+#[test]
+fn serves_as_many_connections_as_its_words_say(rt: HostRuntime) {
+    let opened = Exchanges::of(rt.alloc(), &[BASE]).expect(&rt, "exchanges");
+    let shelved = Exchanges::of(rt.alloc(), &[SHELVED]).expect(&rt, "exchanges");
+    let looked = Exchanges::of(rt.alloc(), &[LOOKED_AT]).expect(&rt, "exchanges");
+    let all = [&opened, &shelved, &looked];
+    let requests = all.map(|it| it.requests.as_bytes());
+    let port = free_port(&rt, &rt);
+    let (status, clients, errors) = served(&rt, &rt, port, " --connections 3", &requests);
+    assert_eq!(rt; status, 0);
+    assert!(rt; errors.is_empty());
+    let lines = "\nconnection 1 Closed\nconnection 2 Closed\nconnection 3 Closed\n";
+    assert!(rt; is_text(&clients.said, log_over(&rt, port, lines).as_str()));
+    for (at, wanted) in all.iter().enumerate() {
+        let found = answered(&rt, clients.streams.get(at));
+        assert!(rt; found.as_slice() == wanted.answers.as_bytes());
+    }
+}
+
+#[test]
+fn gives_a_silent_client_up_after_the_time_that_its_words_say(rt: HostRuntime) {
+    let opened = Exchanges::of(rt.alloc(), &[BASE]).expect(&rt, "exchanges");
+    let requests: [&[u8]; 2] = [b"", opened.requests.as_bytes()];
+    let port = free_port(&rt, &rt);
+    let further = " --connections 2 --idle 1";
+    let (status, clients, errors) = served(&rt, &rt, port, further, &requests);
+    assert_eq!(rt; status, 0);
+    assert!(rt; errors.is_empty());
+    let lines = "\nconnection 1 ReadFailed\nconnection 2 Closed\n";
+    assert!(rt; is_text(&clients.said, log_over(&rt, port, lines).as_str()));
+    assert!(rt; answered(&rt, clients.streams.get(0)).is_empty());
+    let found = answered(&rt, clients.streams.get(1));
+    assert!(rt; found.as_slice() == opened.answers.as_bytes());
+}
+
+/// With two at once, a silent client holds nobody up.
+#[test]
+fn serves_as_many_clients_at_once_as_its_words_say(rt: HostRuntime) {
+    let opened = Exchanges::of(rt.alloc(), &[BASE]).expect(&rt, "exchanges");
+    let requests: [&[u8]; 2] = [b"", opened.requests.as_bytes()];
+    let port = free_port(&rt, &rt);
+    let further = " --connections 2 --clients 2 --idle 1";
+    let (status, clients, errors) = served(&rt, &rt, port, further, &requests);
+    assert_eq!(rt; status, 0);
+    assert!(rt; errors.is_empty());
+    let lines = "\nconnection 2 Closed\nconnection 1 ReadFailed\n";
+    assert!(rt; is_text(&clients.said, log_over(&rt, port, lines).as_str()));
+    assert!(rt; answered(&rt, clients.streams.get(0)).is_empty());
+    let found = answered(&rt, clients.streams.get(1));
+    assert!(rt; found.as_slice() == opened.answers.as_bytes());
+}
