@@ -4,11 +4,9 @@
 run:
 	scripts/run-first-shelf
 
-# Proves the program and leaves it at out/shelfoffice.
+# Proves the program, crates side by side, and leaves it at out/shelfoffice.
 build:
-	cd crates/shelfoffice && rt run -- --help
-	mkdir -p out
-	cp crates/shelfoffice/out/shelfoffice out/shelfoffice
+	scripts/build
 
 # The gate: the schema in examples/, the lists in docs/WORKED.md and what the pages name, then every proof, the must-fail edits, the tests,
 # and the programs, and the proved program on the worked examples. A toolchain that has rt ci --anew does not do again what an earlier run
