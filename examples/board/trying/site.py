@@ -109,6 +109,9 @@ class Site:
             ("127.0.0.1:8081", f"127.0.0.1:{self.port}"),
             ("/etc/nginx/shelfoffice.users", f"{self.folder}/users"),
             ("/usr/local/share/shelfoffice", str(self.folder)),
+            # the relay ends each connection after its request
+            ("    keepalive 16;\n", ""),
+            ('proxy_set_header Connection "";', "proxy_set_header Connection close;"),
         ]:
             expect(site.count(old), 1, f"{old} in the site")
             site = site.replace(old, new)
