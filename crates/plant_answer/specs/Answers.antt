@@ -1,19 +1,43 @@
 -- The whole text of an answer.
 use Rattle.std.specs.Prelude.{ℕ, List}
-use Rattle.plant_model.specs.declared.reply.{Answer.{Answer}, Refused.{Refused, TheVariants.{NotAdministrator, NotGranted, RoleLacking}}}
-use Rattle.plant_model.specs.declared.reply.Reply.{Reply}
+use Rattle.plant_model.specs.declared.reply.{Answer.{Answer}, Refused.{Refused}, Reply.{Reply}}
 use Rattle.plant_report.specs.Texts.{shelf_text, standing_text, alarm_text, flood_text, mine_text}
 use Rattle.plant_answer.specs.Bodies.{done_body, imported_body, number_body, status_body, units_body, refusal_body, fault_body}
 use Rattle.plant_answer.specs.{Changes.{record_body, change_body}, Response.{response}, declared.responses.Media.{Media, TheVariants.{Json, Plain}}}
 use Rattle.plant_model.specs.declared.reply.Answer.TheVariants as answer
+use Rattle.plant_model.specs.declared.reply.Refused.TheVariants as refused
 use Rattle.plant_model.specs.declared.reply.Reply.TheVariants as reply
 
 -- who may not call at all is answered 403, any other refusal 409
 abbrev pub refusal_status : Refused → ℕ
-refusal_status NotAdministrator = 403
-refusal_status NotGranted = 403
-refusal_status (RoleLacking role) = 403
-refusal_status _ = 409
+refusal_status refused.NotAdministrator = 403
+refusal_status refused.UnitTaken = 409
+refusal_status refused.NotGranted = 403
+refusal_status (refused.RoleLacking x) = 403
+refusal_status (refused.MomentBehind x) = 409
+refusal_status (refused.UnitFull x) = 409
+refusal_status refused.AlarmTaken = 409
+refusal_status refused.AlarmUnknown = 409
+refusal_status (refused.ShelvingTimeOutOfRange x) = 409
+refusal_status refused.ConditionAlreadyShelved = 409
+refusal_status refused.ConditionNotShelved = 409
+refusal_status refused.AlreadyOutOfService = 409
+refusal_status refused.NotOutOfService = 409
+refusal_status refused.AlreadyHeld = 409
+refusal_status refused.NotHeld = 409
+refusal_status refused.LastSteward = 409
+refusal_status refused.ChangeUnknown = 409
+refusal_status (refused.NotProposed x) = 409
+refusal_status refused.SamePerson = 409
+refusal_status refused.NotProposer = 409
+refusal_status (refused.BaseChanged x) = 409
+refusal_status refused.OutsideMatrix = 409
+refusal_status refused.NotAnAlarm = 409
+refusal_status refused.RecordUnknown = 409
+refusal_status refused.RangeNotAligned = 409
+refusal_status (refused.BadFile x) = 409
+refusal_status (refused.ShelfQuota x) = 409
+refusal_status refused.EndNotAhead = 409
 
 -- a reply is JSON, but for the lists, which are texts
 abbrev pub reply_media : Reply → Media

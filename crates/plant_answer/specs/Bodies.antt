@@ -4,6 +4,10 @@ use Rattle.plant_types.specs.declared.fault.Fault.{Fault}
 use Rattle.plant_import.specs.declared.bad_file.BadFile.{BadFile}
 use Rattle.plant_model.specs.declared.reply.Refused.{Refused}
 use Rattle.plant_model.specs.declared.reply.Refused.TheVariants.{RoleLacking, MomentBehind, UnitFull, ShelvingTimeOutOfRange, NotProposed, BaseChanged, BadFile as FileRefused, ShelfQuota}
+use Rattle.plant_model.specs.declared.reply.Refused.TheVariants.{NotAdministrator, UnitTaken, NotGranted, AlarmTaken, AlarmUnknown, ConditionAlreadyShelved}
+use Rattle.plant_model.specs.declared.reply.Refused.TheVariants.{ConditionNotShelved, AlreadyOutOfService, NotOutOfService, AlreadyHeld, NotHeld, LastSteward}
+use Rattle.plant_model.specs.declared.reply.Refused.TheVariants.{ChangeUnknown, SamePerson, NotProposer, OutsideMatrix, NotAnAlarm, RecordUnknown}
+use Rattle.plant_model.specs.declared.reply.Refused.TheVariants.{RangeNotAligned, EndNotAhead}
 use Rattle.plant_model.specs.declared.reply.{StatusRow.{StatusRow}, UnitLine.{UnitLine}}
 use Rattle.plant_report.specs.{Moments.{moment_text}, Texts.{state_name}}
 use Rattle.plant_answer.specs.Json.{quoted, truth, listed}
@@ -57,7 +61,26 @@ refusal_value (NotProposed state) = Some (quoted (change_state_name state))
 refusal_value (BaseChanged revision) = Some (decimal revision)
 refusal_value (FileRefused fault) = Some (bad_file_object fault)
 refusal_value (ShelfQuota quota) = Some (decimal quota)
-refusal_value _ = None
+refusal_value NotAdministrator = None
+refusal_value UnitTaken = None
+refusal_value NotGranted = None
+refusal_value AlarmTaken = None
+refusal_value AlarmUnknown = None
+refusal_value ConditionAlreadyShelved = None
+refusal_value ConditionNotShelved = None
+refusal_value AlreadyOutOfService = None
+refusal_value NotOutOfService = None
+refusal_value AlreadyHeld = None
+refusal_value NotHeld = None
+refusal_value LastSteward = None
+refusal_value ChangeUnknown = None
+refusal_value SamePerson = None
+refusal_value NotProposer = None
+refusal_value OutsideMatrix = None
+refusal_value NotAnAlarm = None
+refusal_value RecordUnknown = None
+refusal_value RangeNotAligned = None
+refusal_value EndNotAhead = None
 
 abbrev pub value_member : Option (List ℕ) → List ℕ
 value_member None = []

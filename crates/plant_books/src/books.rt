@@ -1,4 +1,4 @@
-ghost use Rattle.std.specs.Prelude.{◌≡◌, IfOk, None, OnOk, ℕ};
+ghost use Rattle.std.specs.Prelude.{◌≡◌, IfOk, IsTrue, None, OnOk, ℕ};
 ghost use Rattle.plant_books.specs.Crashes.{IsSettled, LosesNoPart, LosesNothing};
 ghost use Rattle.plant_books.specs.Books.{CountsBy, Finds, FindsPart, Keeps, KeepsOnErr, Makes, WasHonest};
 ghost use Rattle.plant_books.specs.Contents.{Content, codes_held, events_in, mine_shelves, mine_units, rows_but_events};
@@ -49,6 +49,10 @@ pub trait Books {
     /// Tells the proof what a crash leaves while the store is open. It does nothing.
     fn settle(&self)
         ensures { IsSettled represents is_honest is_clean leaves_books may_leave self.now };
+
+    /// Whether a failure has shut the store behind these books, which are never honest again then. It asks no store and takes no memory.
+    fn is_shut(&self) -> bool
+        ensures { IsTrue result → ¬ is_honest self.now };
 
     /// The administrator's name.
     fn administrator(&self) -> &Person

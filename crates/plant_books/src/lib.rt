@@ -24,5 +24,5 @@ pub use found::shelved_alarms;
 pub use numbers::{change_numbers, matrix_numbers};
 pub use opened::push_shelves;
 pub use parts::{events_asked, part_of, part_of_grants, rows_but_events};
-pub use plain::Plain;
+pub use plain::{Plain, count_after};
 pub use rows::are_in_order;

@@ -105,7 +105,6 @@ pub fn part_at(
 ) -> Result<Option<UnitPart>, Fault>
     ensures value { IfSome (rows_at units.now unit.now) AreInOrder
         → Gives result (option_map (the_part call.now) (rows_at units.now unit.now)) }
-    ensures memory { OnlyMemory result }
 {
     match rows_of(units, unit) {
         None => Ok(None),

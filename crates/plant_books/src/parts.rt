@@ -1,4 +1,4 @@
-ghost use Rattle.std.specs.Prelude.{◌≡◌, IfOk, filter, option_copied, true};
+ghost use Rattle.std.specs.Prelude.{◌≡◌, ◌<◌, ◌^◌, IfOk, filter, option_copied, true};
 ghost use Rattle.plant_books.specs.{Asking.{alarms_wanted, IsApprovedBy, changes_by, events_wanted, grants_by, rows_by}, Contents.{without_events}};
 ghost use Rattle.plant_model.specs.Order.{AreInOrder, ChangesRise, EventsRise, TagsRise};
 ghost use Rattle.plant_model.specs.Parts.{counted_for, is_crowded as is_crowded_in, part_of as the_part, part_of_holder as holders_part, selected};
@@ -157,32 +157,42 @@ fn scope_in<'a>(rows: &'a UnitRows, request: &'a Request) -> Scope<'a>
 }
 
 /// The number of the last change, 0 where there is none.
-fn last_number(changes: &[ChangeEntry]) -> u64
+fn last_number(changes: &[ChangeEntry]) -> u32
     ensures { result ≡ last_number_of changes.now }
 {
-    changes.last().map_or(0, |change| u64::from(change.number))
+    changes.last().map_or(0, |change| change.number)
+}
+
+/// So many rows as a part counts them. More than it can count are a fault of the store: no legal unit has as many.
+fn count_of(rows: usize) -> Result<u32, Fault>
+    ensures value { Gives result rows }
+    ensures memory { rows < 2 ^ 32 → OnlyMemory result }
+{
+    u32::try_from(rows).map_err(|_| Fault::Store)
 }
 
 /// How many alarms or events there are, or the number of the last change, for the call that needs it.
-fn count_asked(rows: &UnitRows, call: &Call) -> u64
-    ensures { result ≡ counted_for rows.now call.now.request }
+fn count_asked(rows: &UnitRows, call: &Call) -> Result<u32, Fault>
+    ensures value { Gives result (counted_for rows.now call.now.request) }
+    ensures memory { counted_for rows.now call.now.request < 2 ^ 32 → OnlyMemory result }
 {
     match call.request.kind().count() {
-        Counted::Nothing => 0,
-        Counted::Alarms => rows.alarms.len() as u64,
-        Counted::Events => rows.events.len() as u64,
-        Counted::Changes => last_number(rows.changes.as_slice()),
+        Counted::Nothing => Ok(0),
+        Counted::Alarms => count_of(rows.alarms.len()),
+        Counted::Events => count_of(rows.events.len()),
+        Counted::Changes => Ok(last_number(rows.changes.as_slice())),
     }
 }
 
 /// The part of a caller who holds a role.
 fn part_of_holder(alloc: Global, rows: &UnitRows, call: &Call) -> Result<UnitPart, Fault>
     ensures value { AreInOrder rows.now → Gives result (holders_part call.now rows.now) }
-    ensures memory { OnlyMemory result }
+    ensures memory { counted_for rows.now call.now.request < 2 ^ 32 → OnlyMemory result }
 {
+    let count = count_asked(rows, call)?;
     Ok(UnitPart {
         rows: rows_asked(alloc, rows, &call.person, scope_in(rows, &call.request))?,
-        count: count_asked(rows, call),
+        count,
     })
 }
 
@@ -226,10 +236,10 @@ pub fn part_of_grants(alloc: Global, units: List<UnitRow>, grants: List<GrantRow
 }
 
 /// The part of a unit's rows that the call looks at: of a caller who holds no role the unit's own row and the
-/// caller's grants alone.
+/// caller's grants alone. It is a fault of the store where the unit has more rows than a part can count.
 pub fn part_of(alloc: Global, rows: &UnitRows, call: &Call) -> Result<UnitPart, Fault>
     ensures value { AreInOrder rows.now → Gives result (the_part call.now rows.now) }
-    ensures memory { OnlyMemory result }
+    ensures memory { counted_for rows.now call.now.request < 2 ^ 32 → OnlyMemory result }
 {
     if holds_some_by(rows.grants.as_slice(), &call.person, call.moment) {
         return part_of_holder(alloc, rows, call);

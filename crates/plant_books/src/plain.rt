@@ -1,5 +1,5 @@
 ghost use Rattle.std.specs.Prelude.{◌≡◌, ⊤};
-ghost use Rattle.plant_books.specs.{Contents.{no_units}, Listed.{IsListed}};
+ghost use Rattle.plant_books.specs.{Contents.{no_units}, Counting.{Counts, CountsFault}, Listed.{IsListed}};
 
 use crate::books::{Books, MineRow, MineUnit};
 use crate::opened::{
@@ -11,11 +11,37 @@ use plant_model::{Call, Changes, UnitPart, UnitRows};
 use plant_types::{Fault, List, Moment, Person, UnitCode};
 use std::alloc::Global;
 
-/// A keeper of books in lists, in the order of the units' codes.
+/// The count of answers `Store`, after this fault.
+pub fn count_after(stores: u64, fault: &Fault) -> u64
+    ensures { CountsFault stores result fault.now }
+{
+    match fault {
+        Fault::Memory => stores,
+        Fault::Store => stores.saturating_add(1),
+    }
+}
+
+/// What was said. A fault of the store is counted.
+fn counted<T: Drop>(stores: &mut u64, said: Result<T, Fault>) -> Result<T, Fault>
+    ensures same { result ≡ said }
+    ensures count { Counts stores.old stores.new result }
+{
+    match said {
+        Ok(found) => Ok(found),
+        Err(fault) => {
+            *stores = count_after(*stores, &fault);
+            Err(fault)
+        }
+    }
+}
+
+/// A keeper of books in lists, in the order of the units' codes. It answers `Store` only where a unit has more rows than a part can
+/// count.
 #[derive(Drop)]
 pub struct Plain {
     administrator: Person,
     units: List<OpenedUnit>,
+    stores: u64,
     alloc: Global,
 }
 
@@ -28,6 +54,7 @@ impl Plain {
         Plain {
             administrator,
             units: List::new(alloc),
+            stores: 0,
             alloc,
         }
     }
@@ -38,7 +65,7 @@ impl Books for Plain {
 
     ghost is_honest = { λ _. ⊤ };
 
-    ghost stores = { λ _. 0 };
+    ghost stores = { λ t. t.stores };
 
     ghost is_clean = { λ _. ⊤ };
 
@@ -48,6 +75,10 @@ impl Books for Plain {
     ghost leaves_books = { λ _. ⊤ };
 
     fn settle(&self) {}
+
+    fn is_shut(&self) -> bool {
+        false
+    }
 
     fn administrator(&self) -> &Person {
         &self.administrator
@@ -73,7 +104,8 @@ impl Books for Plain {
         let Some(unit) = call.request.unit() else {
             return Ok(None);
         };
-        part_at(self.alloc, &self.units, unit, call)
+        let said = part_at(self.alloc, &self.units, unit, call);
+        counted(&mut self.stores, said)
     }
 
     fn held(&mut self, person: &Person, now: Moment) -> Result<List<UnitCode>, Fault> {

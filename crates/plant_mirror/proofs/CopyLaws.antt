@@ -1,14 +1,14 @@
 -- Copies of rows: what is found among them, and how they stay true.
 use Rattle.std.specs.{Cmp.{eq_by_cmp_equiv}, FinMap.{get, get-insert}, List.{AllByRecursion, IsDistinct}}
 use Rattle.std.specs.{Map.{keys_of, lookup, lookup_entry, remove_entry}, Option.{option_map_or}}
-use Rattle.std.proofs.Common.{Bool, List, None, Some, [], ap, arith, cond, false, map, not, refl, subst, suc, sym, take, true, zero, ℕ, ◌+◌, ◌-◌, ◌≤◌, ◌∙◌, ◌∷◌, ◌≡◌, Option, is_some, length, option_map, slice_get, unwrap_or, ◌&&◌}
+use Rattle.std.proofs.Common.{Bool, Err, IfOk, IfSome, List, None, Ok, Result, Some, [], ap, arith, cond, false, map, not, refl, subst, suc, sym, take, true, zero, ℕ, ◌+◌, ◌-◌, ◌≤◌, ◌∙◌, ◌∷◌, ◌≡◌, Option, is_some, length, option_map, slice_get, unwrap_or, ◌&&◌}
 use Rattle.lru.specs.LruCache.{LruCache, last_entry, promoted, put_entries}
 use Rattle.plant_books.specs.{Changing.{puts_event}, Contents.{Content, after_changes, mine_row, rows_in, shelves_there, without_events}}
 use Rattle.plant_books.proofs.public.{EventLaws.{changed_without, part_without}, OrderLaws.{changed_in_order}}
 use Rattle.plant_model.specs.{Order.{AreInOrder}, Parts.{part_of}, RowChanges.{changed_by, no_rows}, Scopes.{looks_at_events}}
-use Rattle.plant_model.{specs.declared.{call.Call.{Call}, rows.{RowEdit.{RowEdit}, UnitRows.{UnitRows}}}, proofs.public.WorldLaws.{same_of}}
+use Rattle.plant_model.{specs.declared.{call.Call.{Call}, rows.{RowEdit.{RowEdit}, UnitPart.{UnitPart}, UnitRows.{UnitRows}}}, proofs.public.WorldLaws.{same_of}}
 use Rattle.plant_mirror.specs.{Copies.{AreCopies, Copy, IsCopy, There, row_count, rows_of_all, seen}, declared.at_hand.AtHand.{AtHand}}
-use Rattle.plant_types.{specs.Names.{Name, same_name}, proofs.public.Orders.{name_total}}
+use Rattle.plant_types.{specs.{Names.{Name, same_name}, declared.fault.Fault.{Fault}}, proofs.public.Orders.{name_total}}
 
 -- ---- what is found is there
 
@@ -154,6 +154,13 @@ shelves_seen u false (Some r) rows e = let same : without_events r ≡ rows = cc
 pub part_there : (c : Call) (b : Bool) (o : Option UnitRows) (rows : UnitRows) → option_map (seen b) o ≡ Some rows → ((r : UnitRows) → seen b r ≡ rows → part_of c rows ≡ part_of c r) → Some (part_of c rows) ≡ option_map (part_of c) o
 part_there c b None rows e h = absurd (cc e)
 part_there c b (Some r) rows e h = let same : seen b r ≡ rows = cc e in ap (λ x. Some x) (h r same)
+
+-- a part that was made of rows at hand is that of the unit
+pub made_there : (said : Result UnitPart Fault) (made : Result (Option UnitPart) Fault) (part : UnitPart) (there : Option UnitPart)
+    → IfOk made (λ o. IfSome o (λ x. said ≡ Ok x)) → IfOk said (λ y. y ≡ part) → Some part ≡ there → IfOk made (λ o. IfSome o (λ x. Some x ≡ there))
+made_there said (Ok (Some x)) part there is gives at = let given : x ≡ part = subst (λ (r : Result UnitPart Fault). IfOk r (λ y. y ≡ part)) is gives in ap (λ y. Some y) given ∙ at
+made_there said (Ok None) part there is gives at = tt
+made_there said (Err e) part there is gives at = tt
 
 pub part_seen : (c : Call) (b : Bool) (kept rows : UnitRows) → seen b rows ≡ kept → looks_at_events c.request ≡ false → part_of c kept ≡ part_of c rows
 part_seen c b kept rows e none = grind (arith, part_without c rows)

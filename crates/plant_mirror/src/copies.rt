@@ -1,17 +1,18 @@
 ghost use Rattle.std.specs.{Map.{lookup, lookup_entry}, Prelude.{◌≡◌, ◌≤◌, ◌+◌, [], flat_map, IfOk, IfSome, Some, option_copied}};
 ghost use Rattle.plant_books.specs.Contents.{shelves_there};
 ghost use Rattle.plant_mirror.specs.Copies.{AreCopies, There, DiffersAt, StayCopies, StayCopiesWith};
-ghost use Rattle.plant_types.specs.{Names.{same_name}, Results.{OnlyMemory}};
+ghost use Rattle.plant_types.specs.{Limits.{max_rows_at_hand}, Names.{same_name}, Results.{OnlyMemory}};
 ghost use Rattle.plant_mirror.specs.Copies as copies;
 
 use crate::at_hand::AtHand;
 use lru::LruCache;
 use plant_books::{MineRow, push_shelves};
 use plant_model::UnitRows;
+use plant_types::limits::MAX_ROWS_AT_HAND;
 use plant_types::{Fault, List, UnitCode};
 use std::alloc::Global;
 
-/// Copies of the rows of some units, never of more rows than the limit.
+/// Copies of the rows of some units, never of more rows than the limit, which is never above `MAX_ROWS_AT_HAND`.
 #[derive(Drop)]
 pub struct Copies {
     pub units: LruCache<UnitCode, AtHand>,
@@ -19,20 +20,42 @@ pub struct Copies {
     limit: u128,
     ghost counted: { copies.rows_of_all units.entries ≤ rows },
     ghost within: { rows ≤ limit },
+    ghost limited: { limit ≤ max_rows_at_hand },
+}
+
+/// The limit, or the greatest one if it is above that.
+fn limit_within(limit: u128) -> u128
+    ensures most { result ≤ MAX_ROWS_AT_HAND }
+    ensures same { limit ≤ MAX_ROWS_AT_HAND → result ≡ limit }
+{
+    if limit > MAX_ROWS_AT_HAND {
+        MAX_ROWS_AT_HAND
+    } else {
+        limit
+    }
 }
 
 impl Copies {
-    /// No copy, and room for so many rows.
+    /// No copy, and room for so many rows, but for no more than `MAX_ROWS_AT_HAND`.
     pub fn new(alloc: Global, limit: u128) -> Result<Copies, Fault>
         ensures none { IfOk result (λ c. c.units.entries ≡ []) }
-        ensures limit { IfOk result (λ c. c.limit ≡ limit) }
+        ensures limit { limit ≤ MAX_ROWS_AT_HAND → IfOk result (λ c. c.limit ≡ limit) }
         ensures memory { OnlyMemory result }
     {
+        let limit = limit_within(limit);
         Ok(Copies {
             units: LruCache::unbounded(alloc)?,
             rows: 0,
             limit,
         })
+    }
+
+    /// A number that the rows of all copies do not exceed.
+    pub fn row_limit(&self) -> u128
+        ensures rows { copies.rows_of_all self.now.units.entries ≤ result }
+        ensures limit { result ≤ MAX_ROWS_AT_HAND }
+    {
+        self.limit
     }
 
     /// Makes the unit the one last used, if its rows are at hand.

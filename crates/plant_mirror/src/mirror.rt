@@ -1,7 +1,7 @@
-ghost use Rattle.std.specs.{List.{list_any}, Prelude.{◌≡◌, [], IfErr, IfOk, IfSome, OnOk, Some, option_map}};
+ghost use Rattle.std.specs.{List.{list_any}, Prelude.{◌≡◌, ◌≤◌, [], IfErr, IfOk, IfSome, OnOk, Some, option_map}};
 ghost use Rattle.plant_books.specs.Crashes.{LosesNoPart};
 ghost use Rattle.plant_books.specs.{Books.{CountsBy, KeepsOnErr, Makes, WasHonest}, Contents.{Content, codes_held, part_in}};
-ghost use Rattle.plant_mirror.specs.{Copies.{IsMirrored, seen}, Leaves.{Leaves, AnswersOf, Mirrors}};
+ghost use Rattle.plant_mirror.specs.{Copies.{IsMirrored, rows_of_all, seen}, Leaves.{Leaves, AnswersOf, Mirrors}};
 ghost use Rattle.plant_model.specs.Worlds.{unit_named};
 ghost use Rattle.plant_types.specs.{Names.{same_name}, Results.{OnlyMemory}};
 ghost use Rattle.std.specs.FinMap as fin;
@@ -11,6 +11,7 @@ use crate::copies::Copies;
 use plant_alarm::Event;
 use plant_books::{Books, MineRow, MineUnit, are_in_order, part_of, rows_but_events};
 use plant_model::{Call, Changes, UnitPart, UnitRows, holds_some_by, looks_at_events};
+use plant_types::limits::MAX_ROWS_AT_HAND;
 use plant_types::{Duplicate, Fault, List, Moment, Person, UnitCode};
 use std::alloc::Global;
 
@@ -30,6 +31,18 @@ fn is_among(unit: &UnitCode, units: &[UnitCode]) -> bool
     units.iter().any(|other| *unit == *other)
 }
 
+/// The part that was made of rows at hand. None where they are more than a part can count: the books below are to say so.
+fn made(said: Result<UnitPart, Fault>) -> Result<Option<UnitPart>, Fault>
+    ensures same { IfOk result (λ made. IfSome made (λ part. said ≡ Ok part)) }
+    ensures memory { OnlyMemory result }
+{
+    match said {
+        Ok(part) => Ok(Some(part)),
+        Err(Fault::Memory) => Err(Fault::Memory),
+        Err(Fault::Store) => Ok(None),
+    }
+}
+
 impl<B: Books> Mirror<B> {
     /// The keeper over these books, with no rows at hand yet. It takes no memory.
     pub fn new(alloc: Global, copies: Copies, books: B) -> Mirror<B>
@@ -47,6 +60,14 @@ impl<B: Books> Mirror<B> {
             copies,
             alloc,
         }
+    }
+
+    /// A number that the rows at hand do not exceed: in every state of the keeper it is at most `MAX_ROWS_AT_HAND`.
+    pub fn row_limit(&self) -> u128
+        ensures rows { rows_of_all self.now.copies.units.entries ≤ result }
+        ensures limit { result ≤ MAX_ROWS_AT_HAND }
+    {
+        self.copies.row_limit()
     }
 
     /// The books that lie below, as they were left.
@@ -184,7 +205,8 @@ impl<B: Books> Mirror<B> {
         changed
     }
 
-    /// The part of a call on this unit from what is at hand; none where that does not serve the call.
+    /// The part of a call on this unit from what is at hand; none where that does not serve the call, or has more rows than a part
+    /// can count.
     fn ready_part(&self, unit: &UnitCode, call: &Call) -> Result<Option<UnitPart>, Fault>
         ensures found { (m : Content) → Mirrors B.Books self.now m → B.is_honest self.now.books
             → unit_named call.now.request ≡ Some unit.now
@@ -192,7 +214,7 @@ impl<B: Books> Mirror<B> {
         ensures memory { OnlyMemory result }
     {
         match self.copies.copy_of(unit) {
-            Some(copy) if copy.serves(call) => Ok(Some(part_of(self.alloc, &copy.rows, call)?)),
+            Some(copy) if copy.serves(call) => made(part_of(self.alloc, &copy.rows, call)),
             _ => Ok(None),
         }
     }
@@ -251,6 +273,10 @@ impl<B: Books> Books for Mirror<B> {
 
     fn settle(&self) {
         self.books.settle();
+    }
+
+    fn is_shut(&self) -> bool {
+        self.books.is_shut()
     }
 
     fn administrator(&self) -> &Person {

@@ -6,6 +6,7 @@ mod EventLists
 mod PurgeLaws
 mod AgreeLaws
 mod ShelfLaws
+mod KeyLaws
 mod OwnLaws
 mod WorkedShelves
 mod WorkedGrants

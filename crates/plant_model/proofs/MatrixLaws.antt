@@ -142,7 +142,7 @@ module _ {K X : Type 0} {R : K → K → Ordering} (total : IsTotalOrder R) (sam
 pub band_keyed : (k : BandKey) (m : Grid) (r : BandRow) → band_at k m ≡ Some r → band_key r ≡ k
 band_keyed k m r e = mapped_key band_key (band_as k) k (at_place m.limits k.1) r (λ x. refl) e
 
-cell_keyed : (k : CellKey) (m : Grid) (r : CellRow) → cell_of k m ≡ Some r → cell_key r ≡ k
+pub cell_keyed : (k : CellKey) (m : Grid) (r : CellRow) → cell_of k m ≡ Some r → cell_key r ≡ k
 cell_keyed k m r e = mapped_key cell_key (cell_as k) k (option_and_then (λ row. at_place row k.2) (at_place m.cells k.1)) r (λ x. refl) e
 
 abbrev pub band_keys : List Call → List BandKey

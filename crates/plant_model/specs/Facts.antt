@@ -2,10 +2,10 @@
 use Rattle.std.specs.Prelude.{Bool, List, Option, Some, count_by, false, is_some, length, not, option_and_then, option_map, unwrap_or, ℕ, ◌&&◌}
 use Rattle.plant_model.specs.{Changes.{proposals, record_of, record_revision, matrix, change}, Events.{events}, Grants.{held, stands}}
 use Rattle.plant_model.specs.Rows.{records_of, revision_of_limit, alarm_row, alarm_rows, grant_rows, shelf_rows, unit_row}
-use Rattle.plant_model.specs.{Shelves.{shelf, shelf_left}, declared.{call.Call.{Call}, reply.{ChangeRow.{ChangeRow}, RecordRow.{RecordRow}}}}
+use Rattle.plant_model.specs.{Shelves.{shelf, state_of_shelf}, declared.{call.Call.{Call}, reply.{ChangeRow.{ChangeRow}, RecordRow.{RecordRow}}}}
 use Rattle.plant_model.specs.declared.rows.{AlarmRow.{AlarmRow}, GrantRow.{GrantRow}, ShelfRow.{ShelfRow}, UnitRow.{UnitRow}}
 use Rattle.plant_ration.specs.{Grid.{Grid}, declared.cell.Cell.{Cell}}
-use Rattle.plant_alarm.specs.{Shelves.{is_unshelved, shelf_state}, declared.{event.Event.{Event}, shelf.ShelfState.{ShelfState}}}
+use Rattle.plant_alarm.specs.{Shelves.{is_unshelved}, declared.{event.Event.{Event}, shelf.ShelfState.{ShelfState}}}
 use Rattle.plant_types.specs.{Names.{Name, same_name}, Roles.{Pair, same_role}, declared.role.Role.TheVariants.{Steward}}
 
 pub record Facts : Type 0 where
@@ -94,8 +94,8 @@ returned f a = option_and_then (λ r. r.return_s) (f.alarm a)
 
 -- the shelved state at a moment
 abbrev pub shelf_now : Facts → Name → ℕ → ShelfState
-shelf_now f a t = shelf_state (shelf_left (f.shelf a)) (returned f a) t
+shelf_now f a t = state_of_shelf (f.shelf a) (returned f a) t
 
 -- how many other alarms are shelved at the moment
 abbrev pub others_shelved : Facts → Name → ℕ → ℕ
-others_shelved f a t = count_by (λ s. not (same_name a s.tag) && not (is_unshelved (shelf_state (shelf_left (Some s)) (returned f s.tag) t))) f.shelves
+others_shelved f a t = count_by (λ s. not (same_name a s.tag) && not (is_unshelved (state_of_shelf (Some s) (returned f s.tag) t))) f.shelves

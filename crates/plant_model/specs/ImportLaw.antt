@@ -6,8 +6,9 @@ use Rattle.plant_import.specs.{Files.{SameMembers, is_fit}, Merging.{fresh}, dec
 use Rattle.plant_model.specs.{Alarms.{latching}, Events.{events, imported}, Grants.{held}, Histories.{last_moment}}
 use Rattle.plant_model.specs.{Kinds.{OneUnit, OwnShelves, OwnUnits, Subject, says, subject_of}, Legality.{IsLegal}, Rows.{rows_of}}
 use Rattle.plant_model.specs.{Verdicts.{changes_history, verdict}, declared.{call.{Call.{Call}, Request.{Request}}, reply.Refused.{Refused}}}
-use Rattle.plant_model.specs.declared.{reply.Reply.{Reply, TheVariants.{Imported}}, rows.{UnitRow.{UnitRow}, UnitRows.{UnitRows}}}
+use Rattle.plant_model.specs.declared.{reply.Reply.{Reply}, rows.{UnitRow.{UnitRow}, UnitRows.{UnitRows}}}
 use Rattle.plant_types.specs.{Limits.{max_events}, Names.{Name}, declared.role.Role.TheVariants.{Operator}}
+use Rattle.plant_model.specs.declared.reply.Reply.TheVariants as reply
 
 -- the rows that calls import, the calls' oldest first
 abbrev pub rows_imported : List Call → List Event
@@ -47,8 +48,19 @@ AreAccepted h (c ∷ calls) = (changes_history (verdict h c) c ≡ true) × AreA
 
 -- how many rows an answer says were new
 abbrev pub new_in : Result Reply Refused → ℕ
-new_in (Ok (Imported new repeated)) = new
-new_in _ = 0
+new_in (Ok (reply.Imported new repeated)) = new
+new_in (Ok reply.Done) = 0
+new_in (Ok (reply.Number n)) = 0
+new_in (Ok (reply.Status row)) = 0
+new_in (Ok (reply.RecordOf row)) = 0
+new_in (Ok (reply.ChangeOf row)) = 0
+new_in (Ok (reply.Units lines)) = 0
+new_in (Ok (reply.Shelves u t lines)) = 0
+new_in (Ok (reply.Standing u t lines)) = 0
+new_in (Ok (reply.Alarms u t lines)) = 0
+new_in (Ok (reply.Floods u begin until lines)) = 0
+new_in (Ok (reply.Mine p t lines)) = 0
+new_in (Err refused) = 0
 
 -- how many rows the answers to calls say were new, one call after another
 abbrev pub new_counted : List Call → List Call → ℕ

@@ -1,11 +1,15 @@
--- Isolation, over the definitions alone.
-use Rattle.std.specs.{FinMap.{keys}, List.{list_all}, Prelude.{Bool, List, None, Option, Some, false, is_none, is_some, true, ℕ, ◌<◌, ◌≡◌}}
+-- What holds of the definitions alone: isolation, legality, ends, the quota, and what is said of shelves.
+use Rattle.std.specs.{FinMap.{keys}, List.{AllByRecursion, list_all}}
+use Rattle.std.specs.Prelude.{Bool, List, None, Option, Some, count_by, false, filter_map, flat_map, is_none, is_some, map, not, true, ℕ, ◌&&◌, ◌<◌, ◌≡◌}
 use Rattle.plant_types.specs.{Limits.{max_quota}, Names.{Name, same_name}, Roles.{Pair}}
 use Rattle.plant_model.specs.{Events.{events_of}, Facts.{facts, others_shelved, shelf_now}, Grants.{held, holds_any, stands}, Histories.{Begins}}
-use Rattle.plant_model.specs.{Histories.{Over, Said}, Kinds.{says}, Legality.{IsLegal, has_matrix}, Rows.{alarm_row}, Shelves.{shelf, shelf_left}}
+use Rattle.plant_model.specs.{Histories.{Over, Said}, Kinds.{says}, Keys.{AllPutOverSeen}, Legality.{IsLegal, has_matrix, may_follow}}
+use Rattle.plant_model.specs.{Replies.{alarm_lines, line_of, shelf_lines, standing_lines}, Rows.{alarm_row, rows_of, shelf_rows}}
+use Rattle.plant_model.specs.{Calls.{changes_for}, Parts.{part_of}, Shelves.{shelf, shelf_left}}
 use Rattle.plant_model.specs.{Views.{IsAlwaysInside, answers_to, grants_to, purge, view}, Worlds.{IsLegalWorld, World, answer, empty_world, history}}
-use Rattle.plant_model.specs.{Worlds.{next, unit_named, units_held}, declared.call.{Call.{Call}, Request.{Request}}}
-use Rattle.plant_alarm.specs.Shelves.{shelf_of}
+use Rattle.plant_model.specs.{Worlds.{mine_line, mine_lines, next, unit_named, units_held}, declared.call.{Call.{Call}, Request.{Request}}}
+use Rattle.plant_model.specs.declared.reply.{AlarmLine.{AlarmLine}, ShelfLine.{ShelfLine}, StandingLine.{StandingLine}}
+use Rattle.plant_alarm.specs.{Shelves.{is_unshelved, shelf_of}, declared.shelf.ShelfState.{ShelfState}}
 
 -- a call that names no unit that the person sees, and grants the person nothing, changes nothing that the person sees of the units
 abbrev pub UnseenCallsChangeNothing : Type 0
@@ -72,8 +76,39 @@ abbrev pub QuotaOf2000RefusesNothing : Type 0
 QuotaOf2000RefusesNothing =
     (h : List Call) → IsLegal h → (a : Name) (t : ℕ) → is_some (alarm_row h a) ≡ true → others_shelved (facts h) a t < max_quota
 
--- in a legal history the shelf that a verdict sees, by the alarm's last return, is what all its events leave of it: a one-shot
--- shelf holds until some return after its start
+-- the shelf of an alarm at a moment, as all its events leave it: a one-shot shelf holds until some return after its start
+abbrev pub shelf_in_history : List Call → Name → ℕ → ShelfState
+shelf_in_history h a t = shelf_of (shelf_left (shelf h a)) (events_of h a) t
+
+-- the lines of the shelves that hold, each by that
+abbrev pub lines_in_history : List Call → ℕ → List ShelfLine
+lines_in_history h t = filter_map (λ s. line_of s (shelf_in_history h s.tag t)) (shelf_rows h)
+
+-- how many other alarms are shelved by it
+abbrev pub others_in_history : List Call → Name → ℕ → ℕ
+others_in_history h a t = count_by (λ s. not (same_name a s.tag) && not (is_unshelved (shelf_in_history h s.tag t))) (shelf_rows h)
+
+-- all that a verdict and its reply say of shelves at a moment is that: the state of one alarm, the lines of shelves, of alarms and of
+-- standing alarms, and what is counted for the quota
+pub record SaysShelves (h : List Call) (t : ℕ) : Type 0 where
+  pub state : (a : Name) → shelf_now (facts h) a t ≡ shelf_in_history h a t
+  pub lines : shelf_lines (facts h) t ≡ lines_in_history h t
+  pub alarms : AllByRecursion (λ (l : AlarmLine). l.shelved ≡ not (is_unshelved (shelf_in_history h l.tag t))) (alarm_lines (facts h) t)
+  pub standing : AllByRecursion (λ (l : StandingLine). l.shelved ≡ not (is_unshelved (shelf_in_history h l.tag t))) (standing_lines (facts h) t)
+  pub others : (a : Name) → others_shelved (facts h) a t ≡ others_in_history h a t
+
+-- a verdict sees an alarm's last return alone; in a legal history that makes no difference
 abbrev pub ShelvesEndByReturns : Type 0
-ShelvesEndByReturns =
-    (h : List Call) → IsLegal h → (a : Name) (t : ℕ) → shelf_now (facts h) a t ≡ shelf_of (shelf_left (shelf h a)) (events_of h a) t
+ShelvesEndByReturns = (h : List Call) → IsLegal h → (t : ℕ) → SaysShelves h t
+
+-- nor does it to the list of the shelves of several units
+abbrev pub AllShelvesEndByReturns : Type 0
+AllShelvesEndByReturns =
+    (units : List (Name × List Call)) → AllByRecursion (λ (e : Name × List Call). IsLegal e.1) units → (t : ℕ)
+    → mine_lines t units ≡ flat_map (λ e. map (mine_line e.0) (lines_in_history e.1 t)) units
+
+-- each row that an accepted call puts over another lies in what the call looks at, whatever the legal history
+abbrev pub PutsOverWhatIsSeen : Type 0
+PutsOverWhatIsSeen =
+    (h : List Call) (c : Call) → IsLegal h → may_follow h c ≡ true
+    → AllPutOverSeen (rows_of h) (part_of c (rows_of h)).rows (changes_for (facts h) c)

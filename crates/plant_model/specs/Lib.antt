@@ -19,6 +19,7 @@ pub mod Found
 pub mod Parts
 pub mod Scopes
 pub mod RowChanges
+pub mod Keys
 pub mod Calls
 pub mod Worlds
 pub mod Views

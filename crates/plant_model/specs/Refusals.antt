@@ -6,9 +6,9 @@ use Rattle.plant_model.specs.{Facts.{Facts, limit_revision_of, matrix_revision_o
 use Rattle.plant_model.specs.{RowFacts.{alarm_tag}, declared.reply.{ChangeRow.{ChangeRow}, Full.TheVariants.{Events as TooManyEvents}}}
 use Rattle.plant_model.specs.declared.reply.Refused.{Refused}
 use Rattle.plant_model.specs.declared.reply.Refused.TheVariants.{BaseChanged, ChangeUnknown, NotAnAlarm, NotProposed, OutsideMatrix, AlarmUnknown, BadFile as FileRefused, RoleLacking, ShelfQuota, UnitFull}
-use Rattle.plant_ration.specs.{Grid.{Grid}, Matrix.{priority_of, row_of}, declared.cell.Cell.{Cell, TheVariants.{N}}}
+use Rattle.plant_ration.specs.{Grid.{Grid}, Matrix.{priority_of, row_of}, declared.cell.Cell.{Cell, TheVariants.{N, P1, P2, P3, P4}}}
 use Rattle.plant_ration.specs.declared.change.{ChangeKind.{ChangeKind, TheVariants.{Limit, Matrix, Rationale}}, ChangeState.{ChangeState}}
-use Rattle.plant_ration.specs.declared.change.ChangeState.TheVariants.{Proposed}
+use Rattle.plant_ration.specs.declared.change.ChangeState.TheVariants.{Approved, Proposed, Rejected, Withdrawn}
 use Rattle.plant_types.specs.{Limits.{max_events}, Names.{Name}, Roles.{all_roles}, declared.role.Role.{Role}}
 use Rattle.plant_alarm.specs.declared.event.Event.{Event}
 use Rattle.plant_import.specs.{Merging.{first_fault}, Numbers.{new_numbers}, declared.bad_file.BadFile.{BadFile}}
@@ -44,8 +44,12 @@ abbrev pub base_changed : ℕ → ℕ → Bool × Refused
 base_changed base revision = (not (same_number base revision), BaseChanged revision)
 
 abbrev pub is_not_needed : Option Cell → Bool
+is_not_needed None = false
 is_not_needed (Some N) = true
-is_not_needed _ = false
+is_not_needed (Some P1) = false
+is_not_needed (Some P2) = false
+is_not_needed (Some P3) = false
+is_not_needed (Some P4) = false
 
 abbrev pub has_row : Grid → ℕ → Bool
 has_row m severity = is_some (row_of m severity)
@@ -59,7 +63,9 @@ kind_refusals f base (Limit a max) = base_changed base (limit_revision_of f a) �
 -- a decision is about a change that is there and not decided yet
 abbrev pub is_open : ChangeState → Bool
 is_open Proposed = true
-is_open _ = false
+is_open Approved = false
+is_open Rejected = false
+is_open Withdrawn = false
 
 abbrev pub of_change : Option ChangeRow → (ChangeRow → List (Bool × Refused)) → List (Bool × Refused)
 of_change None refusals = (true, ChangeUnknown) ∷ []

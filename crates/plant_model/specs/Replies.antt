@@ -1,10 +1,10 @@
 -- What stands in the replies to accepted calls.
 use Rattle.std.specs.Prelude.{List, None, Option, Some, false, filter_map, is_some, length, map, not, option_map, true, ℕ, ◌-◌, ◌||◌}
-use Rattle.plant_model.specs.{Facts.{Facts, returned}, Rows.{revision_of_limit}, Shelves.{shelf, shelf_left}, declared.reply.AlarmLine.{AlarmLine}}
+use Rattle.plant_model.specs.{Facts.{Facts, returned}, Rows.{revision_of_limit}, Shelves.{state_of_shelf}, declared.reply.AlarmLine.{AlarmLine}}
 use Rattle.plant_model.specs.declared.reply.{ChangeRow.{ChangeRow}, Reply.{Reply}}
 use Rattle.plant_model.specs.declared.reply.{Reply.TheVariants.{ChangeOf as ChangeReply, Done, Imported, Status as StatusOf}, ShelfLine.{ShelfLine}}
 use Rattle.plant_model.specs.declared.{reply.{StandingLine.{StandingLine}, StatusRow.{StatusRow}}, rows.{AlarmRow.{AlarmRow}, ShelfRow.{ShelfRow}}}
-use Rattle.plant_alarm.specs.{Shelves.{is_unshelved, shelf_state}, declared.{event.Event.{Event}, shelf.ShelfState.{ShelfState}}}
+use Rattle.plant_alarm.specs.{Shelves.{is_unshelved}, declared.{event.Event.{Event}, shelf.ShelfState.{ShelfState}}}
 use Rattle.plant_alarm.specs.declared.shelf.ShelfState.TheVariants.{OneShotShelved, TimedShelved, Unshelved}
 use Rattle.plant_import.specs.Merging.{fresh}
 
@@ -29,7 +29,7 @@ line_of s (TimedShelved left) = Some (record { tag = s.tag; one_shot = false; st
 line_of s (OneShotShelved left) = Some (record { tag = s.tag; one_shot = true; start = s.start_s; left = left; person = s.person; words = s.words })
 
 abbrev pub shelf_lines : Facts → ℕ → List ShelfLine
-shelf_lines f t = filter_map (λ s. line_of s (shelf_state (shelf_left (Some s)) (returned f s.tag) t)) f.shelves
+shelf_lines f t = filter_map (λ s. line_of s (state_of_shelf (Some s) (returned f s.tag) t)) f.shelves
 
 -- the line of an alarm: its suppression by kind, and its priority if it has a record
 abbrev pub alarm_line : Facts → ℕ → AlarmRow → AlarmLine
@@ -38,7 +38,7 @@ alarm_line f t r =
       tag = r.tag;
       state = r.state_no;
       priority = f.priority r.tag;
-      shelved = not (is_unshelved (shelf_state (shelf_left (f.shelf r.tag)) r.return_s t));
+      shelved = not (is_unshelved (state_of_shelf (f.shelf r.tag) r.return_s t));
       by_design = r.suppressed;
       out_of_service = is_some r.out_s;
       limit = r.max_s;

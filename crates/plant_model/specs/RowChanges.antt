@@ -48,7 +48,16 @@ no_rows = record { units = []; grants = []; alarms = []; shelves = []; events = 
 -- some change puts the unit's own row
 abbrev pub is_unit_put : RowEdit → Bool
 is_unit_put (Put (UnitPut r)) = true
-is_unit_put _ = false
+is_unit_put (Put (GrantPut r)) = false
+is_unit_put (Put (AlarmPut r)) = false
+is_unit_put (Put (ShelfPut r)) = false
+is_unit_put (Put (EventPut e)) = false
+is_unit_put (Put (BandPut r)) = false
+is_unit_put (Put (CellPut r)) = false
+is_unit_put (Put (RecordPut r)) = false
+is_unit_put (Put (ChangePut r)) = false
+is_unit_put (PutEvents es) = false
+is_unit_put (Remove k) = false
 
 abbrev pub puts_unit : List RowEdit → Bool
 puts_unit cs = list_any is_unit_put cs

@@ -1,6 +1,6 @@
 -- Shelving: what the last method of the shelved state machine of OPC 10000-9 left.
 use Rattle.std.specs.Prelude.{Bool, List, None, Option, Some, false, if◌then◌else◌, true, unwrap_or, ℕ, ◌+◌}
-use Rattle.plant_alarm.specs.declared.shelf.Shelf.{Shelf, TheVariants.{Clear, OneShot, Timed}}
+use Rattle.plant_alarm.specs.{Shelves.{shelf_state}, declared.shelf.{Shelf.{Shelf, TheVariants.{Clear, OneShot, Timed}}, ShelfState.{ShelfState}}}
 use Rattle.plant_model.specs.{Alarms.{limit}, Histories.{Begins, Over, Said, latest, still}, Kinds.{NewShelf, OneShotShelf, TimedShelf, says}}
 use Rattle.plant_model.specs.declared.{call.{Call.{Call}, Request.{Request}}, rows.ShelfRow.{ShelfRow}}
 use Rattle.plant_types.specs.{Names.{Name, same_name}, Options.{when}}
@@ -29,3 +29,8 @@ shelf h a = still (latest (λ c before. said_of_shelf a c.person c.moment before
 abbrev pub shelf_left : Option ShelfRow → Shelf
 shelf_left None = Clear
 shelf_left (Some s) = if s.one_shot then OneShot s.start_s s.until_s else Timed s.start_s s.until_s
+
+-- the shelved state at a moment, by the shelf that the last method left and the moment of the alarm's last return to normal: every
+-- answer and the quota say their shelf by it
+abbrev pub state_of_shelf : Option ShelfRow → Option ℕ → ℕ → ShelfState
+state_of_shelf shelf returned t = shelf_state (shelf_left shelf) returned t

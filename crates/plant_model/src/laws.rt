@@ -1,7 +1,7 @@
 //! What holds of the definitions alone: contracts that stand on empty bodies.
 
 ghost use Rattle.plant_model.specs.ImportLaw.{ImportsAgree};
-ghost use Rattle.plant_model.specs.Laws.{UnseenCallsChangeNothing, CodesAreTheAdministrators, EqualViewsEqualAnswers, CallsToSeenUnits, FirstWorldsAreLegal, OthersCallsCanGo, NextWorldsAreLegal, WithoutEndsStandingIsHolding, QuotaOf2000RefusesNothing, ShelvesEndByReturns};
+ghost use Rattle.plant_model.specs.Laws.{AllShelvesEndByReturns, UnseenCallsChangeNothing, CodesAreTheAdministrators, EqualViewsEqualAnswers, CallsToSeenUnits, FirstWorldsAreLegal, OthersCallsCanGo, NextWorldsAreLegal, WithoutEndsStandingIsHolding, PutsOverWhatIsSeen, QuotaOf2000RefusesNothing, ShelvesEndByReturns};
 ghost use Rattle.plant_model.specs.Openings.{HistoriesAreOwn};
 
 /// Isolation: what one person sees of two worlds.
@@ -47,7 +47,16 @@ pub fn imports_agree()
     ensures { ImportsAgree }
 {}
 
-/// A verdict looks at an alarm's last return alone. It sees the shelf that all returns of the alarm leave.
+/// A verdict looks at an alarm's last return alone. What every answer and the quota say of a shelf is what all returns of its alarm
+/// leave of it.
 pub fn shelves_end_by_returns()
-    ensures { ShelvesEndByReturns }
+    ensures unit { ShelvesEndByReturns }
+    ensures units { AllShelvesEndByReturns }
+{}
+
+/// Each row that an accepted call puts over another is among the rows that the call looks at, so a keeper that looks for it there
+/// finds it.
+#[tactic(auto, using(crate::proofs::KeyLaws::puts_over_seen))]
+pub fn changes_lie_in_what_is_seen()
+    ensures { PutsOverWhatIsSeen }
 {}

@@ -19,10 +19,12 @@ IfSaid (Faulted f) P = Unit {0}
 
 -- what holds if the answer is a fault
 abbrev pub OnFault : Answer → Type 0 → Type 0
+OnFault (Replied r) P = Unit {0}
+OnFault (WasRefused r) P = Unit {0}
 OnFault (Faulted f) P = P
-OnFault _ P = Unit {0}
 
 -- the count of the books' answers Store rises by one where the answer is Store, and else stays
 abbrev pub CountsAnswer : ℕ → ℕ → Answer → Type 0
+CountsAnswer old new (Replied r) = new ≡ old
+CountsAnswer old new (WasRefused r) = new ≡ old
 CountsAnswer old new (Faulted f) = CountsFault old new f
-CountsAnswer old new _ = new ≡ old

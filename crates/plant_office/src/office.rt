@@ -6,7 +6,7 @@ ghost use Rattle.plant_model.specs.{Views.{view}, Worlds.{World, IsLegalWorld, u
 ghost use Rattle.plant_model.specs.declared.rows.UnitRows.{UnitRows};
 ghost use Rattle.plant_office.specs.{Answers.{CountsAnswer, IfSaid, OnFault, answer_as}, Lines.{line_of_mine, line_of_shelf}};
 ghost use Rattle.plant_office.specs.Enduring.{EnduresAll, EnduresSettled, books_state};
-ghost use Rattle.plant_office.specs.{Runs.{AllChangeNothing, IsRun, stores_in}, Served.{Holds, IsIsolated, IsServed}, Serves.{Serves}};
+ghost use Rattle.plant_office.specs.{Runs.{AllChangeNothing, EachKeepsUnchanged, IsRun, stores_in}, Served.{Holds, IsIsolated, IsServed}, Serves.{Serves}};
 
 use plant_books::{Books, MineRow, MineUnit};
 use plant_model::{
@@ -75,9 +75,32 @@ fn note_proposed(kind: &ChangeKind)
     }
 }
 
+/// Which faults were answered.
+#[derive(Clone, Copy, Debug, PartialEq, Eq)]
+pub struct Faults {
+    pub memory: bool,
+    pub store: bool,
+}
+
+/// No fault.
+const NO_FAULTS: Faults = Faults {
+    memory: false,
+    store: false,
+};
+
+/// Notes the fault that was said, if one was.
+fn note_fault(faults: &mut Faults, said: &Result<Result<Reply, Refused>, Fault>) {
+    match said {
+        Ok(_) => {}
+        Err(Fault::Memory) => faults.memory = true,
+        Err(Fault::Store) => faults.store = true,
+    }
+}
+
 /// The office over the books that keep its units.
 pub struct Office<B: Books> {
     books: B,
+    faults: Faults,
     alloc: Global,
 }
 
@@ -86,15 +109,35 @@ impl<B: Books> Office<B> {
     pub fn new(alloc: Global, books: B) -> Office<B>
         ensures { result.books ≡ books }
     {
-        Office { books, alloc }
+        Office {
+            books,
+            faults: NO_FAULTS,
+            alloc,
+        }
     }
 
     /// The books, as the office left them.
     pub fn into_books(self) -> B
         ensures { result ≡ self.books }
     {
-        let Office { books, alloc: _ } = self;
+        let Office { books, .. } = self;
         books
+    }
+
+    /// Which faults were answered since they were last taken.
+    pub fn take_faults(&mut self) -> Faults
+        ensures { self.new.books ≡ self.old.books }
+    {
+        let faults = self.faults;
+        self.faults = NO_FAULTS;
+        faults
+    }
+
+    /// Whether a failure has shut the store behind the books, which are never honest again then. It asks no store and takes no memory.
+    pub fn is_shut(&self) -> bool
+        ensures { IsTrue result → ¬ B.is_honest self.now.books }
+    {
+        self.books.is_shut()
     }
 
     fn lines(&self, units: List<MineUnit>) -> Result<List<UnitLine>, Fault>
@@ -243,13 +286,14 @@ impl<B: Books> Office<B> {
         let said = self.serve_call(call);
         // Tells the proof what a crash leaves now; it does nothing.
         self.books.settle();
+        note_fault(&mut self.faults, &said);
         answer_of(said)
     }
 
     /// Answers the calls in their order, each as `serve` does. Room for all answers is made first: a fault of its own is Memory,
-    /// and then no call was made. Where no answer changes anything, the books are as they were, whatever they hold. A crash
-    /// leaves the books with all calls that were confirmed, or with these and one that was answered by a fault after which none
-    /// was confirmed.
+    /// and then no call was made. A fault, a refusal and a reply to a call that only asks leave the books as they were, call by
+    /// call and whatever the books hold. A crash leaves the books with all calls that were confirmed, or with these and one that
+    /// was answered by a fault after which none was confirmed.
     pub fn run(&mut self, calls: &[Call]) -> Result<Vec<Answer>, Fault>
         ensures ran { (m : Content) → B.represents self.old.books m → (w : World)
             → IsLegalWorld w → Holds m w
@@ -259,6 +303,8 @@ impl<B: Books> Office<B> {
         ensures unchanged { (m : Content) → B.represents self.old.books m
             → IfOk result (λ answers. AllChangeNothing calls.now answers.items
             → B.represents self.new.books m) }
+        ensures kept { IfOk result (λ answers. EachKeepsUnchanged B.represents
+            calls.now answers.items self.old.books self.new.books) }
         ensures endures { IfOk result (λ answers. EnduresAll
             (books_state B.Books self.old.books) (books_state B.Books self.new.books)
             calls.now answers.items) }

@@ -1,10 +1,11 @@
 -- What the files of a database held when they were opened, and what an error of the engine is reported as.
-use Rattle.sqlite.specs.{Effect.{Database, IsDatabase}, Files.{HoldsDatabase}, declared.error.Error.{Error, TheVariants.{SqliteFailure}}}
+use Rattle.std.specs.Prelude.{◌≡◌}
+use Rattle.sqlite.specs.{Effect.{Database, IsDatabase}, Files.{HoldsDatabase}, State.{HasCleanDisk, State}, Tree.{Trees}, declared.error.Error.{Error, TheVariants.{SqliteFailure}}}
 use Rattle.sqlite.specs.declared.error.ErrorCode.TheVariants.{NotADatabase, OutOfMemory}
 use Rattle.sqlite_trees.specs.declared.error.StoreError.{StoreError}
 use Rattle.sqlite_wal.specs.Recovery.{Image}
 use Rattle.plant_books.specs.Contents.{Content}
-use Rattle.plant_store.specs.{Keeping.{HaveRows}, declared.tables.StoreFault.{StoreFault}}
+use Rattle.plant_store.specs.{Changes.{IsHonest}, Keeping.{HaveRows}, Upgrading.{HaveOldRows}, declared.tables.StoreFault.{StoreFault}}
 use Rattle.plant_types.specs.declared.fault.Fault.TheVariants.{Memory, Store}
 use Rattle.plant_store.specs.declared.tables.StoreFault.TheVariants as store_fault
 use Rattle.sqlite_trees.specs.declared.error.StoreError.TheVariants as store_error
@@ -19,6 +20,17 @@ pub record HoldBooks (files : Image) (m : Content) : Type 0 where
   pub db : Database
   pub database : HoldDatabase files db
   pub rows : HaveRows m db
+
+-- they hold a store of schema 1 that has this content
+pub record HoldOldBooks (files : Image) (m : Content) : Type 0 where
+  pub db : Database
+  pub database : HoldDatabase files db
+  pub rows : HaveOldRows m db
+
+-- a connection still shows this database, and a crash leaves nothing else
+pub record HoldsStill (s : State) (db : Database) : Type 0 where
+  pub shown : IsHonest s → s.now ≡ db
+  pub left : HasCleanDisk s → (trees : Trees) → s.may_leave trees → trees ≡ db.trees
 
 -- a file that is not a database is not this store; every other error is a fault, of memory or of the store
 abbrev pub fault_of : Error → StoreFault

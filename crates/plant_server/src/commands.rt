@@ -453,7 +453,11 @@ fn migrate_and_say(
 ) -> ExitStatus
     ensures { IsOfMigration result }
 {
-    let outcome = migrate_file(rt, old, new, admin);
+    let (_, made) = migrate_file(rt, old, new, admin, Unknown);
+    let outcome = match made {
+        Ok(_) => Ok(()),
+        Err(fault) => Err(fault),
+    };
     report_migration(output, errors, outcome)
 }
 

@@ -12,6 +12,7 @@ ghost use Rattle.plant_server.specs.{Crashes.{HoldWholeBooks, LeavesOnly}, Files
 ghost use Rattle.plant_store.specs.{Changes.{IsHonest}, Keeping.{Represents}, Opening.{IsThisOffice}, Reading.{HasNoTransaction}};
 ghost use Rattle.plant_server.specs.Files as files;
 
+use crate::openings::open_at;
 use crate::remains::close_whole;
 use plant_store::{StoreFault, Tables};
 use plant_types::{Fault, Person};
@@ -62,7 +63,7 @@ pub fn connect<S: Start>(
         × IsFresh true opened.log × IsFresh false opened.db
         × (IsCleanLeft left → LeavesFiles opened left))) }
 {
-    match Connection::open_from(rt, path, true, start) {
+    match open_at(rt, path, start) {
         Ok(conn) => Ok(conn),
         Err((error, left)) => Err((fault_of(&error), left)),
     }

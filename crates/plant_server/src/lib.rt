@@ -6,11 +6,13 @@ mod books;
 mod commands;
 mod files;
 mod migrations;
+mod openings;
 mod remains;
 mod sockets;
 mod statuses;
 
 pub use commands::{command, serve_file};
+pub use migrations::{Migrated, migrate_file};
 pub use plant_connections::{Listener, serve_connections};
 pub use sockets::Port;
 pub use statuses::ExitStatus;

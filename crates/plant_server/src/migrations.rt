@@ -1,19 +1,19 @@
 //! The migration of a file of the older schema: its tables are copied to a new file.
 
-ghost use Rattle.std.specs.Prelude.{◌≡◌, IfOk, false};
-ghost use Rattle.sqlite.specs.{Files.{file_state}, Held.{state}};
-ghost use Rattle.sqlite_wal.specs.Reads.{AreClean};
+ghost use Rattle.std.specs.Prelude.{◌≡◌, IfErr, IfOk, IfSome, IsErr, IsSomeAnd, Ok, false};
+ghost use Rattle.sqlite.specs.{Effect.{Database}, Files.{file_state, IsOpened}, Held.{state}, Start.{FindsIn}, State.{HasCleanDisk}};
+ghost use Rattle.sqlite_wal.specs.{Files.{image_at}, Reads.{AreClean}};
 ghost use Rattle.plant_books.specs.Contents.{Content};
-ghost use Rattle.plant_server.specs.Crashes.{HoldWholeBooks};
-ghost use Rattle.plant_store.specs.{Changes.{IsHonest}, Keeping.{Represents}, Reading.{HasNoTransaction}, Upgrading.{HaveOldRows}};
+ghost use Rattle.plant_server.specs.{Crashes.{HoldWholeBooks}, Files.{HoldDatabase, HoldOldBooks, HoldsStill}};
+ghost use Rattle.plant_store.specs.{Changes.{IsHonest}, Keeping.{Represents}, OnlyReads.{OnlyReads}, Reading.{HasNoTransaction}, Upgrading.{HaveOldRows}};
 
 use crate::files::{
     NewNames, STORE, beside, close_new, connect, is_there, length_of, new_names, put_in_place,
     remove,
 };
-use plant_store::{StoreFault, Tables, migrate};
+use plant_store::{StoreFault, Tables, migrate, note_settled};
 use plant_types::Person;
-use sqlite::{Alter, Connection, File, FileStore, Unknown};
+use sqlite::{Alter, Connection, File, FileFrom, FileStore, Start, Unknown};
 use sqlite_disk::{Disk, Files};
 use std::alloc::Global;
 use std::fs;
@@ -54,19 +54,26 @@ fn discard(rt: &HostRuntime, new: &NewNames) {
     let _ = remove(rt, &new.log);
 }
 
+<<<<<<< HEAD
+/// Copies the tables of the older database to the new one, and hands the older one back, which was only read. What the older tables
+/// had, the new books hold.
+fn copy_tables<D: Disk + Drop, N: Alter + Drop>(
+=======
 /// Copies the tables of the older database to the new one, and hands the older one back. What the older tables had, the
 /// new books hold.
 fn copy_tables<N: Alter + Drop>(
+>>>>>>> final2
     alloc: Global,
-    old: Connection<FileStore<File>>,
+    old: Connection<FileStore<D>>,
     new: Connection<N>,
     admin: Person,
-) -> (Connection<FileStore<File>>, Result<Tables<N>, StoreFault>)
+) -> (Connection<FileStore<D>>, Result<Tables<N>, StoreFault>)
     requires older { HasNoTransaction old }
     requires newer { HasNoTransaction new }
-    ensures { (m : Content) → m.admin ≡ admin
+    ensures taken { (m : Content) → m.admin ≡ admin
         → IfOk result.1 (λ books. IsHonest (file_state result.0)
         → HaveOldRows m (file_state old).now → Represents (state N.Store books.0.0) m) }
+    ensures read { OnlyReads (file_state old) (file_state result.0) }
 {
     match migrate(alloc, old, new, admin) {
         Ok((old, books)) => (old, Ok(books)),
@@ -74,21 +81,29 @@ fn copy_tables<N: Alter + Drop>(
     }
 }
 
+<<<<<<< HEAD
+/// Makes the new file under this name, and hands the older database back, which was only read. What the older tables had, the new books
+/// hold.
+#[tactic(auto, using(crate::proofs::OlderRead::not_read))]
+fn copy_to_file<D: Disk + Drop>(
+=======
 /// Makes the new file under this name, and hands the older database back. What the older tables had, the new books
 /// hold.
 fn copy_to_file(
+>>>>>>> final2
     rt: &HostRuntime,
-    old: Connection<FileStore<File>>,
+    old: Connection<FileStore<D>>,
     path: &str,
     admin: Person,
 ) -> (
-    Connection<FileStore<File>>,
+    Connection<FileStore<D>>,
     Result<Tables<FileStore<File>>, StoreFault>,
 )
     requires { HasNoTransaction old }
-    ensures { (m : Content) → m.admin ≡ admin
+    ensures taken { (m : Content) → m.admin ≡ admin
         → IfOk result.1 (λ books. IsHonest (file_state result.0)
         → HaveOldRows m (file_state old).now → Represents (file_state books.0.0) m) }
+    ensures read { OnlyReads (file_state old) (file_state result.0) }
 {
     match connect(rt, path, Unknown) {
         Ok(conn) => copy_tables(rt.alloc(), old, conn, admin),
@@ -96,6 +111,10 @@ fn copy_to_file(
     }
 }
 
+<<<<<<< HEAD
+/// Closes the new file, if it was made: whatever a crash leaves of it from then on holds the books, also without the log. Where it was
+/// not made, or closing fails, nothing of it is left.
+=======
 /// Makes the new file under the name beside it, and hands the older database back. What the older tables had, the new
 /// books hold. Where it can't be made, nothing of it is left.
 fn make_new(
@@ -125,21 +144,51 @@ fn make_new(
 
 /// Closes the new file: whatever a crash leaves of it from then on holds the books, also without the log. Where closing
 /// fails, nothing of it is left.
+>>>>>>> final2
 fn finish(
     rt: &HostRuntime,
-    books: Tables<FileStore<File>>,
+    made: Result<Tables<FileStore<File>>, StoreFault>,
     new: &NewNames,
 ) -> Result<Files<File>, StoreFault>
-    ensures { (m : Content) → Represents (file_state books.0.0) m
+    ensures whole { (m : Content) → IfOk made (λ books. Represents (file_state books.0.0) m
         → IfOk result (λ files. AreClean ⟦<File as Disk>⟧ files.log files.db
-        → HoldWholeBooks ⟦<File as Disk>⟧ files m) }
+        → HoldWholeBooks ⟦<File as Disk>⟧ files m)) }
+    ensures unmade { IfErr made (λ _. IsErr result) }
 {
-    let closed = close_new(books);
+    let closed = match made {
+        Ok(books) => close_new(books),
+        Err(fault) => Err(fault),
+    };
     if closed.is_err() {
         discard(rt, new);
     }
     closed
 }
+
+/// Makes the new file under the name beside it, closed, and hands the older database back, which was only read. What the older tables had,
+/// the new file holds. Where it can't be made, nothing of it is left.
+#[tactic(auto, using(crate::proofs::OlderRead::not_read))]
+fn make_new<D: Disk + Drop>(
+    rt: &HostRuntime,
+    old: Connection<FileStore<D>>,
+    old_path: &str,
+    new: &NewNames,
+    admin: Person,
+) -> (Connection<FileStore<D>>, Result<Files<File>, StoreFault>)
+    requires { HasNoTransaction old }
+    ensures taken { (m : Content) → m.admin ≡ admin
+        → IfOk result.1 (λ files. IsHonest (file_state result.0)
+        → HaveOldRows m (file_state old).now → AreClean ⟦<File as Disk>⟧ files.log files.db
+        → HoldWholeBooks ⟦<File as Disk>⟧ files m) }
+    ensures read { OnlyReads (file_state old) (file_state result.0) }
+{
+    if let Err(fault) = clear(rt, old_path, new) {
+        return (old, Err(fault));
+    }
+    let (old, made) = copy_to_file(rt, old, &new.file, admin);
+    (old, finish(rt, made, new))
+}
+
 
 /// The name of the log of the file at this path. Where the path is a link, the log is beside the file that it leads to.
 fn log_of(rt: &HostRuntime, path: &str) -> Result<String, StoreFault> {
@@ -149,27 +198,77 @@ fn log_of(rt: &HostRuntime, path: &str) -> Result<String, StoreFault> {
     beside(rt, file.as_str(), "-wal")
 }
 
+<<<<<<< HEAD
+/// The older database, if it was opened, and the closed files of the new one, or why there are none.
+pub type Migrated<S> = (
+    Option<Connection<FileStore<FileFrom<S>>>>,
+    Result<Files<File>, StoreFault>,
+);
+
+/// Makes the new file from the older database, which is only read.
+fn make_from<S: Start>(
+    rt: &HostRuntime,
+    old: Connection<FileStore<FileFrom<S>>>,
+    old_path: &str,
+    new: &NewNames,
+    admin: Person,
+) -> (
+    Connection<FileStore<FileFrom<S>>>,
+    Result<Files<File>, StoreFault>,
+)
+    requires none { HasNoTransaction old }
+    requires opened { HasCleanDisk (file_state old) → IsOpened old }
+    requires found { HasCleanDisk (file_state old) → FindsIn (image_at S.Start) (file_state old) }
+    ensures taken { (m : Content) → m.admin ≡ admin → HoldOldBooks (image_at S.Start) m
+        → IfOk result.1 (λ files. IsHonest (file_state result.0)
+        → AreClean ⟦<File as Disk>⟧ files.log files.db
+        → HoldWholeBooks ⟦<File as Disk>⟧ files m) }
+    ensures read { (db : Database) → HoldDatabase (image_at S.Start) db
+        → HoldsStill (file_state result.0) db }
+{
+    // Tells the proof what a crash leaves of it; it does nothing.
+    note_settled(&old);
+    make_new(rt, old, old_path, new, admin)
+}
+
+/// Opens the older file and makes the new one from it. The older one is only read, and stays locked as long as its connection is there.
+/// The engine makes a log if there is none; it is removed before the lock is given up.
+fn open_and_make<S: Start>(
+=======
 /// Opens the older file and makes the new one from it. The older one is only read, and stays locked meanwhile. The
 /// engine makes a log if there is none; it is removed before the lock is given up.
 fn make_from(
+>>>>>>> final2
     rt: &HostRuntime,
     old_path: &str,
     new: &NewNames,
     admin: Person,
-) -> Result<(), StoreFault> {
+    start: S,
+) -> Result<
+    (
+        Connection<FileStore<FileFrom<S>>>,
+        Result<Files<File>, StoreFault>,
+    ),
+    StoreFault,
+>
+    ensures taken { (m : Content) → m.admin ≡ admin → HoldOldBooks (image_at S.Start) m
+        → IfOk result (λ r. IfOk r.1 (λ files. IsHonest (file_state r.0)
+        → AreClean ⟦<File as Disk>⟧ files.log files.db
+        → HoldWholeBooks ⟦<File as Disk>⟧ files m)) }
+    ensures read { IfOk result (λ r. (db : Database) → HoldDatabase (image_at S.Start) db
+        → HoldsStill (file_state r.0) db) }
+{
     let log = log_of(rt, old_path)?;
     let had_log = length_of(rt, &log)?.is_some();
-    let old = match connect(rt, old_path, Unknown) {
+    let old = match connect(rt, old_path, start) {
         Ok(old) => old,
         Err((fault, _)) => return Err(fault),
     };
-    let (old, made) = make_new(rt, old, old_path, new, admin);
+    let migrated = make_from(rt, old, old_path, new, admin);
     if !had_log {
         let _ = remove(rt, &log);
     }
-    drop(old);
-    drop(finish(rt, made?, new)?);
-    Ok(())
+    Ok(migrated)
 }
 
 /// Makes sure that the name of the file at this path is on the disk.
@@ -184,25 +283,58 @@ fn sync_folder(rt: &HostRuntime, path: &str) -> Result<(), StoreFault> {
     }
 }
 
-/// Copies the tables of the older file to a new one, whose name must be free. The new one is there once it is whole,
-/// or not at all; where its folder can't be synced, it is there and the store's fault is given.
-pub fn migrate_file(
-    rt: &HostRuntime,
-    old_path: &str,
-    new_path: &str,
-    admin: Person,
-) -> Result<(), StoreFault> {
+/// The names under which the new file is made, where the older one is there and the new one's name is free.
+fn names_for(rt: &HostRuntime, old_path: &str, new_path: &str) -> Result<NewNames, StoreFault> {
     if !is_there(rt, old_path)? {
         return Err(StoreFault::NotThisStore);
     }
     if is_taken(rt, new_path)? {
         return Err(STORE);
     }
-    let new = new_names(rt, new_path)?;
-    make_from(rt, old_path, &new, admin)?;
-    if let Err(fault) = put_in_place(rt, &new, new_path) {
-        discard(rt, &new);
+    new_names(rt, new_path)
+}
+
+/// Gives the new file its name, if it was made.
+fn place(
+    rt: &HostRuntime,
+    made: Result<Files<File>, StoreFault>,
+    new: &NewNames,
+    path: &str,
+) -> Result<Files<File>, StoreFault>
+    ensures { IfOk result (λ files. made ≡ Ok files) }
+{
+    let files = made?;
+    if let Err(fault) = put_in_place(rt, new, path) {
+        discard(rt, new);
         return Err(fault);
     }
-    sync_folder(rt, new_path)
+    sync_folder(rt, path)?;
+    Ok(files)
+}
+
+/// Copies the tables of the older file to a new one, whose name must be free. The older file is only read, whatever it holds: on a disk
+/// that returns what was written, what it held it holds. The new one is there once it is whole, or not at all; where its folder can't be
+/// synced, it is there and the store's fault is given. What the older one held of schema 1, the new one holds.
+pub fn migrate_file<S: Start>(
+    rt: &HostRuntime,
+    old_path: &str,
+    new_path: &str,
+    admin: Person,
+    start: S,
+) -> Migrated<S>
+    ensures taken { (m : Content) → m.admin ≡ admin → HoldOldBooks (image_at S.Start) m
+        → IfOk result.1 (λ files. IsSomeAnd result.0 (λ old. IsHonest (file_state old)
+        → AreClean ⟦<File as Disk>⟧ files.log files.db
+        → HoldWholeBooks ⟦<File as Disk>⟧ files m)) }
+    ensures read { IfSome result.0 (λ old. (db : Database) → HoldDatabase (image_at S.Start) db
+        → HoldsStill (file_state old) db) }
+{
+    let new = match names_for(rt, old_path, new_path) {
+        Ok(new) => new,
+        Err(fault) => return (None, Err(fault)),
+    };
+    match open_and_make(rt, old_path, &new, admin, start) {
+        Ok((old, made)) => (Some(old), place(rt, made, &new, new_path)),
+        Err(fault) => (None, Err(fault)),
+    }
 }

@@ -174,6 +174,10 @@ impl<B: Books> Books for Counting<B> {
         self.books.settle();
     }
 
+    fn is_shut(&self) -> bool {
+        self.books.is_shut()
+    }
+
     fn administrator(&self) -> &Person {
         self.books.administrator()
     }

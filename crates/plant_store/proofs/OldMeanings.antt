@@ -1,15 +1,11 @@
 -- What the texts that read a store of schema 1 mean there.
 use Rattle.std.proofs.Common.{refl, List, ℕ, [], ◌∷◌, codes}
-use Rattle.sqlite.{specs.{Listing.{understood}, Query.{inner, end}, Term.{col}}, proofs.Callers.{IsPlain}}
+use Rattle.sqlite.specs.{Listing.{understood}, Query.{inner, end}, Term.{col}}
 use Rattle.sqlite_tied.specs.Compute.{everything}
 use Rattle.plant_columns.specs.{Kept.{plain_query}, declared.tables.TableKind.{TableKind, TheVariants.{Grants, Units}}}
 use Rattle.plant_store.specs.OldTables.{old_books_schema, old_shape, old_unit_shape}
-use Rattle.plant_store.specs.Texts.{office_row_text, old_codes_text, old_grants_text, old_units_text, rows_text}
+use Rattle.plant_store.specs.Texts.{old_codes_text, old_grants_text, old_units_text, rows_text}
 use Rattle.plant_store.proofs.Meanings.{Asks, Lists, by_key, by_unit}
-
-pub office_row_plain : IsPlain (understood old_books_schema office_row_text)
-unfolding understood everything
-office_row_plain = (refl, refl)
 
 pub asks_codes : Asks old_books_schema old_codes_text (plain_query (inner 1 end) [] (col 1 1 ∷ []) (by_key old_unit_shape)) (codes "unit" ∷ [])
 unfolding understood everything

@@ -127,11 +127,16 @@ plain_returning : (r : Result Compiled CompileError) → IsPlain r → (c : Comp
 plain_returning (Ok c) h = (c, refl, h.0)
 plain_returning (Err e) h = absurd h
 
--- a text that is plain under one schema commits nothing as a query, whatever the schema is
+-- a text that is plain under one schema has no RETURNING under any
+pub never_returns : (schema other : Schema) (sql : List ℕ) → IsPlain (understood schema sql) → (c : Compiled) → understood other sql ≡ Ok c → c.returning ≡ None
+never_returns schema other sql plain c is =
+    let one = plain_returning (understood schema sql) plain in
+    same_parsed sql one.0.returning c.returning (asks_understood schema sql one.0 one.1) (asks_understood other sql c is) one.2
+
+-- so as a query it commits nothing, whatever the schema is
 pub never_commits_anywhere : (schema : Schema) (sql : List ℕ) → IsPlain (understood schema sql) → (params : Row) (s : State) (db : Trees) → ¬ CommitsShowing sql params s db
 unfolding CommitsShowing
 never_commits_anywhere schema sql plain params s db h =
-    let one = plain_returning (understood schema sql) plain in
-    let none = same_parsed sql one.0.returning h.0.returning (asks_understood schema sql one.0 one.1) (asks_understood s.now.schema sql h.0 h.1.is) one.2 in
+    let none = never_returns schema s.now.schema sql plain h.0 h.1.is in
     let some = rw none at h.2 in
     true≢false (sym some)

@@ -23,3 +23,8 @@ again_left (Ok found) (Ok again) same left then = tt
 again_left (Ok found) (Err fault) same left then = cc
 again_left (Err e) (Err fault) same left then = then left
 again_left (Err e) (Ok found) same left then = absurd same
+
+-- two things that hold of a success
+pub both_ok : {X E P Q R : Type 0} (said : Result X E) → OnOk said P → OnOk said Q → (P → Q → R) → OnOk said R
+both_ok (Ok found) p q then = then p q
+both_ok (Err e) p q then = tt

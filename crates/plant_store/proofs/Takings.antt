@@ -5,17 +5,17 @@ use Rattle.sqlite.specs.{Effect.{Database}, State.{HasCleanDisk, State}, Tree.{T
 use Rattle.sqlite_keyed.proofs.ListLemmas.{map-map}
 use Rattle.plant_columns.specs.Tables.{AreBooks}
 use Rattle.plant_model.specs.declared.rows.RowEdit.{RowEdit}
-use Rattle.plant_store.specs.{Changes.{Applies, IsHonest}, OldTables.{AreOldBooks}, OnlyReads.{OnlyReadsOld}, StaysInside.{StaysInside}}
+use Rattle.plant_store.specs.{Changes.{Applies, IsHonest}, OldTables.{AreOldBooks}, OnlyReads.{OnlyReads}, StaysInside.{StaysInside}}
 use Rattle.plant_store.proofs.{ReadsOnly.{reads_then}, StepsInside.{stays_then}, Writes.{applies_then}}
 use Rattle.plant_types.specs.Names.{Name}
 
 -- these puts, of what the old tables have, were made of the unit's rows
 pub record Took (u : Name) (puts : Trees → List RowEdit) (had has old new : State) : Type 0 where
-  pub reads : OnlyReadsOld had has
+  pub reads : OnlyReads had has
   pub stays : StaysInside {V = Unit {0}} (Ok tt) old new
   pub made : IsHonest has → AreOldBooks had.now → HasCleanDisk new → IsTrue old.in_transaction → AreBooks old.now → Applies u (puts had.now.trees) old.now new.now
 
-pub took : {u : Name} (puts : Trees → List RowEdit) {had has old new : State} → OnlyReadsOld had has → StaysInside {V = Unit {0}} (Ok tt) old new
+pub took : {u : Name} (puts : Trees → List RowEdit) {had has old new : State} → OnlyReads had has → StaysInside {V = Unit {0}} (Ok tt) old new
     → (IsHonest has → AreOldBooks had.now → HasCleanDisk new → IsTrue old.in_transaction → AreBooks old.now → Applies u (puts had.now.trees) old.now new.now) → Took u puts had has old new
 took puts reads stays made = record { reads = reads; stays = stays; made = made }
 
@@ -25,7 +25,7 @@ took_then {u} {p} {q} {had} {mid} {has} {old} {between} {new} one two = record {
   stays = stays_then one.stays two.stays;
   made = λ honest old_books clean started books.
       let before = two.reads.honest honest in
-      let is = one.reads.same before old_books in
+      let is = one.reads.same before in
       let early : HasCleanDisk between = omega (arith, two.stays.survives.clean) in
       let first = one.made before old_books early started books in
       let second = two.made honest (subst AreOldBooks (sym is) old_books) clean (one.stays.inside early started) first.books in
@@ -33,7 +33,7 @@ took_then {u} {p} {q} {had} {mid} {has} {old} {between} {new} one two = record {
 }
 
 -- rows that were put as what they become
-pub took_as : {u : Name} {X Y : Type 0} (put : Y → RowEdit) (become : X → Y) (rows : Trees → List X) {had has old new : State} → OnlyReadsOld had has → StaysInside {V = Unit {0}} (Ok tt) old new
+pub took_as : {u : Name} {X Y : Type 0} (put : Y → RowEdit) (become : X → Y) (rows : Trees → List X) {had has old new : State} → OnlyReads had has → StaysInside {V = Unit {0}} (Ok tt) old new
     → (IsHonest has → AreOldBooks had.now → HasCleanDisk new → IsTrue old.in_transaction → AreBooks old.now → Applies u (map (λ r. put (become r)) (rows had.now.trees)) old.now new.now)
     → Took u (λ trees. map put (map become (rows trees))) had has old new
 took_as {u} {X} {Y} put become rows {had} {has} {old} {new} reads stays made = took (λ trees. map put (map become (rows trees))) reads stays

@@ -1,15 +1,11 @@
 -- What it is for a connection to keep a content of the books.
-use Rattle.std.specs.{FinMap.{contains_key}, Prelude.{Bool, IsTrue, List, [], false, true, ◌∷◌, ◌≡◌}}
+use Rattle.std.specs.{FinMap.{contains_key}, Prelude.{IsTrue, ◌≡◌}}
 use Rattle.sqlite.specs.{Effect.{Database, IsDatabase}, State.{HasCleanDisk, State}, Tree.{Trees}}
 use Rattle.plant_books.specs.{Contents.{Content, rows_in}, Crashes.{Alike}}
 use Rattle.plant_store.specs.Changes.{IsHonest, IsOfficeOf}
 use Rattle.plant_columns.specs.Tables.{AreBooks, AreSeen}
 use Rattle.plant_types.specs.Names.{Name}
-
--- there is a row
-abbrev pub has_any : {A : Type 0} → List A → Bool
-has_any [] = false
-has_any (x ∷ xs) = true
+pub use Rattle.plant_model.specs.Keys.{has_any}
 
 -- the tables have the rows of each unit, and a unit was opened where it has a row of its own
 pub record HaveRows (m : Content) (db : Database) : Type 0 where

@@ -3,7 +3,6 @@ pub mod Changes
 pub mod Statements
 pub mod Keeping
 pub mod Wanted
-pub mod Keys
 pub mod Making
 pub mod Mine
 pub mod Counting

@@ -3,17 +3,13 @@ use Rattle.std.specs.Prelude.{Bool, IfErr, IfOk, IsTrue, Result, false, ℕ, ◌
 use Rattle.sqlite.specs.Held.{Held, state}
 use Rattle.sqlite_trees.specs.declared.store.Store.{Ghosts}
 use Rattle.plant_books.specs.Contents.{Content}
-use Rattle.plant_store.specs.{Changes.{IsHonest}, Keeping.{Represents}, OldTables.{AreOldBooks}, Opening.{IsOffice, has_office}}
+use Rattle.plant_store.specs.{Changes.{IsHonest}, Keeping.{Represents}, Opening.{IsOffice, has_office}}
 use Rattle.plant_store.specs.declared.tables.StoreFault.{StoreFault, TheVariants.{NotThisStore}}
 use Rattle.plant_types.specs.Names.{Name}
 
 -- the schema has no table `office` with the columns that an office has
 abbrev pub HasNoOffice : {S : Type 0} → Ghosts S → Held S → Type 0
 HasNoOffice g conn = has_office (state g conn).now.schema ≡ false
-
--- its tables are those of a store of schema 1
-abbrev pub HasOldBooks : {S : Type 0} → Ghosts S → Held S → Type 0
-HasOldBooks g conn = AreOldBooks (state g conn).now
 
 -- on an honest disk the result is whether this is an office of the schema and the person
 abbrev pub FindsOffice : {S E : Type 0} → Ghosts S → Held S → Held S → ℕ → Name → Result Bool E → Type 0

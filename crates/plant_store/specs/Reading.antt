@@ -8,17 +8,13 @@ use Rattle.sqlite_value.specs.{Order.{Row as Line}, declared.value.ValueRef.{Val
 use Rattle.plant_books.specs.Contents.{Content}
 use Rattle.plant_columns.specs.{Shown.{columns}, Tables.{AreBooks}}
 use Rattle.plant_model.specs.Histories.{same_number}
-use Rattle.plant_store.specs.{Changes.{IsHonest}, Keeping.{HasContent}, OldTables.{AreOldBooks}, OnlyReads.{OnlyReads, OnlyReadsOld}}
+use Rattle.plant_store.specs.{Changes.{IsHonest}, Keeping.{HasContent}, OldTables.{AreOldBooks}, OnlyReads.{OnlyReads}}
 use Rattle.plant_store.specs.{Upgrading.{old_codes}, declared.old_rows.CodeLine.{CodeLine}}
 use Rattle.plant_types.specs.Names.{Name, same_name}
 
--- the tables of the books are only read
-abbrev pub ReadsBooks : {S : Type 0} → Ghosts S → Held S → Held S → Type 0
-ReadsBooks g before after = OnlyReads (state g before) (state g after)
-
--- the tables of schema 1 are only read
-abbrev pub ReadsOldBooks : {S : Type 0} → Ghosts S → Held S → Held S → Type 0
-ReadsOldBooks g before after = OnlyReadsOld (state g before) (state g after)
+-- the connection is only read
+abbrev pub IsOnlyRead : {S : Type 0} → Ghosts S → Held S → Held S → Type 0
+IsOnlyRead g before after = OnlyReads (state g before) (state g after)
 
 -- no transaction is begun
 abbrev pub HasNoTransaction : {S : Type 0} → Held S → Type 0
@@ -28,11 +24,10 @@ HasNoTransaction conn = conn.in_transaction ≡ false
 abbrev pub IsHonestIn : {S : Type 0} → Ghosts S → Held S → Type 0
 IsHonestIn g conn = IsHonest (state g conn)
 
--- on an honest disk a plain query leaves the database as it was, whatever its schema is
+-- on an honest disk a query that is plain under some schema leaves the database as it was, whatever its own schema is
 abbrev pub SameIfPlain : {S : Type 0} → Ghosts S → Held S → Held S → List ℕ → Type 0
 SameIfPlain g before after sql =
-    IsHonest (state g after) → (schema : Schema) → (state g before).now.schema ≡ schema → IsPlain (understood schema sql)
-    → (state g after).now ≡ (state g before).now
+    IsHonest (state g after) → (schema : Schema) → IsPlain (understood schema sql) → (state g after).now ≡ (state g before).now
 
 -- a crash leaves what it left before, or what the query commits
 abbrev pub CrashesAsShown : {S : Type 0} → Ghosts S → Held S → Held S → List ℕ → List ValueRef → Type 0

@@ -19,4 +19,5 @@ mod write;
 
 pub use laws::old_histories;
 pub use migration::{MigrateRefused, migrate};
+pub use opening::note_settled;
 pub use tables::{StoreFault, Tables, Unopened};

@@ -1,14 +1,14 @@
 //! A plant's rows taken over from a store of schema 1 into new tables of this schema.
 
-ghost use Rattle.std.specs.Prelude.{◌≡◌, ◌≢◌, false, map, IfErr, IfOk, IsErrAnd, IsTrue, OnOk, Err};
+ghost use Rattle.std.specs.Prelude.{◌≡◌, ◌≢◌, ◌⊎◌, false, map, IfErr, IfOk, IsErrAnd, IsTrue, OnOk, Err};
 ghost use Rattle.sqlite.specs.{Held.{state}, State.{HasCleanDisk, Survives}};
 ghost use Rattle.plant_books.specs.Contents.{Content};
 ghost use Rattle.plant_columns.specs.Tables.{no_schema};
 ghost use Rattle.plant_model.specs.declared.rows.RowEdit.TheVariants.{Put};
-ghost use Rattle.plant_types.specs.declared.fault.Fault.TheVariants.{Store};
+ghost use Rattle.plant_types.specs.declared.fault.Fault.TheVariants.{Memory, Store};
 ghost use Rattle.plant_store.specs.{Changes.{IsHonest}, Keeping.{AreBooksOf, HaveRows, Represents}, OldTables.{old_schema_no}};
-ghost use Rattle.plant_store.specs.{Opened.{HasNoOffice, HasOldBooks, IsAnothers, WasOffice}, Opening.{IsOffice}};
-ghost use Rattle.plant_store.specs.{Reading.{HasNoTransaction, ReadsOldBooks}, TakingOver.{AreTaken, Takes, TakesUnit, TakesUnits}};
+ghost use Rattle.plant_store.specs.{Opened.{HasNoOffice, IsAnothers, WasOffice}, Opening.{IsOffice}};
+ghost use Rattle.plant_store.specs.{Reading.{HasNoTransaction, IsOnlyRead}, TakingOver.{AreTaken, Takes, TakesUnit, TakesUnits}};
 ghost use Rattle.plant_store.specs.{Upgrading.{HaveOldRows}, Writing.{IsBlank, SameDatabase, SameOnErr, SameReference, StaysOpen, Writes}};
 ghost use Rattle.plant_store.specs.declared.tables.StoreFault.TheVariants.{NotThisStore};
 
@@ -61,7 +61,7 @@ fn take_rows<T: OldRow, O: Alter, N: Alter>(
 ) -> Result<(), Error>
     requires reading { HasNoTransaction from.old }
     ensures mode { HasNoTransaction from.new }
-    ensures reads { ReadsOldBooks O.Store from.old from.new }
+    ensures reads { IsOnlyRead O.Store from.old from.new }
     ensures same_reference { SameReference tx.old tx.new }
     ensures made { Takes O.Store from.old from.new N.Store tx.old tx.new unit.now
         T.had T.becomes result }
@@ -81,7 +81,7 @@ fn take_unit<O: Alter, N: Alter>(
 ) -> Result<(), Error>
     requires reading { HasNoTransaction from.old }
     ensures mode { HasNoTransaction from.new }
-    ensures reads { ReadsOldBooks O.Store from.old from.new }
+    ensures reads { IsOnlyRead O.Store from.old from.new }
     ensures same_reference { SameReference tx.old tx.new }
     ensures made { TakesUnit O.Store from.old from.new N.Store tx.old tx.new unit.now result }
     ensures stays { StaysOpen N.Store tx.old tx.new result }
@@ -107,7 +107,7 @@ fn take_units<O: Alter, N: Alter>(
 ) -> Result<(), Error>
     requires reading { HasNoTransaction from.old }
     ensures mode { HasNoTransaction from.new }
-    ensures reads { ReadsOldBooks O.Store from.old from.new }
+    ensures reads { IsOnlyRead O.Store from.old from.new }
     ensures same_reference { SameReference tx.old tx.new }
     ensures made { TakesUnits O.Store from.old from.new N.Store tx.old tx.new lines.now result }
     ensures stays { StaysOpen N.Store tx.old tx.new result }
@@ -127,7 +127,7 @@ fn fill<O: Alter, N: Alter>(
 ) -> Result<(), Error>
     requires reading { HasNoTransaction from.old }
     ensures mode { HasNoTransaction from.new }
-    ensures reads { ReadsOldBooks O.Store from.old from.new }
+    ensures reads { IsOnlyRead O.Store from.old from.new }
     ensures same_reference { SameReference tx.old tx.new }
     ensures made { IsHonest (state O.Store from.new) → HasCleanDisk (state N.Store tx.new.conn.now)
         → IsTrue tx.old.conn.now.in_transaction → IsBlank (state N.Store tx.old.conn.now).now
@@ -150,7 +150,7 @@ fn take_over<O: Alter, N: Alter>(
     requires reading { HasNoTransaction from.old }
     requires writing { HasNoTransaction into.old }
     ensures mode { HasNoTransaction from.new }
-    ensures reads { ReadsOldBooks O.Store from.old from.new }
+    ensures reads { IsOnlyRead O.Store from.old from.new }
     ensures outside { HasNoTransaction into.new }
     ensures taken { IsHonest (state O.Store from.new) → IsHonest (state N.Store into.new)
         → IsBlank (state N.Store into.old).now
@@ -179,7 +179,7 @@ fn take_into_blank<O: Alter, N: Alter>(
     requires reading { HasNoTransaction from.old }
     requires writing { HasNoTransaction into.old }
     ensures mode { HasNoTransaction from.new }
-    ensures reads { ReadsOldBooks O.Store from.old from.new }
+    ensures reads { IsOnlyRead O.Store from.old from.new }
     ensures outside { HasNoTransaction into.new }
     ensures taken { IsHonest (state O.Store from.new) → (m : Content) → m.admin ≡ admin.now
         → HaveOldRows m (state O.Store from.old).now
@@ -200,12 +200,13 @@ fn take_into_blank<O: Alter, N: Alter>(
 }
 
 /// Copies a plant's store of schema 1 into a database that has no table: all its rows, with the greatest quota for each
-/// unit and no end for any grant. The old store is only read; the new one is written in one transaction, so that a crash leaves
-/// what it had before or the whole copy.
+/// unit and no end for any grant. The old database is only read, whatever it holds. The new one is written in one transaction, so that a
+/// crash leaves what it had before or the whole copy.
 ///
 /// Refused as `NotThisStore` where the old database is no store of schema 1 with this administrator; the new one is not
 /// looked at then. A fault of the store where the new database has a table, where a row of the old store cannot be read
 /// as a row of its table, or where one of the two connections fails.
+#[tactic(auto, using(crate::proofs::ReadsOnly::reads_then))]
 pub fn migrate<O: Alter, N: Alter>(
     alloc: Global,
     mut old: Connection<O>,
@@ -225,8 +226,11 @@ pub fn migrate<O: Alter, N: Alter>(
     ensures missing { HasNoOffice O.Store old → IsErrAnd result (λ e. e.fault ≡ NotThisStore) }
     ensures own { IsOffice old_schema_no admin (state O.Store old).now
         → IfErr result (λ e. IsHonest (state O.Store e.old) → e.fault ≢ NotThisStore) }
-    ensures read { HasOldBooks O.Store old → IfOk result (λ r. SameDatabase O.Store old r.0) }
-    ensures unread { HasOldBooks O.Store old → IfErr result (λ e. SameDatabase O.Store old e.old) }
+    ensures full { (state N.Store new).now.schema ≢ no_schema → IsErrAnd result (λ e.
+        IsHonest (state O.Store e.old) → IsOffice old_schema_no admin (state O.Store old).now
+        → (e.fault ≡ StoreFault.Fault Store) ⊎ (e.fault ≡ StoreFault.Fault Memory)) }
+    ensures read { IfOk result (λ r. IsOnlyRead O.Store old r.0) }
+    ensures unread { IfErr result (λ e. IsOnlyRead O.Store old e.old) }
     ensures unchanged { IfErr result (λ e. SameDatabase N.Store new e.new) }
     ensures crash { IfOk result (λ r. Survives (state N.Store new) (state N.Store r.1.0.0)
         (AreTaken (state O.Store old) (state O.Store r.0) admin)) }

@@ -1,7 +1,7 @@
 //! The rows of the matrices and the changes that a scope takes in.
 
 ghost use Rattle.std.specs.Prelude.{◌≡◌, ◌++◌, OnOk};
-ghost use Rattle.plant_store.specs.{Parts.{LoadsChanges, LoadsMatrices, LoadsNumbers}, Reading.{HasNoTransaction, ReadsBooks}};
+ghost use Rattle.plant_store.specs.{Parts.{LoadsChanges, LoadsMatrices, LoadsNumbers}, Reading.{HasNoTransaction, IsOnlyRead}};
 
 use crate::read::rows_of_number;
 use crate::stored::Numbered;
@@ -30,7 +30,7 @@ fn rows_of_numbers<T: Numbered, S: Alter>(
     requires { HasNoTransaction conn.old }
     ensures mode { HasNoTransaction conn.new }
     ensures rows { LoadsNumbers S.Store conn.old conn.new T.seen unit.now T.number numbers.now result }
-    ensures reads { ReadsBooks S.Store conn.old conn.new }
+    ensures reads { IsOnlyRead S.Store conn.old conn.new }
 {
     let mut rows = Vec::new(alloc);
     for number in numbers {
@@ -51,7 +51,7 @@ pub fn matrix_rows<T: Numbered, S: Alter>(
     requires { HasNoTransaction conn.old }
     ensures mode { HasNoTransaction conn.new }
     ensures rows { LoadsMatrices S.Store conn.old conn.new T.seen unit.now T.number units.now scope.entry result }
-    ensures reads { ReadsBooks S.Store conn.old conn.new }
+    ensures reads { IsOnlyRead S.Store conn.old conn.new }
 {
     let Ok(numbers) = matrix_numbers(alloc, units, scope) else {
         return Err(Error::SqliteFailure(ErrorCode::OutOfMemory));
@@ -70,7 +70,7 @@ pub fn some_changes<S: Alter>(
     requires { HasNoTransaction conn.old }
     ensures mode { HasNoTransaction conn.new }
     ensures rows { LoadsChanges S.Store conn.old conn.new unit.now records.now scope.entry result }
-    ensures reads { ReadsBooks S.Store conn.old conn.new }
+    ensures reads { IsOnlyRead S.Store conn.old conn.new }
 {
     let Ok(numbers) = change_numbers(alloc, records.as_slice(), scope) else {
         return Err(Error::SqliteFailure(ErrorCode::OutOfMemory));

@@ -6,7 +6,7 @@ ghost use Rattle.sqlite_value.specs.declared.value.Value.TheVariants.{Text as Te
 ghost use Rattle.plant_columns.specs.declared.tables.TableKind.TheVariants.{Alarms, Bands, Cells, Changes, Events, Grants, Records, Shelves, Units};
 ghost use Rattle.plant_model.specs.declared.rows.{Row.{Row as AnyRow, TheVariants.{Grant as GrantPut, Unit as UnitPut}}, RowEdit.TheVariants.{Put}};
 ghost use Rattle.plant_store.specs.OldTables.{old_grant_shape, old_rows, old_unit_shape};
-ghost use Rattle.plant_store.specs.{Reading.{HasNoTransaction, LoadsOld, LoadsOldCodes, ReadsOldBooks}, Statements.{ReadsOldUnit}};
+ghost use Rattle.plant_store.specs.{Reading.{HasNoTransaction, LoadsOld, LoadsOldCodes, IsOnlyRead}, Statements.{ReadsOldUnit}};
 ghost use Rattle.plant_store.specs.{Upgrading.{upgraded_grant, upgraded_unit}, Writing.{SameReference, StaysOpen, Writes}};
 ghost use Rattle.plant_types.specs.Names.{Name};
 
@@ -250,7 +250,7 @@ pub fn old_codes_of<S: Alter>(
     requires { HasNoTransaction conn.old }
     ensures mode { HasNoTransaction conn.new }
     ensures rows { LoadsOldCodes S.Store conn.old conn.new result }
-    ensures reads { ReadsOldBooks S.Store conn.old conn.new }
+    ensures reads { IsOnlyRead S.Store conn.old conn.new }
 {
     read_rows(alloc, conn, "SELECT unit FROM units ORDER BY unit", &[])
 }
@@ -264,7 +264,7 @@ pub fn old_rows_of<T: OldRow, S: Alter>(
     requires { HasNoTransaction conn.old }
     ensures mode { HasNoTransaction conn.new }
     ensures rows { LoadsOld S.Store conn.old conn.new (T.had unit.now) result }
-    ensures reads { ReadsOldBooks S.Store conn.old conn.new }
+    ensures reads { IsOnlyRead S.Store conn.old conn.new }
 {
     read_rows(alloc, conn, T::old_select(), &single(unit))
 }

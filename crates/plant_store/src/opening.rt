@@ -1,10 +1,10 @@
 //! Whether a database is an office's books.
 
 ghost use Rattle.std.specs.Prelude.{◌≡◌, ◌↔◌, [], ◌∷◌, false, map, true, IsTrue, IfOk, Ok};
-ghost use Rattle.sqlite.specs.Held.{state};
+ghost use Rattle.sqlite.specs.{Held.{state}, Tree.{Trees}};
 ghost use Rattle.sqlite_value.specs.{Order.{column}, declared.value.Value.TheVariants.{Text as TextValue}};
 ghost use Rattle.plant_store.specs.{Changes.{IsHonest}, Opened.{FindsOffice, HasNoOffice}, Opening.{IsOffice, office_cells}};
-ghost use Rattle.plant_store.specs.Reading.{HasNoTransaction, ReadsBooks, ReadsOldBooks};
+ghost use Rattle.plant_store.specs.Reading.{HasNoTransaction, IsOnlyRead};
 ghost use Rattle.plant_columns.specs.Shown.{columns};
 ghost use Rattle.plant_columns.specs.Codes as codings;
 ghost use Rattle.plant_store.specs.Opening as opening;
@@ -71,7 +71,7 @@ fn is_office_row(rows: &[Row], schema: u32, admin: &Person) -> bool
 
 /// Whether the office's table, where it is there with its columns, has one row, with this schema's number and this
 /// person's name.
-#[tactic(auto, using(crate::proofs::Meanings::office_row_plain, crate::proofs::OldMeanings::office_row_plain, crate::proofs::ReadsOnly::reads_plain, crate::proofs::ReadsOnly::reads_plain_old))]
+#[tactic(auto, using(crate::proofs::Meanings::office_row_plain, crate::proofs::ReadsOnly::reads_plain))]
 fn has_its_row<S: Alter>(
     conn: &mut Connection<S>,
     schema: u32,
@@ -82,8 +82,7 @@ fn has_its_row<S: Alter>(
     ensures row { IsHonest (state S.Store conn.new)
         → opening.has_office (state S.Store conn.old).now.schema ≡ true
         → IfOk result (λ is. IsTrue is ↔ IsOffice schema admin.now (state S.Store conn.old).now) }
-    ensures reads { ReadsBooks S.Store conn.old conn.new }
-    ensures reads_old { ReadsOldBooks S.Store conn.old conn.new }
+    ensures reads { IsOnlyRead S.Store conn.old conn.new }
 {
     let rows = ask(conn, "SELECT id, schema_no, admin FROM office", &[])?;
     Ok(is_office_row(rows.as_slice(), schema, admin))
@@ -99,11 +98,18 @@ pub fn is_office_of<S: Alter>(
     ensures mode { HasNoTransaction conn.new }
     ensures row { FindsOffice S.Store conn.old conn.new schema admin.now result }
     ensures missing { HasNoOffice S.Store conn.old → result ≡ Ok false }
-    ensures reads { ReadsBooks S.Store conn.old conn.new }
-    ensures reads_old { ReadsOldBooks S.Store conn.old conn.new }
+    ensures reads { IsOnlyRead S.Store conn.old conn.new }
 {
     if !has_office(conn.schema()) {
         return Ok(false);
     }
     has_its_row(conn, schema, admin)
+}
+
+/// Tells the proof what a crash leaves of a connection while it is open: what it has committed. It does nothing.
+pub fn note_settled<S: Alter>(conn: &Connection<S>)
+    ensures { (db : Trees) → IsTrue (state S.Store conn.now).is_open → (state S.Store conn.now).may_leave db
+        → db ≡ (state S.Store conn.now).committed.trees }
+{
+    let _settled = conn.is_autocommit();
 }

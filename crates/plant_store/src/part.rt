@@ -7,13 +7,13 @@ ghost use Rattle.plant_types.specs.{KeyedRows.{IsInOrder}, Names.{Name}};
 ghost use Rattle.plant_books.specs.Contents.{Content, part_in, rows_in};
 ghost use Rattle.plant_store.specs.{Changes.{IsHonest}, Keeping.{HasContent}};
 ghost use Rattle.plant_store.specs.Parts.{AreAskedBy, LoadsApproved, LoadsCount, LoadsCrowding, LoadsGrants, alarms_seen, events_seen, grants_of};
-ghost use Rattle.plant_store.specs.{Reading.{HasNoTransaction, Loads, ReadsBooks, ReadsContent}, Wanted.{alarms_left, rows_with}};
+ghost use Rattle.plant_store.specs.{Reading.{HasNoTransaction, Loads, IsOnlyRead, ReadsContent}, Wanted.{alarms_left, rows_with}};
 ghost use Rattle.plant_columns.specs.{Tables.{rows_seen}, declared.tables.TableKind.TheVariants.{Units}};
 
 use crate::numbers::{matrix_rows, some_changes};
 use crate::read::{
-    all_rows, count_of_alarms, count_of_shelves, last_change_number, own_grants, row_of_tag,
-    rows_of_number,
+    all_rows, count_of, count_of_alarms, count_of_shelves, last_change_number, own_grants,
+    row_of_tag, rows_of_number,
 };
 use crate::stored::Tagged;
 use crate::unit::has_row;
@@ -41,7 +41,7 @@ pub fn some_grants<S: Alter>(
     requires { HasNoTransaction conn.old }
     ensures mode { HasNoTransaction conn.new }
     ensures rows { LoadsGrants S.Store conn.old conn.new unit.now own all result }
-    ensures reads { ReadsBooks S.Store conn.old conn.new }
+    ensures reads { IsOnlyRead S.Store conn.old conn.new }
 {
     if all {
         all_rows(alloc, conn, unit)
@@ -61,7 +61,7 @@ fn rows_wanted<T: Tagged, S: Alter>(
     ensures mode { HasNoTransaction conn.new }
     ensures rows { Loads S.Store conn.old conn.new
         (λ trees. rows_with T.tag wanted.entry (T.seen unit.now trees)) result }
-    ensures reads { ReadsBooks S.Store conn.old conn.new }
+    ensures reads { IsOnlyRead S.Store conn.old conn.new }
 {
     match wanted {
         Wanted::Nothing => Ok(List::new(alloc)),
@@ -80,7 +80,7 @@ pub fn some_alarms<S: Alter>(
     requires { HasNoTransaction conn.old }
     ensures mode { HasNoTransaction conn.new }
     ensures rows { Loads S.Store conn.old conn.new (alarms_seen wanted.entry unit.now) result }
-    ensures reads { ReadsBooks S.Store conn.old conn.new }
+    ensures reads { IsOnlyRead S.Store conn.old conn.new }
 {
     match wanted {
         WantedAlarms::Those(wanted) => rows_wanted(alloc, conn, unit, wanted),
@@ -116,7 +116,7 @@ pub fn some_events<S: Alter>(
     requires { HasNoTransaction conn.old }
     ensures mode { HasNoTransaction conn.new }
     ensures rows { Loads S.Store conn.old conn.new (events_seen wanted unit.now) result }
-    ensures reads { ReadsBooks S.Store conn.old conn.new }
+    ensures reads { IsOnlyRead S.Store conn.old conn.new }
 {
     if wanted {
         all_rows(alloc, conn, unit)
@@ -144,16 +144,16 @@ fn count_for<S: Alter>(
     unit: &UnitCode,
     request: &Request,
     events: &List<Event>,
-) -> Result<u64, Error>
+) -> Result<u32, Error>
     requires { HasNoTransaction conn.old }
     ensures mode { HasNoTransaction conn.new }
     ensures rows { LoadsCount S.Store conn.old conn.new unit.now request.now events.now result }
-    ensures reads { ReadsBooks S.Store conn.old conn.new }
+    ensures reads { IsOnlyRead S.Store conn.old conn.new }
 {
     match request.kind().count() {
         Counted::Nothing => Ok(0),
         Counted::Alarms => count_of_alarms(conn, unit),
-        Counted::Events => Ok(events.len() as u64),
+        Counted::Events => count_of(events.len()),
         Counted::Changes => last_change_number(conn, unit),
     }
 }
@@ -168,7 +168,7 @@ fn crowded_for<S: Alter>(
     requires { HasNoTransaction conn.old }
     ensures mode { HasNoTransaction conn.new }
     ensures rows { LoadsCrowding S.Store conn.old conn.new unit.now units.now request.now result }
-    ensures reads { ReadsBooks S.Store conn.old conn.new }
+    ensures reads { IsOnlyRead S.Store conn.old conn.new }
 {
     if is_shelving(request) {
         Ok(is_crowded(units, count_of_shelves(conn, unit)?))
@@ -187,7 +187,7 @@ fn approved_for<S: Alter>(
     requires { HasNoTransaction conn.old }
     ensures mode { HasNoTransaction conn.new }
     ensures rows { LoadsApproved S.Store conn.old conn.new unit.now request.now result }
-    ensures reads { ReadsBooks S.Store conn.old conn.new }
+    ensures reads { IsOnlyRead S.Store conn.old conn.new }
 {
     match number_approved(request) {
         Some(number) => rows_of_number(alloc, conn, unit, number),
@@ -211,7 +211,7 @@ fn holders_part<S: Alter>(
         → units ≡ rows_seen unit.now (state S.Store conn.old).now.trees Units
         → own ≡ grants_of call.now.person unit.now (state S.Store conn.old).now.trees
         → IfOk result (λ part. part ≡ part_of_holder call.now (rows_in m unit.now)) }
-    ensures reads { ReadsBooks S.Store conn.old conn.new }
+    ensures reads { IsOnlyRead S.Store conn.old conn.new }
 {
     let request = &call.request;
     let crowded = crowded_for(conn, unit, &units, request)?;
@@ -261,7 +261,7 @@ fn unit_part<S: Alter>(
     ensures mode { HasNoTransaction conn.new }
     ensures found { ReadsContent S.Store conn.old conn.new result
         (λ m. part_in m call.now unit.now) }
-    ensures reads { ReadsBooks S.Store conn.old conn.new }
+    ensures reads { IsOnlyRead S.Store conn.old conn.new }
 {
     let units = all_rows(alloc, conn, unit)?;
     if !has_row(&units) {
@@ -287,7 +287,7 @@ pub fn part_of<S: Alter>(
         → HasContent (state S.Store conn.old) m → (u : Name) → unit_named call.now.request ≡ Some u
         → IfOk result (λ part. part ≡ part_in m call.now u) }
     ensures none { unit_named call.now.request ≡ None → IfOk result (λ part. part ≡ None) }
-    ensures reads { ReadsBooks S.Store conn.old conn.new }
+    ensures reads { IsOnlyRead S.Store conn.old conn.new }
 {
     match call.request.unit() {
         Some(unit) => unit_part(alloc, conn, unit, call),

@@ -1,12 +1,13 @@
 //! The statements that read one unit's rows of one table.
 
+ghost use Rattle.std.specs.Prelude.{◌≡◌, IfOk};
 ghost use Rattle.plant_books.specs.Books.{WasHonest};
 ghost use Rattle.plant_columns.specs.declared.tables.TableKind.TheVariants.{Alarms, Shelves};
 ghost use Rattle.plant_store.specs.Parts.{count_seen, grants_of, last_change_seen};
-ghost use Rattle.plant_store.specs.Reading.{Asks, CrashesAsShown, Decodes, HasNoTransaction, IsHonestIn, Loads, LoadsNumber, LoadsTag, ReadsBooks, SameIfPlain};
+ghost use Rattle.plant_store.specs.Reading.{Asks, CrashesAsShown, Decodes, HasNoTransaction, IsHonestIn, Loads, LoadsNumber, LoadsTag, IsOnlyRead, SameIfPlain};
 
 use crate::stored::{Numbered, Stored, Tagged};
-use plant_columns::decode::{Shown, read_all, wide};
+use plant_columns::decode::{Shown, number, read_all};
 use plant_columns::encode::{numbered, pair, single};
 use plant_model::{AlarmRow, GrantRow};
 use plant_types::{List, Person, Tag, UnitCode};
@@ -59,7 +60,7 @@ pub fn all_rows<T: Stored, S: Alter>(
     requires { HasNoTransaction conn.old }
     ensures mode { HasNoTransaction conn.new }
     ensures rows { Loads S.Store conn.old conn.new (T.seen unit.now) result }
-    ensures reads { ReadsBooks S.Store conn.old conn.new }
+    ensures reads { IsOnlyRead S.Store conn.old conn.new }
 {
     read_rows(alloc, conn, T::select(), &single(unit))
 }
@@ -74,7 +75,7 @@ pub fn row_of_tag<T: Tagged, S: Alter>(
     requires { HasNoTransaction conn.old }
     ensures mode { HasNoTransaction conn.new }
     ensures rows { LoadsTag S.Store conn.old conn.new T.seen unit.now T.tag tag.now result }
-    ensures reads { ReadsBooks S.Store conn.old conn.new }
+    ensures reads { IsOnlyRead S.Store conn.old conn.new }
 {
     read_rows(alloc, conn, T::select_of_tag(), &pair(unit, tag))
 }
@@ -89,7 +90,7 @@ pub fn rows_of_number<T: Numbered, S: Alter>(
     requires { HasNoTransaction conn.old }
     ensures mode { HasNoTransaction conn.new }
     ensures rows { LoadsNumber S.Store conn.old conn.new T.seen unit.now T.number number result }
-    ensures reads { ReadsBooks S.Store conn.old conn.new }
+    ensures reads { IsOnlyRead S.Store conn.old conn.new }
 {
     read_rows(alloc, conn, T::select_of_number(), &numbered(unit, number))
 }
@@ -105,7 +106,7 @@ pub fn own_grants<S: Alter>(
     requires { HasNoTransaction conn.old }
     ensures mode { HasNoTransaction conn.new }
     ensures rows { Loads S.Store conn.old conn.new (grants_of person.now unit.now) result }
-    ensures reads { ReadsBooks S.Store conn.old conn.new }
+    ensures reads { IsOnlyRead S.Store conn.old conn.new }
 {
     read_rows(
         alloc,
@@ -115,15 +116,30 @@ pub fn own_grants<S: Alter>(
     )
 }
 
+/// So many rows as a part counts them. More than it can count are an error other than that memory ran out.
+pub fn count_of(rows: usize) -> Result<u32, Error>
+    ensures { IfOk result (λ count. count ≡ rows) }
+{
+    u32::try_from(rows).map_err(|_| Error::IntegralValueOutOfRange(0))
+}
+
 /// How many alarms the unit has.
+<<<<<<< HEAD
+pub fn count_of_alarms<S: Alter>(conn: &mut Connection<S>, unit: &UnitCode) -> Result<u32, Error>
+=======
 pub fn count_of_alarms<S: Alter>(conn: &mut Connection<S>, unit: &UnitCode) -> Result<u64, Error>
+>>>>>>> final2
     requires { HasNoTransaction conn.old }
     ensures mode { HasNoTransaction conn.new }
     ensures rows { Loads S.Store conn.old conn.new (count_seen unit.now Alarms) result }
-    ensures reads { ReadsBooks S.Store conn.old conn.new }
+    ensures reads { IsOnlyRead S.Store conn.old conn.new }
 {
     let alarms = ask(conn, AlarmRow::select(), &single(unit))?;
+<<<<<<< HEAD
+    count_of(alarms.as_slice().len())
+=======
     Ok(alarms.as_slice().len() as u64)
+>>>>>>> final2
 }
 
 /// How many shelves the unit keeps.
@@ -132,7 +148,7 @@ pub fn count_of_shelves<S: Alter>(conn: &mut Connection<S>, unit: &UnitCode) -> 
     requires { HasNoTransaction conn.old }
     ensures mode { HasNoTransaction conn.new }
     ensures rows { Loads S.Store conn.old conn.new (count_seen unit.now Shelves) result }
-    ensures reads { ReadsBooks S.Store conn.old conn.new }
+    ensures reads { IsOnlyRead S.Store conn.old conn.new }
 {
     let tags = ask(
         conn,
@@ -143,11 +159,11 @@ pub fn count_of_shelves<S: Alter>(conn: &mut Connection<S>, unit: &UnitCode) -> 
 }
 
 /// The number of the unit's last change, 0 where it has none.
-pub fn last_change_number<S: Alter>(conn: &mut Connection<S>, unit: &UnitCode) -> Result<u64, Error>
+pub fn last_change_number<S: Alter>(conn: &mut Connection<S>, unit: &UnitCode) -> Result<u32, Error>
     requires { HasNoTransaction conn.old }
     ensures mode { HasNoTransaction conn.new }
     ensures rows { Loads S.Store conn.old conn.new (last_change_seen unit.now) result }
-    ensures reads { ReadsBooks S.Store conn.old conn.new }
+    ensures reads { IsOnlyRead S.Store conn.old conn.new }
 {
     let rows = ask(
         conn,
@@ -155,7 +171,7 @@ pub fn last_change_number<S: Alter>(conn: &mut Connection<S>, unit: &UnitCode) -
         &single(unit),
     )?;
     match rows.as_slice().first() {
-        Some(row) => wide(row, 0),
+        Some(row) => number(row, 0),
         None => Ok(0),
     }
 }

@@ -4,10 +4,10 @@ ghost use Rattle.std.specs.Prelude.{◌≡◌, ◌∷◌, [], ℕ, List, true};
 ghost use Rattle.sqlite.specs.Tree.{Trees};
 ghost use Rattle.plant_columns.specs.declared.tables.TableKind.TheVariants.{Alarms, Bands, Cells, Changes, Events, Grants, Records, Shelves, Units};
 ghost use Rattle.plant_columns.specs.Tables.{rows_seen};
-ghost use Rattle.plant_model.specs.{Order.{AreInOrder}, RowFacts.{change_number}, declared.rows.Row.{Row as AnyRow}};
+ghost use Rattle.plant_model.specs.{Keys.{has_key}, Order.{AreInOrder}, RowFacts.{change_number}, declared.rows.Row.{Row as AnyRow}};
 ghost use Rattle.plant_model.specs.declared.rows.Row.TheVariants.{Alarm as AlarmPut, Band as BandPut, Cell as CellPut, Change as ChangePut, Event as EventPut, Grant as GrantPut, Record as RecordPut, Shelf as ShelfPut, Unit as UnitPut};
 ghost use Rattle.plant_model.specs.declared.rows.RowEdit.TheVariants.{Put};
-ghost use Rattle.plant_store.specs.{Keys.{has_key}, Statements.{ReadsNumber, ReadsTag, ReadsUnit}, Texts.{rows_text}};
+ghost use Rattle.plant_store.specs.{Statements.{ReadsNumber, ReadsTag, ReadsUnit}, Texts.{rows_text}};
 ghost use Rattle.plant_store.specs.Writing.{SameReference, StaysOpen, Updates, Writes};
 ghost use Rattle.plant_types.specs.Names.{Name};
 

@@ -1,12 +1,12 @@
 //! The books of an office, kept in the tables of a connection.
 
-ghost use Rattle.std.specs.Prelude.{◌≡◌, ◌≢◌, ◌↔◌, ℕ, false, IsTrue, IsErrAnd, IfOk, IfErr};
+ghost use Rattle.std.specs.Prelude.{◌≡◌, ◌≢◌, ◌↔◌, ℕ, false, IsTrue, IsErrAnd, IfOk, IfErr, OnOk};
 ghost use Rattle.sqlite.specs.{Held.{state}, State.{HasCleanDisk, Survives}};
-ghost use Rattle.plant_books.specs.{Books.{WasHonest}, Contents.{Content, no_units}, Counting.{Counts, CountsFault}};
+ghost use Rattle.plant_books.specs.{Books.{WasHonest}, Contents.{Content, no_units}, Counting.{Counts}};
 ghost use Rattle.plant_store.specs.{Changes.{IsHonest}, Counting.{Names, SaysAgain}, Keeping.{LeavesAlike, LeavesBooks, LeavesContent, Represents}};
 ghost use Rattle.plant_store.specs.Making.{AreNewTrees};
 ghost use Rattle.plant_store.specs.Opened.{HasNoOffice, IsAnothers, KeepsAll, KeepsIfErr, KeepsIfOk, WasOffice};
-ghost use Rattle.plant_store.specs.{Reading.{HasNoTransaction, IsHonestIn}, Writing.{SameDatabase}};
+ghost use Rattle.plant_store.specs.{Reading.{HasNoTransaction, IsHonestIn, IsOnlyRead}, Writing.{SameDatabase}};
 ghost use Rattle.plant_store.specs.declared.tables.StoreFault.TheVariants.{NotThisStore};
 ghost use Rattle.plant_columns.specs.Tables.{no_schema, schema_no};
 ghost use Rattle.plant_types.specs.declared.fault.Fault.TheVariants.{Store};
@@ -15,7 +15,7 @@ use crate::make::make_all;
 use crate::opening::is_office_of;
 use crate::{mine, part, shelves, unit, write};
 use plant_alarm::Event;
-use plant_books::{Books, MineRow, MineUnit};
+use plant_books::{Books, MineRow, MineUnit, count_after};
 use plant_model::{Call, Changes, UnitPart, UnitRows};
 use plant_types::{Fault, List, Moment, Person, UnitCode};
 use sqlite::{Alter, Connection, Error as SqlError, ErrorCode};
@@ -45,24 +45,39 @@ pub fn is_blank(schema: &Schema) -> bool
         && schema.views.as_slice().is_empty()
 }
 
-/// The count of answers `Store`, after this fault.
-fn count_after(stores: u64, fault: &Fault) -> u64
-    ensures { CountsFault stores result fault.now }
+/// Notes that a failure has shut the store, where one has.
+fn note_shut<S: Alter>(conn: &mut Connection<S>, shut: &mut bool)
+    requires mode { HasNoTransaction conn.old }
+    requires known { IsTrue shut.old → ¬ IsHonest (state S.Store conn.old) }
+    ensures mode { HasNoTransaction conn.new }
+    ensures known { IsTrue shut.new → ¬ IsHonest (state S.Store conn.new) }
+    ensures reads { IsOnlyRead S.Store conn.old conn.new }
 {
-    match fault {
-        Fault::Memory => stores,
-        Fault::Store => stores.saturating_add(1),
+    if write::is_shut(conn) {
+        *shut = true;
     }
 }
 
-/// What a statement said. Where it failed that is a fault, and one of the store is counted.
-fn counted<T: Drop>(stores: &mut u64, said: Result<T, SqlError>) -> Result<T, Fault>
+/// What a statement said. Where it failed that is a fault: one of the store is counted, and it is noted if the store is shut now.
+fn heard<T: Drop, S: Alter>(
+    conn: &mut Connection<S>,
+    stores: &mut u64,
+    shut: &mut bool,
+    said: Result<T, SqlError>,
+) -> Result<T, Fault>
+    requires mode { HasNoTransaction conn.old }
+    requires known { IsTrue shut.old → ¬ IsHonest (state S.Store conn.old) }
+    ensures mode { HasNoTransaction conn.new }
+    ensures known { IsTrue shut.new → ¬ IsHonest (state S.Store conn.new) }
+    ensures reads { IsOnlyRead S.Store conn.old conn.new }
+    ensures same { OnOk result (conn.new ≡ conn.old) }
     ensures said { SaysAgain said result }
     ensures count { Counts stores.old stores.new result }
 {
     match said {
         Ok(found) => Ok(found),
         Err(error) => {
+            note_shut(conn, shut);
             let fault = fault_of(&error);
             *stores = count_after(*stores, &fault);
             Err(fault)
@@ -95,13 +110,14 @@ pub struct Tables<S: Alter> {
     conn: Connection<S>,
     admin: Person,
     stores: u64,
+    shut: bool,
     alloc: Global,
 }
 
 impl<S: Alter> Model for Tables<S> {
-    ghost use Rattle.std.specs.{Coded.{coded×, coded_ℕ, coded_list}, Prelude.{ℕ, List}};
-    ghost use Rattle.sqlite.specs.Held.{Held, held_code};
-    ghost use Rattle.plant_store.specs.Reading.{HasNoTransaction};
+    ghost use Rattle.std.specs.{Coded.{coded×, coded_ℕ, coded_list}, Prelude.{IsTrue, ℕ, List}};
+    ghost use Rattle.sqlite.specs.Held.{Held, held_code, state};
+    ghost use Rattle.plant_store.specs.{Changes.{IsHonest}, Reading.{HasNoTransaction}};
 
     ghost Value = { (Held S × List ℕ) × ℕ };
 
@@ -109,7 +125,7 @@ impl<S: Alter> Model for Tables<S> {
 
     ghost view = { λ t. ((t.conn, t.admin), t.stores) };
 
-    ghost invariant = { λ t. HasNoTransaction t.conn };
+    ghost invariant = { λ t. HasNoTransaction t.conn × (IsTrue t.shut → ¬ IsHonest (state S.Store t.conn)) };
 }
 
 impl<S: Alter> Tables<S> {
@@ -153,7 +169,7 @@ impl<S: Alter> Tables<S> {
     }
 
     /// Opens a database that `create` made for this administrator. One is refused as `NotThisStore` where the office's table or
-    /// a column of it is missing, or where its one row is not this schema's and this administrator's.
+    /// a column of it is missing, or where its one row is not this schema's and this administrator's. It is only read, whatever it holds.
     #[tactic(auto, using(crate::proofs::ReadsOnly::keeps_read))]
     pub fn open(
         alloc: Global,
@@ -172,6 +188,8 @@ impl<S: Alter> Tables<S> {
         ensures own { (m : Content) → Represents (state S.Store conn) m → m.admin ≡ admin
             → IfErr result (λ e. IsHonest (state S.Store e.conn) → e.fault ≢ NotThisStore) }
         ensures left { KeepsIfErr S.Store conn result (λ e. e.conn) }
+        ensures read { IfOk result (λ t. IsOnlyRead S.Store conn t.0.0) }
+        ensures unread { IfErr result (λ e. IsOnlyRead S.Store conn e.conn) }
         ensures back { IfErr result (λ e. (e.admin ≡ admin) × HasNoTransaction e.conn) }
     {
         // Tell the proof that there is a database, and that all of it is committed; the values are not used.
@@ -196,6 +214,7 @@ impl<S: Alter> Tables<S> {
             conn,
             admin,
             stores: 0,
+            shut: false,
             alloc,
         }
     }
@@ -239,48 +258,52 @@ impl<S: Alter> Books for Tables<S> {
         let _live = self.conn.schema();
     }
 
+    fn is_shut(&self) -> bool {
+        self.shut
+    }
+
     fn administrator(&self) -> &Person {
         &self.admin
     }
 
     fn taken(&mut self, unit: &UnitCode) -> Result<bool, Fault> {
         let said = unit::taken(self.alloc, &mut self.conn, unit);
-        counted(&mut self.stores, said)
+        heard(&mut self.conn, &mut self.stores, &mut self.shut, said)
     }
 
     fn rows(&mut self, unit: &UnitCode) -> Result<Option<UnitRows>, Fault> {
         let said = unit::rows_of(self.alloc, &mut self.conn, unit);
-        counted(&mut self.stores, said)
+        heard(&mut self.conn, &mut self.stores, &mut self.shut, said)
     }
 
     fn rows_but_events(&mut self, unit: &UnitCode) -> Result<Option<UnitRows>, Fault> {
         let said = unit::rows_but_events(self.alloc, &mut self.conn, unit);
-        counted(&mut self.stores, said)
+        heard(&mut self.conn, &mut self.stores, &mut self.shut, said)
     }
 
     fn events(&mut self, unit: &UnitCode) -> Result<List<Event>, Fault> {
         let said = unit::events(self.alloc, &mut self.conn, unit);
-        counted(&mut self.stores, said)
+        heard(&mut self.conn, &mut self.stores, &mut self.shut, said)
     }
 
     fn part(&mut self, call: &Call) -> Result<Option<UnitPart>, Fault> {
         let said = part::part_of(self.alloc, &mut self.conn, call);
-        counted(&mut self.stores, said)
+        heard(&mut self.conn, &mut self.stores, &mut self.shut, said)
     }
 
     fn held(&mut self, person: &Person, now: Moment) -> Result<List<UnitCode>, Fault> {
         let said = mine::held(self.alloc, &mut self.conn, person, now);
-        counted(&mut self.stores, said)
+        heard(&mut self.conn, &mut self.stores, &mut self.shut, said)
     }
 
     fn mine_units(&mut self, person: &Person, now: Moment) -> Result<List<MineUnit>, Fault> {
         let said = mine::mine_units(self.alloc, &mut self.conn, person, now);
-        counted(&mut self.stores, said)
+        heard(&mut self.conn, &mut self.stores, &mut self.shut, said)
     }
 
     fn mine_shelves(&mut self, person: &Person, now: Moment) -> Result<List<MineRow>, Fault> {
         let said = shelves::mine_shelves(self.alloc, &mut self.conn, person, now);
-        counted(&mut self.stores, said)
+        heard(&mut self.conn, &mut self.stores, &mut self.shut, said)
     }
 
     fn apply(
@@ -290,6 +313,6 @@ impl<S: Alter> Books for Tables<S> {
         seen: Option<&UnitRows>,
     ) -> Result<(), Fault> {
         let said = write::apply(&mut self.conn, unit, changes.as_slice(), seen);
-        counted(&mut self.stores, said)
+        heard(&mut self.conn, &mut self.stores, &mut self.shut, said)
     }
 }

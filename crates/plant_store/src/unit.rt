@@ -2,7 +2,7 @@
 
 ghost use Rattle.std.specs.{FinMap.{contains_key, get}, Prelude.{◌≡◌}};
 ghost use Rattle.plant_books.specs.Contents.{events_in, rows_but_events as all_but_events};
-ghost use Rattle.plant_store.specs.{Keeping.{has_any}, Reading.{HasNoTransaction, ReadsBooks, ReadsContent}};
+ghost use Rattle.plant_store.specs.{Keeping.{has_any}, Reading.{HasNoTransaction, IsOnlyRead, ReadsContent}};
 
 use crate::read::all_rows;
 use plant_alarm::Event;
@@ -29,7 +29,7 @@ pub fn taken<S: Alter>(
     ensures mode { HasNoTransaction conn.new }
     ensures found { ReadsContent S.Store conn.old conn.new result
         (λ m. contains_key m.units unit.now) }
-    ensures reads { ReadsBooks S.Store conn.old conn.new }
+    ensures reads { IsOnlyRead S.Store conn.old conn.new }
 {
     let units = all_rows(alloc, conn, unit)?;
     Ok(has_row(&units))
@@ -44,7 +44,7 @@ pub fn rows_but_events<S: Alter>(
     requires { HasNoTransaction conn.old }
     ensures mode { HasNoTransaction conn.new }
     ensures found { ReadsContent S.Store conn.old conn.new result (λ m. all_but_events m unit.now) }
-    ensures reads { ReadsBooks S.Store conn.old conn.new }
+    ensures reads { IsOnlyRead S.Store conn.old conn.new }
 {
     let units = all_rows(alloc, conn, unit)?;
     if !has_row(&units) {
@@ -79,7 +79,7 @@ pub fn events<S: Alter>(
     requires { HasNoTransaction conn.old }
     ensures mode { HasNoTransaction conn.new }
     ensures found { ReadsContent S.Store conn.old conn.new result (λ m. events_in m unit.now) }
-    ensures reads { ReadsBooks S.Store conn.old conn.new }
+    ensures reads { IsOnlyRead S.Store conn.old conn.new }
 {
     all_rows(alloc, conn, unit)
 }
@@ -93,7 +93,7 @@ pub fn rows_of<S: Alter>(
     requires { HasNoTransaction conn.old }
     ensures mode { HasNoTransaction conn.new }
     ensures found { ReadsContent S.Store conn.old conn.new result (λ m. get m.units unit.now) }
-    ensures reads { ReadsBooks S.Store conn.old conn.new }
+    ensures reads { IsOnlyRead S.Store conn.old conn.new }
 {
     match rows_but_events(alloc, conn, unit)? {
         None => Ok(None),

@@ -1,11 +1,12 @@
 //! The statements that write, each inside a transaction.
 
-ghost use Rattle.std.specs.Prelude.{[], ◌∷◌, IsTrue};
+ghost use Rattle.std.specs.Prelude.{[], ◌∷◌, ◌≡◌, IfErr, IsTrue};
+ghost use Rattle.sqlite.specs.{Held.{state}, declared.error.{Error.TheVariants.{SqliteFailure}, ErrorCode.TheVariants.{Closed}}};
 ghost use Rattle.plant_books.specs.Books.{WasHonest};
 ghost use Rattle.plant_model.specs.declared.rows.Key.TheVariants.{Grant as GrantKey, Shelf as ShelfKey};
 ghost use Rattle.plant_model.specs.declared.rows.RowEdit.TheVariants.{Put, PutEvents, Remove};
-ghost use Rattle.plant_store.specs.Reading.{HasNoTransaction, IsHonestIn};
-ghost use Rattle.plant_store.specs.Writing.{Commits, CommitsNothing, CrashLoses, IsLeftOpen, IsOpenIfOk, LeavesChanged, LeavesChangedHonestly, LeavesNothingNew, RunsCounting, RunsStatement, SameDatabase, SameOnErr, SameReference, StaysOpen, Updates, WasOpen, Writes, WritesOpen};
+ghost use Rattle.plant_store.specs.{Changes.{IsHonest}, Reading.{HasNoTransaction, IsHonestIn, IsOnlyRead}};
+ghost use Rattle.plant_store.specs.Writing.{Commits, CommitsNothing, CrashLoses, IsLeftOpen, IsOpenIfOk, LeavesChanged, LeavesChangedHonestly, RunsCounting, RunsStatement, SameOnErr, SameReference, StaysOpen, Updates, WasOpen, Writes, WritesOpen};
 
 use crate::stored::Stored;
 use plant_alarm::Event;
@@ -13,7 +14,7 @@ use plant_columns::encode::{grant_key, pair};
 use plant_model::{Key, Row, RowEdit, UnitRows};
 use plant_types::{Person, Role, Tag, UnitCode};
 use sqlite::types::ValueRef;
-use sqlite::{Alter, Connection, Error, Transaction};
+use sqlite::{Alter, Connection, Error, ErrorCode, Transaction};
 
 /// Runs one statement.
 pub fn run<S: Alter>(
@@ -211,20 +212,34 @@ fn change_all<S: Alter>(
     Ok(())
 }
 
-/// Fails where a failure has shut the store, so that nothing is written to one that is shut. It changes nothing.
+/// Fails where a failure has shut the store, so that nothing is written to one that is shut: as closed, where that is all it can mean. It changes nothing.
 fn find_open<S: Alter>(conn: &mut Connection<S>) -> Result<(), Error>
     requires { HasNoTransaction conn.old }
     ensures mode { HasNoTransaction conn.new }
-    ensures same { SameDatabase S.Store conn.old conn.new }
-    ensures honest { WasHonest (IsHonestIn S.Store) conn.old conn.new }
+    ensures reads { IsOnlyRead S.Store conn.old conn.new }
     ensures open { WasOpen S.Store conn.old conn.new result }
-    ensures survives { LeavesNothingNew S.Store conn.old conn.new }
+    ensures shut { IfErr result (λ e. e ≡ SqliteFailure Closed → ¬ IsHonest (state S.Store conn.new)) }
 {
     // Tell the proof that no transaction is open, and that there is a database; the values are not used.
     let _settled = conn.is_autocommit();
     let _live = conn.schema();
-    conn.prepare("SELECT id, schema_no, admin FROM office")?;
+    if let Err(error) = conn.prepare("SELECT id, schema_no, admin FROM office") {
+        return Err(error);
+    }
     Ok(())
+}
+
+/// Whether a failure has shut the store. It changes nothing.
+pub fn is_shut<S: Alter>(conn: &mut Connection<S>) -> bool
+    requires { HasNoTransaction conn.old }
+    ensures mode { HasNoTransaction conn.new }
+    ensures reads { IsOnlyRead S.Store conn.old conn.new }
+    ensures shut { IsTrue result → ¬ IsHonest (state S.Store conn.new) }
+{
+    matches!(
+        find_open(conn),
+        Err(Error::SqliteFailure(ErrorCode::Closed))
+    )
 }
 
 /// Makes all the changes of one unit, or none, in one transaction.

@@ -44,3 +44,7 @@ max_body = 1048576
 -- the reads of a session
 abbrev pub max_reads : ℕ
 max_reads = 1000000
+
+-- the rows that are kept at hand
+abbrev pub max_rows_at_hand : ℕ
+max_rows_at_hand = 2000000

@@ -1,10 +1,10 @@
 -- What shelving an alarm changes, and by which result name it is refused (OPC 10000-9).
 use Rattle.std.specs.Prelude.{Bool, List, Option, Result, Some, [], false, not, true, ℕ, ◌&&◌, ◌∷◌}
-use Rattle.plant_alarm.specs.{Shelves.{is_unshelved, shelf_state}, declared.shelf.Shelf.{Shelf, TheVariants.{Clear, OneShot, Timed}}}
+use Rattle.plant_alarm.specs.{Shelves.{is_unshelved}, declared.shelf.Shelf.{Shelf, TheVariants.{Clear, OneShot, Timed}}}
 use Rattle.plant_alarm.specs.declared.shelf.ShelfRefused.{ShelfRefused}
 use Rattle.plant_alarm.specs.declared.shelf.ShelfRefused.TheVariants.{ConditionAlreadyShelved, ConditionNotShelved, ShelvingTimeOutOfRange}
 use Rattle.plant_model.specs.{Facts.{Facts, returned}, Refusals.{first_refusal, over_quota}, Replies.{line_of}, RowFacts.{facts_in}}
-use Rattle.plant_model.specs.{Shelves.{shelf_left, shelf_row_as}, declared.{call.Call.{Call}, reply.Refused.{Refused}, rows.UnitPart.{UnitPart}}}
+use Rattle.plant_model.specs.{Shelves.{shelf_row_as, state_of_shelf}, declared.{call.Call.{Call}, reply.Refused.{Refused}, rows.UnitPart.{UnitPart}}}
 use Rattle.plant_model.specs.declared.reply.Refused.TheVariants.{ConditionAlreadyShelved as IsShelved, ConditionNotShelved as IsUnshelved, ShelvingTimeOutOfRange as IsOutOfRange}
 use Rattle.plant_model.specs.declared.{reply.ShelfLine.{ShelfLine}, rows.{AlarmRow.{AlarmRow}, Key.TheVariants.{Shelf as ShelfKey}}}
 use Rattle.plant_model.specs.declared.rows.{Row.TheVariants.{Shelf as ShelfPut}, RowEdit.{RowEdit, TheVariants.{Put, Remove}}, ShelfRow.{ShelfRow}}
@@ -28,12 +28,12 @@ shelf_decision part c a words shelf = decided_or (first_refusal (over_quota (fac
 
 -- the row is the shelf of another alarm, and that alarm is shelved at the moment
 abbrev pub is_other_shelved : Facts → Name → ShelfRow → ℕ → Bool
-is_other_shelved f a s t = not (same_name a s.tag) && not (is_unshelved (shelf_state (shelf_left (Some s)) (returned f s.tag) t))
+is_other_shelved f a s t = not (same_name a s.tag) && not (is_unshelved (state_of_shelf (Some s) (returned f s.tag) t))
 
 -- the line of a shelf whose alarm last returned to normal at this moment, if it holds
 abbrev pub line_at : ShelfRow → Option ℕ → ℕ → Option ShelfLine
-line_at s returned_s t = line_of s (shelf_state (shelf_left (Some s)) returned_s t)
+line_at s returned_s t = line_of s (state_of_shelf (Some s) returned_s t)
 
 -- an alarm is shelved at the moment
 abbrev pub is_shelved : Facts → AlarmRow → ℕ → Bool
-is_shelved f r t = not (is_unshelved (shelf_state (shelf_left (f.shelf r.tag)) r.return_s t))
+is_shelved f r t = not (is_unshelved (state_of_shelf (f.shelf r.tag) r.return_s t))

@@ -117,9 +117,7 @@ fn proposed_entry(
 fn next_number(part: &UnitPart) -> u32
     ensures { part.now.count < 4294967295 → result ≡ part.now.count + 1 }
 {
-    u32::try_from(part.count)
-        .unwrap_or(u32::MAX)
-        .saturating_add(1)
+    part.count.saturating_add(1)
 }
 
 /// Adds the changes of a proposal: its row, and those of its matrix where it is of one.

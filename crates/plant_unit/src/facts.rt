@@ -2,7 +2,7 @@
 
 ghost use Rattle.std.specs.Prelude.{◌≡◌, count_by, option_copied};
 ghost use Rattle.plant_types.specs.{KeyedRows.{row_at}, Names.{name_cmp}};
-ghost use Rattle.plant_alarm.specs.Shelves.{is_unshelved, shelf_state};
+ghost use Rattle.plant_alarm.specs.Shelves.{is_unshelved};
 ghost use Rattle.plant_model.specs.{Facts.{is_steward_row, others_shelved, returned, shelf_now}, Refusals.{holds_some}};
 ghost use Rattle.plant_model.specs.RowFacts.{facts_in, shelf_tag};
 ghost use Rattle.plant_unit.specs.Additions.{AreKept};
@@ -66,7 +66,7 @@ pub fn shelf_left(row: Option<&ShelfRow>) -> Shelf
 
 /// The shelved state that a row leaves at the moment.
 pub fn state_of(row: Option<&ShelfRow>, returned: Option<Moment>, now: Moment) -> ShelfState
-    ensures { result ≡ shelf_state (shelves.shelf_left (option_copied row.entry)) returned now }
+    ensures { result ≡ shelves.state_of_shelf (option_copied row.entry) returned now }
 {
     shelf_at(&shelf_left(row), returned, now)
 }

@@ -25,9 +25,10 @@ fn tags_of(alloc: Global, alarms: &[AlarmRow]) -> Result<List<Tag>, Fault>
 }
 
 /// Whether so many events are too many for a unit.
-fn is_full(kept: u64, new: usize) -> bool
+fn is_full(kept: u32, new: usize) -> bool
     ensures { result ≡ nat_lt MAX_EVENTS (kept + new) }
 {
+    let kept = u64::from(kept);
     kept > MAX_EVENTS || new as u64 > MAX_EVENTS - kept
 }
 

@@ -166,7 +166,7 @@ pub fn proposal_refusal(
     ensures value { RefusesAlways part.now (λ u. Propose u proposal.now) result }
     ensures err { OnlyMemory result }
 {
-    if part.count >= MAX_CHANGES {
+    if u64::from(part.count) >= MAX_CHANGES {
         return Ok(Some(Refused::UnitFull(Full::Changes)));
     }
     if let Some(refused) = unknown_refusal(part, &proposal.kind) {

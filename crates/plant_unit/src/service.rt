@@ -51,7 +51,7 @@ pub fn register(
     ensures value { DecidesAlways part.now (λ u. Register u tag.now latching max) result }
     ensures err { OnlyMemory result }
 {
-    if part.count >= MAX_ALARMS {
+    if u64::from(part.count) >= MAX_ALARMS {
         return Ok(Err(Refused::UnitFull(Full::Alarms)));
     }
     if alarm_of(part.rows.alarms.as_slice(), tag).is_some() {

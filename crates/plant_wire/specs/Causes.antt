@@ -38,9 +38,19 @@ cause_no NotOrdered = 13
 
 -- the status of the answer
 abbrev pub cause_status : Cause → ℕ
+cause_status HeadSyntax = 400
+cause_status HeadTooLong = 400
+cause_status LengthWrong = 400
+cause_status BodyTooLong = 400
 cause_status Chunked = 501
 cause_status NoRoute = 404
-cause_status _ = 400
+cause_status BadPerson = 400
+cause_status BadMoment = 400
+cause_status BadPath = 400
+cause_status BadBody = 400
+cause_status MatrixShape = 400
+cause_status BandsNotRising = 400
+cause_status NotOrdered = 400
 
 -- the body of the answer: name and number
 unfoldable pub cause_body : Cause → List ℕ

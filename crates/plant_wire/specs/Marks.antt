@@ -63,10 +63,13 @@ last_marks (breaking cause) = []
 
 -- a reply or a refusal
 abbrev pub IsSaid : Answer → Type 0
+IsSaid (answer.Reply r) = Unit {0}
+IsSaid (answer.Refused r) = Unit {0}
 IsSaid (answer.Fault f) = ⊥
-IsSaid _ = Unit {0}
 
 -- what was begun is not the answer to a call that got a fault
 abbrev pub IsFaultless : Last → Type 0
+IsFaultless nothing = Unit {0}
 IsFaultless (begun (said call answer)) = IsSaid answer
-IsFaultless _ = Unit {0}
+IsFaultless (begun (malformed cause)) = Unit {0}
+IsFaultless (breaking cause) = Unit {0}

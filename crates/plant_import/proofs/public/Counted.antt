@@ -129,7 +129,7 @@ put_twice kept more order =
     (λ q. grind (arith, at_puts q (with_events [] more) kept, said_in_order q (with_events [] more) (rises_of event_number _ rising), at_puts q more [], at_puts q more kept))
 
 -- the numbers of rows in rising number are those of the rows
-any_puts : (n : ℕ) (rs es : List Event) → list_any (has_number n) (with_events es rs) ≡ (list_any (has_number n) es || list_any (has_number n) rs)
+pub any_puts : (n : ℕ) (rs es : List Event) → list_any (has_number n) (with_events es rs) ≡ (list_any (has_number n) es || list_any (has_number n) rs)
 any_puts n [] es = sym (or-false _)
 any_puts n (r ∷ rs) es = grind (arith, any_puts n rs (put_row nat_cmp event_number r es), any_put n r es)
 

@@ -1,7 +1,7 @@
 -- Without ends, standing is holding.
 use Rattle.std.{specs.List.{list_all}, proofs.lemmas.Bool.{and_parts}}
 use Rattle.std.proofs.Common.{refl, Bool, List, None, Option, Some, [], false, is_none, is_some, option_map, true, unwrap_or, ℕ, ◌∷◌, ◌≡◌}
-use Rattle.plant_model.specs.{Grants.{is_before, said_of_pair}, Histories.{Begins, Over, Said, latest, still}, Laws.{WithoutEndsStandingIsHolding}}
+use Rattle.plant_model.specs.{Grants.{is_before, said_of_pair, standing}, Histories.{Begins, Over, Said, latest, still}, Laws.{WithoutEndsStandingIsHolding}}
 use Rattle.plant_model.specs.{Laws.{has_no_end}, declared.call.{Call.{Call}, Request.{Request, TheVariants.{Grant, OpenUnit, Withdraw}}}}
 use Rattle.plant_types.specs.{Options.{or_else, when}, Roles.{Pair, same_pair}, declared.role.Role.TheVariants.{Steward}}
 
@@ -40,3 +40,13 @@ held_for_good t _ n = refl
 
 pub without_ends : WithoutEndsStandingIsHolding
 without_ends h e t k = held_for_good t (latest (λ c before. said_of_pair k c.request) h) (latest_without k h e)
+
+-- and what stands has no end
+no_end_stands : (o : Option (Said (Option ℕ))) → NoEnd o → (until : Option ℕ) → still o ≡ Some until → until ≡ None
+no_end_stands (Some (Begins (Some u))) n until e = absurd n
+no_end_stands (Some (Begins None)) n until e = cc
+no_end_stands (Some Over) n until e = cc
+no_end_stands None n until e = cc
+
+pub stands_for_good : (h : List Call) → list_all (λ c. has_no_end c.request) h ≡ true → (k : Pair) (until : Option ℕ) → standing h k ≡ Some until → until ≡ None
+stands_for_good h e k until is = no_end_stands (latest (λ c before. said_of_pair k c.request) h) (latest_without k h e) until is

@@ -85,7 +85,7 @@ told_back make get back [] s = refl
 told_back make get back (x ∷ xs) s = λ i. back s x i ∷ told_back make get back xs (s + 1) i
 
 -- Places rise
-level : (n : ℕ) → nat_cmp n n ≡ Equal
+pub level : (n : ℕ) → nat_cmp n n ≡ Equal
 level n = tied _ true (is_same_number n) refl
 
 module _ {K : Type 0} (R : K → K → Ordering) (place : ℕ → K) (below : (a b : ℕ) → a < b → is_lt (R (place a) (place b)) ≡ true) where

@@ -6,7 +6,7 @@ use Rattle.plant_model.specs.declared.reply.Answer.TheVariants.{Fault as Faulted
 use Rattle.plant_types.{specs.declared.fault.Fault.TheVariants.{Memory, Store}, proofs.public.Halves.{left}}
 use Rattle.plant_books.specs.Contents.{Content}
 use Rattle.plant_office.specs.Answers.{CountsAnswer, IfSaid, OnFault}
-use Rattle.plant_office.specs.Runs.{AllChangeNothing, AreAnswers, AreIsolated, ChangesNothing, IsRun, after_answer, is_store, stores_in, world_after}
+use Rattle.plant_office.specs.Runs.{AllChangeNothing, AreAnswers, AreIsolated, ChangesNothing, EachKeepsUnchanged, IsRun, KeepsUnchanged, after_answer, is_store, stores_in, world_after}
 use Rattle.plant_office.{specs.Served.{Holds, IsServed}, proofs.Serving.{alike_if}}
 
 -- two runs, one after the other
@@ -92,3 +92,11 @@ pub left_by : (c : Call) (a : Answer) (P : Type 0) → IfSaid a (λ x. changes_h
 left_by c (Replied r) P said fault is = said is
 left_by c (WasRefused r) P said fault is = said is
 left_by c (Faulted f) P said fault is = fault
+
+-- one call more, after calls that each kept what their answers leave
+pub keeps_more : {B : Type 0} (represents : B → Content → Type 0) (cs : List Call) (xs : List Answer) (c : Call) (a : Answer) (first old new : B)
+    → EachKeepsUnchanged represents cs xs first old → KeepsUnchanged represents c a old new → EachKeepsUnchanged represents (cs ++ c ∷ []) (xs ++ a ∷ []) first new
+keeps_more represents [] [] c a first old new h k = (new, subst (λ b. KeepsUnchanged represents c a b new) h k, refl)
+keeps_more represents [] (x ∷ xs) c a first old new h k = absurd h
+keeps_more represents (d ∷ cs) [] c a first old new h k = absurd h
+keeps_more represents (d ∷ cs) (x ∷ xs) c a first old new h k = (h.0, h.1, keeps_more represents cs xs c a h.0 old new h.2 k)

@@ -1,6 +1,6 @@
 use Rattle.std.proofs.Common.{◌≡◌, [], false, take, IsTrue, Ok}
 use Rattle.sqlite.specs.{Held.{state}, State.{HasCleanDisk}}
-use Rattle.plant_store.specs.{Changes.{IsHonest}, OldTables.{AreOldBooks}, OnlyReads.{OnlyReadsOld}, StaysInside.{StaysInside}}
+use Rattle.plant_store.specs.{Changes.{IsHonest}, OldTables.{AreOldBooks}, OnlyReads.{OnlyReads}, StaysInside.{StaysInside}}
 use Rattle.plant_store.{specs.Upgrading.{AreTakenOver, old_codes}, proofs.Upgrades.{units_of}}
 use Rattle.plant_store.proofs.migration.take_units.Given as goal
 
@@ -13,7 +13,7 @@ invariant-loop-line g l =
     let now = state g.N.Store l.tx.conn.now in
     record {
       mode : l.from.in_transaction ≡ false;
-      reads : OnlyReadsOld had has;
+      reads : OnlyReads had has;
       same_reference : l.tx.conn.ghost_name ≡ l.fn.tx.conn.ghost_name;
       made : IsHonest has → AreOldBooks had.now → units_of l.lines ≡ old_codes had.now.trees → HasCleanDisk now → IsTrue l.fn.tx.conn.now.in_transaction → AreTakenOver [] had.now.trees old.now
           → AreTakenOver (units_of (take l.line-index l.lines)) had.now.trees now.now × (now.now.trees 0 ≡ old.now.trees 0);

@@ -31,7 +31,7 @@ loop-number-preserved g c =
         append_assoc before (n ∷ []) c.next.new.self ∙ cut,
         λ honest books rise.
             let early = c.rows_of_number.ensures.reads.honest honest in
-            let same = c.loop-number.invariant.reads.same early books in
+            let same = c.loop-number.invariant.reads.same early in
             let these : c.in_ok-read.read ≡ those_of number n (seen old.now.trees) =
             c.in_ok-read.ensures.rows honest.0 (subst AreBooks (sym same) books) ∙ (λ i. filter (λ r. other_way n (number r) i) (seen (same i).trees)) in
             c.in_ok-append.ensures

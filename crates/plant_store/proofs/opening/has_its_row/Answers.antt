@@ -1,8 +1,7 @@
 use Rattle.sqlite.specs.Held.{state}
 use Rattle.plant_store.proofs.OfficeRow.{office_there, office_told}
-use Rattle.plant_store.proofs.ReadsOnly.{reads_plain, reads_plain_old}
+use Rattle.plant_store.proofs.ReadsOnly.{reads_plain}
 use Rattle.plant_store.proofs.Meanings.{office_row_plain}
-use Rattle.plant_store.proofs.OldMeanings as old
 use Rattle.plant_store.proofs.opening.has_its_row.Goals as goal
 
 pub returns-clause-row : goal.returns-clause-row
@@ -15,11 +14,5 @@ returns-clause-row g c honest has =
 pub returns-in_err-rows-clause-reads : goal.returns-in_err-rows-clause-reads
 returns-in_err-rows-clause-reads g c = reads_plain _ office_row_plain c.ask.ensures.same c.ask.ensures.honest _ c.ask.ensures.shows
 
-pub returns-in_err-rows-clause-reads_old : goal.returns-in_err-rows-clause-reads_old
-returns-in_err-rows-clause-reads_old g c = reads_plain_old _ old.office_row_plain c.ask.ensures.same c.ask.ensures.honest _ c.ask.ensures.shows
-
 pub returns-clause-reads : goal.returns-clause-reads
 returns-clause-reads g c = reads_plain _ office_row_plain c.ask.ensures.same c.ask.ensures.honest _ c.ask.ensures.shows
-
-pub returns-clause-reads_old : goal.returns-clause-reads_old
-returns-clause-reads_old g c = reads_plain_old _ old.office_row_plain c.ask.ensures.same c.ask.ensures.honest _ c.ask.ensures.shows

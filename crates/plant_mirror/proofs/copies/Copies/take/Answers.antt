@@ -21,6 +21,7 @@ invariant_of-self-2 c =
     record {
       counted = omega (arith, less, same, c.row_count.ensures, c.args.self.now.counted);
       within = omega (arith, c.args.self.now.within);
+      limited = c.args.self.now.limited;
     }
 
 pub returns-clause-rest : goal.returns-clause-rest

@@ -1,7 +1,7 @@
 use Rattle.std.proofs.{Common.{◌≡◌, ◌+◌, ◌∙◌, ◌++◌, ◌∷◌, [], ap, arith, length, length-append, refl, subst, sym, take, List}, Math.Seq.{take-length}}
 use Rattle.std.proofs.lemmas.List.{take_more}
 use Rattle.plant_model.specs.declared.{call.Call.{Call}, reply.Answer.{Answer}}
-use Rattle.plant_office.{specs.{Enduring.{EnduresAll, books_state}, Runs.{AllChangeNothing, IsRun, stores_in}}, proofs.public.{Enduring.{all_none, all_one, all_then}, Running.{few_stores, left_by, nothing_split, run_more, run_none, stores_more}}}
+use Rattle.plant_office.{specs.{Enduring.{EnduresAll, books_state}, Runs.{AllChangeNothing, EachKeepsUnchanged, IsRun, stores_in}}, proofs.public.{Enduring.{all_none, all_one, all_then}, Running.{few_stores, keeps_more, left_by, nothing_split, run_more, run_none, stores_more}}}
 use Rattle.plant_office.proofs.office.Office.run.Goals as goal
 
 pub loop-call-init : goal.loop-call-init
@@ -12,6 +12,7 @@ loop-call-init g c =
       honest = λ t. t;
       ran = λ m k w legal h honest. subst (λ (xs : List Answer). IsRun w [] xs (g.B.Books.represents c.args.self.now.books)) (sym none) (run_none w m (g.B.Books.represents c.args.self.now.books) k h legal);
       unchanged = λ m k quiet. k;
+      kept = subst (λ (xs : List Answer). EachKeepsUnchanged g.B.Books.represents [] xs c.args.self.now.books c.args.self.now.books) (sym none) refl;
       endures = subst (λ (xs : List Answer). EnduresAll start start [] xs) (sym none) (all_none start);
       long = ap length none;
       room = c.in_ok-answers.ensures.capacity;
@@ -40,6 +41,13 @@ loop-call-preserved g c =
           let split = nothing_split (take i calls) c.loop-call.answers.items call c.serve-answer.result both in
           let h = before.unchanged m k split.0 in
           left_by call c.serve-answer.result (represents c.serve-answer.new.self.books m) (said.unchanged m h) (said.fault m h) split.1;
+      kept =
+          let first = c.args.self.now.books in
+          let now = c.serve-answer.new.self.books in
+          subst (λ (xs : List Call). EachKeepsUnchanged represents xs c.push_answer.new.answers.items first now) (sym more)
+          (subst (λ (xs : List Answer). EachKeepsUnchanged represents (take i calls ++ call ∷ []) xs first now) (sym c.push_answer.ensures.items)
+          (keeps_more represents (take i calls) c.loop-call.answers.items call c.serve-answer.result first c.loop-call.self.books now before.kept
+          (λ m h is. left_by call c.serve-answer.result (represents now m) (said.unchanged m h) (said.fault m h) is)));
       endures =
           let start = books_state g.B.Books c.args.self.now.books in
           let now = books_state g.B.Books c.serve-answer.new.self.books in
@@ -65,6 +73,12 @@ returns-clause-unchanged g c = λ m k quiet.
     let all : length c.args.calls.now ≡ c.loop-call.call-index = omega (arith, c.loop-call-test.false, c.loop-call.auto.call-index-end) in
     let whole : take c.loop-call.call-index c.args.calls.now ≡ c.args.calls.now = ap (λ n. take n c.args.calls.now) (sym all) ∙ take-length c.args.calls.now in
     c.loop-call.invariant.unchanged m k (subst (λ (xs : List Call). AllChangeNothing xs c.loop-call.answers.items) (sym whole) quiet)
+
+pub returns-clause-kept : goal.returns-clause-kept
+returns-clause-kept g c =
+    let all : length c.args.calls.now ≡ c.loop-call.call-index = omega (arith, c.loop-call-test.false, c.loop-call.auto.call-index-end) in
+    let whole : take c.loop-call.call-index c.args.calls.now ≡ c.args.calls.now = ap (λ n. take n c.args.calls.now) (sym all) ∙ take-length c.args.calls.now in
+    subst (λ (xs : List Call). EachKeepsUnchanged g.B.Books.represents xs c.loop-call.answers.items c.args.self.now.books c.loop-call.self.books) whole c.loop-call.invariant.kept
 
 pub returns-clause-endures : goal.returns-clause-endures
 returns-clause-endures g c =

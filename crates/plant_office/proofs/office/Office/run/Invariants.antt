@@ -1,7 +1,7 @@
 use Rattle.std.proofs.Common.{◌≡◌, ◌+◌, ◌<◌, ◌≤◌, ◌^◌, length, take, vec_capacity}
 use Rattle.plant_books.specs.Contents.{Content}
 use Rattle.plant_model.specs.Worlds.{World, IsLegalWorld}
-use Rattle.plant_office.specs.{Enduring.{EnduresAll, books_state}, Runs.{AllChangeNothing, IsRun, stores_in}, Served.{Holds}}
+use Rattle.plant_office.specs.{Enduring.{EnduresAll, books_state}, Runs.{AllChangeNothing, EachKeepsUnchanged, IsRun, stores_in}, Served.{Holds}}
 use Rattle.plant_office.proofs.office.Office.run.Given as goal
 
 abbrev pub invariant-loop-call : goal.invariant-loop-call
@@ -13,6 +13,7 @@ invariant-loop-call g l =
       honest : is_honest l.self.books → is_honest l.fn.self.books;
       ran : (m : Content) → represents l.fn.self.books m → (w : World) → IsLegalWorld w → Holds m w → is_honest l.self.books → IsRun w (take l.call-index l.calls) l.answers.items (represents l.self.books);
       unchanged : (m : Content) → represents l.fn.self.books m → AllChangeNothing (take l.call-index l.calls) l.answers.items → represents l.self.books m;
+      kept : EachKeepsUnchanged represents (take l.call-index l.calls) l.answers.items l.fn.self.books l.self.books;
       endures : EnduresAll (books_state g.B.Books l.fn.self.books) (books_state g.B.Books l.self.books) (take l.call-index l.calls) l.answers.items;
       long : length l.answers.items ≡ l.call-index;
       room : length l.calls ≤ vec_capacity l.answers;

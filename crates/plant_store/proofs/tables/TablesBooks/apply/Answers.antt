@@ -1,24 +1,39 @@
-use Rattle.sqlite.specs.Held.{state}
+use Rattle.std.proofs.Common.{OnOk, Ok, Err, Result}
+use Rattle.sqlite.{specs.Held.{state}, proofs.StateLemmas.{survives_then}}
+use Rattle.plant_books.specs.Contents.{after_changes}
 use Rattle.plant_columns.specs.Tables.{AreBooks}
-use Rattle.plant_store.{specs.Changes.{IsHonest}, proofs.{SaidAgain.{again_left, again_made}, public.{Contents.{keeps_after, keeps_same}, Leaving.{loses_no_part}}}}
+use Rattle.plant_store.specs.{Changes.{IsHonest}, Writing.{AreChangedHonestly}}
+use Rattle.plant_store.proofs.{SaidAgain.{again_left, again_made, both_ok}, public.{Contents.{keeps_after, keeps_same}, Leaving.{loses_no_part}}}
 use Rattle.plant_store.proofs.tables.TablesBooks.apply.Goals as goal
 
 pub returns-clause-made : goal.returns-clause-made
-returns-clause-made g c = λ m. rw (← c.self.view_is) (λ h known. again_made c.apply-said.result c.counted.result c.counted.ensures.said (λ (w : IsHonest (state g.S.Store c.apply-said.new.conn) × AreBooks (state g.S.Store c.self.inside.conn).now). c.apply-said.ensures.made w.0 w.1) (λ made. (
+returns-clause-made g c = λ m. rw (← c.self.view_is) (λ h known. again_made c.apply-said.result c.heard.result c.heard.ensures.said (λ (w : IsHonest (state g.S.Store c.apply-said.new.conn) × AreBooks (state g.S.Store c.self.inside.conn).now). c.apply-said.ensures.made w.0 w.1) (λ made. (
   h.0,
   λ honest.
-      let k = h.1 (c.apply-said.ensures.honest honest) in
-      keeps_after (state g.S.Store c.self.inside.conn) (state g.S.Store c.apply-said.new.conn) m c.args.unit.now c.args.changes.now k known (rw c.as_slice.ensures at (made (honest, k.books))),
+      let mid = state g.S.Store c.apply-said.new.conn in
+      let then = c.heard.ensures.reads.honest honest in
+      let k = h.1 (c.apply-said.ensures.honest then) in
+      keeps_same mid (state g.S.Store c.heard.new.conn) (after_changes m c.args.unit.now c.args.changes.now)
+      (keeps_after (state g.S.Store c.self.inside.conn) mid m c.args.unit.now c.args.changes.now k known (rw c.as_slice.ensures at (made (then, k.books)))) (c.heard.ensures.reads.same honest),
 )))
 
 pub returns-clause-unchanged : goal.returns-clause-unchanged
-returns-clause-unchanged g c = λ m. rw (← c.self.view_is) (λ h. again_left c.apply-said.result c.counted.result c.counted.ensures.said c.apply-said.ensures.unchanged (λ left. (
+returns-clause-unchanged g c = λ m. rw (← c.self.view_is) (λ h. again_left c.apply-said.result c.heard.result c.heard.ensures.said c.apply-said.ensures.unchanged (λ left. (
   h.0,
-  λ honest. keeps_same (state g.S.Store c.self.inside.conn) (state g.S.Store c.apply-said.new.conn) m (h.1 (c.apply-said.ensures.honest honest)) (left honest),
+  λ honest.
+      let mid = state g.S.Store c.apply-said.new.conn in
+      let then = c.heard.ensures.reads.honest honest in
+      keeps_same mid (state g.S.Store c.heard.new.conn) m (keeps_same (state g.S.Store c.self.inside.conn) mid m (h.1 (c.apply-said.ensures.honest then)) (left then)) (c.heard.ensures.reads.same honest),
 )))
 
 pub returns-clause-crash : goal.returns-clause-crash
-returns-clause-crash g c = rw (← c.self.view_is) (loses_no_part g.S.Store _ _ c.args.unit.now c.args.changes.now (rw c.as_slice.ensures at c.apply-said.ensures.survives))
+returns-clause-crash g c = rw (← c.self.view_is) (
+    let before = state g.S.Store c.self.inside.conn in
+    let u = c.args.unit.now in
+    let cs = c.args.changes.now in
+    loses_no_part g.S.Store _ _ u cs (survives_then before (state g.S.Store c.apply-said.new.conn) (state g.S.Store c.heard.new.conn) (AreChangedHonestly before u cs) (λ _. ⊥) (AreChangedHonestly before u cs)
+    (λ _ db made. made) (λ _ db none. absurd none) (rw c.as_slice.ensures at c.apply-said.ensures.survives) c.heard.ensures.reads.quiet))
 
 pub returns-clause-kept : goal.returns-clause-kept
-returns-clause-kept g c = again_made c.apply-said.result c.counted.result c.counted.ensures.said c.apply-said.ensures.open (λ up clean. (clean, up clean))
+returns-clause-kept g c =
+    both_ok c.heard.result (again_made c.apply-said.result c.heard.result c.heard.ensures.said c.apply-said.ensures.open (λ up clean. (clean, up clean))) c.heard.ensures.same (λ kept same. rw same kept)

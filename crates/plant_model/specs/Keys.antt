@@ -1,0 +1,47 @@
+-- Whether rows of a unit have one with the key of another, and which rows a change puts over others.
+use Rattle.std.specs.{List.{list_any}, Ordering.{eq_by_cmp}, Prelude.{Bool, List, [], false, true, ℕ, ◌∷◌, ◌≡◌}}
+use Rattle.plant_import.specs.Numbers.{has_number}
+use Rattle.plant_model.specs.{Histories.{same_number}, Matrices.{band_cmp, cell_cmp}, RowChanges.{changed}, RowFacts.{band_key, cell_key, pair_of}}
+use Rattle.plant_model.specs.declared.rows.{Row.{Row}, RowEdit.{RowEdit, TheVariants.{Put, PutEvents, Remove}}, UnitRows.{UnitRows}}
+use Rattle.plant_model.specs.declared.rows.Row.TheVariants.{Alarm, Band, Cell, Change, Event, Grant, Record, Shelf, Unit as UnitRow}
+use Rattle.plant_types.specs.{Names.{same_name}, Roles.{same_pair}}
+
+-- there is a row
+abbrev pub has_any : {A : Type 0} → List A → Bool
+has_any [] = false
+has_any (x ∷ xs) = true
+
+-- one of the rows has the key of this row
+abbrev pub has_key : Row → UnitRows → Bool
+has_key (UnitRow r) rows = has_any rows.units
+has_key (Grant r) rows = list_any (λ other. same_pair (pair_of r) (pair_of other)) rows.grants
+has_key (Alarm r) rows = list_any (λ other. same_name r.tag other.tag) rows.alarms
+has_key (Shelf r) rows = list_any (λ other. same_name r.tag other.tag) rows.shelves
+has_key (Band r) rows = list_any (λ other. eq_by_cmp band_cmp (band_key r) (band_key other)) rows.bands
+has_key (Cell r) rows = list_any (λ other. eq_by_cmp cell_cmp (cell_key r) (cell_key other)) rows.cells
+has_key (Event e) rows = list_any (λ other. same_number e.seq other.seq) rows.events
+has_key (Record r) rows = list_any (λ other. same_name r.tag other.tag) rows.records
+has_key (Change r) rows = list_any (λ other. same_number r.number other.number) rows.changes
+
+-- if a row is put over one of the unit's rows, it is put over one of those that were seen
+abbrev pub IsOverSeen : UnitRows → UnitRows → Row → Type 0
+IsOverSeen rows seen r = has_key r rows ≡ true → has_key r seen ≡ true
+
+-- so it is with the rows that a change puts. Events, limits and cells never change, and are put over none
+abbrev pub PutsOverSeen : UnitRows → UnitRows → RowEdit → Type 0
+PutsOverSeen rows seen (Put (UnitRow r)) = IsOverSeen rows seen (UnitRow r)
+PutsOverSeen rows seen (Put (Grant r)) = IsOverSeen rows seen (Grant r)
+PutsOverSeen rows seen (Put (Alarm r)) = IsOverSeen rows seen (Alarm r)
+PutsOverSeen rows seen (Put (Shelf r)) = IsOverSeen rows seen (Shelf r)
+PutsOverSeen rows seen (Put (Record r)) = IsOverSeen rows seen (Record r)
+PutsOverSeen rows seen (Put (Change r)) = IsOverSeen rows seen (Change r)
+PutsOverSeen rows seen (Put (Band r)) = has_key (Band r) rows ≡ false
+PutsOverSeen rows seen (Put (Cell r)) = has_key (Cell r) rows ≡ false
+PutsOverSeen rows seen (Put (Event e)) = has_key (Event e) rows ≡ false
+PutsOverSeen rows seen (PutEvents es) = (n : ℕ) → list_any (has_number n) es ≡ true → list_any (has_number n) rows.events ≡ false
+PutsOverSeen rows seen (Remove k) = Unit {0}
+
+-- and with all of these changes, made in their order
+abbrev pub AllPutOverSeen : UnitRows → UnitRows → List RowEdit → Type 0
+AllPutOverSeen rows seen [] = Unit {0}
+AllPutOverSeen rows seen (c ∷ cs) = PutsOverSeen rows seen c × AllPutOverSeen (changed c rows) seen cs
