@@ -54,15 +54,9 @@ fn discard(rt: &HostRuntime, new: &NewNames) {
     let _ = remove(rt, &new.log);
 }
 
-<<<<<<< HEAD
 /// Copies the tables of the older database to the new one, and hands the older one back, which was only read. What the older tables
 /// had, the new books hold.
 fn copy_tables<D: Disk + Drop, N: Alter + Drop>(
-=======
-/// Copies the tables of the older database to the new one, and hands the older one back. What the older tables had, the
-/// new books hold.
-fn copy_tables<N: Alter + Drop>(
->>>>>>> final2
     alloc: Global,
     old: Connection<FileStore<D>>,
     new: Connection<N>,
@@ -81,16 +75,10 @@ fn copy_tables<N: Alter + Drop>(
     }
 }
 
-<<<<<<< HEAD
 /// Makes the new file under this name, and hands the older database back, which was only read. What the older tables had, the new books
 /// hold.
 #[tactic(auto, using(crate::proofs::OlderRead::not_read))]
 fn copy_to_file<D: Disk + Drop>(
-=======
-/// Makes the new file under this name, and hands the older database back. What the older tables had, the new books
-/// hold.
-fn copy_to_file(
->>>>>>> final2
     rt: &HostRuntime,
     old: Connection<FileStore<D>>,
     path: &str,
@@ -111,40 +99,8 @@ fn copy_to_file(
     }
 }
 
-<<<<<<< HEAD
 /// Closes the new file, if it was made: whatever a crash leaves of it from then on holds the books, also without the log. Where it was
 /// not made, or closing fails, nothing of it is left.
-=======
-/// Makes the new file under the name beside it, and hands the older database back. What the older tables had, the new
-/// books hold. Where it can't be made, nothing of it is left.
-fn make_new(
-    rt: &HostRuntime,
-    old: Connection<FileStore<File>>,
-    old_path: &str,
-    new: &NewNames,
-    admin: Person,
-) -> (
-    Connection<FileStore<File>>,
-    Result<Tables<FileStore<File>>, StoreFault>,
-)
-    requires { HasNoTransaction old }
-    ensures { (m : Content) → m.admin ≡ admin
-        → IfOk result.1 (λ books. IsHonest (file_state result.0)
-        → HaveOldRows m (file_state old).now → Represents (file_state books.0.0) m) }
-{
-    if let Err(fault) = clear(rt, old_path, new) {
-        return (old, Err(fault));
-    }
-    let (old, made) = copy_to_file(rt, old, &new.file, admin);
-    if made.is_err() {
-        discard(rt, new);
-    }
-    (old, made)
-}
-
-/// Closes the new file: whatever a crash leaves of it from then on holds the books, also without the log. Where closing
-/// fails, nothing of it is left.
->>>>>>> final2
 fn finish(
     rt: &HostRuntime,
     made: Result<Tables<FileStore<File>>, StoreFault>,
@@ -198,7 +154,6 @@ fn log_of(rt: &HostRuntime, path: &str) -> Result<String, StoreFault> {
     beside(rt, file.as_str(), "-wal")
 }
 
-<<<<<<< HEAD
 /// The older database, if it was opened, and the closed files of the new one, or why there are none.
 pub type Migrated<S> = (
     Option<Connection<FileStore<FileFrom<S>>>>,
@@ -234,11 +189,6 @@ fn make_from<S: Start>(
 /// Opens the older file and makes the new one from it. The older one is only read, and stays locked as long as its connection is there.
 /// The engine makes a log if there is none; it is removed before the lock is given up.
 fn open_and_make<S: Start>(
-=======
-/// Opens the older file and makes the new one from it. The older one is only read, and stays locked meanwhile. The
-/// engine makes a log if there is none; it is removed before the lock is given up.
-fn make_from(
->>>>>>> final2
     rt: &HostRuntime,
     old_path: &str,
     new: &NewNames,

@@ -4,11 +4,7 @@ ghost use Rattle.std.specs.Prelude.{◌≡◌, ◌++◌, ◌∷◌, [], IfOk, On
 ghost use Rattle.plant_books.specs.Contents.{codes_held, mine_units as units_held};
 ghost use Rattle.plant_store.specs.Mine.{AreCodes, JoinsLine, holding_cells, runs_of, standing_units, started};
 ghost use Rattle.plant_store.specs.Mine.{unit_line_cells, unit_lines as unit_lines_in};
-<<<<<<< HEAD
 ghost use Rattle.plant_store.specs.Reading.{HasNoTransaction, IsOnlyRead, ReadsContent};
-=======
-ghost use Rattle.plant_store.specs.Reading.{HasNoTransaction, ReadsBooks, ReadsContent};
->>>>>>> final2
 
 use crate::read::read_rows;
 use plant_books::MineUnit;
@@ -133,7 +129,6 @@ fn unit_lines<S: Alter>(
     ensures mode { HasNoTransaction conn.new }
     ensures found { ReadsContent S.Store conn.old conn.new result
         (λ m. unit_lines_in m person.now) }
-<<<<<<< HEAD
     ensures reads { IsOnlyRead S.Store conn.old conn.new }
 {
     read_rows(
@@ -157,31 +152,6 @@ fn one_role(alloc: Global, role_no: Role) -> Result<List<Role>, Error>
 fn start(alloc: Global, line: &UnitLine) -> Result<MineUnit, Error>
     ensures { IfOk result (λ u. u ≡ started line.now) }
 {
-=======
-    ensures reads { ReadsBooks S.Store conn.old conn.new }
-{
-    read_rows(
-        alloc,
-        conn,
-        "SELECT grants.unit, grants.role_no, grants.end_s, units.last_s FROM grants INNER JOIN units ON units.unit = grants.unit WHERE grants.person = ?1 ORDER BY grants.unit, grants.person, grants.role_no, units.unit",
-        &single(person),
-    )
-}
-
-/// A list of one role.
-fn one_role(alloc: Global, role_no: Role) -> Result<List<Role>, Error>
-    ensures { IfOk result (λ roles. roles ≡ role_no ∷ []) }
-{
-    let mut roles = List::new(alloc);
-    push(&mut roles, role_no)?;
-    Ok(roles)
-}
-
-/// The unit of a line, with its role.
-fn start(alloc: Global, line: &UnitLine) -> Result<MineUnit, Error>
-    ensures { IfOk result (λ u. u ≡ started line.now) }
-{
->>>>>>> final2
     Ok(MineUnit {
         unit: copy_of(alloc, &line.unit)?,
         roles: one_role(alloc, line.role_no)?,

@@ -124,22 +124,14 @@ pub fn count_of(rows: usize) -> Result<u32, Error>
 }
 
 /// How many alarms the unit has.
-<<<<<<< HEAD
 pub fn count_of_alarms<S: Alter>(conn: &mut Connection<S>, unit: &UnitCode) -> Result<u32, Error>
-=======
-pub fn count_of_alarms<S: Alter>(conn: &mut Connection<S>, unit: &UnitCode) -> Result<u64, Error>
->>>>>>> final2
     requires { HasNoTransaction conn.old }
     ensures mode { HasNoTransaction conn.new }
     ensures rows { Loads S.Store conn.old conn.new (count_seen unit.now Alarms) result }
     ensures reads { IsOnlyRead S.Store conn.old conn.new }
 {
     let alarms = ask(conn, AlarmRow::select(), &single(unit))?;
-<<<<<<< HEAD
     count_of(alarms.as_slice().len())
-=======
-    Ok(alarms.as_slice().len() as u64)
->>>>>>> final2
 }
 
 /// How many shelves the unit keeps.

@@ -4,11 +4,7 @@ ghost use Rattle.std.specs.Prelude.{◌≡◌, map, None, IfOk, OnOk};
 ghost use Rattle.plant_books.specs.Contents.{mine_shelves as shelves_held};
 ghost use Rattle.plant_store.specs.Mine.{ListsLine, goes_on, last_of, listed_after, shelf_line_cells};
 ghost use Rattle.plant_store.specs.Mine.{shelf_lines as shelf_lines_in, standing_shelves, with_return};
-<<<<<<< HEAD
 ghost use Rattle.plant_store.specs.Reading.{HasNoTransaction, IsOnlyRead, ReadsContent};
-=======
-ghost use Rattle.plant_store.specs.Reading.{HasNoTransaction, ReadsBooks, ReadsContent};
->>>>>>> final2
 
 use crate::mine::{copy_of, push};
 use crate::read::{read_rows, row_of_tag};
@@ -62,11 +58,7 @@ fn shelf_lines<S: Alter>(
     ensures mode { HasNoTransaction conn.new }
     ensures found { ReadsContent S.Store conn.old conn.new result
         (λ m. shelf_lines_in m person.now) }
-<<<<<<< HEAD
     ensures reads { IsOnlyRead S.Store conn.old conn.new }
-=======
-    ensures reads { ReadsBooks S.Store conn.old conn.new }
->>>>>>> final2
 {
     read_rows(
         alloc,
@@ -132,11 +124,7 @@ fn returned<S: Alter>(
     requires { HasNoTransaction conn.old }
     ensures mode { HasNoTransaction conn.new }
     ensures found { ReadsContent S.Store conn.old conn.new result (λ m. with_return m line.now) }
-<<<<<<< HEAD
     ensures reads { IsOnlyRead S.Store conn.old conn.new }
-=======
-    ensures reads { ReadsBooks S.Store conn.old conn.new }
->>>>>>> final2
 {
     let alarms = row_of_tag(alloc, conn, &line.unit, &line.shelf.tag)?;
     Ok(MineRow {
@@ -156,11 +144,7 @@ fn all_returned<S: Alter>(
     ensures mode { HasNoTransaction conn.new }
     ensures found { ReadsContent S.Store conn.old conn.new result
         (λ m. map (with_return m) lines.now) }
-<<<<<<< HEAD
     ensures reads { IsOnlyRead S.Store conn.old conn.new }
-=======
-    ensures reads { ReadsBooks S.Store conn.old conn.new }
->>>>>>> final2
 {
     let mut mine = List::new(alloc);
     for line in lines {

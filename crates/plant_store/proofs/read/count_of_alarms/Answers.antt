@@ -1,20 +1,12 @@
 use Rattle.std.proofs.Common.{ap, length, ◌∙◌}
 use Rattle.sqlite.specs.Held.{state}
-<<<<<<< HEAD
 use Rattle.plant_store.proofs.{Queries.{alarms_counted, if_ok}, ReadsOnly.{reads_plain}}
-=======
-use Rattle.plant_store.proofs.{Queries.{alarms_counted}, ReadsOnly.{reads_plain}}
->>>>>>> final2
 use Rattle.plant_store.proofs.read.count_of_alarms.Goals as goal
 
 pub returns-clause-rows : goal.returns-clause-rows
 returns-clause-rows g c clean books =
     let shown = rw c.single.ensures at (rw c.select.ensures.text at (c.in_ok-alarms.ensures.rows clean)) in
-<<<<<<< HEAD
     if_ok c.count_of.result (λ n is. is ∙ ap length c.as_slice.ensures.value ∙ alarms_counted c.args.unit.now (state g.S.Store c.args.conn.now) (state g.S.Store c.ask.new.conn) books c.in_ok-alarms.alarms.items shown) c.count_of.ensures
-=======
-    ap length c.as_slice.ensures.value ∙ alarms_counted c.args.unit.now (state g.S.Store c.args.conn.now) (state g.S.Store c.ask.new.conn) books c.in_ok-alarms.alarms.items shown
->>>>>>> final2
 
 pub returns-in_err-alarms-clause-reads : goal.returns-in_err-alarms-clause-reads
 returns-in_err-alarms-clause-reads g c = reads_plain _ (c.select.ensures.reads c.args.unit.now).plain c.ask.ensures.same c.ask.ensures.honest _ c.ask.ensures.shows

@@ -9,11 +9,7 @@ returns-clause-found g c honest m k =
     let before = state g.S.Store c.args.conn.now in
     let t = c.args.now in
     let was = c.all_returned.ensures.reads.honest honest in
-<<<<<<< HEAD
     let k2 = keeps_same before (state g.S.Store c.shelf_lines.new.conn) m k (c.shelf_lines.ensures.reads.same was) in
-=======
-    let k2 = keeps_same before (state g.S.Store c.shelf_lines.new.conn) m k (c.shelf_lines.ensures.reads.same was k.books) in
->>>>>>> final2
     let found = c.as_slice.ensures ∙ c.in_ok-lines.ensures.found was m k in
     let listed = c.in_ok-listed.ensures ∙ ap (λ ls. listed_after None (standing_shelves t ls)) found in
     if_ok c.all_returned.result (λ mine h. h ∙ ap (map (with_return m)) (c.as_slice-2.ensures ∙ listed) ∙ shelves_found t c.args.person.now m before k) (c.all_returned.ensures.found honest m k2)
