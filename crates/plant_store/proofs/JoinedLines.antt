@@ -1,15 +1,15 @@
 -- What a join of grants with another table shows: each row of a unit there, beside each grant of the person in the unit.
 use Rattle.std.specs.{FinMap.{contains_key, contains_key-keys, entries, entries_sorted, get, keys}, List.{AllByRecursion, list_any}, List.Sorted.{IsStrictlySortedBy}, Ordering.{ordering_then}}
-use Rattle.std.proofs.Common.{◌≡◌, ◌&&◌, ◌||◌, ℕ, Bool, true, false, cond, List, [], ◌∷◌, ◌++◌, drop, map, filter, flat_map, Option, None, Some, refl, sym, ap, ap₂, ◌∙◌, true≢false, Ordering, Less, Equal, Greater, is_eq, is_gt, is_some, unwrap_or}
-use Rattle.std.proofs.lemmas.{Cmp.{tied_itself}, List.Concat.{flat_map-append}}
-use Rattle.sqlite.specs.{Query.{output_cmp, inner, end}, State.{State, Shown}, Term.{Term, col}}
+use Rattle.std.proofs.Common.{◌≡◌, ◌&&◌, ◌||◌, ℕ, Bool, true, false, cond, List, [], ◌∷◌, ◌++◌, drop, map, filter, flat_map, subst, IsPermutation, Option, None, Some, refl, sym, ap, ap₂, ◌∙◌, true≢false, Ordering, Less, Equal, Greater, is_eq, is_gt, is_some, unwrap_or}
+use Rattle.std.proofs.lemmas.{Cmp.{tied_itself}, List.{Concat.{flat_map-append}, Sorted.{IsPermutation-map}}}
+use Rattle.sqlite.specs.{State.{State, Shown}, Term.{Term, col}}
 use Rattle.sqlite.proofs.Callers.{reads_as}
 use Rattle.sqlite_keyed.specs.Lists.{insert_sorted, sort_by}
 use Rattle.sqlite_keyed.proofs.ListLemmas.{all-filter, all_map, all_of, all_weaker, ascending_weaker, filter_all, filter_none, filter_same, flat_map-map, flat_map_same_on, map-flat_map, map-map}
 use Rattle.sqlite_rules.{specs.Lists.{Has}, proofs.ListLemmas.{all_from, all_has, has_kept}}
 use Rattle.sqlite_tied.proofs.RuleLemmas.{and_true}
 use Rattle.sqlite_trees.specs.Tree.{IsAscending}
-use Rattle.sqlite_value.specs.{Order.{Row, bytes, column, value_cmp}, declared.value.Value.{Value, TheVariants.{Null, Text}}}
+use Rattle.sqlite_value.specs.{Order.{Row, bytes, column, value_cmp}, declared.{keys.Key.{Key}, value.Value.{Value, TheVariants.{Null, Text}}}}
 use Rattle.sqlite_value.proofs.OrderLemmas.{value_cmp_total, value_cmp-Text}
 use Rattle.plant_books.specs.Contents.{Content, rows_in}
 use Rattle.plant_columns.specs.{Codes.{flag_in, open_number_in, number_in, role_in}, Kept.{by_columns, is_of, plain_query}, Shape.{IsRowIn, row_in}, Shown.{columns}}
@@ -20,8 +20,8 @@ use Rattle.plant_model.specs.{RowChanges.{no_rows}, declared.rows.{GrantRow.{Gra
 use Rattle.plant_store.specs.{Keeping.{HasContent, has_any}, Texts.{shelf_lines_text, unit_lines_text}, declared.{mine.UnitLine.{UnitLine}, shelves.ShelfLine.{ShelfLine}}}
 use Rattle.plant_store.specs.Mine.{lines_of, shelf_line, shelf_line_cells, unit_line, unit_line_cells}
 use Rattle.plant_store.specs.Mine as mine
-use Rattle.plant_store.proofs.{Blocks.{blocks, is_known}, Holdings.{rising}, Joins.{joins, meets, pair_shown}, Queries.{named_same, two_tests}, Reading.{told}}
-use Rattle.plant_store.proofs.Meanings.{grant_shows, joined_order, joined_tests, shelf_lines, terms, unit_lines}
+use Rattle.plant_store.proofs.{Blocks.{blocks, is_known}, Holdings.{rising}, Joins.{joins, joins_unordered, meets, pair_shown}, Queries.{named_same, two_tests}, Reading.{told}}
+use Rattle.plant_store.proofs.Meanings.{grant_shows, joined_order, joined_tests, shelf_lines, terms, unit_lines, unit_order}
 use Rattle.plant_types.specs.Names.{Name, name_cmp, same_name}
 
 abbrev grant_key : List ℕ
@@ -109,12 +109,9 @@ module _ (s : State) (m : Content) (k : HasContent s m) where
       ∙ sym (blocks value_cmp value_cmp_total (λ r. column r 1) (map Text (keys m.units)) (names_rise (keys m.units) (rising (entries m.units) (entries_sorted m.units))) sorted rise)
       ∙ flat_map-map (λ u. filter (λ r. is_eq (value_cmp (column r 1) u)) sorted) Text (keys m.units)
 
-  module _ (i : TableKind) (project : List Term) (p : Name) {L : Type 0} (back : Row → L) (line : Name → GrantRow → RowOf i → L)
-      (ordered : (g h u v : Row) → output_cmp (plain_query (inner 3 (inner (shape i).tree end)) joined_tests project (joined_order (shape i).keys))
-      (pair_shown 3 (shape i).tree joined_tests project (joined_order (shape i).keys) grant_key (1 ∷ (shape i).keys) (Text p ∷ []) g u) (pair_shown 3 (shape i).tree joined_tests project (joined_order (shape i).keys) grant_key (1 ∷ (shape i).keys) (Text p ∷ []) h v)
-      ≡ ordering_then (by_columns (1 ∷ 2 ∷ 3 ∷ []) g h) (by_columns (1 ∷ (shape i).keys) u v))
+  module _ (i : TableKind) (project : List Term) (order : List (Term × Key)) (p : Name) {L : Type 0} (back : Row → L) (line : Name → GrantRow → RowOf i → L)
       (shows : (id jd : Value) (u v : Name) (g : GrantRow) (x : RowOf i)
-      → back (pair_shown 3 (shape i).tree joined_tests project (joined_order (shape i).keys) grant_key (1 ∷ (shape i).keys) (Text p ∷ []) (row_in grant_shape id u g) (row_in (shape i) jd v x)).1 ≡ line u g x) where
+      → back (pair_shown 3 (shape i).tree joined_tests project order grant_key (1 ∷ (shape i).keys) (Text p ∷ []) (row_in grant_shape id u g) (row_in (shape i) jd v x)).1 ≡ line u g x) where
     abbrev others : Row → Row → Ordering
     others = by_columns (1 ∷ (shape i).keys)
 
@@ -122,10 +119,10 @@ module _ (s : State) (m : Content) (k : HasContent s m) where
     rest = s.now.trees (shape i).tree
 
     abbrev show : Row → Row → L
-    show g u = back (pair_shown 3 (shape i).tree joined_tests project (joined_order (shape i).keys) grant_key (1 ∷ (shape i).keys) (Text p ∷ []) g u).1
+    show g u = back (pair_shown 3 (shape i).tree joined_tests project order grant_key (1 ∷ (shape i).keys) (Text p ∷ []) g u).1
 
     abbrev meet : Row → Row → Bool
-    meet g u = meets 3 (shape i).tree joined_tests project (joined_order (shape i).keys) grant_key (1 ∷ (shape i).keys) (Text p ∷ []) g u
+    meet g u = meets 3 (shape i).tree joined_tests project order grant_key (1 ∷ (shape i).keys) (Text p ∷ []) g u
 
     abbrev beside : Row → List L
     beside g = map (show g) (filter (meet g) (sort_by others rest))
@@ -168,11 +165,10 @@ module _ (s : State) (m : Content) (k : HasContent s m) where
         ∙ ap (λ rs. flat_map (λ g. map (line u g) (seen u)) (filter (λ g. same_name p g.person) (map grant_shape.read rs))) (sym (sort-filter by_grant total (is_of u) (s.now.trees 3)))
         ∙ ap₂ (λ gs xs. flat_map (λ g. map (line u g) xs) (filter (λ g. same_name p g.person) gs)) (k.seen u Grants) (k.seen u i)
 
-    lines_found : (rows : List Row) → rows ≡ flat_map (λ g. map (λ u. (pair_shown 3 (shape i).tree joined_tests project (joined_order (shape i).keys) grant_key (1 ∷ (shape i).keys) (Text p ∷ []) g u).1) (filter (meet g) (sort_by others rest))) sorted
-        → map back rows ≡ lines_of line (rows_at i) m p
-    lines_found rows are =
-        ap (map back) are ∙ map-flat_map back _ sorted
-        ∙ flat_map_same_on _ beside (λ g. map-map back (λ u. (pair_shown 3 (shape i).tree joined_tests project (joined_order (shape i).keys) grant_key (1 ∷ (shape i).keys) (Text p ∷ []) g u).1) (filter (meet g) (sort_by others rest))) sorted
+    lines_found : map back (flat_map (λ g. map (λ u. (pair_shown 3 (shape i).tree joined_tests project order grant_key (1 ∷ (shape i).keys) (Text p ∷ []) g u).1) (filter (meet g) (sort_by others rest))) sorted) ≡ lines_of line (rows_at i) m p
+    lines_found =
+        map-flat_map back _ sorted
+        ∙ flat_map_same_on _ beside (λ g. map-map back (λ u. (pair_shown 3 (shape i).tree joined_tests project order grant_key (1 ∷ (shape i).keys) (Text p ∷ []) g u).1) (filter (meet g) (sort_by others rest))) sorted
         ∙ ap (flat_map beside) unit_by_unit ∙ flat_map-flat_map beside (λ q. filter (is_of q) sorted) (keys m.units)
         ∙ flat_map_same_on _ _ in_unit (keys m.units)
 
@@ -190,7 +186,8 @@ module _ (s : State) (m : Content) (k : HasContent s m) where
       let are = joins 3 1 joined_tests project (joined_order []) grant_key (1 ∷ []) (Text p ∷ []) ordered s.now.trees rows (k.books.tidy Grants).apart (k.books.tidy Units).apart (got.answer Null) in
       told unit_line_cells unit_back (λ l i. record { unit = l.unit; role_no = role_back l.role_no i; end_s = open_number_back l.end_s i; last_s = l.last_s }) _ read said
       ∙ map-map unit_back (columns 4) rows
-      ∙ lines_found Units project p (λ r. unit_back (columns 4 r)) unit_line ordered (λ id jd u v g x i. record { unit = u; role_no = role_back g.role_no i; end_s = open_number_back g.end_s i; last_s = x.last_s }) rows are
+      ∙ ap (map (λ r. unit_back (columns 4 r))) are
+      ∙ lines_found Units project (joined_order []) p (λ r. unit_back (columns 4 r)) unit_line (λ id jd u v g x i. record { unit = u; role_no = role_back g.role_no i; end_s = open_number_back g.end_s i; last_s = x.last_s })
 
   shelf_back : Row → ShelfLine
   shelf_back r = record {
@@ -200,14 +197,16 @@ module _ (s : State) (m : Content) (k : HasContent s m) where
     shelf = record { tag = bytes (column r 3); one_shot = flag_in (column r 4); start_s = number_in (column r 5); until_s = number_in (column r 6); person = bytes (column r 7); words = bytes (column r 8) };
   }
 
-  pub shelves_read : (p : Name) (new : State) (rows : List Row) → Shown shelf_lines_text (Text p ∷ []) s new rows → (read : List ShelfLine) → map (columns 9) rows ≡ map shelf_line_cells read → read ≡ mine.shelf_lines m p
+  pub shelves_read : (p : Name) (new : State) (rows : List Row) → Shown shelf_lines_text (Text p ∷ []) s new rows → (read : List ShelfLine) → map (columns 9) rows ≡ map shelf_line_cells read → IsPermutation (mine.shelf_lines m p) read
   unfolding shelf_back
   shelves_read p new rows h read said =
       let project = grant_shows ++ terms 2 2 (drop 1 shelf_shape.columns) in
       let got = reads_as shelf_lines_text (Text p ∷ []) s new books_schema k.books.same_schema _ shelf_lines.is shelf_lines.plain shelf_lines.unlisted rows h in
-      let ordered = λ (g h u v : Row). thens (value_cmp (column g 1) (column h 1)) (value_cmp (column g 2) (column h 2)) (value_cmp (column g 3) (column h 3)) (by_columns (1 ∷ 2 ∷ []) u v) in
-      let are = joins 3 7 joined_tests project (joined_order (2 ∷ [])) grant_key (1 ∷ 2 ∷ []) (Text p ∷ []) ordered s.now.trees rows (k.books.tidy Grants).apart (k.books.tidy Shelves).apart (got.answer Null) in
+      let back = λ (r : Row). shelf_back (columns 9 r) in
+      let is : read ≡ map back rows =
       told shelf_line_cells shelf_back (λ l i. record { unit = l.unit; role_no = role_back l.role_no i; end_s = open_number_back l.end_s i; shelf = record { tag = l.shelf.tag; one_shot = flag_back l.shelf.one_shot i; start_s = l.shelf.start_s; until_s = l.shelf.until_s; person = l.shelf.person; words = l.shelf.words } }) _ read said
-      ∙ map-map shelf_back (columns 9) rows
-      ∙ lines_found Shelves project p (λ r. shelf_back (columns 9 r)) shelf_line ordered
-      (λ id jd u v g x i. record { unit = u; role_no = role_back g.role_no i; end_s = open_number_back g.end_s i; shelf = record { tag = x.tag; one_shot = flag_back x.one_shot i; start_s = x.start_s; until_s = x.until_s; person = x.person; words = x.words } }) rows are
+      ∙ map-map shelf_back (columns 9) rows in
+      let found = lines_found Shelves project unit_order p back shelf_line
+      (λ id jd u v g x i. record { unit = u; role_no = role_back g.role_no i; end_s = open_number_back g.end_s i; shelf = record { tag = x.tag; one_shot = flag_back x.one_shot i; start_s = x.start_s; until_s = x.until_s; person = x.person; words = x.words } }) in
+      let same = joins_unordered 3 7 joined_tests project unit_order grant_key (1 ∷ 2 ∷ []) (Text p ∷ []) s.now.trees rows (got.answer Null) in
+      subst (IsPermutation (mine.shelf_lines m p)) (sym is) (subst (λ l. IsPermutation l (map back rows)) found (IsPermutation-map back _ _ same))

@@ -232,6 +232,10 @@ pub unit_lines : Asks books_schema unit_lines_text (plain_query (inner 3 (inner 
 unfolding understood everything
 unit_lines = record { is = refl; unlisted = refl; plain = (refl, refl) }
 
-pub shelf_lines : Asks books_schema shelf_lines_text (plain_query (inner 3 (inner 7 end)) joined_tests (grant_shows ++ terms 2 2 (drop 1 shelf_shape.columns)) (joined_order (2 ∷ []))) (grant_names ++ own_names shelf_shape)
+-- the lines of one unit in no order
+abbrev pub unit_order : List (Term × Key)
+unit_order = (col 1 1, ascending Binary) ∷ []
+
+pub shelf_lines : Asks books_schema shelf_lines_text (plain_query (inner 3 (inner 7 end)) joined_tests (grant_shows ++ terms 2 2 (drop 1 shelf_shape.columns)) unit_order) (grant_names ++ own_names shelf_shape)
 unfolding understood everything
 shelf_lines = record { is = refl; unlisted = refl; plain = (refl, refl) }

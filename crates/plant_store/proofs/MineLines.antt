@@ -1,18 +1,18 @@
 -- Lines of a person's grants merged: by unit, with the roles held; and of one grant of each unit, for its shelves.
-use Rattle.std.specs.{Cmp.Lexicographic.{nat_list_cmp_total}, FinMap.{entries, entries_sorted, get, keys}, List.{AllByRecursion, cons_option, list_any, slice_get}}
-use Rattle.std.specs.{List.Sorted.{IsStrictlySortedBy}, Ordering.{nat_cmp, ordering_then}, Prelude.{not, ◌-◌, ◌||◌}}
+use Rattle.std.specs.{Cmp.Lexicographic.{nat_list_cmp_total}, FinMap.{entries, entries_sorted, get, keys}, List.{AllByRecursion, cons_option, dedup, dedup_from, list_any, slice_get}}
+use Rattle.std.specs.{List.Sorted.{IsStrictlySortedBy}, Ordering.{nat_cmp, ordering_then}, Prelude.{not, ◌&&◌, ◌||◌}}
 use Rattle.std.proofs.Common.{◌≡◌, ◌+◌, ℕ, Bool, true, false, cond, List, [], ◌∷◌, ◌++◌, append_assoc, arith, filter, filter_map, flat_map, length, map, Option, None, Some, refl, sym, ap, ap₂, ◌∙◌, subst, true≢false, Equal, Less, is_eq, is_some, unwrap_or}
 use Rattle.std.proofs.lemmas.{Cmp.{nat_cmp_total, tied_itself}, List.Elements.{filter-append}}
 use Rattle.sqlite.specs.State.{State}
-use Rattle.sqlite_keyed.proofs.ListLemmas.{all_of, all_weaker, ascending-filter, flat_map_none, flat_map_same_on}
+use Rattle.sqlite_keyed.proofs.ListLemmas.{all_of, all_weaker, ascending-filter, ascending_weaker, flat_map_none, flat_map_same_on}
 use Rattle.sqlite_trees.specs.Tree.{IsAscending}
 use Rattle.plant_books.specs.{Contents.{Content, is_held_by, is_held_in, mine_as, mine_row, mine_shelves, mine_unit, mine_units, rows_in, shelves_mine}, declared.books.{MineRow.{MineRow}, MineUnit.{MineUnit}}}
 use Rattle.plant_columns.specs.{Tables.{grant_shape, own_key, unit_shape}, declared.tables.TableKind.TheVariants.{Grants, Units}}
 use Rattle.plant_columns.proofs.public.{Bridge.{AreRising}, ShapeLaws.{good}, Shapes.{rising as rows_rise}}
 use Rattle.plant_model.specs.{Grants.{is_before}, RowChanges.{no_rows}, RowFacts.{no_unit, pair_of}, declared.rows.{GrantRow.{GrantRow}, ShelfRow.{ShelfRow}, UnitRow.{UnitRow}, UnitRows.{UnitRows}}}
 use Rattle.plant_store.specs.{Keeping.{HasContent, has_any}, declared.{mine.UnitLine.{UnitLine}, shelves.ShelfLine.{ShelfLine}}}
-use Rattle.plant_store.specs.Mine.{goes_on, last_of, lines_of, listed_after, put_run, runs_of, shelf_line, shelf_lines, standing_shelves, standing_units, started, unit_line, unit_lines, with_return}
-use Rattle.plant_store.proofs.{Holdings.{own_roles, rising}, JoinedLines.{passing}, public.Contents.{same_codes}}
+use Rattle.plant_store.specs.Mine.{lines_of, put_run, repeats, runs_of, shelf_line, shelf_lines, standing_shelves, standing_units, started, unit_line, unit_lines, with_return}
+use Rattle.plant_store.proofs.{Holdings.{own_roles, rising}, LineOrder.{own_rise}, public.Contents.{same_codes}}
 use Rattle.plant_types.specs.{Names.{Name, name_cmp, same_name}, Options.{when}, Roles.{pair_cmp, role_no, same_role}, declared.role.Role.{Role}}
 
 itself : (a : Name) → same_name a a ≡ true
@@ -42,26 +42,28 @@ other_run u l h (v ∷ vs) = go (same_name l.unit v.unit)
     go true = rw h refl
     go false = rw h refl
 
-at_end : (xs : List ShelfLine) (x : ShelfLine) → slice_get (xs ++ x ∷ []) (length xs) ≡ Some x
-at_end [] x = refl
-at_end (y ∷ xs) x = at_end xs x
+-- the line is the first of its unit, or one of the grant whose shelves are listed
+abbrev goes_on : Option ShelfLine → ShelfLine → Bool
+goes_on None l = true
+goes_on (Some last) l = not (repeats l last)
 
-one_longer : (xs : List ShelfLine) (x : ShelfLine) → length (xs ++ x ∷ []) ≡ length xs + 1
-one_longer [] x = refl
-one_longer (y ∷ xs) x = let more : length (xs ++ x ∷ []) ≡ length xs + 1 = one_longer xs x in omega arith
+-- after this one, the lines of one grant of each unit
+abbrev listed_after : Option ShelfLine → List ShelfLine → List ShelfLine
+listed_after last [] = []
+listed_after last (l ∷ ls) = cond (goes_on last l) (l ∷ listed_after (Some l) ls) (listed_after last ls)
 
-last_more : (xs : List ShelfLine) (x : ShelfLine) → last_of (xs ++ x ∷ []) ≡ Some x
-last_more xs x =
-    let at : length (xs ++ x ∷ []) - 1 ≡ length xs = (let more : length (xs ++ x ∷ []) ≡ length xs + 1 = one_longer xs x in omega arith) in
-    ap (slice_get (xs ++ x ∷ [])) at ∙ at_end xs x
+listed_from : (last : ShelfLine) (ls : List ShelfLine) → dedup_from repeats last ls ≡ last ∷ listed_after (Some last) ls
+listed_from last [] = refl
+listed_from last (l ∷ ls) = by (repeats l last) (listed_from last ls) (listed_from l ls)
+  where
+    by : (b : Bool) → dedup_from repeats last ls ≡ last ∷ listed_after (Some last) ls → dedup_from repeats l ls ≡ l ∷ listed_after (Some l) ls
+        → cond b (dedup_from repeats last ls) (last ∷ dedup_from repeats l ls) ≡ last ∷ cond (not b) (l ∷ listed_after (Some l) ls) (listed_after (Some last) ls)
+    by true same other = same
+    by false same other = ap (λ l. last ∷ l) other
 
-pub lists_one : (listed : List ShelfLine) (l : ShelfLine) → goes_on (last_of listed) l ≡ true → (rest : List ShelfLine)
-    → (listed ++ l ∷ []) ++ listed_after (last_of (listed ++ l ∷ [])) rest ≡ listed ++ listed_after (last_of listed) (l ∷ rest)
-lists_one listed l next rest = rw (next, last_more listed l) (append_assoc listed (l ∷ []) (listed_after (Some l) rest))
-
-pub lists_none : (listed : List ShelfLine) (l : ShelfLine) → goes_on (last_of listed) l ≡ false → (rest : List ShelfLine)
-    → listed ++ listed_after (last_of listed) rest ≡ listed ++ listed_after (last_of listed) (l ∷ rest)
-lists_none listed l next rest = rw next refl
+listed : (ls : List ShelfLine) → dedup repeats ls ≡ listed_after None ls
+listed [] = refl
+listed (l ∷ ls) = listed_from l ls
 
 -- ---- lines of grants that have not ended are those of grants held
 
@@ -118,21 +120,6 @@ module _ (t : ℕ) (p : Name) where
   any_kept [] = refl
   any_kept (g ∷ gs) = elim (is_held_by t p g) as (λ b. (b || list_any (is_held_by t p) gs) ≡ has_any (cond b (g ∷ filter (is_held_by t p) gs) (filter (is_held_by t p) gs))) [ true ↦ refl | false ↦ any_kept gs ]
 
-  -- the roles of grants of one person differ
-  roles_apart : (g h : GrantRow) → is_held_by t p g ≡ true → is_held_by t p h ≡ true → pair_cmp (pair_of g) (pair_of h) ≡ Less → same_role g.role_no h.role_no ≡ false
-  roles_apart g h a b less =
-      let same : h.person ≡ g.person = sym (same_codes p h.person (own_person _ _ b)) ∙ same_codes p g.person (own_person _ _ a) in
-      let tie : name_cmp g.person h.person ≡ Equal = ap (name_cmp g.person) same ∙ tied_itself nat_list_cmp_total g.person in
-      ap is_eq (sym (ap (λ o. ordering_then o (nat_cmp (role_no g.role_no) (role_no h.role_no))) tie) ∙ less)
-
-  all_apart : (gs : List GrantRow) → AllByRecursion (λ g. is_held_by t p g ≡ true) gs → AreRising pair_cmp pair_of gs → IsAscending (λ a b. same_role a.role_no b.role_no ≡ false) gs
-  all_apart [] held up = tt
-  all_apart (g ∷ gs) held up = (far gs held.1 up.0, all_apart gs held.1 up.1)
-    where
-      far : (hs : List GrantRow) → AllByRecursion (λ h. is_held_by t p h ≡ true) hs → AllByRecursion (λ h. pair_cmp (pair_of g) (pair_of h) ≡ Less) hs → AllByRecursion (λ h. same_role g.role_no h.role_no ≡ false) hs
-      far [] all less = tt
-      far (h ∷ hs) all less = (roles_apart g h held.0 all.0 less.0, far hs all.1 less.1)
-
   module _ (m : Content) where
     held_lines : {X L : Type 0} (line : Name → GrantRow → X → L) (end_of : L → Option ℕ) → ((u : Name) (g : GrantRow) (x : X) → end_of (line u g x) ≡ g.end_s) → (these : UnitRows → List X)
         → filter (λ l. is_before t (end_of l)) (lines_of line these m p) ≡ flat_map (λ u. flat_map (λ g. map (line u g) (these (rows_in m u))) (filter (is_held_by t p) (rows_in m u).grants)) (keys m.units)
@@ -188,7 +175,11 @@ module _ (t : ℕ) (p : Name) where
 
     begins : (last : Option ShelfLine) (u : Name) (g : GrantRow) (s : ShelfRow) → is_new last u ≡ true → goes_on last (shelf_line u g s) ≡ true
     begins None u g s h = refl
-    begins (Some l) u g s h = rw h refl
+    begins (Some l) u g s h = other (same_name l.unit u) (not (same_role l.role_no g.role_no)) h
+      where
+        other : (a b : Bool) → not a ≡ true → not (a && b) ≡ true
+        other false b h = refl
+        other true b h = absurd (true≢false (sym h))
 
     -- once a grant's shelf is listed, no other grant's is
     skips_one : (u : Name) (g h : GrantRow) (s : ShelfRow) → same_role g.role_no h.role_no ≡ false → (ss : List ShelfRow) (ls : List ShelfLine) → listed_after (Some (shelf_line u g s)) (map (shelf_line u h) ss ++ ls) ≡ listed_after (Some (shelf_line u g s)) ls
@@ -249,10 +240,12 @@ module _ (t : ℕ) (p : Name) where
 
       differ : (u : Name) (rows : UnitRows) → get m.units u ≡ Some rows → IsAscending (λ a b. same_role a.role_no b.role_no ≡ false) (filter (is_held_by t p) rows.grants)
       differ u rows e =
-          all_apart (filter (is_held_by t p) rows.grants) (passing (is_held_by t p) rows.grants)
-          (ascending-filter _ (is_held_by t p) rows.grants (subst (AreRising pair_cmp pair_of) (k.seen u Grants ∙ ap (λ o. (unwrap_or o no_rows).grants) e) (rows_rise grant_shape (good Grants) u (s.now.trees 3) (k.books.tidy Grants))))
+          subst (IsAscending (λ (a b : GrantRow). same_role a.role_no b.role_no ≡ false)) (own_roles t p rows.grants)
+          (ascending-filter _ (λ g. is_before t g.end_s) _ (ascending_weaker _ _ (λ a b less. ap is_eq less) _
+          (subst (λ o. IsAscending (λ (a b : GrantRow). nat_cmp (role_no a.role_no) (role_no b.role_no) ≡ Less) (filter (λ g. same_name p g.person) (unwrap_or o no_rows).grants)) e (own_rise s m k p u))))
 
-      pub shelves_found : map (with_return m) (listed_after None (standing_shelves t (shelf_lines m p))) ≡ mine_shelves m t p
+      pub shelves_found : map (with_return m) (dedup repeats (standing_shelves t (shelf_lines m p))) ≡ mine_shelves m t p
       shelves_found =
-          ap (λ ls. map (with_return m) (listed_after None ls)) (held_lines shelf_line (λ l. l.end_s) (λ u g x. refl) (λ rows. rows.shelves))
+          ap (map (with_return m)) (listed (standing_shelves t (shelf_lines m p)))
+          ∙ ap (λ ls. map (with_return m) (listed_after None ls)) (held_lines shelf_line (λ l. l.end_s) (λ u g x. refl) (λ rows. rows.shelves))
           ∙ shelves_merged differ (keys m.units) names_up None (all_of (λ u. is_new None u ≡ true) (λ u. refl) (keys m.units))

@@ -1,12 +1,12 @@
 -- A person's grants in all units: by themselves, beside the last moment of their unit, and beside the shelves of their unit.
-use Rattle.std.specs.{BTreeSet.{IsFromIterResult}, FinMap.{keys}, List.{slice_get}}
-use Rattle.std.specs.Prelude.{flat_map, Bool, List, None, Option, Some, [], filter, if◌then◌else◌, length, map, not, true, ℕ, ◌++◌, ◌-◌, ◌||◌, ◌∷◌, ◌≡◌}
+use Rattle.std.specs.{BTreeSet.{IsFromIterResult}, FinMap.{keys}, Ordering.{nat_cmp, ordering_then}, declared.cmp.Ordering.{Ordering}}
+use Rattle.std.specs.Prelude.{flat_map, Bool, List, None, Option, Some, [], filter, if◌then◌else◌, map, not, ℕ, ◌&&◌, ◌++◌, ◌∷◌, ◌≡◌}
 use Rattle.sqlite_value.specs.{Order.{Row}, declared.value.Value.TheVariants.{Text}}
 use Rattle.plant_books.specs.{Contents.{Content, mine_row, rows_in}, declared.books.{MineRow.{MineRow}, MineUnit.{MineUnit}}}
 use Rattle.plant_columns.specs.{Codes.{number, open_number, role}, Tables.{shelf_shape}}
 use Rattle.plant_model.specs.{Grants.{is_before}, declared.rows.{GrantRow.{GrantRow}, ShelfRow.{ShelfRow}, UnitRow.{UnitRow}, UnitRows.{UnitRows}}}
 use Rattle.plant_store.specs.declared.{mine.{Holding.{Holding}, UnitLine.{UnitLine}}, shelves.ShelfLine.{ShelfLine}}
-use Rattle.plant_types.specs.{Names.{Name, name_cmp, same_name}, Roles.{same_role}}
+use Rattle.plant_types.specs.{Names.{Name, name_cmp, same_name}, Roles.{role_no, same_role}}
 
 -- as the query shows a grant
 abbrev pub holding_cells : Holding → Row
@@ -71,26 +71,17 @@ shelf_line u g s = record { unit = u; role_no = g.role_no; end_s = g.end_s; shel
 abbrev pub shelf_lines : Content → Name → List ShelfLine
 shelf_lines m p = lines_of shelf_line (λ rows. rows.shelves) m p
 
+-- lines come by unit, role and tag
+abbrev pub line_cmp : ShelfLine → ShelfLine → Ordering
+line_cmp a b = ordering_then (ordering_then (name_cmp a.unit b.unit) (nat_cmp (role_no a.role_no) (role_no b.role_no))) (name_cmp a.shelf.tag b.shelf.tag)
+
 -- those of grants that have not ended
 abbrev pub standing_shelves : ℕ → List ShelfLine → List ShelfLine
 standing_shelves t lines = filter (λ l. is_before t l.end_s) lines
 
--- the line is the first of its unit, or one of the grant whose shelves are listed
-abbrev pub goes_on : Option ShelfLine → ShelfLine → Bool
-goes_on None l = true
-goes_on (Some last) l = not (same_name last.unit l.unit) || same_role last.role_no l.role_no
-
--- after this one, the lines of one grant of each unit
-abbrev pub listed_after : Option ShelfLine → List ShelfLine → List ShelfLine
-listed_after last [] = []
-listed_after last (l ∷ ls) = if goes_on last l then l ∷ listed_after (Some l) ls else listed_after last ls
-
-abbrev pub last_of : List ShelfLine → Option ShelfLine
-last_of lines = slice_get lines (length lines - 1)
-
--- a line is listed if it goes on: whatever lines are left, the list comes out the same
-abbrev pub ListsLine : List ShelfLine → ShelfLine → List ShelfLine → Type 0
-ListsLine listed line after = (rest : List ShelfLine) → after ++ listed_after (last_of after) rest ≡ listed ++ listed_after (last_of listed) (line ∷ rest)
+-- the line is of another grant than the last one's, in the same unit
+abbrev pub repeats : ShelfLine → ShelfLine → Bool
+repeats l last = same_name last.unit l.unit && not (same_role last.role_no l.role_no)
 
 -- the shelf of a line with the moment at which its alarm last returned to normal
 abbrev pub with_return : Content → ShelfLine → MineRow

@@ -111,7 +111,7 @@ abbrev pub unit_lines_text : List ℕ
 unit_lines_text = codes "SELECT grants.unit, grants.role_no, grants.end_s, units.last_s FROM grants INNER JOIN units ON units.unit = grants.unit WHERE grants.person = ?1 ORDER BY grants.unit, grants.person, grants.role_no, units.unit"
 
 abbrev pub shelf_lines_text : List ℕ
-shelf_lines_text = codes "SELECT grants.unit, grants.role_no, grants.end_s, shelves.tag, shelves.one_shot, shelves.start_s, shelves.until_s, shelves.person, shelves.words FROM grants INNER JOIN shelves ON shelves.unit = grants.unit WHERE grants.person = ?1 ORDER BY grants.unit, grants.person, grants.role_no, shelves.unit, shelves.tag"
+shelf_lines_text = codes "SELECT grants.unit, grants.role_no, grants.end_s, shelves.tag, shelves.one_shot, shelves.start_s, shelves.until_s, shelves.person, shelves.words FROM grants INNER JOIN shelves ON shelves.unit = grants.unit WHERE grants.person = ?1 ORDER BY grants.unit"
 
 -- what is read of schema 1 alone: the codes of all units, and a unit's own row and its grants
 abbrev pub old_codes_text : List ℕ

@@ -1,12 +1,13 @@
 //! The shelves of the units in which a person holds roles.
 
-ghost use Rattle.std.specs.Prelude.{◌≡◌, map, None, IfOk, OnOk};
+ghost use Rattle.std.specs.List.{dedup};
+ghost use Rattle.std.specs.Prelude.{◌≡◌, map};
 ghost use Rattle.plant_books.specs.Contents.{mine_shelves as shelves_held};
-ghost use Rattle.plant_store.specs.Mine.{ListsLine, goes_on, last_of, listed_after, shelf_line_cells};
+ghost use Rattle.plant_store.specs.Mine.{line_cmp, repeats, shelf_line_cells};
 ghost use Rattle.plant_store.specs.Mine.{shelf_lines as shelf_lines_in, standing_shelves, with_return};
 ghost use Rattle.plant_store.specs.Reading.{HasNoTransaction, IsOnlyRead, ReadsContent};
 
-use crate::mine::{copy_of, push};
+use crate::mine::push;
 use crate::read::{read_rows, row_of_tag};
 use plant_books::MineRow;
 use plant_columns::decode::{Shown, coded, flag, moment, open_moment, text, wide};
@@ -15,6 +16,7 @@ use plant_model::{ShelfRow, is_before, last_return};
 use plant_types::{List, Moment, Person, Role, UnitCode};
 use sqlite::{Alter, Connection, Error, Row};
 use std::alloc::Global;
+use std::cmp::Ordering;
 
 /// A shelf, beside a grant of the person in its unit.
 #[derive(Drop)]
@@ -47,7 +49,18 @@ impl Shown for ShelfLine {
     }
 }
 
-/// The shelves of the units in which the person has grants, beside each of these grants.
+/// How two lines compare: by unit, then by role, then by tag.
+fn compare_lines(a: &ShelfLine, b: &ShelfLine) -> Ordering
+    ensures { result ≡ line_cmp a.now b.now }
+{
+    a.unit
+        .cmp(&b.unit)
+        .then(a.role_no.number().cmp(&b.role_no.number()))
+        .then(a.shelf.tag.cmp(&b.shelf.tag))
+}
+
+/// The shelves of the units in which the person has grants, beside each of these grants, by unit, role and tag. The
+/// query's index mostly gives them so, and the sort then only compares.
 #[tactic(auto, using(crate::proofs::Meanings::shelf_lines, crate::proofs::ReadsOnly::reads_plain))]
 fn shelf_lines<S: Alter>(
     alloc: Global,
@@ -60,77 +73,50 @@ fn shelf_lines<S: Alter>(
         (λ m. shelf_lines_in m person.now) }
     ensures reads { IsOnlyRead S.Store conn.old conn.new }
 {
-    read_rows(
+    let found: List<ShelfLine> = read_rows(
         alloc,
         conn,
-        "SELECT grants.unit, grants.role_no, grants.end_s, shelves.tag, shelves.one_shot, shelves.start_s, shelves.until_s, shelves.person, shelves.words FROM grants INNER JOIN shelves ON shelves.unit = grants.unit WHERE grants.person = ?1 ORDER BY grants.unit, grants.person, grants.role_no, shelves.unit, shelves.tag",
+        "SELECT grants.unit, grants.role_no, grants.end_s, shelves.tag, shelves.one_shot, shelves.start_s, shelves.until_s, shelves.person, shelves.words FROM grants INNER JOIN shelves ON shelves.unit = grants.unit WHERE grants.person = ?1 ORDER BY grants.unit",
         &single(person),
-    )
+    )?;
+    let mut lines = found.into_vec();
+    lines.sort_by(|a, b| compare_lines(a, b))?;
+    Ok(List::from_vec(lines))
 }
 
-/// Whether the line is the first of its unit, or of the same grant as the last that was listed.
-fn is_listed_next(listed: &[ShelfLine], line: &ShelfLine) -> bool
-    ensures { result ≡ goes_on (last_of listed.now) line.now }
+/// Whether the line is of another grant than the last one's, in the same unit.
+fn is_repeated(line: &ShelfLine, last: &ShelfLine) -> bool
+    ensures { result ≡ repeats line.now last.now }
 {
-    match listed.last() {
-        Some(last) => last.unit != line.unit || last.role_no == line.role_no,
-        None => true,
-    }
-}
-
-/// The same line again.
-fn copy_line(alloc: Global, line: &ShelfLine) -> Result<ShelfLine, Error>
-    ensures { IfOk result (λ copy. copy ≡ line.now) }
-{
-    Ok(ShelfLine {
-        unit: copy_of(alloc, &line.unit)?,
-        role_no: line.role_no,
-        end_s: line.end_s,
-        shelf: copy_of(alloc, &line.shelf)?,
-    })
-}
-
-/// Lists the line if no other grant's shelves of its unit are listed.
-#[tactic(auto, using(crate::proofs::MineLines::lists_one, crate::proofs::MineLines::lists_none))]
-fn list(alloc: Global, listed: &mut List<ShelfLine>, line: &ShelfLine) -> Result<(), Error>
-    ensures { OnOk result (ListsLine listed.old line.now listed.new) }
-{
-    if !is_listed_next(listed.as_slice(), line) {
-        return Ok(());
-    }
-    let copy = copy_line(alloc, line)?;
-    push(listed, copy)
+    last.unit == line.unit && !last.role_no.is(line.role_no)
 }
 
 /// The lines of one grant of each unit, the first that has not ended.
-fn merge(alloc: Global, lines: &[ShelfLine], now: Moment) -> Result<List<ShelfLine>, Error>
-    ensures { IfOk result (λ all. all ≡ listed_after None (standing_shelves now lines.now)) }
+fn merge(lines: List<ShelfLine>, now: Moment) -> List<ShelfLine>
+    ensures { result ≡ dedup repeats (standing_shelves now lines) }
 {
-    let mut listed = List::new(alloc);
-    for line in lines {
-        if is_before(now, line.end_s) {
-            list(alloc, &mut listed, line)?;
-        }
-    }
-    Ok(listed)
+    let mut lines = lines.into_vec();
+    lines.retain(|line| is_before(now, line.end_s));
+    lines.dedup_by(|line, last| is_repeated(line, last));
+    List::from_vec(lines)
 }
 
 /// The shelf of the line, with the moment at which its alarm last returned to normal.
 fn returned<S: Alter>(
     alloc: Global,
     conn: &mut Connection<S>,
-    line: &ShelfLine,
+    line: ShelfLine,
 ) -> Result<MineRow, Error>
     requires { HasNoTransaction conn.old }
     ensures mode { HasNoTransaction conn.new }
-    ensures found { ReadsContent S.Store conn.old conn.new result (λ m. with_return m line.now) }
+    ensures found { ReadsContent S.Store conn.old conn.new result (λ m. with_return m line) }
     ensures reads { IsOnlyRead S.Store conn.old conn.new }
 {
     let alarms = row_of_tag(alloc, conn, &line.unit, &line.shelf.tag)?;
     Ok(MineRow {
-        unit: copy_of(alloc, &line.unit)?,
-        shelf: copy_of(alloc, &line.shelf)?,
         last_return: last_return(alarms.as_slice(), &line.shelf.tag),
+        unit: line.unit,
+        shelf: line.shelf,
     })
 }
 
@@ -138,16 +124,15 @@ fn returned<S: Alter>(
 fn all_returned<S: Alter>(
     alloc: Global,
     conn: &mut Connection<S>,
-    lines: &[ShelfLine],
+    lines: List<ShelfLine>,
 ) -> Result<List<MineRow>, Error>
     requires { HasNoTransaction conn.old }
     ensures mode { HasNoTransaction conn.new }
-    ensures found { ReadsContent S.Store conn.old conn.new result
-        (λ m. map (with_return m) lines.now) }
+    ensures found { ReadsContent S.Store conn.old conn.new result (λ m. map (with_return m) lines) }
     ensures reads { IsOnlyRead S.Store conn.old conn.new }
 {
     let mut mine = List::new(alloc);
-    for line in lines {
+    for line in lines.into_vec() {
         let returned = returned(alloc, conn, line)?;
         push(&mut mine, returned)?;
     }
@@ -168,6 +153,5 @@ pub fn mine_shelves<S: Alter>(
     ensures reads { IsOnlyRead S.Store conn.old conn.new }
 {
     let lines = shelf_lines(alloc, conn, person)?;
-    let listed = merge(alloc, lines.as_slice(), now)?;
-    all_returned(alloc, conn, listed.as_slice())
+    all_returned(alloc, conn, merge(lines, now))
 }
