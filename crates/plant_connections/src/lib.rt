@@ -4,5 +4,5 @@
 mod connections;
 mod texts;
 
-pub use connections::{Listener, say_end, serve_connections};
-pub use texts::{end_name, say};
+pub use connections::{Listener, Stopped, say_end, serve_connections, serve_while_open};
+pub use texts::{end_name, say, say_faults};
