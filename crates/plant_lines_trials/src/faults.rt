@@ -10,7 +10,8 @@ use std::alloc::Global;
 use std::process::Abort;
 
 /// A request for a list of units.
-const UNITS: &str = "GET /units HTTP/1.1\r\nX-Person: ann\r\nX-Moment: 2026-03-01T08:00:00Z\r\n\r\n";
+const UNITS: &str =
+    "GET /units HTTP/1.1\r\nX-Person: ann\r\nX-Moment: 2026-03-01T08:00:00Z\r\n\r\n";
 
 /// A request for a list of shelves.
 const SHELVES: &str =
@@ -108,7 +109,7 @@ fn ends_once_its_store_has_shut(rt: HostRuntime) {
     let (errors, over) = serve(&rt, rt.alloc(), &mut script, 2, true);
     assert_eq!(rt; over, Err(Halted::Shut));
     assert_eq!(rt; answers_of(&script), (2, 1));
-    assert!(rt; errors.as_slice() == b"fault: Store\n");
+    assert!(rt; errors.as_slice() == b"fault: Store\n".as_slice());
 }
 
 #[test]

@@ -22,9 +22,7 @@ use crate::migrations::migrate_file;
 use crate::remains::{close_left, leave};
 use crate::sockets::Port;
 use crate::statuses::ExitStatus;
-use plant_connections::{
-    Listener, Stopped, end_name, say, serve_connections, serve_while_open,
-};
+use plant_connections::{Listener, Stopped, end_name, say, serve_connections, serve_while_open};
 use plant_line::{Line, LineError, Service, Task, line_of};
 use plant_lines::{Halted, Reports, serve_lines};
 use plant_mirror::{Copies, Mirror};
@@ -260,7 +258,7 @@ fn serve_at_once<B: Books, W: Write, E: Write>(
 
 /// Serves the connections of a port, many at once if the service asks for it; the status says whether all of them were
 /// served.
-fn serve_port<B: Books, W: Write, E: Write>(
+pub fn serve_port<B: Books, W: Write, E: Write>(
     rt: &HostRuntime,
     office: &mut Office<B>,
     service: Service,

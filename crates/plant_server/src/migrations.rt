@@ -145,7 +145,6 @@ fn make_new<D: Disk + Drop>(
     (old, finish(rt, made, new))
 }
 
-
 /// The name of the log of the file at this path. Where the path is a link, the log is beside the file that it leads to.
 fn log_of(rt: &HostRuntime, path: &str) -> Result<String, StoreFault> {
     let Ok(file) = fs::canonicalize(rt, path) else {
