@@ -1,12 +1,8 @@
-//! Offices that are interrupted, as tests alone: calls whose statements may take only so many steps, disks on which a sync fails
-//! or that stop at some call, and offices whose files are closed and opened again.
+//! Offices that are interrupted, as tests alone: calls whose statements may take only so many steps, and disks on which a sync
+//! fails.
 #![tactic(auto)]
 
 #[cfg(test)]
-mod crashes;
-#[cfg(test)]
 mod interruptions;
-#[cfg(test)]
-mod reopenings;
 #[cfg(test)]
 mod syncs;

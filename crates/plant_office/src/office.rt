@@ -120,7 +120,11 @@ impl<B: Books> Office<B> {
     pub fn into_books(self) -> B
         ensures { result ≡ self.books }
     {
-        let Office { books, .. } = self;
+        let Office {
+            books,
+            faults: _,
+            alloc: _,
+        } = self;
         books
     }
 
