@@ -5,8 +5,8 @@ use Rattle.plant_model.specs.declared.{call.Call.{Call}, reply.Answer.{Answer}}
 use Rattle.plant_books.specs.declared.books.Books.{Ghosts}
 use Rattle.plant_wire.specs.{Over.{RanOn}, Session.{EndsAs}, declared.reads.End.{End, TheVariants.{BrokenInput, Closed, Fault, ReadFailed, WriteFailed}}}
 use Rattle.plant_wire.specs.declared.streams.Failed.{Failed}
-use Rattle.plant_connections.specs.declared.connections.Stopped.{Stopped}
-use Rattle.plant_connections.specs.declared.connections.Stopped.TheVariants as stopped
+use Rattle.plant_connections.specs.declared.while_open.Stopped.{Stopped}
+use Rattle.plant_connections.specs.declared.while_open.Stopped.TheVariants as stopped
 
 abbrev pub end_name : End → List ℕ
 end_name Closed = codes "Closed"

@@ -4,8 +4,8 @@ use Rattle.std.specs.Prelude.{Err, None, Ok, Option, Result, Some}
 use Rattle.plant_model.specs.declared.{call.Call.{Call}, reply.Answer.{Answer}}
 use Rattle.plant_wire.specs.{Session.{IsSession}, declared.reads.End.{End}}
 use Rattle.plant_wire.specs.declared.reads.End.TheVariants.{BrokenInput, Closed, Fault, ReadFailed, WriteFailed}
-use Rattle.plant_connections.specs.declared.connections.Stopped.{Stopped}
-use Rattle.plant_connections.specs.declared.connections.Stopped.TheVariants as stopped
+use Rattle.plant_connections.specs.declared.while_open.Stopped.{Stopped}
+use Rattle.plant_connections.specs.declared.while_open.Stopped.TheVariants as stopped
 use Rattle.plant_line.specs.declared.words.{LineError.{LineError}, Service.{Service}, Task.{Task}}
 use Rattle.plant_line.specs.declared.words.LineError.TheVariants.{Memory, NoDb, NotAPerson, Text}
 use Rattle.plant_line.specs.declared.words.Task.TheVariants.{Migrate, Serve}

@@ -3,7 +3,7 @@ use Rattle.plant_model.specs.declared.{call.Call.{Call}, reply.Answer.{Answer}}
 use Rattle.plant_wire.specs.{Ran.{Ran}, declared.reads.End.{End}}
 use Rattle.plant_connections.specs.Connections.{GoesThrough, Tells}
 use Rattle.plant_office.specs.Enduring.{books_state}
-use Rattle.plant_connections.proofs.connections.serve_while_open.Given as goal
+use Rattle.plant_connections.proofs.while_open.serve_while_open.Given as goal
 
 abbrev pub invariant-connections : goal.invariant-connections
 invariant-connections g l = record {
