@@ -1,11 +1,13 @@
 //! The migration of a file of the older schema: its tables are copied to a new file.
 
 ghost use Rattle.std.specs.Prelude.{◌≡◌, IfErr, IfOk, IfSome, IsErr, IsSomeAnd, Ok, false};
-ghost use Rattle.sqlite.specs.{Effect.{Database}, Files.{file_state, IsOpened}, Held.{state}, Start.{FindsIn}, State.{HasCleanDisk}};
+ghost use Rattle.sqlite.specs.{Effect.{Database}, Files.{file_state, IsOpened}, Held.{state}, Start.{FindsIn}};
+ghost use Rattle.sqlite.specs.State.{HasCleanDisk};
 ghost use Rattle.sqlite_wal.specs.{Files.{image_at}, Reads.{AreClean}};
 ghost use Rattle.plant_books.specs.Contents.{Content};
 ghost use Rattle.plant_server.specs.{Crashes.{HoldWholeBooks}, Files.{HoldDatabase, HoldOldBooks, HoldsStill}};
-ghost use Rattle.plant_store.specs.{Changes.{IsHonest}, Keeping.{Represents}, OnlyReads.{OnlyReads}, Reading.{HasNoTransaction}, Upgrading.{HaveOldRows}};
+ghost use Rattle.plant_store.specs.{Changes.{IsHonest}, Keeping.{Represents}, OnlyReads.{OnlyReads}};
+ghost use Rattle.plant_store.specs.{Reading.{HasNoTransaction}, Upgrading.{HaveOldRows}};
 
 use crate::files::{
     NewNames, STORE, beside, close_new, connect, is_there, length_of, new_names, put_in_place,
@@ -54,8 +56,8 @@ fn discard(rt: &HostRuntime, new: &NewNames) {
     let _ = remove(rt, &new.log);
 }
 
-/// Copies the tables of the older database to the new one, and hands the older one back, which was only read. What the older tables
-/// had, the new books hold.
+/// Copies the tables of the older database to the new one, and hands the older one back, which was only read. What the
+/// older tables had, the new books hold.
 fn copy_tables<D: Disk + Drop, N: Alter + Drop>(
     alloc: Global,
     old: Connection<FileStore<D>>,
@@ -75,8 +77,8 @@ fn copy_tables<D: Disk + Drop, N: Alter + Drop>(
     }
 }
 
-/// Makes the new file under this name, and hands the older database back, which was only read. What the older tables had, the new books
-/// hold.
+/// Makes the new file under this name, and hands the older database back, which was only read. What the older tables
+/// had, the new books hold.
 #[tactic(auto, using(crate::proofs::OlderRead::not_read))]
 fn copy_to_file<D: Disk + Drop>(
     rt: &HostRuntime,
@@ -99,8 +101,8 @@ fn copy_to_file<D: Disk + Drop>(
     }
 }
 
-/// Closes the new file, if it was made: whatever a crash leaves of it from then on holds the books, also without the log. Where it was
-/// not made, or closing fails, nothing of it is left.
+/// Closes the new file, if it was made: whatever a crash leaves of it from then on holds the books, also without the
+/// log. Where it was not made, or closing fails, nothing of it is left.
 fn finish(
     rt: &HostRuntime,
     made: Result<Tables<FileStore<File>>, StoreFault>,
@@ -121,8 +123,8 @@ fn finish(
     closed
 }
 
-/// Makes the new file under the name beside it, closed, and hands the older database back, which was only read. What the older tables had,
-/// the new file holds. Where it can't be made, nothing of it is left.
+/// Makes the new file under the name beside it, closed, and hands the older database back, which was only read. What
+/// the older tables had, the new file holds. Where it can't be made, nothing of it is left.
 #[tactic(auto, using(crate::proofs::OlderRead::not_read))]
 fn make_new<D: Disk + Drop>(
     rt: &HostRuntime,
@@ -185,8 +187,8 @@ fn make_from<S: Start>(
     make_new(rt, old, old_path, new, admin)
 }
 
-/// Opens the older file and makes the new one from it. The older one is only read, and stays locked as long as its connection is there.
-/// The engine makes a log if there is none; it is removed before the lock is given up.
+/// Opens the older file and makes the new one from it. The older one is only read, and stays locked as long as its
+/// connection is there. The engine makes a log if there is none; it is removed before the lock is given up.
 fn open_and_make<S: Start>(
     rt: &HostRuntime,
     old_path: &str,
@@ -261,9 +263,10 @@ fn place(
     Ok(files)
 }
 
-/// Copies the tables of the older file to a new one, whose name must be free. The older file is only read, whatever it holds: on a disk
-/// that returns what was written, what it held it holds. The new one is there once it is whole, or not at all; where its folder can't be
-/// synced, it is there and the store's fault is given. What the older one held of schema 1, the new one holds.
+/// Copies the tables of the older file to a new one, whose name must be free. The older file is only read, whatever it
+/// holds: on a disk that returns what was written, what it held it holds. The new one is there once it is whole, or not
+/// at all; where its folder can't be synced, it is there and the store's fault is given. What the older one held of
+/// schema 1, the new one holds.
 pub fn migrate_file<S: Start>(
     rt: &HostRuntime,
     old_path: &str,

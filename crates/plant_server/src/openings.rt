@@ -1,7 +1,8 @@
 //! The engine over the files at a path, with a log that is copied into the file soon.
 
 ghost use Rattle.std.specs.Prelude.{◌≡◌, false, true, IfErr, IfOk, IfSome, IsTrue};
-ghost use Rattle.sqlite.specs.{Files.{file_state, IsBlankAs, IsCleanLeft, IsOpened, LeavesFiles}, Held.{IsNew}, Opening.{is_open_error}, Start.{FindsIn}, State.{HasCleanDisk}};
+ghost use Rattle.sqlite.specs.Files.{file_state, IsBlankAs, IsCleanLeft, IsOpened, LeavesFiles};
+ghost use Rattle.sqlite.specs.{Held.{IsNew}, Opening.{is_open_error}, Start.{FindsIn}, State.{HasCleanDisk}};
 ghost use Rattle.sqlite_std_file.specs.File.{file_is_usable, IsFresh};
 ghost use Rattle.sqlite_store.specs.FileStore.{view};
 ghost use Rattle.sqlite_wal.specs.Files.{image_at};
@@ -31,7 +32,8 @@ fn error_of(error: &OpenError) -> Error
     }
 }
 
-/// The file at this path and its log, each made if it is missing. The engine's words for a database in memory and for a URI are no paths.
+/// The file at this path and its log, each made if it is missing. The engine's words for a database in memory and for a
+/// URI are no paths.
 fn open_pair<S: Start>(rt: &HostRuntime, path: &str, start: S) -> Result<Files<FileFrom<S>>, Error>
     ensures named { IfErr result (λ e. IsTrue (is_open_error e)) }
     ensures usable { IfOk result (λ files. IsTrue (file_is_usable S.Start files.log)
