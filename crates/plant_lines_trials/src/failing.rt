@@ -1,6 +1,5 @@
 //! Books that fail.
 
-ghost use Rattle.std.specs.Prelude.{⊥};
 ghost use Rattle.plant_books.specs.Counting.{CountsFault};
 
 use plant_alarm::Event;
