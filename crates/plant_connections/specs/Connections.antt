@@ -1,10 +1,12 @@
 -- Connections served one after the other. Lists of ends have the latest first.
 use Rattle.std.specs.Io.KnownBytes.{Appends}
-use Rattle.std.specs.Prelude.{None, Option, Result, Ok, Err, Some, true, ℕ, ◌≡◌, ◌<◌, ◌+◌, List, [], ◌∷◌, ◌++◌, codes, decimal, length, take}
+use Rattle.std.specs.Prelude.{None, Option, Result, Ok, Err, Some, Bool, false, true, ℕ, ◌≡◌, ◌<◌, ◌+◌, List, [], ◌∷◌, ◌++◌, codes, decimal, length, take}
 use Rattle.plant_model.specs.declared.{call.Call.{Call}, reply.Answer.{Answer}}
 use Rattle.plant_books.specs.declared.books.Books.{Ghosts}
 use Rattle.plant_wire.specs.{Over.{RanOn}, Session.{EndsAs}, declared.reads.End.{End, TheVariants.{BrokenInput, Closed, Fault, ReadFailed, WriteFailed}}}
 use Rattle.plant_wire.specs.declared.streams.Failed.{Failed}
+use Rattle.plant_connections.specs.declared.while_open.Stopped.{Stopped}
+use Rattle.plant_connections.specs.declared.while_open.Stopped.TheVariants as stopped
 
 abbrev pub end_name : End → List ℕ
 end_name Closed = codes "Closed"
@@ -12,6 +14,13 @@ end_name BrokenInput = codes "BrokenInput"
 end_name ReadFailed = codes "ReadFailed"
 end_name WriteFailed = codes "WriteFailed"
 end_name Fault = codes "Fault"
+
+-- a line for each kind of fault that was answered: of memory, of the store
+abbrev pub fault_lines : Bool → Bool → List ℕ
+fault_lines false false = []
+fault_lines true false = codes "fault: Memory\n"
+fault_lines false true = codes "fault: Store\n"
+fault_lines true true = codes "fault: Memory\nfault: Store\n"
 
 -- the line that says how a connection ended
 unfoldable pub line_of : ℕ → End → List ℕ
@@ -43,3 +52,9 @@ Tells written ends written_after = (text : List ℕ) × AreLines ends text × Ap
 abbrev pub StopsAfter : ℕ → ℕ → ℕ → ℕ → Result (Unit {0}) Failed → Type 0
 StopsAfter n failed failed_after count (Ok u) = (count ≡ n) × (failed_after ≡ failed)
 StopsAfter n failed failed_after count (Err e) = (count < n) × (failed_after ≡ 1)
+
+-- the same of a service that goes on while its store is open: fewer were served also where a failure has shut the store
+abbrev pub HaltsAfter : ℕ → ℕ → ℕ → ℕ → Result (Unit {0}) Stopped → Type 0
+HaltsAfter n failed failed_after count (Ok u) = (count ≡ n) × (failed_after ≡ failed)
+HaltsAfter n failed failed_after count (Err stopped.Failed) = (count < n) × (failed_after ≡ 1)
+HaltsAfter n failed failed_after count (Err stopped.Shut) = (count < n) × (failed_after ≡ failed)

@@ -53,7 +53,7 @@ fn close<L: Listener>(requests: L::Requests, answers: L::Answers, end: End) {
 }
 
 /// One session over the next connection, which is closed after it.
-fn serve_next<L: Listener, B: Books>(
+pub(crate) fn serve_next<L: Listener, B: Books>(
     alloc: Global,
     listener: &mut L,
     office: &mut Office<B>,

@@ -3,6 +3,8 @@
 
 mod connections;
 mod texts;
+mod while_open;
 
 pub use connections::{Listener, say_end, serve_connections};
-pub use texts::{end_name, say};
+pub use texts::{end_name, say, say_faults};
+pub use while_open::{Stopped, serve_while_open};

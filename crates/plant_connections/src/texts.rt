@@ -1,6 +1,7 @@
 ghost use Rattle.std.specs.{Io.KnownBytes.{Appends}, Prelude.{◌≡◌, ℕ, take}};
 ghost use Rattle.plant_connections.specs.Connections as spec;
 
+use plant_office::Faults;
 use plant_wire::{End, bytes_from};
 use std::io::Write;
 
@@ -28,4 +29,24 @@ pub fn say<W: Write>(writer: &mut W, text: &[u8])
             Ok(n) => at += n,
         }
     }
+}
+
+/// A line for each kind of these faults.
+fn fault_lines(faults: Faults) -> &'static [u8]
+    ensures { result.now ≡ spec.fault_lines faults.memory faults.store }
+{
+    match (faults.memory, faults.store) {
+        (false, false) => b"",
+        (true, false) => b"fault: Memory\n",
+        (false, true) => b"fault: Store\n",
+        (true, true) => b"fault: Memory\nfault: Store\n",
+    }
+}
+
+/// Writes a line for each kind of these faults. What can't be written is passed over.
+pub fn say_faults<W: Write>(errors: &mut W, faults: Faults)
+    ensures { (n : ℕ) × Appends (W.contents errors.old) (W.contents errors.new)
+        (take n (spec.fault_lines faults.memory faults.store)) }
+{
+    say(errors, fault_lines(faults));
 }

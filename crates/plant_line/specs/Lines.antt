@@ -7,15 +7,15 @@ use Rattle.plant_types.specs.Text.{person_of}
 use Rattle.plant_line.specs.declared.words.{Line.{Line}, Service.{Service}, Task.{Task, TheVariants.{Migrate, Serve}}}
 
 -- How a port is served: how many connections in all (1 if not given), how many of them at once (1), and after how many
--- silent seconds each is given up (never). With `forever` there are 2^64 - 1 in all, more than any machine serves, and
--- what is not given is 256 at once and 30 seconds. Without a port none is served.
+-- silent seconds each is given up (never). With `forever` there are 2^64 - 1 in all, more than any machine serves, but
+-- only while the store is open, and what is not given is 256 at once and 30 seconds. Without a port none is served.
 abbrev pub service_from : Option ℕ → Option ℕ → Option ℕ → Bool → Option ℕ → Option Service
 service_from None connections clients forever idle = None
 service_from (Some port) connections clients false idle =
-    Some (record { port = port; connections = unwrap_or connections 1; clients = unwrap_or clients 1; idle = idle })
+    Some (record { port = port; connections = unwrap_or connections 1; clients = unwrap_or clients 1; idle = idle; while_open = false })
 service_from (Some port) connections clients true idle =
     let all = 2 ^ 64 - 1 in
-    Some (record { port = port; connections = all; clients = unwrap_or clients 256; idle = Some (unwrap_or idle 30) })
+    Some (record { port = port; connections = all; clients = unwrap_or clients 256; idle = Some (unwrap_or idle 30); while_open = true })
 
 -- The task for an older file, a file of the tables and a port, each if named: the older file is migrated to the file of
 -- the tables; or, if no older file is named, the office is served over that file, or in memory, and over the port, or

@@ -49,6 +49,8 @@ pub struct Service {
     pub clients: u64,
     /// After how many seconds a silent connection is given up.
     pub idle: Option<u64>,
+    /// Whether it ends once the store has shut, and reports each fault that it answers.
+    pub while_open: bool,
 }
 
 /// What the program does.
@@ -151,6 +153,7 @@ fn service_from(
             connections: FOREVER,
             clients: clients.unwrap_or(FOREVER_CLIENTS),
             idle: Some(idle.unwrap_or(FOREVER_IDLE)),
+            while_open: true,
         });
     }
     Some(Service {
@@ -158,6 +161,7 @@ fn service_from(
         connections: connections.unwrap_or(1),
         clients: clients.unwrap_or(1),
         idle,
+        while_open: false,
     })
 }
 
@@ -234,7 +238,7 @@ fn service_args<'a>(alloc: Global, command: Command<'a>) -> Result<Command<'a>, 
     );
     let forever = Arg::new(alloc, "forever")
         .long("forever")
-        .help("Serves connections until the program is stopped")
+        .help("Serves connections until the program is stopped or its store fails")
         .action(ArgAction::SetTrue)
         .requires_arg("port")?
         .conflicts_with("connections")?;
@@ -263,7 +267,7 @@ const ABOUT: &str =
 const STATUSES: &str = "Exit statuses:
   0  all requests answered, all connections served, OLD copied, help or version
   2  the command line is wrong, NAME is not a person's name, or --migrate without --db
-  3  the books were not opened, or OLD was not copied
+  3  the books were not opened, OLD was not copied, or with --forever the store failed
   4  without a port: the input ended within a request, or its bytes are not requests
   5  without a port: a read failed, or a million were made
   6  without a port: a write failed

@@ -242,7 +242,7 @@ lifted_opened count ls l ok is new k = go (nat_eq count k) refl
         subst (λ (s : Stage). Leads k (stage_of k count ls) (opened count ∷ []) s) (sym stays)
         (leads_other k count (stage_of k count ls) (opened count ∷ []) (refl, tt) not)
 
--- a connection is accepted, and closed at once since there is no memory for its line
+-- a connection is accepted and closed again, because memory ran out
 pub lifted_refused : (count : ℕ) (ls : List Line) → AreLines count ls
     → (k : ℕ) → Leads k (stage_of k count ls) (opened count ∷ closed count Fault ∷ []) (stage_of k (count + 1) ls)
 lifted_refused count ls ok k = go (nat_eq count k) refl

@@ -9,7 +9,9 @@ use Rattle.plant_lines.specs.Books.{AreQuiet, IsMoment, Makes, MakesEach}
 use Rattle.plant_lines.specs.Events.{AreTold, Event, Logs, Seen, Shows, all_answers, all_calls, answers_in, at_ports, calls_in, port_in, seen_by}
 use Rattle.plant_lines.specs.Stages.{Leads, Stage, stage_in, stage_of}
 use Rattle.plant_lines.specs.Happens.{AreOf, Happened, Made, Moved, Passed, Turned, Went}
+use Rattle.plant_lines.specs.Faults.{reporting}
 use Rattle.plant_lines.specs.declared.lines.Line.{Line}
+use Rattle.plant_office.specs.declared.office.Faults.{Faults}
 
 pub leads_then : (k : ℕ) (s s' s'' : Stage) (es fs : List Event) → Leads k s es s' → Leads k s' fs s'' → Leads k s (es ++ fs) s''
 leads_then k s s' s'' [] fs is later = subst (λ (t : Stage). Leads k t fs s'') is later
@@ -181,4 +183,14 @@ module _ {B : Type 0} (b : books.Ghosts B) where
     logged = logged_then s t u p.events q.events p.logged q.logged;
     makes = each_then b x y z p.events q.events p.makes q.makes;
     went = went_then p.events q.events l m n p.went q.went;
+  }
+
+  -- faults of the line were reported
+  pub turned_reported : (x y : B) (s t : Option (List Event)) (l m : Line) (faults : Faults) → Turned b x y s t l m
+      → Turned b x y s t l (reporting m faults)
+  turned_reported x y s t l m faults p = record {
+    events = p.events;
+    logged = p.logged;
+    makes = p.makes;
+    went = record { own = p.went.own; same = p.went.same; untold = p.went.untold; leads = p.went.leads };
   }

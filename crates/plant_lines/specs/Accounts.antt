@@ -12,7 +12,7 @@ use Rattle.plant_lines.specs.Events.{Event, Seen, Shows, all_answers, all_calls,
 use Rattle.plant_lines.specs.Events.{calls_in, came_to, closed, cut_of, has_ended, marks_of, sent_to}
 use Rattle.plant_lines.specs.Stages.{Leads, fresh, stage_of}
 use Rattle.plant_lines.specs.declared.{lines.Line.{Line}, serving.Halted.{Halted}}
-use Rattle.plant_lines.specs.declared.serving.Halted.TheVariants.{Memory, Ports}
+use Rattle.plant_lines.specs.declared.serving.Halted.TheVariants.{Memory, Ports, Shut}
 
 -- no text was cut, and the text of the last answer ends in these bytes, after those before them
 abbrev pub IsOfLast : List ℕ → List ℕ → List Mark → List ℕ → Type 0
@@ -58,11 +58,12 @@ abbrev pub Outcome : Type 0
 Outcome = Result (Unit {0}) Halted
 
 -- How many connections were opened, of at most n, and which are still held. Ok: n were, and each was closed. Out of
--- memory at the start: none was. The ports failed: n or fewer were.
+-- memory at the start: none was. The ports failed, or the store shut: n or fewer were.
 abbrev pub StopsAfter : ℕ → ℕ → List Line → Outcome → Type 0
 StopsAfter n count held (Ok u) = (count ≡ n) × (held ≡ [])
 StopsAfter n count held (Err Memory) = (count ≡ 0) × (held ≡ [])
 StopsAfter n count held (Err Ports) = count ≤ n
+StopsAfter n count held (Err Shut) = count ≤ n
 
 -- Where n connections are to be served: one list of what happened at all of them, numbered as they came. `ran` is true
 -- of the calls that the office made, one after another, whatever the connection. Each connection was sent the answers

@@ -1,9 +1,18 @@
 -- The lines that are held.
-use Rattle.std.specs.Prelude.{◌≤◌}
-use Rattle.plant_lines.specs.Stages.{AreLines}
+use Rattle.std.specs.Prelude.{Bool, false, ◌≡◌, ◌≤◌}
+use Rattle.plant_books.specs.declared.books.Books.{Ghosts}
+use Rattle.plant_lines.specs.{Events.{Seen}, Happens.{Happened}, Prompt.{ArePrompt}, Stages.{AreLines}}
 use Rattle.plant_lines.specs.declared.serving.Held.{Held}
 
 -- lines of connections that came, and of these no more than are to be served
 pub record IsHeld (held : Held) : Type 0 where
   pub lines : AreLines held.count held.lines.items
   pub few : held.count ≤ held.n
+
+-- One turn, from one state of the books, of what is seen and of the lines to another. Where `left` is false, it leaves no
+-- request that can be answered now, if there was none before.
+pub record IsTurn {B : Type 0} (b : Ghosts B) (x y : B) (s t : Seen) (before after : Held) (left : Bool) : Type 0 where
+  pub happened : Happened b x y s t before.count after.count before.lines.items after.lines.items
+  pub held : IsHeld after
+  pub same : after.n ≡ before.n
+  pub prompt : ArePrompt before.lines.items → left ≡ false → ArePrompt after.lines.items

@@ -6,3 +6,4 @@ pub mod Accounts
 pub mod Held
 pub mod PortSteps
 pub mod Prompt
+pub mod Faults

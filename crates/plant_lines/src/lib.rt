@@ -10,4 +10,4 @@ mod serving;
 pub use answers::Answers;
 pub use lines::Line;
 pub use ports::{Ports, Ready, Sent, Taken};
-pub use serving::{Halted, serve_lines};
+pub use serving::{Halted, Reports, serve_lines};

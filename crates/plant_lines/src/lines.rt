@@ -4,19 +4,29 @@ ghost use Rattle.plant_call.specs.{Cut.{WaitsBelow}, Front.{StandsAtFront, waits
 ghost use Rattle.plant_wire.specs.{Limits.{least_room}, Session.{IsIdle}};
 ghost use Rattle.plant_wire.specs.declared.reads.End.TheVariants as ends;
 ghost use Rattle.plant_lines.specs.{Happens.{Made, Moved, Turned}, Prompt.{AreFew, IsPrompt, IsSettled}};
+ghost use Rattle.plant_lines.specs.Faults.{added, reporting, without};
 ghost use Rattle.plant_lines.specs.Stages.{IsOpen, MayClose, end_by, end_for};
 
 use crate::answers::Answers;
 use crate::desk::Desk;
 use crate::ports::{Ports, Sent, Taken};
+use plant_connections::say_faults;
 use plant_head::FieldRoom;
-use plant_office::{Books, Office};
+use plant_office::{Books, Faults, Office};
 use plant_route::Routes;
 use plant_wire::{End, Step, Stop, answer_next};
 use std::alloc::Global;
+use std::io::Write;
+
+/// No fault.
+const NO_FAULTS: Faults = Faults {
+    memory: false,
+    store: false,
+};
 
 /// A connection: the bytes that came and are not answered yet, and how many there must be before they are looked at
-/// again; the answer that waits to leave; and, if nothing more is read or answered, how it is to end.
+/// again; the answer that waits to leave; if nothing more is read or answered, how it is to end; and which faults that
+/// it was answered were reported.
 #[derive(Drop)]
 pub struct Line {
     pub number: u64,
@@ -24,6 +34,7 @@ pub struct Line {
     pub wanted: usize,
     pub pending: Answers,
     pub end: Option<End>,
+    pub faults: Faults,
 }
 
 impl Line {
@@ -41,6 +52,7 @@ impl Line {
             wanted: 0,
             pending: Answers::new(alloc),
             end: None,
+            faults: NO_FAULTS,
         }
     }
 
@@ -303,4 +315,58 @@ pub(crate) fn turn_line<P: Ports, B: Books>(
         return Some(End::WriteFailed);
     }
     line.over()
+}
+
+/// Those of these faults that are not among those.
+fn without(faults: Faults, those: Faults) -> Faults
+    ensures { result ≡ without faults those }
+{
+    Faults {
+        memory: faults.memory && !those.memory,
+        store: faults.store && !those.store,
+    }
+}
+
+/// These faults and those.
+fn added(faults: Faults, those: Faults) -> Faults
+    ensures { result ≡ added faults those }
+{
+    Faults {
+        memory: faults.memory || those.memory,
+        store: faults.store || those.store,
+    }
+}
+
+/// Writes a line for each kind of fault that the office has answered since it was last asked, unless one was written for
+/// this line. What can't be written is passed over.
+fn report_faults<B: Books, E: Write>(errors: &mut E, line: &mut Line, office: &mut Office<B>)
+    ensures same { line.new ≡ reporting line.old line.new.faults }
+    ensures books { office.new.books ≡ office.old.books }
+{
+    let faults = office.take_faults();
+    say_faults(errors, without(faults, line.faults));
+    line.faults = added(line.faults, faults);
+}
+
+/// One turn of a line as `turn_line` makes it, and a report of the faults that it was answered, if it is asked for.
+pub(crate) fn turn_and_report<P: Ports, B: Books, E: Write>(
+    desk: &mut Desk,
+    ports: &mut P,
+    line: &mut Line,
+    asked: Asked,
+    office: &mut Office<B>,
+    errors: &mut E,
+    reports: bool,
+) -> Option<End>
+    requires waits { WaitsBelow line.old.unread.items line.old.wanted }
+    ensures turned { Turned B.Books office.old.books office.new.books (P.seen ports.old) (P.seen ports.new) line.old
+        line.new }
+    ensures waits { WaitsBelow line.new.unread.items line.new.wanted }
+    ensures may { IfSome result (λ end. MayClose line.new end) }
+{
+    let over = turn_line(desk, ports, line, asked, office);
+    if reports {
+        report_faults(errors, line, office);
+    }
+    over
 }

@@ -1,12 +1,12 @@
-ghost use Rattle.std.specs.Prelude.{◌≡◌, ◌<◌, IfSome, length, remove, slice_get, Some, true, false};
+ghost use Rattle.std.specs.Prelude.{◌≡◌, ◌<◌, Err, IfSome, IsTrue, length, remove, slice_get, Some, true, false};
 ghost use Rattle.std.specs.Bool.{OnTrue};
 ghost use Rattle.plant_books.specs.Books.{WasHonest};
 ghost use Rattle.plant_lines.specs.declared.lines.Line.{Line};
 ghost use Rattle.plant_lines.specs.{Accounts.{AreServed}, Events.{seen_by}, Happens.{Happened, Passed}};
-ghost use Rattle.plant_lines.specs.{Held.{IsHeld}, Prompt.{ArePrompt}, Stages.{AreLines, MayClose}};
+ghost use Rattle.plant_lines.specs.{Held.{IsHeld, IsTurn}, Prompt.{ArePrompt}, Stages.{AreLines, MayClose}};
 
 use crate::desk::Desk;
-use crate::lines::{Asked, Line, turn_line};
+use crate::lines::{Asked, Line, turn_and_report};
 use crate::ports::{Ports, Ready};
 use plant_connections::say_end;
 use plant_office::{Books, Office};
@@ -21,6 +21,18 @@ pub enum Halted {
     Memory,
     /// Nothing can be waited for any more, or 2^64 turns were made.
     Ports,
+    /// A failure shut the store, and the service was to go on only while it is open.
+    Shut,
+}
+
+/// What a service writes beside its answers. What can't be written is passed over.
+#[derive(Drop)]
+pub struct Reports<W, E> {
+    /// Gets a line for each connection that has ended, and how.
+    pub log: W,
+    /// If the service goes on only while its store is open, it gets a line for each kind of fault that a connection is
+    /// answered.
+    pub errors: E,
 }
 
 /// The lines of the connections that are open, of those that came.
@@ -31,6 +43,8 @@ pub(crate) struct Held {
     pub count: u64,
     /// How many are served in all.
     pub n: u64,
+    /// Whether faults are reported.
+    pub reports: bool,
 }
 
 /// The place of the line with this number.
@@ -70,10 +84,10 @@ fn close_line<P: Ports, W: Write>(
 
 /// One turn of the line at this place, which is closed if it is over. Whether a request may be left on it that can be
 /// answered.
-fn turn_at<P: Ports, B: Books, W: Write>(
+fn turn_at<P: Ports, B: Books, W: Write, E: Write>(
     desk: &mut Desk,
     ports: &mut P,
-    log: &mut W,
+    reports: &mut Reports<W, E>,
     held: &mut Held,
     at: usize,
     asked: Asked,
@@ -81,16 +95,15 @@ fn turn_at<P: Ports, B: Books, W: Write>(
 ) -> bool
     requires within { at < length held.old.lines.items }
     requires held { IsHeld held.old }
-    ensures happened { Happened B.Books office.old.books office.new.books
-        (seen_by (P.seen ports.old) (W.contents log.old)) (seen_by (P.seen ports.new) (W.contents log.new))
-        held.old.count held.new.count held.old.lines.items held.new.lines.items }
-    ensures held { IsHeld held.new }
-    ensures same { held.new.n ≡ held.old.n }
-    ensures prompt { ArePrompt held.old.lines.items → result ≡ false → ArePrompt held.new.lines.items }
+    ensures { IsTurn B.Books office.old.books office.new.books
+        (seen_by (P.seen ports.old) (W.contents reports.old.log)) (seen_by (P.seen ports.new) (W.contents reports.new.log))
+        held.old held.new result }
 {
+    let asks = held.reports;
     let line = &mut held.lines[at];
-    if let Some(end) = turn_line(desk, ports, line, asked, office) {
-        close_line(desk.alloc, ports, log, held, at, end);
+    let errors = &mut reports.errors;
+    if let Some(end) = turn_and_report(desk, ports, line, asked, office, errors, asks) {
+        close_line(desk.alloc, ports, &mut reports.log, held, at, end);
         return false;
     }
     !held.lines[at].is_prompt()
@@ -143,16 +156,16 @@ fn accept<P: Ports, W: Write>(alloc: Global, ports: &mut P, log: &mut W, held: &
 }
 
 /// One turn of each line on which a request is left, from the last line to the first.
-fn serve_turn<P: Ports, B: Books, W: Write>(
+fn serve_turn<P: Ports, B: Books, W: Write, E: Write>(
     desk: &mut Desk,
     ports: &mut P,
-    log: &mut W,
+    reports: &mut Reports<W, E>,
     held: &mut Held,
     office: &mut Office<B>,
 )
     requires { IsHeld held.old }
     ensures happened { Happened B.Books office.old.books office.new.books
-        (seen_by (P.seen ports.old) (W.contents log.old)) (seen_by (P.seen ports.new) (W.contents log.new))
+        (seen_by (P.seen ports.old) (W.contents reports.old.log)) (seen_by (P.seen ports.new) (W.contents reports.new.log))
         held.old.count held.new.count held.old.lines.items held.new.lines.items }
     ensures held { IsHeld held.new }
     ensures same { held.new.n ≡ held.old.n }
@@ -165,57 +178,51 @@ fn serve_turn<P: Ports, B: Books, W: Write>(
     'turn: while at > 0 {
         at -= 1;
         if at < held.lines.len() {
-            let _ = turn_at(desk, ports, log, held, at, answers, office);
+            let _ = turn_at(desk, ports, reports, held, at, answers, office);
         }
     }
 }
 
 /// One turn of the line with this number, if it is held. Whether a request may be left on it that can be answered.
-fn turn_of<P: Ports, B: Books, W: Write>(
+fn turn_of<P: Ports, B: Books, W: Write, E: Write>(
     desk: &mut Desk,
     ports: &mut P,
-    log: &mut W,
+    reports: &mut Reports<W, E>,
     held: &mut Held,
     number: u64,
     asked: Asked,
     office: &mut Office<B>,
 ) -> bool
     requires { IsHeld held.old }
-    ensures happened { Happened B.Books office.old.books office.new.books
-        (seen_by (P.seen ports.old) (W.contents log.old)) (seen_by (P.seen ports.new) (W.contents log.new))
-        held.old.count held.new.count held.old.lines.items held.new.lines.items }
-    ensures held { IsHeld held.new }
-    ensures same { held.new.n ≡ held.old.n }
-    ensures prompt { ArePrompt held.old.lines.items → result ≡ false → ArePrompt held.new.lines.items }
+    ensures { IsTurn B.Books office.old.books office.new.books
+        (seen_by (P.seen ports.old) (W.contents reports.old.log)) (seen_by (P.seen ports.new) (W.contents reports.new.log))
+        held.old held.new result }
 {
     match place_of(&held.lines, number) {
-        Some(at) => turn_at(desk, ports, log, held, at, asked, office),
+        Some(at) => turn_at(desk, ports, reports, held, at, asked, office),
         None => false,
     }
 }
 
 /// Does what one thing that is ready asks for. Its line is answered at once only if `serves` says so: while others wait
 /// for their turns, it waits with them. Whether a request may be left on it that can be answered.
-fn step<P: Ports, B: Books, W: Write>(
+fn step<P: Ports, B: Books, W: Write, E: Write>(
     desk: &mut Desk,
     ports: &mut P,
-    log: &mut W,
+    reports: &mut Reports<W, E>,
     held: &mut Held,
     ready: Ready,
     serves: bool,
     office: &mut Office<B>,
 ) -> bool
     requires { IsHeld held.old }
-    ensures happened { Happened B.Books office.old.books office.new.books
-        (seen_by (P.seen ports.old) (W.contents log.old)) (seen_by (P.seen ports.new) (W.contents log.new))
-        held.old.count held.new.count held.old.lines.items held.new.lines.items }
-    ensures held { IsHeld held.new }
-    ensures same { held.new.n ≡ held.old.n }
-    ensures prompt { ArePrompt held.old.lines.items → result ≡ false → ArePrompt held.new.lines.items }
+    ensures { IsTurn B.Books office.old.books office.new.books
+        (seen_by (P.seen ports.old) (W.contents reports.old.log)) (seen_by (P.seen ports.new) (W.contents reports.new.log))
+        held.old held.new result }
 {
     match ready {
         Ready::Came => {
-            accept(desk.alloc, ports, log, held);
+            accept(desk.alloc, ports, &mut reports.log, held);
             false
         }
         Ready::Readable(number) => {
@@ -223,18 +230,18 @@ fn step<P: Ports, B: Books, W: Write>(
                 reads: true,
                 serves,
             };
-            turn_of(desk, ports, log, held, number, asked, office)
+            turn_of(desk, ports, reports, held, number, asked, office)
         }
         Ready::Writable(number) => {
             let asked = Asked {
                 reads: false,
                 serves,
             };
-            turn_of(desk, ports, log, held, number, asked, office)
+            turn_of(desk, ports, reports, held, number, asked, office)
         }
         Ready::Expired(number) => {
             if let Some(at) = place_of(&held.lines, number) {
-                give_up(desk.alloc, ports, log, held, at);
+                give_up(desk.alloc, ports, &mut reports.log, held, at);
             }
             false
         }
@@ -257,10 +264,10 @@ fn all_prompt(lines: &[Line], count: u64) -> bool
 
 /// One turn of all lines: does what is ready, and, if requests are left, answers one of each line that has any. Whether
 /// some are left.
-fn turn<P: Ports, B: Books, W: Write>(
+fn turn<P: Ports, B: Books, W: Write, E: Write>(
     desk: &mut Desk,
     ports: &mut P,
-    log: &mut W,
+    reports: &mut Reports<W, E>,
     held: &mut Held,
     ready: Ready,
     busy: bool,
@@ -269,50 +276,72 @@ fn turn<P: Ports, B: Books, W: Write>(
     requires held { IsHeld held.old }
     requires prompt { busy ≡ false → ArePrompt held.old.lines.items }
     ensures happened { Happened B.Books office.old.books office.new.books
-        (seen_by (P.seen ports.old) (W.contents log.old)) (seen_by (P.seen ports.new) (W.contents log.new))
+        (seen_by (P.seen ports.old) (W.contents reports.old.log)) (seen_by (P.seen ports.new) (W.contents reports.new.log))
         held.old.count held.new.count held.old.lines.items held.new.lines.items }
     ensures held { IsHeld held.new }
     ensures same { held.new.n ≡ held.old.n }
     ensures prompt { result ≡ false → ArePrompt held.new.lines.items }
 {
-    let left = step(desk, ports, log, held, ready, !busy, office);
+    let left = step(desk, ports, reports, held, ready, !busy, office);
     if !busy {
         return left;
     }
-    serve_turn(desk, ports, log, held, office);
+    serve_turn(desk, ports, reports, held, office);
     !all_prompt(&held.lines, held.count)
+}
+
+/// Whether a service that goes on only while its store is open is over.
+fn is_over<B: Books>(while_open: bool, office: &Office<B>) -> bool
+    ensures { IsTrue result → IsTrue while_open × (¬ B.is_honest office.now.books) }
+{
+    while_open && office.is_shut()
 }
 
 /// Serves n connections, as many at once as the ports accept, and writes to the log how each ended. All calls, whatever
 /// their connection, are made one after another; each connection is sent the answers to its own requests, in their
 /// order, and no byte of an answer before its call was made; and what one connection sends changes nothing of another's
 /// but through the office.
-pub fn serve_lines<P: Ports, B: Books, W: Write>(
+///
+/// If it is to go on only `while_open`, it halts once a failure has shut the store: after the turn in which that was
+/// answered, and in which the ports took what they could of the answer. Then it also writes to the errors which kinds of
+/// faults each connection was answered.
+pub fn serve_lines<P: Ports, B: Books, W: Write, E: Write>(
     alloc: Global,
     ports: &mut P,
     n: u64,
+    while_open: bool,
     office: &mut Office<B>,
-    log: &mut W,
+    reports: &mut Reports<W, E>,
 ) -> Result<(), Halted>
     ensures served { AreServed B.Books office.old.books office.new.books
-        (seen_by (P.seen ports.old) (W.contents log.old)) (seen_by (P.seen ports.new) (W.contents log.new)) n result }
+        (seen_by (P.seen ports.old) (W.contents reports.old.log)) (seen_by (P.seen ports.new) (W.contents reports.new.log))
+        n result }
     ensures honest { WasHonest B.is_honest office.old.books office.new.books }
+    ensures shut { result ≡ Err Halted.Shut → IsTrue while_open × (¬ B.is_honest office.new.books) }
 {
     let Ok(mut desk) = Desk::new(alloc) else {
         return Err(Halted::Memory);
     };
     let lines = Vec::new(alloc);
-    let mut held = Held { lines, count: 0, n };
+    let mut held = Held {
+        lines,
+        count: 0,
+        n,
+        reports: while_open,
+    };
     let mut busy = false;
     'turns: for _ in 0..u64::MAX {
         if held.count == n && held.lines.is_empty() {
             return Ok(());
         }
+        if is_over(while_open, office) {
+            return Err(Halted::Shut);
+        }
         let ready = ports.next(&held.lines, held.count < n, !busy);
         if matches!(ready, Ready::Failed) {
             return Err(Halted::Ports);
         }
-        busy = turn(&mut desk, ports, log, &mut held, ready, busy, office);
+        busy = turn(&mut desk, ports, reports, &mut held, ready, busy, office);
     }
     Err(Halted::Ports)
 }

@@ -3,7 +3,7 @@
 use crate::clients::{client_of, next_number};
 use crate::scripts::{Script, Served};
 use crate::sessions::{alone, office_of};
-use plant_lines::serve_lines;
+use plant_lines::{Reports, serve_lines};
 use std::alloc::Global;
 use std::ops::Range;
 use std::process::Abort;
@@ -32,12 +32,16 @@ fn script_of(rt: &impl Abort, alloc: Global, mut seed: u64, clients: u64, most: 
 
 /// Serves a script, and returns the log of lines.
 fn serve(rt: &impl Abort, alloc: Global, script: &mut Script, clients: u64) -> Vec<u8> {
-    let mut log = Vec::new(alloc);
+    let mut reports = Reports {
+        log: Vec::new(alloc),
+        errors: Vec::new(alloc),
+    };
     let mut office = office_of(rt, alloc);
-    let over = serve_lines(alloc, script, clients, &mut office, &mut log);
+    let over = serve_lines(alloc, script, clients, false, &mut office, &mut reports);
     drop(office.into_books());
     assert!(rt; over.is_ok());
-    log
+    assert!(rt; reports.errors.is_empty());
+    reports.log
 }
 
 /// Each client was sent what a session of its own writes.

@@ -161,9 +161,20 @@ impl<'a> Sockets<'a> {
         self.listener.local_addr()
     }
 
+    /// Ends the sending to all clients that are still served. What the system took of their answers is to reach them.
+    fn end_all(&mut self) {
+        let now = self.now;
+        for (number, client) in self.clients.iter_mut() {
+            if client.lingers.is_none() && client.linger(End::Fault, now) && !client.queued {
+                client.queued = self.ready.push_back(*number).is_ok();
+            }
+        }
+        self.clients.retain(|_, client| client.lingers.is_some());
+    }
+
     /// Once the service is over: reads out what clients still send after their last answers, so that these reach them.
     pub fn finish(&mut self) {
-        self.clients.retain(|_, client| client.lingers.is_some());
+        self.end_all();
         for _ in 0..LAST_WAITS {
             self.look_at_deadlines(&[]);
             if self.clients.is_empty() || self.wait(LOOK).is_err() {

@@ -45,8 +45,8 @@ module _ (ran also : List Call → List Answer → Type 0) (follows : (calls : L
 
   port : (many : Bool) (service : Service) (n : ExitStatus) → AreOfPort many ran service n → AreOfPort many also service n
   port false service n s =
-      record { result = s.result; reported = s.reported; calls = s.calls; answers = s.answers; made = follows _ _ s.made }
-  port true service n s = record { result = s.result; reported = s.reported; sent = sent s.sent }
+      record { result = s.result; reported = s.reported; shut = s.shut; calls = s.calls; answers = s.answers; made = follows _ _ s.made }
+  port true service n s = record { result = s.result; reported = s.reported; shut = s.shut; sent = sent s.sent }
 
   pub served : (service : Option Service) (r r' : Option (List ℕ)) (n : ExitStatus) → HasServed ran service r r' o o' n → HasServed also service r r' o o' n
   served None r r' n is = streamed r r' n is

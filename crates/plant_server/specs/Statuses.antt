@@ -1,10 +1,11 @@
 -- The exit statuses of the program.
-use Rattle.std.specs.Prelude.{if◌then◌else◌, Bool, true, false, nat_lt, List, ℕ, ◌≡◌, ◌⊎◌}
+use Rattle.std.specs.Prelude.{if◌then◌else◌, Bool, true, false, IsTrue, nat_lt, List, ℕ, ◌≡◌, ◌⊎◌}
 use Rattle.std.specs.Prelude.{Err, None, Ok, Option, Result, Some}
 use Rattle.plant_model.specs.declared.{call.Call.{Call}, reply.Answer.{Answer}}
 use Rattle.plant_wire.specs.{Session.{IsSession}, declared.reads.End.{End}}
 use Rattle.plant_wire.specs.declared.reads.End.TheVariants.{BrokenInput, Closed, Fault, ReadFailed, WriteFailed}
-use Rattle.plant_wire.specs.declared.streams.Failed.{Failed}
+use Rattle.plant_connections.specs.declared.while_open.Stopped.{Stopped}
+use Rattle.plant_connections.specs.declared.while_open.Stopped.TheVariants as stopped
 use Rattle.plant_line.specs.declared.words.{LineError.{LineError}, Service.{Service}, Task.{Task}}
 use Rattle.plant_line.specs.declared.words.LineError.TheVariants.{Memory, NoDb, NotAPerson, Text}
 use Rattle.plant_line.specs.declared.words.Task.TheVariants.{Migrate, Serve}
@@ -40,16 +41,18 @@ status_of_line NotAPerson = statuses.WrongLine
 status_of_line NoDb = statuses.WrongLine
 status_of_line Memory = statuses.NoMemory
 
--- one connection after the other: all were served, or listening or accepting failed
-abbrev pub served : Result (Unit {0}) Failed → ExitStatus
+-- one connection after the other: all were served, or listening or accepting failed, or a failure shut the store
+abbrev pub served : Result (Unit {0}) Stopped → ExitStatus
 served (Ok u) = statuses.Done
-served (Err e) = statuses.NetFailed
+served (Err stopped.Failed) = statuses.NetFailed
+served (Err stopped.Shut) = statuses.NoBooks
 
--- many at once: all were served, or memory ran out before any, or the port failed
+-- many at once: all were served, or memory ran out before any, or the port failed, or a failure shut the store
 abbrev pub served_at_once : Outcome → ExitStatus
 served_at_once (Ok u) = statuses.Done
 served_at_once (Err halted.Memory) = statuses.NoMemory
 served_at_once (Err halted.Ports) = statuses.NetFailed
+served_at_once (Err halted.Shut) = statuses.NoBooks
 
 -- an older file was migrated, or not
 abbrev pub status_of_migration : Result (Unit {0}) StoreFault → ExitStatus
@@ -75,19 +78,22 @@ Whatever calls answers = Unit {0}
 
 -- The connections of a port were served one after the other, or not all of them. Of those it says only what the office
 -- did for all of them together. How many there were is said by `serve_listener`; what came over a socket no contract
--- knows.
-pub record AreInTurn (ran : OfCalls) (n : ExitStatus) : Type 0 where
-  pub result : Result (Unit {0}) Failed
+-- knows. That the store shut ends only a service that goes on while it is open.
+pub record AreInTurn (ran : OfCalls) (service : Service) (n : ExitStatus) : Type 0 where
+  pub result : Result (Unit {0}) Stopped
   pub reported : n ≡ served result
+  pub shut : result ≡ Err stopped.Shut → IsTrue service.while_open
   pub calls : List Call
   pub answers : List Answer
   pub made : ran calls answers
 
--- They were served many at once, as many in all as the service asks for, or fewer where the port failed: of what
--- happened at all of them the office's calls are one list, and each was sent the answers to its own requests.
+-- They were served many at once, as many in all as the service asks for, or fewer where the port failed, or where the
+-- store shut and the service goes on only while it is open: of what happened at all of them the office's calls are one
+-- list, and each was sent the answers to its own requests.
 pub record AreAtOnce (ran : OfCalls) (service : Service) (n : ExitStatus) : Type 0 where
   pub result : Outcome
   pub reported : n ≡ served_at_once result
+  pub shut : result ≡ Err halted.Shut → IsTrue service.while_open
   pub sent : AreSent ran service.connections result
 
 -- whether connections are served many at once
@@ -96,7 +102,7 @@ is_at_once service = nat_lt 1 service.clients
 
 -- the connections of a port, many at once or not
 abbrev pub AreOfPort : Bool → OfCalls → Service → ExitStatus → Type 0
-AreOfPort false ran service n = AreInTurn ran n
+AreOfPort false ran service n = AreInTurn ran service n
 AreOfPort true ran service n = AreAtOnce ran service n
 
 -- Over an office of which `ran` is true: one session ended, or the connections of a port were served.

@@ -1,5 +1,5 @@
 ghost use Rattle.std.specs.{Duration.{as_nanos}, Prelude.{◌≡◌, ◌⊎◌, ◌+◌, ◌*◌, [], List, option_map}};
-ghost use Rattle.std.specs.Prelude.{IfErr, IfOk, IfSome, IsSomeAnd, OnErr, OnOk};
+ghost use Rattle.std.specs.Prelude.{Err, IfErr, IfOk, IfSome, IsSomeAnd, IsTrue, OnOk};
 ghost use Rattle.plant_books.specs.Books.{WasHonest};
 ghost use Rattle.plant_model.specs.declared.{call.Call.{Call}, reply.Answer.{Answer}};
 ghost use Rattle.sqlite_store.specs.FileStore.{view};
@@ -22,9 +22,9 @@ use crate::migrations::migrate_file;
 use crate::remains::{close_left, leave};
 use crate::sockets::Port;
 use crate::statuses::ExitStatus;
-use plant_connections::{Listener, end_name, say, serve_connections};
+use plant_connections::{Listener, Stopped, end_name, say, serve_connections, serve_while_open};
 use plant_line::{Line, LineError, Service, Task, line_of};
-use plant_lines::{Halted, serve_lines};
+use plant_lines::{Halted, Reports, serve_lines};
 use plant_mirror::{Copies, Mirror};
 use plant_office::{Books, Office};
 use plant_ports::{Limits, Sockets};
@@ -63,20 +63,29 @@ fn report_end(errors: &mut impl Write, end: End) -> ExitStatus
     status_of(end)
 }
 
-/// Says if listening or accepting failed, and gives the status.
-fn report_service(errors: &mut impl Write, outcome: Result<(), Failed>) -> ExitStatus
+/// Says that the store failed, and gives the status.
+fn report_store(errors: &mut impl Write) -> ExitStatus
+    ensures { result ≡ NoBooks }
+{
+    say(errors, b"store: fault\n");
+    ExitStatus::NoBooks
+}
+
+/// Says if listening or accepting failed, or the store, and gives the status.
+fn report_service(errors: &mut impl Write, outcome: Result<(), Stopped>) -> ExitStatus
     ensures { result ≡ statuses.served outcome }
 {
     match outcome {
         Ok(()) => ExitStatus::Done,
-        Err(_) => {
+        Err(Stopped::Failed) => {
             say(errors, b"net: failed\n");
             ExitStatus::NetFailed
         }
+        Err(Stopped::Shut) => report_store(errors),
     }
 }
 
-/// Says if the port of many connections at once failed, and gives the status.
+/// Says if the port of many connections at once failed, or the store, and gives the status.
 fn report_at_once(errors: &mut impl Write, outcome: Result<(), Halted>) -> ExitStatus
     ensures { result ≡ statuses.served_at_once outcome }
 {
@@ -87,6 +96,7 @@ fn report_at_once(errors: &mut impl Write, outcome: Result<(), Halted>) -> ExitS
             say(errors, b"net: failed\n");
             ExitStatus::NetFailed
         }
+        Err(Halted::Shut) => report_store(errors),
     }
 }
 
@@ -95,10 +105,12 @@ fn report_unopened(errors: &mut impl Write, fault: &StoreFault) -> ExitStatus
     ensures { result ≡ NoBooks }
 {
     match fault {
-        StoreFault::NotThisStore => say(errors, b"store: not this store\n"),
-        StoreFault::Fault(_) => say(errors, b"store: fault\n"),
+        StoreFault::NotThisStore => {
+            say(errors, b"store: not this store\n");
+            ExitStatus::NoBooks
+        }
+        StoreFault::Fault(_) => report_store(errors),
     }
-    ExitStatus::NoBooks
 }
 
 /// One session; the status says how it ended.
@@ -135,37 +147,62 @@ fn idle_time(service: Service) -> Option<Duration>
     }
 }
 
-/// Serves as many connections of a listener as the service is to have, or fewer where accepting fails.
-fn serve_listener<L: Listener, B: Books, W: Write>(
+/// Serves as many connections of a listener as the service is to have, or fewer where accepting fails, or where a
+/// failure shuts the store of a service that goes on only while it is open.
+fn serve_listener<L: Listener, B: Books, W: Write, E: Write>(
     alloc: Global,
     listener: &mut L,
     office: &mut Office<B>,
     service: Service,
     output: &mut W,
-) -> Result<(), Failed>
+    errors: &mut E,
+) -> Result<(), Stopped>
     ensures all { OnOk result
         (L.accepted listener.new ≡ L.accepted listener.old + service.connections) }
-    ensures failed { OnErr result (L.failures listener.new ≡ 1) }
+    ensures failed { result ≡ Err Stopped.Failed → L.failures listener.new ≡ 1 }
     ensures ran { (calls : List Call) × (answers : List Answer)
         × RanOn B.Books office.old.books office.new.books calls answers }
+    ensures shut { result ≡ Err Stopped.Shut
+        → IsTrue service.while_open × (¬ B.is_honest office.new.books) }
 {
-    serve_connections(alloc, listener, service.connections, office, output)
+    if service.while_open {
+        return serve_while_open(alloc, listener, service.connections, office, output, errors);
+    }
+    match serve_connections(alloc, listener, service.connections, office, output) {
+        Ok(()) => Ok(()),
+        Err(_) => Err(Stopped::Failed),
+    }
+}
+
+/// Listens on the port of a service of one connection after the other, and says where.
+fn listen_in_turn(
+    rt: &HostRuntime,
+    service: Service,
+    output: &mut impl Write,
+) -> Result<Port, Failed> {
+    let port = Port::listen(rt, service.port, idle_time(service))?;
+    let address = port.address()?;
+    say_address(rt.alloc(), output, address);
+    Ok(port)
 }
 
 /// Serves the connections of a port, one after the other.
-fn serve_in_turn<B: Books>(
+fn serve_in_turn<B: Books, W: Write, E: Write>(
     rt: &HostRuntime,
     office: &mut Office<B>,
     service: Service,
-    output: &mut impl Write,
-) -> Result<(), Failed>
-    ensures { (calls : List Call) × (answers : List Answer)
+    output: &mut W,
+    errors: &mut E,
+) -> Result<(), Stopped>
+    ensures ran { (calls : List Call) × (answers : List Answer)
         × RanOn B.Books office.old.books office.new.books calls answers }
+    ensures shut { result ≡ Err Stopped.Shut
+        → IsTrue service.while_open × (¬ B.is_honest office.new.books) }
 {
-    let mut port = Port::listen(rt, service.port, idle_time(service))?;
-    let address = port.address()?;
-    say_address(rt.alloc(), output, address);
-    serve_listener(rt.alloc(), &mut port, office, service, output)
+    let Ok(mut port) = listen_in_turn(rt, service, output) else {
+        return Err(Stopped::Failed);
+    };
+    serve_listener(rt.alloc(), &mut port, office, service, output, errors)
 }
 
 /// What a port of many connections at once allows.
@@ -188,24 +225,32 @@ fn listen(rt: &HostRuntime, service: Service) -> Result<(Sockets<'_>, SocketAddr
 }
 
 /// Serves the connections of a port, many at once.
-fn serve_at_once<B: Books>(
+fn serve_at_once<B: Books, W: Write, E: Write>(
     rt: &HostRuntime,
     office: &mut Office<B>,
     service: Service,
-    output: &mut impl Write,
+    output: &mut W,
+    errors: &mut E,
 ) -> Result<(), Halted>
-    ensures { AreSent (RanOn B.Books office.old.books office.new.books) service.connections result }
+    ensures sent { AreSent (RanOn B.Books office.old.books office.new.books) service.connections result }
+    ensures shut { result ≡ Err Halted.Shut
+        → IsTrue service.while_open × (¬ B.is_honest office.new.books) }
 {
     let Ok((mut sockets, address)) = listen(rt, service) else {
         return Err(Halted::Ports);
     };
     say_address(rt.alloc(), output, address);
+    let mut reports = Reports {
+        log: output,
+        errors,
+    };
     let outcome = serve_lines(
         rt.alloc(),
         &mut sockets,
         service.connections,
+        service.while_open,
         office,
-        output,
+        &mut reports,
     );
     sockets.finish();
     outcome
@@ -213,20 +258,20 @@ fn serve_at_once<B: Books>(
 
 /// Serves the connections of a port, many at once if the service asks for it; the status says whether all of them were
 /// served.
-fn serve_port<B: Books>(
+pub fn serve_port<B: Books, W: Write, E: Write>(
     rt: &HostRuntime,
     office: &mut Office<B>,
     service: Service,
-    output: &mut impl Write,
-    errors: &mut impl Write,
+    output: &mut W,
+    errors: &mut E,
 ) -> ExitStatus
     ensures { AreOfPort (is_at_once service) (RanOn B.Books office.old.books office.new.books) service result }
 {
     if service.clients > 1 {
-        let outcome = serve_at_once(rt, office, service, output);
+        let outcome = serve_at_once(rt, office, service, output, errors);
         return report_at_once(errors, outcome);
     }
-    let outcome = serve_in_turn(rt, office, service, output);
+    let outcome = serve_in_turn(rt, office, service, output, errors);
     report_service(errors, outcome)
 }
 
@@ -531,10 +576,10 @@ fn obey<S: AsStr, I: Inlet, O: Outlet + Write, E: Write>(
 /// Does what the words ask for, the program's own name first, and answers the exit status: 0 where the input ended
 /// and every request was answered, where all connections of the port were served, where the older file was migrated,
 /// or for help; 2 where the command line is wrong; 3 where the file keeps no books of this administrator or can't be
-/// opened, or can't be migrated, or memory ran out as books were opened; 4, 5, 6 or 7 where the session over the
-/// streams ended by broken input, a failed read, a failed write, or for lack of memory, and 7 where memory ran out as
-/// the command line was read or before any of many connections was accepted; 8 where listening on the port or accepting
-/// a connection failed.
+/// opened, or can't be migrated, or memory ran out as books were opened, or a failure shut the store of a service that
+/// was to serve all connections that come; 4, 5, 6 or 7 where the session over the streams ended by broken input, a
+/// failed read, a failed write, or for lack of memory, and 7 where memory ran out as the command line was read or before
+/// any of many connections was accepted; 8 where listening on the port or accepting a connection failed.
 pub fn command<S: AsStr, I: Read + Drop, O: Write + Drop, E: Write + Drop>(
     rt: &HostRuntime,
     words: &[S],

@@ -11,7 +11,7 @@ mod remains;
 mod sockets;
 mod statuses;
 
-pub use commands::{command, serve_file};
+pub use commands::{command, serve_file, serve_port};
 pub use migrations::{Migrated, migrate_file};
 pub use plant_connections::{Listener, serve_connections};
 pub use sockets::Port;

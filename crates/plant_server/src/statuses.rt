@@ -9,7 +9,8 @@ pub enum ExitStatus {
     Done,
     /// The command line is wrong.
     WrongLine,
-    /// The books were not opened, or the older file was not migrated.
+    /// The books were not opened, the older file was not migrated, or a failure shut the store of a service that was to
+    /// serve all connections that come.
     NoBooks,
     /// The session's input ended within a request, or its bytes are not requests.
     BrokenInput,

@@ -5,7 +5,7 @@ use crate::commands::is_text;
 use crate::sockets::{BEGUN, answers, client, exchanges, whole_client};
 use plant_books::Plain;
 use plant_examples::{BASE, LOOKED_AT, SHELVED};
-use plant_lines::{Halted, serve_lines};
+use plant_lines::{Halted, Reports, serve_lines};
 use plant_office::Office;
 use plant_ports::{Limits, Sockets};
 use plant_trials::{after, lists};
@@ -46,11 +46,14 @@ fn log_of(
 ) -> (Vec<u8>, Result<(), Halted>) {
     let alloc = rt.alloc();
     let mut office = Office::new(alloc, books);
-    let mut log = Vec::new(alloc);
-    let outcome = serve_lines(alloc, sockets, n, &mut office, &mut log);
+    let mut reports = Reports {
+        log: Vec::new(alloc),
+        errors: Vec::new(alloc),
+    };
+    let outcome = serve_lines(alloc, sockets, n, false, &mut office, &mut reports);
     sockets.finish();
     drop(office.into_books());
-    (log, outcome)
+    (reports.log, outcome)
 }
 
 /// How many lines a text has.

@@ -1,9 +1,13 @@
-//! The command over a port. What it says goes to a writer that makes the clients as soon as it is told where the port listens, so that
-//! clients and office run in one thread.
+//! The command over a port. It writes its lines to a writer that connects the clients at the first of them, which says where the port
+//! listens: so clients and office run in one thread.
 
 use crate::commands::is_text;
 use plant_examples::{BASE, Exchanges, LOOKED_AT, SHELVED, numbered};
-use plant_server::{Port, command};
+use plant_line::Service;
+use plant_lines_trials::Failing;
+use plant_office::Office;
+use plant_server::{Port, command, serve_port};
+use plant_trials::root;
 use std::alloc::Global;
 use std::io;
 use std::io::{Read, Write};
@@ -160,4 +164,70 @@ fn serves_as_many_clients_at_once_as_its_words_say(rt: HostRuntime) {
     assert!(rt; answered(&rt, clients.streams.get(0)).is_empty());
     let found = answered(&rt, clients.streams.get(1));
     assert!(rt; found.as_slice() == opened.answers.as_bytes());
+}
+
+/// Asks for three lists of units.
+const LISTS: &[u8] =
+    b"GET /units HTTP/1.1\r\nX-Person: ann\r\nX-Moment: 2026-03-01T08:00:00Z\r\n\r\nGET /units HTTP/1.1\r\nX-Person: ann\r\nX-Moment: 2026-03-01T08:00:00Z\r\n\r\nGET /units HTTP/1.1\r\nX-Person: ann\r\nX-Moment: 2026-03-01T08:00:00Z\r\n\r\n";
+
+/// The answers to the first two, where the store shuts at the second.
+const ONE_LIST: &[u8] =
+    b"HTTP/1.1 200 OK\r\nContent-Type: application/json\r\nContent-Length: 12\r\n\r\n{\"units\":[]}HTTP/1.1 503 Service Unavailable\r\nContent-Type: application/json\r\nContent-Length: 17\r\n\r\n{\"fault\":\"Store\"}";
+
+/// A service without an end, of so many clients at once, over books whose store shuts at the second list of units: its
+/// status, its clients and what it said of errors.
+fn served_until_shut<'a>(
+    stop: &(impl Abort + AllocGlobal),
+    rt: &'a HostRuntime,
+    port: u16,
+    at_once: u64,
+    requests: &'a [&'a [u8]],
+) -> (u8, Clients<'a>, Vec<u8>) {
+    let alloc: Global = stop.alloc();
+    let books = Failing::new(alloc, root(alloc).expect(stop, "a person"), 1);
+    let mut office = Office::new(alloc, books);
+    let service = Service {
+        port,
+        connections: u64::MAX,
+        clients: at_once,
+        idle: Some(1),
+        while_open: true,
+    };
+    let mut clients = Clients {
+        rt,
+        port,
+        requests,
+        said: Vec::new(alloc),
+        streams: Vec::new(alloc),
+    };
+    let mut errors = Vec::new(alloc);
+    let status = serve_port(rt, &mut office, service, &mut clients, &mut errors);
+    drop(office.into_books());
+    (status.code(), clients, errors)
+}
+
+/// The fault reaches its client, and a silent one holds nobody up.
+#[test]
+fn ends_by_itself_once_its_store_has_shut(rt: HostRuntime) {
+    let requests: [&[u8]; 2] = [b"", LISTS];
+    let port = free_port(&rt, &rt);
+    let (status, clients, errors) = served_until_shut(&rt, &rt, port, 2, &requests);
+    assert_eq!(rt; status, 3);
+    assert!(rt; is_text(&errors, "fault: Store\nstore: fault\n"));
+    assert!(rt; is_text(&clients.said, log_over(&rt, port, "\n").as_str()));
+    assert!(rt; answered(&rt, clients.streams.get(0)).is_empty());
+    assert!(rt; answered(&rt, clients.streams.get(1)).as_slice() == ONE_LIST);
+}
+
+/// With one client at once it serves the connection to its end.
+#[test]
+fn ends_behind_the_connection_in_which_its_store_has_shut(rt: HostRuntime) {
+    let requests: [&[u8]; 2] = [b"", LISTS];
+    let port = free_port(&rt, &rt);
+    let (status, clients, errors) = served_until_shut(&rt, &rt, port, 1, &requests);
+    assert_eq!(rt; status, 3);
+    assert!(rt; is_text(&errors, "fault: Store\nstore: fault\n"));
+    let lines = "\nconnection 1 ReadFailed\nconnection 2 Closed\n";
+    assert!(rt; is_text(&clients.said, log_over(&rt, port, lines).as_str()));
+    assert!(rt; answered(&rt, clients.streams.get(1)).starts_with(ONE_LIST));
 }

@@ -16,7 +16,7 @@ returns-in-Ended-clause-moved g c =
     let live = c.is_open.ensures.served c.if-not-is_open.false in
     let now = on_true c.is_open.result _ (c.is_open.ensures.open c.requires.waits) c.if-not-is_open.false in
     moved_ended (g.P.Ports.seen c.args.ports.now) (g.P.Ports.seen c.take.new.self) l
-    (record { number = l.number; unread = l.unread; wanted = l.wanted; pending = l.pending; end = Some c.end_of.result })
+    (record l { end = Some c.end_of.result })
     refl c.in-Ended.ensures now live
     (ap (λ e. ending e l.pending.text.items) (c.end_of.ensures ∙ ap end_for c.deref.ensures.value) ∙ ap (ending (end_for l.unread.items)) now.0)
 
@@ -26,7 +26,7 @@ returns-then-is_err-clause-moved g c =
     let live = c.is_open.ensures.served c.if-not-is_open.false in
     let now = on_true c.is_open.result _ (c.is_open.ensures.open c.requires.waits) c.if-not-is_open.false in
     moved_lost (g.P.Ports.seen c.args.ports.now) (g.P.Ports.seen c.take.new.self) l
-    (record { number = l.number; unread = c.extend_from_slice.new.self; wanted = 0; pending = l.pending; end = Some Fault })
+    (record l { unread = c.extend_from_slice.new.self; wanted = 0; end = Some Fault })
     refl (take c.in-Bytes.n c.take.new.buf) c.in-Bytes.ensures.1 now live (ap (ending Fault) now.0)
 
 pub returns-else-is_err-clause-moved : goal.returns-else-is_err-clause-moved
@@ -37,7 +37,7 @@ returns-else-is_err-clause-moved g c =
     let more : c.extend_from_slice.new.self.items ≡ l.unread.items ++ take c.in-Bytes.n c.take.new.buf = rw c.if-is_err.ensures.negation at
     c.extend_from_slice.ensures.items in
     moved_came (g.P.Ports.seen c.args.ports.now) (g.P.Ports.seen c.take.new.self) l
-    (record { number = l.number; unread = c.extend_from_slice.new.self; wanted = l.wanted; pending = l.pending; end = l.end })
+    (record l { unread = c.extend_from_slice.new.self })
     refl (take c.in-Bytes.n c.take.new.buf) c.in-Bytes.ensures.1 now live
     (rw live (ap (λ u. served u l.pending.text.items) more ∙ ap (served (l.unread.items ++ take c.in-Bytes.n c.take.new.buf)) now.0))
 

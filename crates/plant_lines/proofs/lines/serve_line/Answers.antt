@@ -17,7 +17,7 @@ returns-in-Ok-Waits-clause-made g c =
     let live = c.is_prompt.ensures.served c.if-is_prompt.false in
     let h = rw (c.in-Ok-Waits.field-0-is, c.deref.ensures.value) at c.in-Ok-Waits.ensures.does in
     made_waiting g.B.Books c.args.office.now.books c.answer_next.new.office.books c.in-Ok-Waits.ensures.honest l
-    (record { number = l.number; unread = l.unread; wanted = c.wanted_next-line.result; pending = c.answer_next.new.outlet; end = l.end })
+    (record l { wanted = c.wanted_next-line.result; pending = c.answer_next.new.outlet })
     refl h.served (rw live (ap (served l.unread.items) (h.writes ∙ append-nil l.pending.text.items)))
 
 pub wanted_next-line-requires-clause-waiting : goal.wanted_next-line-requires-clause-waiting
@@ -40,7 +40,7 @@ returns-in-Ok-Took-clause-made g c =
     let live = c.is_prompt.ensures.served c.if-is_prompt.false in
     let h = rw (c.in-Ok-Took.field-0-is, c.deref.ensures.value) at c.in-Ok-Took.ensures.does in
     made_answered g.B.Books c.args.office.now.books c.answer_next.new.office.books c.in-Ok-Took.ensures.honest l
-    (record { number = l.number; unread = c.drop_front.new.buffer; wanted = 0; pending = c.answer_next.new.outlet; end = l.end })
+    (record l { unread = c.drop_front.new.buffer; wanted = 0; pending = c.answer_next.new.outlet })
     refl live (c.is_prompt.ensures.empty c.if-is_prompt.false)
     c.in-Ok-Took.n c.answer_next.new.outlet.text.items h.2
     (rw live (ap (λ u. served u c.answer_next.new.outlet.text.items) c.drop_front.ensures))
@@ -57,7 +57,7 @@ returns-in-Ok-Broken-clause-made g c =
     let live = c.is_prompt.ensures.served c.if-is_prompt.false in
     let h = rw (c.in-Ok-Broken.field-0-is, c.deref.ensures.value) at c.in-Ok-Broken.ensures.does in
     made_broke g.B.Books c.args.office.now.books c.answer_next.new.office.books c.in-Ok-Broken.ensures.honest l
-    (record { number = l.number; unread = l.unread; wanted = 0; pending = c.answer_next.new.outlet; end = Some BrokenInput })
+    (record l { wanted = 0; pending = c.answer_next.new.outlet; end = Some BrokenInput })
     refl live (c.is_prompt.ensures.empty c.if-is_prompt.false)
     c.answer_next.new.outlet.text.items h refl
 
@@ -67,6 +67,6 @@ returns-in-Err-clause-made g c =
     let live = c.is_prompt.ensures.served c.if-is_prompt.false in
     let h = rw c.deref.ensures.value at c.in-Err.ensures.does in
     made_stopped g.B.Books c.args.office.now.books c.answer_next.new.office.books c.in-Err.ensures.honest l
-    (record { number = l.number; unread = l.unread; wanted = 0; pending = c.answer_next.new.outlet; end = Some c.end_at.result })
+    (record l { wanted = 0; pending = c.answer_next.new.outlet; end = Some c.end_at.result })
     refl live (c.is_prompt.ensures.empty c.if-is_prompt.false)
     c.in-Err.stop c.answer_next.new.outlet.text.items h (ap (λ e. ending e c.answer_next.new.outlet.text.items) c.end_at.ensures)

@@ -15,12 +15,6 @@ returns-in-Bytes-clause-moved g c =
     let text = l.pending.text.items in
     let h = rw c.deref.ensures.value at c.in-Bytes.ensures in
     moved_left (g.P.Ports.seen c.args.ports.now) (g.P.Ports.seen c.put.new.self) l
-    (record {
-      number = l.number;
-      unread = l.unread;
-      wanted = l.wanted;
-      pending = record { text = c.drop_front.new.buffer; failed = l.pending.failed };
-      end = l.end;
-    })
+    (record l { pending = record { text = c.drop_front.new.buffer; failed = l.pending.failed } })
     refl (take c.in-Bytes.n text) (drop c.in-Bytes.n text) h.1 (sym (take-append-drop c.in-Bytes.n text))
     (ap (λ p. stage_by l.unread.items p l.end) c.drop_front.ensures)

@@ -25,13 +25,19 @@ returns-then-is_empty-clause-served g c =
 pub returns-then-is_empty-clause-honest : goal.returns-then-is_empty-clause-honest
 returns-then-is_empty-clause-honest g c = happened_honest c.turns.invariant.happened
 
+pub returns-then-is_over-clause-served : goal.returns-then-is_over-clause-served
+returns-then-is_over-clause-served g c = served_from c.turns.invariant.happened (omega (arith, c.turns.invariant.held.few, c.turns.invariant.same))
+
+pub returns-then-is_over-clause-honest : goal.returns-then-is_over-clause-honest
+returns-then-is_over-clause-honest g c = happened_honest c.turns.invariant.happened
+
 pub next-ready-requires : goal.next-ready-requires
 next-ready-requires g c = record { prompt = λ may. rw c.deref.ensures.value (c.turns.invariant.prompt (not_true c.turns.busy may)) }
 
 pub returns-then-matches-clause-served : goal.returns-then-matches-clause-served
 returns-then-matches-clause-served g c =
     served_from
-    (happened_waited (g.P.Ports.seen c.turns.ports) (g.P.Ports.seen c.next-ready.new.self) (g.W.Write.contents c.turns.log)
+    (happened_waited (g.P.Ports.seen c.turns.ports) (g.P.Ports.seen c.next-ready.new.self) (g.W.Write.contents c.turns.reports.log)
     c.turns.invariant.happened c.next-ready.ensures)
     (omega (arith, c.turns.invariant.held.few, c.turns.invariant.same))
 
@@ -41,7 +47,7 @@ returns-then-matches-clause-honest g c = happened_honest c.turns.invariant.happe
 pub turns-preserved : goal.turns-preserved
 turns-preserved g c = record {
   happened = happened_then
-      (happened_waited (g.P.Ports.seen c.turns.ports) (g.P.Ports.seen c.next-ready.new.self) (g.W.Write.contents c.turns.log)
+      (happened_waited (g.P.Ports.seen c.turns.ports) (g.P.Ports.seen c.next-ready.new.self) (g.W.Write.contents c.turns.reports.log)
       c.turns.invariant.happened c.next-ready.ensures)
       c.turn-busy.ensures.happened;
   held = c.turn-busy.ensures.held;

@@ -4,8 +4,8 @@ use Rattle.plant_lines.proofs.serving.serve_lines.Given as goal
 
 abbrev pub invariant-turns : goal.invariant-turns
 invariant-turns g l = record {
-  happened : Happened g.B.Books l.fn.office.books l.office.books (seen_by (g.P.Ports.seen l.fn.ports) (g.W.Write.contents l.fn.log))
-      (seen_by (g.P.Ports.seen l.ports) (g.W.Write.contents l.log)) 0 l.held.count [] l.held.lines.items;
+  happened : Happened g.B.Books l.fn.office.books l.office.books (seen_by (g.P.Ports.seen l.fn.ports) (g.W.Write.contents l.fn.reports.log))
+      (seen_by (g.P.Ports.seen l.ports) (g.W.Write.contents l.reports.log)) 0 l.held.count [] l.held.lines.items;
   held : IsHeld l.held;
   same : l.held.n ≡ l.n;
   prompt : l.busy ≡ false → ArePrompt l.held.lines.items;

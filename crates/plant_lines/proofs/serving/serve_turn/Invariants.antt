@@ -4,8 +4,8 @@ use Rattle.plant_lines.proofs.serving.serve_turn.Given as goal
 
 abbrev pub invariant-turn : goal.invariant-turn
 invariant-turn g l = record {
-  happened : Happened g.B.Books l.fn.office.books l.office.books (seen_by (g.P.Ports.seen l.fn.ports) (g.W.Write.contents l.fn.log))
-      (seen_by (g.P.Ports.seen l.ports) (g.W.Write.contents l.log)) l.fn.held.count l.held.count l.fn.held.lines.items l.held.lines.items;
+  happened : Happened g.B.Books l.fn.office.books l.office.books (seen_by (g.P.Ports.seen l.fn.ports) (g.W.Write.contents l.fn.reports.log))
+      (seen_by (g.P.Ports.seen l.ports) (g.W.Write.contents l.reports.log)) l.fn.held.count l.held.count l.fn.held.lines.items l.held.lines.items;
   held : IsHeld l.held;
   same : l.held.n ≡ l.fn.held.n;
 }

@@ -1,5 +1,6 @@
+use Rattle.std.proofs.Common.{refl}
 use Rattle.plant_lines.proofs.Leading.{happened_none}
 use Rattle.plant_lines.proofs.serving.turn_of.Goals as goal
 
-pub returns-in-None-clause-happened : goal.returns-in-None-clause-happened
-returns-in-None-clause-happened g c = happened_none
+pub returns-in-None : goal.returns-in-None
+returns-in-None g c = record { happened = happened_none; held = c.requires; same = refl; prompt = λ are none. are }
