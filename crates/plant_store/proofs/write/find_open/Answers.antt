@@ -21,4 +21,3 @@ returns-in-Err-clause-shut g c closed honest =
     let old = state g.S.Store c.args.conn.now in
     let new = state g.S.Store c.prepare.new.self in
     never_open old new _ [] (subst (IsNotRun old new _ []) closed (c.in-Err.ensures.err honest.0 [])) honest.1
-
