@@ -1,5 +1,5 @@
 -- What files that a crash leaves hold.
-use Rattle.std.proofs.Common.{◌≡◌, Err, IfErr, IfOk, IfSome, IsErr, IsTrue, List, None, Ok, Option, Result, Some, [], ap, sym, subst, ◌∙◌}
+use Rattle.std.proofs.Common.{◌≡◌, Err, IfErr, IfOk, IfSome, IsErr, IsTrue, List, None, Ok, Option, Result, Some, [], ap, sym, subst, true≢false, ◌∙◌}
 use Rattle.std.proofs.Math.Logic.{∥∥₁_map}
 use Rattle.sqlite.specs.{Effect.{Database, IsDatabase}, Files.{HoldsDatabase, file_state}, Held.{Held}, State.{HasCleanDisk, IsLive}, Tree.{Trees}}
 use Rattle.sqlite.proofs.Theorems.{opens_again}
@@ -66,13 +66,13 @@ module _ {D : Type 0} {g : Ghosts D} where
       )
 
 -- what was closed was made of what there was, on the same premises
-pub closed_of : {A B E F P Q : Type 0} {R : A → Type 0} {S : B → Type 0} (made : Result A E) (closed : Result B F)
+pub closed_of : {A B E F : Type 0} (P Q : Type 0) (R : A → Type 0) (S : B → Type 0) (made : Result A E) (closed : Result B F)
     → IfOk made (λ a. P → Q → R a) → IfOk made (λ a. R a → IfOk closed S) → IfErr made (λ _. IsErr closed) → IfOk closed (λ b. P → Q → S b)
-closed_of made (Err e) was whole unmade = tt
-closed_of (Ok a) (Ok b) was whole unmade = λ p q. whole (was p q)
-closed_of (Err e) (Ok b) was whole unmade = absurd unmade
+closed_of P Q R S made (Err e) was whole unmade = tt
+closed_of P Q R S (Ok a) (Ok b) was whole unmade = λ p q. whole (was p q)
+closed_of P Q R S (Err e) (Ok b) was whole unmade = absurd (true≢false (sym unmade))
 
 -- what got its name is what was made
-pub placed_of : {A E F : Type 0} {P : A → Type 0} (made : Result A E) (placed : Result A F) → IfOk placed (λ a. made ≡ Ok a) → IfOk made P → IfOk placed P
-placed_of made (Err e) is was = tt
-placed_of {A} {E} {F} {P} made (Ok a) is was = subst (λ r. IfOk r P) is was
+pub placed_of : {A E F : Type 0} (P : A → Type 0) (made : Result A E) (placed : Result A F) → IfOk placed (λ a. made ≡ Ok a) → IfOk made P → IfOk placed P
+placed_of P made (Err e) is was = tt
+placed_of P made (Ok a) is was = subst (λ r. IfOk r P) is was

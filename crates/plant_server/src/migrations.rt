@@ -102,7 +102,20 @@ fn copy_to_file<D: Disk + Drop>(
 }
 
 /// Closes the new file, if it was made: whatever a crash leaves of it from then on holds the books, also without the
-/// log. Where it was not made, or closing fails, nothing of it is left.
+/// log.
+fn close_made(made: Result<Tables<FileStore<File>>, StoreFault>) -> Result<Files<File>, StoreFault>
+    ensures whole { (m : Content) → IfOk made (λ books. Represents (file_state books.0.0) m
+        → IfOk result (λ files. AreClean ⟦<File as Disk>⟧ files.log files.db
+        → HoldWholeBooks ⟦<File as Disk>⟧ files m)) }
+    ensures unmade { IfErr made (λ _. IsErr result) }
+{
+    match made {
+        Ok(books) => close_new(books),
+        Err(fault) => Err(fault),
+    }
+}
+
+/// The same. Where the new file was not made, or closing fails, nothing of it is left.
 fn finish(
     rt: &HostRuntime,
     made: Result<Tables<FileStore<File>>, StoreFault>,
@@ -113,10 +126,7 @@ fn finish(
         → HoldWholeBooks ⟦<File as Disk>⟧ files m)) }
     ensures unmade { IfErr made (λ _. IsErr result) }
 {
-    let closed = match made {
-        Ok(books) => close_new(books),
-        Err(fault) => Err(fault),
-    };
+    let closed = close_made(made);
     if closed.is_err() {
         discard(rt, new);
     }
